@@ -1,0 +1,16 @@
+pub mod Number
+pub mod Inline
+pub mod DayText
+pub mod Day
+pub mod CodeBytes
+pub mod TextReading
+pub mod Codes
+pub mod Gsrn
+pub mod Support
+pub mod Lot
+pub mod Place
+pub mod Range
+pub mod Part
+pub mod Piece
+pub mod Notice
+pub mod Refusal
