@@ -2,6 +2,7 @@ pub mod Number
 pub mod Inline
 pub mod DayText
 pub mod Day
+pub mod Texts
 pub mod CodeBytes
 pub mod TextReading
 pub mod Codes
