@@ -15,3 +15,4 @@ pub mod Part
 pub mod Piece
 pub mod Notice
 pub mod Refusal
+pub mod Obeys
