@@ -6,9 +6,12 @@ use Rattle.std.specs.FinMap.{get}
 use Rattle.std.proofs.lemmas.Bool.{cases_lt}
 use Rattle.std.proofs.lemmas.Bool.Decides.{nat_tests}
 use Rattle.goo_types.specs.Range.{Numbers}
-use Rattle.goo_spec.specs.Maps.{each, Certificates}
+use Rattle.goo_spec.specs.Maps.{numbers_from, each, least_absent, least_failing}
+use Rattle.goo_spec.specs.Lots.{Certificates, is_absent, fails}
 use Rattle.goo_ranges.specs.Walk.{span, end_of}
 use Rattle.goo_types.specs.declared.piece.Piece.{Piece}
+use Rattle.goo_types.specs.declared.lot_fields.LotFields.{LotFields}
+use Rattle.goo_types.specs.declared.place.Place.{Place}
 use Rattle.goo_ranges.specs.declared.edits.Edit.{Edit}
 use Rattle.goo_types.specs.Piece.{Label, label_of, covers, at_of, IsForward, IsRising, IsRisingFrom, Follows}
 use Rattle.goo_spec.specs.Runs.{IsApart}
@@ -263,4 +266,12 @@ find-alike f g (suc count) low same =
 
 pub found-alike : (test : Option Label → Bool) (at : Certificates) (rows : List Piece) (range : Numbers) → AreRowsOf at rows → find (λ n. test (at_of (meeting range rows) n)) (each range) ≡ find (λ n. test (get at n)) (each range)
 found-alike test at rows range kept =
-    find-alike (λ n. test (at_of (meeting range rows) n)) (λ n. test (get at n)) (range.last + 1 - range.first) range.first (λ n from to. ap test (meeting-at at rows range kept n from (omega arith)))
+    find-alike (λ n. test (at_of (meeting range rows) n)) (λ n. test (get at n)) (suc range.last - range.first) range.first (λ n from to. ap test (meeting-at at rows range kept n from (omega arith)))
+
+-- the checks of a command on the range answer the same of the met rows as of the state
+pub absent-alike : (at : Certificates) (rows : List Piece) (range : Numbers) → AreRowsOf at rows → least_absent (at_of (meeting range rows)) (each range) ≡ least_absent (get at) (each range)
+absent-alike = found-alike is_absent
+
+pub failing-alike : (passes : LotFields → Place → Bool) (at : Certificates) (rows : List Piece) (range : Numbers) → AreRowsOf at rows
+    → least_failing passes (at_of (meeting range rows)) (each range) ≡ least_failing passes (get at) (each range)
+failing-alike passes = found-alike (fails passes)

@@ -3,11 +3,11 @@ use Rattle.std.specs.Prelude.{◌≡◌, ℕ, ◌+◌, ◌≤◌, ◌<◌, ◌==
 use Rattle.std.specs.List.{filter}
 use Rattle.std.specs.FinMap.{get}
 use Rattle.goo_types.specs.Range.{Numbers}
+use Rattle.goo_spec.specs.Lots.{Certificates}
 use Rattle.goo_types.specs.declared.piece.Piece.{Piece}
 use Rattle.goo_ranges.specs.declared.edits.Edit.{Edit}
 use Rattle.goo_types.specs.Piece.{at_of, IsForward, IsRising, IsRisingFrom}
 use Rattle.std.proofs.Props.{props}
-use Rattle.goo_spec.specs.Maps.{Certificates}
 
 -- the rows are disjoint, and have the map
 pub record AreRowsOf (at : Certificates) (rows : List Piece) : Type 0 where
