@@ -33,7 +33,7 @@ use Rattle.goo_spec.proofs.Placing.{is_one_of, get-place_each, get-give_each}
 use Rattle.goo_spec.proofs.Numbers.{one_between, one_within}
 use Rattle.goo_spec.proofs.Moving.{aged_again, is_key}
 
-fate_issued : (s : State) (x : declare.Declare) (o : Option Device) (n : ℕ) → get (issued_for s x o).at n ≡ issued_one s x o n (get s.at n)
+pub fate_issued : (s : State) (x : declare.Declare) (o : Option Device) (n : ℕ) → get (issued_for s x o).at n ≡ issued_one s x o n (get s.at n)
 fate_issued s x None n = refl
 fate_issued s x (Some device) n =
     get-give_each (lot_of s x device) (Held device.account) (numbers_from (next_number s) (earned s x)) s.at n
