@@ -108,5 +108,5 @@ refused_later s q p r qs is caller key other =
     let t = final (next s q) qs in
     let kept = kept_final (q.caller, q.key) (Some q.command, r) (next s q) qs (receipt_next s q r is) in
     answered t p (Some q.command, r) false
-        ((λ i. get t.receipts (caller i, key i)) ∙ kept)
-        (false_from_ne_true (same_command q.command p.command) (λ same. other (same_is_equal q.command p.command same)))
+    ((λ i. get t.receipts (caller i, key i)) ∙ kept)
+    (false_from_ne_true (same_command q.command p.command) (λ same. other (same_is_equal q.command p.command same)))
