@@ -94,7 +94,7 @@ unfolding earned due total with_declaration
 earns_january = refl
 
 -- the certificates ..0001 to ..1200
-pub certificates : Certificates
+unfoldable pub certificates : Certificates
 certificates = give_each (numbers_from 7000000000001 1200) january_lot (Held 1) empty
 
 -- the registry once January is declared
