@@ -1,6 +1,6 @@
 -- January's certificates when their trade is closed, on their last day, and on the day after it.
 use Rattle.std.proofs.Common.{◌≡◌, ℕ, ◌+◌, ◌*◌, ◌≤◌, ◌<◌, Bool, true, false, List, [], ◌∷◌, Option, Some, None, refl, sym, ap, ◌∙◌, arith}
-use Rattle.std.specs.Prelude.{codes, cond, count_by, length, not}
+use Rattle.std.specs.Prelude.{codes, cond, count_by}
 use Rattle.std.specs.Ordering.{nat_cmp, eq_by_cmp}
 use Rattle.std.specs.FinMap.{FinMap, get, insert, empty, entries, keys, get-insert, get-empty, same_map, nat_cmp-IsAntisymmetric}
 use Rattle.std.specs.Cmp.{nat_cmp_total}
@@ -8,34 +8,32 @@ use Rattle.goo_types.specs.Day.{CalendarDay, day_number}
 use Rattle.jiff_core.specs.Calendar.{day_count, days_of_years, days_of_months}
 use Rattle.goo_types.specs.declared.lot_fields.LotFields.{LotFields}
 use Rattle.goo_types.specs.declared.place.Place.{Place}
-use Rattle.goo_types.specs.declared.place.Place.TheVariants.{Held, Cancelled, Expired}
+use Rattle.goo_types.specs.declared.place.Place.TheVariants.{Held, Expired}
 use Rattle.goo_types.specs.declared.command.Advance as advance
 use Rattle.goo_types.specs.declared.command.Transfer as transfer
 use Rattle.goo_types.specs.declared.command.Cancel as cancel
 use Rattle.goo_types.specs.declared.command.Command.{Command}
 use Rattle.goo_types.specs.declared.reply.Reply.{Reply}
 use Rattle.goo_types.specs.declared.command.Command.TheVariants.{Declare, Transfer, Cancel, Advance}
-use Rattle.goo_types.specs.declared.request.Request.{Request}
 use Rattle.goo_types.specs.declared.refusal.Refusal.TheVariants.{TradeClosed}
 use Rattle.goo_types.specs.declared.reply.Reply.TheVariants as reply
 use Rattle.goo_types.specs.declared.outcome.Outcome.TheVariants.{Accepted, Refused}
 use Rattle.goo_spec.specs.Days.{is_closed, is_over}
 use Rattle.goo_spec.specs.Lots.{Certificates}
-use Rattle.goo_spec.specs.Maps.{numbers_from, each, is_within, give_each, replaced, place_each}
+use Rattle.goo_spec.specs.Maps.{is_within, replaced, place_each}
 use Rattle.goo_spec.specs.State.{State, receipt_cmp}
 use Rattle.goo_spec.specs.Checks.{issuer}
 use Rattle.goo_spec.specs.Transfer.{transfer_refusal}
-use Rattle.goo_spec.specs.Cancel.{cancel_refusal, cancel_reply, with_cancellation}
+use Rattle.goo_spec.specs.Cancel.{cancel_refusal, cancel_reply}
 use Rattle.goo_spec.specs.Advance.{expires, aged, advance_refusal, advance_reply, with_day}
-use Rattle.goo_spec.specs.Step.{accept, outcome, after, next}
+use Rattle.goo_spec.specs.Step.{accept, outcome}
 use Rattle.goo_spec.specs.Run.{outcomes}
-use Rattle.goo_spec.specs.Fate.{fate, moved_one}
 use Rattle.goo_spec.proofs.Counting.{one, one_at}
 use Rattle.goo_spec.proofs.Giving.{count-give_each}
 use Rattle.goo_spec.proofs.Creating.{no_entries}
 use Rattle.goo_spec.proofs.Keys.{receipts_total}
 use Rattle.goo_spec.proofs.Fating.{fate_changed, fate_accept}
-use Rattle.goo_spec.proofs.ExampleRegistry.{day, sun, base, account_1, account_2}
+use Rattle.goo_spec.proofs.ExampleRegistry.{day, sun, account_1, account_2}
 use Rattle.goo_spec.proofs.ExampleKeys.{sends, numbers, answers, january, january_issue, january_lot, issued, certificates, after_january, at_january}
 
 -- how many of January's certificates expire on a day, by whether one of them does
@@ -49,7 +47,7 @@ count_expiring on =
     let more : ℕ = cond (is_over january_lot on) 1 0 in
     let none : Certificates = empty in
     let adds : (n : ℕ) → 7000000000001 ≤ n → n < 7000000000001 + 1200 → one p (n, (january_lot, Held 1)) ≡ one_at p n (get none n) + more =
-        λ n low high. let nothing : one_at p n (get none n) ≡ 0 = ap (one_at p n) (get-empty nat_cmp n) in let here : one p (n, (january_lot, Held 1)) ≡ more = refl in omega (arith, nothing, here) in
+    λ n low high. let nothing : one_at p n (get none n) ≡ 0 = ap (one_at p n) (get-empty nat_cmp n) in let here : one p (n, (january_lot, Held 1)) ≡ more = refl in omega (arith, nothing, here) in
     let no_more : count_by p (entries none) ≡ 0 = ap (count_by p) (no_entries (LotFields × Place) nat_cmp) in
     in_all (expiring on) (count_by p (entries none)) more (count-give_each p january_lot (Held 1) more 1200 7000000000001 none adds) no_more
   where

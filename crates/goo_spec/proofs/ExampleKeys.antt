@@ -1,9 +1,9 @@
 -- January's declaration, sent again, sent again with other contents; and a key that is free again after a refusal.
-use Rattle.std.proofs.Common.{◌≡◌, ℕ, ◌+◌, Bool, true, false, List, [], ◌∷◌, Option, Some, None, refl, sym, ap, ◌∙◌}
+use Rattle.std.proofs.Common.{◌≡◌, ℕ, ◌+◌, List, [], ◌∷◌, Option, Some, None, refl, ap, ◌∙◌}
 use Rattle.std.specs.Prelude.{codes, cond}
 use Rattle.std.specs.Ordering.{nat_cmp}
 use Rattle.std.specs.FinMap.{get, insert, empty, get-empty}
-use Rattle.goo_types.specs.Day.{CalendarDay, day_number}
+use Rattle.goo_types.specs.Day.{day_number}
 use Rattle.jiff_core.specs.Calendar.{day_count, days_of_years, days_of_months}
 use Rattle.goo_types.specs.Range.{Numbers}
 use Rattle.goo_types.specs.declared.lot_fields.LotFields.{LotFields}

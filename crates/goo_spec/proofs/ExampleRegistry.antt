@@ -1,6 +1,6 @@
 -- The registry of the worked examples: code 7 on 2025-03-01, with two holders, an account of each, and a device.
-use Rattle.std.proofs.Common.{◌≡◌, ℕ, false, List, [], Option, Some, None, refl, ap, ◌∙◌}
-use Rattle.std.specs.Prelude.{codes, cond, ◌==◌}
+use Rattle.std.proofs.Common.{◌≡◌, ℕ, false, List, [], Some, None, ◌∙◌}
+use Rattle.std.specs.Prelude.{codes}
 use Rattle.std.specs.Ordering.{nat_cmp}
 use Rattle.std.specs.Cmp.{nat_cmp_total}
 use Rattle.std.specs.Cmp.Lexicographic.{nat_list_cmp_total}

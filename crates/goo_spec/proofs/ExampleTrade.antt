@@ -1,8 +1,8 @@
 -- A range with a number that another account holds.
-use Rattle.std.proofs.Common.{◌≡◌, ℕ, ◌+◌, Bool, true, false, List, [], ◌∷◌, Option, Some, None, refl, sym, ap, ◌∙◌}
-use Rattle.std.specs.Prelude.{codes, cond}
+use Rattle.std.proofs.Common.{◌≡◌, ℕ, [], ◌∷◌, Option, Some, None, refl, ap, ◌∙◌}
+use Rattle.std.specs.Prelude.{codes}
 use Rattle.std.specs.FinMap.{get, insert, empty, get-insert, get-empty}
-use Rattle.goo_types.specs.Day.{CalendarDay, day_number}
+use Rattle.goo_types.specs.Day.{day_number}
 use Rattle.jiff_core.specs.Calendar.{day_count, days_of_years, days_of_months}
 use Rattle.goo_types.specs.declared.lot_fields.LotFields.{LotFields}
 use Rattle.goo_types.specs.declared.place.Place.{Place}
@@ -10,18 +10,17 @@ use Rattle.goo_types.specs.declared.place.Place.TheVariants.{Held}
 use Rattle.goo_types.specs.declared.command.Transfer as transfer
 use Rattle.goo_types.specs.declared.command.Cancel as cancel
 use Rattle.goo_types.specs.declared.command.Command.TheVariants.{Declare, Transfer, Cancel}
-use Rattle.goo_types.specs.declared.request.Request.{Request}
 use Rattle.goo_types.specs.declared.refusal.Refusal.TheVariants.{NotHeld}
 use Rattle.goo_types.specs.declared.reply.Reply.TheVariants.{Moved}
 use Rattle.goo_types.specs.declared.outcome.Outcome.TheVariants.{Accepted, Refused}
 use Rattle.goo_spec.specs.Days.{is_closed}
 use Rattle.goo_spec.specs.Lots.{Certificates}
-use Rattle.goo_spec.specs.Maps.{each, is_within, place_each}
+use Rattle.goo_spec.specs.Maps.{each, place_each}
 use Rattle.goo_spec.specs.State.{State, receipt_cmp}
 use Rattle.goo_spec.specs.Checks.{issuer}
 use Rattle.goo_spec.specs.Transfer.{transfer_refusal, transfer_reply, with_transfer}
-use Rattle.goo_spec.specs.Cancel.{cancel_refusal, cancel_reply}
-use Rattle.goo_spec.specs.Step.{accept, outcome, after, next}
+use Rattle.goo_spec.specs.Cancel.{cancel_refusal}
+use Rattle.goo_spec.specs.Step.{accept, outcome}
 use Rattle.goo_spec.specs.Run.{outcomes}
 use Rattle.goo_spec.specs.Fate.{moved_one}
 use Rattle.goo_spec.proofs.Keys.{receipts_total}
