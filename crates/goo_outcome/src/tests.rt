@@ -58,11 +58,11 @@ fn accepted(rt: HostRuntime) -> Result<(), Fail> {
             "{\"count\":10,\"notice\":1}",
         ),
     ];
-    for (reply, want) in replies {
+    for (reply, want) in &replies {
         let wanted = format!(in rt.alloc(); "{{\"outcome\":\"accepted\",\"reply\":{want}}}")?;
-        assert!(rt; outcome_text(Outcome::Accepted(reply)).as_str() == wanted.as_str());
+        assert!(rt; outcome_text(Outcome::Accepted(*reply)).as_str() == wanted.as_str());
         let wanted = format!(in rt.alloc(); "{{\"outcome\":\"repeated\",\"reply\":{want}}}")?;
-        assert!(rt; outcome_text(Outcome::Repeated(reply)).as_str() == wanted.as_str());
+        assert!(rt; outcome_text(Outcome::Repeated(*reply)).as_str() == wanted.as_str());
     }
     Ok(())
 }
