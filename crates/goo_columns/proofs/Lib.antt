@@ -8,3 +8,4 @@ pub mod Inside
 pub mod Committed
 pub mod Decoded
 pub mod Alone
+pub mod Same

@@ -3,6 +3,7 @@
 ghost use Rattle.std.specs.Prelude.{◌≡◌, ◌<◌, ◌^◌, pos, option_map, string_bytes};
 ghost use Rattle.sqlite.specs.declared.types.Value.TheVariants.{Int, Text, Blob};
 ghost use Rattle.sqlite.specs.Value.{owned};
+ghost use Rattle.sqlite.specs.Values.{bound_value};
 ghost use Rattle.sqlite_typed.specs.Columns.{or_null};
 
 use sqlite::types::ValueRef;
@@ -31,7 +32,7 @@ pub fn text<'a>(text: &'a str) -> ValueRef<'a>
 
 /// A text that may be missing, as a column keeps it.
 pub fn maybe_text<'a>(text: &'a Option<String>) -> ValueRef<'a>
-    ensures { owned result ≡ or_null Text (option_map string_bytes text.now) }
+    ensures { bound_value (owned result) ≡ or_null Text (option_map string_bytes text.now) }
 {
     match text {
         Some(text) => ValueRef::Text(text.as_bytes()),
