@@ -3,3 +3,4 @@
 
 pub mod map_key;
 pub mod maps;
+pub mod row_edits;
