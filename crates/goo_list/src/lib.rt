@@ -4,3 +4,4 @@
 pub mod map_key;
 pub mod maps;
 pub mod row_edits;
+pub mod rows;
