@@ -19,12 +19,13 @@ use std::marker::Model;
 use crate::row_edits::{count_inserts, edit_each};
 
 /// Whether a row is held, and can't be on a day.
+#[tactic(auto, unfolding(goo_spec::specs::Days::is_over))]
 fn is_expiring(row: &Piece, day: Day) -> bool
     ensures { result ≡ expires day row.now.lot row.now.place }
 {
     match row.place {
         Place::Held(_) => match row.lot.expires_on() {
-            Some(last) => last.is_before(day),
+            Some(last) => last.number() < day.number(),
             None => false,
         },
         _ => false,
