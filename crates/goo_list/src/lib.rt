@@ -3,5 +3,6 @@
 
 pub mod map_key;
 pub mod maps;
+pub mod production;
 pub mod row_edits;
 pub mod rows;
