@@ -2,5 +2,8 @@
 #![tactic(auto)]
 
 mod callers;
+mod days;
+mod declare;
+mod issue;
 mod open_account;
 mod verdict;
