@@ -5,5 +5,6 @@ mod callers;
 mod days;
 mod declare;
 mod issue;
+mod own;
 mod open_account;
 mod verdict;

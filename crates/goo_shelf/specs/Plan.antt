@@ -52,8 +52,8 @@ pub record Commits (old new : Moment) (result : Result (Unit {0}) Fault) (plan :
   pub rows_done : new.doubts ≡ 0 → OnOk result (new.rows ≡ edited_all plan.edits.items old.rows)
   pub undone : new.doubts ≡ 0 → OnErr result (new.state ≡ old.state)
   pub rows_undone : new.doubts ≡ 0 → OnErr result (new.rows ≡ old.rows)
-  pub doubted : old.doubts ≤ new.doubts
-  pub lied : old.lies ≤ new.lies
+  pub doubted : new.doubts ≡ 0 → old.doubts ≡ 0
+  pub lied : new.lies ≡ 0 → old.lies ≡ 0
   pub kept : old.refusals ≤ new.refusals
   pub told : IsTold result new.refusals
   pub works : OnOk result (new.lies ≡ 0 → new.doubts ≡ 0)
