@@ -38,6 +38,16 @@ lot_on code today x device = record {
   issued_on = today;
 }
 
+-- the checks of a declaration against its device's earlier ones and its capacity
+abbrev pub energy_checks : State → Declare → Device → List (Option Refusal)
+energy_checks s x device =
+    when (begins_too_early (last_end None (declared_by x.device s.declarations)) x.first_day) PeriodOrder
+    ∷ when (is_over (lot_of s x device) s.today) Stale
+    ∷ when (nat_lt x.gross x.aux) AuxExceedsGross
+    ∷ when (nat_lt (most_energy device x) x.gross) OverCapacity
+    ∷ when (nat_lt serials (s.next_serial + earned s x)) NumbersExhausted
+    ∷ []
+
 -- the certificates of a range, if there is one
 abbrev pub issue_with : Option Numbers → LotFields → ℕ → Option Issue
 issue_with None lot account = None
@@ -63,21 +73,14 @@ appraisal_by s x (Some device) = appraisal_with (first_refusal (device_checks s 
 unfoldable pub appraisal_of : State → List ℕ → Declare → Appraisal
 appraisal_of s caller x = cond (is_issuer caller) (appraisal_by s x (get s.devices x.device)) (Fails NotAllowed)
 
--- what a declaration of a device is judged by
-abbrev pub standing_with : State → List ℕ → Option Device → Option Standing
-standing_with s number None = None
-standing_with s number (Some device) = Some (record {
-  device = device;
-  account = get s.accounts device.account;
-  progress = progress_of s number;
-  meta = meta_of s;
-})
-
--- the same, once the device is known
+-- what a declaration is judged by, where its device is known
 pub record IsStanding (s : State) (number : List ℕ) (standing : Standing) : Type 0 where
+  pub device : get s.devices number ≡ Some standing.device
   pub account : standing.account ≡ get s.accounts standing.device.account
   pub progress : standing.progress ≡ progress_of s number
   pub meta : standing.meta ≡ meta_of s
 
-abbrev pub standing_of : State → List ℕ → Option Standing
-standing_of s number = standing_with s number (get s.devices number)
+-- the same, where it may be unknown
+abbrev pub IsStandingIf : State → List ℕ → Option Standing → Type 0
+IsStandingIf s number None = get s.devices number ≡ None
+IsStandingIf s number (Some standing) = IsStanding s number standing

@@ -7,7 +7,7 @@ ghost use Rattle.goo_spec.specs.Days.{is_before as before_test, are_in_one_month
 ghost use Rattle.goo_spec.specs.State.{State, serials};
 ghost use Rattle.goo_spec.specs.Declare.{device_checks, earned, lot_of as lot_def, begins_too_early as early_test, most_energy as most};
 ghost use Rattle.goo_shelf.specs.Shelf.{Looks, IsReady};
-ghost use Rattle.goo_core.specs.Issue.{standing_of, IsStanding, appraisal_of, appraisal_with, terms_of, lot_on};
+ghost use Rattle.goo_core.specs.Issue.{IsStandingIf, IsStanding, appraisal_of, appraisal_with, terms_of, lot_on, energy_checks};
 
 use goo_shelf::account::Account;
 use goo_shelf::device::Device;
@@ -76,15 +76,16 @@ fn begins_too_early(last_day: Option<Day>, first_day: Day) -> bool
 }
 
 /// The lot of the certificates that a declaration earns.
-fn lot_of(code: RegistryCode, declaration: &Declare, device: &Device, today: Day) -> Lot
+fn lot_of(declaration: &Declare, standing: &Standing) -> Lot
     requires period { before_test declaration.now.last_day declaration.now.first_day ≡ false }
     requires month { one_month_test declaration.now.first_day declaration.now.last_day ≡ true }
-    requires past { before_test declaration.now.last_day today ≡ true }
-    requires commissioned { before_test declaration.now.first_day device.now.commissioned ≡ false }
-    ensures { result ≡ lot_on code today declaration.now device.now }
+    requires past { before_test declaration.now.last_day standing.now.meta.today ≡ true }
+    requires commissioned { before_test declaration.now.first_day standing.now.device.commissioned ≡ false }
+    ensures { (s : State) → IsStanding s declaration.now.device standing.now → result ≡ lot_def s declaration.now standing.now.device }
 {
+    let device = &standing.device;
     Lot::new(LotFields {
-        origin: code,
+        origin: standing.meta.code,
         device: declaration.device,
         country: device.country(),
         site: device.site(),
@@ -95,7 +96,7 @@ fn lot_of(code: RegistryCode, declaration: &Declare, device: &Device, today: Day
         support: device.support(),
         first_day: declaration.first_day,
         last_day: declaration.last_day,
-        issued_on: today,
+        issued_on: standing.meta.today,
     })
     .unwrap()
 }
@@ -112,7 +113,7 @@ fn most_energy(device: &Device, declaration: &Declare) -> u128
 
 /// What a declaration is judged by, if its device is known.
 fn read_standing<S: Shelf>(shelf: &mut S, device: &Gsrn) -> Result<Option<Standing>, Fault>
-    ensures { Looks (S.seen shelf.old) (S.seen shelf.new) result (λ standing. standing ≡ standing_of (S.seen shelf.old).state device.now) }
+    ensures { Looks (S.seen shelf.old) (S.seen shelf.new) result (λ standing. IsStandingIf (S.seen shelf.old).state device.now standing) }
 {
     let Some(found) = shelf.device(device)? else {
         return Ok(None);
@@ -148,13 +149,32 @@ fn settle(declaration: &Declare, standing: &Standing, lot: &Lot) -> Appraisal
     })
 }
 
-/// What the checks of a declaration that ask for its device come to.
+/// What the checks of a declaration against its device's earlier ones and its capacity come to.
 #[tactic(auto, unfolding(goo_spec::specs::Days::is_over))]
-fn appraise(declaration: &Declare, standing: &Standing) -> Appraisal
+fn appraise_energy(declaration: &Declare, standing: &Standing, lot: &Lot) -> Appraisal
+    requires { before_test declaration.now.last_day declaration.now.first_day ≡ false }
+    ensures { (s : State) → IsStanding s declaration.now.device standing.now → lot.now ≡ lot_def s declaration.now standing.now.device → result ≡ appraisal_with (first_refusal (energy_checks s declaration.now standing.now.device)) (terms_of s declaration.now standing.now.device) }
+{
+    if begins_too_early(standing.progress.last_day, declaration.first_day) {
+        return Appraisal::Fails(Refusal::PeriodOrder);
+    }
+    if is_over(lot, standing.meta.today) {
+        return Appraisal::Fails(Refusal::Stale);
+    }
+    let gross = declaration.gross.get();
+    if gross < declaration.aux.get() {
+        return Appraisal::Fails(Refusal::AuxExceedsGross);
+    }
+    if most_energy(&standing.device, declaration) < u128::from(gross) {
+        return Appraisal::Fails(Refusal::OverCapacity);
+    }
+    settle(declaration, standing, lot)
+}
+
+/// What the checks of a declaration that ask for its device come to.
+fn appraise_standing(declaration: &Declare, standing: &Standing) -> Appraisal
     ensures { (s : State) → IsStanding s declaration.now.device standing.now → result ≡ appraisal_with (first_refusal (device_checks s declaration.now standing.now.device)) (terms_of s declaration.now standing.now.device) }
 {
-    let device = &standing.device;
-    let today = standing.meta.today;
     if is_shut(standing.account) {
         return Appraisal::Fails(Refusal::AccountClosed);
     }
@@ -163,25 +183,31 @@ fn appraise(declaration: &Declare, standing: &Standing) -> Appraisal
     {
         return Appraisal::Fails(Refusal::PeriodSpan);
     }
-    if !is_before(declaration.last_day, today) {
+    if !is_before(declaration.last_day, standing.meta.today) {
         return Appraisal::Fails(Refusal::FuturePeriod);
     }
-    if is_before(declaration.first_day, device.commissioned()) {
+    if is_before(declaration.first_day, standing.device.commissioned()) {
         return Appraisal::Fails(Refusal::BeforeCommissioning);
     }
-    if begins_too_early(standing.progress.last_day, declaration.first_day) {
-        return Appraisal::Fails(Refusal::PeriodOrder);
+    let lot = lot_of(declaration, standing);
+    appraise_energy(declaration, standing, &lot)
+}
+
+/// What the checks of a declaration come to.
+#[tactic(auto, unfolding(crate::specs::Issue::appraisal_of))]
+pub fn appraise<S: Shelf>(
+    shelf: &mut S,
+    caller: &HolderCode,
+    declaration: &Declare,
+) -> Result<Appraisal, Fault>
+    requires { IsReady (S.seen shelf.old) }
+    ensures { Looks (S.seen shelf.old) (S.seen shelf.new) result (λ appraisal. appraisal ≡ appraisal_of (S.seen shelf.old).state caller.now declaration.now) }
+{
+    if !is_issuer(caller) {
+        return Ok(Appraisal::Fails(Refusal::NotAllowed));
     }
-    let lot = lot_of(standing.meta.code, declaration, device, today);
-    if is_over(&lot, today) {
-        return Appraisal::Fails(Refusal::Stale);
+    match read_standing(shelf, &declaration.device)? {
+        Some(standing) => Ok(appraise_standing(declaration, &standing)),
+        None => Ok(Appraisal::Fails(Refusal::UnknownDevice)),
     }
-    let gross = declaration.gross.get();
-    if gross < declaration.aux.get() {
-        return Appraisal::Fails(Refusal::AuxExceedsGross);
-    }
-    if most_energy(device, declaration) < u128::from(gross) {
-        return Appraisal::Fails(Refusal::OverCapacity);
-    }
-    settle(declaration, standing, &lot)
 }
