@@ -1,9 +1,9 @@
 -- The maximal runs of a map are one list.
-use Rattle.std.proofs.Common.{◌≡◌, ℕ, ◌+◌, ◌<◌, ◌≤◌, List, [], ◌∷◌, Bool, true, false, Option, Some, None, refl, ap, sym, ◌∙◌, ⊎_elim, arith}
+use Rattle.std.proofs.Common.{◌≡◌, ℕ, ◌+◌, ◌<◌, ◌≤◌, List, [], ◌∷◌, true, false, Option, Some, None, refl, ap, sym, ◌∙◌, ⊎_elim, arith}
 use Rattle.std.proofs.lemmas.Bool.{cases_lt}
 use Rattle.std.proofs.lemmas.Bool.Decides.{nat_tests}
 use Rattle.goo_types.specs.declared.piece.Piece.{Piece}
-use Rattle.goo_types.specs.Piece.{Label, label_of, covers, at_of, IsRising, IsRisingFrom}
+use Rattle.goo_types.specs.Piece.{Label, label_of, covers, at_of, IsRisingFrom}
 use Rattle.goo_spec.specs.Runs.{IsNotFollowed, IsApart, AreRunsOf}
 
 inside : (p : Piece) (n : ℕ) → p.first ≤ n → n ≤ p.last → covers p n ≡ true
@@ -34,16 +34,16 @@ next_free p (q ∷ qs) r free h =
     let forward : q.first ≤ q.last = r.1.0 in
     ⊎_elim
     (λ (gap : p.last + 1 < q.first).
-        let e = before q (p.last + 1) gap in
-        let f = none_below (q.last + 1) qs (p.last + 1) r.2 (omega arith) in
-        let g : None ≡ Some (label_of p) = sym (rw e f) ∙ h in
-        cc)
+    let e = before q (p.last + 1) gap in
+    let f = none_below (q.last + 1) qs (p.last + 1) r.2 (omega arith) in
+    let g : None ≡ Some (label_of p) = sym (rw e f) ∙ h in
+    cc)
     (λ (at_once : q.first ≤ p.last + 1).
-        let same : p.last + 1 ≡ q.first = omega arith in
-        let f : at_of (q ∷ qs) (p.last + 1) ≡ Some (label_of q) = own q qs (p.last + 1) at_once (omega arith) in
-        let g : Some (label_of q) ≡ Some (label_of p) = sym f ∙ h in
-        let label : label_of p ≡ label_of q = cc in
-        free (same, label))
+    let same : p.last + 1 ≡ q.first = omega arith in
+    let f : at_of (q ∷ qs) (p.last + 1) ≡ Some (label_of q) = own q qs (p.last + 1) at_once (omega arith) in
+    let g : Some (label_of q) ≡ Some (label_of p) = sym f ∙ h in
+    let label : label_of p ≡ label_of q = cc in
+    free (same, label))
     (cases_lt (p.last + 1) q.first)
 
 -- the number after a piece doesn't have its label
@@ -86,9 +86,9 @@ unique low (p ∷ ps) (q ∷ qs) r a s b same =
     let last : p.last ≡ q.last = equal p.last q.last (no_shorter low p q ps qs r a s same first label) (no_shorter low q p qs ps s b r back (sym first) (sym label)) in
     let head : p ≡ q = λ i. record { first = first i; last = last i; lot = (label i).0; place = (label i).1 } in
     let rest : (n : ℕ) → at_of ps n ≡ at_of qs n = λ n. ⊎_elim
-        (λ (above : p.last < n). let e = beyond p n above in let f = beyond q n (omega arith) in let h = same n in rw (e, f) at h)
-        (λ (within : n ≤ p.last). none_below (p.last + 1) ps n r.2 (omega arith) ∙ sym (none_below (q.last + 1) qs n s.2 (omega arith)))
-        (cases_lt p.last n) in
+    (λ (above : p.last < n). let e = beyond p n above in let f = beyond q n (omega arith) in let h = same n in rw (e, f) at h)
+    (λ (within : n ≤ p.last). none_below (p.last + 1) ps n r.2 (omega arith) ∙ sym (none_below (q.last + 1) qs n s.2 (omega arith)))
+    (cases_lt p.last n) in
     let tail : IsRisingFrom (p.last + 1) qs = rw last s.2 in
     let more : ps ≡ qs = unique (p.last + 1) ps qs r.2 a.1 tail b.1 rest in
     λ i. head i ∷ more i
