@@ -2,5 +2,9 @@
 #![tactic(auto)]
 
 mod callers;
+mod days;
+mod declare;
+mod issue;
+mod own;
 mod open_account;
 mod verdict;
