@@ -1,6 +1,6 @@
 //! Decisions over any shelf.
 #![tactic(auto)]
 
-mod callers;
+pub mod callers;
 mod open_account;
 mod verdict;
