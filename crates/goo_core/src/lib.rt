@@ -1,7 +1,7 @@
 //! Decisions over any shelf.
 #![tactic(auto)]
 
-mod callers;
+pub mod callers;
 mod days;
 mod declare;
 mod issue;
