@@ -1,3 +1,6 @@
 pub mod Meta
 pub mod Verdict
 pub mod Issue
+pub mod Ruling
+pub mod Changes
+pub mod Transfer

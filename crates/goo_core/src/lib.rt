@@ -1,10 +1,16 @@
 //! Decisions over any shelf.
 #![tactic(auto)]
 
+mod add_peer;
 mod callers;
+mod change;
 mod days;
 mod declare;
 mod issue;
 mod own;
 mod open_account;
+mod open_holder;
+mod register_device;
+mod ruling;
+mod transfer;
 mod verdict;
