@@ -7,9 +7,9 @@ use Rattle.goo_spec.specs.State.{State}
 use Rattle.goo_shelf.specs.Shelf.{Moment, Looks, IsTold, IsReady, IsSafe}
 
 -- an answer that follows from the one found
-pub looked : {T U : Type 0} (a b : Moment) (x : T) (y : U) (first : T → Type 0) (right : U → Type 0) → Looks a b (Ok x) first → (first x → right y) → Looks a b (Ok y) right
+pub looked : {T U : Type 0} (a b : Moment) (x : T) (y : U) (first : T → Type 0) (right : U → Type 0) → Looks a b (Ok x) first → (a.doubts ≡ 0 → first x → right y) → Looks a b (Ok y) right
 looked a b x y first right look so = record {
-  found = λ none. so (look.found none);
+  found = λ none. so (look.doubted none) (look.found none);
   same = look.same;
   rows_same = look.rows_same;
   doubted = look.doubted;
@@ -21,10 +21,10 @@ looked a b x y first right look so = record {
 }
 
 -- the same for a call that can only fail for want of memory
-pub looked_or_full : {T U : Type 0} (a b : Moment) (x : T) (r : Result U Fault) (first : T → Type 0) (right : U → Type 0) → Looks a b (Ok x) first
-    → IfErr r (λ fault. fault ≡ Memory) → (first x → IfOk r right) → Looks a b r right
-looked_or_full a b x (Ok y) first right look memory so = looked a b x y first right look so
-looked_or_full {T} {U} a b x (Err e) first right look memory so = record {
+pub looked_or_full : {T U : Type 0} (a b : Moment) (x : T) (r : Result U Fault) (first : T → Type 0) (made right : U → Type 0) → Looks a b (Ok x) first
+    → IfErr r (λ fault. fault ≡ Memory) → IfOk r made → (a.doubts ≡ 0 → first x → (y : U) → made y → right y) → Looks a b r right
+looked_or_full a b x (Ok y) first made right look memory is so = looked a b x y first right look (λ none found. so none found y is)
+looked_or_full {T} {U} a b x (Err e) first made right look memory is so = record {
   found = λ none. tt;
   same = look.same;
   rows_same = look.rows_same;

@@ -4,3 +4,4 @@ pub mod Issue
 pub mod Ruling
 pub mod Changes
 pub mod Transfer
+pub mod Moves

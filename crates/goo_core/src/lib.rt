@@ -10,6 +10,7 @@ mod issue;
 mod own;
 mod open_account;
 mod open_holder;
+mod range_checks;
 mod register_device;
 mod ruling;
 mod transfer;
