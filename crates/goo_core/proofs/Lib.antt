@@ -1,2 +1,5 @@
 pub mod Looking
 pub mod Appraising
+pub mod Changing
+pub mod Rulings
+pub mod Transferring

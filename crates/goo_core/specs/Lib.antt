@@ -1,3 +1,7 @@
 pub mod Meta
 pub mod Verdict
 pub mod Issue
+pub mod Ruling
+pub mod Changes
+pub mod Transfer
+pub mod Moves
