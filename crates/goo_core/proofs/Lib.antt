@@ -3,3 +3,5 @@ pub mod Appraising
 pub mod Changing
 pub mod Rulings
 pub mod Transferring
+pub mod Joining
+pub mod Walking

@@ -5,3 +5,5 @@ pub mod Ruling
 pub mod Changes
 pub mod Transfer
 pub mod Moves
+pub mod Parts
+pub mod Walk

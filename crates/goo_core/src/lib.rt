@@ -10,6 +10,7 @@ mod issue;
 mod open_account;
 mod open_holder;
 mod own;
+mod parts;
 mod range_checks;
 mod register_device;
 mod ruling;
