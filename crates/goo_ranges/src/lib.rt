@@ -1,0 +1,13 @@
+//! A book that says for each number its lot and its place, kept as ranges.
+#![tactic(auto)]
+
+mod books;
+mod faults;
+mod edits;
+mod joined;
+mod parts;
+
+pub use books::Book;
+pub use edits::Edit;
+pub use faults::BookFault;
+pub use goo_types::piece::Piece;
