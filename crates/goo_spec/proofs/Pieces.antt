@@ -1,6 +1,6 @@
 -- The certificates of pieces, found and counted by pieces.
-use Rattle.std.proofs.Common.{◌≡◌, ℕ, suc, ◌+◌, ◌-◌, ◌*◌, ◌/◌, ◌<◌, ◌≤◌, Bool, true, false, cond, ◌&&◌, ◌==◌, List, [], ◌∷◌, Option, Some, None, refl, sym, ap, ◌∙◌, arith}
-use Rattle.std.specs.Prelude.{count_by, sum_by}
+use Rattle.std.proofs.Common.{◌≡◌, ℕ, ◌+◌, ◌*◌, ◌<◌, ◌≤◌, Bool, true, false, cond, ◌&&◌, ◌==◌, List, [], ◌∷◌, Some, sym, ap, ◌∙◌, arith}
+use Rattle.std.specs.Prelude.{count_by}
 use Rattle.std.specs.Str.{bytes_eq}
 use Rattle.std.specs.Ordering.{nat_cmp}
 use Rattle.std.specs.Cmp.{nat_cmp_total}
@@ -14,13 +14,13 @@ use Rattle.goo_types.specs.declared.place.Place.{Place}
 use Rattle.goo_types.specs.declared.piece.Piece.{Piece}
 use Rattle.goo_types.specs.Piece.{label_of, covers, at_of, IsRising, IsRisingFrom}
 use Rattle.goo_spec.specs.Lots.{Certificates}
-use Rattle.goo_spec.specs.Maps.{numbers_from, each, count_of}
+use Rattle.goo_spec.specs.Maps.{each, count_of}
 use Rattle.goo_spec.specs.State.{State}
 use Rattle.goo_spec.specs.Energy.{is_issued_to, issued}
 use Rattle.goo_spec.specs.Pieces.{numbers_of, certificates_of, issued_in, issued_by_pieces}
 use Rattle.goo_spec.proofs.Counting.{one, one_at}
 use Rattle.goo_spec.proofs.Giving.{count-give_each}
-use Rattle.goo_spec.proofs.Placing.{is_one_of, get-give_each}
+use Rattle.goo_spec.proofs.Placing.{get-give_each}
 use Rattle.goo_spec.proofs.Numbers.{one_within}
 use Rattle.goo_spec.proofs.Creating.{no_entries}
 use Rattle.goo_spec.proofs.Unique.{none_below}
@@ -68,11 +68,11 @@ module _ (own : ℕ) (device : List ℕ) where
       let forward : p.first ≤ p.last = rising.1.0 in
       let code : code_of p.first ≡ code_of p.last = rising.1.1 in
       let adds : (n : ℕ) → p.first ≤ n → n < p.first + count_of (numbers_of p) → one test (n, (p.lot, p.place)) ≡ one_at test n (get (certificates_of ps) n) + cond (here p) 1 0 =
-          λ n from to.
-            let below : n ≤ p.last = omega (arith, to, forward) in
-            let none : one_at test n (get (certificates_of ps) n) ≡ 0 = ap (one_at test n) (get-certificates_of ps n ∙ none_below (p.last + 1) ps n rising.2 (omega (arith, below))) in
-            let counts : one test (n, (p.lot, p.place)) ≡ cond (here p) 1 0 = ap (λ c. cond (c == own && bytes_eq p.lot.device device) 1 0) (one_code p.first p.last n from below code) in
-            omega (arith, none, counts) in
+      λ n from to.
+      let below : n ≤ p.last = omega (arith, to, forward) in
+      let none : one_at test n (get (certificates_of ps) n) ≡ 0 = ap (one_at test n) (get-certificates_of ps n ∙ none_below (p.last + 1) ps n rising.2 (omega (arith, below))) in
+      let counts : one test (n, (p.lot, p.place)) ≡ cond (here p) 1 0 = ap (λ c. cond (c == own && bytes_eq p.lot.device device) 1 0) (one_code p.first p.last n from below code) in
+      omega (arith, none, counts) in
       let all = count-give_each test p.lot p.place (cond (here p) 1 0) (count_of (numbers_of p)) p.first (certificates_of ps) adds in
       all ∙ ap (λ (k : ℕ). count_by test (entries (certificates_of ps)) + k) (times (here p) (count_of (numbers_of p)))
 

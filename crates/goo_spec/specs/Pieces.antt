@@ -1,5 +1,5 @@
 -- The certificates that some pieces stand for.
-use Rattle.std.specs.Prelude.{ℕ, suc, ◌-◌, ◌&&◌, ◌==◌, cond, List, [], ◌∷◌, sum_by}
+use Rattle.std.specs.Prelude.{ℕ, ◌&&◌, ◌==◌, cond, List, [], ◌∷◌, sum_by}
 use Rattle.std.specs.Str.{bytes_eq}
 use Rattle.std.specs.FinMap.{empty}
 use Rattle.goo_types.specs.Number.{code_of}
