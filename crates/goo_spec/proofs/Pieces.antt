@@ -47,7 +47,7 @@ equal_between : (a b c : ℕ) → a ≤ b → b ≤ c → a ≡ c → b ≡ a
 equal_between a b c low high same = omega (arith, low, high, same)
 
 -- the numbers of a range of one code have that code
-one_code : (first last n : ℕ) → first ≤ n → n ≤ last → code_of first ≡ code_of last → code_of n ≡ code_of first
+pub one_code : (first last n : ℕ) → first ≤ n → n ≤ last → code_of first ≡ code_of last → code_of n ≡ code_of first
 one_code first last n low high same = equal_between (code_of first) (code_of n) (code_of last) (div_rises first n low) (div_rises n last high) same
 
 times : (b : Bool) (count : ℕ) → count * cond b 1 0 ≡ cond b count 0
