@@ -6,12 +6,12 @@ ghost use Rattle.goo_types.specs.declared.piece.Piece.{Piece};
 ghost use Rattle.goo_types.specs.declared.place.Place.{Place};
 ghost use Rattle.goo_ranges.specs.BookFault.{IsLeastFault};
 ghost use Rattle.goo_ranges.specs.Change.{IsChanged, IsSet, moved, cuts, meets, set_to};
-ghost use Rattle.goo_types.specs.Number.{code_of};
+ghost use Rattle.goo_types.specs.Number.{IsNumber, code_of};
 ghost use Rattle.goo_spec.specs.Maps.{each, least_absent, least_failing};
 ghost use Rattle.goo_ranges.specs.Walk.{span, IsRest};
-ghost use Rattle.goo_types.specs.Piece.{at_of, IsRising};
+ghost use Rattle.goo_types.specs.Piece.{label_of, at_of, IsRising};
 ghost use Rattle.goo_ranges.specs.Edit.{IsExact};
-ghost use Rattle.goo_ranges.specs.Touching.{IsTouched};
+ghost use Rattle.goo_ranges.specs.Touching.{IsTouched, IsMeeting, IsBegin, IsEnd, IsWidened};
 ghost use Rattle.goo_spec.specs.Runs.{AreRunsOf, Gives, IsApart};
 
 use std::alloc::AllocError;
@@ -279,23 +279,15 @@ impl Book {
         self.replace(from, to, insert)
     }
 
-    /// The pieces from the index `from` on and below `to`, with the numbers of the range at the lot and the place.
-    fn set_between(
-        &self,
-        from: usize,
-        to: usize,
-        first: Number,
-        last: Number,
-        lot: Lot,
-        place: Place,
-    ) -> Result<Vec<Piece>, AllocError>
+    /// The pieces from the index `from` on and below `to`, with one more in the place of its numbers.
+    fn set_between(&self, from: usize, to: usize, new: &Piece) -> Result<Vec<Piece>, AllocError>
         requires order { from ≤ to }
         requires bound { to ≤ length self.now }
-        ensures set { IfOk result (λ out. IsSet first last (lot, place) (take (to - from) (drop from self.now)) out.items) }
+        ensures set { IfOk result (λ out. IsSet new.now.first new.now.last (label_of new.now) (take (to - from) (drop from self.now)) out.items) }
         ensures rising { IsRising self.now }
     {
-        let touched = &self.pieces[from..to];
-        set_pieces(*self.pieces.allocator(), touched, first, last, lot, place)
+        let replaced = &self.pieces[from..to];
+        set_pieces(*self.pieces.allocator(), replaced, new)
     }
 
     /// Sets the lot and the place of each number of the range. After an `Err` the book is unchanged.
@@ -304,26 +296,99 @@ impl Book {
         ensures disjoint { OnOk result (IsRising self.new) }
         ensures exact { IfOk result (IsExact self.old self.new) }
         ensures maximal { OnOk result (IsApart self.old → IsApart self.new) }
+        ensures few { IfOk result (λ edit. let most = count_by (meets range.first range.last) self.old + 2 in (length edit.delete.items ≤ most) × (length edit.insert.items ≤ most)) }
         ensures err { OnErr result (self.new ≡ self.old) }
         ensures memory { IfErr result (λ fault. fault ≡ Fault.Memory) }
     {
         self.add_between(range.first(), range.last(), lot, place)
     }
 
+    /// The indices between which the pieces have a number of the range.
+    fn met(&self, first: Number, last: Number) -> (usize, usize)
+        requires { first ≤ last }
+        ensures { IsMeeting self.now first last result.0 result.1 }
+    {
+        let first = first.get();
+        let last = last.get();
+        let from = self
+            .pieces
+            .partition_point(|piece| piece.last.get() < first);
+        let to = self
+            .pieces
+            .partition_point(|piece| piece.first.get() <= last);
+        (from, to)
+    }
+
+    /// Where a new piece begins, at the index `from`, once it is joined with the one before.
+    fn begin(&self, from: usize, new: &Piece) -> (usize, Number)
+        requires { from ≤ length self.now }
+        ensures reached { IsBegin self.now from new.now result.0 result.1 }
+        ensures valid { IsNumber result.1 }
+    {
+        if from > 0 && self.pieces[from - 1].is_followed_by(new) {
+            let first = self.pieces[from - 1].first;
+            let _valid = first.get();
+            return (from - 1, first);
+        }
+        let _valid = new.first.get();
+        (from, new.first)
+    }
+
+    /// Where a new piece ends, at the index `to`, once it is joined with the one there.
+    fn end(&self, to: usize, new: &Piece) -> (usize, Number)
+        requires { to ≤ length self.now }
+        ensures { IsEnd self.now to new.now result.0 result.1 }
+    {
+        if to < self.pieces.len() && new.is_followed_by(&self.pieces[to]) {
+            return (to + 1, self.pieces[to].last);
+        }
+        (to, new.last)
+    }
+
+    /// A new piece, joined with the equal ones next to it, and the indices between which it takes the
+    /// place of the pieces.
+    fn widened(&self, new: &Piece) -> (usize, usize, Piece)
+        requires { new.now.first ≤ new.now.last }
+        ensures { IsWidened self.now new.now result.0 result.1 result.2 }
+    {
+        let (from, to) = self.met(new.first, new.last);
+        let (begin, first) = self.begin(from, new);
+        let (end, last) = self.end(to, new);
+        let wide = Piece {
+            first,
+            last,
+            ..*new
+        };
+        (begin, end, wide)
+    }
+
     /// Sets the lot and the place of each number from `first` to `last`. After an `Err` the book is unchanged.
-    fn add_between(&mut self, first: Number, last: Number, lot: Lot, place: Place) -> Result<Edit, Fault>
+    fn add_between(
+        &mut self,
+        first: Number,
+        last: Number,
+        lot: Lot,
+        place: Place,
+    ) -> Result<Edit, Fault>
         requires forward { first ≤ last }
         requires one_code { code_of first ≡ code_of last }
         ensures map { OnOk result ((n : ℕ) → at_of self.new n ≡ set_to first last (lot, place) n (at_of self.old n)) }
         ensures disjoint { OnOk result (IsRising self.new) }
         ensures exact { IfOk result (IsExact self.old self.new) }
         ensures maximal { OnOk result (IsApart self.old → IsApart self.new) }
+        ensures few { IfOk result (λ edit. let most = count_by (meets first last) self.old + 2 in (length edit.delete.items ≤ most) × (length edit.insert.items ≤ most)) }
         ensures err { OnErr result (self.new ≡ self.old) }
         ensures memory { IfErr result (λ fault. fault ≡ Fault.Memory) }
     {
-        let (from, to) = self.touched(first, last);
-        let cut = self.set_between(from, to, first, last, lot, place)?;
+        let new = Piece {
+            first,
+            last,
+            lot,
+            place,
+        };
+        let (begin, end, wide) = self.widened(&new);
+        let cut = self.set_between(begin, end, &wide)?;
         let insert = joined_pieces(*self.pieces.allocator(), &cut)?;
-        self.replace(from, to, insert)
+        self.replace(begin, end, insert)
     }
 }
