@@ -2,6 +2,7 @@ pub mod Number
 pub mod Inline
 pub mod DayText
 pub mod Day
+pub mod Texts
 pub mod CodeBytes
 pub mod TextReading
 pub mod Codes
@@ -14,3 +15,4 @@ pub mod Part
 pub mod Piece
 pub mod Notice
 pub mod Refusal
+pub mod Obeys

@@ -4,6 +4,7 @@
 pub mod account_no;
 pub mod act_no;
 pub mod command;
+mod command_equality;
 pub mod country;
 pub mod day;
 mod digits;

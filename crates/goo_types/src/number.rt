@@ -37,6 +37,7 @@ impl Model for Number {
 
 impl Number {
     ghost use Rattle.goo_types.specs.Number.{number_reading};
+    ghost use Rattle.goo_types.specs.Texts.{number_text};
 
     /// The number with this code and serial; None outside their limits.
     pub fn new(code: u8, serial: u64) -> Option<Number>
@@ -70,6 +71,7 @@ impl Number {
 
     /// The fourteen digits, which read as this number again.
     pub fn write(self) -> [u8; 14]
+        ensures text { result ≡ number_text self }
         ensures reads_back { number_reading result ≡ Ok self }
     {
         digits::write(self.get())
