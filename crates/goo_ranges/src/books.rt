@@ -23,7 +23,7 @@ use goo_types::place::Place;
 use goo_types::range::Range;
 use std::marker::Model;
 
-use crate::joined::{joined_pieces, moved_pieces, push_joined, set_pieces};
+use crate::joined::{joined_pieces, moved_pieces, push_joined, put_between, set_pieces};
 use crate::edits::Edit;
 use crate::faults::BookFault;
 
@@ -241,11 +241,8 @@ impl Book {
             .iter()
             .map(|piece| piece.first)
             .collect(alloc)?;
-        let mut pieces = Vec::new(alloc);
-        pieces.extend_from_slice(&self.pieces[..from])?;
-        pieces.extend_from_slice(&insert)?;
-        pieces.extend_from_slice(&self.pieces[to..])?;
-        self.pieces = pieces;
+        let more = Vec::from_slice(alloc, &insert)?;
+        put_between(&mut self.pieces, from, to, more)?;
         Ok(Edit { delete, insert })
     }
 

@@ -1,6 +1,6 @@
 //! Lists of pieces in which neighbours of one lot and place are joined.
 
-ghost use Rattle.std.specs.Prelude.{◌+◌, ◌≤◌, [], ◌∷◌, ◌++◌, OnOk, IfOk};
+ghost use Rattle.std.specs.Prelude.{◌≡◌, ◌+◌, ◌≤◌, [], ◌∷◌, ◌++◌, length, take, drop, OnOk, OnErr, IfOk};
 ghost use Rattle.std.specs.Option.{option_to_list};
 ghost use Rattle.goo_ranges.specs.Change.{IsChanged, IsKept, IsSet, moved, cuts};
 ghost use Rattle.goo_ranges.specs.Joining.{IsJoining};
@@ -132,4 +132,21 @@ pub fn joined_pieces(alloc: Global, pieces: &[Piece]) -> Result<Vec<Piece>, Allo
         push_joined(&mut out, *piece)?;
     }
     Ok(out)
+}
+
+/// Puts other pieces in the place of those from the index `from` on and below `to`. What stands
+/// before stays where it is. After an error the pieces are unchanged.
+pub fn put_between(
+    pieces: &mut Vec<Piece>,
+    from: usize,
+    to: usize,
+    more: Vec<Piece>,
+) -> Result<(), AllocError>
+    requires order { from ≤ to }
+    requires bound { to ≤ length pieces.old.items }
+    ensures ok { OnOk result (pieces.new.items ≡ take from pieces.old.items ++ (more.items ++ drop to pieces.old.items)) }
+    ensures err { OnErr result (pieces.new.items ≡ pieces.old.items) }
+{
+    pieces.splice(from..to, more)?;
+    Ok(())
 }
