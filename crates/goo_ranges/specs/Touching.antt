@@ -1,5 +1,5 @@
 -- The pieces that a range meets or is next to, and those that a new piece joins.
-use Rattle.std.specs.Prelude.{◌≡◌, ℕ, ◌+◌, ◌-◌, ◌<◌, ◌≤◌, ◌⊎◌, List, [], ◌∷◌, length, get_or, take, drop}
+use Rattle.std.specs.Prelude.{◌≡◌, ℕ, ◌+◌, ◌-◌, ◌<◌, ◌≤◌, ◌⊎◌, List, [], ◌∷◌, ◌++◌, length, get_or, take, drop}
 use Rattle.goo_types.specs.declared.piece.Piece.{Piece}
 use Rattle.goo_types.specs.Number.{IsNumber}
 use Rattle.goo_types.specs.Piece.{IsRisingFrom, Follows, label_of}
@@ -88,3 +88,11 @@ pub record IsWidened (ps : List Piece) (new : Piece) (begin end : ℕ) (wide : P
   pub after : IsEnd ps to new end wide.last
   pub labelled : label_of wide ≡ label_of new
   pub valid : IsNumber wide.first
+
+-- the same pieces are put in with fewer of them touched: those between the indices `begin` and `end` for those between `from` and `to`
+pub record IsTrimmed (ps : List Piece) (from to : ℕ) (insert : List Piece) (begin end : ℕ) (left : List Piece) : Type 0 where
+  pub same : take begin ps ++ (left ++ drop end ps) ≡ take from ps ++ (insert ++ drop to ps)
+  pub starts : from ≤ begin
+  pub order : begin ≤ end
+  pub ends : end ≤ to
+  pub few : length left ≤ length insert

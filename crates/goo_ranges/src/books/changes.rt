@@ -5,7 +5,7 @@ ghost use Rattle.goo_ranges.specs.Change.{IsChanged, IsSet, moved, cuts, meets, 
 ghost use Rattle.goo_types.specs.Number.{IsNumber, code_of};
 ghost use Rattle.goo_types.specs.Piece.{label_of, at_of, IsRising};
 ghost use Rattle.goo_ranges.specs.Edit.{IsExact};
-ghost use Rattle.goo_ranges.specs.Touching.{IsTouched, IsMeeting, IsBegin, IsEnd, IsWidened};
+ghost use Rattle.goo_ranges.specs.Touching.{IsTouched, IsMeeting, IsBegin, IsEnd, IsWidened, IsTrimmed};
 ghost use Rattle.goo_spec.specs.Runs.{IsApart};
 
 use std::alloc::AllocError;
@@ -20,6 +20,7 @@ use goo_types::range::Range;
 use super::Book;
 use crate::edits::Edit;
 use crate::joined::{joined_pieces, moved_pieces, put_between, set_pieces};
+use crate::parts::is_same;
 
 impl Book {
     /// The indices between which the pieces meet the range or are next to it.
@@ -56,6 +57,35 @@ impl Book {
     {
         let touched = &self.pieces[from..to];
         moved_pieces(*self.pieces.allocator(), touched, first, last, &place)
+    }
+
+    /// Leaves out the first of the new pieces, where it is already there at the index `from`, and tells
+    /// from which index on the others go.
+    fn trim_first(&self, from: usize, to: usize, insert: &mut Vec<Piece>) -> usize
+        requires order { from ≤ to }
+        requires bound { to ≤ length self.now }
+        ensures { IsTrimmed self.now from to insert.old.items result to insert.new.items }
+    {
+        if from < to && !insert.is_empty() && is_same(&insert[0], &self.pieces[from]) {
+            insert.remove(0);
+            return from + 1;
+        }
+        from
+    }
+
+    /// Leaves out the last of the new pieces, where it is already there before the index `to`, and tells
+    /// below which index the others go.
+    fn trim_last(&self, from: usize, to: usize, insert: &mut Vec<Piece>) -> usize
+        requires order { from ≤ to }
+        requires bound { to ≤ length self.now }
+        ensures { IsTrimmed self.now from to insert.old.items from result insert.new.items }
+    {
+        let count = insert.len();
+        if from < to && count > 0 && is_same(&insert[count - 1], &self.pieces[to - 1]) {
+            insert.truncate(count - 1);
+            return to - 1;
+        }
+        to
     }
 
     /// Puts other pieces in the place of those from the index `from` on and below `to`.
@@ -105,8 +135,10 @@ impl Book {
         ensures memory { IfErr result (λ fault. fault ≡ Fault.Memory) }
     {
         let (from, to) = self.touched(first, last);
-        let insert = self.moved_between(from, to, first, last, place)?;
-        self.replace(from, to, insert)
+        let mut insert = self.moved_between(from, to, first, last, place)?;
+        let begin = self.trim_first(from, to, &mut insert);
+        let end = self.trim_last(begin, to, &mut insert);
+        self.replace(begin, end, insert)
     }
 
     /// The pieces from the index `from` on and below `to`, with one more in the place of its numbers.
