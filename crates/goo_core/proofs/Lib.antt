@@ -3,3 +3,4 @@ pub mod Appraising
 pub mod Changing
 pub mod Rulings
 pub mod Transferring
+pub mod Cancelling

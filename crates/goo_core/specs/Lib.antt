@@ -5,3 +5,4 @@ pub mod Ruling
 pub mod Changes
 pub mod Transfer
 pub mod Moves
+pub mod Cancel

@@ -3,6 +3,7 @@
 
 mod add_peer;
 mod callers;
+mod cancel;
 mod change;
 mod days;
 mod declare;
