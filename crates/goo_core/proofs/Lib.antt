@@ -4,3 +4,4 @@ pub mod Changing
 pub mod Rulings
 pub mod Transferring
 pub mod Cancelling
+pub mod Issuing
