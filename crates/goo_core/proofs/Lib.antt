@@ -5,3 +5,5 @@ pub mod Rulings
 pub mod Transferring
 pub mod Cancelling
 pub mod Issuing
+pub mod Numbering
+pub mod Closing

@@ -6,3 +6,4 @@ pub mod Changes
 pub mod Transfer
 pub mod Moves
 pub mod Cancel
+pub mod CloseAccount

@@ -5,6 +5,7 @@ mod add_peer;
 mod callers;
 mod cancel;
 mod change;
+mod close_account;
 mod days;
 mod declare;
 mod issue;
