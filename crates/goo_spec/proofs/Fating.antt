@@ -1,5 +1,5 @@
 -- Each command does to each certificate just what its fate says.
-use Rattle.std.proofs.Common.{◌≡◌, ℕ, Bool, true, false, cond, List, [], ◌∷◌, Option, Some, None, refl, sym, ap, ◌∙◌}
+use Rattle.std.proofs.Common.{◌≡◌, ℕ, true, false, cond, List, [], ◌∷◌, Option, Some, None, refl, ap, ◌∙◌}
 use Rattle.std.specs.FinMap.{get, keys}
 use Rattle.goo_types.specs.Range.{Numbers}
 use Rattle.goo_types.specs.Place.{account_of}
@@ -12,7 +12,7 @@ use Rattle.goo_types.specs.declared.command.Command.{Command}
 use Rattle.goo_types.specs.declared.command.Command.TheVariants.{OpenHolder, OpenAccount, CloseAccount, RegisterDevice, Declare, Transfer, Cancel, Withdraw, Advance, AddPeer, Export, Import}
 use Rattle.goo_types.specs.declared.request.Request.{Request}
 use Rattle.goo_spec.specs.Lots.{Certificates}
-use Rattle.goo_spec.specs.Maps.{each, numbers_from, is_within, give_each, replaced, place_each}
+use Rattle.goo_spec.specs.Maps.{each, numbers_from, give_each, replaced, place_each}
 use Rattle.goo_spec.specs.State.{State, Device}
 use Rattle.goo_spec.specs.OpenHolder.{with_holder}
 use Rattle.goo_spec.specs.OpenAccount.{with_account}
@@ -33,21 +33,21 @@ use Rattle.goo_spec.proofs.Placing.{is_one_of, get-place_each, get-give_each}
 use Rattle.goo_spec.proofs.Numbers.{one_between, one_within}
 use Rattle.goo_spec.proofs.Moving.{aged_again, is_key}
 
-fate_issued : (s : State) (x : declare.Declare) (o : Option Device) (n : ℕ) → get (issued_for s x o).at n ≡ issued_one s x o n (get s.at n)
+pub fate_issued : (s : State) (x : declare.Declare) (o : Option Device) (n : ℕ) → get (issued_for s x o).at n ≡ issued_one s x o n (get s.at n)
 fate_issued s x None n = refl
 fate_issued s x (Some device) n =
     get-give_each (lot_of s x device) (Held device.account) (numbers_from (next_number s) (earned s x)) s.at n
     ∙ ap (λ b. cond b (Some (lot_of s x device, Held device.account)) (get s.at n)) (one_between (earned s x) (next_number s) n)
 
-fate_moved : (new : LotFields → Place → Place) → ((lot : LotFields) (place : Place) → new lot (new lot place) ≡ new lot place)
+pub fate_moved : (new : LotFields → Place → Place) → ((lot : LotFields) (place : Place) → new lot (new lot place) ≡ new lot place)
     → (range : Numbers) (at : Certificates) (n : ℕ) → get (place_each new (each range) at) n ≡ moved_one range new n (get at n)
 fate_moved new again range at n = get-place_each new again (each range) at n ∙ ap (λ b. cond b (replaced new (get at n)) (get at n)) (one_within range n)
 
-fate_aged : (new : LotFields → Place → Place) (at : Certificates) (n : ℕ) (o : Option (LotFields × Place)) → get at n ≡ o → cond (is_one_of (keys at) n) (replaced new o) o ≡ replaced new o
+pub fate_aged : (new : LotFields → Place → Place) (at : Certificates) (n : ℕ) (o : Option (LotFields × Place)) → get at n ≡ o → cond (is_one_of (keys at) n) (replaced new o) o ≡ replaced new o
 fate_aged new at n None is = elim (is_one_of (keys at) n) as (λ b. cond b (replaced new None) None ≡ None) [ true ↦ refl | false ↦ refl ]
 fate_aged new at n (Some e) is = ap (λ b. cond b (replaced new (Some e)) (Some e)) (is_key at n e.0 e.1 is)
 
-fate_taken : (ps : List Part) (place : Place) (at : Certificates) (n : ℕ) → get (taken ps place at) n ≡ taken_one ps place n (get at n)
+pub fate_taken : (ps : List Part) (place : Place) (at : Certificates) (n : ℕ) → get (taken ps place at) n ≡ taken_one ps place n (get at n)
 fate_taken [] place at n = refl
 fate_taken (p ∷ ps) place at n =
     fate_taken ps place (give_each (each p.range) p.lot place at) n

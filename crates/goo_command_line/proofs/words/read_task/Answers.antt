@@ -1,0 +1,34 @@
+use Rattle.std.proofs.Common.{rules, ◌≡◌, ◌∙◌, ap, refl, map, true}
+use Rattle.clap.specs.Words.{App, app_of, is_simple, is_simple_and_free, subcommand_rows_of}
+use Rattle.goo_command_line.specs.Line.{goo_app, run_app, task_named}
+use Rattle.goo_command_line.proofs.Tasks.{task-taken, task-refused, task-given, no-task-given}
+use Rattle.goo_command_line.proofs.words.read_task.Goals as goal
+
+simple : (a : App) → a ≡ goo_app → is_simple a ≡ true
+unfolding goo_app run_app
+simple a same = ap is_simple same
+
+free : (a : App) → a ≡ goo_app → is_simple_and_free a ≡ true
+unfolding goo_app run_app
+free a same = ap is_simple_and_free same
+
+pub returns-in_err-matches-clause-none : goal.returns-in_err-matches-clause-none
+returns-in_err-matches-clause-none g c =
+    let a = app_of c.in_ok-program_command.field-0 in
+    let same : a ≡ goo_app = c.in_ok-program_command.ensures in
+    task-refused a (map g.S.AsStr.text c.args.words.now) c.in_err-matches.field-0.0 c.from_residual-in_err-matches.result same
+    (c.in_err-matches.ensures.kinds (free a same)) c.from_residual-in_err-matches.ensures.1
+
+pub returns-clause-task : goal.returns-clause-task
+returns-clause-task g c =
+    let a = app_of c.in_ok-program_command.field-0 in
+    let same : a ≡ goo_app = c.in_ok-program_command.ensures in
+    let asked = task-taken a (map g.S.AsStr.text c.args.words.now) c.in_ok-matches.matches same (c.in_ok-matches.ensures.kinds (free a same)) c.in_ok-matches.ensures.matches (simple a same) in
+    rw asked (task-given (task_named (subcommand_rows_of c.in_ok-matches.matches)) c.task_named.result c.task_named.ensures)
+
+pub returns-clause-none : goal.returns-clause-none
+returns-clause-none g c =
+    let a = app_of c.in_ok-program_command.field-0 in
+    let same : a ≡ goo_app = c.in_ok-program_command.ensures in
+    let asked = task-taken a (map g.S.AsStr.text c.args.words.now) c.in_ok-matches.matches same (c.in_ok-matches.ensures.kinds (free a same)) c.in_ok-matches.ensures.matches (simple a same) in
+    rw asked (no-task-given (task_named (subcommand_rows_of c.in_ok-matches.matches)) c.task_named.result c.task_named.ensures)

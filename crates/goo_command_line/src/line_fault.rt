@@ -1,0 +1,46 @@
+ghost use Rattle.std.specs.Prelude.{◌≡◌};
+ghost use Rattle.goo_command_line.specs.declared.line_fault.LineFault.TheVariants as fault;
+ghost use Rattle.goo_command_line.specs.Faults.{TellsWords};
+
+use clap::Error;
+use clap::error::ErrorKind;
+use std::alloc::AllocError;
+
+/// Why a command line asks for no task.
+#[derive(Drop)]
+pub enum LineFault {
+    /// `clap` refuses the words, or they ask for help: the text to show.
+    Words(Error),
+    /// There is no command.
+    Command,
+    /// No place of the records is named.
+    Place,
+    /// `--code` is missing or no number of 1 to 99.
+    Code,
+    /// `--today` is missing or no day.
+    Today,
+    /// `--next-serial` is no number of 1 to 999,999,999,999.
+    NextSerial,
+    /// There was no room to read the words.
+    Memory,
+}
+
+impl From<Error> for LineFault {
+    ghost from_gives = { TellsWords };
+
+    fn from(error: Error) -> Self {
+        if error.kind() == ErrorKind::OutOfMemory {
+            LineFault::Memory
+        } else {
+            LineFault::Words(error)
+        }
+    }
+}
+
+impl From<AllocError> for LineFault {
+    ghost from_gives = { λ _ told. told ≡ fault.Memory };
+
+    fn from(_: AllocError) -> Self {
+        LineFault::Memory
+    }
+}

@@ -1,0 +1,61 @@
+//! The values of the options.
+ghost use Rattle.std.specs.Prelude.{◌≡◌, ◌≤◌, ◌<◌, ◌^◌, IfSome};
+ghost use Rattle.std.specs.Result.{result_ok};
+ghost use Rattle.std.specs.List.{list_all};
+ghost use Rattle.std.specs.Char.{is_ascii_digit};
+ghost use Rattle.goo_types.specs.Day.{day_reading};
+ghost use Rattle.goo_command_line.specs.Values.{is_number, number_in, code_in, serial_in};
+
+use goo_types::day::Day;
+use goo_types::registry_code::RegistryCode;
+use goo_types::serial::Serial;
+
+/// Whether each byte is a decimal digit.
+fn are_digits(text: &[u8]) -> bool
+    ensures { result ≡ list_all is_ascii_digit text.now }
+{
+    text.iter().all(|byte| byte.is_ascii_digit())
+}
+
+/// Whether a text is decimal digits, one at least. A sign is none.
+fn is_number(text: &str) -> bool
+    ensures { result ≡ is_number text.now }
+{
+    !text.is_empty() && are_digits(text.as_bytes())
+}
+
+/// The number that a text of digits states, where it lies between two.
+fn number_in(text: &str, least: u64, most: u64) -> Option<u64>
+    ensures value { result ≡ number_in least most text.now }
+    ensures within { IfSome result (λ n. n ≤ most) }
+{
+    if !is_number(text) {
+        return None;
+    }
+    match text.parse::<u64>() {
+        Ok(number) if least <= number && number <= most => Some(number),
+        Ok(_) => None,
+        Err(_) => None,
+    }
+}
+
+/// The code of a registry, 1 to 99 in decimal digits.
+pub fn code_in(text: &str) -> Option<RegistryCode>
+    ensures { result ≡ code_in text.now }
+{
+    RegistryCode::new(number_in(text, 1, 99)? as u8)
+}
+
+/// A serial, 1 to 999,999,999,999 in decimal digits.
+pub fn serial_in(text: &str) -> Option<Serial>
+    ensures { result ≡ serial_in text.now }
+{
+    Serial::new(number_in(text, 1, 999_999_999_999)?)
+}
+
+/// A day, as `2025-03-01`.
+pub fn day_in(text: &str) -> Option<Day>
+    ensures { result ≡ result_ok (day_reading text.now) }
+{
+    Day::read(text.as_bytes()).ok()
+}

@@ -1,0 +1,12 @@
+//! A registry's state in plain memory.
+#![tactic(auto)]
+
+mod kept;
+pub mod list_shelf;
+mod lot_key;
+mod map_key;
+mod maps;
+mod production;
+mod row_edits;
+mod rows;
+mod withdraw_record;
