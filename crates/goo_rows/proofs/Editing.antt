@@ -9,7 +9,7 @@ use Rattle.goo_ranges.specs.Edit.{IsExact}
 use Rattle.goo_ranges.proofs.Rising.{rising-weaken}
 use Rattle.goo_rows.specs.Rows.{without, without_each, with, with_each, edited}
 
-from-low : (low : ℕ) (front : List Piece) (q : Piece) (back : List Piece) → IsRisingFrom low (front ++ q ∷ back) → low ≤ q.first
+pub from-low : (low : ℕ) (front : List Piece) (q : Piece) (back : List Piece) → IsRisingFrom low (front ++ q ∷ back) → low ≤ q.first
 from-low low [] q back r = r.0
 from-low low (x ∷ front) q back r =
     let here : low ≤ x.first = r.0 in
@@ -17,7 +17,7 @@ from-low low (x ∷ front) q back r =
     let more = from-low (x.last + 1) front q back r.2 in
     omega arith
 
-without-here : (low : ℕ) (front : List Piece) (q : Piece) (back : List Piece) → IsRisingFrom low (front ++ q ∷ back) → without q.first (front ++ q ∷ back) ≡ front ++ back
+pub without-here : (low : ℕ) (front : List Piece) (q : Piece) (back : List Piece) → IsRisingFrom low (front ++ q ∷ back) → without q.first (front ++ q ∷ back) ≡ front ++ back
 without-here low [] q back r = let e : (q.first == q.first) ≡ true = grind (arith, nat_tests) in rw e refl
 without-here low (x ∷ front) q back r =
     let above = from-low (x.last + 1) front q back r.2 in
@@ -47,7 +47,7 @@ with-here low (x ∷ front) p back r =
     let e : nat_lt p.first x.first ≡ false = grind (arith, nat_tests) in
     rw e (ap (λ l. x ∷ l) (with-here (x.last + 1) front p back r.2))
 
-with-block : (front block back : List Piece) → IsRising (front ++ (block ++ back)) → with_each block (front ++ back) ≡ front ++ (block ++ back)
+pub with-block : (front block back : List Piece) → IsRising (front ++ (block ++ back)) → with_each block (front ++ back) ≡ front ++ (block ++ back)
 with-block front [] back r = refl
 with-block front (p ∷ block) back r =
     let split : IsRising ((front ++ p ∷ []) ++ (block ++ back)) = rw append_assoc r in

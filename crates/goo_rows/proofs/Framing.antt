@@ -141,6 +141,9 @@ module _ (all met : List Piece) (first last : ℕ) (block : IsMet all met first 
   all_at : (n : ℕ) → at_of all n ≡ or_else (at_of block.front n) (or_else (at_of met n) (at_of block.back n))
   all_at n = rw (block.whole, at_of-append, at_of-append) refl
 
+  pub apart-met : IsApart all → IsApart met
+  apart-met a = apart-front met block.back (apart-back block.front (met ++ block.back) (rw (← block.whole) a))
+
   -- a number of the range is in no other row
   front_none : (n : ℕ) → first ≤ n → at_of block.front n ≡ None
   front_none n from = let b = block.below in at_of-above 0 block.front n front_rising (omega arith)
@@ -251,10 +254,7 @@ module _ (at : Certificates) (rows : List Piece) (range : Numbers) (kept : AreRo
     }
 
     pub edited-apart : (IsApart (meeting range rows) → IsApart new) → IsApart rows → IsApart (edited edit rows)
-    edited-apart apart a = rw becomes (framed-apart rows (meeting range rows) range.first range.last block kept.disjoint new up rising change outside changes a (apart (apart-met a)))
-      where
-        apart-met : IsApart rows → IsApart (meeting range rows)
-        apart-met a = apart-front (meeting range rows) block.back (apart-back block.front (meeting range rows ++ block.back) (rw (← block.whole) a))
+    edited-apart apart a = rw becomes (framed-apart rows (meeting range rows) range.first range.last block kept.disjoint new up rising change outside changes a (apart (apart-met rows (meeting range rows) range.first range.last block kept.disjoint a)))
 
 -- the same number is found
 find-alike : (f g : ℕ → Bool) (count low : ℕ) → ((n : ℕ) → low ≤ n → n < low + count → f n ≡ g n) → find f (numbers_from low count) ≡ find g (numbers_from low count)

@@ -1,5 +1,5 @@
 -- Each command does to each certificate just what its fate says.
-use Rattle.std.proofs.Common.{◌≡◌, ℕ, Bool, true, false, cond, List, [], ◌∷◌, Option, Some, None, refl, sym, ap, ◌∙◌}
+use Rattle.std.proofs.Common.{◌≡◌, ℕ, true, false, cond, List, [], ◌∷◌, Option, Some, None, refl, ap, ◌∙◌}
 use Rattle.std.specs.FinMap.{get, keys}
 use Rattle.goo_types.specs.Range.{Numbers}
 use Rattle.goo_types.specs.Place.{account_of}
@@ -12,7 +12,7 @@ use Rattle.goo_types.specs.declared.command.Command.{Command}
 use Rattle.goo_types.specs.declared.command.Command.TheVariants.{OpenHolder, OpenAccount, CloseAccount, RegisterDevice, Declare, Transfer, Cancel, Withdraw, Advance, AddPeer, Export, Import}
 use Rattle.goo_types.specs.declared.request.Request.{Request}
 use Rattle.goo_spec.specs.Lots.{Certificates}
-use Rattle.goo_spec.specs.Maps.{each, numbers_from, is_within, give_each, replaced, place_each}
+use Rattle.goo_spec.specs.Maps.{each, numbers_from, give_each, replaced, place_each}
 use Rattle.goo_spec.specs.State.{State, Device}
 use Rattle.goo_spec.specs.OpenHolder.{with_holder}
 use Rattle.goo_spec.specs.OpenAccount.{with_account}
@@ -33,7 +33,7 @@ use Rattle.goo_spec.proofs.Placing.{is_one_of, get-place_each, get-give_each}
 use Rattle.goo_spec.proofs.Numbers.{one_between, one_within}
 use Rattle.goo_spec.proofs.Moving.{aged_again, is_key}
 
-fate_issued : (s : State) (x : declare.Declare) (o : Option Device) (n : ℕ) → get (issued_for s x o).at n ≡ issued_one s x o n (get s.at n)
+pub fate_issued : (s : State) (x : declare.Declare) (o : Option Device) (n : ℕ) → get (issued_for s x o).at n ≡ issued_one s x o n (get s.at n)
 fate_issued s x None n = refl
 fate_issued s x (Some device) n =
     get-give_each (lot_of s x device) (Held device.account) (numbers_from (next_number s) (earned s x)) s.at n

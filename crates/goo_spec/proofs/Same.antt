@@ -11,7 +11,7 @@ use Rattle.goo_types.specs.Range.{Numbers}
 use Rattle.goo_types.specs.Notice.{NoticeContents}
 use Rattle.goo_types.specs.declared.part.Part.{Part}
 use Rattle.goo_types.specs.contracts.support.Support.{the_type}
-use denote.Enum.Bare.{sameb, same_true}
+use denote.Enum.Bare.{same_true}
 use Rattle.goo_types.specs.declared.command.OpenHolder as open_holder
 use Rattle.goo_types.specs.declared.command.RegisterDevice as register_device
 use Rattle.goo_types.specs.declared.command.Declare as declare
@@ -21,7 +21,7 @@ use Rattle.goo_types.specs.declared.command.Withdraw as withdraw
 use Rattle.goo_types.specs.declared.command.Export as export
 use Rattle.goo_types.specs.declared.command.Command.{Command}
 use Rattle.goo_types.specs.declared.command.Command.TheVariants.{OpenHolder, OpenAccount, CloseAccount, RegisterDevice, Declare, Transfer, Cancel, Withdraw, Advance, AddPeer, Export, Import}
-use Rattle.goo_spec.specs.Lots.{same_day, same_lot}
+use Rattle.goo_spec.specs.Lots.{same_day}
 use Rattle.goo_spec.specs.Import.{same_part, same_parts, same_notice}
 use Rattle.goo_spec.specs.Same.{same_range, same_open_holder, same_register_device, same_declare, same_transfer, same_cancel, same_withdraw, same_export, same_command}
 use Rattle.goo_spec.proofs.Again.{same_itself}
@@ -45,7 +45,7 @@ range a b e =
 part : (a b : Part) → same_part a b ≡ true → a ≡ b
 part a b e =
     let p = both (a.range.first == b.range.first) _ (eqb-true a.range.first b.range.first)
-        (both (a.range.last == b.range.last) _ (eqb-true a.range.last b.range.last) (Decides-same_lot a.lot b.lot).0) e in
+    (both (a.range.last == b.range.last) _ (eqb-true a.range.last b.range.last) (Decides-same_lot a.lot b.lot).0) e in
     λ i. record { range = record { first = p.0 i; last = p.1.0 i }; lot = p.1.1 i }
 
 parts : (ps qs : List Part) → same_parts ps qs ≡ true → ps ≡ qs
@@ -58,9 +58,9 @@ parts (p ∷ ps) (q ∷ qs) e = let h = both (same_part p q) (same_parts ps qs) 
 pub same_notice_is_equal : (a b : NoticeContents) → same_notice a b ≡ true → a ≡ b
 same_notice_is_equal a b e =
     let p = both (a.sender == b.sender) _ (eqb-true a.sender b.sender)
-        (both (a.addressee == b.addressee) _ (eqb-true a.addressee b.addressee)
-        (both (a.number == b.number) _ (eqb-true a.number b.number)
-        (both (a.account == b.account) _ (eqb-true a.account b.account) (parts a.parts b.parts)))) e in
+    (both (a.addressee == b.addressee) _ (eqb-true a.addressee b.addressee)
+    (both (a.number == b.number) _ (eqb-true a.number b.number)
+    (both (a.account == b.account) _ (eqb-true a.account b.account) (parts a.parts b.parts)))) e in
     λ i. record { sender = p.0 i; addressee = p.1.0 i; number = p.1.1.0 i; account = p.1.1.1.0 i; parts = p.1.1.1.1 i }
 
 holder : (a b : open_holder.OpenHolder) → same_open_holder a b ≡ true → a ≡ b
@@ -71,23 +71,32 @@ holder a b e =
 device : (a b : register_device.RegisterDevice) → same_register_device a b ≡ true → a ≡ b
 device a b e =
     let p = both (bytes_eq a.device b.device) _ (text a.device b.device)
-        (both (a.account == b.account) _ (eqb-true a.account b.account)
-        (both (bytes_eq a.country b.country) _ (text a.country b.country)
-        (both (bytes_eq a.site b.site) _ (text a.site b.site)
-        (both (bytes_eq a.tech b.tech) _ (text a.tech b.tech)
-        (both (bytes_eq a.source b.source) _ (text a.source b.source)
-        (both (a.capacity_w == b.capacity_w) _ (eqb-true a.capacity_w b.capacity_w)
-        (both (same_day a.commissioned b.commissioned) _ (day a.commissioned b.commissioned)
-        (same_true the_type (search rules) a.support b.support)))))))) e in
-    λ i. record { device = p.0 i; account = p.1.0 i; country = p.1.1.0 i; site = p.1.1.1.0 i; tech = p.1.1.1.1.0 i; source = p.1.1.1.1.1.0 i;
-        capacity_w = p.1.1.1.1.1.1.0 i; commissioned = p.1.1.1.1.1.1.1.0 i; support = p.1.1.1.1.1.1.1.1 i }
+    (both (a.account == b.account) _ (eqb-true a.account b.account)
+    (both (bytes_eq a.country b.country) _ (text a.country b.country)
+    (both (bytes_eq a.site b.site) _ (text a.site b.site)
+    (both (bytes_eq a.tech b.tech) _ (text a.tech b.tech)
+    (both (bytes_eq a.source b.source) _ (text a.source b.source)
+    (both (a.capacity_w == b.capacity_w) _ (eqb-true a.capacity_w b.capacity_w)
+    (both (same_day a.commissioned b.commissioned) _ (day a.commissioned b.commissioned)
+    (same_true the_type (search rules) a.support b.support)))))))) e in
+    λ i. record {
+      device = p.0 i;
+      account = p.1.0 i;
+      country = p.1.1.0 i;
+      site = p.1.1.1.0 i;
+      tech = p.1.1.1.1.0 i;
+      source = p.1.1.1.1.1.0 i;
+      capacity_w = p.1.1.1.1.1.1.0 i;
+      commissioned = p.1.1.1.1.1.1.1.0 i;
+      support = p.1.1.1.1.1.1.1.1 i;
+    }
 
 declaration : (a b : declare.Declare) → same_declare a b ≡ true → a ≡ b
 declaration a b e =
     let p = both (bytes_eq a.device b.device) _ (text a.device b.device)
-        (both (same_day a.first_day b.first_day) _ (day a.first_day b.first_day)
-        (both (same_day a.last_day b.last_day) _ (day a.last_day b.last_day)
-        (both (a.gross == b.gross) _ (eqb-true a.gross b.gross) (eqb-true a.aux b.aux)))) e in
+    (both (same_day a.first_day b.first_day) _ (day a.first_day b.first_day)
+    (both (same_day a.last_day b.last_day) _ (day a.last_day b.last_day)
+    (both (a.gross == b.gross) _ (eqb-true a.gross b.gross) (eqb-true a.aux b.aux)))) e in
     λ i. record { device = p.0 i; first_day = p.1.0 i; last_day = p.1.1.0 i; gross = p.1.1.1.0 i; aux = p.1.1.1.1 i }
 
 movement : (a b : transfer.Transfer) → same_transfer a b ≡ true → a ≡ b
@@ -98,9 +107,9 @@ movement a b e =
 cancellation : (a b : cancel.Cancel) → same_cancel a b ≡ true → a ≡ b
 cancellation a b e =
     let p = both (a.account == b.account) _ (eqb-true a.account b.account)
-        (both (same_range a.range b.range) _ (range a.range b.range)
-        (both (bytes_eq a.beneficiary b.beneficiary) _ (text a.beneficiary b.beneficiary)
-        (both (same_day a.use_first b.use_first) _ (day a.use_first b.use_first) (day a.use_last b.use_last)))) e in
+    (both (same_range a.range b.range) _ (range a.range b.range)
+    (both (bytes_eq a.beneficiary b.beneficiary) _ (text a.beneficiary b.beneficiary)
+    (both (same_day a.use_first b.use_first) _ (day a.use_first b.use_first) (day a.use_last b.use_last)))) e in
     λ i. record { account = p.0 i; range = p.1.0 i; beneficiary = p.1.1.0 i; use_first = p.1.1.1.0 i; use_last = p.1.1.1.1 i }
 
 withdrawal : (a b : withdraw.Withdraw) → same_withdraw a b ≡ true → a ≡ b
@@ -111,7 +120,7 @@ withdrawal a b e =
 sending : (a b : export.Export) → same_export a b ≡ true → a ≡ b
 sending a b e =
     let p = both (a.giver == b.giver) _ (eqb-true a.giver b.giver)
-        (both (a.peer == b.peer) _ (eqb-true a.peer b.peer) (both (a.account == b.account) _ (eqb-true a.account b.account) (range a.range b.range))) e in
+    (both (a.peer == b.peer) _ (eqb-true a.peer b.peer) (both (a.account == b.account) _ (eqb-true a.account b.account) (range a.range b.range))) e in
     λ i. record { giver = p.0 i; peer = p.1.0 i; account = p.1.1.0 i; range = p.1.1.1 i }
 
 -- commands that are the same are equal

@@ -1,0 +1,5 @@
+//! A registry's state in plain memory.
+#![tactic(auto)]
+
+pub mod map_key;
+pub mod maps;

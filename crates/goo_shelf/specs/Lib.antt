@@ -1,0 +1,4 @@
+pub mod Counters
+pub mod Rows
+pub mod Shelf
+pub mod Plan
