@@ -1,5 +1,5 @@
 -- Where an answering of lines stops, and what stands then.
-use Rattle.std.specs.Prelude.{◌≡◌, ℕ, ◌++◌, List, Option, ⊥}
+use Rattle.std.specs.Prelude.{◌≡◌, ℕ, ◌++◌, List, Option}
 use Rattle.std.specs.Io.KnownBytes.{Appends}
 use Rattle.goo_streams.specs.Streams.{AppendsPrefix}
 use Rattle.goo_spec.specs.State.{State}

@@ -9,6 +9,7 @@ mod desk;
 mod line;
 mod lines;
 mod lines_fault;
+mod run;
 mod tally;
 mod unread;
 
@@ -17,5 +18,6 @@ pub use desk::Desk;
 pub use line::read_line;
 pub use lines::Lines;
 pub use lines_fault::LinesFault;
+pub use run::MOST_INPUT;
 pub use tally::Tally;
 pub use unread::Unread;
