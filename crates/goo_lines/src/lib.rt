@@ -18,6 +18,6 @@ pub use desk::Desk;
 pub use line::read_line;
 pub use lines::Lines;
 pub use lines_fault::LinesFault;
-pub use run::MOST_INPUT;
+pub use run::{MOST_INPUT, run_lines};
 pub use tally::Tally;
 pub use unread::Unread;

@@ -76,3 +76,55 @@ fn answer_next<D: Desk, W: Write>(
     }
     Ok(())
 }
+
+/// Answers the lines of an input in turn, those that aren't empty.
+fn answer_lines<D: Desk, W: Write>(
+    alloc: Global,
+    desk: &mut D,
+    input: &[u8],
+    writer: &mut W,
+) -> Result<Tally, LinesFault>
+    requires { length input.now + 3 < 2 ^ 64 }
+    ensures state { (D.seen desk.new).lies ≡ 0 → OnOk result ((D.seen desk.new).state ≡ (lines (D.seen desk.old).state input.now).state) }
+    ensures text { (D.seen desk.new).lies ≡ 0 → OnOk result (Appends (W.contents writer.old) (W.contents writer.new) (lines (D.seen desk.old).state input.now).text) }
+    ensures good { (D.seen desk.new).lies ≡ 0 → IfOk result (λ tally. tally.good ≡ (lines (D.seen desk.old).state input.now).good) }
+    ensures bad { (D.seen desk.new).lies ≡ 0 → IfOk result (λ tally. tally.bad ≡ (lines (D.seen desk.old).state input.now).bad) }
+    ensures kinds { IfErr result (λ fault. fault ≢ Reading) }
+    ensures whole { IfErr result (λ fault. IsBetweenLines fault → (D.seen desk.new).lies ≡ 0 → StandsWhole input.now (D.seen desk.old).state (D.seen desk.new) (W.contents writer.old) (W.contents writer.new)) }
+    ensures part { IfErr result (λ fault. fault ≡ Writing → (D.seen desk.new).lies ≡ 0 → StandsInPart input.now (D.seen desk.old).state (D.seen desk.new).state (W.contents writer.old) (W.contents writer.new)) }
+    ensures lied { (D.seen desk.old).lies ≤ (D.seen desk.new).lies }
+{
+    let mut tally = Tally { good: 0, bad: 0 };
+    for line in Lines(Some(input)) {
+        answer_next(alloc, desk, writer, &mut tally, line)?;
+    }
+    Ok(tally)
+}
+
+/// Reads the whole of an input and then answers its lines in turn, each that isn't empty with one line. A line is a
+/// holder's code, one space and the body of a request, and ends with a line feed, which the last may lack.
+///
+/// # Errors
+///
+/// See [`LinesFault`]: after `Read` nothing was done; after `Store` and `Memory` the lines before stand and their
+/// outcomes are written whole; after `Write` the request of that line stands too, and a beginning of the outcomes is
+/// written. Nothing is flushed.
+pub fn run_lines<D: Desk, R: Read, W: Write>(
+    alloc: Global,
+    desk: &mut D,
+    reader: &mut R,
+    writer: &mut W,
+) -> Result<Tally, LinesFault>
+    ensures state { (D.seen desk.new).lies ≡ 0 → IfSome (R.remaining reader.old) (λ input. OnOk result ((D.seen desk.new).state ≡ (lines (D.seen desk.old).state input).state)) }
+    ensures text { (D.seen desk.new).lies ≡ 0 → IfSome (R.remaining reader.old) (λ input. OnOk result (Appends (W.contents writer.old) (W.contents writer.new) (lines (D.seen desk.old).state input).text)) }
+    ensures good { (D.seen desk.new).lies ≡ 0 → IfSome (R.remaining reader.old) (λ input. IfOk result (λ tally. tally.good ≡ (lines (D.seen desk.old).state input).good)) }
+    ensures bad { (D.seen desk.new).lies ≡ 0 → IfSome (R.remaining reader.old) (λ input. IfOk result (λ tally. tally.bad ≡ (lines (D.seen desk.old).state input).bad)) }
+    ensures unread { IfErr result (λ fault. fault ≡ Reading → (D.seen desk.new).state ≡ (D.seen desk.old).state) }
+    ensures silent { IfErr result (λ fault. fault ≡ Reading → Keeps (W.contents writer.old) (W.contents writer.new)) }
+    ensures whole { (D.seen desk.new).lies ≡ 0 → IfSome (R.remaining reader.old) (λ input. IfErr result (λ fault. IsBetweenLines fault → StandsWhole input (D.seen desk.old).state (D.seen desk.new) (W.contents writer.old) (W.contents writer.new))) }
+    ensures part { (D.seen desk.new).lies ≡ 0 → IfSome (R.remaining reader.old) (λ input. IfErr result (λ fault. fault ≡ Writing → StandsInPart input (D.seen desk.old).state (D.seen desk.new).state (W.contents writer.old) (W.contents writer.new))) }
+    ensures lied { (D.seen desk.old).lies ≤ (D.seen desk.new).lies }
+{
+    let input = read_whole(alloc, reader, MOST_INPUT)?;
+    answer_lines(alloc, desk, &input, writer)
+}
