@@ -1,1 +1,4 @@
 pub mod MapLemmas
+pub mod EditLemmas
+pub mod NearLemmas
+pub mod ProductionLemmas

@@ -1,5 +1,12 @@
 //! A registry's state in plain memory.
 #![tactic(auto)]
 
-pub mod map_key;
-pub mod maps;
+mod kept;
+pub mod list_shelf;
+mod lot_key;
+mod map_key;
+mod maps;
+mod production;
+mod row_edits;
+mod rows;
+mod withdraw_record;
