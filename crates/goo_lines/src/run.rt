@@ -28,7 +28,7 @@ fn answer_line<D: Desk>(alloc: Global, desk: &mut D, line: &[u8]) -> Result<Answ
     ensures answer { (D.seen desk.new).lies ≡ 0 → IfOk result (λ given. given ≡ answer_to (D.seen desk.old).state line.now) }
     ensures state { (D.seen desk.new).lies ≡ 0 → OnOk result ((D.seen desk.new).state ≡ state_after (D.seen desk.old).state line.now) }
     ensures unchanged { (D.seen desk.new).doubts ≡ 0 → OnErr result ((D.seen desk.new).state ≡ (D.seen desk.old).state) }
-    ensures lied { (D.seen desk.old).lies ≤ (D.seen desk.new).lies }
+    ensures lied { (D.seen desk.new).lies ≡ 0 → (D.seen desk.old).lies ≡ 0 }
 {
     match read_line(alloc, line) {
         Ok(request) => Ok(Answer::Decided(desk.apply(alloc, &request)?)),
@@ -62,7 +62,7 @@ fn answer_next<D: Desk, W: Write>(
     ensures unwritten { IfErr result (λ fault. IsBetweenLines fault → Keeps (W.contents writer.old) (W.contents writer.new)) }
     ensures stands { IfErr result (λ fault. fault ≡ Writing → (D.seen desk.new).lies ≡ 0 → (D.seen desk.new).state ≡ (with_line (counted (D.seen desk.old).state tally.old) line.now).state) }
     ensures prefix { IfErr result (λ fault. fault ≡ Writing → (D.seen desk.new).lies ≡ 0 → AppendsPrefix (W.contents writer.old) (W.contents writer.new) (with_line (counted (D.seen desk.old).state tally.old) line.now).text) }
-    ensures lied { (D.seen desk.old).lies ≤ (D.seen desk.new).lies }
+    ensures lied { (D.seen desk.new).lies ≡ 0 → (D.seen desk.old).lies ≡ 0 }
 {
     if line.is_empty() {
         return Ok(());
@@ -92,7 +92,7 @@ fn answer_lines<D: Desk, W: Write>(
     ensures kinds { IfErr result (λ fault. fault ≢ Reading) }
     ensures whole { IfErr result (λ fault. IsBetweenLines fault → (D.seen desk.new).lies ≡ 0 → StandsWhole input.now (D.seen desk.old).state (D.seen desk.new) (W.contents writer.old) (W.contents writer.new)) }
     ensures part { IfErr result (λ fault. fault ≡ Writing → (D.seen desk.new).lies ≡ 0 → StandsInPart input.now (D.seen desk.old).state (D.seen desk.new).state (W.contents writer.old) (W.contents writer.new)) }
-    ensures lied { (D.seen desk.old).lies ≤ (D.seen desk.new).lies }
+    ensures lied { (D.seen desk.new).lies ≡ 0 → (D.seen desk.old).lies ≡ 0 }
 {
     let mut tally = Tally { good: 0, bad: 0 };
     for line in Lines(Some(input)) {
@@ -123,7 +123,7 @@ pub fn run_lines<D: Desk, R: Read, W: Write>(
     ensures silent { IfErr result (λ fault. fault ≡ Reading → Keeps (W.contents writer.old) (W.contents writer.new)) }
     ensures whole { (D.seen desk.new).lies ≡ 0 → IfSome (R.remaining reader.old) (λ input. IfErr result (λ fault. IsBetweenLines fault → StandsWhole input (D.seen desk.old).state (D.seen desk.new) (W.contents writer.old) (W.contents writer.new))) }
     ensures part { (D.seen desk.new).lies ≡ 0 → IfSome (R.remaining reader.old) (λ input. IfErr result (λ fault. fault ≡ Writing → StandsInPart input (D.seen desk.old).state (D.seen desk.new).state (W.contents writer.old) (W.contents writer.new))) }
-    ensures lied { (D.seen desk.old).lies ≤ (D.seen desk.new).lies }
+    ensures lied { (D.seen desk.new).lies ≡ 0 → (D.seen desk.old).lies ≡ 0 }
 {
     let input = read_whole(alloc, reader, MOST_INPUT)?;
     answer_lines(alloc, desk, &input, writer)

@@ -4,15 +4,11 @@ use Rattle.goo_lines.specs.Lines.{lines_left}
 use Rattle.goo_lines.proofs.AnswerFacts.{lines-bound, none-stand, on-same-err, part-at, stands-next}
 use Rattle.goo_lines.proofs.run.answer_lines.Goals as goal
 
--- nothing below lied before, where nothing did up to now
-none-before : (a b : ℕ) → a ≤ b → b ≡ 0 → a ≡ 0
-none-before a b le none = omega (arith, le, none)
-
 pub loop-line-init : goal.loop-line-init
 loop-line-init g c = rw c.into_iter-line-iterator.ensures.into_iter_gives (record {
     order = refl;
     count = omega arith;
-    lied = omega arith;
+    lied = λ below. below;
     answered = λ below. none-stand (g.D.Desk.seen c.args.desk.now).state (g.W.Write.contents c.args.writer.now) })
 
 pub answer_next-requires : goal.answer_next-requires
@@ -30,11 +26,11 @@ loop-line-preserved g c =
     rw (map-append (λ (line : Bor (List ℕ)). line.now) c.loop-line.yielded (c.in-Some.line ∷ [])) (record {
       order = rw (append_assoc done) order;
       count = omega (arith, made.count, i.count, length-append c.loop-line.yielded (c.in-Some.line ∷ []));
-      lied = omega (arith, i.lied, made.lied);
+      lied = λ below. i.lied (made.lied below);
       answered = λ below. stands-next (g.D.Desk.seen c.args.desk.now).state (g.D.Desk.seen c.loop-line.desk).state (g.D.Desk.seen c.answer_next.new.desk).state
           (g.W.Write.contents c.args.writer.now) (g.W.Write.contents c.loop-line.writer) (g.W.Write.contents c.answer_next.new.writer)
           done c.in-Some.line.now c.loop-line.tally c.answer_next.new.tally
-          (i.answered (none-before _ _ made.lied below)) (made.answered below) })
+          (i.answered (made.lied below)) (made.answered below) })
 
 pub returns-in_err-answer_next-clause-part : goal.returns-in_err-answer_next-clause-part
 returns-in_err-answer_next-clause-part g c =
@@ -46,4 +42,4 @@ returns-in_err-answer_next-clause-part g c =
         (g.D.Desk.seen c.args.desk.now).state (g.D.Desk.seen c.loop-line.desk).state (g.D.Desk.seen c.answer_next.new.desk).state
         (g.W.Write.contents c.args.writer.now) (g.W.Write.contents c.loop-line.writer) (g.W.Write.contents c.answer_next.new.writer)
         c.args.input.now (map (λ (line : Bor (List ℕ)). line.now) c.loop-line.yielded) (lines_left c.next.new.self.0) c.in-Some.line.now c.loop-line.tally
-        order (i.answered (none-before _ _ stopped.lied below)) (stopped.stands is below) (stopped.prefix is below))
+        order (i.answered (stopped.lied below)) (stopped.stands is below) (stopped.prefix is below))
