@@ -9,3 +9,4 @@ pub mod Committed
 pub mod Decoded
 pub mod Alone
 pub mod Same
+pub mod Updating

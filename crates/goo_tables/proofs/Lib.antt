@@ -11,3 +11,4 @@ pub mod Cancellations
 pub mod Withdrawals
 pub mod NoticesOut
 pub mod NoticesIn
+pub mod MetaTable
