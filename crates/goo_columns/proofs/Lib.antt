@@ -10,3 +10,4 @@ pub mod Decoded
 pub mod Alone
 pub mod Same
 pub mod Updating
+pub mod Joining

@@ -12,3 +12,4 @@ pub mod Withdrawals
 pub mod NoticesOut
 pub mod NoticesIn
 pub mod MetaTable
+pub mod PiecesBeside

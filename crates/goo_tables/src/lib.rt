@@ -7,6 +7,7 @@ pub mod declaration;
 pub mod device;
 pub mod counters;
 pub mod holder;
+pub mod joined;
 pub mod lot;
 pub mod meta;
 pub mod notice_in;
