@@ -6,6 +6,8 @@ pub mod list_shelf;
 mod lot_key;
 mod map_key;
 mod maps;
+mod next_numbers;
+mod opening;
 mod production;
 mod row_edits;
 mod rows;
