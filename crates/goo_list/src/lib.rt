@@ -1,9 +1,12 @@
 //! A registry's state in plain memory.
 #![tactic(auto)]
 
+mod acting;
+mod issuing;
 mod kept;
 pub mod list_shelf;
 mod lot_key;
+mod lots;
 mod map_key;
 mod maps;
 mod next_numbers;
