@@ -2,3 +2,4 @@ pub mod MapLemmas
 pub mod EditLemmas
 pub mod NearLemmas
 pub mod ProductionLemmas
+pub mod AllowedLemmas

@@ -2,6 +2,7 @@
 #![tactic(auto)]
 
 mod acting;
+mod changing;
 mod issuing;
 mod kept;
 pub mod list_shelf;
