@@ -3,3 +3,5 @@ pub mod EditLemmas
 pub mod NearLemmas
 pub mod ProductionLemmas
 pub mod AllowedLemmas
+pub mod CertificateLemmas
+pub mod ReceiptLemmas

@@ -87,3 +87,8 @@ module _ {K X : Type 0} {R : K → K → Ordering} (o : IsTotalOrder R) where
 -- what holds of a call that was carried out
 pub carried_out : {A E P : Type 0} (r : Result A E) (x : A) → r ≡ Ok x → OnOk r P → P
 carried_out {P = P} r x is h = subst (λ r. OnOk r P) is h
+
+-- what holds of a call holds where it fails
+pub failing : {A E P : Type 0} (r : Result A E) → P → OnErr r P
+failing (Ok x) h = tt
+failing (Err e) h = h

@@ -3,6 +3,7 @@
 
 mod acting;
 mod changing;
+mod committing;
 mod issuing;
 mod kept;
 pub mod list_shelf;
