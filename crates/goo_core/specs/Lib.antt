@@ -1,1 +1,3 @@
+pub mod Meta
 pub mod Verdict
+pub mod Issue

@@ -1,6 +1,10 @@
 //! Decisions over any shelf.
 #![tactic(auto)]
 
-mod callers;
+pub mod callers;
+mod days;
+mod declare;
+mod issue;
+mod own;
 mod open_account;
 mod verdict;

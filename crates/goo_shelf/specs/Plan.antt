@@ -8,12 +8,11 @@ use Rattle.goo_types.specs.declared.fault.Fault.{Fault}
 use Rattle.goo_types.specs.declared.outcome.Outcome.TheVariants.{Accepted}
 use Rattle.goo_types.specs.declared.piece.Piece.{Piece}
 use Rattle.goo_spec.specs.Export.{notice_of}
-use Rattle.goo_spec.specs.Lots.{Certificates}
-use Rattle.goo_spec.specs.Runs.{IsApart}
 use Rattle.goo_spec.specs.Sound.{IsSound}
 use Rattle.goo_spec.specs.State.{State}
 use Rattle.goo_spec.specs.Step.{outcome, accept}
 use Rattle.goo_ranges.specs.declared.edits.Edit.{Edit}
+use Rattle.goo_rows.specs.Plans.{IsTurned}
 use Rattle.goo_rows.specs.Rows.{AreRowsOf, edited, edited_all}
 use Rattle.goo_shelf.specs.Shelf.{Moment, IsTold}
 use Rattle.goo_shelf.specs.declared.plan.Plan.{Plan}
@@ -23,23 +22,19 @@ abbrev pub StayRising : List Edit → List Piece → Type 0
 StayRising [] rows = IsRising rows
 StayRising (e ∷ es) rows = IsRising rows × StayRising es (edited e rows)
 
--- the edits turn the rows into those of a map, and into as few as can be where they were that
-pub record IsTurned (after : Certificates) (rows : List Piece) (edits : List Edit) : Type 0 where
-  pub fits : AreRowsOf after (edited_all edits rows)
-  pub apart : IsApart rows → IsApart (edited_all edits rows)
-  pub rising : StayRising edits rows
-
 -- the notice that a command sends when it is accepted
 abbrev pub notice_sent : State → Command → Option NoticeContents
 notice_sent s (Export x) = Some (notice_of s x)
 notice_sent s _ = None
 
--- a plan may be committed: its request is accepted here with its reply, its notice is the one that is sent, and its edits turn the rows into those of the state after it
+-- a plan may be committed: its request is accepted here with its reply, its notice is the one that is sent, and its edits
+-- turn the rows into those of the state after it, and into as few as can be where they were that
 pub record Fits (s : State) (rows : List Piece) (plan : Plan) : Type 0 where
   pub sound : IsSound s
   pub before : AreRowsOf s.at rows
   pub accepted : outcome s plan.request ≡ Accepted plan.reply
   pub sent : plan.notice ≡ notice_sent s plan.request.command
+  pub rising : StayRising plan.edits.items rows
   pub turned : IsTurned (accept s plan.request).at rows plan.edits.items
 
 -- a crash finds one of two states
@@ -52,8 +47,8 @@ pub record Commits (old new : Moment) (result : Result (Unit {0}) Fault) (plan :
   pub rows_done : new.doubts ≡ 0 → OnOk result (new.rows ≡ edited_all plan.edits.items old.rows)
   pub undone : new.doubts ≡ 0 → OnErr result (new.state ≡ old.state)
   pub rows_undone : new.doubts ≡ 0 → OnErr result (new.rows ≡ old.rows)
-  pub doubted : old.doubts ≤ new.doubts
-  pub lied : old.lies ≤ new.lies
+  pub doubted : new.doubts ≡ 0 → old.doubts ≡ 0
+  pub lied : new.lies ≡ 0 → old.lies ≡ 0
   pub kept : old.refusals ≤ new.refusals
   pub told : IsTold result new.refusals
   pub works : OnOk result (new.lies ≡ 0 → new.doubts ≡ 0)

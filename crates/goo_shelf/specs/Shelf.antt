@@ -57,8 +57,8 @@ pub record Looks {T : Type 0} (old new : Moment) (result : Result T Fault) (righ
   pub found : new.doubts ≡ 0 → IfOk result right
   pub same : new.doubts ≡ 0 → new.state ≡ old.state
   pub rows_same : new.doubts ≡ 0 → new.rows ≡ old.rows
-  pub doubted : old.doubts ≤ new.doubts
-  pub lied : old.lies ≤ new.lies
+  pub doubted : new.doubts ≡ 0 → old.doubts ≡ 0
+  pub lied : new.lies ≡ 0 → old.lies ≡ 0
   pub kept : old.refusals ≤ new.refusals
   pub told : IsTold result new.refusals
   pub works : OnOk result (new.lies ≡ 0 → new.doubts ≡ 0)

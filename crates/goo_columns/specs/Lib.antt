@@ -1,0 +1,5 @@
+pub mod Columns
+pub mod Rows
+pub mod Reads
+pub mod Stands
+pub mod Asked

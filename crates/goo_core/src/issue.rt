@@ -1,0 +1,70 @@
+//! What a declaration issues.
+
+ghost use Rattle.std.specs.Prelude.{◌≡◌, ◌≤◌, ◌+◌, ◌*◌, ◌-◌, Some};
+ghost use Rattle.std.specs.Int.{IsInRange};
+ghost use Rattle.goo_spec.specs.Declare.{range_of};
+ghost use Rattle.goo_core.specs.Issue.{issue_with};
+
+use goo_types::account_no::AccountNo;
+use goo_types::lot::Lot;
+use goo_types::number::Number;
+use goo_types::range::Range;
+use goo_types::registry_code::RegistryCode;
+use goo_types::refusal::Refusal;
+
+/// Certificates that are issued to an account.
+#[derive(Clone, Copy)]
+pub struct Issue {
+    /// Their numbers.
+    pub range: Range,
+    /// Their lot.
+    pub lot: Lot,
+    /// The account that is to hold them.
+    pub account: AccountNo,
+}
+
+/// What the checks of a declaration come to.
+#[derive(Clone, Copy)]
+pub enum Appraisal {
+    /// The first that fails.
+    Fails(Refusal),
+    /// None does.
+    Passes(Terms),
+}
+
+/// What an accepted declaration comes to.
+#[derive(Clone, Copy)]
+pub struct Terms {
+    /// The Wh that are carried to the next one.
+    pub carry: u64,
+    /// What is issued, if it is any.
+    pub issue: Option<Issue>,
+}
+
+/// So many numbers of a registry from a serial on, if there are any.
+pub fn numbers_from(code: RegistryCode, serial: u64, count: u64) -> Option<Range>
+    requires above { 1 ≤ serial }
+    requires below { serial + count ≤ 1_000_000_000_000 }
+    ensures { result ≡ range_of (code * 1_000_000_000_000 + serial) count }
+{
+    if count == 0 {
+        return None;
+    }
+    let first = Number::new(code.get(), serial)?;
+    let last = Number::new(code.get(), serial + (count - 1))?;
+    Range::new(first, last)
+}
+
+/// The certificates of a range, if there is one.
+pub fn issue_of(range: Option<Range>, lot: &Lot, account: AccountNo) -> Option<Issue>
+    ensures { result ≡ issue_with range lot.now account }
+{
+    match range {
+        Some(range) => Some(Issue {
+            range,
+            lot: *lot,
+            account,
+        }),
+        None => None,
+    }
+}
