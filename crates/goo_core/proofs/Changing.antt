@@ -17,10 +17,9 @@ use Rattle.goo_rows.specs.Plans.{IsTurned, AreEditsOf, AreEditsWithin}
 use Rattle.goo_rows.specs.Rows.{AreRowsOf, meeting, edited_all}
 use Rattle.goo_rows.proofs.Chains.{within-of_book, edited-exact, turned-by_book, edits-framed, within-edits}
 use Rattle.goo_rows.proofs.Framing.{met-block}
-use Rattle.goo_shelf.specs.Plan.{StayRising}
 use Rattle.goo_shelf.proofs.Plans.{stay_rising}
 use Rattle.goo_rows.proofs.Mapping.{get-move_each, get-give_each-range}
-use Rattle.goo_core.specs.Changes.{AreEditsFor}
+use Rattle.goo_core.specs.Changes.{AreEditsFor, IsTurnedInTurn}
 
 pub moved-outside : (range : Numbers) (place : Place) (n : ℕ) (o : Option Label) → inside range.first range.last n ≡ false → moved range.first range.last place n o ≡ o
 moved-outside range place n o out = ap (λ (b : Bool). if b then option_map (λ (label : Label). (label.0, place)) o else o) out
@@ -40,11 +39,7 @@ one_edit range old new edit edits change is exact was now apart outside changes 
     } in
     subst (AreEditsFor range old change) (sym is) one
 
--- edits for a range turn all rows into those of the changed map, and the rows rise all along
-pub record IsTurnedInTurn (after : Certificates) (rows : List Piece) (edits : List Edit) : Type 0 where
-  pub turned : IsTurned after rows edits
-  pub rising : StayRising edits rows
-
+-- edits for a range turn all rows into those of the changed map
 pub turned_by : (at after : Certificates) (rows : List Piece) (range : Numbers) (edits : List Edit) (change : ℕ → Option Label → Option Label) → range.first ≤ range.last → AreRowsOf at rows
     → ((n : ℕ) (o : Option Label) → inside range.first range.last n ≡ false → change n o ≡ o)
     → ((n : ℕ) → get after n ≡ change n (get at n))

@@ -5,3 +5,7 @@ pub mod Rulings
 pub mod Transferring
 pub mod Joining
 pub mod Walking
+pub mod Cancelling
+pub mod Issuing
+pub mod Numbering
+pub mod Closing

@@ -7,3 +7,5 @@ pub mod Transfer
 pub mod Moves
 pub mod Parts
 pub mod Walk
+pub mod Cancel
+pub mod CloseAccount

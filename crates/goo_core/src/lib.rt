@@ -3,7 +3,9 @@
 
 mod add_peer;
 pub mod callers;
+mod cancel;
 mod change;
+mod close_account;
 mod days;
 mod declare;
 mod issue;

@@ -1,5 +1,5 @@
 -- The plans of the statements.
-use Rattle.std.proofs.Common.{ℕ, pos, negsuc, List, [], ◌∷◌, false, None}
+use Rattle.std.proofs.Common.{ℕ, pos, negsuc, List, [], ◌∷◌, true, false, None}
 use Rattle.sqlite.specs.Collation.TheVariants.{Binary}
 use Rattle.sqlite.specs.declared.types.Value.TheVariants.{Int}
 use Rattle.sqlite.specs.Term.{Term, lit, col}
@@ -8,6 +8,9 @@ use Rattle.sqlite_value.specs.declared.keys.Key.{Key}
 
 abbrev pub rising : Key
 rising = record { collation = Binary; descending = false }
+
+abbrev pub falling : Key
+falling = record { collation = Binary; descending = true }
 
 -- a query on one table in the order of its rowids
 abbrev pub in_order : ℕ → List Term → List Term → Query

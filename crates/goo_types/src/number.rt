@@ -2,6 +2,7 @@ ghost use Rattle.std.specs.Prelude.{◌≡◌, ◌≢◌, ℕ, ◌+◌, ◌-◌,
 ghost use Rattle.goo_types.specs.Number.{IsCode, IsSerial, IsNumber, code_of, serial_of};
 
 use crate::digits;
+use arrayvec::ArrayString;
 use std::marker::Model;
 
 /// Why a text is no certificate number. Where several hold, the first one is told.
@@ -75,6 +76,13 @@ impl Number {
         ensures reads_back { number_reading result ≡ Ok self }
     {
         digits::write(self.get())
+    }
+
+    /// The fourteen digits as text. It takes no memory.
+    pub fn text(self) -> ArrayString<14>
+        ensures { result.bytes ≡ number_text self }
+    {
+        ArrayString::from_byte_string(&self.write()).unwrap()
     }
 
     /// The number as one integer.
