@@ -9,3 +9,4 @@ pub mod Cancelling
 pub mod Issuing
 pub mod Numbering
 pub mod Closing
+pub mod Exporting

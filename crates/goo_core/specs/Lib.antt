@@ -9,3 +9,5 @@ pub mod Parts
 pub mod Walk
 pub mod Cancel
 pub mod CloseAccount
+pub mod Trade
+pub mod Export

@@ -8,6 +8,7 @@ mod change;
 mod close_account;
 mod days;
 mod declare;
+mod export;
 mod issue;
 mod open_account;
 mod open_holder;
