@@ -7,3 +7,4 @@ pub mod Cancelling
 pub mod Issuing
 pub mod Numbering
 pub mod Closing
+pub mod Expiring

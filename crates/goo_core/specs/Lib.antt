@@ -7,3 +7,4 @@ pub mod Transfer
 pub mod Moves
 pub mod Cancel
 pub mod CloseAccount
+pub mod Advance

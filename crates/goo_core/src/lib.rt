@@ -2,6 +2,7 @@
 #![tactic(auto)]
 
 mod add_peer;
+mod advance;
 mod callers;
 mod cancel;
 mod change;
