@@ -10,3 +10,4 @@ pub mod Issuing
 pub mod Numbering
 pub mod Closing
 pub mod Exporting
+pub mod Expiring

@@ -11,3 +11,4 @@ pub mod Cancel
 pub mod CloseAccount
 pub mod Trade
 pub mod Export
+pub mod Advance

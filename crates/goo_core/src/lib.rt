@@ -3,6 +3,8 @@
 
 mod add_peer;
 pub mod callers;
+mod advance;
+mod callers;
 mod cancel;
 mod change;
 mod close_account;
