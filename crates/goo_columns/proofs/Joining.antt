@@ -57,7 +57,7 @@ all-reverse : {A : Type 0} (P : A → Type 0) (xs : List A) → AllByRecursion P
 all-reverse P [] all = tt
 all-reverse P (x ∷ xs) all = subst (AllByRecursion P) (sym (reverse-cons x xs)) (all-append P (reverse xs) (x ∷ []) (all-reverse P xs all.1) (all.0, tt))
 
-ascending-reverse : {A : Type 0} (R : A → A → Type 0) (xs : List A) → IsAscending R xs → IsAscending (λ a b. R b a) (reverse xs)
+pub ascending-reverse : {A : Type 0} (R : A → A → Type 0) (xs : List A) → IsAscending R xs → IsAscending (λ a b. R b a) (reverse xs)
 ascending-reverse R [] up = tt
 ascending-reverse R (x ∷ xs) up =
     subst (IsAscending (λ a b. R b a)) (sym (reverse-cons x xs))

@@ -11,3 +11,4 @@ pub mod Alone
 pub mod Same
 pub mod Updating
 pub mod Joining
+pub mod Unique

@@ -4,3 +4,4 @@ pub mod Reads
 pub mod Stands
 pub mod Asked
 pub mod Beside
+pub mod Once

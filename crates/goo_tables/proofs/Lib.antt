@@ -13,3 +13,4 @@ pub mod NoticesOut
 pub mod NoticesIn
 pub mod MetaTable
 pub mod PiecesBeside
+pub mod Creating

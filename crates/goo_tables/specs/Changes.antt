@@ -1,6 +1,7 @@
 -- What each statement makes of the tables, and which numbers it can keep.
-use Rattle.std.specs.Prelude.{[], pos, ℕ, List, ◌<◌, ◌^◌}
+use Rattle.std.specs.Prelude.{[], pos, Some, ℕ, List, ◌<◌, ◌^◌}
 use Rattle.std.specs.Ordering.{int_eq}
+use Rattle.sqlite_typed.specs.Tests.{bytes_eq}
 use Rattle.sqlite_keyed.specs.Lists.{update_where, delete_where}
 use Rattle.sqlite_keyed.specs.Keyed.{insert_by, next_key}
 use Rattle.goo_columns.specs.Rows.{Tables, Kept, kept_key, Meta, Holder, Account, Device, Declaration, Lot, Receipt, Cancellation, Withdrawal, NoticeOut, NoticeIn, account_key, declaration_key, lot_key, piece_key, cancellation_key, withdrawal_key, notice_out_key}
@@ -93,6 +94,12 @@ with_counters t c = record t {
 
 abbrev pub with_closed : Tables → ℕ → Tables
 with_closed t number = record t { accounts = update_where (λ a. int_eq (account_key a) (pos number)) (λ a. record a { closed = 1 }) t.accounts }
+
+abbrev pub progressed : List ℕ → ℕ → Kept Device → Kept Device
+progressed last_day carry k = (k.0, record k.1 { last_day = Some last_day; carry = carry })
+
+abbrev pub with_progress : Tables → List ℕ → List ℕ → ℕ → Tables
+with_progress t gsrn last_day carry = record t { devices = update_where (λ k. bytes_eq k.1.gsrn gsrn) (progressed last_day carry) t.devices }
 
 abbrev pub without_piece : Tables → ℕ → Tables
 without_piece t first = record t { pieces = delete_where (λ p. int_eq (piece_key p) (pos first)) t.pieces }

@@ -6,6 +6,7 @@ pub mod cancellation;
 pub mod declaration;
 pub mod device;
 pub mod counters;
+pub mod create;
 pub mod holder;
 pub mod joined;
 pub mod lot;
