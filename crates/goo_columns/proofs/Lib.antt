@@ -9,3 +9,5 @@ pub mod Committed
 pub mod Decoded
 pub mod Alone
 pub mod Same
+pub mod Updating
+pub mod Joining

@@ -3,3 +3,4 @@ pub mod Rows
 pub mod Reads
 pub mod Stands
 pub mod Asked
+pub mod Beside

@@ -11,3 +11,5 @@ pub mod Cancellations
 pub mod Withdrawals
 pub mod NoticesOut
 pub mod NoticesIn
+pub mod MetaTable
+pub mod PiecesBeside
