@@ -100,8 +100,9 @@ impl Number {
         requires below { value ≤ high }
         ensures { result ≡ value }
     {
-        let _low = low.value;
-        let _high = high.value;
+        // What lies between two numbers of one code has their code, and no serial 0.
+        let _ = &low.value;
+        let _ = &high.value;
         Number { value }
     }
 
