@@ -2,9 +2,8 @@
 #![tactic(auto)]
 
 mod add_peer;
-pub mod callers;
 mod advance;
-mod callers;
+pub mod callers;
 mod cancel;
 mod change;
 mod close_account;
