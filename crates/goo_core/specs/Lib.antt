@@ -12,3 +12,4 @@ pub mod CloseAccount
 pub mod Trade
 pub mod Export
 pub mod Advance
+pub mod Import

@@ -3,6 +3,7 @@
 
 mod add_peer;
 mod advance;
+mod arriving;
 pub mod callers;
 mod cancel;
 mod change;
