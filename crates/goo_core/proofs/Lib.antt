@@ -11,3 +11,4 @@ pub mod Numbering
 pub mod Closing
 pub mod Exporting
 pub mod Expiring
+pub mod Takings

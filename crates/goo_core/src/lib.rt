@@ -19,5 +19,6 @@ mod parts;
 mod range_checks;
 mod register_device;
 mod ruling;
+mod taking;
 mod transfer;
 mod verdict;
