@@ -1,5 +1,5 @@
 -- What a notice brings, part by part.
-use Rattle.std.specs.Prelude.{◌≡◌, ◌==◌, ℕ, cond, not, List, [], ◌∷◌, Option, Some, None}
+use Rattle.std.specs.Prelude.{◌≡◌, ◌==◌, ◌&&◌, ℕ, cond, not, List, [], ◌∷◌, ◌++◌, Option, Some, None}
 use Rattle.std.specs.Option.{option_or}
 use Rattle.std.specs.List.{list_any}
 use Rattle.std.specs.FinMap.{get}
@@ -10,13 +10,13 @@ use Rattle.goo_types.specs.declared.part.Part.{Part}
 use Rattle.goo_types.specs.declared.piece.Piece.{Piece}
 use Rattle.goo_types.specs.declared.place.Place.TheVariants.{Held}
 use Rattle.goo_types.specs.declared.refusal.Refusal.{Refusal}
-use Rattle.goo_types.specs.declared.refusal.Refusal.TheVariants.{UnknownNumber, NumberTaken, LotDiffers, NoticeConflict, Stale}
+use Rattle.goo_types.specs.declared.refusal.Refusal.TheVariants.{UnknownNumber, NumberTaken, LotDiffers, Stale}
 use Rattle.goo_ranges.specs.Change.{set_to}
 use Rattle.goo_rows.specs.Rows.{meeting}
-use Rattle.goo_spec.specs.Checks.{when, naming, account_refusal}
+use Rattle.goo_spec.specs.Checks.{first_refusal, when, naming, account_refusal}
 use Rattle.goo_spec.specs.Days.{is_over}
-use Rattle.goo_spec.specs.Import.{is_other, is_other_lot, import_repeats, import_refusal, import_reply, with_import}
-use Rattle.goo_spec.specs.Lots.{is_exported, same_lot, key_of}
+use Rattle.goo_spec.specs.Import.{least_where, differs, is_other_lot, import_repeats, import_refusal, import_reply, with_import}
+use Rattle.goo_spec.specs.Lots.{is_absent, fails, is_exported, same_lot, key_of}
 use Rattle.goo_spec.specs.Maps.{each, least_absent, least_failing}
 use Rattle.goo_spec.specs.State.{State}
 use Rattle.goo_core.specs.Ruling.{Meaning}
@@ -50,13 +50,24 @@ numbers_checks own arriving =
     ∷ naming LotDiffers (least_of differing_in arriving)
     ∷ []
 
--- those between the ones before a repeat and the ones over the numbers
-abbrev pub account_checks : State → Import → List (Option Refusal)
-account_checks s x =
-    when (is_other x.notice (get s.arrived (x.notice.sender, x.notice.number))) NoticeConflict
-    ∷ account_refusal (get s.accounts x.notice.account)
+-- those of the account that is to hold the certificates, and of their age
+abbrev pub standing_checks : State → Import → List (Option Refusal)
+standing_checks s x =
+    account_refusal (get s.accounts x.notice.account)
     ∷ when (list_any (λ p. is_over p.lot s.today) x.notice.parts) Stale
     ∷ []
+
+-- those over its numbers
+abbrev pub number_checks : State → Import → List (Option Refusal)
+number_checks s x =
+    naming UnknownNumber (least_where (λ e. (code_of e.0 == s.own) && is_absent (get s.at e.0)) x.notice.parts)
+    ∷ naming NumberTaken (least_where (λ e. fails (λ lot place. is_exported place) (get s.at e.0)) x.notice.parts)
+    ∷ naming LotDiffers (least_where (differs s) x.notice.parts)
+    ∷ []
+
+-- what its definitions say of an import whose notice is new
+abbrev pub fresh_meaning : State → Import → Meaning
+fresh_meaning s x = record { repeated = None; refused = first_refusal (standing_checks s x ++ number_checks s x); reply = import_reply s x; notice = None; after = (with_import s x).at }
 
 -- what is known of a part
 pub record IsArriving (s : State) (rows : List Piece) (p : Part) (a : Arriving) : Type 0 where

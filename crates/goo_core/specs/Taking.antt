@@ -8,7 +8,11 @@ use Rattle.goo_ranges.specs.Change.{set_to}
 use Rattle.goo_ranges.specs.declared.edits.Edit.{Edit}
 use Rattle.goo_rows.specs.Plans.{AreEditsOf, IsEditWithin}
 use Rattle.goo_rows.specs.Rows.{meeting, edited, edited_all}
-use Rattle.goo_core.specs.Import.{given}
+use Rattle.goo_types.specs.declared.reply.Reply.TheVariants.{Imported}
+use Rattle.goo_spec.specs.Checks.{first_refusal}
+use Rattle.goo_core.specs.Import.{given, numbers_checks}
+use Rattle.goo_core.specs.declared.ruling.Ruling.{Ruling}
+use Rattle.goo_core.specs.declared.ruling.Ruling.TheVariants.{Refused, Repeated, Passed}
 use Rattle.goo_core.specs.declared.arriving.Arriving.{Arriving}
 
 -- each part's book has the rows that its range meets
@@ -34,3 +38,10 @@ pub record AreTaken (rows : List Piece) (arriving : List Arriving) (account : �
 abbrev pub IsTaking : List Piece → List Arriving → ℕ → Option (Vec Edit Global) → Type 0
 IsTaking rows arriving account None = ⊥
 IsTaking rows arriving account (Some es) = AreTaken rows arriving account es.items
+
+-- what taking in the certificates comes to
+abbrev pub IsTakeRuling : List Piece → List Arriving → ℕ → ℕ → ℕ → Ruling → Type 0
+IsTakeRuling rows arriving own account count (Refused refusal) = first_refusal (numbers_checks own arriving) ≡ Some refusal
+IsTakeRuling rows arriving own account count (Repeated kept) = ⊥
+IsTakeRuling rows arriving own account count (Passed change) =
+    (first_refusal (numbers_checks own arriving) ≡ None) × (change.reply ≡ Imported count) × (change.notice ≡ None) × AreTaken rows arriving account change.edits.items

@@ -11,6 +11,7 @@ mod close_account;
 mod days;
 mod declare;
 mod export;
+mod import;
 mod issue;
 mod open_account;
 mod open_holder;
