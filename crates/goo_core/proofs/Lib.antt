@@ -13,3 +13,4 @@ pub mod Exporting
 pub mod Expiring
 pub mod Takings
 pub mod Arrivals
+pub mod Importing

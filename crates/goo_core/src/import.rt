@@ -154,3 +154,56 @@ fn take_in(
         None => Ok(Ruling::Refused(Refusal::NoticeConflict)),
     }
 }
+
+/// What an import comes to whose notice is new, once its account may hold.
+fn import_certificates<S: Shelf>(
+    alloc: Global,
+    shelf: &mut S,
+    import: &Import,
+) -> Result<Ruling, Fault>
+    requires ready { IsReady (S.seen shelf.old) }
+    requires rows { (S.seen shelf.old).doubts ≡ 0 → AreRowsOf (S.seen shelf.old).state.at (S.seen shelf.old).rows }
+    ensures { Looks (S.seen shelf.old) (S.seen shelf.new) result (λ ruling. first_refusal (standing_checks (S.seen shelf.old).state import.now) ≡ None → IsRuling (fresh_meaning (S.seen shelf.old).state import.now) (S.seen shelf.old).rows ruling) }
+{
+    let notice = &import.notice;
+    let parts = notice.parts();
+    let count = count_in_all(parts);
+    let account = notice.account();
+    let arriving = arrive_all(alloc, shelf, parts)?;
+    let own = shelf.code()?;
+    take_in(alloc, &arriving, own, account, count)
+}
+
+/// What an import comes to whose notice is new.
+fn judge_fresh<S: Shelf>(alloc: Global, shelf: &mut S, import: &Import) -> Result<Ruling, Fault>
+    requires { (S.seen shelf.old).doubts ≡ 0 → AreRowsOf (S.seen shelf.old).state.at (S.seen shelf.old).rows }
+    ensures { Looks (S.seen shelf.old) (S.seen shelf.new) result (IsRuling (fresh_meaning (S.seen shelf.old).state import.now) (S.seen shelf.old).rows) }
+{
+    if let Some(refusal) = standing_refusal(shelf, import)? {
+        return Ok(Ruling::Refused(refusal));
+    }
+    import_certificates(alloc, shelf, import)
+}
+
+/// What an import comes to.
+pub fn judge_import<S: Shelf>(
+    alloc: Global,
+    shelf: &mut S,
+    caller: &HolderCode,
+    import: &Import,
+) -> Result<Ruling, Fault>
+    requires ready { IsReady (S.seen shelf.old) }
+    requires rows { (S.seen shelf.old).doubts ≡ 0 → AreRowsOf (S.seen shelf.old).state.at (S.seen shelf.old).rows }
+    ensures { Looks (S.seen shelf.old) (S.seen shelf.new) result (IsRuling (import_meaning (S.seen shelf.old).state caller.now import.now) (S.seen shelf.old).rows) }
+{
+    if let Some(refusal) = entry_refusal(shelf, caller, import)? {
+        return Ok(Ruling::Refused(refusal));
+    }
+    match shelf.arrived(alloc, &import.notice)? {
+        Arrival::Same => Ok(Ruling::Repeated(Reply::Imported {
+            count: count_in_all(import.notice.parts()),
+        })),
+        Arrival::Other => Ok(Ruling::Refused(Refusal::NoticeConflict)),
+        Arrival::Absent => judge_fresh(alloc, shelf, import),
+    }
+}
