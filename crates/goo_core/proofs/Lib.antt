@@ -8,3 +8,4 @@ pub mod Issuing
 pub mod Numbering
 pub mod Closing
 pub mod Expiring
+pub mod Withdrawing

@@ -8,3 +8,4 @@ pub mod Moves
 pub mod Cancel
 pub mod CloseAccount
 pub mod Advance
+pub mod Withdraw

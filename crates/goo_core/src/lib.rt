@@ -18,3 +18,4 @@ mod register_device;
 mod ruling;
 mod transfer;
 mod verdict;
+mod withdraw;
