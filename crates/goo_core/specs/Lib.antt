@@ -5,7 +5,11 @@ pub mod Ruling
 pub mod Changes
 pub mod Transfer
 pub mod Moves
+pub mod Parts
+pub mod Walk
 pub mod Cancel
 pub mod CloseAccount
+pub mod Trade
+pub mod Export
 pub mod Advance
 pub mod Withdraw

@@ -5,6 +5,8 @@ ghost use Rattle.goo_types.specs.Piece.{at_of};
 ghost use Rattle.goo_spec.specs.Days.{is_closed as closed_test};
 ghost use Rattle.goo_spec.specs.Lots.{is_held as held_test, is_held_by as held_by_test};
 ghost use Rattle.goo_spec.specs.Maps.{each, least_failing};
+ghost use Rattle.goo_spec.specs.Checks.{first_refusal};
+ghost use Rattle.goo_core.specs.Trade.{trade_checks};
 
 use goo_ranges::Book;
 use goo_types::account_no::AccountNo;
@@ -12,6 +14,7 @@ use goo_types::day::Day;
 use goo_types::number::Number;
 use goo_types::place::Place;
 use goo_types::range::Range;
+use goo_types::refusal::Refusal;
 
 use crate::days::is_closed;
 
@@ -66,4 +69,21 @@ pub fn least_closed(book: &Book, range: Range, today: Day) -> Option<Number>
     {
         !is_closed(&lot, today)
     })
+}
+
+/// The first check that fails of those over a range whose certificates an account gives away: each is
+/// there, it holds each, and the trade in none is closed.
+pub fn trade_refusal(book: &Book, range: Range, giver: AccountNo, today: Day) -> Option<Refusal>
+    ensures { result ≡ first_refusal (trade_checks (at_of book.now) range giver today) }
+{
+    if let Some(number) = book.least_missing(range) {
+        return Some(Refusal::UnknownNumber(number));
+    }
+    if let Some(number) = least_not_held_by(book, range, giver) {
+        return Some(Refusal::NotHeld(number));
+    }
+    if let Some(number) = least_closed(book, range, today) {
+        return Some(Refusal::TradeClosed(number));
+    }
+    None
 }

@@ -1,1 +1,5 @@
 pub mod Maps
+pub mod Rows
+pub mod States
+pub mod LotKeys
+pub mod Production

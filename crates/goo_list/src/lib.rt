@@ -1,5 +1,19 @@
 //! A registry's state in plain memory.
 #![tactic(auto)]
 
-pub mod map_key;
-pub mod maps;
+mod acting;
+mod changing;
+mod committing;
+mod issuing;
+mod kept;
+pub mod list_shelf;
+mod lot_key;
+mod lots;
+mod map_key;
+mod maps;
+mod next_numbers;
+mod opening;
+mod production;
+mod row_edits;
+mod rows;
+mod withdraw_record;

@@ -64,9 +64,18 @@ pub(crate) fn push_reply(out: &mut ArrayString<ROOM>, reply: Reply)
             push_issued(out, issued);
         }
         Reply::Moved { count } | Reply::Imported { count } => push_one(out, "{\"count\":", count),
-        Reply::Cancelled { cancellation, count } => {
+        Reply::Cancelled {
+            cancellation,
+            count,
+        } => {
             let cancellation = cancellation.get() as u64;
-            push_two(out, "{\"cancellation\":", cancellation, ",\"count\":", count);
+            push_two(
+                out,
+                "{\"cancellation\":",
+                cancellation,
+                ",\"count\":",
+                count,
+            );
         }
         Reply::Withdrawn { withdrawal, count } => {
             let withdrawal = withdrawal.get() as u64;
@@ -74,7 +83,13 @@ pub(crate) fn push_reply(out: &mut ArrayString<ROOM>, reply: Reply)
         }
         Reply::Advanced { expired } => push_one(out, "{\"expired\":", expired),
         Reply::Exported { notice, count } => {
-            push_two(out, "{\"count\":", count, ",\"notice\":", notice.get() as u64);
+            push_two(
+                out,
+                "{\"count\":",
+                count,
+                ",\"notice\":",
+                notice.get() as u64,
+            );
         }
     }
 }

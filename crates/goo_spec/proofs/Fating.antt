@@ -39,15 +39,15 @@ fate_issued s x (Some device) n =
     get-give_each (lot_of s x device) (Held device.account) (numbers_from (next_number s) (earned s x)) s.at n
     ∙ ap (λ b. cond b (Some (lot_of s x device, Held device.account)) (get s.at n)) (one_between (earned s x) (next_number s) n)
 
-fate_moved : (new : LotFields → Place → Place) → ((lot : LotFields) (place : Place) → new lot (new lot place) ≡ new lot place)
+pub fate_moved : (new : LotFields → Place → Place) → ((lot : LotFields) (place : Place) → new lot (new lot place) ≡ new lot place)
     → (range : Numbers) (at : Certificates) (n : ℕ) → get (place_each new (each range) at) n ≡ moved_one range new n (get at n)
 fate_moved new again range at n = get-place_each new again (each range) at n ∙ ap (λ b. cond b (replaced new (get at n)) (get at n)) (one_within range n)
 
-fate_aged : (new : LotFields → Place → Place) (at : Certificates) (n : ℕ) (o : Option (LotFields × Place)) → get at n ≡ o → cond (is_one_of (keys at) n) (replaced new o) o ≡ replaced new o
+pub fate_aged : (new : LotFields → Place → Place) (at : Certificates) (n : ℕ) (o : Option (LotFields × Place)) → get at n ≡ o → cond (is_one_of (keys at) n) (replaced new o) o ≡ replaced new o
 fate_aged new at n None is = elim (is_one_of (keys at) n) as (λ b. cond b (replaced new None) None ≡ None) [ true ↦ refl | false ↦ refl ]
 fate_aged new at n (Some e) is = ap (λ b. cond b (replaced new (Some e)) (Some e)) (is_key at n e.0 e.1 is)
 
-fate_taken : (ps : List Part) (place : Place) (at : Certificates) (n : ℕ) → get (taken ps place at) n ≡ taken_one ps place n (get at n)
+pub fate_taken : (ps : List Part) (place : Place) (at : Certificates) (n : ℕ) → get (taken ps place at) n ≡ taken_one ps place n (get at n)
 fate_taken [] place at n = refl
 fate_taken (p ∷ ps) place at n =
     fate_taken ps place (give_each (each p.range) p.lot place at) n

@@ -1,0 +1,14 @@
+pub mod Results
+pub mod Writing
+pub mod Typed
+pub mod One
+pub mod Read
+pub mod Reading
+pub mod Inside
+pub mod Committed
+pub mod Decoded
+pub mod Alone
+pub mod Same
+pub mod Updating
+pub mod Joining
+pub mod Unique

@@ -1,0 +1,20 @@
+-- What was asked, and what came of it.
+use Rattle.std.specs.Prelude.{◌⊎◌, ℕ, List, [], ◌∷◌, Option, Some, None, ⊤}
+use Rattle.sqlite.specs.Order.{Row}
+use Rattle.sqlite.specs.State.{State, Shown, FailsToQuery}
+use Rattle.sqlite.specs.declared.error.Error.{Error}
+
+-- the relation holds of the first element and what was found, and there is none where nothing was found
+abbrev pub FirstZip : {A B : Type 0} → (A → B → Type 0) → List A → Option B → Type 0
+FirstZip R [] None = ⊤
+FirstZip R [] (Some y) = ⊥
+FirstZip R (x ∷ xs) None = ⊥
+FirstZip R (x ∷ xs) (Some y) = R x y
+
+-- the text showed rows of which this holds
+abbrev pub Answered : List ℕ → Row → State → State → (List Row → Type 0) → Type 0
+Answered sql params old new P = (rows : List Row) × Shown sql params old new rows × P rows
+
+-- the query showed rows, or it failed
+abbrev pub IsRead : List ℕ → Row → State → State → Type 0
+IsRead sql params old new = Answered sql params old new (λ _. ⊤) ⊎ ((e : Error) × FailsToQuery sql params old new e)

@@ -1,0 +1,25 @@
+use crate::from_row::FromRow;
+use crate::lot::{LotRow, lot_at};
+use crate::piece::PieceRow;
+use sqlite::{Error, Row};
+use std::alloc::Global;
+
+/// A row of `piece` beside the row of its lot.
+#[derive(Debug, Drop)]
+pub struct JoinedRow {
+    pub piece: PieceRow,
+    pub lot: LotRow,
+}
+
+impl FromRow for JoinedRow {
+    ghost use Rattle.goo_columns.specs.Reads.{joined_reads};
+
+    ghost reads = { joined_reads };
+
+    fn from_row(alloc: Global, row: &Row) -> Result<JoinedRow, Error> {
+        Ok(JoinedRow {
+            piece: PieceRow::from_row(alloc, row)?,
+            lot: lot_at(row, 6)?,
+        })
+    }
+}

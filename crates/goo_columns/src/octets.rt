@@ -1,0 +1,24 @@
+//! Bytes that a column keeps.
+
+ghost use Rattle.std.specs.Prelude.{◌≡◌, IfOk};
+ghost use Rattle.sqlite.specs.Order.{column};
+ghost use Rattle.sqlite_typed.specs.Columns.{bytes_of};
+
+use sqlite::types::{Type, ValueRef};
+use sqlite::{Error, Row};
+use std::alloc::Global;
+
+/// The bytes of a text or of a blob.
+///
+/// # Errors
+///
+/// `InvalidColumnType` for a value of another kind, `InvalidColumnIndex` where the row ends before, and `OutOfMemory`.
+pub fn octets_at(alloc: Global, row: &Row, at: usize) -> Result<Vec<u8>, Error>
+    ensures { IfOk result (λ b. bytes_of (column row.now at) ≡ b.items) }
+{
+    let value = row.get_ref(at)?;
+    match value {
+        ValueRef::Text(bytes) | ValueRef::Blob(bytes) => Ok(Vec::from_slice(alloc, bytes)?),
+        _ => Err(Error::InvalidColumnType(at, Type::of(value))),
+    }
+}

@@ -1,0 +1,20 @@
+use crate::from_row::FromRow;
+use sqlite::{Error, Row};
+use std::alloc::Global;
+
+/// A row of `peer`: a registry that notices go to and come from.
+#[derive(Clone, Copy, Debug, PartialEq, Eq)]
+pub struct PeerRow {
+    /// The peer's code.
+    pub code: u32,
+}
+
+impl FromRow for PeerRow {
+    ghost use Rattle.goo_columns.specs.Reads.{peer_reads};
+
+    ghost reads = { peer_reads };
+
+    fn from_row(_alloc: Global, row: &Row) -> Result<PeerRow, Error> {
+        Ok(PeerRow { code: row.get(0)? })
+    }
+}

@@ -1,0 +1,39 @@
+ghost use Rattle.std.specs.Prelude.{◌≤◌, IfOk};
+ghost use Rattle.goo_columns.specs.Reads.{plant_reads};
+
+use sqlite::{Error, Row};
+
+/// The columns of a device's plant, which each of its lots repeats.
+#[derive(Debug, Drop)]
+pub struct PlantRow {
+    /// The country.
+    pub country: String,
+    /// The name of the site.
+    pub site: String,
+    /// The code of the technology.
+    pub tech: String,
+    /// The code of the energy source.
+    pub source: String,
+    /// The capacity, in W.
+    pub capacity_w: u64,
+    /// The day on which the plant began to produce.
+    pub commissioned: String,
+    /// The word for the support that it had.
+    pub support: String,
+}
+
+/// The columns of a row from a place on.
+pub fn plant_at(row: &Row, from: usize) -> Result<PlantRow, Error>
+    requires { from ≤ 100 }
+    ensures { IfOk result (plant_reads from row.now) }
+{
+    Ok(PlantRow {
+        country: row.get(from)?,
+        site: row.get(from + 1)?,
+        tech: row.get(from + 2)?,
+        source: row.get(from + 3)?,
+        capacity_w: row.get(from + 4)?,
+        commissioned: row.get(from + 5)?,
+        support: row.get(from + 6)?,
+    })
+}

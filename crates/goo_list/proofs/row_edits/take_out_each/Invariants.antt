@@ -1,0 +1,14 @@
+use Rattle.std.proofs.Common.{◌≡◌, ℕ, ◌+◌, ◌<◌, ◌≤◌, take, drop, length}
+use Rattle.std.specs.List.Sorted.{IsNonDecreasingBy}
+use Rattle.std.specs.Vec.{vec_len, vec_capacity}
+use Rattle.goo_rows.specs.Rows.{without_each, with_each, edited_all}
+use Rattle.goo_list.specs.Rows.{inserts}
+use Rattle.goo_list.proofs.row_edits.take_out_each.Given as goal
+
+abbrev pub invariant-loop-first : goal.invariant-loop-first
+invariant-loop-first l = record {
+  rows : without_each (drop l.first-index l.firsts) l.rows.items ≡ without_each l.firsts l.fn.rows.items;
+  sorted : IsNonDecreasingBy (λ p. p.first) l.rows.items;
+  len : vec_len l.rows ≤ vec_len l.fn.rows;
+  capacity : vec_capacity l.fn.rows ≤ vec_capacity l.rows;
+}

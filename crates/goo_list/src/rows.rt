@@ -1,0 +1,131 @@
+ghost use Rattle.std.specs.Prelude.{◌≡◌, ◌≤◌, [], IfOk, IfErr, OnOk};
+ghost use Rattle.goo_types.specs.declared.fault.Fault.TheVariants.{Memory};
+ghost use Rattle.goo_types.specs.Piece.{IsRising};
+ghost use Rattle.goo_spec.specs.Advance.{expires};
+ghost use Rattle.goo_rows.specs.Rows.{meeting, edited_all};
+ghost use Rattle.goo_shelf.specs.Rows.{expiring_on, naming_account};
+ghost use Rattle.goo_list.specs.Rows.{inserts};
+
+use goo_ranges::Edit;
+use goo_types::account_no::AccountNo;
+use goo_types::day::Day;
+use goo_types::fault::Fault;
+use goo_types::piece::Piece;
+use goo_types::place::Place;
+use goo_types::range::Range;
+use std::alloc::Global;
+use std::marker::Model;
+
+use crate::row_edits::{count_inserts, edit_each};
+
+/// Whether a row is held, and can't be on a day.
+#[tactic(auto, unfolding(goo_spec::specs::Days::is_over))]
+fn is_expiring(row: &Piece, day: Day) -> bool
+    ensures { result ≡ expires day row.now.lot row.now.place }
+{
+    match row.place {
+        Place::Held(_) => match row.lot.expires_on() {
+            Some(last) => last.number() < day.number(),
+            None => false,
+        },
+        _ => false,
+    }
+}
+
+/// The rows of a registry's certificates: by rising numbers, and no two have a number in common.
+#[derive(Drop)]
+pub struct Rows {
+    pieces: Vec<Piece>,
+}
+
+impl Model for Rows {
+    ghost use Rattle.std.specs.Prelude.{◌-◌};
+    ghost use Rattle.std.specs.Vec.{vec_len, vec_capacity};
+    ghost use Rattle.goo_types.specs.Piece.{IsRising};
+    ghost use Rattle.goo_list.specs.Rows.{KeptRows, kept_rows};
+
+    ghost Value = { KeptRows };
+
+    ghost view = { λ r. kept_rows r.pieces.items (vec_capacity r.pieces - vec_len r.pieces) };
+
+    ghost invariant = { λ r. IsRising r.pieces.items };
+}
+
+impl Rows {
+    /// No rows.
+    pub fn new(alloc: Global) -> Rows
+        ensures { result.pieces ≡ [] }
+    {
+        Rows {
+            pieces: Vec::new(alloc),
+        }
+    }
+
+    /// The rows.
+    pub fn as_slice(&self) -> &[Piece]
+        ensures rows { result.now ≡ self.now.pieces }
+        ensures rising { IsRising self.now.pieces }
+    {
+        &self.pieces
+    }
+
+    /// The rows with a number of the range or next to one.
+    fn near(&self, range: Range) -> &[Piece]
+        ensures { result.now ≡ meeting range self.now.pieces }
+    {
+        let first = range.first().get();
+        let last = range.last().get();
+        let start = self.pieces.partition_point(|row| row.last.get() + 1 < first);
+        let later = &self.pieces[start..];
+        let count = later.partition_point(|row| row.first.get() <= last + 1);
+        &later[..count]
+    }
+
+    /// A copy of the rows with a number of the range or next to one. It fails for want of memory alone.
+    pub fn meeting(&self, alloc: Global, range: Range) -> Result<Vec<Piece>, Fault>
+        ensures met { IfOk result (λ met. met.items ≡ meeting range self.now.pieces) }
+        ensures memory { IfErr result (λ fault. fault ≡ Memory) }
+    {
+        Ok(Vec::from_slice(alloc, self.near(range))?)
+    }
+
+    /// A copy of the held rows whose lot is over on a day. It fails for want of memory alone.
+    pub fn expiring(&self, alloc: Global, day: Day) -> Result<Vec<Piece>, Fault>
+        ensures met { IfOk result (λ met. met.items ≡ expiring_on day self.now.pieces) }
+        ensures memory { IfErr result (λ fault. fault ≡ Memory) }
+    {
+        let rows = self.pieces.iter().copied();
+        Ok(rows.filter(|row| is_expiring(row, day)).collect(alloc)?)
+    }
+
+    /// A copy of the rows whose place names an account. It fails for want of memory alone.
+    pub fn pieces_of(&self, alloc: Global, account: AccountNo) -> Result<Vec<Piece>, Fault>
+        ensures met { IfOk result (λ met. met.items ≡ naming_account account self.now.pieces) }
+        ensures memory { IfErr result (λ fault. fault ≡ Memory) }
+    {
+        let rows = self.pieces.iter().copied();
+        Ok(rows.filter(|row| row.place.account() == account).collect(alloc)?)
+    }
+
+    /// Makes room for what some edits insert. It fails for want of memory alone; the rows stay.
+    pub fn make_room(&mut self, edits: &[Edit]) -> Result<(), Fault>
+        ensures rows { self.new.pieces ≡ self.old.pieces }
+        ensures room { OnOk result (inserts edits.now ≤ self.new.room) }
+        ensures memory { IfErr result (λ fault. fault ≡ Memory) }
+    {
+        let Some(count) = count_inserts(edits) else {
+            return Err(Fault::Memory);
+        };
+        self.pieces.reserve(count)?;
+        Ok(())
+    }
+
+    /// Carries out some edits for which there is room.
+    pub fn edit(&mut self, edits: &[Edit])
+        requires room { inserts edits.now ≤ self.old.room }
+        requires rising { IsRising (edited_all edits.now self.old.pieces) }
+        ensures { self.new.pieces ≡ edited_all edits.now self.old.pieces }
+    {
+        edit_each(&mut self.pieces, edits);
+    }
+}

@@ -1,0 +1,16 @@
+pub mod Queries
+pub mod Holders
+pub mod Accounts
+pub mod Devices
+pub mod Declarations
+pub mod Lots
+pub mod Pieces
+pub mod Peers
+pub mod Receipts
+pub mod Cancellations
+pub mod Withdrawals
+pub mod NoticesOut
+pub mod NoticesIn
+pub mod MetaTable
+pub mod PiecesBeside
+pub mod Creating

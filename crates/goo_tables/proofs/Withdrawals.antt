@@ -1,0 +1,111 @@
+-- What the statements on `withdrawal` do and show.
+use Rattle.std.proofs.Common.{◌≡◌, ℕ, pos, List, [], ◌∷◌, map, find, codes, true, false, Option, option_map, Ok, Err, Result, OnOk, refl, sym, ap, subst, ◌∙◌, map-id, int_eq}
+use Rattle.std.specs.List.{AllZip}
+use Rattle.sqlite_tied.specs.Compute.{everything}
+use Rattle.sqlite.specs.declared.types.Value.TheVariants.{Null, Int}
+use Rattle.sqlite.specs.declared.error.Error.{Error}
+use Rattle.sqlite.specs.Collation.TheVariants.{Binary}
+use Rattle.sqlite.specs.Order.{Row}
+use Rattle.sqlite.specs.Term.{Term, lit, col, op2}
+use Rattle.sqlite.specs.Query.{Query, IsAnswer}
+use Rattle.sqlite.specs.Program.{overlay}
+use Rattle.sqlite.specs.Source.TheVariants.{Values}
+use Rattle.sqlite.specs.Command.TheVariants.{Insert, Select}
+use Rattle.sqlite.specs.Listing.{understood, reads_listing}
+use Rattle.sqlite.specs.State.{State, Executes}
+use Rattle.sqlite.proofs.Callers.{IsPlain, command_of}
+use Rattle.sqlite_sql.specs.declared.ops.BinaryOp.TheVariants.{Compare}
+use Rattle.sqlite_sql.specs.declared.ops.CompareOp.TheVariants.{Eq}
+use Rattle.sqlite_value.proofs.OrderLemmas.{value_cmp-Int}
+use Rattle.sqlite_typed.proofs.AnswerLemmas.{at_end, last_table, answer_by_keys, unfiltered}
+use Rattle.sqlite_typed.proofs.TestLemmas.{at_ints, last_term, last_key}
+use Rattle.sqlite_keyed.specs.Keyed.{insert_by}
+use Rattle.sqlite_keyed.proofs.KeyedLemmas.{IsKeyedBy-insert_by}
+use Rattle.goo_columns.specs.Columns.{registry_schema}
+use Rattle.goo_columns.specs.Rows.{Tables, Withdrawal, withdrawal_in, withdrawal_columns, withdrawal_row, withdrawal_key}
+use Rattle.goo_columns.specs.declared.withdrawal.WithdrawalRow.{WithdrawalRow}
+use Rattle.goo_columns.specs.Reads.{withdrawal_reads}
+use Rattle.goo_columns.specs.Stands.{Stands}
+use Rattle.goo_columns.specs.Asked.{FirstZip}
+use Rattle.goo_columns.proofs.Writing.{inserts}
+use Rattle.goo_columns.proofs.Typed.{cast_int, cast_null, puts}
+use Rattle.goo_columns.proofs.Alone.{withdrawals_stand}
+use Rattle.goo_columns.proofs.Read.{all_listed, first_listed}
+use Rattle.goo_columns.proofs.Same.{withdrawal_same}
+use Rattle.goo_tables.specs.Changes.{with_withdrawal}
+use Rattle.goo_tables.proofs.Queries.{in_order}
+
+-- ---- withdrawal: a row is added
+
+abbrev pub insert_text : List ℕ
+insert_text = codes "INSERT INTO withdrawal (number, first, last, reason, day) VALUES (?1, ?2, ?3, ?4, ?5)"
+
+abbrev insert_terms : List Term
+insert_terms = col 0 0 ∷ lit Null ∷ col 0 1 ∷ col 0 2 ∷ col 0 3 ∷ col 0 4 ∷ []
+
+insert_is : command_of (understood registry_schema insert_text) ≡ Insert 10 (Values insert_terms 6)
+unfolding understood everything
+insert_is = refl
+
+insert_plain : IsPlain (understood registry_schema insert_text)
+unfolding understood everything
+insert_plain = (refl, refl)
+
+pub inserts_row : (old new : State) (t : Tables) (x : Withdrawal) (r : Result ℕ Error) → Stands old.now t → Executes insert_text (withdrawal_columns x) old new r → OnOk r (Stands new.now (with_withdrawal t x))
+inserts_row old new t x (Err e) it ran = tt
+inserts_row old new t x (Ok count) it ran =
+    let made = inserts registry_schema 10 _ 16 _ _ _ _ _ refl (λ _ _. refl) insert_text (withdrawal_columns x) old new it.schema insert_plain insert_terms 6 insert_is count ran in
+    withdrawals_stand old.now new.now t it made.schema_is made.applied.tables (insert_by withdrawal_key t.withdrawals x) (record {
+      are = made.applied.rows ∙ simp (cast_null, cast_int) (puts withdrawal_key withdrawal_row (λ _. refl) (old.now.trees 16) t.withdrawals x it.withdrawals.are);
+      rise = IsKeyedBy-insert_by withdrawal_key t.withdrawals x it.withdrawals.rise;
+    })
+
+-- ---- withdrawal: the row with a key
+
+abbrev pub find_text : List ℕ
+find_text = codes "SELECT number, first, last, reason, day FROM withdrawal WHERE number = ?1 ORDER BY number"
+
+abbrev pub find_query : Query
+find_query = in_order 16 (op2 (Compare Eq Binary) (col 1 0) (col 0 0) ∷ []) (col 1 0 ∷ col 1 2 ∷ col 1 3 ∷ col 1 4 ∷ col 1 5 ∷ [])
+
+pub find_is : (command_of (understood registry_schema find_text) ≡ Select (record { lets = []; body = find_query }) (codes "number" ∷ codes "first" ∷ codes "last" ∷ codes "reason" ∷ codes "day" ∷ [])) × (reads_listing registry_schema find_text ≡ false)
+unfolding understood everything
+find_is = (refl, refl)
+
+pub find_plain : IsPlain (understood registry_schema find_text)
+unfolding understood everything
+find_plain = (refl, refl)
+
+pub finds : (old : State) (number : ℕ) (t : Tables) → Stands old.now t → (x : Option WithdrawalRow) (rows : List Row) → IsAnswer find_query (overlay old.now.trees []) (Int (pos number) ∷ []) rows → FirstZip withdrawal_reads rows x
+    → option_map withdrawal_in x ≡ find (λ (x : Withdrawal). int_eq (pos x.number) (pos number)) t.withdrawals
+finds old number t it x rows answer read =
+    let db = overlay old.now.trees [] in
+    let source = last_table db 16 withdrawal_row withdrawal_key t.withdrawals it.withdrawals.are it.withdrawals.rise (at_end db) in
+    let shown = answer_by_keys find_query db (Int (pos number) ∷ []) source (λ x. int_eq (pos x.number) (pos number)) (λ x. last_term (at_ints false Eq (pos x.number) (pos number))) (λ r. r) withdrawal_columns (λ _. refl) refl refl
+    (λ a b. last_key (value_cmp-Int (withdrawal_key a) (withdrawal_key b))) rows answer in
+    first_listed withdrawal_reads withdrawal_columns withdrawal_in withdrawal_same _ t.withdrawals x (subst (λ l. FirstZip withdrawal_reads l x) (sym (map-id rows) ∙ shown) read)
+
+-- ---- withdrawal: the whole table
+
+abbrev pub all_text : List ℕ
+all_text = codes "SELECT number, first, last, reason, day FROM withdrawal ORDER BY number"
+
+abbrev pub all_query : Query
+all_query = in_order 16 [] (col 1 0 ∷ col 1 2 ∷ col 1 3 ∷ col 1 4 ∷ col 1 5 ∷ [])
+
+pub all_is : (command_of (understood registry_schema all_text) ≡ Select (record { lets = []; body = all_query }) (codes "number" ∷ codes "first" ∷ codes "last" ∷ codes "reason" ∷ codes "day" ∷ [])) × (reads_listing registry_schema all_text ≡ false)
+unfolding understood everything
+all_is = (refl, refl)
+
+pub all_plain : IsPlain (understood registry_schema all_text)
+unfolding understood everything
+all_plain = (refl, refl)
+
+pub shows_all : (old : State) (t : Tables) → Stands old.now t → (xs : List WithdrawalRow) (rows : List Row) → IsAnswer all_query (overlay old.now.trees []) [] rows → AllZip withdrawal_reads rows xs
+    → map withdrawal_in xs ≡ t.withdrawals
+shows_all old t it xs rows answer read =
+    let db = overlay old.now.trees [] in
+    let source = last_table db 16 withdrawal_row withdrawal_key t.withdrawals it.withdrawals.are it.withdrawals.rise (at_end db) in
+    let shown = answer_by_keys all_query db [] source (λ _. true) (λ _. refl) (λ r. r) withdrawal_columns (λ _. refl) refl refl (λ a b. last_key (value_cmp-Int (withdrawal_key a) (withdrawal_key b))) rows answer in
+    let all = sym (map-id rows) ∙ shown ∙ ap (map (λ (x : Withdrawal). withdrawal_columns x)) (unfiltered t.withdrawals refl) in
+    all_listed withdrawal_reads withdrawal_columns withdrawal_in withdrawal_same t.withdrawals xs (subst (λ l. AllZip withdrawal_reads l xs) all read)

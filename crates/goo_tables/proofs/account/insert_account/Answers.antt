@@ -1,0 +1,14 @@
+use Rattle.sqlite.specs.Held.{state}
+use Rattle.goo_columns.specs.Rows.{account_columns, account_in}
+use Rattle.goo_columns.proofs.Inside.{sees}
+use Rattle.goo_tables.specs.Changes.{with_account}
+use Rattle.goo_tables.proofs.Accounts.{insert_text, inserts_row}
+use Rattle.goo_tables.proofs.account.insert_account.Goals as goal
+
+pub returns-clause-changed : goal.returns-clause-changed
+returns-clause-changed g c clean t it =
+    let old = c.args.tx.now.conn.now in
+    let new = c.put.new.tx.conn.now in
+    let x = account_in c.args.account.now in
+    sees g.S.Store old new insert_text (account_columns x) c.put.result t (with_account t x) it (inserts_row (state g.S.Store old) (state g.S.Store new) t x) c.put.result
+    (rw (c.small.ensures, c.text.ensures, c.small-2.ensures, c.deref.ensures) at (c.put.ensures.runs clean it.inside))

@@ -1,0 +1,14 @@
+use Rattle.sqlite.specs.Held.{state}
+use Rattle.goo_columns.specs.Rows.{piece_columns}
+use Rattle.goo_columns.proofs.Inside.{sees}
+use Rattle.goo_tables.specs.Changes.{with_piece}
+use Rattle.goo_tables.proofs.Pieces.{insert_text, inserts_row}
+use Rattle.goo_tables.proofs.piece.insert_piece.Goals as goal
+
+pub returns-clause-changed : goal.returns-clause-changed
+returns-clause-changed g c clean t it =
+    let old = c.args.tx.now.conn.now in
+    let new = c.put.new.tx.conn.now in
+    let x = c.args.piece.now in
+    sees g.S.Store old new insert_text (piece_columns x) c.put.result t (with_piece t x) it (inserts_row (state g.S.Store old) (state g.S.Store new) t x) c.put.result
+    (rw (c.number.ensures, c.number-2.ensures, c.number-3.ensures, c.small.ensures, c.small-2.ensures, c.small-3.ensures) at (c.put.ensures.runs clean it.inside))

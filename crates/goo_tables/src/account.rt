@@ -1,0 +1,87 @@
+//! The statements on `account`.
+
+ghost use Rattle.std.specs.Prelude.{◌≡◌, false, pos, map, OnOk, option_map};
+ghost use Rattle.sqlite.specs.State.{HasCleanDisk, KeepsCommit, Survives};
+ghost use Rattle.sqlite.specs.Held.{state};
+ghost use Rattle.sqlite_keyed.specs.Keyed.{get_by};
+ghost use Rattle.goo_columns.specs.Rows.{Tables, account_in, account_key};
+ghost use Rattle.goo_columns.specs.Stands.{Sees, Looks};
+ghost use Rattle.goo_tables.specs.Changes.{with_account, with_closed};
+
+use goo_columns::account::AccountRow;
+use goo_columns::ask::{ask_all, ask_first};
+use goo_columns::put::put;
+use goo_columns::values::{small, text};
+use sqlite::{Alter, Connection, Error, Transaction};
+use std::alloc::Global;
+
+/// Adds an account, whose number must be new.
+pub fn insert_account<S: Alter>(
+    tx: &mut Transaction<'_, S>,
+    account: &AccountRow,
+) -> Result<usize, Error>
+    ensures same_reference { tx.new.conn.ghost_name ≡ tx.old.conn.ghost_name }
+    ensures changed { HasCleanDisk (state S.Store tx.new.conn.now) → (t : Tables) → Sees (state S.Store tx.old.conn.now) t
+        → OnOk result (Sees (state S.Store tx.new.conn.now) (with_account t (account_in account.now))) }
+    ensures uncommitted { HasCleanDisk (state S.Store tx.new.conn.now) → KeepsCommit (state S.Store tx.old.conn.now) (state S.Store tx.new.conn.now) }
+    ensures survives { Survives (state S.Store tx.old.conn.now) (state S.Store tx.new.conn.now) (λ _. ⊥) }
+{
+    put(
+        tx,
+        "INSERT INTO account (number, holder, closed) VALUES (?1, ?2, ?3)",
+        &[
+            small(account.number),
+            text(&account.holder),
+            small(account.closed),
+        ],
+    )
+}
+
+/// Closes the account with this number, if there is one.
+pub fn close_account<S: Alter>(tx: &mut Transaction<'_, S>, number: u32) -> Result<usize, Error>
+    ensures same_reference { tx.new.conn.ghost_name ≡ tx.old.conn.ghost_name }
+    ensures changed { HasCleanDisk (state S.Store tx.new.conn.now) → (t : Tables) → Sees (state S.Store tx.old.conn.now) t
+        → OnOk result (Sees (state S.Store tx.new.conn.now) (with_closed t number)) }
+    ensures uncommitted { HasCleanDisk (state S.Store tx.new.conn.now) → KeepsCommit (state S.Store tx.old.conn.now) (state S.Store tx.new.conn.now) }
+    ensures survives { Survives (state S.Store tx.old.conn.now) (state S.Store tx.new.conn.now) (λ _. ⊥) }
+{
+    put(
+        tx,
+        "UPDATE account SET closed = 1 WHERE number = ?1",
+        &[small(number)],
+    )
+}
+
+/// The account with this number.
+pub fn find_account<S: Alter>(
+    alloc: Global,
+    conn: &mut Connection<S>,
+    number: u32,
+) -> Result<Option<AccountRow>, Error>
+    ensures looks { Looks (state S.Store conn.old) (state S.Store conn.new) result
+        (λ t found. option_map account_in found ≡ get_by account_key t.accounts (pos number)) }
+    ensures outside { conn.old.in_transaction ≡ false → conn.new.in_transaction ≡ false }
+{
+    ask_first(
+        alloc,
+        conn,
+        "SELECT number, holder, closed FROM account WHERE number = ?1 ORDER BY number",
+        &[small(number)],
+    )
+}
+
+/// All accounts, by their numbers.
+pub fn all_accounts<S: Alter>(
+    alloc: Global,
+    conn: &mut Connection<S>,
+) -> Result<Vec<AccountRow>, Error>
+    ensures looks { Looks (state S.Store conn.old) (state S.Store conn.new) result (λ t found. map account_in found.items ≡ t.accounts) }
+    ensures outside { conn.old.in_transaction ≡ false → conn.new.in_transaction ≡ false }
+{
+    ask_all(
+        alloc,
+        conn,
+        "SELECT number, holder, closed FROM account ORDER BY number",
+        &[],
+    )
+}

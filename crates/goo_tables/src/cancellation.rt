@@ -1,0 +1,78 @@
+//! The statements on `cancellation`.
+
+ghost use Rattle.std.specs.Prelude.{◌≡◌, false, pos, map, OnOk, option_map};
+ghost use Rattle.sqlite.specs.State.{HasCleanDisk, KeepsCommit, Survives};
+ghost use Rattle.sqlite.specs.Held.{state};
+ghost use Rattle.sqlite_keyed.specs.Keyed.{get_by};
+ghost use Rattle.goo_columns.specs.Rows.{Tables, cancellation_in, cancellation_key};
+ghost use Rattle.goo_columns.specs.Stands.{Sees, Looks};
+ghost use Rattle.goo_tables.specs.Changes.{with_cancellation, CancellationFits};
+
+use goo_columns::ask::{ask_all, ask_first};
+use goo_columns::cancellation::CancellationRow;
+use goo_columns::put::put;
+use goo_columns::values::{number, small, text};
+use sqlite::{Alter, Connection, Error, Transaction};
+use std::alloc::Global;
+
+/// Adds a cancellation, whose number must be new.
+pub fn insert_cancellation<S: Alter>(
+    tx: &mut Transaction<'_, S>,
+    cancellation: &CancellationRow,
+) -> Result<usize, Error>
+    requires { CancellationFits cancellation.now }
+    ensures same_reference { tx.new.conn.ghost_name ≡ tx.old.conn.ghost_name }
+    ensures changed { HasCleanDisk (state S.Store tx.new.conn.now) → (t : Tables) → Sees (state S.Store tx.old.conn.now) t
+        → OnOk result (Sees (state S.Store tx.new.conn.now) (with_cancellation t (cancellation_in cancellation.now))) }
+    ensures uncommitted { HasCleanDisk (state S.Store tx.new.conn.now) → KeepsCommit (state S.Store tx.old.conn.now) (state S.Store tx.new.conn.now) }
+    ensures survives { Survives (state S.Store tx.old.conn.now) (state S.Store tx.new.conn.now) (λ _. ⊥) }
+{
+    put(
+        tx,
+        "INSERT INTO cancellation (number, account, first, last, beneficiary, use_first, use_last, day) VALUES (?1, ?2, ?3, ?4, ?5, ?6, ?7, ?8)",
+        &[
+            small(cancellation.number),
+            small(cancellation.account),
+            number(cancellation.first),
+            number(cancellation.last),
+            text(&cancellation.beneficiary),
+            text(&cancellation.use_first),
+            text(&cancellation.use_last),
+            text(&cancellation.day),
+        ],
+    )
+}
+
+/// The cancellation with this number.
+pub fn find_cancellation<S: Alter>(
+    alloc: Global,
+    conn: &mut Connection<S>,
+    number: u32,
+) -> Result<Option<CancellationRow>, Error>
+    ensures looks { Looks (state S.Store conn.old) (state S.Store conn.new) result
+        (λ t found. option_map cancellation_in found ≡ get_by cancellation_key t.cancellations (pos number)) }
+    ensures outside { conn.old.in_transaction ≡ false → conn.new.in_transaction ≡ false }
+{
+    ask_first(
+        alloc,
+        conn,
+        "SELECT number, account, first, last, beneficiary, use_first, use_last, day FROM cancellation WHERE number = ?1 ORDER BY number",
+        &[small(number)],
+    )
+}
+
+/// All cancellations, by their numbers.
+pub fn all_cancellations<S: Alter>(
+    alloc: Global,
+    conn: &mut Connection<S>,
+) -> Result<Vec<CancellationRow>, Error>
+    ensures looks { Looks (state S.Store conn.old) (state S.Store conn.new) result (λ t found. map cancellation_in found.items ≡ t.cancellations) }
+    ensures outside { conn.old.in_transaction ≡ false → conn.new.in_transaction ≡ false }
+{
+    ask_all(
+        alloc,
+        conn,
+        "SELECT number, account, first, last, beneficiary, use_first, use_last, day FROM cancellation ORDER BY number",
+        &[],
+    )
+}

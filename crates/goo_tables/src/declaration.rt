@@ -1,0 +1,93 @@
+//! The statements on `declaration`.
+
+ghost use Rattle.std.specs.Prelude.{slice_get, reverse, ◌≡◌, ◌&&◌, false, map, find, OnOk, option_map};
+ghost use Rattle.sqlite.specs.State.{HasCleanDisk, KeepsCommit, Survives};
+ghost use Rattle.sqlite.specs.Held.{state};
+ghost use Rattle.sqlite_typed.specs.Tests.{bytes_eq};
+ghost use Rattle.goo_columns.specs.Rows.{Tables, declaration_in};
+ghost use Rattle.goo_columns.specs.Stands.{Sees, Looks};
+ghost use Rattle.goo_tables.specs.Changes.{with_declaration, DeclarationFits};
+
+use goo_columns::ask::{ask_all, ask_first};
+use goo_columns::declaration::DeclarationRow;
+use goo_columns::put::put;
+use goo_columns::values::{number, text};
+use sqlite::{Alter, Connection, Error, Transaction};
+use std::alloc::Global;
+
+/// Adds a declaration, whose number must be new, as must its device and first day together.
+pub fn insert_declaration<S: Alter>(
+    tx: &mut Transaction<'_, S>,
+    declaration: &DeclarationRow,
+) -> Result<usize, Error>
+    requires { DeclarationFits declaration.now }
+    ensures same_reference { tx.new.conn.ghost_name ≡ tx.old.conn.ghost_name }
+    ensures changed { HasCleanDisk (state S.Store tx.new.conn.now) → (t : Tables) → Sees (state S.Store tx.old.conn.now) t
+        → OnOk result (Sees (state S.Store tx.new.conn.now) (with_declaration t (declaration_in declaration.now))) }
+    ensures uncommitted { HasCleanDisk (state S.Store tx.new.conn.now) → KeepsCommit (state S.Store tx.old.conn.now) (state S.Store tx.new.conn.now) }
+    ensures survives { Survives (state S.Store tx.old.conn.now) (state S.Store tx.new.conn.now) (λ _. ⊥) }
+{
+    put(
+        tx,
+        "INSERT INTO declaration (id, device, first_day, last_day, gross, aux) VALUES (?1, ?2, ?3, ?4, ?5, ?6)",
+        &[
+            number(declaration.id),
+            text(&declaration.device),
+            text(&declaration.first_day),
+            text(&declaration.last_day),
+            number(declaration.gross),
+            number(declaration.aux),
+        ],
+    )
+}
+
+/// The declaration of this device whose period begins on this day.
+pub fn find_declaration<S: Alter>(
+    alloc: Global,
+    conn: &mut Connection<S>,
+    device: &str,
+    first_day: &str,
+) -> Result<Option<DeclarationRow>, Error>
+    ensures looks { Looks (state S.Store conn.old) (state S.Store conn.new) result
+        (λ t found. option_map declaration_in found ≡ find (λ x. bytes_eq x.device device.now && bytes_eq x.first_day first_day.now) t.declarations) }
+    ensures outside { conn.old.in_transaction ≡ false → conn.new.in_transaction ≡ false }
+{
+    ask_first(
+        alloc,
+        conn,
+        "SELECT id, device, first_day, last_day, gross, aux FROM declaration WHERE device = ?1 AND first_day = ?2 ORDER BY id",
+        &[text(device), text(first_day)],
+    )
+}
+
+/// All declarations, in the order in which they came.
+pub fn all_declarations<S: Alter>(
+    alloc: Global,
+    conn: &mut Connection<S>,
+) -> Result<Vec<DeclarationRow>, Error>
+    ensures looks { Looks (state S.Store conn.old) (state S.Store conn.new) result (λ t found. map declaration_in found.items ≡ t.declarations) }
+    ensures outside { conn.old.in_transaction ≡ false → conn.new.in_transaction ≡ false }
+{
+    ask_all(
+        alloc,
+        conn,
+        "SELECT id, device, first_day, last_day, gross, aux FROM declaration ORDER BY id",
+        &[],
+    )
+}
+
+/// The declaration with the highest number.
+pub fn last_declaration<S: Alter>(
+    alloc: Global,
+    conn: &mut Connection<S>,
+) -> Result<Option<DeclarationRow>, Error>
+    ensures looks { Looks (state S.Store conn.old) (state S.Store conn.new) result (λ t found. option_map declaration_in found ≡ slice_get (reverse t.declarations) 0) }
+    ensures outside { conn.old.in_transaction ≡ false → conn.new.in_transaction ≡ false }
+{
+    ask_first(
+        alloc,
+        conn,
+        "SELECT id, device, first_day, last_day, gross, aux FROM declaration ORDER BY id DESC LIMIT 1",
+        &[],
+    )
+}

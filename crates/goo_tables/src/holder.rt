@@ -1,0 +1,68 @@
+//! The statements on `holder`.
+
+ghost use Rattle.std.specs.Prelude.{◌≡◌, false, map, find, OnOk, option_map};
+ghost use Rattle.sqlite.specs.State.{HasCleanDisk, KeepsCommit, Survives};
+ghost use Rattle.sqlite.specs.Held.{state};
+ghost use Rattle.sqlite_typed.specs.Tests.{bytes_eq};
+ghost use Rattle.goo_columns.specs.Rows.{Tables, holder_in};
+ghost use Rattle.goo_columns.specs.Stands.{Sees, Looks};
+ghost use Rattle.goo_tables.specs.Changes.{with_holder};
+
+use goo_columns::ask::{ask_all, ask_first};
+use goo_columns::holder::HolderRow;
+use goo_columns::put::put;
+use goo_columns::values::text;
+use sqlite::{Alter, Connection, Error, Transaction};
+use std::alloc::Global;
+
+/// Adds a holder, whose code must be new.
+pub fn insert_holder<S: Alter>(
+    tx: &mut Transaction<'_, S>,
+    holder: &HolderRow,
+) -> Result<usize, Error>
+    ensures same_reference { tx.new.conn.ghost_name ≡ tx.old.conn.ghost_name }
+    ensures changed { HasCleanDisk (state S.Store tx.new.conn.now) → (t : Tables) → Sees (state S.Store tx.old.conn.now) t
+        → OnOk result (Sees (state S.Store tx.new.conn.now) (with_holder t (holder_in holder.now))) }
+    ensures uncommitted { HasCleanDisk (state S.Store tx.new.conn.now) → KeepsCommit (state S.Store tx.old.conn.now) (state S.Store tx.new.conn.now) }
+    ensures survives { Survives (state S.Store tx.old.conn.now) (state S.Store tx.new.conn.now) (λ _. ⊥) }
+{
+    put(
+        tx,
+        "INSERT INTO holder (code, name) VALUES (?1, ?2)",
+        &[text(&holder.code), text(&holder.name)],
+    )
+}
+
+/// The holder with this code.
+pub fn find_holder<S: Alter>(
+    alloc: Global,
+    conn: &mut Connection<S>,
+    code: &str,
+) -> Result<Option<HolderRow>, Error>
+    ensures looks { Looks (state S.Store conn.old) (state S.Store conn.new) result
+        (λ t found. option_map holder_in found ≡ option_map (λ k. k.1) (find (λ k. bytes_eq k.1.code code.now) t.holders)) }
+    ensures outside { conn.old.in_transaction ≡ false → conn.new.in_transaction ≡ false }
+{
+    ask_first(
+        alloc,
+        conn,
+        "SELECT code, name FROM holder WHERE code = ?1 ORDER BY rowid",
+        &[text(code)],
+    )
+}
+
+/// All holders, in the order in which they came.
+pub fn all_holders<S: Alter>(
+    alloc: Global,
+    conn: &mut Connection<S>,
+) -> Result<Vec<HolderRow>, Error>
+    ensures looks { Looks (state S.Store conn.old) (state S.Store conn.new) result (λ t found. map holder_in found.items ≡ map (λ k. k.1) t.holders) }
+    ensures outside { conn.old.in_transaction ≡ false → conn.new.in_transaction ≡ false }
+{
+    ask_all(
+        alloc,
+        conn,
+        "SELECT code, name FROM holder ORDER BY rowid",
+        &[],
+    )
+}
