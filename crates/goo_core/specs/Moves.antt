@@ -26,6 +26,10 @@ IsChangeRuling refused reply notice range change met (Refused refusal) = refused
 IsChangeRuling refused reply notice range change met (Repeated kept) = ⊥
 IsChangeRuling refused reply notice range change met (Passed made) = (refused ≡ None) × IsChange reply notice range change met made
 
--- the same for one that puts them in a place
+-- a change that puts the certificates of a range in a place
+abbrev pub IsMove : Reply → Option NoticeContents → Numbers → Place → List Piece → Change → Type 0
+IsMove reply notice range place = IsChange reply notice range (moved range.first range.last place)
+
+-- what a command that does so comes to
 abbrev pub IsMoveRuling : Option Refusal → Reply → Option NoticeContents → Numbers → Place → List Piece → Ruling → Type 0
 IsMoveRuling refused reply notice range place = IsChangeRuling refused reply notice range (moved range.first range.last place)
