@@ -12,3 +12,4 @@ pub mod Closing
 pub mod Exporting
 pub mod Expiring
 pub mod Withdrawing
+pub mod Deciding

@@ -13,3 +13,4 @@ pub mod Trade
 pub mod Export
 pub mod Advance
 pub mod Withdraw
+pub mod Decision
