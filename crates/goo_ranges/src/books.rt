@@ -21,6 +21,7 @@ use goo_types::place::Place;
 use goo_types::range::Range;
 use std::marker::Model;
 
+mod accounts;
 mod changes;
 
 /// Pieces that rise and have no number in common.
