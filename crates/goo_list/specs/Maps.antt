@@ -3,7 +3,7 @@ use Rattle.std.specs.Prelude.{◌≡◌, List, Option, Some, None}
 use Rattle.std.specs.declared.cmp.Ordering.{Ordering}
 use Rattle.std.specs.declared.cmp.Ordering.TheVariants.{Less, Equal, Greater}
 use Rattle.std.specs.Ordering.{ordering_then, is_eq}
-use Rattle.std.specs.FinMap.{FinMap, insert, remove, from_entries, IsAntisymmetric}
+use Rattle.std.specs.FinMap.{FinMap, from_entries, IsAntisymmetric}
 use Rattle.std.specs.BTreeMap.{BTreeMap}
 use mathlib.Core.Path.{refl, sym, subst}
 use lib.Dec.{T}
@@ -11,11 +11,6 @@ use lib.Dec.{T}
 -- the map that a tree keeps
 unfoldable pub map_of : {K X : Type 0} (R : K → K → Ordering) → BTreeMap K X → FinMap R X
 map_of R m = from_entries m.entries
-
--- with what stood under the key before
-abbrev pub set_back : {K X : Type 0} {R : K → K → Ordering} → FinMap R X → K → Option X → FinMap R X
-set_back m k None = remove m k
-set_back m k (Some before) = insert m k before
 
 both_equal : (a b : Ordering) → ordering_then a b ≡ Equal → (a ≡ Equal) × (b ≡ Equal)
 both_equal Less b e = absurd (subst (λ r. T (is_eq r)) (sym e) tt)

@@ -68,6 +68,13 @@ impl Book {
         Book { pieces: rows }
     }
 
+    /// Its pieces, rising.
+    pub fn pieces(&self) -> &[Piece]
+        ensures { result.now ≡ self.now }
+    {
+        &self.pieces
+    }
+
     /// The pieces from the first one on that ends at the number or after it.
     fn reaching(&self, number: u64) -> &[Piece]
         ensures { IsRest self.now result.now number }

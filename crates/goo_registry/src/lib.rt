@@ -1,0 +1,16 @@
+//! A registry: requests, one at a time and in lists, and what may be read of it.
+#![tactic(auto)]
+
+mod access;
+mod audit;
+mod cancellation;
+mod cancellation_statement;
+mod holdings;
+mod notice;
+mod place;
+mod read_fault;
+mod registry;
+
+pub use cancellation_statement::CancellationStatement;
+pub use read_fault::{Denial, ReadFault};
+pub use registry::Registry;

@@ -1,0 +1,132 @@
+//! A registry over what keeps its records.
+
+ghost use Rattle.std.specs.Prelude.{◌≡◌};
+ghost use Rattle.goo_rows.specs.Rows.{AreRowsOf, rows-prop};
+ghost use Rattle.goo_spec.specs.Sound.{IsSound};
+ghost use Rattle.goo_registry.specs.Shown.{Shows, apart as answer_of};
+ghost use Rattle.goo_registry.specs.Reads.{place_shown, notice_shown, AreHoldings, IsCancellationShown, IsAudit};
+
+use crate::audit::find_totals;
+use crate::cancellation::find_cancellation;
+use crate::cancellation_statement::CancellationStatement;
+use crate::holdings::find_holdings;
+use crate::notice::find_notice;
+use crate::place::find_place;
+use crate::read_fault::{Denial, ReadFault};
+use goo_shelf::found::DeviceTotals;
+use goo_shelf::shelf::Shelf;
+use goo_types::account_no::AccountNo;
+use goo_types::act_no::ActNo;
+use goo_types::fault::Fault;
+use goo_types::holder_code::HolderCode;
+use goo_types::lot::Lot;
+use goo_types::notice::Notice;
+use goo_types::number::Number;
+use goo_types::piece::Piece;
+use goo_types::place::Place;
+use std::alloc::Global;
+
+/// The registry of an issuing body of guarantees of origin (Directive (EU) 2018/2001, Article 19).
+pub struct Registry<S: Shelf> {
+    shelf: S,
+    ghost sound: { (S.seen shelf).doubts ≡ 0 → IsSound (S.seen shelf).state },
+    ghost kept: { (S.seen shelf).doubts ≡ 0 → AreRowsOf (S.seen shelf).state.at (S.seen shelf).rows } by { λ x y i none. rows-prop (S.seen shelf).state.at (S.seen shelf).rows (x none) (y none) i },
+}
+
+/// An answer that may deny or fail, in one.
+fn told<T: Drop>(answer: Result<Result<T, Denial>, Fault>) -> Result<T, ReadFault>
+    ensures { answer_of result ≡ answer }
+{
+    match answer {
+        Ok(Ok(shown)) => Ok(shown),
+        Ok(Err(Denial::NotAllowed)) => Err(ReadFault::NotAllowed),
+        Ok(Err(Denial::Unknown)) => Err(ReadFault::Unknown),
+        Err(Fault::Store) => Err(ReadFault::Store),
+        Err(Fault::Memory) => Err(ReadFault::Memory),
+    }
+}
+
+impl<S: Shelf> Registry<S> {
+    /// The registry whose records a shelf keeps.
+    pub fn new(shelf: S) -> Registry<S>
+        requires sound { (S.seen shelf).doubts ≡ 0 → IsSound (S.seen shelf).state }
+        requires rows { (S.seen shelf).doubts ≡ 0 → AreRowsOf (S.seen shelf).state.at (S.seen shelf).rows }
+        ensures { result.shelf ≡ shelf }
+    {
+        Registry { shelf }
+    }
+
+    /// What keeps the records, unchanged.
+    pub fn into_shelf(self) -> S
+        ensures { result ≡ self.shelf }
+    {
+        let Registry { shelf } = self;
+        shelf
+    }
+
+    /// The lot and the place of a certificate: `NotAllowed` to a caller that is neither the issuing body
+    /// nor a holder; `Unknown` where there is no such certificate, and to a holder where its place names
+    /// none of his accounts.
+    pub fn place_of(
+        &mut self,
+        alloc: Global,
+        caller: &HolderCode,
+        number: Number,
+    ) -> Result<(Lot, Place), ReadFault>
+        ensures { Shows (S.seen self.old.shelf) (S.seen self.new.shelf) result (λ shown. shown ≡ place_shown (S.seen self.old.shelf).state caller.now number) }
+    {
+        told(find_place(alloc, &mut self.shelf, caller, number))
+    }
+
+    /// The certificates whose place names an account, as maximal runs of one lot and one place, rising:
+    /// to the issuing body and to the account's holder. For an account that isn't there `Unknown` to the
+    /// issuing body, and `NotAllowed` to any other caller.
+    pub fn holdings(
+        &mut self,
+        alloc: Global,
+        caller: &HolderCode,
+        account: AccountNo,
+    ) -> Result<Vec<Piece>, ReadFault>
+        ensures { Shows (S.seen self.old.shelf) (S.seen self.new.shelf) result (AreHoldings (S.seen self.old.shelf).state caller.now account) }
+    {
+        told(find_holdings(alloc, &mut self.shelf, caller, account))
+    }
+
+    /// What a cancellation came to: to the issuing body and to the holder of its account. For one that
+    /// isn't there `Unknown` to the issuing body, and `NotAllowed` to any other caller.
+    pub fn cancellation(
+        &mut self,
+        alloc: Global,
+        caller: &HolderCode,
+        act: ActNo,
+    ) -> Result<CancellationStatement, ReadFault>
+        ensures { Shows (S.seen self.old.shelf) (S.seen self.new.shelf) result (IsCancellationShown (S.seen self.old.shelf).state caller.now act) }
+    {
+        told(find_cancellation(alloc, &mut self.shelf, caller, act))
+    }
+
+    /// A notice that was sent: to the issuing body and to the holder of the account that it exports
+    /// from. For one that isn't there `Unknown` to the issuing body, and `NotAllowed` to any other caller.
+    pub fn notice(
+        &mut self,
+        alloc: Global,
+        caller: &HolderCode,
+        act: ActNo,
+    ) -> Result<Notice, ReadFault>
+        ensures { Shows (S.seen self.old.shelf) (S.seen self.new.shelf) result (λ shown. shown ≡ notice_shown (S.seen self.old.shelf).state caller.now act) }
+    {
+        told(find_notice(alloc, &mut self.shelf, caller, act))
+    }
+
+    /// The declared net energy in Wh, the certificates issued and the carry in Wh of each device, by
+    /// device: to the issuing body alone.
+    pub fn audit(
+        &mut self,
+        alloc: Global,
+        caller: &HolderCode,
+    ) -> Result<Vec<DeviceTotals>, ReadFault>
+        ensures { Shows (S.seen self.old.shelf) (S.seen self.new.shelf) result (IsAudit (S.seen self.old.shelf).state caller.now) }
+    {
+        told(find_totals(alloc, &mut self.shelf, caller))
+    }
+}
