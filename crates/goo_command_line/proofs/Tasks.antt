@@ -1,8 +1,7 @@
 -- What the matches of a parse state.
-use Rattle.std.proofs.Common.{rules, ◌≡◌, ◌≢◌, ◌⊎◌, ◌==◌, ap, refl, sym, ℕ, Bool, true, false, List, [], ◌∷◌, codes, length, inl, inr, Option, Some, None, option_map, Result, Ok, Err, IsErrAnd, IfOk, IfErr, ◌∙◌}
+use Rattle.std.proofs.Common.{◌≡◌, ap, refl, sym, true, List, [], ◌∷◌, codes, inl, inr, Option, Some, None, option_map, Result, Ok, Err, IsErrAnd, IfOk, IfErr, ◌∙◌}
 use Rattle.std.specs.Result.{result_ok}
-use Rattle.std.specs.Str.{bytes_eq}
-use Rattle.clap.specs.Words.{App, HasKind, HasMatchesOf, is_simple, IsAmong, Kinds, Row, Text, fault_of, first_of, first_value, found_of, kind_of, rows_of, subcommand_of}
+use Rattle.clap.specs.Words.{App, HasKind, HasMatchesOf, is_simple, IsAmong, Kinds, Text, fault_of, first_value, found_of, kind_of, rows_of, subcommand_of}
 use Rattle.std.specs.Box.{box_value}
 use Rattle.clap.specs.Words.{subcommand_name_of, subcommand_rows_of}
 use Rattle.clap.specs.declared.error.Error.{Error}

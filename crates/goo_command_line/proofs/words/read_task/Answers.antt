@@ -1,4 +1,4 @@
-use Rattle.std.proofs.Common.{rules, ◌≡◌, ◌∙◌, ap, refl, map, true}
+use Rattle.std.proofs.Common.{◌≡◌, ap, map, true}
 use Rattle.clap.specs.Words.{App, app_of, is_simple, is_simple_and_free, subcommand_rows_of}
 use Rattle.goo_command_line.specs.Line.{goo_app, run_app, task_named}
 use Rattle.goo_command_line.proofs.Tasks.{task-taken, task-refused, task-given, no-task-given}

@@ -1,4 +1,4 @@
-use Rattle.std.proofs.Common.{rules, ◌≡◌, Some, codes, option_map}
+use Rattle.std.proofs.Common.{rules}
 use Rattle.goo_command_line.proofs.Tasks.{run-named}
 use Rattle.goo_command_line.proofs.words.task_named.Goals as goal
 use Rattle.clap.specs.Words.{found_of}

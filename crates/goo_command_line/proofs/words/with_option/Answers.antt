@@ -13,4 +13,5 @@ returns c =
     let rule : rule_of c.action.result ≡ option_rule c.args.name.now = search rules in
     record {
       app = IfOk-weaker c.arg.result _ _ (λ r adds. adds.shape (search rules) ∙ ap (with_rule (app_of c.args.command)) rule) c.arg.ensures;
-      local = IfOk-weaker c.arg.result _ _ (λ r adds. adds.globals ∙ or-false _ _ (search rules)) c.arg.ensures }
+      local = IfOk-weaker c.arg.result _ _ (λ r adds. adds.globals ∙ or-false _ _ (search rules)) c.arg.ensures;
+    }

@@ -1,0 +1,7 @@
+pub mod Lines
+pub mod Reading
+pub mod Faults
+pub mod Answers
+pub mod Fold
+pub mod Desk
+pub mod Stops

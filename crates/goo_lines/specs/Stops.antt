@@ -1,0 +1,41 @@
+-- Where an answering of lines stops, and what stands then.
+use Rattle.std.specs.Prelude.{◌≡◌, ℕ, ◌++◌, List, Option}
+use Rattle.std.specs.Io.KnownBytes.{Appends}
+use Rattle.goo_streams.specs.Streams.{AppendsPrefix}
+use Rattle.goo_spec.specs.State.{State}
+use Rattle.goo_lines.specs.Desk.{Seen}
+use Rattle.goo_lines.specs.Lines.{lines_of}
+use Rattle.goo_lines.specs.Fold.{answering, counted, with_line}
+use Rattle.goo_lines.specs.declared.lines_fault.LinesFault.{LinesFault}
+use Rattle.goo_lines.specs.declared.lines_fault.LinesFault.TheVariants.{Read, Write, Store, Memory}
+use Rattle.goo_lines.specs.declared.tally.Tally.{Tally}
+
+-- one line was answered: the state, what was written, and the counts
+pub record AnswersLine (line : List ℕ) (old new : State) (before after : Tally) (had has : Option (List ℕ)) : Type 0 where
+  pub state : new ≡ (with_line (counted old before) line).state
+  pub text : Appends had has (with_line (counted old before) line).text
+  pub good : after.good ≡ (with_line (counted old before) line).good
+  pub bad : after.bad ≡ (with_line (counted old before) line).bad
+
+-- the fault came before a line was carried out, so nothing of that line stands
+abbrev pub IsBetweenLines : LinesFault → Type 0
+IsBetweenLines Store = Unit {0}
+IsBetweenLines Memory = Unit {0}
+IsBetweenLines Read = ⊥
+IsBetweenLines Write = ⊥
+
+-- the first of the input's lines stand, and what was written is the whole of their answers
+pub record StandsWhole (input : List ℕ) (old : State) (new : Seen) (had has : Option (List ℕ)) : Type 0 where
+  pub done : List (List ℕ)
+  pub left : List (List ℕ)
+  pub order : lines_of input ≡ done ++ left
+  pub state : new.doubts ≡ 0 → new.state ≡ (answering old done).state
+  pub text : Appends had has (answering old done).text
+
+-- the first of the input's lines stand, and what was written is a beginning of their answers
+pub record StandsInPart (input : List ℕ) (old : State) (new : State) (had has : Option (List ℕ)) : Type 0 where
+  pub done : List (List ℕ)
+  pub left : List (List ℕ)
+  pub order : lines_of input ≡ done ++ left
+  pub state : new ≡ (answering old done).state
+  pub text : AppendsPrefix had has (answering old done).text
