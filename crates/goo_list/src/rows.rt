@@ -80,14 +80,6 @@ impl Rows {
         }
     }
 
-    /// The rows.
-    pub fn as_slice(&self) -> &[Piece]
-        ensures rows { result.now ≡ self.now.pieces }
-        ensures rising { IsRising self.now.pieces }
-    {
-        &self.pieces
-    }
-
     /// The rows with a number of the range or next to one.
     fn near(&self, range: Range) -> &[Piece]
         ensures met { result.now ≡ meeting range self.now.pieces }
