@@ -5,3 +5,5 @@ pub mod ProductionLemmas
 pub mod AllowedLemmas
 pub mod CertificateLemmas
 pub mod ReceiptLemmas
+pub mod LookLemmas
+pub mod OrderLemmas

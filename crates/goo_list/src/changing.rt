@@ -4,12 +4,11 @@ ghost use Rattle.goo_spec.specs.Step.{refusal, changed};
 ghost use Rattle.goo_shelf.specs.Plan.{notice_sent};
 ghost use Rattle.goo_list.specs.States.{state_of, beside, Changes};
 
+use crate::list_shelf::ListShelf;
 use goo_shelf::plan::Plan;
 use goo_types::command::Command;
 use goo_types::fault::Fault;
 use std::alloc::Global;
-
-use crate::list_shelf::ListShelf;
 
 impl ListShelf {
     /// Keeps what an accepted command changes, but for the certificates and the receipt.

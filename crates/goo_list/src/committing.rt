@@ -7,13 +7,12 @@ ghost use Rattle.goo_rows.specs.Rows.{edited_all};
 ghost use Rattle.goo_shelf.specs.Plan.{Fits, notice_sent};
 ghost use Rattle.goo_list.specs.States.{state_of, beside, Changes};
 
-use goo_shelf::plan::Plan;
-use goo_types::fault::Fault;
-use std::alloc::Global;
-
 use crate::kept::Kept;
 use crate::list_shelf::ListShelf;
 use crate::maps::{put, put_back};
+use goo_shelf::plan::Plan;
+use goo_types::fault::Fault;
+use std::alloc::Global;
 
 impl ListShelf {
     /// Keeps an accepted request's receipt, and what it changes beside the certificates.

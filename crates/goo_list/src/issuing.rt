@@ -6,17 +6,16 @@ ghost use Rattle.goo_spec.specs.State.{Device as Known, serials};
 ghost use Rattle.goo_spec.specs.Declare.{earned as due_for, lot_of as lot_stated, with_issue};
 ghost use Rattle.goo_list.specs.States.{state_of, beside, Changes};
 
-use goo_shelf::device::Device;
-use goo_types::command::Declare;
-use goo_types::fault::Fault;
-use goo_types::lot::Lot;
-use goo_types::lot_fields::LotFields;
-
 use crate::list_shelf::ListShelf;
 use crate::lots::key_of_lot;
 use crate::maps::{find, put, put_back};
 use crate::next_numbers::after_serials;
 use crate::production::CERTIFICATE;
+use goo_shelf::device::Device;
+use goo_types::command::Declare;
+use goo_types::fault::Fault;
+use goo_types::lot::Lot;
+use goo_types::lot_fields::LotFields;
 
 impl ListShelf {
     /// How many certificates a declaration makes due: one for each MWh of the device's carry and the

@@ -4,6 +4,7 @@ ghost use Rattle.goo_spec.specs.Declare.{declared_by, last_end};
 ghost use Rattle.goo_spec.specs.Energy.{certificate};
 ghost use Rattle.goo_list.specs.Production.{net_by};
 
+use crate::maps::{empty_map, find, put};
 use goo_shelf::found::Progress;
 use goo_types::command::Declare;
 use goo_types::day::Day;
@@ -13,8 +14,6 @@ use goo_types::wh::Wh;
 use std::alloc::Global;
 use std::collections::BTreeMap;
 use std::marker::Model;
-
-use crate::maps::{empty_map, find, put};
 
 /// The watt hours of a certificate.
 pub const CERTIFICATE: u64 = 1_000_000;
@@ -100,12 +99,19 @@ impl Production {
     {
         self.declarations.reserve(1)?;
         let before = self.net(&declaration.device);
-        let more = declaration.gross.get().saturating_sub(declaration.aux.get());
+        let more = declaration
+            .gross
+            .get()
+            .saturating_sub(declaration.aux.get());
         let Some(net) = before.checked_add(more) else {
             return Err(Fault::Memory);
         };
         let last_day = declaration.last_day;
-        put(&mut self.devices, declaration.device, Produced { last_day, net })?;
+        put(
+            &mut self.devices,
+            declaration.device,
+            Produced { last_day, net },
+        )?;
         let pushed: Result<_, _> = self.declarations.push(*declaration);
         pushed.unwrap();
         Ok(())

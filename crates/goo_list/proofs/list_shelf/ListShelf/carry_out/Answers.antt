@@ -1,4 +1,4 @@
-use Rattle.std.proofs.Common.{◌≡◌, ap, sym, ◌∙◌, subst, refl}
+use Rattle.std.proofs.Common.{◌≡◌, ap, sym, ◌∙◌, subst}
 use Rattle.goo_types.specs.declared.outcome.Outcome.TheVariants.{Accepted}
 use Rattle.goo_spec.specs.Step.{outcome, accept}
 use Rattle.goo_rows.specs.Rows.{edited_all}
@@ -40,7 +40,7 @@ returns-clause-done c =
     let edits = c.args.plan.now.edits.items in
     let same = ap (λ ps. beside (certificates_of ps) s) c.make_room.ensures.rows in
     let edited : c.edit.new.self.pieces ≡ edited_all edits c.args.self.now.rows.pieces =
-        c.edit.ensures ∙ (λ i. edited_all (c.deref-2.ensures.value i) (c.in_ok-keep.ensures.rows i).pieces) ∙ ap (edited_all edits) c.make_room.ensures.rows
+    c.edit.ensures ∙ (λ i. edited_all (c.deref-2.ensures.value i) (c.in_ok-keep.ensures.rows i).pieces) ∙ ap (edited_all edits) c.make_room.ensures.rows
     in
     (λ i. beside (certificates_of (edited i)) (c.in_ok-keep.ensures.done i))
     ∙ ap (λ t. beside (certificates_of (edited_all edits c.args.self.now.rows.pieces)) (accept t q)) same

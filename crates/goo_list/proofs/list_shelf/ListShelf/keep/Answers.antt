@@ -1,4 +1,4 @@
-use Rattle.std.proofs.Common.{◌≡◌, ap, sym, ◌∙◌, subst, Some}
+use Rattle.std.proofs.Common.{ap, sym, ◌∙◌, subst, Some}
 use Rattle.std.specs.Prelude.{IsTrue}
 use Rattle.std.specs.FinMap.{insert, contains_key}
 use Rattle.goo_spec.specs.State.{receipt_cmp}

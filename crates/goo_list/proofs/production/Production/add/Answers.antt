@@ -1,6 +1,6 @@
-use Rattle.std.proofs.Common.{◌≡◌, ◌+◌, ◌-◌, refl, sym, ◌∙◌, rules, arith}
+use Rattle.std.proofs.Common.{◌≡◌, ◌+◌, refl, rules}
 use Rattle.goo_spec.specs.Energy.{net}
-use Rattle.goo_list.specs.Production.{AddsUp, net_by}
+use Rattle.goo_list.specs.Production.{net_by}
 use Rattle.goo_list.proofs.ProductionLemmas.{added}
 use Rattle.goo_list.proofs.production.Production.add.Goals as goal
 
@@ -9,4 +9,4 @@ invariant_of-self-3 c =
     let x = c.args.declaration.now in
     let sum : c.in-Some.net ≡ net_by x.device c.self.inside.declarations.items + net x = search rules in
     rw (c.push-pushed.ensures.items, c.unwrap.ensures, c.reserve.ensures.items, c.in_ok-put.ensures.done)
-        (added c.self.inside.declarations.items x _ _ refl sum c.self.invariant)
+    (added c.self.inside.declarations.items x _ _ refl sum c.self.invariant)
