@@ -21,5 +21,17 @@ pub unknown_word : (word : List ℕ) (others : ℕ) (d : Data)
     → command_named word others d ≡ Err Shape
 unfolding command_named
 unknown_word word others d a b c e f g h i j k l m =
-    rw (differs _ _ a, differs _ _ b, differs _ _ c, differs _ _ e, differs _ _ f, differs _ _ g,
-        differs _ _ h, differs _ _ i, differs _ _ j, differs _ _ k, differs _ _ l, differs _ _ m) refl
+    rw (
+      differs _ _ a,
+      differs _ _ b,
+      differs _ _ c,
+      differs _ _ e,
+      differs _ _ f,
+      differs _ _ g,
+      differs _ _ h,
+      differs _ _ i,
+      differs _ _ j,
+      differs _ _ k,
+      differs _ _ l,
+      differs _ _ m,
+    ) refl

@@ -22,7 +22,9 @@ fn exported(rt: HostRuntime) -> Result<(), Fail> {
     let part = &notice.parts()[0];
     assert!(rt; part.range.first().write() == *b"07000000000020");
     assert!(rt; part.range.last().write() == *b"07000000000029");
-    assert!(rt; part.lot.site().text() == "North field" && part.lot.capacity_w().get() == 2_000_000);
+    assert!(rt;
+        part.lot.site().text() == "North field" && part.lot.capacity_w().get() == 2_000_000
+    );
     let text = write(rt.alloc(), &notice)?;
     assert!(rt; text.as_slice() == NOTICE.as_bytes());
     let value = Value::from_slice(rt.alloc(), NOTICE.as_bytes())?;
@@ -41,16 +43,36 @@ fn fault_with(alloc: Global, old: &str, new: &str) -> Result<Option<NoticeFault>
 fn changed(rt: HostRuntime) -> Result<(), Fail> {
     let changes = [
         ("\"account\":5", "\"account\": 5", NoticeFault::Canonical),
-        ("\"account\":5", "\"account\":4,\"account\":5", NoticeFault::Canonical),
-        ("{\"account\":5,\"addressee\":9", "{\"addressee\":9,\"account\":5", NoticeFault::Canonical),
+        (
+            "\"account\":5",
+            "\"account\":4,\"account\":5",
+            NoticeFault::Canonical,
+        ),
+        (
+            "{\"account\":5,\"addressee\":9",
+            "{\"addressee\":9,\"account\":5",
+            NoticeFault::Canonical,
+        ),
         ("North field", "North\\u0020field", NoticeFault::Canonical),
         ("\"sender\":7,", "", NoticeFault::Shape),
         ("\"version\":1", "\"version\":\"1\"", NoticeFault::Shape),
         ("\"version\":1", "\"version\":1.0", NoticeFault::Shape),
-        ("\"version\":1", "\"extra\":0,\"version\":1", NoticeFault::Shape),
+        (
+            "\"version\":1",
+            "\"extra\":0,\"version\":1",
+            NoticeFault::Shape,
+        ),
         ("\"lot\":", "\"extra\":0,\"lot\":", NoticeFault::Shape),
-        ("\"capacity_w\":2000000", "\"capacity_w\":0,\"carrier\":\"gas\"", NoticeFault::Shape),
-        ("\"sender\":7", "\"sender\":0,\"Sender\":7", NoticeFault::Shape),
+        (
+            "\"capacity_w\":2000000",
+            "\"capacity_w\":0,\"carrier\":\"gas\"",
+            NoticeFault::Shape,
+        ),
+        (
+            "\"sender\":7",
+            "\"sender\":0,\"Sender\":7",
+            NoticeFault::Shape,
+        ),
         ("2000000", "0", NoticeFault::Field),
         ("\"version\":1", "\"version\":2", NoticeFault::Field),
         ("\"sender\":7", "\"sender\":9", NoticeFault::Field),
@@ -62,7 +84,8 @@ fn changed(rt: HostRuntime) -> Result<(), Fail> {
     for (old, new, wanted) in changes {
         assert!(rt; fault_with(rt.alloc(), old, new)? == Some(wanted));
     }
-    let none = "{\"account\":5,\"addressee\":9,\"number\":1,\"parts\":[],\"sender\":7,\"version\":1}";
+    let none =
+        "{\"account\":5,\"addressee\":9,\"number\":1,\"parts\":[],\"sender\":7,\"version\":1}";
     assert!(rt; read(rt.alloc(), none.as_bytes()).err() == Some(NoticeFault::Field));
     assert!(rt; read(rt.alloc(), b"[]").err() == Some(NoticeFault::Shape));
     Ok(())

@@ -8,7 +8,8 @@ use std::alloc::Global;
 use std::test::Fail;
 
 /// The declaration of January.
-const JANUARY: &str = "{\"aux_wh\":34567890,\"command\":\"declare\",\"device\":\"500000000000000012\",\
+const JANUARY: &str =
+    "{\"aux_wh\":34567890,\"command\":\"declare\",\"device\":\"500000000000000012\",\
     \"first_day\":\"2025-01-01\",\"gross_wh\":1234567890,\"key\":\"d1\",\"last_day\":\"2025-01-31\"}";
 
 fn read(alloc: Global, body: &[u8]) -> Result<Result<Request, BodyFault>, Fail> {
@@ -130,7 +131,8 @@ fn fields(rt: HostRuntime) -> Result<(), Fail> {
     for body in bodies {
         assert!(rt; fault(rt.alloc(), body.as_bytes())? == Some(BodyFault::Field));
     }
-    let twice = "{\"account\":0,\"account\":1,\"command\":\"advance\",\"command\":\"close_account\",\"key\":\"k\"}";
+    let twice =
+        "{\"account\":0,\"account\":1,\"command\":\"advance\",\"command\":\"close_account\",\"key\":\"k\"}";
     assert!(rt; fault(rt.alloc(), twice.as_bytes())? == None);
     Ok(())
 }

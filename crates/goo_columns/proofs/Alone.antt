@@ -9,7 +9,7 @@ use Rattle.goo_columns.specs.Columns.{registry_schema, registry_tables}
 use Rattle.goo_columns.specs.Rows.{Tables, Meta, meta_row, kept_key, Kept, holder_row, Holder, account_row, account_key, Account, device_row, Device, declaration_row, declaration_key, Declaration, lot_row, lot_key, Lot, piece_row, piece_key, peer_row, receipt_row, Receipt, cancellation_row, cancellation_key, Cancellation, withdrawal_row, withdrawal_key, Withdrawal, notice_out_row, notice_out_key, NoticeOut, notice_in_row, NoticeIn}
 use Rattle.goo_columns.specs.declared.piece.PieceRow.{PieceRow}
 use Rattle.goo_columns.specs.declared.peer.PeerRow.{PeerRow}
-use Rattle.goo_columns.specs.Stands.{Stands, Keeps}
+use Rattle.goo_columns.specs.Stands.{Stands, Keeps, IsBare}
 
 -- each table but the one in this tree has the rows that it had
 abbrev pub IsAlone : ℕ → Trees → Trees → Type 0
@@ -252,3 +252,23 @@ module _ (old new : Database) (t : Tables) (it : Stands old t) (schema : new.sch
     notices_out = same_rows (others.1.1.1.1.1.1.1.1.1.1.1.0 (λ e. omega (arith, e))) it.notices_out;
     notices_in = is;
   }
+
+-- the first row of bare tables
+pub begun_stands : (old new : Database) → IsBare old → new.schema ≡ registry_schema → IsAlone 0 old.trees new.trees → (m : Meta) → new.trees 0 ≡ meta_row m ∷ []
+    → Stands new (record { meta = m; holders = []; accounts = []; devices = []; declarations = []; lots = []; pieces = []; peers = []; receipts = []; cancellations = []; withdrawals = []; notices_out = []; notices_in = [] })
+begun_stands old new it schema others m is = record {
+  schema = schema;
+  meta = is;
+  holders = record { are = others.1.0 (λ e. omega (arith, e)) ∙ it.holders; rise = tt };
+  accounts = record { are = others.1.1.0 (λ e. omega (arith, e)) ∙ it.accounts; rise = tt };
+  devices = record { are = others.1.1.1.0 (λ e. omega (arith, e)) ∙ it.devices; rise = tt };
+  declarations = record { are = others.1.1.1.1.0 (λ e. omega (arith, e)) ∙ it.declarations; rise = tt };
+  lots = record { are = others.1.1.1.1.1.0 (λ e. omega (arith, e)) ∙ it.lots; rise = tt };
+  pieces = record { are = others.1.1.1.1.1.1.0 (λ e. omega (arith, e)) ∙ it.pieces; rise = tt };
+  peers = record { are = others.1.1.1.1.1.1.1.0 (λ e. omega (arith, e)) ∙ it.peers; rise = tt };
+  receipts = record { are = others.1.1.1.1.1.1.1.1.0 (λ e. omega (arith, e)) ∙ it.receipts; rise = tt };
+  cancellations = record { are = others.1.1.1.1.1.1.1.1.1.0 (λ e. omega (arith, e)) ∙ it.cancellations; rise = tt };
+  withdrawals = record { are = others.1.1.1.1.1.1.1.1.1.1.0 (λ e. omega (arith, e)) ∙ it.withdrawals; rise = tt };
+  notices_out = record { are = others.1.1.1.1.1.1.1.1.1.1.1.0 (λ e. omega (arith, e)) ∙ it.notices_out; rise = tt };
+  notices_in = record { are = others.1.1.1.1.1.1.1.1.1.1.1.1.0 (λ e. omega (arith, e)) ∙ it.notices_in; rise = tt };
+}

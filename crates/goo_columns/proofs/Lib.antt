@@ -9,3 +9,6 @@ pub mod Committed
 pub mod Decoded
 pub mod Alone
 pub mod Same
+pub mod Updating
+pub mod Joining
+pub mod Unique

@@ -3,7 +3,7 @@ use Rattle.std.proofs.Common.{◌≡◌, ℕ, pos, List, string_bytes, Option, S
 use Rattle.sqlite.specs.declared.types.Value.TheVariants.{Int, Text}
 use Rattle.sqlite_typed.specs.Columns.{or_null}
 use Rattle.goo_columns.specs.Rows.{Plant, plant_columns, plant_in, Meta, meta_columns, meta_in, holder_columns, holder_in, Holder, account_columns, account_in, Account, device_columns, device_in, Device, declaration_columns, declaration_in, Declaration, lot_columns, lot_in, Lot, piece_columns, peer_columns, receipt_columns, receipt_in, Receipt, cancellation_columns, cancellation_in, Cancellation, withdrawal_columns, withdrawal_in, Withdrawal, notice_out_columns, notice_out_in, NoticeOut, notice_in_columns, notice_in_in, NoticeIn}
-use Rattle.goo_columns.specs.Reads.{plant_reads, meta_reads, holder_reads, account_reads, device_reads, declaration_reads, lot_reads, piece_reads, peer_reads, receipt_reads, cancellation_reads, withdrawal_reads, notice_out_reads, notice_in_reads}
+use Rattle.goo_columns.specs.Reads.{joined_reads, plant_reads, meta_reads, holder_reads, account_reads, device_reads, declaration_reads, lot_reads, piece_reads, peer_reads, receipt_reads, cancellation_reads, withdrawal_reads, notice_out_reads, notice_in_reads}
 use Rattle.goo_columns.specs.declared.plant.PlantRow.{PlantRow}
 use Rattle.goo_columns.specs.declared.meta.MetaRow.{MetaRow}
 use Rattle.goo_columns.specs.declared.holder.HolderRow.{HolderRow}
@@ -18,6 +18,8 @@ use Rattle.goo_columns.specs.declared.cancellation.CancellationRow.{Cancellation
 use Rattle.goo_columns.specs.declared.withdrawal.WithdrawalRow.{WithdrawalRow}
 use Rattle.goo_columns.specs.declared.notice_out.NoticeOutRow.{NoticeOutRow}
 use Rattle.goo_columns.specs.declared.notice_in.NoticeInRow.{NoticeInRow}
+use Rattle.goo_columns.specs.declared.joined.JoinedRow.{JoinedRow}
+use Rattle.goo_columns.specs.Beside.{joined_in, joined_columns}
 
 number_same : {a b : ℕ} → Int (pos a) ≡ Int (pos b) → b ≡ a
 number_same is = cc
@@ -72,3 +74,6 @@ notice_out_same y x reads = λ i. record { number = number_same reads.0 i; accou
 
 pub notice_in_same : (y : NoticeIn) (x : NoticeInRow) → notice_in_reads (notice_in_columns y) x → notice_in_in x ≡ y
 notice_in_same y x reads = λ i. record { sender = number_same reads.0 i; number = number_same reads.1 i; body = sym reads.2 i }
+
+pub joined_same : (a : PieceRow × Lot) (x : JoinedRow) → joined_reads (joined_columns a) x → joined_in x ≡ a
+joined_same a x reads = λ i. (piece_same a.0 x.piece reads.0 i, lot_same a.1 x.lot reads.1 i)

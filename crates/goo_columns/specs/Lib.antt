@@ -3,3 +3,5 @@ pub mod Rows
 pub mod Reads
 pub mod Stands
 pub mod Asked
+pub mod Beside
+pub mod Once

@@ -1,2 +1,13 @@
 pub mod Looking
 pub mod Appraising
+pub mod Changing
+pub mod Rulings
+pub mod Transferring
+pub mod Joining
+pub mod Walking
+pub mod Cancelling
+pub mod Issuing
+pub mod Numbering
+pub mod Closing
+pub mod Exporting
+pub mod Expiring

@@ -1,11 +1,15 @@
--- What follows from a look-up that was answered.
-use Rattle.std.proofs.Common.{◌≡◌, Ok}
-use Rattle.goo_shelf.specs.Shelf.{Moment, Looks}
+-- What follows from look-ups, one after another.
+use Rattle.std.proofs.Common.{◌≡◌, ◌≤◌, ◌∙◌, arith, List, Result, Ok, Err, IfOk, IfErr, subst, sym}
+use Rattle.goo_types.specs.declared.fault.Fault.{Fault}
+use Rattle.goo_types.specs.declared.fault.Fault.TheVariants.{Memory}
+use Rattle.goo_types.specs.declared.piece.Piece.{Piece}
+use Rattle.goo_spec.specs.State.{State}
+use Rattle.goo_shelf.specs.Shelf.{Moment, Looks, IsTold, IsReady, IsSafe}
 
 -- an answer that follows from the one found
-pub looked : {T U : Type 0} (a b : Moment) (x : T) (y : U) (first : T → Type 0) (right : U → Type 0) → Looks a b (Ok x) first → (first x → right y) → Looks a b (Ok y) right
+pub looked : {T U : Type 0} (a b : Moment) (x : T) (y : U) (first : T → Type 0) (right : U → Type 0) → Looks a b (Ok x) first → (a.doubts ≡ 0 → first x → right y) → Looks a b (Ok y) right
 looked a b x y first right look so = record {
-  found = λ none. so (look.found none);
+  found = λ none. so (look.doubted none) (look.found none);
   same = look.same;
   rows_same = look.rows_same;
   doubted = look.doubted;
@@ -15,3 +19,51 @@ looked a b x y first right look so = record {
   works = look.works;
   crash = look.crash;
 }
+
+-- the same for a call that can only fail for want of memory
+pub looked_or_full : {T U : Type 0} (a b : Moment) (x : T) (r : Result U Fault) (first : T → Type 0) (made right : U → Type 0) → Looks a b (Ok x) first
+    → IfErr r (λ fault. fault ≡ Memory) → IfOk r made → (a.doubts ≡ 0 → first x → (y : U) → made y → right y) → Looks a b r right
+looked_or_full a b x (Ok y) first made right look memory is so = looked a b x y first right look (λ none found. so none found y is)
+looked_or_full {T} {U} a b x (Err e) first made right look memory is so = record {
+  found = λ none. tt;
+  same = look.same;
+  rows_same = look.rows_same;
+  doubted = look.doubted;
+  lied = look.lied;
+  kept = look.kept;
+  told = subst (λ f. IsTold {T = U} (Err f) b.refusals) (sym memory) look.told;
+  works = tt;
+  crash = look.crash;
+}
+
+-- a look-up after one that was answered
+pub looked_then : {T U : Type 0} (a b c : Moment) (x : T) (r : Result U Fault) (first : T → Type 0) (second : State → List Piece → U → Type 0) → Looks a b (Ok x) first → Looks b c r (second b.state b.rows)
+    → Looks a c r (λ y. first x × second a.state a.rows y)
+looked_then a b c x (Ok y) first second one two = record {
+  found = λ none.
+      let mid = two.doubted none in
+      (one.found mid, subst (λ s. second s a.rows y) (one.same mid) (subst (λ rows. second b.state rows y) (one.rows_same mid) (two.found none)));
+  same = λ none. two.same none ∙ one.same (two.doubted none);
+  rows_same = λ none. two.rows_same none ∙ one.rows_same (two.doubted none);
+  doubted = λ none. one.doubted (two.doubted none);
+  lied = λ none. one.lied (two.lied none);
+  kept = omega (arith, one.kept, two.kept);
+  told = two.told;
+  works = two.works;
+  crash = λ late none. let well = one.works (two.lied late) in subst (IsSafe c) (one.same well) (two.crash late well);
+}
+looked_then a b c x (Err e) first second one two = record {
+  found = λ none. tt;
+  same = λ none. two.same none ∙ one.same (two.doubted none);
+  rows_same = λ none. two.rows_same none ∙ one.rows_same (two.doubted none);
+  doubted = λ none. one.doubted (two.doubted none);
+  lied = λ none. one.lied (two.lied none);
+  kept = omega (arith, one.kept, two.kept);
+  told = two.told;
+  works = two.works;
+  crash = λ late none. let well = one.works (two.lied late) in subst (IsSafe c) (one.same well) (two.crash late well);
+}
+
+-- a shelf whose last call was answered is ready for the next
+pub ready : {T : Type 0} (a b : Moment) (x : T) (first : T → Type 0) → Looks a b (Ok x) first → (b.doubts ≡ 0 → IsSafe b b.state) → IsReady b
+ready a b x first look settled = record { told = look.told; works = look.works; settled = settled }

@@ -8,6 +8,9 @@ use Rattle.goo_types.specs.declared.reply.Reply.{Reply}
 use Rattle.goo_types.specs.Day.{CalendarDay}
 use Rattle.goo_types.specs.declared.lot_fields.LotFields.{LotFields}
 use Rattle.goo_types.specs.declared.refusal.Refusal.TheVariants.{NotAllowed, UnknownDevice, PeriodOrder, Stale, AuxExceedsGross, OverCapacity, NumbersExhausted}
+use Rattle.goo_types.specs.declared.place.Place.TheVariants.{Held}
+use Rattle.goo_spec.specs.Lots.{Certificates}
+use Rattle.goo_spec.specs.Maps.{each, give_each}
 use Rattle.goo_spec.specs.Checks.{when, first_refusal, is_issuer}
 use Rattle.goo_spec.specs.Days.{is_over}
 use Rattle.goo_spec.specs.State.{State, Device, serials}
@@ -84,3 +87,13 @@ pub record IsStanding (s : State) (number : List ℕ) (standing : Standing) : Ty
 abbrev pub IsStandingIf : State → List ℕ → Option Standing → Type 0
 IsStandingIf s number None = get s.devices number ≡ None
 IsStandingIf s number (Some standing) = IsStanding s number standing
+
+-- the numbers of an issue, if there is one
+abbrev pub range_in : Option Issue → Option Numbers
+range_in None = None
+range_in (Some issue) = Some issue.range
+
+-- the certificates with those that are issued
+abbrev pub with_issued : Option Issue → Certificates → Certificates
+with_issued None at = at
+with_issued (Some issue) at = give_each (each issue.range) issue.lot (Held issue.account) at

@@ -1,3 +1,14 @@
 pub mod Meta
 pub mod Verdict
 pub mod Issue
+pub mod Ruling
+pub mod Changes
+pub mod Transfer
+pub mod Moves
+pub mod Parts
+pub mod Walk
+pub mod Cancel
+pub mod CloseAccount
+pub mod Trade
+pub mod Export
+pub mod Advance

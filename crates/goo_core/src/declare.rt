@@ -6,7 +6,10 @@ ghost use Rattle.goo_spec.specs.Checks.{first_refusal, when};
 ghost use Rattle.goo_spec.specs.Days.{is_before as before_test, are_in_one_month as one_month_test};
 ghost use Rattle.goo_spec.specs.State.{State, serials};
 ghost use Rattle.goo_spec.specs.Declare.{device_checks, earned, lot_of as lot_def, begins_too_early as early_test, most_energy as most};
+ghost use Rattle.goo_spec.specs.Declare.{declare_refusal, declare_reply, with_issue};
+ghost use Rattle.goo_rows.specs.Rows.{AreRowsOf};
 ghost use Rattle.goo_shelf.specs.Shelf.{Looks, IsReady};
+ghost use Rattle.goo_core.specs.Ruling.{IsRuling, plain_meaning};
 ghost use Rattle.goo_core.specs.Issue.{IsStandingIf, IsStanding, appraisal_of, appraisal_with, terms_of, lot_on, energy_checks};
 
 use goo_shelf::account::Account;
@@ -21,13 +24,14 @@ use goo_types::holder_code::HolderCode;
 use goo_types::lot::Lot;
 use goo_types::lot_fields::LotFields;
 use goo_types::refusal::Refusal;
-use goo_types::registry_code::RegistryCode;
+use std::alloc::Global;
 use goo_types::reply::Reply;
 
 use crate::callers::is_issuer;
 use crate::days::{is_before, is_over};
 use crate::own::{read_meta, Meta};
-use crate::issue::{issue_of, numbers_from, Appraisal, Terms};
+use crate::ruling::{Change, Ruling};
+use crate::issue::{issue_edits, issue_of, issued_range, numbers_from, Appraisal, Terms};
 
 /// What a declaration is judged by.
 #[derive(Clone, Copy)]
@@ -209,5 +213,33 @@ pub fn appraise<S: Shelf>(
     match read_standing(shelf, &declaration.device)? {
         Some(standing) => Ok(appraise_standing(declaration, &standing)),
         None => Ok(Appraisal::Fails(Refusal::UnknownDevice)),
+    }
+}
+
+/// What a declaration comes to.
+pub fn judge_declare<S: Shelf>(
+    alloc: Global,
+    shelf: &mut S,
+    caller: &HolderCode,
+    declaration: &Declare,
+) -> Result<Ruling, Fault>
+    requires ready { IsReady (S.seen shelf.old) }
+    requires rows { (S.seen shelf.old).doubts ≡ 0 → AreRowsOf (S.seen shelf.old).state.at (S.seen shelf.old).rows }
+    ensures { Looks (S.seen shelf.old) (S.seen shelf.new) result (IsRuling (plain_meaning (declare_refusal (S.seen shelf.old).state caller.now declaration.now) (declare_reply (S.seen shelf.old).state declaration.now) (with_issue (S.seen shelf.old).state declaration.now).at) (S.seen shelf.old).rows) }
+{
+    match appraise(shelf, caller, declaration)? {
+        Appraisal::Fails(refusal) => Ok(Ruling::Refused(refusal)),
+        Appraisal::Passes(terms) => {
+            let reply = Reply::Declared {
+                carry: terms.carry,
+                issued: issued_range(&terms.issue),
+            };
+            let edits = issue_edits(alloc, shelf, terms.issue)?;
+            Ok(Ruling::Passed(Change {
+                reply,
+                edits,
+                notice: None,
+            }))
+        }
     }
 }

@@ -3,14 +3,24 @@
 ghost use Rattle.std.specs.Prelude.{◌≡◌, ◌≤◌, ◌+◌, ◌*◌, ◌-◌, Some};
 ghost use Rattle.std.specs.Int.{IsInRange};
 ghost use Rattle.goo_spec.specs.Declare.{range_of};
-ghost use Rattle.goo_core.specs.Issue.{issue_with};
+ghost use Rattle.goo_core.specs.Issue.{issue_with, range_in, with_issued};
+ghost use Rattle.goo_rows.specs.Rows.{AreRowsOf};
+ghost use Rattle.goo_shelf.specs.Shelf.{Looks, IsReady};
+ghost use Rattle.goo_core.specs.Changes.{IsTurnedInTurn};
 
+use goo_ranges::{Book, Edit};
+use goo_shelf::shelf::Shelf;
 use goo_types::account_no::AccountNo;
+use goo_types::fault::Fault;
 use goo_types::lot::Lot;
 use goo_types::number::Number;
+use goo_types::place::Place;
 use goo_types::range::Range;
 use goo_types::registry_code::RegistryCode;
 use goo_types::refusal::Refusal;
+use std::alloc::Global;
+
+use crate::change::add_met;
 
 /// Certificates that are issued to an account.
 #[derive(Clone, Copy)]
@@ -67,4 +77,32 @@ pub fn issue_of(range: Option<Range>, lot: &Lot, account: AccountNo) -> Option<I
         }),
         None => None,
     }
+}
+
+/// The numbers of an issue, if there is one.
+pub fn issued_range(issue: &Option<Issue>) -> Option<Range>
+    ensures { result ≡ range_in issue.now }
+{
+    match issue {
+        Some(issue) => Some(issue.range),
+        None => None,
+    }
+}
+
+/// The edits that make an issue, if there is one.
+pub fn issue_edits<S: Shelf>(
+    alloc: Global,
+    shelf: &mut S,
+    issue: Option<Issue>,
+) -> Result<Vec<Edit>, Fault>
+    requires ready { IsReady (S.seen shelf.old) }
+    requires rows { (S.seen shelf.old).doubts ≡ 0 → AreRowsOf (S.seen shelf.old).state.at (S.seen shelf.old).rows }
+    ensures { Looks (S.seen shelf.old) (S.seen shelf.new) result (λ edits. IsTurnedInTurn (with_issued issue (S.seen shelf.old).state.at) (S.seen shelf.old).rows edits.items) }
+{
+    let Some(issue) = issue else {
+        return Ok(Vec::new(alloc));
+    };
+    let met = shelf.meeting(alloc, issue.range)?;
+    let book = Book::of_rows(met);
+    add_met(alloc, book, issue.range, issue.lot, Place::Held(issue.account))
 }

@@ -3,6 +3,7 @@ use Rattle.std.specs.Prelude.{◌≡◌, ℕ, List, Result, OnOk, OnErr, IfErr}
 use Rattle.std.specs.Ordering.{nat_cmp}
 use Rattle.goo_types.specs.declared.fault.Fault.{Fault}
 use Rattle.goo_types.specs.declared.fault.Fault.TheVariants.{Memory}
+use Rattle.goo_spec.specs.Lots.{Certificates}
 use Rattle.goo_spec.specs.State.{State, text_cmp, receipt_cmp, notice_cmp}
 use Rattle.goo_list.specs.Maps.{map_of}
 use Rattle.goo_list.specs.Rows.{certificates_of}
@@ -31,6 +32,10 @@ state_of s = record {
   cancellations = map_of nat_cmp s.cancellations;
   withdrawals = map_of nat_cmp s.withdrawals;
 }
+
+-- a state with these certificates in place of its own
+abbrev pub beside : Certificates → State → State
+beside at s = record s { at = at }
 
 -- a change of all but the rows: made whole, or not at all for want of memory
 pub record Changes (old new : ListShelf) (result : Result (Unit {0}) Fault) (after : State) : Type 0 where

@@ -1,11 +1,18 @@
 //! A registry's state in plain memory.
 #![tactic(auto)]
 
+mod acting;
+mod changing;
+mod committing;
+mod issuing;
 mod kept;
 pub mod list_shelf;
 mod lot_key;
+mod lots;
 mod map_key;
 mod maps;
+mod next_numbers;
+mod opening;
 mod production;
 mod row_edits;
 mod rows;

@@ -1,9 +1,9 @@
 //! Trees of the library as finite maps.
 ghost use Rattle.std.specs.Prelude.{◌≡◌, IfOk, IfErr, IfSome, OnOk, OnErr, IsTrue, IsSome, OnSome};
-ghost use Rattle.std.specs.FinMap.{get, contains_key, insert, empty};
+ghost use Rattle.std.specs.FinMap.{FinMap, get, contains_key, insert, empty};
 ghost use Rattle.std.specs.Option.{option_copied};
 ghost use Rattle.goo_types.specs.declared.fault.Fault.TheVariants.{Memory};
-ghost use Rattle.goo_list.specs.Maps.{map_of, set_back};
+ghost use Rattle.goo_list.specs.Maps.{map_of};
 
 use goo_types::fault::Fault;
 use std::alloc::Global;
@@ -29,6 +29,7 @@ pub fn find<'m, K: MapKey, V>(map: &'m BTreeMap<K, V>, key: &K) -> Option<&'m V>
 pub fn put<K: MapKey, V: Drop>(map: &mut BTreeMap<K, V>, key: K, value: V) -> Result<Option<V>, Fault>
     ensures before { IfOk result (λ before. before ≡ get (map_of K.cmp map.old) key) }
     ensures done { OnOk result (map_of K.cmp map.new ≡ insert (map_of K.cmp map.old) key value) }
+    ensures there { OnOk result (IsTrue (contains_key (map_of K.cmp map.new) key)) }
     ensures undone { OnErr result (map_of K.cmp map.new ≡ map_of K.cmp map.old) }
     ensures memory { IfErr result (λ fault. fault ≡ Memory) }
 {
@@ -38,10 +39,10 @@ pub fn put<K: MapKey, V: Drop>(map: &mut BTreeMap<K, V>, key: K, value: V) -> Re
     }
 }
 
-/// Puts back what stood under a key before the last value was put there.
+/// Puts back what stood under a key before a value was put there.
 pub fn put_back<K: MapKey, V: Drop>(map: &mut BTreeMap<K, V>, key: K, before: Option<V>)
     requires { IsTrue (contains_key (map_of K.cmp map.old) key) }
-    ensures { map_of K.cmp map.new ≡ set_back (map_of K.cmp map.old) key before }
+    ensures { (m : FinMap K.cmp V) (value : V) → map_of K.cmp map.old ≡ insert m key value → before ≡ get m key → map_of K.cmp map.new ≡ m }
 {
     match before {
         Some(value) => {

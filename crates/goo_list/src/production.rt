@@ -17,7 +17,7 @@ use std::marker::Model;
 use crate::maps::{empty_map, find, put};
 
 /// The watt hours of a certificate.
-const CERTIFICATE: u64 = 1_000_000;
+pub const CERTIFICATE: u64 = 1_000_000;
 
 /// What a device declared until now.
 #[derive(Clone, Copy)]

@@ -7,7 +7,7 @@ use crate::reply::push_reply;
 use arrayvec::ArrayString;
 use goo_types::outcome::Outcome;
 
-/// The text of an outcome, which takes no memory.
+/// The text of an outcome, without a line feed. It takes no memory.
 pub fn outcome_text(outcome: Outcome) -> ArrayString<ROOM>
     ensures { result.bytes ≡ outcome_text outcome }
 {

@@ -8,8 +8,10 @@ use Rattle.goo_types.specs.declared.piece.Piece.{Piece}
 use Rattle.goo_types.specs.Piece.{Label, label_of, covers, at_of, IsForward, IsRising, IsRisingFrom}
 use Rattle.goo_ranges.specs.Walk.{end_of}
 use Rattle.goo_ranges.specs.Joining.{IsJoining}
-use Rattle.goo_ranges.specs.Touching.{IsTouched}
-use Rattle.goo_ranges.specs.Change.{inside, kept, set_to, IsPartOf, IsPart, IsKept, IsSet}
+use Rattle.goo_ranges.specs.Touching.{IsAround}
+use Rattle.std.specs.List.{count_by}
+use Rattle.std.proofs.lemmas.List.Sums.{sum_by-append}
+use Rattle.goo_ranges.specs.Change.{inside, meets, one_if, kept, set_to, IsPartOf, IsPart, IsKept, IsSet}
 use Rattle.goo_types.specs.Number.{code_of}
 use Rattle.goo_ranges.proofs.Covers.{covers-inside, covers-below, covers-above, or_else, at_of-append}
 use Rattle.goo_ranges.proofs.Changing.{or_else-none, end_of-mono, part-inside, part-below, part-above, part-rising, part-end}
@@ -17,13 +19,13 @@ use Rattle.goo_ranges.proofs.Rising.{end_of-append, end_of-low, rising-weaken, r
 use Rattle.goo_ranges.proofs.Touching.{in-three}
 use Rattle.goo_spec.specs.Runs.{IsApart}
 use Rattle.goo_ranges.proofs.Joining.{joining-append, joining-prepend}
-use Rattle.goo_ranges.proofs.Splicing.{spliced-apart-by}
+use Rattle.goo_ranges.proofs.Splicing.{spliced-apart-joined}
 
 pub kept-none : (low high n : ℕ) → kept low high n None ≡ None
 kept-none low high n = elim (inside low high n) as (λ b. cond {A = Option Label} b None None ≡ None) [ true ↦ refl | false ↦ refl ]
 
 pub kept-nil : (low high : ℕ) → IsKept low high [] []
-kept-nil low high = record { same = λ base r n. sym (kept-none low high n); rising = λ base r. tt; within = λ base r. omega arith }
+kept-nil low high = record { same = λ base r n. sym (kept-none low high n); rising = λ base r. tt; within = λ base r. omega arith; few = omega arith }
 
 kept-piece : (low high : ℕ) (p : Piece) (o : Option Piece) (n : ℕ) → IsPart p low high p.place o → at_of (option_to_list o) n ≡ kept low high n (at_of (p ∷ []) n)
 kept-piece low high p o n is =
@@ -35,6 +37,15 @@ kept-piece low high p o n is =
         (λ (to : n ≤ high). let e = part-inside p low high p.place o n is from to in let here : inside low high n ≡ true = grind (arith, nat_tests) in rw (e, here) refl)
         (cases_lt high n))
     (cases_lt n low)
+
+part-few : (low high : ℕ) (p : Piece) (o : Option Piece) → IsPart p low high p.place o → length (option_to_list o) ≤ one_if (meets low high p)
+part-few low high p None is = elim (meets low high p) as (λ b. 0 ≤ one_if b) [ true ↦ omega arith | false ↦ omega arith ]
+part-few low high p (Some q) is =
+    let starts : q.first ≡ max p.first low = is.first in
+    let ends : q.last ≡ min p.last high = is.last in
+    let forward : q.first ≤ q.last = is.forward.0 in
+    let e : meets low high p ≡ true = grind (arith, nat_tests) in
+    rw e (omega arith)
 
 -- one more piece, cut to the bounds
 pub kept-more : (low high : ℕ) (xs us : List Piece) (p : Piece) (o : Option Piece) → IsKept low high xs us → IsPart p low high p.place o → IsKept low high (xs ++ p ∷ []) (us ++ option_to_list o)
@@ -67,6 +78,12 @@ kept-more low high xs us p o a is = record {
     let end = a.within base front in
     let last = part-end p low high p.place o (end_of (max base low) us) is in
     rw (end_of-append, end_of-append) (omega arith);
+  few =
+    let part = part-few low high p o is in
+    let front : length us ≤ count_by (meets low high) xs = a.few in
+    let counted = sum_by-append (λ x. one_if (meets low high x)) xs (p ∷ []) in
+    let size = length-append us (option_to_list o) in
+    omega arith;
 }
 
 pub kept-joining : (low high : ℕ) (old new short : List Piece) → IsKept low high old new → IsJoining new short → IsKept low high old short
@@ -74,6 +91,7 @@ kept-joining low high old new short a j = record {
   same = λ base r n. j.same (max base low) (a.rising base r) n ∙ a.same base r n;
   rising = λ base r. j.rising (max base low) (a.rising base r);
   within = λ base r. let e = j.ends (max base low) in let w = a.within base r in omega arith;
+  few = let one : length new ≤ count_by (meets low high) old = a.few in let two : length short ≤ length new = j.few in omega arith;
 }
 
 pub rising-max : (a b : ℕ) (ps : List Piece) → IsRisingFrom a ps → IsRisingFrom b ps → IsRisingFrom (max a b) ps
@@ -81,7 +99,7 @@ rising-max a b [] r s = tt
 rising-max a b (p ∷ ps) r s = let one : a ≤ p.first = r.0 in let two : b ≤ p.first = s.0 in (omega arith, r.1, r.2)
 
 -- a book's block with a range set, as a whole
-module _ (ps : List Piece) (first last from to : ℕ) (label : Label) (out : List Piece) (r : IsRising ps) (one_code : code_of first ≡ code_of last) (up : first ≤ last) (near : IsTouched ps first last from to) (set : IsSet first last label (take (to - from) (drop from ps)) out) where
+module _ (ps : List Piece) (first last from to : ℕ) (label : Label) (out : List Piece) (r : IsRising ps) (one_code : code_of first ≡ code_of last) (up : first ≤ last) (near : IsAround ps first last from to) (set : IsSet first last label (take (to - from) (drop from ps)) out) where
   three : IsRising (take from ps ++ (take (to - from) (drop from ps) ++ drop to ps))
   three = rw (in-three ps from to near.order) r
 
@@ -97,7 +115,8 @@ module _ (ps : List Piece) (first last from to : ℕ) (label : Label) (out : Lis
   pub set-rising : IsRising (take from ps ++ (out ++ drop to ps))
   set-rising =
       let b = end_of 0 (take from ps) in
-      let low : b < first = near.below in
+      let low : b ≤ first = near.below in
+      let some : 1 ≤ first = near.some in
       let old = take (to - from) (drop from ps) in
       let begins : set.middle.first ≡ first = set.begins in
       let stops : set.middle.last ≡ last = set.stops in
@@ -107,13 +126,13 @@ module _ (ps : List Piece) (first last from to : ℕ) (label : Label) (out : Lis
       let right = set.after.rising b middle_rising in
       let right_end = set.after.within b middle_rising in
       let mono_right = end_of-mono (set.middle.last + 1) (max b (last + 1)) set.right (omega arith) in
-      let after = rising-max (last + 2) (end_of b old) (drop to ps) near.above (rising-back b old (drop to ps) rest_rising) in
+      let after = rising-max (last + 1) (end_of b old) (drop to ps) near.above (rising-back b old (drop to ps) rest_rising) in
       let forward : IsForward set.middle = (omega arith, rw (begins, stops) one_code) in
       let block : IsRisingFrom b (set.left ++ set.middle ∷ (set.right ++ drop to ps)) =
           rising-append b set.left (set.middle ∷ (set.right ++ drop to ps)) (rising-weaken b (max b 0) set.left (omega arith) left)
               (omega arith, forward,
               rising-append (set.middle.last + 1) set.right (drop to ps) (rising-weaken (set.middle.last + 1) (max b (last + 1)) set.right (omega arith) right)
-                  (rising-weaken (end_of (set.middle.last + 1) set.right) (max (last + 2) (end_of b old)) (drop to ps) (omega arith) after))
+                  (rising-weaken (end_of (set.middle.last + 1) set.right) (max (last + 1) (end_of b old)) (drop to ps) (omega arith) after))
       in
       let e : out ++ drop to ps ≡ set.left ++ set.middle ∷ (set.right ++ drop to ps) = rw set.whole (append_assoc set.left (set.middle ∷ set.right) (drop to ps)) in
       rising-append 0 (take from ps) (out ++ drop to ps) before_rising (rw e block)
@@ -121,7 +140,8 @@ module _ (ps : List Piece) (first last from to : ℕ) (label : Label) (out : Lis
   pub set-same : (n : ℕ) → at_of (take from ps ++ (out ++ drop to ps)) n ≡ set_to first last label n (at_of ps n)
   set-same n =
       let b = end_of 0 (take from ps) in
-      let low : b < first = near.below in
+      let low : b ≤ first = near.below in
+      let some : 1 ≤ first = near.some in
       let old = take (to - from) (drop from ps) in
       let begins : set.middle.first ≡ first = set.begins in
       let stops : set.middle.last ≡ last = set.stops in
@@ -173,7 +193,7 @@ last-end low (q ∷ r ∷ ps) p h =
     last-end (q.last + 1) (r ∷ ps) p (rw f k)
 
 -- the same where the block is joined as well
-module _ (ps : List Piece) (first last from to : ℕ) (label : Label) (cut out : List Piece) (r : IsRising ps) (one_code : code_of first ≡ code_of last) (up : first ≤ last) (near : IsTouched ps first last from to) (set : IsSet first last label (take (to - from) (drop from ps)) cut) where
+module _ (ps : List Piece) (first last from to : ℕ) (label : Label) (cut out : List Piece) (r : IsRising ps) (one_code : code_of first ≡ code_of last) (up : first ≤ last) (near : IsAround ps first last from to) (set : IsSet first last label (take (to - from) (drop from ps)) cut) where
   pub cut-rising : IsRising cut
   cut-rising =
       let whole = set-rising ps first last from to label cut r one_code up near set in
@@ -190,5 +210,13 @@ module _ (ps : List Piece) (first last from to : ℕ) (label : Label) (cut out :
     pub added-same : (n : ℕ) → at_of (take from ps ++ (out ++ drop to ps)) n ≡ set_to first last label n (at_of ps n)
     added-same n = all-joined.same 0 (set-rising ps first last from to label cut r one_code up near set) n ∙ set-same ps first last from to label cut r one_code up near set n
 
-    pub added-apart : IsApart out → IsApart ps → IsApart (take from ps ++ (out ++ drop to ps))
-    added-apart apart a = spliced-apart-by ps first last from to out r near added-rising (λ n out_of_it. added-same n ∙ rw out_of_it refl) apart a
+    module _ (before : (front : List Piece) (q : Piece) → take from ps ≡ front ++ q ∷ [] → q.last + 1 ≡ first → label_of q ≡ label → at_of ps first ≡ Some label)
+        (after : (q : Piece) (back : List Piece) → drop to ps ≡ q ∷ back → last + 1 ≡ q.first → label_of q ≡ label → at_of ps last ≡ Some label) where
+      pub added-apart : IsApart out → IsApart ps → IsApart (take from ps ++ (out ++ drop to ps))
+      added-apart apart a = spliced-apart-joined ps first last from to label out r up near added-rising added-same before after apart a
+
+    pub added-few : (most : ℕ) → length set.left + (1 + length set.right) ≤ most → length out ≤ most
+    added-few most few =
+        let size : length cut ≡ length set.left + length (set.middle ∷ set.right) = rw set.whole (length-append set.left (set.middle ∷ set.right)) in
+        let short : length out ≤ length cut = joined.few in
+        omega arith

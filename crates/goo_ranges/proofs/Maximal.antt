@@ -17,7 +17,7 @@ from-low low (x ∷ front) q back r =
     let more = from-low (x.last + 1) front q back r.2 in
     omega arith
 
-forward-of : (low : ℕ) (front : List Piece) (q : Piece) (back : List Piece) → IsRisingFrom low (front ++ q ∷ back) → q.first ≤ q.last
+pub forward-of : (low : ℕ) (front : List Piece) (q : Piece) (back : List Piece) → IsRisingFrom low (front ++ q ∷ back) → q.first ≤ q.last
 forward-of low [] q back r = r.1.0
 forward-of low (x ∷ front) q back r = forward-of (x.last + 1) front q back r.2
 

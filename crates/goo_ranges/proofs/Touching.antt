@@ -72,7 +72,7 @@ near-between (p ∷ ps) first last (suc from) (suc to) up le f t =
     rw e (near-between ps first last from to (omega arith) (omega arith) (λ k d a b. f (suc k) d (omega arith) (omega arith)) (λ k d a b. t (suc k) d (omega arith) (omega arith)))
 
 -- a piece before `from` isn't one that `to` leaves behind
-in-order : (low : ℕ) (ps : List Piece) (first last from to : ℕ) → IsRisingFrom low ps → first ≤ last → from ≤ length ps → AllWithin (λ p. ltb (p.last + 1) first ≡ true) ps 0 from → AllWithin (λ p. leb p.first (last + 1) ≡ false) ps to (length ps) → from ≤ to
+in-order : (low : ℕ) (ps : List Piece) (first last from to : ℕ) → IsRisingFrom low ps → first ≤ last + 2 → from ≤ length ps → AllWithin (λ p. ltb (p.last + 1) first ≡ true) ps 0 from → AllWithin (λ p. leb p.first (last + 1) ≡ false) ps to (length ps) → from ≤ to
 in-order low ps first last zero to r up le f t = omega arith
 in-order low [] first last (suc from) to r up le f t = absurd (omega arith)
 in-order low (p ∷ ps) first last (suc from) zero r up le f t =
@@ -84,7 +84,7 @@ in-order low (p ∷ ps) first last (suc from) (suc to) r up le f t =
     let more = in-order (p.last + 1) ps first last from to r.2 up (omega arith) (λ k d a b. f (suc k) d (omega arith) (omega arith)) (λ k d a b. t (suc k) d (omega arith) (omega arith)) in
     omega arith
 
-pub touched-from_points : (ps : List Piece) (first last from to : ℕ) → IsRising ps → 1 ≤ first → first ≤ last → from ≤ length ps → to ≤ length ps → IsPartitionPoint (λ p. ltb (p.last + 1) first ≡ true) (λ p. ltb (p.last + 1) first ≡ false) ps from → IsPartitionPoint (λ p. leb p.first (last + 1) ≡ true) (λ p. leb p.first (last + 1) ≡ false) ps to → IsTouched ps first last from to
+pub touched-from_points : (ps : List Piece) (first last from to : ℕ) → IsRising ps → 1 ≤ first → first ≤ last + 2 → from ≤ length ps → to ≤ length ps → IsPartitionPoint (λ p. ltb (p.last + 1) first ≡ true) (λ p. ltb (p.last + 1) first ≡ false) ps from → IsPartitionPoint (λ p. leb p.first (last + 1) ≡ true) (λ p. leb p.first (last + 1) ≡ false) ps to → IsTouched ps first last from to
 touched-from_points ps first last from to r pos up lf lt f t =
     let order = in-order 0 ps first last from to r up lf f.0 t.1 in
     let e : last + 1 + 1 ≡ last + 2 = omega arith in

@@ -1,5 +1,5 @@
 -- What a change of a book does to each number, and which pieces it may touch.
-use Rattle.std.specs.Prelude.{◌≡◌, ℕ, ◌+◌, ◌-◌, ◌<◌, ◌≤◌, List, [], ◌∷◌, ◌++◌, length, map, Bool, nat_le, nat_lt, ◌&&◌, if◌then◌else◌, Option, Some, None, min, max, sum_by, MatchOption}
+use Rattle.std.specs.Prelude.{◌≡◌, ℕ, ◌+◌, ◌-◌, ◌<◌, ◌≤◌, List, [], ◌∷◌, ◌++◌, length, map, Bool, nat_le, nat_lt, ◌&&◌, if◌then◌else◌, Option, Some, None, min, max, sum_by, count_by, MatchOption}
 use Rattle.std.specs.Option.{option_map}
 use Rattle.goo_types.specs.declared.lot_fields.LotFields.{LotFields}
 use Rattle.goo_types.specs.declared.place.Place.{Place}
@@ -57,6 +57,7 @@ pub record IsKept (low high : ℕ) (old new : List Piece) : Type 0 where
   pub same : (base : ℕ) → IsRisingFrom base old → (n : ℕ) → at_of new n ≡ kept low high n (at_of old n)
   pub rising : (base : ℕ) → IsRisingFrom base old → IsRisingFrom (max base low) new
   pub within : (base : ℕ) → IsRisingFrom base old → end_of (max base low) new ≤ max (max base low) (min (end_of base old) (high + 1))
+  pub few : length new ≤ count_by (meets low high) old
 
 -- `new` is `old` with the numbers from `first` to `last` cut out, and one piece for them between
 pub record IsSet (first last : ℕ) (label : Label) (old new : List Piece) : Type 0 where

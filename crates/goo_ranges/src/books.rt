@@ -1,20 +1,16 @@
 //! A book: rising pieces with no number in common, seen as the map that they give.
 
-ghost use Rattle.std.specs.Prelude.{◌≡◌, ℕ, List, count_by, ◌+◌, ◌-◌, ◌<◌, ◌≤◌, ◌++◌, length, take, drop, map, OnOk, OnErr, find, is_some, suc, Bool, IfOk, IfErr};
+ghost use Rattle.std.specs.Prelude.{◌≡◌, List, ◌≤◌, length, find, is_some, suc, Bool, IfOk, IfErr};
 ghost use Rattle.goo_types.specs.declared.lot_fields.LotFields.{LotFields};
 ghost use Rattle.goo_types.specs.declared.piece.Piece.{Piece};
 ghost use Rattle.goo_types.specs.declared.place.Place.{Place};
 ghost use Rattle.goo_ranges.specs.BookFault.{IsLeastFault};
-ghost use Rattle.goo_ranges.specs.Change.{IsChanged, IsSet, moved, cuts, meets, set_to};
 ghost use Rattle.goo_types.specs.Number.{code_of};
 ghost use Rattle.goo_spec.specs.Maps.{each, least_absent, least_failing};
 ghost use Rattle.goo_ranges.specs.Walk.{span, IsRest};
 ghost use Rattle.goo_types.specs.Piece.{at_of, IsRising};
-ghost use Rattle.goo_ranges.specs.Edit.{IsExact};
-ghost use Rattle.goo_ranges.specs.Touching.{IsTouched};
-ghost use Rattle.goo_spec.specs.Runs.{AreRunsOf, Gives, IsApart};
+ghost use Rattle.goo_spec.specs.Runs.{AreRunsOf, Gives};
 
-use std::alloc::AllocError;
 use goo_types::fault::Fault;
 use goo_types::lot::Lot;
 use goo_types::number::Number;
@@ -23,9 +19,10 @@ use goo_types::place::Place;
 use goo_types::range::Range;
 use std::marker::Model;
 
-use crate::joined::{joined_pieces, moved_pieces, push_joined, set_pieces};
-use crate::edits::Edit;
 use crate::faults::BookFault;
+use crate::joined::push_joined;
+
+mod changes;
 
 /// Pieces that rise and have no number in common.
 #[derive(Drop)]
@@ -69,6 +66,13 @@ impl Book {
         ensures { result ≡ rows.items }
     {
         Book { pieces: rows }
+    }
+
+    /// Its pieces, rising.
+    pub fn pieces(&self) -> &[Piece]
+        ensures { result.now ≡ self.now }
+    {
+        &self.pieces
     }
 
     /// The pieces from the first one on that ends at the number or after it.
@@ -187,143 +191,5 @@ impl Book {
             push_joined(&mut runs, *piece)?;
         }
         Ok(runs)
-    }
-
-    /// The indices between which the pieces meet the range or are next to it.
-    fn touched(&self, first: Number, last: Number) -> (usize, usize)
-        requires { first ≤ last }
-        ensures { IsTouched self.now first last result.0 result.1 }
-    {
-        let first = first.get();
-        let last = last.get();
-        let from = self
-            .pieces
-            .partition_point(|piece| piece.last.get() + 1 < first);
-        let to = self
-            .pieces
-            .partition_point(|piece| piece.first.get() <= last + 1);
-        (from, to)
-    }
-
-    /// The pieces from the index `from` on and below `to`, with their numbers of the range at the place.
-    fn moved_between(
-        &self,
-        from: usize,
-        to: usize,
-        first: Number,
-        last: Number,
-        place: Place,
-    ) -> Result<Vec<Piece>, AllocError>
-        requires forward { first ≤ last }
-        requires order { from ≤ to }
-        requires bound { to ≤ length self.now }
-        ensures moved { IfOk result (λ out. IsChanged (moved first last place) (cuts first last) (take (to - from) (drop from self.now)) out.items) }
-        ensures apart { IfOk result (λ out. IsApart out.items) }
-        ensures rising { IsRising self.now }
-    {
-        let touched = &self.pieces[from..to];
-        moved_pieces(*self.pieces.allocator(), touched, first, last, &place)
-    }
-
-    /// Puts other pieces in the place of those from the index `from` on and below `to`.
-    fn replace(&mut self, from: usize, to: usize, insert: Vec<Piece>) -> Result<Edit, Fault>
-        requires order { from ≤ to }
-        requires bound { to ≤ length self.old }
-        requires rising { IsRising (take from self.old ++ (insert.items ++ drop to self.old)) }
-        ensures ok { OnOk result (self.new ≡ take from self.old ++ (insert.items ++ drop to self.old)) }
-        ensures inserted { IfOk result (λ edit. edit.insert.items ≡ insert.items) }
-        ensures deleted { IfOk result (λ edit. edit.delete.items ≡ map (λ p. p.first) (take (to - from) (drop from self.old))) }
-        ensures err { OnErr result (self.new ≡ self.old) }
-        ensures memory { IfErr result (λ fault. fault ≡ Fault.Memory) }
-    {
-        let alloc = *self.pieces.allocator();
-        let delete = self.pieces[from..to]
-            .iter()
-            .map(|piece| piece.first)
-            .collect(alloc)?;
-        let mut pieces = Vec::new(alloc);
-        pieces.extend_from_slice(&self.pieces[..from])?;
-        pieces.extend_from_slice(&insert)?;
-        pieces.extend_from_slice(&self.pieces[to..])?;
-        self.pieces = pieces;
-        Ok(Edit { delete, insert })
-    }
-
-    /// Sets the place of each number of the range that the book has. After an `Err` the book is unchanged.
-    pub fn reassign(&mut self, range: Range, place: Place) -> Result<Edit, Fault>
-        ensures map { OnOk result ((n : ℕ) → at_of self.new n ≡ moved range.first range.last place n (at_of self.old n)) }
-        ensures disjoint { OnOk result (IsRising self.new) }
-        ensures exact { IfOk result (IsExact self.old self.new) }
-        ensures maximal { OnOk result (IsApart self.old → IsApart self.new) }
-        ensures few { IfOk result (λ edit. let most = count_by (meets range.first range.last) self.old + 2 in (length edit.delete.items ≤ most) × (length edit.insert.items ≤ most)) }
-        ensures err { OnErr result (self.new ≡ self.old) }
-        ensures memory { IfErr result (λ fault. fault ≡ Fault.Memory) }
-    {
-        self.reassign_between(range.first(), range.last(), place)
-    }
-
-    /// Sets the place of each number from `first` to `last` that the book has. After an `Err` the book is unchanged.
-    fn reassign_between(&mut self, first: Number, last: Number, place: Place) -> Result<Edit, Fault>
-        requires forward { first ≤ last }
-        requires one_code { code_of first ≡ code_of last }
-        ensures map { OnOk result ((n : ℕ) → at_of self.new n ≡ moved first last place n (at_of self.old n)) }
-        ensures disjoint { OnOk result (IsRising self.new) }
-        ensures exact { IfOk result (IsExact self.old self.new) }
-        ensures maximal { OnOk result (IsApart self.old → IsApart self.new) }
-        ensures few { IfOk result (λ edit. let most = count_by (meets first last) self.old + 2 in (length edit.delete.items ≤ most) × (length edit.insert.items ≤ most)) }
-        ensures err { OnErr result (self.new ≡ self.old) }
-        ensures memory { IfErr result (λ fault. fault ≡ Fault.Memory) }
-    {
-        let (from, to) = self.touched(first, last);
-        let insert = self.moved_between(from, to, first, last, place)?;
-        self.replace(from, to, insert)
-    }
-
-    /// The pieces from the index `from` on and below `to`, with the numbers of the range at the lot and the place.
-    fn set_between(
-        &self,
-        from: usize,
-        to: usize,
-        first: Number,
-        last: Number,
-        lot: Lot,
-        place: Place,
-    ) -> Result<Vec<Piece>, AllocError>
-        requires order { from ≤ to }
-        requires bound { to ≤ length self.now }
-        ensures set { IfOk result (λ out. IsSet first last (lot, place) (take (to - from) (drop from self.now)) out.items) }
-        ensures rising { IsRising self.now }
-    {
-        let touched = &self.pieces[from..to];
-        set_pieces(*self.pieces.allocator(), touched, first, last, lot, place)
-    }
-
-    /// Sets the lot and the place of each number of the range. After an `Err` the book is unchanged.
-    pub fn add(&mut self, range: Range, lot: Lot, place: Place) -> Result<Edit, Fault>
-        ensures map { OnOk result ((n : ℕ) → at_of self.new n ≡ set_to range.first range.last (lot, place) n (at_of self.old n)) }
-        ensures disjoint { OnOk result (IsRising self.new) }
-        ensures exact { IfOk result (IsExact self.old self.new) }
-        ensures maximal { OnOk result (IsApart self.old → IsApart self.new) }
-        ensures err { OnErr result (self.new ≡ self.old) }
-        ensures memory { IfErr result (λ fault. fault ≡ Fault.Memory) }
-    {
-        self.add_between(range.first(), range.last(), lot, place)
-    }
-
-    /// Sets the lot and the place of each number from `first` to `last`. After an `Err` the book is unchanged.
-    fn add_between(&mut self, first: Number, last: Number, lot: Lot, place: Place) -> Result<Edit, Fault>
-        requires forward { first ≤ last }
-        requires one_code { code_of first ≡ code_of last }
-        ensures map { OnOk result ((n : ℕ) → at_of self.new n ≡ set_to first last (lot, place) n (at_of self.old n)) }
-        ensures disjoint { OnOk result (IsRising self.new) }
-        ensures exact { IfOk result (IsExact self.old self.new) }
-        ensures maximal { OnOk result (IsApart self.old → IsApart self.new) }
-        ensures err { OnErr result (self.new ≡ self.old) }
-        ensures memory { IfErr result (λ fault. fault ≡ Fault.Memory) }
-    {
-        let (from, to) = self.touched(first, last);
-        let cut = self.set_between(from, to, first, last, lot, place)?;
-        let insert = joined_pieces(*self.pieces.allocator(), &cut)?;
-        self.replace(from, to, insert)
     }
 }

@@ -1,10 +1,10 @@
 //! Lists of pieces in which neighbours of one lot and place are joined.
 
-ghost use Rattle.std.specs.Prelude.{◌+◌, ◌≤◌, [], ◌∷◌, ◌++◌, OnOk, IfOk};
+ghost use Rattle.std.specs.Prelude.{◌≡◌, ◌+◌, ◌≤◌, [], ◌∷◌, ◌++◌, length, take, drop, OnOk, OnErr, IfOk};
 ghost use Rattle.std.specs.Option.{option_to_list};
 ghost use Rattle.goo_ranges.specs.Change.{IsChanged, IsKept, IsSet, moved, cuts};
 ghost use Rattle.goo_ranges.specs.Joining.{IsJoining};
-ghost use Rattle.goo_types.specs.Piece.{IsRising};
+ghost use Rattle.goo_types.specs.Piece.{label_of, IsRising};
 ghost use Rattle.goo_spec.specs.Runs.{IsApart};
 ghost use Rattle.goo_ranges.specs.Walk.{end_of};
 
@@ -102,27 +102,21 @@ fn last_number(pieces: &[Piece], otherwise: u64) -> u64
     }
 }
 
-/// The pieces with the numbers of the range at the lot and the place.
+/// The pieces with one more in the place of its numbers.
 pub fn set_pieces(
     alloc: Global,
-    touched: &[Piece],
-    first: Number,
-    last: Number,
-    lot: Lot,
-    place: Place,
+    replaced: &[Piece],
+    new: &Piece,
 ) -> Result<Vec<Piece>, AllocError>
-    requires { IsRising touched.now }
-    ensures { IfOk result (λ out. IsSet first last (lot, place) touched.now out.items) }
+    requires { IsRising replaced.now }
+    ensures { IfOk result (λ out. IsSet new.now.first new.now.last (label_of new.now) replaced.now out.items) }
 {
-    let end = last_number(touched, last.get());
-    let mut out = kept_pieces(alloc, touched, 0, first.get() - 1)?;
-    let right = kept_pieces(alloc, touched, last.get() + 1, end)?;
-    out.push(Piece {
-        first,
-        last,
-        lot,
-        place,
-    })?;
+    let first = new.first.get();
+    let last = new.last.get();
+    let end = last_number(replaced, last);
+    let mut out = kept_pieces(alloc, replaced, 0, first - 1)?;
+    let right = kept_pieces(alloc, replaced, last + 1, end)?;
+    out.push(*new)?;
     out.extend_from_slice(&right)?;
     Ok(out)
 }
@@ -138,4 +132,21 @@ pub fn joined_pieces(alloc: Global, pieces: &[Piece]) -> Result<Vec<Piece>, Allo
         push_joined(&mut out, *piece)?;
     }
     Ok(out)
+}
+
+/// Puts other pieces in the place of those from the index `from` on and below `to`. What stands
+/// before stays where it is. After an error the pieces are unchanged.
+pub fn put_between(
+    pieces: &mut Vec<Piece>,
+    from: usize,
+    to: usize,
+    more: Vec<Piece>,
+) -> Result<(), AllocError>
+    requires order { from ≤ to }
+    requires bound { to ≤ length pieces.old.items }
+    ensures ok { OnOk result (pieces.new.items ≡ take from pieces.old.items ++ (more.items ++ drop to pieces.old.items)) }
+    ensures err { OnErr result (pieces.new.items ≡ pieces.old.items) }
+{
+    pieces.splice(from..to, more)?;
+    Ok(())
 }

@@ -6,6 +6,8 @@ mod faults;
 mod edits;
 mod joined;
 mod parts;
+#[cfg(test)]
+mod tests;
 
 pub use books::Book;
 pub use edits::Edit;

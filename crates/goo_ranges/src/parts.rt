@@ -1,5 +1,6 @@
-//! Parts of a piece.
+//! Parts of a piece, and equal pieces.
 
+ghost use Rattle.std.specs.Prelude.{◌≡◌, ◌↔◌, IsTrue};
 ghost use Rattle.goo_ranges.specs.Change.{IsPart};
 ghost use Rattle.goo_types.specs.Piece.{IsForward};
 
@@ -23,4 +24,11 @@ pub fn part(piece: &Piece, low: u64, high: u64, place: Place) -> Option<Piece>
         lot: piece.lot,
         place,
     })
+}
+
+/// Whether both have the same numbers, lot and place.
+pub fn is_same(one: &Piece, other: &Piece) -> bool
+    ensures { IsTrue result ↔ (one.now ≡ other.now) }
+{
+    one.first == other.first && one.last == other.last && one.has_label_of(other)
 }

@@ -67,13 +67,13 @@ unaged on current = same_map nat_cmp_total nat_cmp-IsAntisymmetric _ certificate
 map_january : get certificates ≡ after_january
 map_january = λ i n. at_january n i
 
-abbrev moves_on : ℕ → ℕ → ℕ → advance.Advance
+abbrev pub moves_on : ℕ → ℕ → ℕ → advance.Advance
 moves_on y m d = record { day = day y m d }
 
 abbrev sells : transfer.Transfer
 sells = record { giver = 1; taker = 2; range = numbers 2 2 }
 
-abbrev uses : cancel.Cancel
+abbrev pub uses : cancel.Cancel
 uses = record { account = 1; range = numbers 2 2; beneficiary = codes "Baker"; use_first = day 2025 1 1; use_last = day 2025 3 31 }
 
 -- a key that isn't January's
@@ -85,7 +85,7 @@ free_key caller key other =
 
 -- ---- the day after trade closed
 
-abbrev closed : State
+abbrev pub closed : State
 closed = record issued { today = day 2026 2 1; receipts = insert issued.receipts (issuer, codes "a1") (Some (Advance (moves_on 2026 2 1)), reply.Advanced 0) }
 
 passes_close : advance_refusal issued issuer (moves_on 2026 2 1) ≡ None

@@ -28,7 +28,7 @@ use Rattle.goo_spec.proofs.Fating.{fate_moved}
 use Rattle.goo_spec.proofs.ExampleRegistry.{day, sun, account_1, account_2}
 use Rattle.goo_spec.proofs.ExampleKeys.{sends, numbers, answers, january, january_issue, issued, certificates, after_january, at_january}
 
-abbrev lends : transfer.Transfer
+abbrev pub lends : transfer.Transfer
 lends = record { giver = 1; taker = 2; range = numbers 7 7 }
 
 abbrev cancels : cancel.Cancel
@@ -52,17 +52,17 @@ accepts_lending : outcome issued (sends sun (codes "t1") (Transfer lends)) ≡ A
 accepts_lending = rw (new_key, passes_lending, replies_lending) refl
 
 -- ..0007 is with account 2, the others with account 1
-split : Certificates
+pub split : Certificates
 split = place_each (λ lot place. Held 2) (each (numbers 7 7)) certificates
 
-abbrev after_lending : ℕ → Option (LotFields × Place)
+abbrev pub after_lending : ℕ → Option (LotFields × Place)
 after_lending n = moved_one (numbers 7 7) (λ lot place. Held 2) n (after_january n)
 
-map_split : get split ≡ after_lending
+pub map_split : get split ≡ after_lending
 unfolding split
 map_split = λ i n. (fate_moved (λ lot place. Held 2) (λ lot place. refl) (numbers 7 7) certificates n ∙ ap (moved_one (numbers 7 7) (λ lot place. Held 2) n) (at_january n)) i
 
-abbrev lent : State
+abbrev pub lent : State
 lent = record issued { at = split; receipts = insert issued.receipts (sun, codes "t1") (Some (Transfer lends), Moved 1) }
 
 leaves_lending : accept issued (sends sun (codes "t1") (Transfer lends)) ≡ lent

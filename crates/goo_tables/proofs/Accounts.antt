@@ -10,7 +10,7 @@ use Rattle.sqlite.specs.Term.{Term, lit, col, op2}
 use Rattle.sqlite.specs.Query.{Query, IsAnswer}
 use Rattle.sqlite.specs.Program.{overlay}
 use Rattle.sqlite.specs.Source.TheVariants.{Values}
-use Rattle.sqlite.specs.Command.TheVariants.{Insert, Select}
+use Rattle.sqlite.specs.Command.TheVariants.{Insert, Select, Update}
 use Rattle.sqlite.specs.Listing.{understood, reads_listing}
 use Rattle.sqlite.specs.State.{State, Executes}
 use Rattle.sqlite.proofs.Callers.{IsPlain, command_of}
@@ -21,19 +21,22 @@ use Rattle.sqlite_typed.proofs.AnswerLemmas.{at_end, last_table, answer_by_keys,
 use Rattle.sqlite_typed.proofs.TestLemmas.{at_ints, last_term, last_key}
 use Rattle.sqlite_keyed.specs.Keyed.{insert_by}
 use Rattle.sqlite_keyed.proofs.KeyedLemmas.{IsKeyedBy-insert_by}
-use Rattle.goo_columns.specs.Columns.{registry_schema}
+use Rattle.goo_columns.specs.Columns.{registry_schema, account}
 use Rattle.goo_columns.specs.Rows.{Tables, Account, account_in, account_columns, account_row, account_key}
 use Rattle.goo_columns.specs.declared.account.AccountRow.{AccountRow}
 use Rattle.goo_columns.specs.Reads.{account_reads}
 use Rattle.goo_columns.specs.Stands.{Stands}
 use Rattle.goo_columns.specs.Asked.{FirstZip}
-use Rattle.goo_columns.proofs.Writing.{inserts}
+use Rattle.goo_columns.proofs.Writing.{inserts, updates}
+use Rattle.goo_columns.proofs.Updating.{updated, IsKeyedBy-update_where}
+use Rattle.goo_columns.proofs.One.{answer_of_one, one_keyed}
+use Rattle.sqlite_keyed.specs.Lists.{update_where}
 use Rattle.goo_columns.proofs.Typed.{cast_int, cast_null, puts}
 use Rattle.goo_columns.proofs.Alone.{accounts_stand}
 use Rattle.goo_columns.proofs.Read.{all_listed, first_listed}
 use Rattle.goo_columns.proofs.Same.{account_same}
-use Rattle.goo_tables.specs.Changes.{with_account}
-use Rattle.goo_tables.proofs.Queries.{in_order}
+use Rattle.goo_tables.specs.Changes.{with_account, with_closed}
+use Rattle.goo_tables.proofs.Queries.{in_order, unordered}
 
 -- ---- account: a row is added
 
@@ -109,3 +112,37 @@ shows_all old t it xs rows answer read =
     let shown = answer_by_keys all_query db [] source (λ _. true) (λ _. refl) (λ r. r) account_columns (λ _. refl) refl refl (λ a b. last_key (value_cmp-Int (account_key a) (account_key b))) rows answer in
     let all = sym (map-id rows) ∙ shown ∙ ap (map (λ (x : Account). account_columns x)) (unfiltered t.accounts refl) in
     all_listed account_reads account_columns account_in account_same t.accounts xs (subst (λ l. AllZip account_reads l xs) all read)
+
+-- ---- account: a row is closed
+
+abbrev pub close_text : List ℕ
+close_text = codes "UPDATE account SET closed = 1 WHERE number = ?1"
+
+abbrev close_query : Query
+close_query = unordered 3 (op2 (Compare Eq Binary) (col 1 0) (col 0 0) ∷ []) (col 1 0 ∷ col 1 0 ∷ lit Null ∷ col 1 2 ∷ lit (Int (pos 1)) ∷ [])
+
+close_is : command_of (understood registry_schema close_text) ≡ Update 2 (record { lets = []; body = close_query })
+unfolding understood everything
+close_is = refl
+
+close_plain : IsPlain (understood registry_schema close_text)
+unfolding understood everything
+close_plain = (refl, refl)
+
+abbrev closing : Account → Account
+closing a = record a { closed = 1 }
+
+pub closes_row : (old new : State) (t : Tables) (number : ℕ) (r : Result ℕ Error) → Stands old.now t → Executes close_text (Int (pos number) ∷ []) old new r → OnOk r (Stands new.now (with_closed t number))
+closes_row old new t number (Err e) it ran = tt
+closes_row old new t number (Ok count) it ran =
+    let params = Int (pos number) ∷ [] in
+    let made = updates registry_schema 2 _ 3 _ _ _ _ _ refl (λ _ _. refl) close_text params old new it.schema close_plain (record { lets = []; body = close_query }) close_is count ran in
+    let db = overlay old.now.trees [] in
+    let p = λ (a : Account). int_eq (account_key a) (pos number) in
+    let source = last_table db 3 account_row account_key t.accounts it.accounts.are it.accounts.rise (at_end db) in
+    let rows = answer_of_one close_query db params source p (λ a. last_term (at_ints false Eq (account_key a) (pos number))) (λ a. Int (account_key a) ∷ account_row (closing a)) (λ _. refl) refl refl
+        (one_keyed account_key (pos number) t.accounts it.accounts.rise) made.0 (made.1.answer Null) in
+    accounts_stand old.now new.now t it made.2.schema_is made.2.applied.tables (update_where p closing t.accounts) (record {
+      are = made.2.applied.rows ∙ updated account_key account_row (λ _. refl) account (λ a. simp (cast_null, cast_int) refl) p closing (λ _. refl) old.now.trees t.accounts it.accounts.are it.accounts.rise made.0 rows;
+      rise = IsKeyedBy-update_where account_key p closing (λ _. refl) t.accounts it.accounts.rise;
+    })

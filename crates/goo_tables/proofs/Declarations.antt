@@ -1,5 +1,5 @@
 -- What the statements on `declaration` do and show.
-use Rattle.std.proofs.Common.{◌≡◌, ℕ, ◌&&◌, List, [], ◌∷◌, map, find, codes, true, false, Option, option_map, Ok, Err, Result, OnOk, refl, sym, ap, subst, ◌∙◌, map-id}
+use Rattle.std.proofs.Common.{◌≡◌, ◌<ℤ◌, reverse, slice_get, IsPermutation, ℕ, ◌&&◌, List, [], ◌∷◌, map, find, codes, true, false, Option, option_map, Ok, Err, Result, OnOk, refl, sym, ap, subst, ◌∙◌, map-id}
 use Rattle.std.specs.List.{AllZip}
 use Rattle.sqlite_tied.specs.Compute.{everything}
 use Rattle.sqlite.specs.declared.types.Value.TheVariants.{Null, Text}
@@ -21,7 +21,7 @@ use Rattle.sqlite_typed.specs.Tests.{bytes_eq}
 use Rattle.sqlite_typed.proofs.AnswerLemmas.{at_end, last_table, answer_by_keys, unfiltered}
 use Rattle.sqlite_typed.proofs.TestLemmas.{at_texts, then_term, last_term, last_key}
 use Rattle.sqlite_keyed.specs.Keyed.{insert_by}
-use Rattle.sqlite_keyed.proofs.KeyedLemmas.{IsKeyedBy-insert_by}
+use Rattle.sqlite_keyed.proofs.KeyedLemmas.{Less-from_lt, IsKeyedBy-insert_by}
 use Rattle.goo_columns.specs.Columns.{registry_schema}
 use Rattle.goo_columns.specs.Rows.{Tables, Declaration, declaration_in, declaration_columns, declaration_row, declaration_key}
 use Rattle.goo_columns.specs.declared.declaration.DeclarationRow.{DeclarationRow}
@@ -31,10 +31,13 @@ use Rattle.goo_columns.specs.Asked.{FirstZip}
 use Rattle.goo_columns.proofs.Writing.{inserts}
 use Rattle.goo_columns.proofs.Typed.{cast_int, cast_null, puts}
 use Rattle.goo_columns.proofs.Alone.{declarations_stand}
-use Rattle.goo_columns.proofs.Read.{all_listed, first_listed}
+use Rattle.goo_columns.proofs.Read.{all_listed, first_listed, top_listed}
+use Rattle.goo_columns.proofs.Joining.{answer_listed, ascending-reverse, first_left}
+use Rattle.std.proofs.lemmas.List.Sorted.{IsPermutation-reverse}
+use Rattle.sqlite_keyed.proofs.ListLemmas.{ascending_weaker}
 use Rattle.goo_columns.proofs.Same.{declaration_same}
 use Rattle.goo_tables.specs.Changes.{with_declaration}
-use Rattle.goo_tables.proofs.Queries.{in_order}
+use Rattle.goo_tables.proofs.Queries.{in_order, last_of}
 
 -- ---- declaration: a row is added
 
@@ -110,3 +113,29 @@ shows_all old t it xs rows answer read =
     let shown = answer_by_keys all_query db [] source (λ _. true) (λ _. refl) (λ r. r) declaration_columns (λ _. refl) refl refl (λ a b. last_key (value_cmp-Int (declaration_key a) (declaration_key b))) rows answer in
     let all = sym (map-id rows) ∙ shown ∙ ap (map (λ (x : Declaration). declaration_columns x)) (unfiltered t.declarations refl) in
     all_listed declaration_reads declaration_columns declaration_in declaration_same t.declarations xs (subst (λ l. AllZip declaration_reads l xs) all read)
+
+-- ---- declaration: the last row
+
+abbrev pub last_text : List ℕ
+last_text = codes "SELECT id, device, first_day, last_day, gross, aux FROM declaration ORDER BY id DESC LIMIT 1"
+
+abbrev pub last_query : Query
+last_query = last_of 6 (col 1 0 ∷ col 1 2 ∷ col 1 3 ∷ col 1 4 ∷ col 1 5 ∷ col 1 6 ∷ [])
+
+pub last_is : (command_of (understood registry_schema last_text) ≡ Select (record { lets = []; body = last_query }) (codes "id" ∷ codes "device" ∷ codes "first_day" ∷ codes "last_day" ∷ codes "gross" ∷ codes "aux" ∷ [])) × (reads_listing registry_schema last_text ≡ false)
+unfolding understood everything
+last_is = (refl, refl)
+
+pub last_plain : IsPlain (understood registry_schema last_text)
+unfolding understood everything
+last_plain = (refl, refl)
+
+pub shows_last : (old : State) (t : Tables) → Stands old.now t → (x : Option DeclarationRow) (rows : List Row) → IsAnswer last_query (overlay old.now.trees []) [] rows → FirstZip declaration_reads rows x
+    → option_map declaration_in x ≡ slice_get (reverse t.declarations) 0
+shows_last old t it x rows answer read =
+    let db = overlay old.now.trees [] in
+    let source = last_table db 6 declaration_row declaration_key t.declarations it.declarations.are it.declarations.rise (at_end db) in
+    let falls = ascending_weaker _ _ (λ a b h. last_key (value_cmp-Int (declaration_key b) (declaration_key a)) ∙ Less-from_lt (declaration_key b) (declaration_key a) h) _ (ascending-reverse (λ a b. declaration_key a <ℤ declaration_key b) t.declarations it.declarations.rise) in
+    let all = subst (λ l. IsPermutation l (reverse t.declarations)) (sym (unfiltered t.declarations refl)) (IsPermutation-reverse t.declarations) in
+    let shown = answer_listed last_query db [] source (λ _. true) (λ _. refl) declaration_columns (λ _. refl) refl refl (reverse t.declarations) all falls rows answer in
+    top_listed declaration_reads declaration_columns declaration_in declaration_same (reverse t.declarations) x (first_left declaration_reads _ x (subst (λ l. FirstZip declaration_reads l x) shown read))

@@ -1,5 +1,5 @@
 -- What the statements on `device` do and show.
-use Rattle.std.proofs.Common.{◌≡◌, ℕ, List, [], ◌∷◌, map, find, codes, true, false, Option, option_map, Ok, Err, Result, OnOk, refl, sym, ap, subst, ◌∙◌, map-id}
+use Rattle.std.proofs.Common.{◌≡◌, ℕ, pos, filter, List, [], ◌∷◌, map, find, codes, true, false, Option, option_map, Ok, Err, Result, OnOk, refl, sym, ap, subst, ◌∙◌, map-id}
 use Rattle.std.specs.List.{AllZip}
 use Rattle.sqlite_tied.specs.Compute.{everything}
 use Rattle.sqlite.specs.declared.types.Value.TheVariants.{Null, Int, Text}
@@ -10,7 +10,7 @@ use Rattle.sqlite.specs.Term.{Term, lit, col, op2}
 use Rattle.sqlite.specs.Query.{Query, IsAnswer}
 use Rattle.sqlite.specs.Program.{overlay}
 use Rattle.sqlite.specs.Source.TheVariants.{Values}
-use Rattle.sqlite.specs.Command.TheVariants.{Insert, Select}
+use Rattle.sqlite.specs.Command.TheVariants.{Insert, Select, Update}
 use Rattle.sqlite.specs.Edit.{put_all, next_rowid}
 use Rattle.sqlite.specs.Listing.{understood, reads_listing}
 use Rattle.sqlite.specs.State.{State, Executes}
@@ -23,19 +23,23 @@ use Rattle.sqlite_typed.proofs.AnswerLemmas.{at_end, last_table, answer_by_keys,
 use Rattle.sqlite_typed.proofs.TestLemmas.{at_texts, last_term, last_key}
 use Rattle.sqlite_keyed.specs.Keyed.{next_key}
 use Rattle.sqlite_keyed.proofs.KeyedLemmas.{IsKeyedBy-insert_by}
-use Rattle.goo_columns.specs.Columns.{registry_schema}
+use Rattle.goo_columns.specs.Columns.{registry_schema, device}
 use Rattle.goo_columns.specs.Rows.{Tables, Kept, kept_key, Device, device_in, device_columns, device_row}
 use Rattle.goo_columns.specs.declared.device.DeviceRow.{DeviceRow}
 use Rattle.goo_columns.specs.Reads.{device_reads}
 use Rattle.goo_columns.specs.Stands.{Stands}
 use Rattle.goo_columns.specs.Asked.{FirstZip}
-use Rattle.goo_columns.proofs.Writing.{inserts}
+use Rattle.goo_columns.proofs.Writing.{inserts, updates}
+use Rattle.goo_columns.specs.Once.{IsOnce}
+use Rattle.goo_columns.proofs.Updating.{updated, IsKeyedBy-update_where}
+use Rattle.goo_columns.proofs.One.{answer_of_one}
+use Rattle.sqlite_keyed.specs.Lists.{update_where}
 use Rattle.goo_columns.proofs.Typed.{cast_int, cast_null, cast_maybe, puts, next_is}
 use Rattle.goo_columns.proofs.Alone.{devices_stand}
 use Rattle.goo_columns.proofs.Read.{all_read, first_read}
 use Rattle.goo_columns.proofs.Same.{device_same}
-use Rattle.goo_tables.specs.Changes.{added, with_device}
-use Rattle.goo_tables.proofs.Queries.{in_order}
+use Rattle.goo_tables.specs.Changes.{added, with_device, with_progress, progressed}
+use Rattle.goo_tables.proofs.Queries.{in_order, unordered}
 
 -- ---- device: a row is added
 
@@ -114,3 +118,36 @@ shows_all old t it xs rows answer read =
     let shown = answer_by_keys all_query db [] source (λ _. true) (λ _. refl) (λ r. r) (λ k. device_columns k.1) (λ _. refl) refl refl (λ a b. last_key (value_cmp-Int a.0 b.0)) rows answer in
     let all = sym (map-id rows) ∙ shown ∙ ap (map (λ (k : (Kept Device)). device_columns k.1)) (unfiltered t.devices refl) in
     all_read device_reads (λ k. device_columns k.1) device_in (λ k. k.1) (λ k. device_same k.1) t.devices xs (subst (λ l. AllZip device_reads l xs) all read)
+
+-- ---- device: its progress is set
+
+abbrev pub progress_text : List ℕ
+progress_text = codes "UPDATE device SET last_day = ?2, carry = ?3 WHERE gsrn = ?1"
+
+abbrev progress_query : Query
+progress_query = unordered 4 (op2 (Compare Eq Binary) (col 1 1) (col 0 0) ∷ [])
+    (col 1 0 ∷ col 1 0 ∷ col 1 1 ∷ col 1 2 ∷ col 1 3 ∷ col 1 4 ∷ col 1 5 ∷ col 1 6 ∷ col 1 7 ∷ col 1 8 ∷ col 1 9 ∷ col 0 1 ∷ col 0 2 ∷ [])
+
+progress_is : command_of (understood registry_schema progress_text) ≡ Update 3 (record { lets = []; body = progress_query })
+unfolding understood everything
+progress_is = refl
+
+progress_plain : IsPlain (understood registry_schema progress_text)
+unfolding understood everything
+progress_plain = (refl, refl)
+
+pub progresses_row : (old new : State) (t : Tables) (gsrn last_day : List ℕ) (carry : ℕ) → IsOnce (filter (λ (k : Kept Device). bytes_eq k.1.gsrn gsrn) t.devices) → (r : Result ℕ Error) → Stands old.now t
+    → Executes progress_text (Text gsrn ∷ Text last_day ∷ Int (pos carry) ∷ []) old new r → OnOk r (Stands new.now (with_progress t gsrn last_day carry))
+progresses_row old new t gsrn last_day carry once (Err e) it ran = tt
+progresses_row old new t gsrn last_day carry once (Ok count) it ran =
+    let params = Text gsrn ∷ Text last_day ∷ Int (pos carry) ∷ [] in
+    let made = updates registry_schema 3 _ 4 _ _ _ _ _ refl (λ _ _. refl) progress_text params old new it.schema progress_plain (record { lets = []; body = progress_query }) progress_is count ran in
+    let db = overlay old.now.trees [] in
+    let p = λ (k : Kept Device). bytes_eq k.1.gsrn gsrn in
+    let f = progressed last_day carry in
+    let source = last_table db 4 device_row kept_key t.devices it.devices.are it.devices.rise (at_end db) in
+    let rows = answer_of_one progress_query db params source p (λ k. last_term (at_texts false Eq k.1.gsrn gsrn)) (λ k. Int k.0 ∷ device_row (f k)) (λ _. refl) refl refl once made.0 (made.1.answer Null) in
+    devices_stand old.now new.now t it made.2.schema_is made.2.applied.tables (update_where p f t.devices) (record {
+      are = made.2.applied.rows ∙ updated kept_key device_row (λ _. refl) device (λ k. simp (cast_int, cast_maybe) refl) p f (λ _. refl) old.now.trees t.devices it.devices.are it.devices.rise made.0 rows;
+      rise = IsKeyedBy-update_where kept_key p f (λ _. refl) t.devices it.devices.rise;
+    })

@@ -11,3 +11,6 @@ pub mod Cancellations
 pub mod Withdrawals
 pub mod NoticesOut
 pub mod NoticesIn
+pub mod MetaTable
+pub mod PiecesBeside
+pub mod Creating

@@ -1,5 +1,5 @@
 -- What the statements on `lot` do and show.
-use Rattle.std.proofs.Common.{◌≡◌, ℕ, pos, ◌&&◌, List, [], ◌∷◌, map, find, codes, true, false, Option, option_map, Ok, Err, Result, OnOk, refl, sym, ap, subst, ◌∙◌, map-id, int_eq}
+use Rattle.std.proofs.Common.{◌≡◌, ◌<ℤ◌, reverse, slice_get, IsPermutation, ℕ, pos, ◌&&◌, List, [], ◌∷◌, map, find, codes, true, false, Option, option_map, Ok, Err, Result, OnOk, refl, sym, ap, subst, ◌∙◌, map-id, int_eq}
 use Rattle.std.specs.List.{AllZip}
 use Rattle.sqlite_tied.specs.Compute.{everything}
 use Rattle.sqlite.specs.declared.types.Value.TheVariants.{Null, Int, Text}
@@ -21,7 +21,7 @@ use Rattle.sqlite_typed.specs.Tests.{bytes_eq}
 use Rattle.sqlite_typed.proofs.AnswerLemmas.{at_end, last_table, answer_by_keys, unfiltered}
 use Rattle.sqlite_typed.proofs.TestLemmas.{at_texts, at_ints, then_term, last_term, last_key}
 use Rattle.sqlite_keyed.specs.Keyed.{insert_by}
-use Rattle.sqlite_keyed.proofs.KeyedLemmas.{IsKeyedBy-insert_by}
+use Rattle.sqlite_keyed.proofs.KeyedLemmas.{Less-from_lt, IsKeyedBy-insert_by}
 use Rattle.goo_columns.specs.Columns.{registry_schema}
 use Rattle.goo_columns.specs.Rows.{Tables, Lot, lot_in, lot_columns, lot_row, lot_key}
 use Rattle.goo_columns.specs.declared.lot.LotRow.{LotRow}
@@ -31,10 +31,13 @@ use Rattle.goo_columns.specs.Asked.{FirstZip}
 use Rattle.goo_columns.proofs.Writing.{inserts}
 use Rattle.goo_columns.proofs.Typed.{cast_int, cast_null, cast_maybe, puts}
 use Rattle.goo_columns.proofs.Alone.{lots_stand}
-use Rattle.goo_columns.proofs.Read.{all_listed, first_listed}
+use Rattle.goo_columns.proofs.Read.{all_listed, first_listed, top_listed}
+use Rattle.goo_columns.proofs.Joining.{answer_listed, ascending-reverse, first_left}
+use Rattle.std.proofs.lemmas.List.Sorted.{IsPermutation-reverse}
+use Rattle.sqlite_keyed.proofs.ListLemmas.{ascending_weaker}
 use Rattle.goo_columns.proofs.Same.{lot_same}
 use Rattle.goo_tables.specs.Changes.{with_lot}
-use Rattle.goo_tables.proofs.Queries.{in_order}
+use Rattle.goo_tables.proofs.Queries.{in_order, last_of}
 
 -- ---- lot: a row is added
 
@@ -110,3 +113,29 @@ shows_all old t it xs rows answer read =
     let shown = answer_by_keys all_query db [] source (λ _. true) (λ _. refl) (λ r. r) lot_columns (λ _. refl) refl refl (λ a b. last_key (value_cmp-Int (lot_key a) (lot_key b))) rows answer in
     let all = sym (map-id rows) ∙ shown ∙ ap (map (λ (x : Lot). lot_columns x)) (unfiltered t.lots refl) in
     all_listed (lot_reads 0) lot_columns lot_in lot_same t.lots xs (subst (λ l. AllZip (lot_reads 0) l xs) all read)
+
+-- ---- lot: the last row
+
+abbrev pub last_text : List ℕ
+last_text = codes "SELECT id, origin, device, country, site, tech, source, capacity_w, commissioned, support, first_day, last_day, expires_on, issued_on FROM lot ORDER BY id DESC LIMIT 1"
+
+abbrev pub last_query : Query
+last_query = last_of 8 (col 1 0 ∷ col 1 2 ∷ col 1 3 ∷ col 1 4 ∷ col 1 5 ∷ col 1 6 ∷ col 1 7 ∷ col 1 8 ∷ col 1 9 ∷ col 1 10 ∷ col 1 11 ∷ col 1 12 ∷ col 1 13 ∷ col 1 14 ∷ [])
+
+pub last_is : (command_of (understood registry_schema last_text) ≡ Select (record { lets = []; body = last_query }) (codes "id" ∷ codes "origin" ∷ codes "device" ∷ codes "country" ∷ codes "site" ∷ codes "tech" ∷ codes "source" ∷ codes "capacity_w" ∷ codes "commissioned" ∷ codes "support" ∷ codes "first_day" ∷ codes "last_day" ∷ codes "expires_on" ∷ codes "issued_on" ∷ [])) × (reads_listing registry_schema last_text ≡ false)
+unfolding understood everything
+last_is = (refl, refl)
+
+pub last_plain : IsPlain (understood registry_schema last_text)
+unfolding understood everything
+last_plain = (refl, refl)
+
+pub shows_last : (old : State) (t : Tables) → Stands old.now t → (x : Option LotRow) (rows : List Row) → IsAnswer last_query (overlay old.now.trees []) [] rows → FirstZip (lot_reads 0) rows x
+    → option_map lot_in x ≡ slice_get (reverse t.lots) 0
+shows_last old t it x rows answer read =
+    let db = overlay old.now.trees [] in
+    let source = last_table db 8 lot_row lot_key t.lots it.lots.are it.lots.rise (at_end db) in
+    let falls = ascending_weaker _ _ (λ a b h. last_key (value_cmp-Int (lot_key b) (lot_key a)) ∙ Less-from_lt (lot_key b) (lot_key a) h) _ (ascending-reverse (λ a b. lot_key a <ℤ lot_key b) t.lots it.lots.rise) in
+    let all = subst (λ l. IsPermutation l (reverse t.lots)) (sym (unfiltered t.lots refl)) (IsPermutation-reverse t.lots) in
+    let shown = answer_listed last_query db [] source (λ _. true) (λ _. refl) lot_columns (λ _. refl) refl refl (reverse t.lots) all falls rows answer in
+    top_listed (lot_reads 0) lot_columns lot_in lot_same (reverse t.lots) x (first_left (lot_reads 0) _ x (subst (λ l. FirstZip (lot_reads 0) l x) shown read))

@@ -1,24 +1,39 @@
--- What the statements on `piece` do and show.
-use Rattle.std.proofs.Common.{◌≡◌, ℕ, List, [], ◌∷◌, codes, Ok, Err, Result, OnOk, refl, ◌∙◌}
+-- What the statements on `piece` do.
+use Rattle.std.proofs.Common.{◌≡◌, ℕ, pos, List, [], ◌∷◌, filter, codes, Some, false, Ok, Err, Result, OnOk, refl, ap, ◌∙◌, int_eq}
 use Rattle.sqlite_tied.specs.Compute.{everything}
-use Rattle.sqlite.specs.declared.types.Value.TheVariants.{Null}
+use Rattle.sqlite.specs.declared.types.Value.TheVariants.{Null, Int}
 use Rattle.sqlite.specs.declared.error.Error.{Error}
-use Rattle.sqlite.specs.Term.{Term, lit, col}
+use Rattle.sqlite.specs.Collation.TheVariants.{Binary}
+use Rattle.sqlite.specs.Order.{Row}
+use Rattle.sqlite.specs.Term.{Term, lit, col, op2}
+use Rattle.sqlite.specs.Query.{Query}
+use Rattle.sqlite.specs.Program.{overlay}
 use Rattle.sqlite.specs.Source.TheVariants.{Values}
-use Rattle.sqlite.specs.Command.TheVariants.{Insert}
+use Rattle.sqlite.specs.Command.TheVariants.{Insert, Delete}
+use Rattle.sqlite.specs.Edit.{without_all, id_in}
+use Rattle.sqlite.specs.Tree.{rowid}
 use Rattle.sqlite.specs.Listing.{understood}
 use Rattle.sqlite.specs.State.{State, Executes}
 use Rattle.sqlite.proofs.Callers.{IsPlain, command_of}
+use Rattle.sqlite_rules.specs.Calls.{ids_of}
+use Rattle.sqlite_sql.specs.declared.ops.BinaryOp.TheVariants.{Compare}
+use Rattle.sqlite_sql.specs.declared.ops.CompareOp.TheVariants.{Eq}
+use Rattle.sqlite_typed.proofs.AnswerLemmas.{at_end, last_table}
+use Rattle.sqlite_typed.proofs.TestLemmas.{at_ints, last_term}
 use Rattle.sqlite_keyed.specs.Keyed.{insert_by}
-use Rattle.sqlite_keyed.proofs.KeyedLemmas.{IsKeyedBy-insert_by}
+use Rattle.sqlite_keyed.specs.Lists.{delete_where}
+use Rattle.sqlite_keyed.proofs.ListLemmas.{map-map}
+use Rattle.sqlite_keyed.proofs.KeyedLemmas.{IsKeyedBy-insert_by, IsKeyedBy-delete_where}
 use Rattle.goo_columns.specs.Columns.{registry_schema}
 use Rattle.goo_columns.specs.Rows.{Tables, piece_columns, piece_row, piece_key}
 use Rattle.goo_columns.specs.declared.piece.PieceRow.{PieceRow}
 use Rattle.goo_columns.specs.Stands.{Stands}
-use Rattle.goo_columns.proofs.Writing.{inserts}
-use Rattle.goo_columns.proofs.Typed.{cast_int, cast_null, puts}
+use Rattle.goo_columns.proofs.Writing.{inserts, deletes}
+use Rattle.goo_columns.proofs.Typed.{cast_int, cast_null, puts, removes}
+use Rattle.goo_columns.proofs.One.{answer_of_one, one_keyed}
 use Rattle.goo_columns.proofs.Alone.{pieces_stand}
-use Rattle.goo_tables.specs.Changes.{with_piece}
+use Rattle.goo_tables.specs.Changes.{with_piece, without_piece}
+use Rattle.goo_tables.proofs.Queries.{unordered}
 
 -- ---- piece: a row is added
 
@@ -43,4 +58,36 @@ inserts_row old new t x (Ok count) it ran =
     pieces_stand old.now new.now t it made.schema_is made.applied.tables (insert_by piece_key t.pieces x) (record {
       are = made.applied.rows ∙ simp (cast_null, cast_int) (puts piece_key piece_row (λ _. refl) (old.now.trees 10) t.pieces x it.pieces.are);
       rise = IsKeyedBy-insert_by piece_key t.pieces x it.pieces.rise;
+    })
+
+-- ---- piece: a row is taken out
+
+abbrev pub delete_text : List ℕ
+delete_text = codes "DELETE FROM piece WHERE first = ?1"
+
+abbrev delete_query : Query
+delete_query = unordered 10 (op2 (Compare Eq Binary) (col 1 0) (col 0 0) ∷ []) (col 1 0 ∷ [])
+
+delete_is : command_of (understood registry_schema delete_text) ≡ Delete 6 (record { lets = []; body = delete_query })
+unfolding understood everything
+delete_is = refl
+
+delete_plain : IsPlain (understood registry_schema delete_text)
+unfolding understood everything
+delete_plain = (refl, refl)
+
+pub deletes_row : (old new : State) (t : Tables) (first : ℕ) (r : Result ℕ Error) → Stands old.now t → Executes delete_text (Int (pos first) ∷ []) old new r → OnOk r (Stands new.now (without_piece t first))
+deletes_row old new t first (Err e) it ran = tt
+deletes_row old new t first (Ok count) it ran =
+    let params = Int (pos first) ∷ [] in
+    let made = deletes registry_schema 6 _ 10 _ _ _ _ _ refl (λ _ _. refl) delete_text params old new it.schema delete_plain (record { lets = []; body = delete_query }) delete_is count ran in
+    let db = overlay old.now.trees [] in
+    let p = λ (x : PieceRow). int_eq (piece_key x) (pos first) in
+    let source = last_table db 10 piece_row piece_key t.pieces it.pieces.are it.pieces.rise (at_end db) in
+    let rows = answer_of_one delete_query db params source p (λ x. last_term (at_ints false Eq (piece_key x) (pos first))) (λ x. Int (piece_key x) ∷ []) (λ _. refl) refl refl
+        (one_keyed piece_key (pos first) t.pieces it.pieces.rise) made.0 (made.1.answer Null) in
+    pieces_stand old.now new.now t it made.2.schema_is made.2.applied.tables (delete_where p t.pieces) (record {
+      are = made.2.applied.rows ∙ ap (λ l. without_all (old.now.trees 10) (ids_of l)) rows ∙ ap (without_all (old.now.trees 10)) (map-map (λ (r : Row). id_in (rowid r)) (λ (x : PieceRow). Int (piece_key x) ∷ []) (filter p t.pieces))
+          ∙ removes piece_key piece_row (λ _. refl) (old.now.trees 10) t.pieces p it.pieces.are it.pieces.rise;
+      rise = IsKeyedBy-delete_where piece_key p t.pieces it.pieces.rise;
     })

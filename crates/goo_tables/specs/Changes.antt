@@ -1,7 +1,10 @@
 -- What each statement makes of the tables, and which numbers it can keep.
-use Rattle.std.specs.Prelude.{List, ◌<◌, ◌^◌}
+use Rattle.std.specs.Prelude.{[], pos, Some, ℕ, List, ◌<◌, ◌^◌}
+use Rattle.std.specs.Ordering.{int_eq}
+use Rattle.sqlite_typed.specs.Tests.{bytes_eq}
+use Rattle.sqlite_keyed.specs.Lists.{update_where, delete_where}
 use Rattle.sqlite_keyed.specs.Keyed.{insert_by, next_key}
-use Rattle.goo_columns.specs.Rows.{Tables, Kept, kept_key, Holder, Account, Device, Declaration, Lot, Receipt, Cancellation, Withdrawal, NoticeOut, NoticeIn, account_key, declaration_key, lot_key, piece_key, cancellation_key, withdrawal_key, notice_out_key}
+use Rattle.goo_columns.specs.Rows.{Tables, Kept, kept_key, Meta, Holder, Account, Device, Declaration, Lot, Receipt, Cancellation, Withdrawal, NoticeOut, NoticeIn, account_key, declaration_key, lot_key, piece_key, cancellation_key, withdrawal_key, notice_out_key}
 use Rattle.goo_columns.specs.declared.meta.MetaRow.{MetaRow}
 use Rattle.goo_columns.specs.declared.device.DeviceRow.{DeviceRow}
 use Rattle.goo_columns.specs.declared.declaration.DeclarationRow.{DeclarationRow}
@@ -11,6 +14,7 @@ use Rattle.goo_columns.specs.declared.peer.PeerRow.{PeerRow}
 use Rattle.goo_columns.specs.declared.receipt.ReceiptRow.{ReceiptRow}
 use Rattle.goo_columns.specs.declared.cancellation.CancellationRow.{CancellationRow}
 use Rattle.goo_columns.specs.declared.withdrawal.WithdrawalRow.{WithdrawalRow}
+use Rattle.goo_tables.specs.declared.counters.Counters.{Counters}
 
 -- a row under the next rowid
 abbrev pub added : {X : Type 0} → List (Kept X) → X → List (Kept X)
@@ -52,6 +56,54 @@ with_notice_out t x = record t { notices_out = insert_by notice_out_key t.notice
 abbrev pub with_notice_in : Tables → NoticeIn → Tables
 with_notice_in t x = record t { notices_in = added t.notices_in x }
 
+-- ---- meta
+
+-- a registry that has just begun
+abbrev pub begun : Meta → Tables
+begun meta = record {
+  meta = meta;
+  holders = [];
+  accounts = [];
+  devices = [];
+  declarations = [];
+  lots = [];
+  pieces = [];
+  peers = [];
+  receipts = [];
+  cancellations = [];
+  withdrawals = [];
+  notices_out = [];
+  notices_in = [];
+}
+
+abbrev pub at_day : Tables → List ℕ → Tables
+at_day t today = record t { meta = record t.meta { today = today } }
+
+abbrev pub with_counters : Tables → Counters → Tables
+with_counters t c = record t {
+  meta = record t.meta {
+    next_serial = c.next_serial;
+    next_account = c.next_account;
+    next_cancellation = c.next_cancellation;
+    next_withdrawal = c.next_withdrawal;
+    next_notice = c.next_notice;
+  };
+}
+
+-- ---- changes of a row
+
+abbrev pub with_closed : Tables → ℕ → Tables
+with_closed t number = record t { accounts = update_where (λ a. int_eq (account_key a) (pos number)) (λ a. record a { closed = 1 }) t.accounts }
+
+abbrev pub progressed : List ℕ → ℕ → Kept Device → Kept Device
+progressed last_day carry k = (k.0, record k.1 { last_day = Some last_day; carry = carry })
+
+abbrev pub with_progress : Tables → List ℕ → List ℕ → ℕ → Tables
+with_progress t gsrn last_day carry = record t { devices = update_where (λ k. bytes_eq k.1.gsrn gsrn) (progressed last_day carry) t.devices }
+
+abbrev pub without_piece : Tables → ℕ → Tables
+without_piece t first = record t { pieces = delete_where (λ p. int_eq (piece_key p) (pos first)) t.pieces }
+
 -- ---- a column keeps numbers below 2 ^ 63
 
 abbrev pub MetaFits : MetaRow → Type 0
@@ -77,3 +129,6 @@ CancellationFits x = (x.first < 2 ^ 63) × (x.last < 2 ^ 63)
 
 abbrev pub WithdrawalFits : WithdrawalRow → Type 0
 WithdrawalFits x = (x.first < 2 ^ 63) × (x.last < 2 ^ 63)
+
+abbrev pub CountersFit : Counters → Type 0
+CountersFit c = c.next_serial < 2 ^ 63

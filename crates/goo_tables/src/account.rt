@@ -6,7 +6,7 @@ ghost use Rattle.sqlite.specs.Held.{state};
 ghost use Rattle.sqlite_keyed.specs.Keyed.{get_by};
 ghost use Rattle.goo_columns.specs.Rows.{Tables, account_in, account_key};
 ghost use Rattle.goo_columns.specs.Stands.{Sees, Looks};
-ghost use Rattle.goo_tables.specs.Changes.{with_account};
+ghost use Rattle.goo_tables.specs.Changes.{with_account, with_closed};
 
 use goo_columns::account::AccountRow;
 use goo_columns::ask::{ask_all, ask_first};
@@ -34,6 +34,21 @@ pub fn insert_account<S: Alter>(
             text(&account.holder),
             small(account.closed),
         ],
+    )
+}
+
+/// Closes the account with this number, if there is one.
+pub fn close_account<S: Alter>(tx: &mut Transaction<'_, S>, number: u32) -> Result<usize, Error>
+    ensures same_reference { tx.new.conn.ghost_name ≡ tx.old.conn.ghost_name }
+    ensures changed { HasCleanDisk (state S.Store tx.new.conn.now) → (t : Tables) → Sees (state S.Store tx.old.conn.now) t
+        → OnOk result (Sees (state S.Store tx.new.conn.now) (with_closed t number)) }
+    ensures uncommitted { HasCleanDisk (state S.Store tx.new.conn.now) → KeepsCommit (state S.Store tx.old.conn.now) (state S.Store tx.new.conn.now) }
+    ensures survives { Survives (state S.Store tx.old.conn.now) (state S.Store tx.new.conn.now) (λ _. ⊥) }
+{
+    put(
+        tx,
+        "UPDATE account SET closed = 1 WHERE number = ?1",
+        &[small(number)],
     )
 }
 

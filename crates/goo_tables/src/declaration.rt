@@ -1,6 +1,6 @@
 //! The statements on `declaration`.
 
-ghost use Rattle.std.specs.Prelude.{◌≡◌, ◌&&◌, false, map, find, OnOk, option_map};
+ghost use Rattle.std.specs.Prelude.{slice_get, reverse, ◌≡◌, ◌&&◌, false, map, find, OnOk, option_map};
 ghost use Rattle.sqlite.specs.State.{HasCleanDisk, KeepsCommit, Survives};
 ghost use Rattle.sqlite.specs.Held.{state};
 ghost use Rattle.sqlite_typed.specs.Tests.{bytes_eq};
@@ -72,6 +72,22 @@ pub fn all_declarations<S: Alter>(
         alloc,
         conn,
         "SELECT id, device, first_day, last_day, gross, aux FROM declaration ORDER BY id",
+        &[],
+    )
+}
+
+/// The declaration with the highest number.
+pub fn last_declaration<S: Alter>(
+    alloc: Global,
+    conn: &mut Connection<S>,
+) -> Result<Option<DeclarationRow>, Error>
+    ensures looks { Looks (state S.Store conn.old) (state S.Store conn.new) result (λ t found. option_map declaration_in found ≡ slice_get (reverse t.declarations) 0) }
+    ensures outside { conn.old.in_transaction ≡ false → conn.new.in_transaction ≡ false }
+{
+    ask_first(
+        alloc,
+        conn,
+        "SELECT id, device, first_day, last_day, gross, aux FROM declaration ORDER BY id DESC LIMIT 1",
         &[],
     )
 }

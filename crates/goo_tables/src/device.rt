@@ -1,12 +1,13 @@
 //! The statements on `device`.
 
-ghost use Rattle.std.specs.Prelude.{◌≡◌, false, map, find, OnOk, option_map};
+ghost use Rattle.std.specs.Prelude.{◌≡◌, ◌<◌, ◌^◌, false, map, filter, find, OnOk, option_map};
 ghost use Rattle.sqlite.specs.State.{HasCleanDisk, KeepsCommit, Survives};
 ghost use Rattle.sqlite.specs.Held.{state};
 ghost use Rattle.sqlite_typed.specs.Tests.{bytes_eq};
 ghost use Rattle.goo_columns.specs.Rows.{Tables, device_in};
+ghost use Rattle.goo_columns.specs.Once.{IsOnce};
 ghost use Rattle.goo_columns.specs.Stands.{Sees, Looks};
-ghost use Rattle.goo_tables.specs.Changes.{with_device, DeviceFits};
+ghost use Rattle.goo_tables.specs.Changes.{with_device, with_progress, DeviceFits};
 
 use goo_columns::ask::{ask_all, ask_first};
 use goo_columns::device::DeviceRow;
@@ -43,6 +44,30 @@ pub fn insert_device<S: Alter>(
             maybe_text(&device.last_day),
             number(device.carry),
         ],
+    )
+}
+
+/// Sets the last day of the last accepted period and the energy that is left over, in Wh, of the device with this number.
+///
+/// That no two devices have one number is a rule of the table, and so a law of each open database (`one_device`).
+pub fn set_progress<S: Alter>(
+    tx: &mut Transaction<'_, S>,
+    gsrn: &str,
+    last_day: &str,
+    carry: u64,
+) -> Result<usize, Error>
+    requires { carry < 2 ^ 63 }
+    ensures same_reference { tx.new.conn.ghost_name ≡ tx.old.conn.ghost_name }
+    ensures changed { HasCleanDisk (state S.Store tx.new.conn.now) → (t : Tables) → Sees (state S.Store tx.old.conn.now) t
+        → IsOnce (filter (λ k. bytes_eq k.1.gsrn gsrn.now) t.devices)
+        → OnOk result (Sees (state S.Store tx.new.conn.now) (with_progress t gsrn.now last_day.now carry)) }
+    ensures uncommitted { HasCleanDisk (state S.Store tx.new.conn.now) → KeepsCommit (state S.Store tx.old.conn.now) (state S.Store tx.new.conn.now) }
+    ensures survives { Survives (state S.Store tx.old.conn.now) (state S.Store tx.new.conn.now) (λ _. ⊥) }
+{
+    put(
+        tx,
+        "UPDATE device SET last_day = ?2, carry = ?3 WHERE gsrn = ?1",
+        &[text(gsrn), text(last_day), number(carry)],
     )
 }
 

@@ -1,6 +1,6 @@
 //! The statements on `lot`.
 
-ghost use Rattle.std.specs.Prelude.{◌≡◌, ◌&&◌, false, pos, map, find, OnOk, option_map};
+ghost use Rattle.std.specs.Prelude.{slice_get, reverse, ◌≡◌, ◌&&◌, false, pos, map, find, OnOk, option_map};
 ghost use Rattle.std.specs.Ordering.{int_eq};
 ghost use Rattle.sqlite.specs.State.{HasCleanDisk, KeepsCommit, Survives};
 ghost use Rattle.sqlite.specs.Held.{state};
@@ -76,6 +76,22 @@ pub fn all_lots<S: Alter>(alloc: Global, conn: &mut Connection<S>) -> Result<Vec
         alloc,
         conn,
         "SELECT id, origin, device, country, site, tech, source, capacity_w, commissioned, support, first_day, last_day, expires_on, issued_on FROM lot ORDER BY id",
+        &[],
+    )
+}
+
+/// The lot with the highest number.
+pub fn last_lot<S: Alter>(
+    alloc: Global,
+    conn: &mut Connection<S>,
+) -> Result<Option<LotRow>, Error>
+    ensures looks { Looks (state S.Store conn.old) (state S.Store conn.new) result (λ t found. option_map lot_in found ≡ slice_get (reverse t.lots) 0) }
+    ensures outside { conn.old.in_transaction ≡ false → conn.new.in_transaction ≡ false }
+{
+    ask_first(
+        alloc,
+        conn,
+        "SELECT id, origin, device, country, site, tech, source, capacity_w, commissioned, support, first_day, last_day, expires_on, issued_on FROM lot ORDER BY id DESC LIMIT 1",
         &[],
     )
 }

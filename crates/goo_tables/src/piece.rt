@@ -1,11 +1,11 @@
 //! The statements on `piece`.
 
-ghost use Rattle.std.specs.Prelude.{◌≡◌, false, OnOk};
+ghost use Rattle.std.specs.Prelude.{◌≡◌, ◌<◌, ◌^◌, OnOk};
 ghost use Rattle.sqlite.specs.State.{HasCleanDisk, KeepsCommit, Survives};
 ghost use Rattle.sqlite.specs.Held.{state};
 ghost use Rattle.goo_columns.specs.Rows.{Tables};
 ghost use Rattle.goo_columns.specs.Stands.{Sees};
-ghost use Rattle.goo_tables.specs.Changes.{with_piece, PieceFits};
+ghost use Rattle.goo_tables.specs.Changes.{with_piece, without_piece, PieceFits};
 
 use goo_columns::piece::PieceRow;
 use goo_columns::put::put;
@@ -33,4 +33,16 @@ pub fn insert_piece<S: Alter>(tx: &mut Transaction<'_, S>, piece: &PieceRow) -> 
             small(piece.act),
         ],
     )
+}
+
+/// Takes out the piece that begins with this number, if there is one.
+pub fn delete_piece<S: Alter>(tx: &mut Transaction<'_, S>, first: u64) -> Result<usize, Error>
+    requires { first < 2 ^ 63 }
+    ensures same_reference { tx.new.conn.ghost_name ≡ tx.old.conn.ghost_name }
+    ensures changed { HasCleanDisk (state S.Store tx.new.conn.now) → (t : Tables) → Sees (state S.Store tx.old.conn.now) t
+        → OnOk result (Sees (state S.Store tx.new.conn.now) (without_piece t first)) }
+    ensures uncommitted { HasCleanDisk (state S.Store tx.new.conn.now) → KeepsCommit (state S.Store tx.old.conn.now) (state S.Store tx.new.conn.now) }
+    ensures survives { Survives (state S.Store tx.old.conn.now) (state S.Store tx.new.conn.now) (λ _. ⊥) }
+{
+    put(tx, "DELETE FROM piece WHERE first = ?1", &[number(first)])
 }

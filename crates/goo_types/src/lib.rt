@@ -1,4 +1,14 @@
-//! The values of a guarantee-of-origin registry: certificate numbers, days, codes, lots and requests.
+//! The values of a registry of guarantees of origin, and their readers.
+//!
+//! A type keeps the rule of its form: what a reader or a constructor let through is never tested again.
+//!
+//! - Certificates: a [`number`], a [`range`] of numbers, a [`lot`] of what they have in common, a [`place`] where each
+//!   is, a [`piece`] of consecutive ones with one lot and one place.
+//! - Days and deadlines: [`day`].
+//! - Codes and texts: [`gsrn`], [`holder_code`], [`key`], [`name`], [`tech_code`], [`source_code`], [`country`], [`support`].
+//! - Limited integers: [`registry_code`], [`serial`], [`account_no`], [`act_no`], [`watts`], [`wh`].
+//! - Between registries: a [`notice`] of [`part`]s.
+//! - Asked and answered: a [`request`] with its [`command`]; a [`reply`], a [`refusal`] or a [`fault`], and the [`outcome`].
 #![tactic(auto)]
 
 pub mod account_no;

@@ -2,6 +2,7 @@ ghost use Rattle.std.specs.Prelude.{◌≡◌, ◌≢◌, ℕ, ◌+◌, ◌-◌,
 ghost use Rattle.goo_types.specs.Number.{IsCode, IsSerial, IsNumber, code_of, serial_of};
 
 use crate::digits;
+use arrayvec::ArrayString;
 use std::marker::Model;
 
 /// Why a text is no certificate number. Where several hold, the first one is told.
@@ -77,6 +78,13 @@ impl Number {
         digits::write(self.get())
     }
 
+    /// The fourteen digits as text. It takes no memory.
+    pub fn text(self) -> ArrayString<14>
+        ensures { result.bytes ≡ number_text self }
+    {
+        ArrayString::from_byte_string(&self.write()).unwrap()
+    }
+
     /// The number as one integer.
     pub fn get(self) -> u64
         ensures value { result ≡ self }
@@ -92,8 +100,9 @@ impl Number {
         requires below { value ≤ high }
         ensures { result ≡ value }
     {
-        let _low = low.value;
-        let _high = high.value;
+        // What lies between two numbers of one code has their code, and no serial 0.
+        let _ = &low.value;
+        let _ = &high.value;
         Number { value }
     }
 

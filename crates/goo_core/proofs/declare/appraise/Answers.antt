@@ -8,4 +8,4 @@ pub returns-in-Some : goal.returns-in-Some
 returns-in-Some g c =
     let s = (g.S.Shelf.seen c.args.shelf.now).state in
     let issuer : is_issuer c.args.caller.now ≡ true = search rules in
-    looked _ _ _ _ _ _ c.in_ok-standing.ensures (λ stands. appraised s c.args.caller.now c.args.declaration.now c.in_ok-standing.field-0 c.in-Some.standing _ issuer c.in-Some.is stands (c.appraise_standing.ensures s))
+    looked _ _ _ _ _ _ c.in_ok-standing.ensures (λ none stands. appraised s c.args.caller.now c.args.declaration.now c.in_ok-standing.field-0 c.in-Some.standing _ issuer c.in-Some.is stands (c.appraise_standing.ensures s))

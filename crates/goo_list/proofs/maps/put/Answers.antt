@@ -1,6 +1,8 @@
 use Rattle.std.proofs.Common.{rules, ◌≡◌, ap, sym, ◌∙◌, subst}
-use Rattle.goo_list.specs.Maps.{map_of, set_back}
-use Rattle.goo_list.proofs.MapLemmas.{get-map_of, map_of-unchanged, map_of-insert}
+use Rattle.std.specs.Prelude.{IsTrue}
+use Rattle.std.specs.FinMap.{insert, contains_key}
+use Rattle.goo_list.specs.Maps.{map_of}
+use Rattle.goo_list.proofs.MapLemmas.{get-map_of, map_of-unchanged, map_of-insert, is_there}
 use Rattle.goo_list.proofs.maps.put.Goals as goal
 
 pub returns-in-Ok-clause-before : goal.returns-in-Ok-clause-before
@@ -8,6 +10,9 @@ returns-in-Ok-clause-before g c = c.in-Ok.ensures.old ∙ sym (get-map_of g.met.
 
 pub returns-in-Ok-clause-done : goal.returns-in-Ok-clause-done
 returns-in-Ok-clause-done g c = map_of-insert g.met.K.Ord.total g.met.K.MapKey.tells_apart _ _ _ _ c.in-Ok.ensures.updates
+
+pub returns-in-Ok-clause-there : goal.returns-in-Ok-clause-there
+returns-in-Ok-clause-there g c = subst (λ m. IsTrue (contains_key m c.args.key)) (sym (returns-in-Ok-clause-done g c)) (is_there g.met.K.Ord.total _ _ _)
 
 pub returns-clause-undone : goal.returns-clause-undone
 returns-clause-undone g c = map_of-unchanged g.met.K.Ord.total _ _ c.in-Err.ensures.err

@@ -1,0 +1,57 @@
+//! Edits of the rows that a range meets.
+
+ghost use Rattle.std.specs.Prelude.{◌≡◌, ◌≤◌, [], ◌∷◌, IfOk, IfErr};
+ghost use Rattle.goo_types.specs.Piece.{IsRising};
+ghost use Rattle.goo_types.specs.declared.fault.Fault.TheVariants.{Memory};
+ghost use Rattle.goo_ranges.specs.Change.{moved, set_to};
+ghost use Rattle.goo_core.specs.Changes.{AreEditsFor};
+
+use goo_ranges::{Book, Edit};
+use goo_types::fault::Fault;
+use goo_types::lot::Lot;
+use goo_types::piece::Piece;
+use goo_types::place::Place;
+use goo_types::range::Range;
+use std::alloc::{AllocError, Global};
+
+/// The edit alone.
+pub fn single(alloc: Global, edit: Edit) -> Result<Vec<Edit>, AllocError>
+    ensures { IfOk result (λ edits. edits.items ≡ edit ∷ []) }
+{
+    let mut edits = Vec::new(alloc);
+    edits.push(edit)?;
+    Ok(edits)
+}
+
+/// The edit that puts the certificates of a range in another place.
+pub fn move_met(
+    alloc: Global,
+    mut book: Book,
+    range: Range,
+    place: Place,
+) -> Result<Vec<Edit>, Fault>
+    requires { IsRising book }
+    ensures edits { IfOk result (λ edits. (range.first ≤ range.last) × AreEditsFor range book (moved range.first range.last place) edits.items) }
+    ensures memory { IfErr result (λ fault. fault ≡ Memory) }
+{
+    let _first = range.first();
+    let edit = book.reassign(range, place)?;
+    Ok(single(alloc, edit)?)
+}
+
+/// The edit that gives the numbers of a range a lot and a place, from the rows that it meets.
+pub fn add_met(
+    alloc: Global,
+    mut book: Book,
+    range: Range,
+    lot: Lot,
+    place: Place,
+) -> Result<Vec<Edit>, Fault>
+    requires { IsRising book }
+    ensures edits { IfOk result (λ edits. (range.first ≤ range.last) × AreEditsFor range book (set_to range.first range.last (lot, place)) edits.items) }
+    ensures memory { IfErr result (λ fault. fault ≡ Memory) }
+{
+    let _first = range.first();
+    let edit = book.add(range, lot, place)?;
+    Ok(single(alloc, edit)?)
+}

@@ -1,0 +1,33 @@
+ghost use Rattle.std.specs.Prelude.{◌≡◌};
+ghost use Rattle.goo_spec.specs.OpenHolder.{open_holder_refusal, open_holder_reply};
+ghost use Rattle.goo_shelf.specs.Shelf.{Looks, IsReady};
+ghost use Rattle.goo_core.specs.Verdict.{verdict_of};
+
+use goo_shelf::shelf::Shelf;
+use goo_types::command::OpenHolder;
+use goo_types::fault::Fault;
+use goo_types::holder_code::HolderCode;
+use goo_types::refusal::Refusal;
+use goo_types::reply::Reply;
+
+use crate::callers::is_issuer;
+use crate::verdict::Verdict;
+
+/// The checks of making a holder known.
+#[tactic(auto, unfolding(goo_spec::specs::OpenHolder::open_holder_refusal, goo_spec::specs::OpenHolder::open_holder_reply))]
+pub fn judge_open_holder<S: Shelf>(
+    shelf: &mut S,
+    caller: &HolderCode,
+    opening: &OpenHolder,
+) -> Result<Verdict, Fault>
+    requires { IsReady (S.seen shelf.old) }
+    ensures { Looks (S.seen shelf.old) (S.seen shelf.new) result (λ verdict. verdict ≡ verdict_of (open_holder_refusal (S.seen shelf.old).state caller.now opening.now) (open_holder_reply (S.seen shelf.old).state opening.now)) }
+{
+    if !is_issuer(caller) {
+        return Ok(Verdict::Fails(Refusal::NotAllowed));
+    }
+    if shelf.holder(&opening.holder)?.is_some() || is_issuer(&opening.holder) {
+        return Ok(Verdict::Fails(Refusal::HolderExists));
+    }
+    Ok(Verdict::Passes(Reply::Done))
+}

@@ -1,0 +1,15 @@
+use Rattle.std.proofs.Common.{pos, [], ◌∷◌}
+use Rattle.sqlite.specs.declared.types.Value.TheVariants.{Int}
+use Rattle.sqlite.specs.Held.{state}
+use Rattle.goo_columns.proofs.Inside.{sees}
+use Rattle.goo_tables.specs.Changes.{with_closed}
+use Rattle.goo_tables.proofs.Accounts.{close_text, closes_row}
+use Rattle.goo_tables.proofs.account.close_account.Goals as goal
+
+pub returns-clause-changed : goal.returns-clause-changed
+returns-clause-changed g c clean t it =
+    let old = c.args.tx.now.conn.now in
+    let new = c.put.new.tx.conn.now in
+    let number = c.args.number in
+    sees g.S.Store old new close_text (Int (pos number) ∷ []) c.put.result t (with_closed t number) it (closes_row (state g.S.Store old) (state g.S.Store new) t number) c.put.result
+    (rw (c.small.ensures) at (c.put.ensures.runs clean it.inside))

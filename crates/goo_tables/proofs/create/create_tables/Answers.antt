@@ -1,0 +1,18 @@
+use Rattle.std.proofs.Common.{◌≡◌, ◌∙◌, ◌<◌, ◌+◌, arith, get_or, [], refl}
+use Rattle.sqlite.specs.Held.{state}
+use Rattle.goo_columns.specs.Columns.{no_schema}
+use Rattle.goo_tables.specs.Created.{create_texts, stages}
+use Rattle.goo_tables.proofs.Creating.{Makes, makes_nothing, makes_next, makes_keeps, makes_survives, leads, bare_from}
+use Rattle.goo_tables.proofs.create.create_tables.Goals as goal
+
+pub loop-at-init : goal.loop-at-init
+loop-at-init g c = (refl, makes_nothing (state g.S.Store c.args.tx.now.conn.now))
+
+pub loop-at-preserved : goal.loop-at-preserved
+loop-at-preserved g c =
+    let i = c.loop-at.at in
+    let low : i < 15 = omega (arith, c.loop-at-test.true) in (
+      c.put.ensures.same_reference ∙ c.loop-at.invariant.0,
+      makes_next (get_or stages i no_schema) (get_or stages (i + 1) no_schema) (get_or create_texts i []) (state g.S.Store c.args.tx.now.conn.now) (state g.S.Store c.loop-at.tx.conn.now) (state g.S.Store c.put.new.tx.conn.now)
+      c.loop-at.invariant.1 c.put.ensures.uncommitted c.put.ensures.survives c.in_ok-put.field-0 (leads i low) (rw (c.statement.ensures) at c.in_ok-put.ensures.runs),
+    )

@@ -1,0 +1,13 @@
+use Rattle.sqlite.specs.Held.{state}
+use Rattle.goo_columns.proofs.Inside.{sees}
+use Rattle.goo_tables.specs.Changes.{with_counters}
+use Rattle.goo_tables.proofs.MetaTable.{counters_text, counters_params, sets_counters}
+use Rattle.goo_tables.proofs.meta.set_counters.Goals as goal
+
+pub returns-clause-changed : goal.returns-clause-changed
+returns-clause-changed g c clean t it =
+    let old = c.args.tx.now.conn.now in
+    let new = c.put.new.tx.conn.now in
+    let counters = c.args.counters.now in
+    sees g.S.Store old new counters_text (counters_params counters) c.put.result t (with_counters t counters) it (sets_counters (state g.S.Store old) (state g.S.Store new) t counters) c.put.result
+    (rw (c.number.ensures, c.small.ensures, c.small-2.ensures, c.small-3.ensures, c.small-4.ensures) at (c.put.ensures.runs clean it.inside))

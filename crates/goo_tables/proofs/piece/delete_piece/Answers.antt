@@ -1,0 +1,15 @@
+use Rattle.std.proofs.Common.{pos, [], ◌∷◌}
+use Rattle.sqlite.specs.declared.types.Value.TheVariants.{Int}
+use Rattle.sqlite.specs.Held.{state}
+use Rattle.goo_columns.proofs.Inside.{sees}
+use Rattle.goo_tables.specs.Changes.{without_piece}
+use Rattle.goo_tables.proofs.Pieces.{delete_text, deletes_row}
+use Rattle.goo_tables.proofs.piece.delete_piece.Goals as goal
+
+pub returns-clause-changed : goal.returns-clause-changed
+returns-clause-changed g c clean t it =
+    let old = c.args.tx.now.conn.now in
+    let new = c.put.new.tx.conn.now in
+    let first = c.args.first in
+    sees g.S.Store old new delete_text (Int (pos first) ∷ []) c.put.result t (without_piece t first) it (deletes_row (state g.S.Store old) (state g.S.Store new) t first) c.put.result
+    (rw (c.number.ensures) at (c.put.ensures.runs clean it.inside))

@@ -1,0 +1,100 @@
+//! The statements on `meta`, which has one row.
+
+ghost use Rattle.std.specs.Prelude.{◌≡◌, false, Some, IsTrue, OnOk, option_map};
+ghost use Rattle.sqlite.specs.State.{HasCleanDisk, KeepsCommit, Survives};
+ghost use Rattle.sqlite.specs.Held.{state};
+ghost use Rattle.goo_columns.specs.Rows.{Tables, meta_in};
+ghost use Rattle.goo_columns.specs.Stands.{Sees, Looks, IsBare};
+ghost use Rattle.goo_tables.specs.Changes.{MetaFits, CountersFit, begun, at_day, with_counters};
+
+use crate::counters::Counters;
+use goo_columns::ask::ask_first;
+use goo_columns::meta::MetaRow;
+use goo_columns::put::put;
+use goo_columns::values::{number, small, text};
+use sqlite::{Alter, Connection, Error, Transaction};
+use std::alloc::Global;
+
+/// Adds the row that makes bare tables a registry.
+pub fn insert_meta<S: Alter>(
+    tx: &mut Transaction<'_, S>,
+    meta: &MetaRow,
+) -> Result<usize, Error>
+    requires { MetaFits meta.now }
+    ensures same_reference { tx.new.conn.ghost_name ≡ tx.old.conn.ghost_name }
+    ensures begun { HasCleanDisk (state S.Store tx.new.conn.now) → IsTrue (state S.Store tx.old.conn.now).in_transaction → IsBare (state S.Store tx.old.conn.now).now
+        → OnOk result (Sees (state S.Store tx.new.conn.now) (begun (meta_in meta.now))) }
+    ensures uncommitted { HasCleanDisk (state S.Store tx.new.conn.now) → KeepsCommit (state S.Store tx.old.conn.now) (state S.Store tx.new.conn.now) }
+    ensures survives { Survives (state S.Store tx.old.conn.now) (state S.Store tx.new.conn.now) (λ _. ⊥) }
+{
+    put(
+        tx,
+        "INSERT INTO meta (id, version, code, today, next_serial, next_account, next_cancellation, next_withdrawal, next_notice) VALUES (1, ?1, ?2, ?3, ?4, ?5, ?6, ?7, ?8)",
+        &[
+            small(meta.version),
+            small(meta.code),
+            text(&meta.today),
+            number(meta.next_serial),
+            small(meta.next_account),
+            small(meta.next_cancellation),
+            small(meta.next_withdrawal),
+            small(meta.next_notice),
+        ],
+    )
+}
+
+/// The row of `meta`.
+pub fn find_meta<S: Alter>(
+    alloc: Global,
+    conn: &mut Connection<S>,
+) -> Result<Option<MetaRow>, Error>
+    ensures looks { Looks (state S.Store conn.old) (state S.Store conn.new) result (λ t found. option_map meta_in found ≡ Some t.meta) }
+    ensures outside { conn.old.in_transaction ≡ false → conn.new.in_transaction ≡ false }
+{
+    ask_first(
+        alloc,
+        conn,
+        "SELECT version, code, today, next_serial, next_account, next_cancellation, next_withdrawal, next_notice FROM meta WHERE id = 1 ORDER BY id",
+        &[],
+    )
+}
+
+/// Sets the registry's date.
+pub fn set_today<S: Alter>(tx: &mut Transaction<'_, S>, today: &str) -> Result<usize, Error>
+    ensures same_reference { tx.new.conn.ghost_name ≡ tx.old.conn.ghost_name }
+    ensures changed { HasCleanDisk (state S.Store tx.new.conn.now) → (t : Tables) → Sees (state S.Store tx.old.conn.now) t
+        → OnOk result (Sees (state S.Store tx.new.conn.now) (at_day t today.now)) }
+    ensures uncommitted { HasCleanDisk (state S.Store tx.new.conn.now) → KeepsCommit (state S.Store tx.old.conn.now) (state S.Store tx.new.conn.now) }
+    ensures survives { Survives (state S.Store tx.old.conn.now) (state S.Store tx.new.conn.now) (λ _. ⊥) }
+{
+    put(
+        tx,
+        "UPDATE meta SET today = ?1 WHERE id = 1",
+        &[text(today)],
+    )
+}
+
+/// Sets the numbers that are given next.
+pub fn set_counters<S: Alter>(
+    tx: &mut Transaction<'_, S>,
+    counters: &Counters,
+) -> Result<usize, Error>
+    requires { CountersFit counters.now }
+    ensures same_reference { tx.new.conn.ghost_name ≡ tx.old.conn.ghost_name }
+    ensures changed { HasCleanDisk (state S.Store tx.new.conn.now) → (t : Tables) → Sees (state S.Store tx.old.conn.now) t
+        → OnOk result (Sees (state S.Store tx.new.conn.now) (with_counters t counters.now)) }
+    ensures uncommitted { HasCleanDisk (state S.Store tx.new.conn.now) → KeepsCommit (state S.Store tx.old.conn.now) (state S.Store tx.new.conn.now) }
+    ensures survives { Survives (state S.Store tx.old.conn.now) (state S.Store tx.new.conn.now) (λ _. ⊥) }
+{
+    put(
+        tx,
+        "UPDATE meta SET next_serial = ?1, next_account = ?2, next_cancellation = ?3, next_withdrawal = ?4, next_notice = ?5 WHERE id = 1",
+        &[
+            number(counters.next_serial),
+            small(counters.next_account),
+            small(counters.next_cancellation),
+            small(counters.next_withdrawal),
+            small(counters.next_notice),
+        ],
+    )
+}
