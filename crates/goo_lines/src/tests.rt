@@ -111,7 +111,7 @@ fn a_beginning_is_written_before_a_write_fault(rt: HostRuntime) {
     };
     let answered = run_lines(rt.alloc(), &mut desk, &mut b"ISSUER\nSUN {\n".as_slice(), &mut writer);
     assert!(rt; matches!(answered, Err(LinesFault::Write)));
-    assert_eq!(rt; &writer.text[CALLER.len()..], &NOT_JSON.as_bytes()[..4]);
+    assert_eq!(rt; writer.text.as_slice(), b"{\"fault\":\"Caller\",\"outcome\":\"unreadable\"}\n{\"fa".as_slice());
 }
 
 #[test]
