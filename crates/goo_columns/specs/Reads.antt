@@ -1,8 +1,9 @@
 -- Which rows of an answer read as a value, column by column.
-use Rattle.std.specs.Prelude.{◌≡◌, ℕ, ◌+◌, pos, string_bytes, option_map}
-use Rattle.sqlite.specs.declared.types.Value.TheVariants.{Int, Text}
+use Rattle.std.specs.Prelude.{◌≡◌, ◌⊎◌, List, ℕ, ◌+◌, pos, string_bytes, option_map}
+use Rattle.sqlite.specs.declared.types.Value.TheVariants.{Int, Text, Blob}
+use Rattle.sqlite.specs.declared.types.Value.{Value}
 use Rattle.sqlite.specs.Order.{Row, column}
-use Rattle.sqlite_typed.specs.Columns.{or_null, bytes_of}
+use Rattle.sqlite_typed.specs.Columns.{or_null}
 use Rattle.goo_columns.specs.declared.meta.MetaRow.{MetaRow}
 use Rattle.goo_columns.specs.declared.holder.HolderRow.{HolderRow}
 use Rattle.goo_columns.specs.declared.account.AccountRow.{AccountRow}
@@ -18,6 +19,10 @@ use Rattle.goo_columns.specs.declared.notice_out.NoticeOutRow.{NoticeOutRow}
 use Rattle.goo_columns.specs.declared.notice_in.NoticeInRow.{NoticeInRow}
 use Rattle.goo_columns.specs.declared.plant.PlantRow.{PlantRow}
 use Rattle.goo_columns.specs.declared.joined.JoinedRow.{JoinedRow}
+
+-- the value is these bytes, as a text or as a blob
+abbrev pub IsOctets : Value → List ℕ → Type 0
+IsOctets v bytes = (v ≡ Text bytes) ⊎ (v ≡ Blob bytes)
 
 -- from a place on
 abbrev pub plant_reads : ℕ → Row → PlantRow → Type 0
@@ -90,7 +95,7 @@ peer_reads r x = (column r 0 ≡ Int (pos x.code))
 abbrev pub receipt_reads : Row → ReceiptRow → Type 0
 receipt_reads r x = (column r 0 ≡ Text (string_bytes x.caller))
     × (column r 1 ≡ Text (string_bytes x.key))
-    × (bytes_of (column r 2) ≡ x.command.items)
+    × IsOctets (column r 2) x.command.items
     × (column r 3 ≡ Int (pos x.kind))
     × (column r 4 ≡ Int (pos x.n1))
     × (column r 5 ≡ Int (pos x.n2))
@@ -116,12 +121,12 @@ withdrawal_reads r x = (column r 0 ≡ Int (pos x.number))
 abbrev pub notice_out_reads : Row → NoticeOutRow → Type 0
 notice_out_reads r x = (column r 0 ≡ Int (pos x.number))
     × (column r 1 ≡ Int (pos x.account))
-    × (bytes_of (column r 2) ≡ x.body.items)
+    × IsOctets (column r 2) x.body.items
 
 abbrev pub notice_in_reads : Row → NoticeInRow → Type 0
 notice_in_reads r x = (column r 0 ≡ Int (pos x.sender))
     × (column r 1 ≡ Int (pos x.number))
-    × (bytes_of (column r 2) ≡ x.body.items)
+    × IsOctets (column r 2) x.body.items
 
 -- a piece and then its lot
 abbrev pub joined_reads : Row → JoinedRow → Type 0
