@@ -11,12 +11,13 @@ use Rattle.sqlite.specs.Schema.{Schema}
 use Rattle.sqlite.specs.Effect.{Database}
 use Rattle.sqlite_schema.specs.declared.schema.Column.{Column}
 use Rattle.sqlite_schema.specs.declared.schema.Constraint.TheVariants.{Datatype}
-use Rattle.sqlite_schema.specs.Rules.{are_typed, passes}
+use Rattle.sqlite_schema.specs.Rules.{are_typed, suits, passes}
 use Rattle.sqlite_trees.specs.declared.store.Shape.TheVariants as shape
 use Rattle.sqlite_trees.specs.View.{IsShaped}
 use Rattle.sqlite_keyed.specs.Keyed.{IsKeyedBy}
 use Rattle.sqlite_keyed.proofs.ListLemmas.{all_weaker, all_map}
-use Rattle.goo_columns.specs.Columns.{registry_schema, registry_tables}
+use Rattle.goo_columns.specs.Columns.{registry_schema, registry_tables, column_of}
+use Rattle.sqlite.specs.Kind.TheVariants as kind
 use Rattle.goo_columns.specs.Rows.{Kept, kept_key}
 use Rattle.goo_columns.specs.Reads.{IsOctets}
 use Rattle.goo_columns.specs.Stands.{Keeps}
@@ -119,3 +120,15 @@ no_number is = cc
 pub no_octets : {b : List ℕ} → IsOctets Null b → ⊥
 no_octets (inl is) = cc
 no_octets (inr is) = cc
+
+pub int_same : {a b : ℤ} → Int a ≡ Int b → a ≡ b
+int_same is = cc
+
+-- bytes in a column of texts are a text, and in one of blobs a blob
+pub text_octets : (name : List ℕ) (v : Value) {bytes : List ℕ} → suits (column_of true name kind.Text) v ≡ true → IsOctets v bytes → v ≡ Text bytes
+text_octets name v h (inl is) = is
+text_octets name v h (inr is) = absurd (let e = subst (λ u. suits (column_of true name kind.Text) u ≡ true) is h in cc)
+
+pub blob_octets : (name : List ℕ) (v : Value) {bytes : List ℕ} → suits (column_of true name kind.Blob) v ≡ true → IsOctets v bytes → v ≡ Blob bytes
+blob_octets name v h (inl is) = absurd (let e = subst (λ u. suits (column_of true name kind.Blob) u ≡ true) is h in cc)
+blob_octets name v h (inr is) = is

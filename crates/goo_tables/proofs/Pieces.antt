@@ -39,6 +39,15 @@ use Rattle.goo_columns.proofs.One.{answer_of_one, one_keyed}
 use Rattle.goo_columns.proofs.Alone.{pieces_stand}
 use Rattle.goo_tables.specs.Changes.{with_piece, without_piece}
 use Rattle.goo_tables.proofs.Queries.{in_order, unordered}
+use Rattle.sqlite.specs.Order.{column}
+use Rattle.sqlite.specs.declared.types.Value.TheVariants.{Real, Text, Blob}
+use Rattle.std.proofs.Common.{arith}
+use Rattle.goo_columns.specs.Columns.{piece}
+use Rattle.goo_columns.specs.Stands.{Keeps}
+use Rattle.goo_columns.specs.Met.{HasOurTables, Keyed, whole, all_keyed}
+use Rattle.goo_columns.proofs.Ordered.{keyed_rows}
+use Rattle.goo_columns.proofs.Meeting.{IsTyped, typed_rows, type_rules, shape_rules, typed_length, listed_met, no_number, int_same}
+use Rattle.sqlite_typed.proofs.TestLemmas.{then_value}
 
 -- ---- piece: a row is added
 
@@ -121,3 +130,33 @@ shows_all old t it xs rows answer read =
     let shown = answer_by_keys all_query db [] source (λ _. true) (λ _. refl) (λ r. r) piece_columns (λ _. refl) refl refl (λ a b. last_key (value_cmp-Int (piece_key a) (piece_key b))) rows answer in
     let all = sym (map-id rows) ∙ shown ∙ ap (map piece_columns) (unfiltered t.pieces refl) in
     sym (map-id xs) ∙ all_listed piece_reads piece_columns (λ x. x) piece_same t.pieces xs (subst (λ l. AllZip piece_reads l xs) all read)
+
+-- ---- piece: the whole table, met as it is
+
+abbrev piece_shown : Keyed → Row
+piece_shown k = Int k.0 ∷ column (whole k) 2 ∷ column (whole k) 3 ∷ column (whole k) 4 ∷ column (whole k) 5 ∷ column (whole k) 6 ∷ []
+
+piece_is : (k : Keyed) (x : PieceRow) → IsTyped piece.key piece.columns k → piece_reads (piece_shown k) x → (whole k ≡ piece_row (x)) × (k.0 ≡ piece_key (x))
+piece_is (id, []) x fits reads = absurd (no_number reads.5)
+piece_is (id, a ∷ []) x fits reads = absurd (no_number reads.5)
+piece_is (id, a ∷ b ∷ []) x fits reads = absurd (no_number reads.5)
+piece_is (id, a ∷ b ∷ c ∷ []) x fits reads = absurd (no_number reads.5)
+piece_is (id, a ∷ b ∷ c ∷ d ∷ []) x fits reads = absurd (no_number reads.5)
+piece_is (id, a ∷ b ∷ c ∷ d ∷ e ∷ []) x fits reads = absurd (no_number reads.5)
+piece_is (id, Null ∷ b ∷ c ∷ d ∷ e ∷ f ∷ []) x fits reads = (then_value reads.0 (then_value refl (then_value reads.1 (then_value reads.2 (then_value reads.3 (then_value reads.4 (then_value reads.5 refl)))))), int_same reads.0)
+piece_is (id, Int v ∷ b ∷ c ∷ d ∷ e ∷ f ∷ []) x fits reads = absurd (let h = fits in cc)
+piece_is (id, Real v ∷ b ∷ c ∷ d ∷ e ∷ f ∷ []) x fits reads = absurd (let h = fits in cc)
+piece_is (id, Text v ∷ b ∷ c ∷ d ∷ e ∷ f ∷ []) x fits reads = absurd (let h = fits in cc)
+piece_is (id, Blob v ∷ b ∷ c ∷ d ∷ e ∷ f ∷ []) x fits reads = absurd (let h = fits in cc)
+piece_is (id, a ∷ b ∷ c ∷ d ∷ e ∷ f ∷ g ∷ more) x fits reads = absurd (omega (arith, typed_length piece.key 0 piece.columns (a ∷ b ∷ c ∷ d ∷ e ∷ f ∷ g ∷ more) fits))
+
+pub meets_all : (old : State) → HasOurTables old.now → (xs : List PieceRow) (rows : List Row) → IsAnswer all_query (overlay old.now.trees []) [] rows → AllZip piece_reads rows xs → Keeps (old.now.trees 10) piece_row piece_key (xs)
+meets_all old it xs rows answer read =
+    let db = overlay old.now.trees [] in
+    let stored = keyed_rows (old.now.trees 10) (shape_rules old.now it).1.1.1.1.1.1.0 in
+    let source = last_table db 10 whole (λ k. k.0) (all_keyed old.now 10) stored.0 stored.1 (at_end db) in
+    let shown = answer_by_keys all_query db [] source (λ _. true) (λ _. refl) (λ r. r) piece_shown (λ _. refl) refl refl (λ a b. last_key (value_cmp-Int a.0 b.0)) rows answer in
+    let all = sym (map-id rows) ∙ shown ∙ ap (map piece_shown) (unfiltered (all_keyed old.now 10) refl) in
+    let met = subst (λ l. AllZip piece_reads l xs) all read in
+    let fits = typed_rows piece old.now (type_rules old.now it).1.1.1.1.1.1.0 in
+    subst (λ l. Keeps (old.now.trees 10) piece_row piece_key l) (map-id xs) (listed_met (λ x. x) piece_reads piece_shown (IsTyped piece.key piece.columns) (old.now.trees 10) (all_keyed old.now 10) xs stored.0 stored.1 fits met piece_key piece_row piece_is)
