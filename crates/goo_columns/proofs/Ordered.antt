@@ -15,8 +15,11 @@ use Rattle.sqlite_schema.specs.declared.schema.Table.{Table}
 use Rattle.sqlite_catalog.specs.Listing.{IsSound}
 use Rattle.sqlite_catalog.proofs.LayoutLemmas.{laid_out}
 use Rattle.sqlite_keyed.specs.Keyed.{IsKeyedBy}
-use Rattle.sqlite_keyed.proofs.KeyedLemmas.{lt_from_Less}
-use Rattle.sqlite_keyed.proofs.ListLemmas.{all_weaker}
+use Rattle.sqlite_keyed.proofs.KeyedLemmas.{lt_from_Less, Less-from_lt}
+use Rattle.sqlite_keyed.proofs.ListLemmas.{all_weaker, all-map, ascending-map, ascending_weaker}
+use Rattle.sqlite.specs.Effect.{Database}
+use Rattle.goo_columns.specs.Rows.{Tables, kept_key, meta_row, holder_row, account_row, account_key, device_row, declaration_row, declaration_key, lot_row, lot_key, piece_row, piece_key, peer_row, receipt_row, cancellation_row, cancellation_key, withdrawal_row, withdrawal_key, notice_out_row, notice_out_key, notice_in_row}
+use Rattle.goo_columns.specs.Stands.{Stands, Keeps}
 use Rattle.goo_columns.specs.Met.{IsInKeyOrder, Keyed, whole, keyed_of}
 
 -- Trees that are listed and ordered as a store keeps them, which `listed` and `ordered`, laws of `Alter` and `Store`, say of any store that is not broken.
@@ -51,3 +54,21 @@ pub keyed_rows : (rows : List Row) → IsShaped shape.Table rows → (rows ≡ m
 keyed_rows rows shaped =
     let same = wholes rows shaped.1 in
     (same, rising_wholes (map keyed_of rows) (subst IsTable same shaped.0))
+
+-- ---- tables that stand for lists are in that order
+
+module _ {X : Type 0} (to_row : X → Row) (key : X → ℤ) (ids : (x : X) → rowid (to_row x) ≡ Int (key x)) where
+  shaped_list : (xs : List X) → IsKeyedBy key xs → IsShaped shape.Table (map to_row xs)
+  shaped_list xs up = (
+    ascending-map (λ a b. value_cmp (rowid a) (rowid b) ≡ Less) to_row xs
+    (ascending_weaker _ (λ a b. value_cmp (rowid (to_row a)) (rowid (to_row b)) ≡ Less) (λ a b h. rw (ids a, ids b) (value_cmp-Int (key a) (key b) ∙ Less-from_lt (key a) (key b) h)) xs up),
+    all-map (λ r. IsTrue (is_int (rowid r))) to_row (λ x. rw (ids x) refl) xs,
+  )
+
+  shaped_kept : (rows : List Row) (xs : List X) → Keeps rows to_row key xs → IsShaped shape.Table rows
+  shaped_kept rows xs it = subst (IsShaped shape.Table) (sym it.are) (shaped_list xs it.rise)
+
+pub in_key_order_kept : (db : Database) (t : Tables) → Stands db t → IsInKeyOrder db
+in_key_order_kept db t it =
+    subst (λ (s : Schema). AllByRecursion (λ (u : Table). IsShaped shape.Table (db.trees u.tree)) s.tables) (sym it.schema)
+    (subst (IsShaped shape.Table) (sym it.meta) (shaped_list meta_row (λ _. pos 1) (λ _. refl) (t.meta ∷ []) (tt, tt)), (shaped_kept holder_row kept_key (λ _. refl) (db.trees 1) t.holders it.holders, (shaped_kept account_row account_key (λ _. refl) (db.trees 3) t.accounts it.accounts, (shaped_kept device_row kept_key (λ _. refl) (db.trees 4) t.devices it.devices, (shaped_kept declaration_row declaration_key (λ _. refl) (db.trees 6) t.declarations it.declarations, (shaped_kept lot_row lot_key (λ _. refl) (db.trees 8) t.lots it.lots, (shaped_kept piece_row piece_key (λ _. refl) (db.trees 10) t.pieces it.pieces, (shaped_kept peer_row kept_key (λ _. refl) (db.trees 11) t.peers it.peers, (shaped_kept receipt_row kept_key (λ _. refl) (db.trees 13) t.receipts it.receipts, (shaped_kept cancellation_row cancellation_key (λ _. refl) (db.trees 15) t.cancellations it.cancellations, (shaped_kept withdrawal_row withdrawal_key (λ _. refl) (db.trees 16) t.withdrawals it.withdrawals, (shaped_kept notice_out_row notice_out_key (λ _. refl) (db.trees 17) t.notices_out it.notices_out, (shaped_kept notice_in_row kept_key (λ _. refl) (db.trees 18) t.notices_in it.notices_in, tt)))))))))))))
