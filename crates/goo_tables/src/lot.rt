@@ -1,12 +1,13 @@
 //! The statements on `lot`.
 
-ghost use Rattle.std.specs.Prelude.{slice_get, reverse, ◌≡◌, ◌&&◌, false, pos, map, find, OnOk, option_map};
+ghost use Rattle.std.specs.Prelude.{slice_get, reverse, ◌≡◌, ◌&&◌, false, pos, map, find, IfOk, OnOk, option_map};
 ghost use Rattle.std.specs.Ordering.{int_eq};
 ghost use Rattle.sqlite.specs.State.{HasCleanDisk, KeepsCommit, Survives};
 ghost use Rattle.sqlite.specs.Held.{state};
 ghost use Rattle.sqlite_typed.specs.Tests.{bytes_eq};
-ghost use Rattle.goo_columns.specs.Rows.{Tables, lot_in};
-ghost use Rattle.goo_columns.specs.Stands.{Sees, Looks};
+ghost use Rattle.goo_columns.specs.Rows.{Tables, lot_in, lot_row, lot_key};
+ghost use Rattle.goo_columns.specs.Stands.{Sees, Looks, Keeps};
+ghost use Rattle.goo_columns.specs.Met.{HasOurTables};
 ghost use Rattle.goo_tables.specs.Changes.{with_lot, LotFits};
 
 use goo_columns::ask::{ask_all, ask_first};
@@ -70,6 +71,7 @@ pub fn find_lot<S: Alter>(
 /// All lots, in the order in which they came.
 pub fn all_lots<S: Alter>(alloc: Global, conn: &mut Connection<S>) -> Result<Vec<LotRow>, Error>
     ensures looks { Looks (state S.Store conn.old) (state S.Store conn.new) result (λ t found. map lot_in found.items ≡ t.lots) }
+    ensures met { HasCleanDisk (state S.Store conn.new) → HasOurTables (state S.Store conn.old).now → IfOk result (λ found. Keeps ((state S.Store conn.old).now.trees 8) lot_row lot_key (map lot_in found.items)) }
     ensures outside { conn.old.in_transaction ≡ false → conn.new.in_transaction ≡ false }
 {
     ask_all(

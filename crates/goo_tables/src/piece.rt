@@ -1,16 +1,19 @@
 //! The statements on `piece`.
 
-ghost use Rattle.std.specs.Prelude.{◌≡◌, ◌<◌, ◌^◌, OnOk};
+ghost use Rattle.std.specs.Prelude.{◌≡◌, ◌<◌, ◌^◌, false, IfOk, OnOk};
 ghost use Rattle.sqlite.specs.State.{HasCleanDisk, KeepsCommit, Survives};
 ghost use Rattle.sqlite.specs.Held.{state};
-ghost use Rattle.goo_columns.specs.Rows.{Tables};
-ghost use Rattle.goo_columns.specs.Stands.{Sees};
+ghost use Rattle.goo_columns.specs.Rows.{Tables, piece_row, piece_key};
+ghost use Rattle.goo_columns.specs.Stands.{Sees, Looks, Keeps};
+ghost use Rattle.goo_columns.specs.Met.{HasOurTables};
 ghost use Rattle.goo_tables.specs.Changes.{with_piece, without_piece, PieceFits};
 
+use goo_columns::ask::ask_all;
 use goo_columns::piece::PieceRow;
 use goo_columns::put::put;
 use goo_columns::values::{number, small};
-use sqlite::{Alter, Error, Transaction};
+use sqlite::{Alter, Connection, Error, Transaction};
+use std::alloc::Global;
 
 /// Adds a piece, whose first number must be that of no other piece.
 pub fn insert_piece<S: Alter>(tx: &mut Transaction<'_, S>, piece: &PieceRow) -> Result<usize, Error>
@@ -45,4 +48,21 @@ pub fn delete_piece<S: Alter>(tx: &mut Transaction<'_, S>, first: u64) -> Result
     ensures survives { Survives (state S.Store tx.old.conn.now) (state S.Store tx.new.conn.now) (λ _. ⊥) }
 {
     put(tx, "DELETE FROM piece WHERE first = ?1", &[number(first)])
+}
+
+/// All pieces, by their first numbers.
+pub fn all_pieces<S: Alter>(
+    alloc: Global,
+    conn: &mut Connection<S>,
+) -> Result<Vec<PieceRow>, Error>
+    ensures looks { Looks (state S.Store conn.old) (state S.Store conn.new) result (λ t found. found.items ≡ t.pieces) }
+    ensures met { HasCleanDisk (state S.Store conn.new) → HasOurTables (state S.Store conn.old).now → IfOk result (λ found. Keeps ((state S.Store conn.old).now.trees 10) piece_row piece_key found.items) }
+    ensures outside { conn.old.in_transaction ≡ false → conn.new.in_transaction ≡ false }
+{
+    ask_all(
+        alloc,
+        conn,
+        "SELECT first, last, lot, kind, account, act FROM piece ORDER BY first",
+        &[],
+    )
 }
