@@ -98,6 +98,32 @@ finds old origin device first_day t it x rows answer read =
     (λ a b. last_key (value_cmp-Int (lot_key a) (lot_key b))) rows answer in
     first_listed (lot_reads 0) lot_columns lot_in lot_same _ t.lots x (subst (λ l. FirstZip (lot_reads 0) l x) (sym (map-id rows) ∙ shown) read)
 
+-- ---- lot: the row with a number
+
+abbrev pub by_id_text : List ℕ
+by_id_text = codes "SELECT id, origin, device, country, site, tech, source, capacity_w, commissioned, support, first_day, last_day, expires_on, issued_on FROM lot WHERE id = ?1 ORDER BY id"
+
+abbrev pub by_id_query : Query
+by_id_query = in_order 8 (op2 (Compare Eq Binary) (col 1 0) (col 0 0) ∷ []) (col 1 0 ∷ col 1 2 ∷ col 1 3 ∷ col 1 4 ∷ col 1 5 ∷ col 1 6 ∷ col 1 7 ∷ col 1 8 ∷ col 1 9 ∷ col 1 10 ∷ col 1 11 ∷ col 1 12 ∷ col 1 13 ∷ col 1 14 ∷ [])
+
+pub by_id_is : (command_of (understood registry_schema by_id_text) ≡ Select (record { lets = []; body = by_id_query }) (codes "id" ∷ codes "origin" ∷ codes "device" ∷ codes "country" ∷ codes "site" ∷ codes "tech" ∷ codes "source" ∷ codes "capacity_w" ∷ codes "commissioned" ∷ codes "support" ∷ codes "first_day" ∷ codes "last_day" ∷ codes "expires_on" ∷ codes "issued_on" ∷ [])) × (reads_listing registry_schema by_id_text ≡ false)
+unfolding understood everything
+by_id_is = (refl, refl)
+
+pub by_id_plain : IsPlain (understood registry_schema by_id_text)
+unfolding understood everything
+by_id_plain = (refl, refl)
+
+pub finds_by_id : (old : State) (id : ℕ) (t : Tables) → Stands old.now t → (x : Option LotRow) (rows : List Row) → IsAnswer by_id_query (overlay old.now.trees []) (Int (pos id) ∷ []) rows → FirstZip (lot_reads 0) rows x
+    → option_map lot_in x ≡ find (λ (l : Lot). int_eq (lot_key l) (pos id)) t.lots
+finds_by_id old id t it x rows answer read =
+    let db = overlay old.now.trees [] in
+    let p = λ (l : Lot). int_eq (lot_key l) (pos id) in
+    let source = last_table db 8 lot_row lot_key t.lots it.lots.are it.lots.rise (at_end db) in
+    let shown = answer_by_keys by_id_query db (Int (pos id) ∷ []) source p (λ l. last_term (at_ints false Eq (lot_key l) (pos id))) (λ r. r) lot_columns (λ _. refl) refl refl
+        (λ a b. last_key (value_cmp-Int (lot_key a) (lot_key b))) rows answer in
+    first_listed (lot_reads 0) lot_columns lot_in lot_same p t.lots x (subst (λ l. FirstZip (lot_reads 0) l x) (sym (map-id rows) ∙ shown) read)
+
 -- ---- lot: the whole table
 
 abbrev pub all_text : List ℕ

@@ -1,5 +1,5 @@
 -- What the statements on `piece` do and show.
-use Rattle.std.proofs.Common.{◌≡◌, ℕ, pos, List, [], ◌∷◌, filter, codes, map, map-id, Some, true, false, Ok, Err, Result, OnOk, refl, sym, ap, subst, ◌∙◌, int_eq}
+use Rattle.std.proofs.Common.{◌≡◌, ℕ, pos, List, [], ◌∷◌, filter, codes, map, map-id, Some, true, false, Ok, Err, Result, OnOk, refl, sym, ap, subst, ◌∙◌, int_eq, find, Option}
 use Rattle.std.specs.List.{AllZip}
 use Rattle.sqlite_tied.specs.Compute.{everything}
 use Rattle.sqlite.specs.declared.types.Value.TheVariants.{Null, Int}
@@ -30,7 +30,9 @@ use Rattle.goo_columns.specs.Columns.{registry_schema}
 use Rattle.goo_columns.specs.Rows.{Tables, piece_columns, piece_row, piece_key}
 use Rattle.goo_columns.specs.declared.piece.PieceRow.{PieceRow}
 use Rattle.goo_columns.specs.Reads.{piece_reads}
-use Rattle.goo_columns.proofs.Read.{all_listed}
+use Rattle.goo_columns.proofs.Read.{all_listed, first_listed}
+use Rattle.std.proofs.lemmas.Iterator.Adapters.{option_map_id}
+use Rattle.goo_columns.specs.Asked.{FirstZip}
 use Rattle.goo_columns.proofs.Same.{piece_same}
 use Rattle.goo_columns.specs.Stands.{Stands}
 use Rattle.goo_columns.proofs.Writing.{inserts, deletes}
@@ -105,6 +107,33 @@ deletes_row old new t first (Ok count) it ran =
           ∙ removes piece_key piece_row (λ _. refl) (old.now.trees 10) t.pieces p it.pieces.are it.pieces.rise;
       rise = IsKeyedBy-delete_where piece_key p t.pieces it.pieces.rise;
     })
+
+-- ---- piece: the row with a key
+
+abbrev pub find_text : List ℕ
+find_text = codes "SELECT first, last, lot, kind, account, act FROM piece WHERE first = ?1 ORDER BY first"
+
+abbrev pub find_query : Query
+find_query = in_order 10 (op2 (Compare Eq Binary) (col 1 0) (col 0 0) ∷ []) (col 1 0 ∷ col 1 2 ∷ col 1 3 ∷ col 1 4 ∷ col 1 5 ∷ col 1 6 ∷ [])
+
+pub find_is : (command_of (understood registry_schema find_text) ≡ Select (record { lets = []; body = find_query }) (codes "first" ∷ codes "last" ∷ codes "lot" ∷ codes "kind" ∷ codes "account" ∷ codes "act" ∷ []))
+    × (reads_listing registry_schema find_text ≡ false)
+unfolding understood everything
+find_is = (refl, refl)
+
+pub find_plain : IsPlain (understood registry_schema find_text)
+unfolding understood everything
+find_plain = (refl, refl)
+
+pub finds : (old : State) (first : ℕ) (t : Tables) → Stands old.now t → (x : Option PieceRow) (rows : List Row) → IsAnswer find_query (overlay old.now.trees []) (Int (pos first) ∷ []) rows → FirstZip piece_reads rows x
+    → x ≡ find (λ (p : PieceRow). int_eq (piece_key p) (pos first)) t.pieces
+finds old first t it x rows answer read =
+    let db = overlay old.now.trees [] in
+    let p = λ (x : PieceRow). int_eq (piece_key x) (pos first) in
+    let source = last_table db 10 piece_row piece_key t.pieces it.pieces.are it.pieces.rise (at_end db) in
+    let shown = answer_by_keys find_query db (Int (pos first) ∷ []) source p (λ x. last_term (at_ints false Eq (piece_key x) (pos first))) (λ r. r) piece_columns (λ _. refl) refl refl
+        (λ a b. last_key (value_cmp-Int (piece_key a) (piece_key b))) rows answer in
+    sym (option_map_id x) ∙ first_listed piece_reads piece_columns (λ x. x) piece_same p t.pieces x (subst (λ l. FirstZip piece_reads l x) (sym (map-id rows) ∙ shown) read)
 
 -- ---- piece: the whole table
 

@@ -1,10 +1,11 @@
 //! The statements on `lot`.
 
-ghost use Rattle.std.specs.Prelude.{slice_get, reverse, ◌≡◌, ◌&&◌, false, pos, map, find, IfOk, OnOk, option_map};
+ghost use Rattle.std.specs.Prelude.{slice_get, reverse, ◌≡◌, ◌&&◌, false, pos, map, find, IfOk, OnOk, option_map, ◌<◌, ◌^◌};
 ghost use Rattle.std.specs.Ordering.{int_eq};
 ghost use Rattle.sqlite.specs.State.{HasCleanDisk, KeepsCommit, Survives};
 ghost use Rattle.sqlite.specs.Held.{state};
 ghost use Rattle.sqlite_typed.specs.Tests.{bytes_eq};
+ghost use Rattle.sqlite_keyed.specs.Keyed.{get_by};
 ghost use Rattle.goo_columns.specs.Rows.{Tables, lot_in, lot_row, lot_key};
 ghost use Rattle.goo_columns.specs.Stands.{Sees, Looks, Keeps};
 ghost use Rattle.goo_columns.specs.Met.{HasOurTables};
@@ -65,6 +66,24 @@ pub fn find_lot<S: Alter>(
         conn,
         "SELECT id, origin, device, country, site, tech, source, capacity_w, commissioned, support, first_day, last_day, expires_on, issued_on FROM lot WHERE origin = ?1 AND device = ?2 AND first_day = ?3 ORDER BY id",
         &[small(origin), text(device), text(first_day)],
+    )
+}
+
+/// The lot with this number in the database.
+pub fn find_lot_by_id<S: Alter>(
+    alloc: Global,
+    conn: &mut Connection<S>,
+    id: u64,
+) -> Result<Option<LotRow>, Error>
+    requires { id < 2 ^ 63 }
+    ensures looks { Looks (state S.Store conn.old) (state S.Store conn.new) result (λ t found. option_map lot_in found ≡ get_by lot_key t.lots (pos id)) }
+    ensures outside { conn.old.in_transaction ≡ false → conn.new.in_transaction ≡ false }
+{
+    ask_first(
+        alloc,
+        conn,
+        "SELECT id, origin, device, country, site, tech, source, capacity_w, commissioned, support, first_day, last_day, expires_on, issued_on FROM lot WHERE id = ?1 ORDER BY id",
+        &[number(id)],
     )
 }
 

@@ -1,5 +1,7 @@
 //! The statements that write.
 
+ghost use Rattle.std.specs.Prelude.{◌≡◌, IfOk};
+
 use goo_columns::account::AccountRow;
 use goo_columns::cancellation::CancellationRow;
 use goo_columns::declaration::DeclarationRow;
@@ -40,7 +42,9 @@ fn blob(alloc: Global, text: &str) -> Result<Vec<u8>, Error> {
     Ok(Vec::from_slice(alloc, text.as_bytes())?)
 }
 
-fn plant(alloc: Global) -> Result<PlantRow, Error> {
+fn plant(alloc: Global) -> Result<PlantRow, Error>
+    ensures { IfOk result (λ plant. plant.capacity_w ≡ 2_000_000) }
+{
     Ok(PlantRow {
         country: string(alloc, "DE")?,
         site: string(alloc, "North field")?,
