@@ -1,5 +1,5 @@
 -- The certificates of rows.
-use Rattle.std.proofs.Common.{◌≡◌, ℕ, zero, suc, ◌+◌, ◌-◌, ◌*◌, ◌<◌, ◌≤◌, ◌==◌, ◌&&◌, length, get_or, take, List, [], ◌∷◌, Bool, true, false, cond, Some, None, refl, sym, ap, ◌∙◌, arith}
+use Rattle.std.proofs.Common.{max, ◌≡◌, ℕ, zero, suc, ◌+◌, ◌-◌, ◌*◌, ◌<◌, ◌≤◌, ◌==◌, ◌&&◌, length, get_or, take, List, [], ◌∷◌, Bool, true, false, cond, Some, None, refl, sym, ap, ◌∙◌, arith}
 use Rattle.std.specs.Prelude.{sum_by, count_by}
 use Rattle.std.specs.Str.{bytes_eq}
 use Rattle.goo_types.specs.Number.{code_of}
@@ -12,7 +12,9 @@ use Rattle.goo_types.specs.Piece.{Label, label_of, covers, at_of, IsForward, IsR
 use Rattle.goo_spec.specs.Lots.{Certificates}
 use Rattle.goo_spec.specs.Maps.{each}
 use Rattle.goo_spec.proofs.Placing.{get-give_each}
+use Rattle.goo_spec.specs.State.{serials}
 use Rattle.goo_spec.specs.Energy.{is_issued_to}
+use Rattle.std.proofs.lemmas.Bool.{eqb-true}
 use Rattle.goo_spec.proofs.Counting.{one, one_at}
 use Rattle.goo_spec.proofs.Giving.{count-give_each}
 use Rattle.goo_ranges.proofs.Rising.{at_of-below}
@@ -67,6 +69,10 @@ so_many : (b : Bool) (first last rest : ℕ) → rest + (suc last - first) * con
 so_many true first last rest = omega arith
 so_many false first last rest = omega arith
 
+at_most_so : (b : Bool) (n : ℕ) → cond b n 0 ≤ n
+at_most_so true n = omega arith
+at_most_so false n = omega arith
+
 module _ (own : ℕ) (device : List ℕ) where
   here_issued : (p : Piece) (n : ℕ) (at : Certificates) → code_of p.first ≡ code_of p.last → p.first ≤ n → n < p.first + (suc p.last - p.first) → get at n ≡ None
       → one (is_issued_to own device) (n, (p.lot, p.place)) ≡ one_at (is_issued_to own device) n (get at n) + cond (code_of p.first == own && bytes_eq p.lot.device device) 1 0
@@ -87,3 +93,21 @@ module _ (own : ℕ) (device : List ℕ) where
       ∙ ap (λ k. k + (suc p.last - p.first) * cond b 1 0) (issued-rows (p.last + 1) ps rising.2)
       ∙ so_many b p.first p.last (sum_by (issued_in own device) ps)
       ∙ sym (sum_by-cons (issued_in own device) p ps)
+
+  pub own-block : (low : ℕ) (ps : List Piece) → IsRisingFrom low ps → sum_by (issued_in own device) ps + max low (own * serials) ≤ max low ((own + 1) * serials)
+  own-block low [] rising = omega arith
+  own-block low (p ∷ ps) rising =
+      let rest = own-block (p.last + 1) ps rising.2 in
+      let above = rising.0 in
+      let forward : p.first ≤ p.last = rising.1.0 in
+      let codes : code_of p.first ≡ code_of p.last = rising.1.1 in
+      let sums = sum_by-cons (issued_in own device) p ps in
+      elim (code_of p.first == own) as (λ b. (code_of p.first == own) ≡ b → sum_by (issued_in own device) (p ∷ ps) + max low (own * serials) ≤ max low ((own + 1) * serials)) [
+        | true ↦ λ same.
+            let code = eqb-true (code_of p.first) own same in
+            let here : issued_in own device p ≤ p.last + 1 - p.first = rw same (at_most_so (bytes_eq p.lot.device device) (p.last + 1 - p.first)) in
+            omega (arith, rest, above, forward, codes, code, sums, here)
+        | false ↦ λ other.
+            let here : issued_in own device p ≡ 0 = rw other refl in
+            omega (arith, rest, above, forward, sums, here)
+      ] refl

@@ -7,3 +7,4 @@ pub mod CertificateLemmas
 pub mod ReceiptLemmas
 pub mod LookLemmas
 pub mod OrderLemmas
+pub mod SumLemmas
