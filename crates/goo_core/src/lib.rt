@@ -3,6 +3,7 @@
 
 mod add_peer;
 mod advance;
+mod arriving;
 pub mod callers;
 mod cancel;
 mod change;
@@ -20,6 +21,7 @@ mod parts;
 mod range_checks;
 mod register_device;
 mod ruling;
+mod taking;
 mod transfer;
 mod verdict;
 mod withdraw;
