@@ -1,9 +1,9 @@
 -- A row that shows a value reads as that value alone.
-use Rattle.std.proofs.Common.{◌≡◌, ℕ, pos, List, string_bytes, Option, Some, None, option_map, refl, sym}
-use Rattle.sqlite.specs.declared.types.Value.TheVariants.{Int, Text}
+use Rattle.std.proofs.Common.{◌≡◌, inl, inr, ℕ, pos, List, string_bytes, Option, Some, None, option_map, refl, sym}
+use Rattle.sqlite.specs.declared.types.Value.TheVariants.{Int, Text, Blob}
 use Rattle.sqlite_typed.specs.Columns.{or_null}
 use Rattle.goo_columns.specs.Rows.{Plant, plant_columns, plant_in, Meta, meta_columns, meta_in, holder_columns, holder_in, Holder, account_columns, account_in, Account, device_columns, device_in, Device, declaration_columns, declaration_in, Declaration, lot_columns, lot_in, Lot, piece_columns, peer_columns, receipt_columns, receipt_in, Receipt, cancellation_columns, cancellation_in, Cancellation, withdrawal_columns, withdrawal_in, Withdrawal, notice_out_columns, notice_out_in, NoticeOut, notice_in_columns, notice_in_in, NoticeIn}
-use Rattle.goo_columns.specs.Reads.{joined_reads, plant_reads, meta_reads, holder_reads, account_reads, device_reads, declaration_reads, lot_reads, piece_reads, peer_reads, receipt_reads, cancellation_reads, withdrawal_reads, notice_out_reads, notice_in_reads}
+use Rattle.goo_columns.specs.Reads.{IsOctets, joined_reads, plant_reads, meta_reads, holder_reads, account_reads, device_reads, declaration_reads, lot_reads, piece_reads, peer_reads, receipt_reads, cancellation_reads, withdrawal_reads, notice_out_reads, notice_in_reads}
 use Rattle.goo_columns.specs.declared.plant.PlantRow.{PlantRow}
 use Rattle.goo_columns.specs.declared.meta.MetaRow.{MetaRow}
 use Rattle.goo_columns.specs.declared.holder.HolderRow.{HolderRow}
@@ -26,6 +26,14 @@ number_same is = cc
 
 text_same : {a b : List ℕ} → Text a ≡ Text b → b ≡ a
 text_same is = cc
+
+octets_same : {a b : List ℕ} → IsOctets (Text a) b → b ≡ a
+octets_same (inl is) = cc
+octets_same (inr is) = absurd cc
+
+blob_same : {a b : List ℕ} → IsOctets (Blob a) b → b ≡ a
+blob_same (inl is) = absurd cc
+blob_same (inr is) = cc
 
 maybe_same : (a b : Option (List ℕ)) → or_null Text a ≡ or_null Text b → b ≡ a
 maybe_same None None is = refl
@@ -61,7 +69,7 @@ pub peer_same : (y : PeerRow) (x : PeerRow) → peer_reads (peer_columns y) x �
 peer_same y x reads = λ i. record { code = number_same reads i }
 
 pub receipt_same : (y : Receipt) (x : ReceiptRow) → receipt_reads (receipt_columns y) x → receipt_in x ≡ y
-receipt_same y x reads = λ i. record { caller = text_same reads.0 i; key = text_same reads.1 i; command = sym reads.2 i; kind = number_same reads.3 i; n1 = number_same reads.4 i; n2 = number_same reads.5 i; n3 = number_same reads.6 i }
+receipt_same y x reads = λ i. record { caller = text_same reads.0 i; key = text_same reads.1 i; command = blob_same reads.2 i; kind = number_same reads.3 i; n1 = number_same reads.4 i; n2 = number_same reads.5 i; n3 = number_same reads.6 i }
 
 pub cancellation_same : (y : Cancellation) (x : CancellationRow) → cancellation_reads (cancellation_columns y) x → cancellation_in x ≡ y
 cancellation_same y x reads = λ i. record { number = number_same reads.0 i; account = number_same reads.1 i; first = number_same reads.2 i; last = number_same reads.3 i; beneficiary = text_same reads.4 i; use_first = text_same reads.5 i; use_last = text_same reads.6 i; day = text_same reads.7 i }
@@ -70,10 +78,10 @@ pub withdrawal_same : (y : Withdrawal) (x : WithdrawalRow) → withdrawal_reads 
 withdrawal_same y x reads = λ i. record { number = number_same reads.0 i; first = number_same reads.1 i; last = number_same reads.2 i; reason = text_same reads.3 i; day = text_same reads.4 i }
 
 pub notice_out_same : (y : NoticeOut) (x : NoticeOutRow) → notice_out_reads (notice_out_columns y) x → notice_out_in x ≡ y
-notice_out_same y x reads = λ i. record { number = number_same reads.0 i; account = number_same reads.1 i; body = sym reads.2 i }
+notice_out_same y x reads = λ i. record { number = number_same reads.0 i; account = number_same reads.1 i; body = octets_same reads.2 i }
 
 pub notice_in_same : (y : NoticeIn) (x : NoticeInRow) → notice_in_reads (notice_in_columns y) x → notice_in_in x ≡ y
-notice_in_same y x reads = λ i. record { sender = number_same reads.0 i; number = number_same reads.1 i; body = sym reads.2 i }
+notice_in_same y x reads = λ i. record { sender = number_same reads.0 i; number = number_same reads.1 i; body = octets_same reads.2 i }
 
 pub joined_same : (a : PieceRow × Lot) (x : JoinedRow) → joined_reads (joined_columns a) x → joined_in x ≡ a
 joined_same a x reads = λ i. (piece_same a.0 x.piece reads.0 i, lot_same a.1 x.lot reads.1 i)

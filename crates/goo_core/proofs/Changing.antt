@@ -49,12 +49,6 @@ turned_by at after rows range edits change up kept outside so are = record {
   rising = stay_rising edits rows kept.disjoint (within-edits range rows edits (edits-framed range rows (meeting range rows) edits up (met-block range rows kept.disjoint) kept.disjoint are.within).edits);
 }
 
--- certificates of a range that go to another place
-pub moved_turned : (at : Certificates) (rows : List Piece) (range : Numbers) (place : Place) (edits : List Edit) → range.first ≤ range.last → AreRowsOf at rows
-    → AreEditsFor range (meeting range rows) (moved range.first range.last place) edits → IsTurnedInTurn (place_each (λ lot old. place) (each range) at) rows edits
-moved_turned at rows range place edits up kept are =
-    turned_by at (place_each (λ lot old. place) (each range) at) rows range edits (moved range.first range.last place) up kept (moved-outside range place) (λ n. get-move_each range place at n up) are
-
 -- numbers of a range that get a lot and a place
 pub added_turned : (at : Certificates) (rows : List Piece) (range : Numbers) (lot : LotFields) (place : Place) (edits : List Edit) → range.first ≤ range.last → AreRowsOf at rows
     → AreEditsFor range (meeting range rows) (set_to range.first range.last (lot, place)) edits → IsTurnedInTurn (give_each (each range) lot place at) rows edits

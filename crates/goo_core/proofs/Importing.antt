@@ -1,12 +1,13 @@
 -- What an import comes to.
 use Rattle.std.proofs.Common.{◌≡◌, ◌∙◌, ℕ, ◌+◌, ◌<◌, ◌≤◌, Bool, true, false, cond, ◌==◌, ◌&&◌, List, [], ◌∷◌, ◌++◌, Option, Some, None, refl, ap, sym, subst, arith}
-use Rattle.std.specs.Prelude.{find, sum_by, All, not}
+use Rattle.std.specs.Prelude.{find, sum_by, All, not, Result, Ok, Err, IfOk}
 use Rattle.std.specs.Option.{option_or}
 use Rattle.std.specs.FinMap.{get}
 use Rattle.std.proofs.lemmas.List.Elements.{All-head, All-tail}
 use Rattle.goo_types.specs.Notice.{NoticeContents, IsWhole}
 use Rattle.goo_types.specs.Number.{code_of}
-use Rattle.goo_types.specs.Piece.{Label, at_of}
+use Rattle.goo_types.specs.Piece.{Label, at_of, IsRising}
+use Rattle.goo_types.specs.declared.fault.Fault.{Fault}
 use Rattle.goo_types.specs.Range.{Numbers, IsRange}
 use Rattle.goo_types.specs.declared.command.Import.{Import}
 use Rattle.goo_types.specs.declared.lot_fields.LotFields.{LotFields}
@@ -119,3 +120,90 @@ module _ (s : State) (rows : List Piece) (kept : AreRowsOf s.at rows) where
         turned = edits-turned (taken x.notice.parts (Held x.notice.account) s.at) rows change.edits.items kept.disjoint taken_edits.edits
           (λ n. taken_edits.changes n ∙ ap (given known x.notice.account n) (kept.same n) ∙ given-taken x.notice.parts known x.notice.account n s.at whole.ranges are);
       }
+
+-- what holds of a ruling for all rows
+pub ruled_for : (known : List Arriving) (own account count : ℕ) (r : Result Ruling Fault) → ((rows : List Piece) → IsRising rows → AreMet rows known → IfOk r (IsTakeRuling rows known own account count))
+    → IfOk r (λ ruling. (rows : List Piece) → IsRising rows → AreMet rows known → IsTakeRuling rows known own account count ruling)
+ruled_for known own account count (Ok ruling) so = so
+ruled_for known own account count (Err fault) so = tt
+
+-- ---- the checks before those of the account
+
+early-fails : (s : State) (caller : List ℕ) (x : Import) (r : Refusal) → first_refusal (entry_checks s caller x) ≡ Some r → import_refusal s caller x ≡ Some r
+unfolding import_refusal
+early-fails s caller x r fails = ap (λ o. first_refusal (o ∷ when (is_other x.notice (get s.arrived (x.notice.sender, x.notice.number))) NoticeConflict ∷ (standing_checks s x ++ number_checks s x))) fails
+
+early-repeats : (s : State) (caller : List ℕ) (x : Import) (r : Refusal) → first_refusal (entry_checks s caller x) ≡ Some r → import_repeats s caller x ≡ None
+unfolding import_repeats
+early-repeats s caller x r fails = ap (λ o. arrived_reply o (is_arrived x.notice (get s.arrived (x.notice.sender, x.notice.number))) (import_reply s x)) fails
+
+pub ruled_early : (s : State) (rows : List Piece) (caller : List ℕ) (x : Import) (r : Refusal) → first_refusal (entry_checks s caller x) ≡ Some r → IsRuling (import_meaning s caller x) rows (Refused r)
+ruled_early s rows caller x r fails = (early-repeats s caller x r fails, early-fails s caller x r fails)
+
+later-refusal : (s : State) (caller : List ℕ) (x : Import) (b : Bool) → first_refusal (entry_checks s caller x) ≡ None → is_other x.notice (get s.arrived (x.notice.sender, x.notice.number)) ≡ b
+    → import_refusal s caller x ≡ first_refusal (when b NoticeConflict ∷ (standing_checks s x ++ number_checks s x))
+unfolding import_refusal
+later-refusal s caller x b passed other = λ i. first_refusal (passed i ∷ when (other i) NoticeConflict ∷ (standing_checks s x ++ number_checks s x))
+
+later-repeats : (s : State) (caller : List ℕ) (x : Import) (b : Bool) → first_refusal (entry_checks s caller x) ≡ None → is_arrived x.notice (get s.arrived (x.notice.sender, x.notice.number)) ≡ b
+    → import_repeats s caller x ≡ arrived_reply None b (import_reply s x)
+unfolding import_repeats
+later-repeats s caller x b passed same = λ i. arrived_reply (passed i) (same i) (import_reply s x)
+
+-- what is kept of a notice, and what that says
+same-by : (notice : NoticeContents) (o : Option NoticeContents) → arrival.Same ≡ arrival_of o notice → is_arrived notice o ≡ true
+same-by notice None is = absurd (cc)
+same-by notice (Some kept) is = by (same_notice kept notice) is
+  where
+    by : (b : Bool) → arrival.Same ≡ cond b arrival.Same arrival.Other → b ≡ true
+    by true is = refl
+    by false is = absurd (cc)
+
+other-by : (notice : NoticeContents) (o : Option NoticeContents) → arrival.Other ≡ arrival_of o notice → (is_arrived notice o ≡ false) × (is_other notice o ≡ true)
+other-by notice None is = absurd (cc)
+other-by notice (Some kept) is = by (same_notice kept notice) is
+  where
+    by : (b : Bool) → arrival.Other ≡ cond b arrival.Same arrival.Other → (b ≡ false) × (not b ≡ true)
+    by true is = absurd (cc)
+    by false is = (refl, refl)
+
+absent-by : (notice : NoticeContents) (o : Option NoticeContents) → arrival.Absent ≡ arrival_of o notice → (is_arrived notice o ≡ false) × (is_other notice o ≡ false)
+absent-by notice None is = (refl, refl)
+absent-by notice (Some kept) is = by (same_notice kept notice) is
+  where
+    by : (b : Bool) → arrival.Absent ≡ cond b arrival.Same arrival.Other → (b ≡ false) × (not b ≡ false)
+    by true is = absurd (cc)
+    by false is = absurd (cc)
+
+pub ruled_same : (s : State) (rows : List Piece) (caller : List ℕ) (x : Import) (count : ℕ) → first_refusal (entry_checks s caller x) ≡ None → arrival.Same ≡ arrival_of (get s.arrived (x.notice.sender, x.notice.number)) x.notice
+    → count ≡ sum_by (λ p. count_of p.range) x.notice.parts → IsRuling (import_meaning s caller x) rows (Repeated (Imported count))
+unfolding import_reply
+ruled_same s rows caller x count passed same counted =
+    later-repeats s caller x true passed (same-by x.notice (get s.arrived (x.notice.sender, x.notice.number)) same)
+    ∙ ap (λ k. Some (Imported k)) (length_numbered x.notice.parts ∙ sym counted)
+
+pub ruled_other : (s : State) (rows : List Piece) (caller : List ℕ) (x : Import) → first_refusal (entry_checks s caller x) ≡ None → arrival.Other ≡ arrival_of (get s.arrived (x.notice.sender, x.notice.number)) x.notice
+    → IsRuling (import_meaning s caller x) rows (Refused NoticeConflict)
+ruled_other s rows caller x passed other =
+    let found = other-by x.notice (get s.arrived (x.notice.sender, x.notice.number)) other in
+    (later-repeats s caller x false passed found.0, later-refusal s caller x true passed found.1)
+
+pub ruled_absent : (s : State) (rows : List Piece) (caller : List ℕ) (x : Import) (ruling : Ruling) → first_refusal (entry_checks s caller x) ≡ None → arrival.Absent ≡ arrival_of (get s.arrived (x.notice.sender, x.notice.number)) x.notice
+    → IsRuling (fresh_meaning s x) rows ruling → IsRuling (import_meaning s caller x) rows ruling
+ruled_absent s rows caller x ruling passed absent ruled =
+    let found = absent-by x.notice (get s.arrived (x.notice.sender, x.notice.number)) absent in
+    let repeats = later-repeats s caller x false passed found.0 in
+    let refused = later-refusal s caller x false passed found.1 in
+    by ruling ruled repeats refused
+  where
+    by : (ruling : Ruling) → IsRuling (fresh_meaning s x) rows ruling → import_repeats s caller x ≡ None → import_refusal s caller x ≡ first_refusal (standing_checks s x ++ number_checks s x) → IsRuling (import_meaning s caller x) rows ruling
+    by (Refused r) ruled repeats refused = (repeats, refused ∙ ruled.1)
+    by (Repeated reply) ruled repeats refused = absurd (cc)
+    by (Passed change) ruled repeats refused = record {
+      fresh = repeats;
+      allowed = refused ∙ ruled.allowed;
+      answered = ruled.answered;
+      sent = ruled.sent;
+      rising = ruled.rising;
+      turned = ruled.turned;
+    }

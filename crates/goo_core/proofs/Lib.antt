@@ -14,3 +14,5 @@ pub mod Expiring
 pub mod Takings
 pub mod Arrivals
 pub mod Importing
+pub mod Withdrawing
+pub mod Deciding

@@ -67,3 +67,18 @@ looked_then a b c x (Err e) first second one two = record {
 -- a shelf whose last call was answered is ready for the next
 pub ready : {T : Type 0} (a b : Moment) (x : T) (first : T → Type 0) → Looks a b (Ok x) first → (b.doubts ≡ 0 → IsSafe b b.state) → IsReady b
 ready a b x first look settled = record { told = look.told; works = look.works; settled = settled }
+
+-- an answer, if there is one, put in other words
+pub looked_as : {T : Type 0} (a b : Moment) (r : Result T Fault) (first right : T → Type 0) → Looks a b r first → (a.doubts ≡ 0 → (x : T) → first x → right x) → Looks a b r right
+looked_as a b (Ok x) first right look so = looked a b x x first right look (λ none is. so none x is)
+looked_as {T} a b (Err e) first right look so = record {
+  found = λ none. tt;
+  same = look.same;
+  rows_same = look.rows_same;
+  doubted = look.doubted;
+  lied = look.lied;
+  kept = look.kept;
+  told = look.told;
+  works = tt;
+  crash = look.crash;
+}

@@ -14,3 +14,5 @@ pub mod Export
 pub mod Advance
 pub mod Import
 pub mod Taking
+pub mod Withdraw
+pub mod Decision

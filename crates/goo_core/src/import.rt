@@ -6,7 +6,6 @@ ghost use Rattle.goo_types.specs.declared.piece.Piece.{Piece as Row};
 ghost use Rattle.goo_spec.specs.Checks.{first_refusal};
 ghost use Rattle.goo_spec.specs.Import.{entry_checks};
 ghost use Rattle.goo_spec.specs.Maps.{count_of};
-ghost use Rattle.goo_spec.specs.Sound.{IsSound};
 ghost use Rattle.goo_rows.specs.Rows.{AreRowsOf};
 ghost use Rattle.goo_shelf.specs.Shelf.{Looks, IsReady};
 ghost use Rattle.goo_core.specs.Import.{IsArriving, AreArriving, standing_checks, fresh_meaning, import_meaning};
