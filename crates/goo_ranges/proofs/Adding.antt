@@ -1,5 +1,5 @@
 -- A new piece in a book, joined with its neighbours.
-use Rattle.std.proofs.Common.{◌≡◌, ℕ, ◌+◌, ◌-◌, ◌<◌, ◌≤◌, List, [], ◌∷◌, ◌++◌, Option, Some, length, take, drop, refl, ap, sym, subst, ◌∙◌, arith, rules}
+use Rattle.std.proofs.Common.{◌≡◌, ℕ, ◌+◌, ◌-◌, ◌≤◌, List, ◌++◌, Some, length, take, drop, ap, sym, ◌∙◌, arith}
 use Rattle.std.specs.List.{count_by}
 use Rattle.goo_types.specs.Number.{code_of, serial_of}
 use Rattle.goo_types.specs.declared.piece.Piece.{Piece}

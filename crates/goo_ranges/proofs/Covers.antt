@@ -1,9 +1,8 @@
 -- Whether a piece has a number, and the map of a joined list.
-use Rattle.std.proofs.Common.{◌≡◌, ℕ, ◌+◌, ◌<◌, ◌≤◌, List, [], ◌∷◌, ◌++◌, Bool, true, false, cond, Option, Some, None, refl, ap, sym, ◌∙◌, arith, rules, ltb, leb}
+use Rattle.std.proofs.Common.{◌≡◌, ℕ, ◌<◌, ◌≤◌, List, [], ◌∷◌, ◌++◌, Bool, true, false, cond, Option, Some, None, refl, ap, sym, ◌∙◌, arith}
 use Rattle.std.proofs.lemmas.Bool.Decides.{nat_tests}
-use Rattle.std.specs.Prelude.{nat_le, ◌&&◌}
 use Rattle.goo_types.specs.declared.piece.Piece.{Piece}
-use Rattle.goo_types.specs.Piece.{Label, label_of, covers, at_of}
+use Rattle.goo_types.specs.Piece.{label_of, covers, at_of}
 
 pub covers-inside : (p : Piece) (n : ℕ) → p.first ≤ n → n ≤ p.last → covers p n ≡ true
 covers-inside p n above below = grind (arith, nat_tests)

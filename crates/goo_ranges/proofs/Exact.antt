@@ -1,5 +1,5 @@
 -- Edits of a book's pieces.
-use Rattle.std.proofs.Common.{◌≡◌, ℕ, ◌+◌, ◌-◌, ◌≤◌, List, ◌++◌, Result, Ok, Err, map, length, take, drop, refl, sym, ◌∙◌, arith, rules}
+use Rattle.std.proofs.Common.{◌≡◌, ℕ, ◌-◌, ◌≤◌, List, ◌++◌, Result, Ok, Err, map, length, take, drop, sym}
 use Rattle.std.specs.Result.{OnOk, IfOk}
 use Rattle.std.proofs.lemmas.List.{length-map}
 use Rattle.goo_types.specs.declared.piece.Piece.{Piece}

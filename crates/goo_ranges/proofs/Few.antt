@@ -1,8 +1,6 @@
 -- How many pieces a new one replaces, and how many parts of those are left.
-use Rattle.std.proofs.Common.{◌≡◌, ℕ, zero, suc, ◌+◌, ◌-◌, ◌<◌, ◌≤◌, List, [], ◌∷◌, ◌++◌, Bool, true, false, cond, length, get_or, take, drop, refl, ap, sym, subst, ◌∙◌, ⊎_elim, arith, rules}
-use Rattle.std.specs.Prelude.{min, nat_le, nat_lt, ◌&&◌}
-use Rattle.std.specs.List.{count_by, sum_by}
-use Rattle.std.proofs.lemmas.Bool.{cases_lt}
+use Rattle.std.proofs.Common.{◌≡◌, ℕ, suc, ◌+◌, ◌-◌, ◌<◌, ◌≤◌, List, [], ◌∷◌, ◌++◌, Bool, true, false, length, get_or, take, drop, refl, ap, sym, ◌∙◌, ⊎_elim, arith}
+use Rattle.std.specs.List.{count_by}
 use Rattle.std.proofs.lemmas.Bool.Decides.{nat_tests}
 use Rattle.std.proofs.lemmas.List.{get_or-drop, length-take, length-take-le, length-drop}
 use Rattle.std.proofs.lemmas.List.Sums.{sum_by-append, count_by-le-length}
@@ -27,14 +25,14 @@ count-before : (ps : List Piece) (from : ℕ) (new : Piece) (begin first end : �
     → count_by test (take (end - begin) (drop begin ps)) ≡ count_by test (take (end - from) (drop from ps))
 count-before ps from new begin first end test is le none = ⊎_elim
     (λ (j : IsJoinedBefore ps from new begin first).
-        let index : from ≡ begin + 1 = j.next in
-        let e : end - begin ≡ suc (end - from) = omega arith in
-        let split : drop begin ps ≡ j.piece ∷ drop (begin + 1) ps = drop-piece ps begin j.piece j.bound j.here in
-        let off : test j.piece ≡ false = none j.piece (sym j.extends) j.follows.0 in
-        let nothing : one_if (test j.piece) ≡ 0 = rw off refl in
-        let counted = count-cons test j.piece (take (end - from) (drop (begin + 1) ps)) in
-        let less : count_by test (j.piece ∷ take (end - from) (drop (begin + 1) ps)) ≡ count_by test (take (end - from) (drop (begin + 1) ps)) = omega arith in
-        rw (e, split) less ∙ ap (λ (i : ℕ). count_by test (take (end - from) (drop i ps))) (sym index))
+    let index : from ≡ begin + 1 = j.next in
+    let e : end - begin ≡ suc (end - from) = omega arith in
+    let split : drop begin ps ≡ j.piece ∷ drop (begin + 1) ps = drop-piece ps begin j.piece j.bound j.here in
+    let off : test j.piece ≡ false = none j.piece (sym j.extends) j.follows.0 in
+    let nothing : one_if (test j.piece) ≡ 0 = rw off refl in
+    let counted = count-cons test j.piece (take (end - from) (drop (begin + 1) ps)) in
+    let less : count_by test (j.piece ∷ take (end - from) (drop (begin + 1) ps)) ≡ count_by test (take (end - from) (drop (begin + 1) ps)) = omega arith in
+    rw (e, split) less ∙ ap (λ (i : ℕ). count_by test (take (end - from) (drop i ps))) (sym index))
     (λ (f : IsFreeBefore ps from new begin first). ap (λ (i : ℕ). count_by test (take (end - i) (drop i ps))) f.same)
     is
 
@@ -44,18 +42,18 @@ count-after : (ps : List Piece) (from to : ℕ) (new : Piece) (end last : ℕ) (
     → count_by test (take (end - from) (drop from ps)) ≡ count_by test (take (to - from) (drop from ps))
 count-after ps from to new end last test is le none = ⊎_elim
     (λ (j : IsJoinedAfter ps to new end last).
-        let index : end ≡ to + 1 = j.next in
-        let e : end - from ≡ (to - from) + 1 = omega arith in
-        let there : from + (to - from) ≡ to = omega arith in
-        let within : to < length ps = j.bound in
-        let size = length-drop from ps in
-        let read : j.piece ≡ get_or (drop from ps) (to - from) j.piece = j.here ∙ sym (get_or-drop from ps (to - from) j.piece ∙ ap (λ (i : ℕ). get_or ps i j.piece) there) in
-        let split = take-piece (drop from ps) (to - from) j.piece (omega arith) read in
-        let off : test j.piece ≡ false = none j.piece (sym j.extends) j.follows.0 in
-        let nothing : one_if (test j.piece) ≡ 0 = rw off refl in
-        let counted = count-push test (take (to - from) (drop from ps)) j.piece in
-        let less : count_by test (take (to - from) (drop from ps) ++ j.piece ∷ []) ≡ count_by test (take (to - from) (drop from ps)) = omega arith in
-        rw (e, split) less)
+    let index : end ≡ to + 1 = j.next in
+    let e : end - from ≡ (to - from) + 1 = omega arith in
+    let there : from + (to - from) ≡ to = omega arith in
+    let within : to < length ps = j.bound in
+    let size = length-drop from ps in
+    let read : j.piece ≡ get_or (drop from ps) (to - from) j.piece = j.here ∙ sym (get_or-drop from ps (to - from) j.piece ∙ ap (λ (i : ℕ). get_or ps i j.piece) there) in
+    let split = take-piece (drop from ps) (to - from) j.piece (omega arith) read in
+    let off : test j.piece ≡ false = none j.piece (sym j.extends) j.follows.0 in
+    let nothing : one_if (test j.piece) ≡ 0 = rw off refl in
+    let counted = count-push test (take (to - from) (drop from ps)) j.piece in
+    let less : count_by test (take (to - from) (drop from ps) ++ j.piece ∷ []) ≡ count_by test (take (to - from) (drop from ps)) = omega arith in
+    rw (e, split) less)
     (λ (f : IsFreeAfter ps to new end last). ap (λ (i : ℕ). count_by test (take (i - from) (drop from ps))) f.same)
     is
 
@@ -123,11 +121,11 @@ few-replaced ps new from to begin first end last left right stop r some low up h
     let size : length met ≡ to - from = length-take-le (to - from) (drop from ps) (let h = length-drop from ps in omega arith) in
     let block = length-take (end - begin) (drop begin ps) in
     let one : count_by (meets 0 (first - 1)) (take (end - begin) (drop begin ps)) ≡ count_by (meets 0 (first - 1)) met =
-        count-before ps from new begin first end (meets 0 (first - 1)) is_begin (omega arith) (λ p starts next. grind (arith, nat_tests))
-        ∙ count-after ps from to new end last (meets 0 (first - 1)) is_end order (λ p ends next. grind (arith, nat_tests)) in
+    count-before ps from new begin first end (meets 0 (first - 1)) is_begin (omega arith) (λ p starts next. grind (arith, nat_tests))
+    ∙ count-after ps from to new end last (meets 0 (first - 1)) is_end order (λ p ends next. grind (arith, nat_tests)) in
     let two : count_by (meets (last + 1) stop) (take (end - begin) (drop begin ps)) ≡ count_by (meets (last + 1) stop) met =
-        count-before ps from new begin first end (meets (last + 1) stop) is_begin (omega arith) (λ p starts next. grind (arith, nat_tests))
-        ∙ count-after ps from to new end last (meets (last + 1) stop) is_end order (λ p ends next. grind (arith, nat_tests)) in
+    count-before ps from new begin first end (meets (last + 1) stop) is_begin (omega arith) (λ p starts next. grind (arith, nat_tests))
+    ∙ count-after ps from to new end last (meets (last + 1) stop) is_end order (λ p ends next. grind (arith, nat_tests)) in
     let begins = one-begins 0 new.first new.last (first - 1) met (omega arith) rise meeting.met in
     let ends = one-ends 0 new.first new.last (last + 1) stop met (omega arith) rise meeting.met in
     let shorter_left = count_by-le-length (meets 0 (first - 1)) met in

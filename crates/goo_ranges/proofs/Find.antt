@@ -1,5 +1,5 @@
 -- The least number of a span that passes a test.
-use Rattle.std.proofs.Common.{◌≡◌, ℕ, zero, suc, ◌+◌, ◌-◌, ◌<◌, ◌≤◌, List, Bool, true, false, cond, Option, Some, None, refl, ap, sym, ◌∙◌, ⊎_elim, arith}
+use Rattle.std.proofs.Common.{◌≡◌, ℕ, zero, suc, ◌+◌, ◌-◌, ◌<◌, ◌≤◌, Bool, true, false, Some, None, refl, ap, ◌∙◌, ⊎_elim, arith}
 use Rattle.std.specs.List.{find}
 use Rattle.goo_spec.specs.Maps.{numbers_from}
 use Rattle.std.proofs.lemmas.Bool.{cases_lt}
@@ -10,14 +10,14 @@ find_skip test zero low middle up within none = let e : low + 0 - middle ≡ 0 =
 find_skip test (suc count) low middle up within none =
     ⊎_elim
     (λ (lt : low < middle).
-        let e : low + 1 + count - middle ≡ low + suc count - middle = omega arith in
-        let here = none low (omega arith) lt in
-        let later = find_skip test count (low + 1) middle (omega arith) (omega arith) (λ m a b. none m (omega arith) b) in
-        rw here (later ∙ ap (λ k. find test (numbers_from middle k)) e))
+    let e : low + 1 + count - middle ≡ low + suc count - middle = omega arith in
+    let here = none low (omega arith) lt in
+    let later = find_skip test count (low + 1) middle (omega arith) (omega arith) (λ m a b. none m (omega arith) b) in
+    rw here (later ∙ ap (λ k. find test (numbers_from middle k)) e))
     (λ (ge : middle ≤ low).
-        let e : low + suc count - middle ≡ suc count = omega arith in
-        let s : middle ≡ low = omega arith in
-        rw (e, s) refl)
+    let e : low + suc count - middle ≡ suc count = omega arith in
+    let s : middle ≡ low = omega arith in
+    rw (e, s) refl)
     (cases_lt low middle)
 
 -- numbers that fail the test can be left out at the front

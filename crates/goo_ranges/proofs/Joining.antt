@@ -1,12 +1,11 @@
 -- Joined lists of pieces.
-use Rattle.std.proofs.Common.{◌≡◌, ℕ, zero, suc, ◌+◌, ◌-◌, ◌<◌, ◌≤◌, List, [], ◌∷◌, ◌++◌, Bool, true, false, cond, Option, Some, None, length, get_or, set, subst, take, drop, refl, ap, sym, ◌∙◌, ⊎_elim, arith, rules, append_assoc, length-append}
+use Rattle.std.proofs.Common.{◌≡◌, ℕ, zero, suc, ◌+◌, ◌<◌, ◌≤◌, List, [], ◌∷◌, ◌++◌, Some, length, get_or, set, subst, take, drop, refl, ap, sym, ◌∙◌, ⊎_elim, arith, append_assoc, length-append}
 use Rattle.std.proofs.lemmas.Bool.{cases_lt}
 use Rattle.std.proofs.lemmas.List.{take_more, take_all, set_at, length-take-le, take-append-drop}
-use Rattle.std.proofs.lemmas.Bool.Decides.{nat_tests}
 use Rattle.goo_types.specs.declared.piece.Piece.{Piece}
 use Rattle.goo_types.specs.Number.{code_of, serial_of}
-use Rattle.goo_types.specs.Piece.{Label, label_of, covers, at_of, IsForward, IsRising, IsRisingFrom, Follows}
-use Rattle.goo_spec.specs.Runs.{IsNotFollowed, IsApart}
+use Rattle.goo_types.specs.Piece.{label_of, at_of, IsForward, IsRising, IsRisingFrom, Follows}
+use Rattle.goo_spec.specs.Runs.{IsApart}
 use Rattle.goo_ranges.specs.Walk.{end_of}
 use Rattle.goo_ranges.specs.Joining.{IsJoining}
 use Rattle.goo_ranges.proofs.Covers.{covers-inside, covers-below, covers-above, or_else, at_of-append}
@@ -32,11 +31,11 @@ joining-append ps qs rs a =
     let one : length qs ≤ length ps = a.few in
     record {
       same = λ low r n.
-        let front = a.same low (rising-front low ps rs r) n in
-        at_of-append qs rs n ∙ ap (λ o. or_else o (at_of rs n)) front ∙ sym (at_of-append ps rs n);
+          let front = a.same low (rising-front low ps rs r) n in
+          at_of-append qs rs n ∙ ap (λ o. or_else o (at_of rs n)) front ∙ sym (at_of-append ps rs n);
       rising = λ low r.
-        let end = a.ends low in
-        rising-append low qs rs (a.rising low (rising-front low ps rs r)) (rw end (rising-back low ps rs r));
+          let end = a.ends low in
+          rising-append low qs rs (a.rising low (rising-front low ps rs r)) (rw end (rising-back low ps rs r));
       ends = λ low. end_of-append low qs rs ∙ ap (λ k. end_of k rs) (a.ends low) ∙ sym (end_of-append low ps rs);
       few = simp length-append (omega arith);
     }
@@ -47,8 +46,8 @@ joining-prepend ps qs rs a =
     let one : length rs ≤ length qs = a.few in
     record {
       same = λ low r n.
-        let back = a.same (end_of low ps) (rising-back low ps qs r) n in
-        at_of-append ps rs n ∙ ap (λ o. or_else (at_of ps n) o) back ∙ sym (at_of-append ps qs n);
+          let back = a.same (end_of low ps) (rising-back low ps qs r) n in
+          at_of-append ps rs n ∙ ap (λ o. or_else (at_of ps n) o) back ∙ sym (at_of-append ps qs n);
       rising = λ low r. rising-append low ps rs (rising-front low ps qs r) (a.rising (end_of low ps) (rising-back low ps qs r));
       ends = λ low. end_of-append low ps rs ∙ a.ends (end_of low ps) ∙ sym (end_of-append low ps qs);
       few = simp length-append (omega arith);
@@ -66,27 +65,27 @@ same-pair low q p f r n =
     let two : p.first ≤ p.last = r.2.1.0 in
     ⊎_elim
     (λ (before : n < q.first).
-        let a = covers-below q n before in
-        let b = covers-below p n (omega arith) in
-        let c = covers-below (up_to q p) n before in
-        rw (a, b, c) refl)
+    let a = covers-below q n before in
+    let b = covers-below p n (omega arith) in
+    let c = covers-below (up_to q p) n before in
+    rw (a, b, c) refl)
     (λ (from : q.first ≤ n).
-        ⊎_elim
-        (λ (beyond : p.last < n).
-            let a = covers-above q n (omega arith) in
-            let b = covers-above p n beyond in
-            let c = covers-above (up_to q p) n beyond in
-            rw (a, b, c) refl)
-        (λ (within : n ≤ p.last).
-            let c = covers-inside (up_to q p) n from within in
-            ⊎_elim
-            (λ (second : q.last < n).
-                let a = covers-above q n second in
-                let b = covers-inside p n (omega arith) within in
-                rw (a, b, c) (ap Some label))
-            (λ (first : n ≤ q.last). let a = covers-inside q n from first in rw (a, c) refl)
-            (cases_lt q.last n))
-        (cases_lt p.last n))
+    ⊎_elim
+    (λ (beyond : p.last < n).
+    let a = covers-above q n (omega arith) in
+    let b = covers-above p n beyond in
+    let c = covers-above (up_to q p) n beyond in
+    rw (a, b, c) refl)
+    (λ (within : n ≤ p.last).
+    let c = covers-inside (up_to q p) n from within in
+    ⊎_elim
+    (λ (second : q.last < n).
+    let a = covers-above q n second in
+    let b = covers-inside p n (omega arith) within in
+    rw (a, b, c) (ap Some label))
+    (λ (first : n ≤ q.last). let a = covers-inside q n from first in rw (a, c) refl)
+    (cases_lt q.last n))
+    (cases_lt p.last n))
     (cases_lt n q.first)
 
 one_code : (q p : Piece) → q.last + 1 ≡ p.first → 1 ≤ serial_of p.first → code_of q.first ≡ code_of q.last → code_of p.first ≡ code_of p.last → code_of q.first ≡ code_of p.last
@@ -96,10 +95,10 @@ pub joining-pair : (q p : Piece) → Follows q p → 1 ≤ serial_of p.first →
 joining-pair q p f valid = record {
   same = λ low r n. same-pair low q p f r n;
   rising = λ low r.
-    let next : q.last + 1 ≡ p.first = f.0 in
-    let one : q.first ≤ q.last = r.1.0 in
-    let two : p.first ≤ p.last = r.2.1.0 in
-    (r.0, (omega arith, one_code q p f.0 valid r.1.1 r.2.1.1), tt);
+      let next : q.last + 1 ≡ p.first = f.0 in
+      let one : q.first ≤ q.last = r.1.0 in
+      let two : p.first ≤ p.last = r.2.1.0 in
+      (r.0, (omega arith, one_code q p f.0 valid r.1.1 r.2.1.1), tt);
   ends = λ low. refl;
   few = omega arith;
 }

@@ -1,17 +1,17 @@
 -- The part of a list of pieces within bounds, and a range that is set.
-use Rattle.std.proofs.Common.{◌≡◌, ℕ, zero, suc, ◌+◌, ◌-◌, ◌<◌, ◌≤◌, List, [], ◌∷◌, ◌++◌, Bool, true, false, cond, Option, Some, None, length, take, drop, refl, ap, sym, ◌∙◌, ⊎_elim, arith, rules, append_assoc, length-append}
+use Rattle.std.proofs.Common.{◌≡◌, ℕ, suc, ◌+◌, ◌-◌, ◌<◌, ◌≤◌, List, [], ◌∷◌, ◌++◌, true, false, cond, Option, Some, None, length, take, drop, refl, ap, sym, ◌∙◌, ⊎_elim, arith, append_assoc, length-append}
 use Rattle.std.specs.Prelude.{max, min, slice_get}
 use Rattle.std.specs.Option.{option_to_list}
 use Rattle.std.proofs.lemmas.Bool.{cases_lt}
 use Rattle.std.proofs.lemmas.Bool.Decides.{nat_tests}
 use Rattle.goo_types.specs.declared.piece.Piece.{Piece}
-use Rattle.goo_types.specs.Piece.{Label, label_of, covers, at_of, IsForward, IsRising, IsRisingFrom}
+use Rattle.goo_types.specs.Piece.{Label, label_of, at_of, IsForward, IsRising, IsRisingFrom}
 use Rattle.goo_ranges.specs.Walk.{end_of}
 use Rattle.goo_ranges.specs.Joining.{IsJoining}
 use Rattle.goo_ranges.specs.Touching.{IsAround}
 use Rattle.std.specs.List.{count_by}
 use Rattle.std.proofs.lemmas.List.Sums.{sum_by-append}
-use Rattle.goo_ranges.specs.Change.{inside, meets, one_if, kept, set_to, IsPartOf, IsPart, IsKept, IsSet}
+use Rattle.goo_ranges.specs.Change.{inside, meets, one_if, kept, set_to, IsPart, IsKept, IsSet}
 use Rattle.goo_types.specs.Number.{code_of}
 use Rattle.goo_ranges.proofs.Covers.{covers-inside, covers-below, covers-above, or_else, at_of-append}
 use Rattle.goo_ranges.proofs.Changing.{or_else-none, end_of-mono, part-inside, part-below, part-above, part-rising, part-end}
@@ -32,10 +32,10 @@ kept-piece low high p o n is =
     ⊎_elim
     (λ (before : n < low). let e = part-below p low high p.place o n is before in let out : inside low high n ≡ false = grind (arith, nat_tests) in rw (e, out) refl)
     (λ (from : low ≤ n).
-        ⊎_elim
-        (λ (after : high < n). let e = part-above p low high p.place o n is after in let out : inside low high n ≡ false = grind (arith, nat_tests) in rw (e, out) refl)
-        (λ (to : n ≤ high). let e = part-inside p low high p.place o n is from to in let here : inside low high n ≡ true = grind (arith, nat_tests) in rw (e, here) refl)
-        (cases_lt high n))
+    ⊎_elim
+    (λ (after : high < n). let e = part-above p low high p.place o n is after in let out : inside low high n ≡ false = grind (arith, nat_tests) in rw (e, out) refl)
+    (λ (to : n ≤ high). let e = part-inside p low high p.place o n is from to in let here : inside low high n ≡ true = grind (arith, nat_tests) in rw (e, here) refl)
+    (cases_lt high n))
     (cases_lt n low)
 
 part-few : (low high : ℕ) (p : Piece) (o : Option Piece) → IsPart p low high p.place o → length (option_to_list o) ≤ one_if (meets low high p)
@@ -51,39 +51,39 @@ part-few low high p (Some q) is =
 pub kept-more : (low high : ℕ) (xs us : List Piece) (p : Piece) (o : Option Piece) → IsKept low high xs us → IsPart p low high p.place o → IsKept low high (xs ++ p ∷ []) (us ++ option_to_list o)
 kept-more low high xs us p o a is = record {
   same = λ base r n.
-    let front = rising-front base xs (p ∷ []) r in
-    let back = rising-back base xs (p ∷ []) r in
-    let e = a.same base front n in
-    let f = kept-piece low high p o n is in
-    ⊎_elim
-    (λ (before : n < end_of base xs).
-        let g = at_of-below (end_of base xs) (p ∷ []) n back before in
-        at_of-append us (option_to_list o) n ∙ rw (e, f, at_of-append, g, kept-none, or_else-none, or_else-none) refl)
-    (λ (after : end_of base xs ≤ n).
-        let g = at_of-above base xs n front after in
-        at_of-append us (option_to_list o) n ∙ rw (e, f, at_of-append, g, kept-none) refl)
-    (cases_lt n (end_of base xs));
+      let front = rising-front base xs (p ∷ []) r in
+      let back = rising-back base xs (p ∷ []) r in
+      let e = a.same base front n in
+      let f = kept-piece low high p o n is in
+      ⊎_elim
+      (λ (before : n < end_of base xs).
+      let g = at_of-below (end_of base xs) (p ∷ []) n back before in
+      at_of-append us (option_to_list o) n ∙ rw (e, f, at_of-append, g, kept-none, or_else-none, or_else-none) refl)
+      (λ (after : end_of base xs ≤ n).
+      let g = at_of-above base xs n front after in
+      at_of-append us (option_to_list o) n ∙ rw (e, f, at_of-append, g, kept-none) refl)
+      (cases_lt n (end_of base xs));
   rising = λ base r.
-    let front = rising-front base xs (p ∷ []) r in
-    let back = rising-back base xs (p ∷ []) r in
-    let here : end_of base xs ≤ p.first = back.0 in
-    let start = end_of-low base xs front in
-    let end = a.within base front in
-    rising-append (max base low) us (option_to_list o) (a.rising base front) (part-rising p low high p.place o (end_of (max base low) us) is (omega arith));
+      let front = rising-front base xs (p ∷ []) r in
+      let back = rising-back base xs (p ∷ []) r in
+      let here : end_of base xs ≤ p.first = back.0 in
+      let start = end_of-low base xs front in
+      let end = a.within base front in
+      rising-append (max base low) us (option_to_list o) (a.rising base front) (part-rising p low high p.place o (end_of (max base low) us) is (omega arith));
   within = λ base r.
-    let front = rising-front base xs (p ∷ []) r in
-    let back = rising-back base xs (p ∷ []) r in
-    let here : end_of base xs ≤ p.first = back.0 in
-    let forward : p.first ≤ p.last = back.1.0 in
-    let end = a.within base front in
-    let last = part-end p low high p.place o (end_of (max base low) us) is in
-    rw (end_of-append, end_of-append) (omega arith);
+      let front = rising-front base xs (p ∷ []) r in
+      let back = rising-back base xs (p ∷ []) r in
+      let here : end_of base xs ≤ p.first = back.0 in
+      let forward : p.first ≤ p.last = back.1.0 in
+      let end = a.within base front in
+      let last = part-end p low high p.place o (end_of (max base low) us) is in
+      rw (end_of-append, end_of-append) (omega arith);
   few =
-    let part = part-few low high p o is in
-    let front : length us ≤ count_by (meets low high) xs = a.few in
-    let counted = sum_by-append (λ x. one_if (meets low high x)) xs (p ∷ []) in
-    let size = length-append us (option_to_list o) in
-    omega arith;
+      let part = part-few low high p o is in
+      let front : length us ≤ count_by (meets low high) xs = a.few in
+      let counted = sum_by-append (λ x. one_if (meets low high x)) xs (p ∷ []) in
+      let size = length-append us (option_to_list o) in
+      omega arith;
 }
 
 pub kept-joining : (low high : ℕ) (old new short : List Piece) → IsKept low high old new → IsJoining new short → IsKept low high old short
@@ -129,10 +129,12 @@ module _ (ps : List Piece) (first last from to : ℕ) (label : Label) (out : Lis
       let after = rising-max (last + 1) (end_of b old) (drop to ps) near.above (rising-back b old (drop to ps) rest_rising) in
       let forward : IsForward set.middle = (omega arith, rw (begins, stops) one_code) in
       let block : IsRisingFrom b (set.left ++ set.middle ∷ (set.right ++ drop to ps)) =
-          rising-append b set.left (set.middle ∷ (set.right ++ drop to ps)) (rising-weaken b (max b 0) set.left (omega arith) left)
-              (omega arith, forward,
-              rising-append (set.middle.last + 1) set.right (drop to ps) (rising-weaken (set.middle.last + 1) (max b (last + 1)) set.right (omega arith) right)
-                  (rising-weaken (end_of (set.middle.last + 1) set.right) (max (last + 1) (end_of b old)) (drop to ps) (omega arith) after))
+      rising-append b set.left (set.middle ∷ (set.right ++ drop to ps)) (rising-weaken b (max b 0) set.left (omega arith) left) (
+        omega arith,
+        forward,
+        rising-append (set.middle.last + 1) set.right (drop to ps) (rising-weaken (set.middle.last + 1) (max b (last + 1)) set.right (omega arith) right)
+            (rising-weaken (end_of (set.middle.last + 1) set.right) (max (last + 1) (end_of b old)) (drop to ps) (omega arith) after),
+      )
       in
       let e : out ++ drop to ps ≡ set.left ++ set.middle ∷ (set.right ++ drop to ps) = rw set.whole (append_assoc set.left (set.middle ∷ set.right) (drop to ps)) in
       rising-append 0 (take from ps) (out ++ drop to ps) before_rising (rw e block)
@@ -149,38 +151,38 @@ module _ (ps : List Piece) (first last from to : ℕ) (label : Label) (out : Lis
       let er = set.after.same b middle_rising n in
       let whole : at_of ps n ≡ at_of (take from ps ++ (old ++ drop to ps)) n = rw (in-three ps from to near.order) refl in
       let split : at_of (take from ps ++ (out ++ drop to ps)) n ≡ or_else (at_of (take from ps) n) (or_else (or_else (at_of set.left n) (at_of (set.middle ∷ set.right) n)) (at_of (drop to ps) n)) =
-          rw (at_of-append, at_of-append, set.whole, at_of-append) refl
+      rw (at_of-append, at_of-append, set.whole, at_of-append) refl
       in
       let split_old : at_of (take from ps ++ (old ++ drop to ps)) n ≡ or_else (at_of (take from ps) n) (or_else (at_of old n) (at_of (drop to ps) n)) = rw (at_of-append, at_of-append) refl in
       ⊎_elim
       (λ (before : n < first).
-          let one : inside 0 (first - 1) n ≡ true = grind (arith, nat_tests) in
-          let two : inside (last + 1) set.end n ≡ false = grind (arith, nat_tests) in
-          let three_of : inside first last n ≡ false = grind (arith, nat_tests) in
-          let cov = covers-below set.middle n (omega arith) in
-          rw (split, cov, el, er, one, two, whole, split_old, three_of, or_else-none) refl)
+      let one : inside 0 (first - 1) n ≡ true = grind (arith, nat_tests) in
+      let two : inside (last + 1) set.end n ≡ false = grind (arith, nat_tests) in
+      let three_of : inside first last n ≡ false = grind (arith, nat_tests) in
+      let cov = covers-below set.middle n (omega arith) in
+      rw (split, cov, el, er, one, two, whole, split_old, three_of, or_else-none) refl)
       (λ (from_first : first ≤ n).
-          let one : inside 0 (first - 1) n ≡ false = grind (arith, nat_tests) in
-          ⊎_elim
-          (λ (after : last < n).
-              let three_of : inside first last n ≡ false = grind (arith, nat_tests) in
-              let cov = covers-above set.middle n (omega arith) in
-              ⊎_elim
-              (λ (beyond : set.end < n).
-                  let two : inside (last + 1) set.end n ≡ false = grind (arith, nat_tests) in
-                  let ends : end_of 0 old ≤ set.end + 1 = set.ends in
-                  let gone = at_of-above 0 old n (rising-weaken 0 b old (omega arith) middle_rising) (omega arith) in
-                  rw (split, cov, el, er, one, two, whole, split_old, three_of, gone) refl)
-              (λ (there : n ≤ set.end).
-                  let two : inside (last + 1) set.end n ≡ true = grind (arith, nat_tests) in
-                  rw (split, cov, el, er, one, two, whole, split_old, three_of) refl)
-              (cases_lt set.end n))
-          (λ (to_last : n ≤ last).
-              let three_of : inside first last n ≡ true = grind (arith, nat_tests) in
-              let cov = covers-inside set.middle n (omega arith) (omega arith) in
-              let x = at_of-above 0 (take from ps) n before_rising (omega arith) in
-              rw (split, cov, el, one, whole, split_old, three_of, x) (ap Some set.labelled))
-          (cases_lt last n))
+      let one : inside 0 (first - 1) n ≡ false = grind (arith, nat_tests) in
+      ⊎_elim
+      (λ (after : last < n).
+      let three_of : inside first last n ≡ false = grind (arith, nat_tests) in
+      let cov = covers-above set.middle n (omega arith) in
+      ⊎_elim
+      (λ (beyond : set.end < n).
+      let two : inside (last + 1) set.end n ≡ false = grind (arith, nat_tests) in
+      let ends : end_of 0 old ≤ set.end + 1 = set.ends in
+      let gone = at_of-above 0 old n (rising-weaken 0 b old (omega arith) middle_rising) (omega arith) in
+      rw (split, cov, el, er, one, two, whole, split_old, three_of, gone) refl)
+      (λ (there : n ≤ set.end).
+      let two : inside (last + 1) set.end n ≡ true = grind (arith, nat_tests) in
+      rw (split, cov, el, er, one, two, whole, split_old, three_of) refl)
+      (cases_lt set.end n))
+      (λ (to_last : n ≤ last).
+      let three_of : inside first last n ≡ true = grind (arith, nat_tests) in
+      let cov = covers-inside set.middle n (omega arith) (omega arith) in
+      let x = at_of-above 0 (take from ps) n before_rising (omega arith) in
+      rw (split, cov, el, one, whole, split_old, three_of, x) (ap Some set.labelled))
+      (cases_lt last n))
       (cases_lt n first)
 
 pub last-end : (low : ℕ) (ps : List Piece) (p : Piece) → Some p ≡ slice_get ps (length ps - 1) → end_of low ps ≡ p.last + 1

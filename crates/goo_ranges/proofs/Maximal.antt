@@ -1,13 +1,11 @@
 -- Pieces that don't follow one another, and the map that they give.
-use Rattle.std.proofs.Common.{◌≡◌, ℕ, zero, suc, ◌+◌, ◌-◌, ◌<◌, ◌≤◌, List, [], ◌∷◌, ◌++◌, Bool, true, false, cond, Option, Some, None, length, refl, ap, sym, ◌∙◌, ⊎_elim, arith, rules, append_assoc}
+use Rattle.std.proofs.Common.{◌≡◌, ℕ, ◌+◌, ◌<◌, ◌≤◌, List, [], ◌∷◌, ◌++◌, Some, None, refl, ap, sym, ◌∙◌, ⊎_elim, arith}
 use Rattle.std.proofs.lemmas.Bool.{cases_lt}
-use Rattle.goo_types.specs.declared.place.Place.{Place}
 use Rattle.goo_types.specs.declared.piece.Piece.{Piece}
-use Rattle.goo_types.specs.Piece.{Label, label_of, covers, at_of, IsForward, IsRising, IsRisingFrom, Follows}
+use Rattle.goo_types.specs.Piece.{label_of, at_of, IsRising, IsRisingFrom, Follows}
 use Rattle.goo_spec.specs.Runs.{IsNotFollowed, IsApart}
-use Rattle.goo_ranges.specs.Walk.{end_of}
-use Rattle.goo_ranges.proofs.Covers.{covers-inside, covers-below, covers-above, or_else, at_of-append}
-use Rattle.goo_ranges.proofs.Rising.{end_of-append, end_of-low, rising-front, rising-back, at_of-below}
+use Rattle.goo_ranges.proofs.Covers.{covers-inside, covers-below, covers-above}
+use Rattle.goo_ranges.proofs.Rising.{at_of-below}
 
 from-low : (low : ℕ) (front : List Piece) (q : Piece) (back : List Piece) → IsRisingFrom low (front ++ q ∷ back) → low ≤ q.first
 from-low low [] q back r = r.0
@@ -37,17 +35,17 @@ next-of q (p ∷ back) r free h =
     let forward : p.first ≤ p.last = r.1.0 in
     ⊎_elim
     (λ (gap : q.last + 1 < p.first).
-        let e = covers-below p (q.last + 1) gap in
-        let f = at_of-below (p.last + 1) back (q.last + 1) r.2 (omega arith) in
-        let g : None ≡ Some (label_of q) = sym (rw e f) ∙ h in
-        cc)
+    let e = covers-below p (q.last + 1) gap in
+    let f = at_of-below (p.last + 1) back (q.last + 1) r.2 (omega arith) in
+    let g : None ≡ Some (label_of q) = sym (rw e f) ∙ h in
+    cc)
     (λ (at_once : p.first ≤ q.last + 1).
-        let same : q.last + 1 ≡ p.first = omega arith in
-        let e = covers-inside p (q.last + 1) at_once (omega arith) in
-        let f : at_of (p ∷ back) (q.last + 1) ≡ Some (label_of p) = rw e refl in
-        let g : Some (label_of p) ≡ Some (label_of q) = sym f ∙ h in
-        let label : label_of q ≡ label_of p = cc in
-        free (same, label))
+    let same : q.last + 1 ≡ p.first = omega arith in
+    let e = covers-inside p (q.last + 1) at_once (omega arith) in
+    let f : at_of (p ∷ back) (q.last + 1) ≡ Some (label_of p) = rw e refl in
+    let g : Some (label_of p) ≡ Some (label_of q) = sym f ∙ h in
+    let label : label_of q ≡ label_of p = cc in
+    free (same, label))
     (cases_lt (q.last + 1) p.first)
 
 -- the number after a piece doesn't have its label
@@ -76,15 +74,15 @@ not-before low (x ∷ []) p back n e r a h =
     let ahead : x.first ≤ x.last = r.1.0 in
     ⊎_elim
     (λ (past : x.last < n).
-        let f = covers-above x n past in
-        not-before (x.last + 1) [] p back n e r.2 a.1 (rw f at h))
+    let f = covers-above x n past in
+    not-before (x.last + 1) [] p back n e r.2 a.1 (rw f at h))
     (λ (to : n ≤ x.last).
-        let last : x.last + 1 ≡ p.first = omega arith in
-        let f = covers-inside x n (omega arith) to in
-        let own : at_of (x ∷ p ∷ back) n ≡ Some (label_of x) = rw f refl in
-        let g : Some (label_of x) ≡ Some (label_of p) = sym own ∙ h in
-        let label : label_of x ≡ label_of p = cc in
-        a.0 (last, label))
+    let last : x.last + 1 ≡ p.first = omega arith in
+    let f = covers-inside x n (omega arith) to in
+    let own : at_of (x ∷ p ∷ back) n ≡ Some (label_of x) = rw f refl in
+    let g : Some (label_of x) ≡ Some (label_of p) = sym own ∙ h in
+    let label : label_of x ≡ label_of p = cc in
+    a.0 (last, label))
     (cases_lt x.last n)
 not-before low (x ∷ y ∷ front) p back n e r a h =
     let next : x.last + 1 ≤ y.first = r.2.0 in

@@ -1,9 +1,9 @@
 -- The pieces that a range meets.
-use Rattle.std.proofs.Common.{◌≡◌, ℕ, zero, suc, ◌+◌, ◌-◌, ◌<◌, ◌≤◌, List, [], ◌∷◌, ◌++◌, true, false, ltb, leb, length, take, drop, refl, ap, sym, arith, rules}
+use Rattle.std.proofs.Common.{◌≡◌, ℕ, ◌+◌, ◌-◌, ◌<◌, ◌≤◌, List, [], ◌∷◌, true, false, ltb, leb, length, take, drop, arith}
 use Rattle.std.specs.List.Sorted.{IsPartitionPoint}
 use Rattle.std.proofs.lemmas.Bool.Decides.{nat_tests}
 use Rattle.goo_types.specs.declared.piece.Piece.{Piece}
-use Rattle.goo_types.specs.Piece.{IsRising, IsRisingFrom}
+use Rattle.goo_types.specs.Piece.{IsRising}
 use Rattle.goo_ranges.specs.Walk.{end_of}
 use Rattle.goo_ranges.specs.Touching.{AreNear, IsTouched, AreMet, IsMeeting}
 use Rattle.goo_ranges.proofs.Touching.{touched-from_points}
@@ -32,6 +32,6 @@ pub meeting-from_points : (ps : List Piece) (first last from to : ℕ) → IsRis
     → IsPartitionPoint (λ p. ltb p.last first ≡ true) (λ p. ltb p.last first ≡ false) ps from → IsPartitionPoint (λ p. leb p.first last ≡ true) (λ p. leb p.first last ≡ false) ps to → IsMeeting ps first last from to
 meeting-from_points ps first last from to r some up lf lt f t =
     meeting-from_touched ps first last from to some
-        (touched-from_points ps (first + 1) (last - 1) from to r (omega arith) (omega arith) lf lt
-            (λ k d a b. (let h = f.0 k d a b in grind (arith, nat_tests)), λ k d a b. (let h = f.1 k d a b in grind (arith, nat_tests)))
-            (λ k d a b. (let h = t.0 k d a b in grind (arith, nat_tests)), λ k d a b. (let h = t.1 k d a b in grind (arith, nat_tests))))
+    (touched-from_points ps (first + 1) (last - 1) from to r (omega arith) (omega arith) lf lt
+    (λ k d a b. (let h = f.0 k d a b in grind (arith, nat_tests)), λ k d a b. (let h = f.1 k d a b in grind (arith, nat_tests)))
+    (λ k d a b. (let h = t.0 k d a b in grind (arith, nat_tests)), λ k d a b. (let h = t.1 k d a b in grind (arith, nat_tests))))

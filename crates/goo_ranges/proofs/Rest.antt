@@ -1,5 +1,5 @@
 -- What is left of a book from a number on.
-use Rattle.std.proofs.Common.{◌≡◌, ℕ, zero, suc, ◌+◌, ◌-◌, ◌<◌, ◌≤◌, List, [], ◌∷◌, ◌++◌, Bool, true, false, cond, ltb, Option, Some, None, length, get_or, take, drop, refl, ap, sym, ◌∙◌, ⊎_elim, arith, rules}
+use Rattle.std.proofs.Common.{◌≡◌, ℕ, zero, suc, ◌+◌, ◌<◌, ◌≤◌, List, [], ◌∷◌, true, false, ltb, Option, Some, None, length, get_or, take, drop, refl, ap, sym, ◌∙◌, ⊎_elim, arith}
 use Rattle.std.specs.List.{AllWithin}
 use Rattle.std.specs.List.Sorted.{IsPartitionPoint, IsPartitionedBy}
 use Rattle.std.proofs.lemmas.Bool.Decides.{nat_tests}
@@ -8,7 +8,7 @@ use Rattle.std.proofs.lemmas.List.{drop_more}
 use Rattle.std.specs.Prelude.{slice_get, max}
 use Rattle.std.specs.Ordering.{ord_max, nat_cmp}
 use Rattle.goo_types.specs.declared.piece.Piece.{Piece}
-use Rattle.goo_types.specs.Piece.{Label, label_of, covers, at_of, IsForward, IsRising, IsRisingFrom}
+use Rattle.goo_types.specs.Piece.{Label, label_of, at_of, IsRising, IsRisingFrom}
 use Rattle.goo_ranges.specs.Walk.{Reaches, IsRest, end_of}
 use Rattle.goo_ranges.proofs.Covers.{covers-inside, covers-below, covers-above}
 use Rattle.goo_ranges.proofs.Rising.{end_of-take, at_of-below, at_of-drop, rising-drop, rising-weaken, last-rises}
@@ -16,7 +16,6 @@ use Rattle.goo_ranges.proofs.Rising.{end_of-take, at_of-below, at_of-drop, risin
 -- the pieces that end before a number come first
 pub partitioned : (ps : List Piece) (n : ℕ) → IsRising ps → IsPartitionedBy (λ p. ltb p.last n) ps
 partitioned ps n r i j d le lt h = let up = last-rises 0 ps i j d r le lt in grind (arith, nat_tests)
-
 
 end-before : (ps : List Piece) (n i : ℕ) → i ≤ length ps → AllWithin (λ p. ltb p.last n ≡ true) ps 0 i → end_of 0 (take i ps) ≤ n
 end-before ps n zero le h = omega arith
@@ -96,10 +95,10 @@ known-past P all rest p low next s none here before m above below =
     ⊎_elim
     (λ (lt : m < next). before m above lt)
     (λ (ge : next ≤ m).
-        ⊎_elim
-        (λ (gap : m < p.first). let e = rest-gap all rest p next s m ge gap in rw e none)
-        (λ (in_it : p.first ≤ m). let e = rest-inside all rest p next s m ge in_it (omega arith) in rw e here)
-        (cases_lt m p.first))
+    ⊎_elim
+    (λ (gap : m < p.first). let e = rest-gap all rest p next s m ge gap in rw e none)
+    (λ (in_it : p.first ≤ m). let e = rest-inside all rest p next s m ge in_it (omega arith) in rw e here)
+    (cases_lt m p.first))
     (cases_lt m next)
 
 pub known-gap : (P : Option Label → Type 0) (all rest : List Piece) (p : Piece) (low next : ℕ) → IsRest all (p ∷ rest) next → P None → ((m : ℕ) → low ≤ m → m < next → P (at_of all m)) → (m : ℕ) → low ≤ m → m < p.first → P (at_of all m)

@@ -1,12 +1,11 @@
 -- Lists of pieces that rise.
-use Rattle.std.proofs.Common.{◌≡◌, ℕ, zero, suc, ◌+◌, ◌-◌, ◌<◌, ◌≤◌, List, [], ◌∷◌, ◌++◌, Bool, true, false, cond, Option, Some, None, length, get_or, take, drop, take-append-drop, refl, ap, sym, ◌∙◌, arith, rules}
-use Rattle.std.proofs.lemmas.Bool.Decides.{nat_tests}
+use Rattle.std.proofs.Common.{◌≡◌, ℕ, zero, suc, ◌+◌, ◌-◌, ◌<◌, ◌≤◌, List, [], ◌∷◌, ◌++◌, None, length, get_or, take, drop, take-append-drop, refl, ap, sym, ◌∙◌, arith}
 use Rattle.std.proofs.lemmas.List.{take_more}
 use Rattle.std.proofs.Math.Numerals.{sub-one}
 use Rattle.goo_types.specs.declared.piece.Piece.{Piece}
-use Rattle.goo_types.specs.Piece.{Label, label_of, covers, at_of, IsForward, IsRising, IsRisingFrom}
+use Rattle.goo_types.specs.Piece.{at_of, IsForward, IsRising, IsRisingFrom}
 use Rattle.goo_ranges.specs.Walk.{end_of}
-use Rattle.goo_ranges.proofs.Covers.{covers-inside, covers-below, covers-above, or_else, at_of-append}
+use Rattle.goo_ranges.proofs.Covers.{covers-below, covers-above, or_else, at_of-append}
 
 pub end_of-append : (low : ℕ) (xs ys : List Piece) → end_of low (xs ++ ys) ≡ end_of (end_of low xs) ys
 end_of-append low [] ys = refl

@@ -1,5 +1,5 @@
 -- The pieces near to a range, and what follows where they are changed.
-use Rattle.std.proofs.Common.{◌≡◌, ℕ, zero, suc, ◌+◌, ◌-◌, ◌<◌, ◌≤◌, List, [], ◌∷◌, ◌++◌, Bool, true, false, cond, ltb, leb, Option, Some, None, length, get_or, take, drop, refl, ap, sym, ◌∙◌, ⊎_elim, arith, rules}
+use Rattle.std.proofs.Common.{◌≡◌, ℕ, zero, suc, ◌+◌, ◌-◌, ◌<◌, ◌≤◌, List, [], ◌∷◌, ◌++◌, true, false, ltb, leb, length, get_or, take, drop, refl, ap, ◌∙◌, ⊎_elim, arith}
 use Rattle.std.specs.List.{AllWithin}
 use Rattle.std.specs.List.Sorted.{IsPartitionPoint, IsPartitionedBy}
 use Rattle.std.proofs.lemmas.Bool.{cases_lt}
@@ -7,14 +7,14 @@ use Rattle.std.proofs.lemmas.Bool.Decides.{nat_tests}
 use Rattle.std.proofs.lemmas.List.{take-append-drop, drop-drop}
 use Rattle.goo_types.specs.declared.place.Place.{Place}
 use Rattle.goo_types.specs.declared.piece.Piece.{Piece}
-use Rattle.goo_types.specs.Piece.{Label, label_of, covers, at_of, IsForward, IsRising, IsRisingFrom}
+use Rattle.goo_types.specs.Piece.{at_of, IsRising, IsRisingFrom}
 use Rattle.goo_ranges.specs.Walk.{end_of}
 use Rattle.goo_ranges.specs.Change.{inside, moved, cuts, IsChanged}
 use Rattle.goo_ranges.specs.Touching.{AreNear, IsTouched}
 use Rattle.goo_ranges.proofs.Covers.{or_else, at_of-append}
-use Rattle.goo_ranges.proofs.Changing.{or_else-none, moved-none}
+use Rattle.goo_ranges.proofs.Changing.{or_else-none}
 use Rattle.goo_ranges.proofs.Joining.{rising-take}
-use Rattle.goo_ranges.proofs.Rising.{end_of-take, end_of-append, rising-weaken, rising-append, rising-front, rising-back, rising-drop, at_of-below, at_of-above, last-rises}
+use Rattle.goo_ranges.proofs.Rising.{end_of-take, rising-weaken, rising-append, rising-front, rising-back, rising-drop, at_of-below, at_of-above, last-rises}
 
 first-below : (low : ℕ) (ps : List Piece) (j : ℕ) (d : Piece) → IsRisingFrom low ps → j < length ps → low ≤ (get_or ps j d).first
 first-below low [] j d r h = absurd (omega arith)
@@ -59,9 +59,11 @@ near-take ps first last zero le f t = tt
 near-take [] first last (suc to) le f t = absurd (omega arith)
 near-take (p ∷ ps) first last (suc to) le f t =
     let one = f 0 p (omega arith) (omega arith) in
-    let two = t 0 p (omega arith) (omega arith) in
-    (grind (arith, nat_tests), grind (arith, nat_tests),
-    near-take ps first last to (omega arith) (λ k d a b. f (suc k) d (omega arith) (omega arith)) (λ k d a b. t (suc k) d (omega arith) (omega arith)))
+    let two = t 0 p (omega arith) (omega arith) in (
+      grind (arith, nat_tests),
+      grind (arith, nat_tests),
+      near-take ps first last to (omega arith) (λ k d a b. f (suc k) d (omega arith) (omega arith)) (λ k d a b. t (suc k) d (omega arith) (omega arith)),
+    )
 
 near-between : (ps : List Piece) (first last from to : ℕ) → from ≤ to → to ≤ length ps → AllWithin (λ p. ltb (p.last + 1) first ≡ false) ps from (length ps) → AllWithin (λ p. leb p.first (last + 1) ≡ true) ps 0 to → AreNear first last (take (to - from) (drop from ps))
 near-between ps first last zero to up le f t = let e : to - 0 ≡ to = omega arith in rw e (near-take ps first last to le f t)
@@ -122,8 +124,8 @@ module _ (ps : List Piece) (first last from to : ℕ) (place : Place) (out : Lis
       let base = end_of 0 (take from ps) in
       let after = rising-back base (take (to - from) (drop from ps)) (drop to ps) rest_rising in
       rising-append 0 (take from ps) (out ++ drop to ps) before_rising
-          (rising-append base out (drop to ps) (changed.rising base middle_rising)
-              (rising-weaken (end_of base out) (end_of base (take (to - from) (drop from ps))) (drop to ps) (changed.within base middle_rising) after))
+      (rising-append base out (drop to ps) (changed.rising base middle_rising)
+      (rising-weaken (end_of base out) (end_of base (take (to - from) (drop from ps))) (drop to ps) (changed.within base middle_rising) after))
 
   pub spliced-same : (n : ℕ) → at_of (take from ps ++ (out ++ drop to ps)) n ≡ moved first last place n (at_of ps n)
   spliced-same n =
@@ -133,19 +135,19 @@ module _ (ps : List Piece) (first last from to : ℕ) (place : Place) (out : Lis
       let split : at_of (take from ps ++ (out ++ drop to ps)) n ≡ or_else (at_of (take from ps) n) (or_else (at_of out n) (at_of (drop to ps) n)) = rw (at_of-append, at_of-append) refl in
       let split_old : at_of (take from ps ++ (middle ++ drop to ps)) n ≡ or_else (at_of (take from ps) n) (or_else (at_of middle n) (at_of (drop to ps) n)) = rw (at_of-append, at_of-append) refl in
       let outside : inside first last n ≡ false → at_of (take from ps ++ (out ++ drop to ps)) n ≡ moved first last place n (at_of ps n) =
-          λ h. rw (split, e, whole, split_old, h) refl
+      λ h. rw (split, e, whole, split_old, h) refl
       in
       ⊎_elim
       (λ (before : n < first). outside (grind (arith, nat_tests)))
       (λ (above : first ≤ n).
-          ⊎_elim
-          (λ (after : last < n). outside (grind (arith, nat_tests)))
-          (λ (to_last : n ≤ last).
-              let low = near.below in
-              let x = at_of-above 0 (take from ps) n before_rising (omega arith) in
-              let y = at_of-below (last + 2) (drop to ps) n near.above (omega arith) in
-              rw (split, e, whole, split_old, x, y, or_else-none, or_else-none) refl)
-          (cases_lt last n))
+      ⊎_elim
+      (λ (after : last < n). outside (grind (arith, nat_tests)))
+      (λ (to_last : n ≤ last).
+      let low = near.below in
+      let x = at_of-above 0 (take from ps) n before_rising (omega arith) in
+      let y = at_of-below (last + 2) (drop to ps) n near.above (omega arith) in
+      rw (split, e, whole, split_old, x, y, or_else-none, or_else-none) refl)
+      (cases_lt last n))
       (cases_lt n first)
 
 pub between-rising : (ps : List Piece) (from to : ℕ) → IsRising ps → IsRising (take to (drop from ps))

@@ -1,8 +1,7 @@
 -- Pieces at the ends of a block that stay as they are.
-use Rattle.std.proofs.Common.{◌≡◌, ℕ, zero, suc, ◌+◌, ◌-◌, ◌<◌, ◌≤◌, List, [], ◌∷◌, ◌++◌, length, get_or, take, drop, refl, ap, sym, ◌∙◌, arith, rules, append_assoc, length-append}
+use Rattle.std.proofs.Common.{◌≡◌, ℕ, suc, ◌+◌, ◌-◌, ◌<◌, ◌≤◌, List, [], ◌∷◌, ◌++◌, length, get_or, take, drop, refl, ap, sym, ◌∙◌, arith, append_assoc}
 use Rattle.std.specs.List.{remove}
 use Rattle.std.proofs.lemmas.List.{length-take, length-take-le, length-drop}
-use Rattle.std.specs.Prelude.{min}
 use Rattle.goo_types.specs.declared.piece.Piece.{Piece}
 use Rattle.goo_ranges.specs.Touching.{IsTrimmed}
 use Rattle.goo_ranges.proofs.Joining.{take-piece}

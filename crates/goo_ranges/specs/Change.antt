@@ -1,7 +1,6 @@
 -- What a change of a book does to each number, and which pieces it may touch.
-use Rattle.std.specs.Prelude.{◌≡◌, ℕ, ◌+◌, ◌-◌, ◌<◌, ◌≤◌, List, [], ◌∷◌, ◌++◌, length, map, Bool, nat_le, nat_lt, ◌&&◌, if◌then◌else◌, Option, Some, None, min, max, sum_by, count_by, MatchOption}
+use Rattle.std.specs.Prelude.{◌≡◌, ℕ, ◌+◌, ◌-◌, ◌<◌, ◌≤◌, List, ◌∷◌, ◌++◌, length, Bool, nat_le, nat_lt, ◌&&◌, if◌then◌else◌, Option, Some, None, min, max, sum_by, count_by, MatchOption}
 use Rattle.std.specs.Option.{option_map}
-use Rattle.goo_types.specs.declared.lot_fields.LotFields.{LotFields}
 use Rattle.goo_types.specs.declared.place.Place.{Place}
 use Rattle.goo_types.specs.declared.piece.Piece.{Piece}
 use Rattle.goo_types.specs.Piece.{Label, label_of, at_of, IsForward, IsRisingFrom}

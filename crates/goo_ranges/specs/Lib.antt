@@ -1,3 +1,4 @@
+pub mod Accounts
 pub mod BookFault
 pub mod Change
 pub mod Edit

@@ -11,6 +11,8 @@ ghost use Rattle.goo_ranges.specs.Walk.{span, IsRest};
 ghost use Rattle.goo_types.specs.Piece.{at_of, IsRising};
 ghost use Rattle.goo_spec.specs.Runs.{AreRunsOf, Gives};
 
+use crate::faults::BookFault;
+use crate::joined::push_joined;
 use goo_types::fault::Fault;
 use goo_types::lot::Lot;
 use goo_types::number::Number;
@@ -19,9 +21,7 @@ use goo_types::place::Place;
 use goo_types::range::Range;
 use std::marker::Model;
 
-use crate::faults::BookFault;
-use crate::joined::push_joined;
-
+mod accounts;
 mod changes;
 
 /// Pieces that rise and have no number in common.

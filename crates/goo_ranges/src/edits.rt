@@ -2,11 +2,10 @@
 
 ghost use Rattle.std.specs.Prelude.{◌≡◌, [], ◌∷◌, IfOk};
 
-use std::alloc::{AllocError, Global};
-
 use goo_types::number::Number;
 use goo_types::piece::Piece;
 use goo_types::place::Place;
+use std::alloc::{AllocError, Global};
 
 /// The rows that a change of a book deletes, by their first numbers, and those that it inserts.
 #[derive(Drop)]

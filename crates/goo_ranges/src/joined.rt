@@ -8,14 +8,12 @@ ghost use Rattle.goo_types.specs.Piece.{label_of, IsRising};
 ghost use Rattle.goo_spec.specs.Runs.{IsApart};
 ghost use Rattle.goo_ranges.specs.Walk.{end_of};
 
-use std::alloc::{AllocError, Global};
-
+use crate::parts::part;
 use goo_types::lot::Lot;
 use goo_types::number::Number;
 use goo_types::piece::Piece;
 use goo_types::place::Place;
-
-use crate::parts::part;
+use std::alloc::{AllocError, Global};
 
 /// Adds a piece at the end, joined with the last one where it follows that.
 pub fn push_joined(pieces: &mut Vec<Piece>, piece: Piece) -> Result<(), AllocError>
@@ -103,11 +101,7 @@ fn last_number(pieces: &[Piece], otherwise: u64) -> u64
 }
 
 /// The pieces with one more in the place of its numbers.
-pub fn set_pieces(
-    alloc: Global,
-    replaced: &[Piece],
-    new: &Piece,
-) -> Result<Vec<Piece>, AllocError>
+pub fn set_pieces(alloc: Global, replaced: &[Piece], new: &Piece) -> Result<Vec<Piece>, AllocError>
     requires { IsRising replaced.now }
     ensures { IfOk result (λ out. IsSet new.now.first new.now.last (label_of new.now) replaced.now out.items) }
 {

@@ -2,8 +2,8 @@
 #![tactic(auto)]
 
 mod books;
-mod faults;
 mod edits;
+mod faults;
 mod joined;
 mod parts;
 #[cfg(test)]

@@ -1,6 +1,9 @@
 //! Two joined pieces that are moved, added to and looked up, the edges of one row of ten numbers,
 //! and lists of pieces that make no book, against results worked out by hand.
 
+use crate::books::Book;
+use crate::edits::Edit;
+use crate::faults::BookFault;
 use goo_types::account_no::AccountNo;
 use goo_types::country::Country;
 use goo_types::day::Day;
@@ -19,10 +22,6 @@ use goo_types::tech_code::TechCode;
 use goo_types::watts::Watts;
 use std::alloc::Global;
 use std::test::Fail;
-
-use crate::books::Book;
-use crate::edits::Edit;
-use crate::faults::BookFault;
 
 fn lot() -> Result<Lot, Fail> {
     Ok(Lot::new(LotFields {
@@ -104,7 +103,9 @@ fn edges_of_one_row(rt: HostRuntime) -> Result<(), Fail> {
     assert!(rt; book.runs()?.as_slice() == [piece(1, 10, 2)?].as_slice());
     let mut book = one_of_ten(rt.alloc())?;
     book.reassign(range(5, 5)?, other)?;
-    assert!(rt; book.runs()?.as_slice() == [piece(1, 4, 1)?, piece(5, 5, 2)?, piece(6, 10, 1)?].as_slice());
+    assert!(rt;
+        book.runs()?.as_slice() == [piece(1, 4, 1)?, piece(5, 5, 2)?, piece(6, 10, 1)?].as_slice()
+    );
     let back = book.reassign(range(5, 5)?, held(1)?)?;
     assert!(rt; back.delete.len() == 3 && back.insert.as_slice() == [piece(1, 10, 1)?].as_slice());
     Ok(())

@@ -1,5 +1,5 @@
 -- Rows of certificates that expire, each put there by an edit of its own.
-use Rattle.std.proofs.Common.{◌≡◌, ℕ, List, Bool, true, false, cond, map, Option, Some, None, refl, ap, sym, subst, ◌∙◌}
+use Rattle.std.proofs.Common.{◌≡◌, ℕ, List, Bool, true, false, cond, Option, Some, None, refl, ap, sym, ◌∙◌}
 use Rattle.std.specs.Prelude.{is_some}
 use Rattle.std.specs.List.{filter, list_any}
 use Rattle.std.specs.FinMap.{get, keys, contains_key-keys}
@@ -19,8 +19,8 @@ use Rattle.goo_spec.specs.Advance.{expires, aged}
 use Rattle.goo_spec.proofs.Moving.{aged_again}
 use Rattle.goo_spec.proofs.Placing.{is_one_of, replaced, get-place_each}
 use Rattle.goo_ranges.specs.declared.edits.Edit.{Edit}
-use Rattle.goo_rows.specs.Rows.{AreRowsOf, edited_all}
-use Rattle.goo_rows.specs.Plans.{IsTurned, placed, AreMovesOf}
+use Rattle.goo_rows.specs.Rows.{AreRowsOf}
+use Rattle.goo_rows.specs.Plans.{IsTurned, AreMovesOf}
 use Rattle.goo_rows.proofs.Moves.{placed-rising, placed-at, moved-rows, moved-apart}
 
 -- each certificate of the registry gets the place that its lot and its old place give
@@ -30,6 +30,7 @@ get-place_each-all new again at n = get-place_each new again (keys at) at n ∙ 
   where
     one_of : is_some (get at n) ≡ is_one_of (keys at) n
     one_of = contains_key-keys at n ∙ sym (λ i. list_any (λ m. unsigned_ties n m i) (keys at))
+
     known : (o : Option (LotFields × Place)) → get at n ≡ o → cond (is_one_of (keys at) n) (replaced new (get at n)) (get at n) ≡ replaced new (get at n)
     known None is = rw is (elim (is_one_of (keys at) n) as (λ b. cond b (replaced new None) None ≡ None) [ true ↦ refl | false ↦ refl ])
     known (Some label) is = let there : is_one_of (keys at) n ≡ true = sym one_of ∙ ap is_some is in rw there refl
@@ -63,25 +64,25 @@ module _ (today day : CalendarDay) (at : Certificates)
       let is : a ≡ Held (account_of a) = held-is a held in
       let now : cond (is_over lot day) (Expired (account_of a)) (Held (account_of a)) ≡ b = sym (ap (aged day lot) is) ∙ same ∙ unheld day lot b free in
       elim (is_expired b) as (λ x. is_expired b ≡ x → ⊥) [
-        true ↦ λ x. true≢false (sym (expired m lot b at_b x) ∙ current n lot a at_a held)
-      | false ↦ λ x. held-other (account_of a) b (is_over lot day) free x now
+        | true ↦ λ x. true≢false (sym (expired m lot b at_b x) ∙ current n lot a at_a held)
+        | false ↦ λ x. held-other (account_of a) b (is_over lot day) free x now
       ] refl
 
   -- two places of one lot stay two
   pub aged-differ : (n m : ℕ) (lot : LotFields) (a b : Place) → get at n ≡ Some (lot, a) → get at m ≡ Some (lot, b) → aged day lot a ≡ aged day lot b → a ≡ b
   aged-differ n m lot a b at_a at_b same =
       elim (is_held a) as (λ x. is_held a ≡ x → a ≡ b) [
-        true ↦ λ x. elim (is_held b) as (λ y. is_held b ≡ y → a ≡ b) [
-            true ↦ λ y.
-                let one = held-is a x in
-                let two = held-is b y in
-                one ∙ held-both (account_of a) (account_of b) (is_over lot day) (sym (ap (aged day lot) one) ∙ same ∙ ap (aged day lot) two) ∙ sym two
+        | true ↦ λ x. elim (is_held b) as (λ y. is_held b ≡ y → a ≡ b) [
+          | true ↦ λ y.
+              let one = held-is a x in
+              let two = held-is b y in
+              one ∙ held-both (account_of a) (account_of b) (is_over lot day) (sym (ap (aged day lot) one) ∙ same ∙ ap (aged day lot) two) ∙ sym two
           | false ↦ λ y. absurd (unlike n m lot a b at_a at_b x y same)
-          ] refl
-      | false ↦ λ x. elim (is_held b) as (λ y. is_held b ≡ y → a ≡ b) [
-            true ↦ λ y. absurd (unlike m n lot b a at_b at_a y x (sym same))
+        ] refl
+        | false ↦ λ x. elim (is_held b) as (λ y. is_held b ≡ y → a ≡ b) [
+          | true ↦ λ y. absurd (unlike m n lot b a at_b at_a y x (sym same))
           | false ↦ λ y. sym (unheld day lot a x) ∙ same ∙ unheld day lot b y
-          ] refl
+        ] refl
       ] refl
 
   -- one edit for each row that expires turns the rows into those of the later day

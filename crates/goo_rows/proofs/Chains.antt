@@ -1,6 +1,5 @@
 -- Edits of a book that holds the rows near a range, as edits of all rows.
-use Rattle.std.proofs.Common.{◌≡◌, ℕ, ◌+◌, ◌<◌, ◌≤◌, List, [], ◌∷◌, ◌++◌, Bool, true, false, cond, Option, refl, ap, sym, subst, ◌∙◌, ⊎_elim, arith, rules, append_assoc}
-use Rattle.std.specs.Prelude.{nat_le, ◌&&◌}
+use Rattle.std.proofs.Common.{◌≡◌, ℕ, ◌<◌, ◌≤◌, List, [], ◌∷◌, ◌++◌, true, false, cond, Option, refl, ap, sym, subst, ◌∙◌, ⊎_elim, arith, append_assoc}
 use Rattle.std.proofs.lemmas.Bool.{cases_lt}
 use Rattle.std.proofs.lemmas.Bool.Decides.{nat_tests}
 use Rattle.std.specs.FinMap.{get}
@@ -87,9 +86,9 @@ module _ (range : Numbers) (up : range.first ≤ range.last) (rows book : List P
 
   changes : (n : ℕ) → at_of (edited e book) n ≡ change n (at_of book n)
   changes n = elim (inside range.first range.last n) as (λ b. inside range.first range.last n ≡ b → at_of (edited e book) n ≡ cond b (at_of (edited e book) n) (at_of book n)) [
-      true ↦ λ h. refl
+    | true ↦ λ h. refl
     | false ↦ λ h. edit.outside n h
-    ] refl
+  ] refl
 
   becomes : edited e rows ≡ block.front ++ (edited e book ++ block.back)
   becomes = framed-edited rows book range.first range.last block r (edited e book) up edit.is_edit.disjoint change outside changes e edit.is_edit.exact
@@ -146,12 +145,12 @@ module _ (range : Numbers) (up : range.first ≤ range.last) (rows book : List P
       ⊎_elim
       (λ (before : n < range.first). let out : inside range.first range.last n ≡ false = grind (arith, nat_tests) in beyond n out)
       (λ (from : range.first ≤ n). ⊎_elim
-          (λ (after : range.last < n). let out : inside range.first range.last n ≡ false = grind (arith, nat_tests) in beyond n out)
-          (λ (to : n ≤ range.last).
-              sym (met_at (edited_all es rows) (edited_all es book) range.first range.last framed.block (edits-rising rows es r changes-edits) n from to)
-              ∙ changes n
-              ∙ ap (change n) (met_at rows book range.first range.last block r n from to))
-          (cases_lt range.last n))
+      (λ (after : range.last < n). let out : inside range.first range.last n ≡ false = grind (arith, nat_tests) in beyond n out)
+      (λ (to : n ≤ range.last).
+      sym (met_at (edited_all es rows) (edited_all es book) range.first range.last framed.block (edits-rising rows es r changes-edits) n from to)
+      ∙ changes n
+      ∙ ap (change n) (met_at rows book range.first range.last block r n from to))
+      (cases_lt range.last n))
       (cases_lt n range.first)
 
 -- the edits of one book of the rows near a range turn all rows into those of the changed map
@@ -164,7 +163,7 @@ pub turned-by_book : (at after : Certificates) (rows : List Piece) (range : Numb
 turned-by_book at after rows range es change up kept are outside changes so =
     let block = met-block range rows kept.disjoint in
     edits-turned after rows es kept.disjoint (changes-edits range up rows (meeting range rows) block kept.disjoint es are change outside changes)
-        (λ n. changes-framed range up rows (meeting range rows) block kept.disjoint es are change outside changes n ∙ ap (change n) (kept.same n) ∙ sym (so n))
+    (λ n. changes-framed range up rows (meeting range rows) block kept.disjoint es are change outside changes n ∙ ap (change n) (kept.same n) ∙ sym (so n))
 
 -- one edit more, of a book of the rows near a range as the edits before left them
 pub part-edits : (range : Numbers) (rows : List Piece) (es : List Edit) (e : Edit) → range.first ≤ range.last → IsRising rows → AreEditsOf rows es

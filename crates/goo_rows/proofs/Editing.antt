@@ -1,5 +1,5 @@
 -- An edit that replaces one block of the rows.
-use Rattle.std.proofs.Common.{◌≡◌, ℕ, ◌+◌, ◌<◌, ◌≤◌, List, [], ◌∷◌, ◌++◌, Bool, true, false, cond, map, refl, ap, sym, ◌∙◌, arith, rules, append_assoc}
+use Rattle.std.proofs.Common.{◌≡◌, ℕ, ◌+◌, ◌≤◌, List, [], ◌∷◌, ◌++◌, true, false, map, refl, ap, sym, ◌∙◌, arith, append_assoc}
 use Rattle.std.specs.Prelude.{nat_lt, ◌==◌}
 use Rattle.std.proofs.lemmas.Bool.Decides.{nat_tests}
 use Rattle.goo_types.specs.declared.piece.Piece.{Piece}
@@ -59,6 +59,7 @@ with-block front (p ∷ block) back r =
     shorter : (low : ℕ) (qs back : List Piece) → IsRisingFrom low (qs ++ back) → IsRisingFrom low back
     shorter low [] back r = r
     shorter low (q ∷ qs) back r = let here : low ≤ q.first = r.0 in let forward : q.first ≤ q.last = r.1.0 in rising-weaken low (q.last + 1) back (omega arith) (shorter (q.last + 1) qs back r.2)
+
     fewer : (low : ℕ) (front : List Piece) (p : Piece) (block back : List Piece) → IsRisingFrom low (front ++ p ∷ (block ++ back)) → IsRisingFrom low (front ++ p ∷ back)
     fewer low [] p block back r = (r.0, r.1, shorter (p.last + 1) block back r.2)
     fewer low (x ∷ front) p block back r = (r.0, r.1, fewer (x.last + 1) front p block back r.2)
@@ -72,4 +73,4 @@ edited-whole front met new back edit exact was becomes =
     let old : front ++ (met ++ back) ≡ left ++ (exact.deleted ++ right) = rw exact.was (simp append_assoc) in
     let now : front ++ (new ++ back) ≡ left ++ (edit.insert.items ++ right) = rw exact.becomes (simp append_assoc) in
     rw (old, now, exact.named)
-        (ap (with_each edit.insert.items) (without-block left exact.deleted right (rw (← old) was)) ∙ with-block left edit.insert.items right (rw (← now) becomes))
+    (ap (with_each edit.insert.items) (without-block left exact.deleted right (rw (← old) was)) ∙ with-block left edit.insert.items right (rw (← now) becomes))

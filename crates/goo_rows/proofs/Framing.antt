@@ -1,19 +1,18 @@
 -- A change of the rows near a range, seen as a change of all rows.
-use Rattle.std.proofs.Common.{◌≡◌, ℕ, zero, suc, ◌+◌, ◌-◌, ◌<◌, ◌≤◌, List, [], ◌∷◌, ◌++◌, Bool, true, false, cond, Option, Some, None, refl, ap, sym, subst, ◌∙◌, ⊎_elim, arith, rules, append_assoc}
-use Rattle.std.specs.Prelude.{max, nat_le, ◌&&◌, find}
-
+use Rattle.std.proofs.Common.{◌≡◌, ℕ, zero, suc, ◌+◌, ◌-◌, ◌<◌, ◌≤◌, List, [], ◌∷◌, ◌++◌, Bool, true, false, Option, Some, None, refl, ap, sym, subst, ◌∙◌, ⊎_elim, arith, append_assoc}
+use Rattle.std.specs.Prelude.{max, find}
 use Rattle.std.specs.FinMap.{get}
 use Rattle.std.proofs.lemmas.Bool.{cases_lt}
 use Rattle.std.proofs.lemmas.Bool.Decides.{nat_tests}
 use Rattle.goo_types.specs.Range.{Numbers}
 use Rattle.goo_spec.specs.Maps.{numbers_from, each, least_absent, least_failing}
 use Rattle.goo_spec.specs.Lots.{Certificates, is_absent, fails}
-use Rattle.goo_ranges.specs.Walk.{span, end_of}
+use Rattle.goo_ranges.specs.Walk.{end_of}
 use Rattle.goo_types.specs.declared.piece.Piece.{Piece}
 use Rattle.goo_types.specs.declared.lot_fields.LotFields.{LotFields}
 use Rattle.goo_types.specs.declared.place.Place.{Place}
 use Rattle.goo_ranges.specs.declared.edits.Edit.{Edit}
-use Rattle.goo_types.specs.Piece.{Label, label_of, covers, at_of, IsForward, IsRising, IsRisingFrom, Follows}
+use Rattle.goo_types.specs.Piece.{Label, label_of, at_of, IsRising, IsRisingFrom}
 use Rattle.goo_spec.specs.Runs.{IsApart}
 use Rattle.goo_ranges.specs.Edit.{IsExact}
 use Rattle.goo_ranges.specs.Change.{inside}
@@ -53,13 +52,13 @@ met-tail low range (p ∷ ps) near r =
     let forward : p.first ≤ p.last = r.1.0 in
     ⊎_elim
     (λ (far : range.last + 1 < p.first).
-        let rising : IsRisingFrom (range.last + 2) (p ∷ ps) = (omega arith, r.1, r.2) in
-        let none = met-none (range.last + 2) range (p ∷ ps) (omega arith) rising in
-        record { back = p ∷ ps; whole = rw none refl; above = rising })
+    let rising : IsRisingFrom (range.last + 2) (p ∷ ps) = (omega arith, r.1, r.2) in
+    let none = met-none (range.last + 2) range (p ∷ ps) (omega arith) rising in
+    record { back = p ∷ ps; whole = rw none refl; above = rising })
     (λ (close : p.first ≤ range.last + 1).
-        let rest = met-tail (p.last + 1) range ps (omega arith) r.2 in
-        let e : is_near range p ≡ true = grind (arith, nat_tests) in
-        record { back = rest.back; whole = rw e (ap (λ l. p ∷ l) rest.whole); above = rest.above })
+    let rest = met-tail (p.last + 1) range ps (omega arith) r.2 in
+    let e : is_near range p ≡ true = grind (arith, nat_tests) in
+    record { back = rest.back; whole = rw e (ap (λ l. p ∷ l) rest.whole); above = rest.above })
     (cases_lt (range.last + 1) p.first)
 
 record IsSplit (base : ℕ) (range : Numbers) (rows : List Piece) : Type 0 where
@@ -74,12 +73,12 @@ split base low range [] small r = record { front = []; back = []; whole = refl; 
 split base low range (p ∷ ps) small r =
     ⊎_elim
     (λ (before : p.last + 1 < range.first).
-        let rest = split (p.last + 1) (p.last + 1) range ps (omega arith) r.2 in
-        let e : is_near range p ≡ false = grind (arith, nat_tests) in
-        record { front = p ∷ rest.front; back = rest.back; whole = rw e (ap (λ l. p ∷ l) rest.whole); below = rest.below; above = rest.above })
+    let rest = split (p.last + 1) (p.last + 1) range ps (omega arith) r.2 in
+    let e : is_near range p ≡ false = grind (arith, nat_tests) in
+    record { front = p ∷ rest.front; back = rest.back; whole = rw e (ap (λ l. p ∷ l) rest.whole); below = rest.below; above = rest.above })
     (λ (from : range.first ≤ p.last + 1).
-        let here = met-tail-from low range p ps from r in
-        record { front = []; back = here.back; whole = here.whole; below = small; above = here.above })
+    let here = met-tail-from low range p ps from r in
+    record { front = []; back = here.back; whole = here.whole; below = small; above = here.above })
     (cases_lt (p.last + 1) range.first)
   where
     met-tail-from : (low : ℕ) (range : Numbers) (p : Piece) (ps : List Piece) → range.first ≤ p.last + 1 → IsRisingFrom low (p ∷ ps) → IsTail range (p ∷ ps)
@@ -87,13 +86,13 @@ split base low range (p ∷ ps) small r =
         let forward : p.first ≤ p.last = r.1.0 in
         ⊎_elim
         (λ (far : range.last + 1 < p.first).
-            let rising : IsRisingFrom (range.last + 2) (p ∷ ps) = (omega arith, r.1, r.2) in
-            let none = met-none (range.last + 2) range (p ∷ ps) (omega arith) rising in
-            record { back = p ∷ ps; whole = rw none refl; above = rising })
+        let rising : IsRisingFrom (range.last + 2) (p ∷ ps) = (omega arith, r.1, r.2) in
+        let none = met-none (range.last + 2) range (p ∷ ps) (omega arith) rising in
+        record { back = p ∷ ps; whole = rw none refl; above = rising })
         (λ (close : p.first ≤ range.last + 1).
-            let rest = met-tail (p.last + 1) range ps (omega arith) r.2 in
-            let e : is_near range p ≡ true = grind (arith, nat_tests) in
-            record { back = rest.back; whole = rw e (ap (λ l. p ∷ l) rest.whole); above = rest.above })
+        let rest = met-tail (p.last + 1) range ps (omega arith) r.2 in
+        let e : is_near range p ≡ true = grind (arith, nat_tests) in
+        record { back = rest.back; whole = rw e (ap (λ l. p ∷ l) rest.whole); above = rest.above })
         (cases_lt (range.last + 1) p.first)
 
 pub met-block : (range : Numbers) (rows : List Piece) → IsRising rows → IsMet rows (meeting range rows) range.first range.last
@@ -170,8 +169,8 @@ module _ (all met : List Piece) (first last : ℕ) (block : IsMet all met first 
     end_new =
         let b = end_of-low (end_of 0 block.front) met met_rising_from in
         end-by_map (end_of 0 block.front) high new (omega arith) low_new (λ n h.
-            let out : inside first last n ≡ false = grind (arith, nat_tests) in
-            changes n ∙ outside n (at_of met n) out ∙ at_of-above (end_of 0 block.front) met n met_rising_from (omega arith))
+        let out : inside first last n ≡ false = grind (arith, nat_tests) in
+        changes n ∙ outside n (at_of met n) out ∙ at_of-above (end_of 0 block.front) met n met_rising_from (omega arith))
 
     back_rising : IsRisingFrom high block.back
     back_rising = rising-max (end_of (end_of 0 block.front) met) (last + 2) block.back (rising-back (end_of 0 block.front) met block.back rest_rising) block.above
@@ -191,11 +190,11 @@ module _ (all met : List Piece) (first last : ℕ) (block : IsMet all met first 
         ⊎_elim
         (λ (before : n < first). let out : inside first last n ≡ false = grind (arith, nat_tests) in framed-outside n out ∙ sym (outside n (at_of all n) out))
         (λ (from : first ≤ n). ⊎_elim
-            (λ (after : last < n). let out : inside first last n ≡ false = grind (arith, nat_tests) in framed-outside n out ∙ sym (outside n (at_of all n) out))
-            (λ (to : n ≤ last).
-                let alone : at_of (block.front ++ (new ++ block.back)) n ≡ at_of new n = new_at n ∙ rw (front_none n from, back_none n to, or_else-none) refl in
-                alone ∙ changes n ∙ ap (change n) (met_at n from to))
-            (cases_lt last n))
+        (λ (after : last < n). let out : inside first last n ≡ false = grind (arith, nat_tests) in framed-outside n out ∙ sym (outside n (at_of all n) out))
+        (λ (to : n ≤ last).
+        let alone : at_of (block.front ++ (new ++ block.back)) n ≡ at_of new n = new_at n ∙ rw (front_none n from, back_none n to, or_else-none) refl in
+        alone ∙ changes n ∙ ap (change n) (met_at n from to))
+        (cases_lt last n))
         (cases_lt n first)
 
     pub framed-apart : IsApart all → IsApart new → IsApart (block.front ++ (new ++ block.back))
@@ -206,25 +205,25 @@ module _ (all met : List Piece) (first last : ℕ) (block : IsMet all met first 
         let apart_three : IsApart (front ++ (met ++ after)) = rw whole a in
         let apart_after : IsApart after = apart-back met after (apart-back front (met ++ after) apart_three) in
         let second : IsApart (new ++ after) =
-            apart-append new after apart apart_after (λ ahead q p back e f.
-                let old : all ≡ (front ++ met) ++ p ∷ back = sym whole ∙ sym (append_assoc front met after) ∙ ap (λ l. (front ++ met) ++ l) f in
-                let now : front ++ (new ++ after) ≡ (front ++ ahead) ++ q ∷ (p ∷ back) = rw (e, f) (simp append_assoc) in
-                let above = subst (IsRisingFrom (last + 2)) f block.above in
-                λ follows.
-                    let next : q.last + 1 ≡ p.first = follows.0 in
-                    let far : last + 2 ≤ p.first = above.0 in
-                    let out_of_it : inside first last q.last ≡ false = grind (arith, nat_tests) in
-                    joint-right (front ++ ahead) q (front ++ met) p back (subst IsRising old r) (subst IsApart old a) (subst IsRising now framed-rising)
-                        (ap (λ l. at_of l q.last) (sym now) ∙ framed-outside q.last out_of_it ∙ ap (λ l. at_of l q.last) old) follows)
+        apart-append new after apart apart_after (λ ahead q p back e f.
+        let old : all ≡ (front ++ met) ++ p ∷ back = sym whole ∙ sym (append_assoc front met after) ∙ ap (λ l. (front ++ met) ++ l) f in
+        let now : front ++ (new ++ after) ≡ (front ++ ahead) ++ q ∷ (p ∷ back) = rw (e, f) (simp append_assoc) in
+        let above = subst (IsRisingFrom (last + 2)) f block.above in
+        λ follows.
+        let next : q.last + 1 ≡ p.first = follows.0 in
+        let far : last + 2 ≤ p.first = above.0 in
+        let out_of_it : inside first last q.last ≡ false = grind (arith, nat_tests) in
+        joint-right (front ++ ahead) q (front ++ met) p back (subst IsRising old r) (subst IsApart old a) (subst IsRising now framed-rising)
+        (ap (λ l. at_of l q.last) (sym now) ∙ framed-outside q.last out_of_it ∙ ap (λ l. at_of l q.last) old) follows)
         in
         apart-append front (new ++ after) (apart-front front (met ++ after) apart_three) second (λ ahead q p back e f.
-            let old : all ≡ ahead ++ q ∷ (met ++ after) = sym whole ∙ rw e (simp append_assoc) in
-            let now : front ++ (new ++ after) ≡ (ahead ++ q ∷ []) ++ (p ∷ back) = rw (e, f) refl in
-            let end : end_of 0 front ≡ q.last + 1 = rw e (end_of-append 0 ahead (q ∷ [])) in
-            let low : end_of 0 front ≤ first - 1 = block.below in
-            let out_of_it : inside first last (q.last + 1) ≡ false = grind (arith, nat_tests) in
-            joint-left ahead q (met ++ after) p back (subst IsRising old r) (subst IsApart old a) (subst IsRising now framed-rising)
-                (ap (λ l. at_of l (q.last + 1)) (sym now) ∙ framed-outside (q.last + 1) out_of_it ∙ ap (λ l. at_of l (q.last + 1)) old))
+        let old : all ≡ ahead ++ q ∷ (met ++ after) = sym whole ∙ rw e (simp append_assoc) in
+        let now : front ++ (new ++ after) ≡ (ahead ++ q ∷ []) ++ (p ∷ back) = rw (e, f) refl in
+        let end : end_of 0 front ≡ q.last + 1 = rw e (end_of-append 0 ahead (q ∷ [])) in
+        let low : end_of 0 front ≤ first - 1 = block.below in
+        let out_of_it : inside first last (q.last + 1) ≡ false = grind (arith, nat_tests) in
+        joint-left ahead q (met ++ after) p back (subst IsRising old r) (subst IsApart old a) (subst IsRising now framed-rising)
+        (ap (λ l. at_of l (q.last + 1)) (sym now) ∙ framed-outside (q.last + 1) out_of_it ∙ ap (λ l. at_of l (q.last + 1)) old))
 
     pub framed-edited : (edit : Edit) → IsExact met new edit → edited edit all ≡ block.front ++ (new ++ block.back)
     framed-edited edit exact = ap (edited edit) block.whole ∙ edited-whole block.front met new block.back edit exact three framed-rising

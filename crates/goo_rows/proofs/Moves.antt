@@ -1,10 +1,10 @@
 -- Rows that are put elsewhere whole, each by an edit of its own.
-use Rattle.std.proofs.Common.{◌≡◌, ℕ, ◌+◌, ◌<◌, ◌≤◌, List, [], ◌∷◌, ◌++◌, Bool, true, false, cond, map, Option, Some, None, refl, ap, sym, subst, ◌∙◌, arith, rules, append_assoc}
+use Rattle.std.proofs.Common.{◌≡◌, ℕ, ◌+◌, ◌≤◌, List, [], ◌∷◌, ◌++◌, Bool, true, false, cond, map, Some, refl, ap, sym, subst, ◌∙◌, arith, append_assoc}
 use Rattle.std.specs.List.{filter}
 use Rattle.goo_types.specs.declared.lot_fields.LotFields.{LotFields}
 use Rattle.goo_types.specs.declared.place.Place.{Place}
 use Rattle.goo_types.specs.declared.piece.Piece.{Piece}
-use Rattle.goo_types.specs.Piece.{Label, label_of, covers, at_of, IsRising, IsRisingFrom, Follows}
+use Rattle.goo_types.specs.Piece.{label_of, covers, at_of, IsRising, IsRisingFrom}
 use Rattle.goo_spec.specs.Runs.{IsNotFollowed, IsApart}
 use Rattle.goo_spec.proofs.Placing.{replaced}
 use Rattle.goo_ranges.specs.declared.edits.Edit.{Edit}
@@ -23,9 +23,9 @@ module _ (new : LotFields → Place → Place) where
   pub placed-at : (rows : List Piece) (n : ℕ) → at_of (map (placed new) rows) n ≡ replaced new (at_of rows n)
   placed-at [] n = refl
   placed-at (p ∷ ps) n = elim (covers p n) as (λ b. cond b (Some (p.lot, new p.lot p.place)) (at_of (map (placed new) ps) n) ≡ replaced new (cond b (Some (label_of p)) (at_of ps n))) [
-      true ↦ refl
+    | true ↦ refl
     | false ↦ placed-at ps n
-    ]
+  ]
 
   placed-middle : (front : List Piece) (p : Piece) (back : List Piece) → IsRising (front ++ p ∷ back) → IsRising (front ++ placed new p ∷ back)
   placed-middle front p back r = over 0 front r
@@ -60,17 +60,17 @@ module _ (new : LotFields → Place → Place) where
     moved-from front [] es r are = rw (no-move es are) refl
     moved-from front (p ∷ ps) es r are =
         let later : (q : Piece) (rest : List Edit) → IsRising (front ++ q ∷ ps) → AreMovesOf new (filter test ps) rest → edited_all rest (front ++ q ∷ ps) ≡ front ++ q ∷ map (placed new) ps =
-            λ q rest rising moves.
-                ap (edited_all rest) (sym (append_assoc front (q ∷ []) ps))
-                ∙ moved-from (front ++ q ∷ []) ps rest (subst IsRising (sym (append_assoc front (q ∷ []) ps)) rising) moves
-                ∙ append_assoc front (q ∷ []) (map (placed new) ps) in
+        λ q rest rising moves.
+        ap (edited_all rest) (sym (append_assoc front (q ∷ []) ps))
+        ∙ moved-from (front ++ q ∷ []) ps rest (subst IsRising (sym (append_assoc front (q ∷ []) ps)) rising) moves
+        ∙ append_assoc front (q ∷ []) (map (placed new) ps) in
         elim (test p) as (λ b. test p ≡ b → AreMovesOf new (cond b (p ∷ filter test ps) (filter test ps)) es → edited_all es (front ++ p ∷ ps) ≡ front ++ placed new p ∷ map (placed new) ps) [
-          true ↦ λ h moves.
+          | true ↦ λ h moves.
               let one = first-move p (filter test ps) es moves in
               ap (λ l. edited_all l (front ++ p ∷ ps)) one.is
               ∙ ap (edited_all one.rest) (moved-one front p ps one.first r one.move)
               ∙ later (placed new p) one.rest (placed-middle front p ps r) one.moves
-        | false ↦ λ h moves.
+          | false ↦ λ h moves.
               let same : p ≡ placed new p = λ i. record p { place = sym (stays p h) i } in
               later p es r moves ∙ ap (λ q. front ++ q ∷ map (placed new) ps) same
         ] refl are

@@ -1,5 +1,5 @@
 -- The rows near a range, as some edits leave them.
-use Rattle.std.proofs.Common.{◌≡◌, ℕ, ◌+◌, ◌<◌, ◌≤◌, List, [], ◌∷◌, ◌++◌, Bool, true, false, cond, map, refl, ap, sym, subst, ◌∙◌, arith, rules, append_assoc}
+use Rattle.std.proofs.Common.{◌≡◌, ℕ, ◌+◌, ◌<◌, ◌≤◌, List, [], ◌∷◌, ◌++◌, Bool, true, false, cond, map, refl, ap, sym, subst, ◌∙◌, arith, append_assoc}
 use Rattle.std.specs.Prelude.{◌==◌}
 use Rattle.std.specs.List.{filter}
 use Rattle.std.proofs.lemmas.List.{append-nil}
@@ -12,7 +12,7 @@ use Rattle.goo_ranges.specs.declared.edits.Edit.{Edit}
 use Rattle.goo_ranges.specs.Edit.{IsExact}
 use Rattle.goo_ranges.proofs.Rising.{rising-weaken}
 use Rattle.goo_rows.specs.Rows.{is_near, meeting, without, without_each, with_each, edited, edited_all}
-use Rattle.goo_rows.specs.Plans.{IsEditOf, AreEditsOf, near_after}
+use Rattle.goo_rows.specs.Plans.{AreEditsOf, near_after}
 use Rattle.goo_rows.proofs.Editing.{from-low, without-here, with-block}
 
 -- some of the rows rise as they do
@@ -23,8 +23,8 @@ filter-rising test low (p ∷ ps) r =
     let forward : p.first ≤ p.last = r.1.0 in
     let rest = filter-rising test (p.last + 1) ps r.2 in
     elim (test p) as (λ b. IsRisingFrom low (cond b (p ∷ filter test ps) (filter test ps))) [
-      true ↦ (r.0, r.1, rest)
-    | false ↦ rising-weaken low (p.last + 1) (filter test ps) (omega arith) rest
+      | true ↦ (r.0, r.1, rest)
+      | false ↦ rising-weaken low (p.last + 1) (filter test ps) (omega arith) rest
     ]
 
 -- a row that isn't there can't be left out
@@ -55,8 +55,8 @@ rising-some test low [] (q ∷ block) back r =
     let forward : q.first ≤ q.last = r.1.0 in
     let rest = rising-some test (q.last + 1) [] block back r.2 in
     elim (test q) as (λ b. IsRisingFrom low (cond b (q ∷ filter test block) (filter test block) ++ back)) [
-      true ↦ (r.0, r.1, rest)
-    | false ↦ rising-weaken low (q.last + 1) (filter test block ++ back) (omega arith) rest
+      | true ↦ (r.0, r.1, rest)
+      | false ↦ rising-weaken low (q.last + 1) (filter test block ++ back) (omega arith) rest
     ]
 rising-some test low (x ∷ front) block back r = (r.0, r.1, rising-some test (x.last + 1) front block back r.2)
 
@@ -66,12 +66,12 @@ without-some test front [] back r = refl
 without-some test front (q ∷ block) back r =
     let rest = without-some test front block back (rising-fewer 0 front q (block ++ back) r) in
     let some : IsRising (front ++ q ∷ (filter test block ++ back)) =
-        subst IsRising (append_assoc front (q ∷ []) (filter test block ++ back)) (rising-some test 0 (front ++ q ∷ []) block back (subst IsRising (sym (append_assoc front (q ∷ []) (block ++ back))) r)) in
+    subst IsRising (append_assoc front (q ∷ []) (filter test block ++ back)) (rising-some test 0 (front ++ q ∷ []) block back (subst IsRising (sym (append_assoc front (q ∷ []) (block ++ back))) r)) in
     let one : (b : Bool) → without q.first (front ++ (cond b (q ∷ filter test block) (filter test block) ++ back)) ≡ front ++ (filter test block ++ back) =
-        λ b. elim b as (λ b. without q.first (front ++ (cond b (q ∷ filter test block) (filter test block) ++ back)) ≡ front ++ (filter test block ++ back)) [
-          true ↦ without-here 0 front q (filter test block ++ back) some
-        | false ↦ without-absent 0 front q (filter test block ++ back) some
-        ] in
+    λ b. elim b as (λ b. without q.first (front ++ (cond b (q ∷ filter test block) (filter test block) ++ back)) ≡ front ++ (filter test block ++ back)) [
+      | true ↦ without-here 0 front q (filter test block ++ back) some
+      | false ↦ without-absent 0 front q (filter test block ++ back) some
+    ] in
     ap (without_each (map (λ p. p.first) block)) (one (test q)) ∙ rest
 
 some-rising : (test : Piece → Bool) (front block back : List Piece) → IsRising (front ++ (block ++ back)) → IsRising (filter test front ++ (block ++ filter test back))
@@ -88,11 +88,11 @@ some-after test old new edit exact was now =
     let front = filter test exact.before in
     let back = filter test exact.after in
     let split : (middle : List Piece) → filter test (exact.before ++ (middle ++ exact.after)) ≡ front ++ (filter test middle ++ back) =
-        λ middle. filter-append test exact.before (middle ++ exact.after) ∙ ap (λ l. front ++ l) (filter-append test middle exact.after) in
+    λ middle. filter-append test exact.before (middle ++ exact.after) ∙ ap (λ l. front ++ l) (filter-append test middle exact.after) in
     let old_is : filter test old ≡ front ++ (filter test exact.deleted ++ back) = ap (filter test) exact.was ∙ split exact.deleted in
     let new_is : filter test new ≡ front ++ (filter test edit.insert.items ++ back) = ap (filter test) exact.becomes ∙ split edit.insert.items in
     let kept : without_each (map (λ p. p.first) exact.deleted) (front ++ (filter test exact.deleted ++ back)) ≡ front ++ back =
-        without-some test front exact.deleted back (some-rising test exact.before exact.deleted exact.after (subst IsRising exact.was was)) in
+    without-some test front exact.deleted back (some-rising test exact.before exact.deleted exact.after (subst IsRising exact.was was)) in
     let risen : IsRising (front ++ (filter test edit.insert.items ++ back)) = subst IsRising new_is (filter-rising test 0 new now) in
     new_is ∙ sym (with-block front (filter test edit.insert.items) back risen)
     ∙ ap (with_each (filter test edit.insert.items)) (sym kept ∙ rw (exact.named, old_is) refl)

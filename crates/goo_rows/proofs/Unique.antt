@@ -1,10 +1,10 @@
 -- The maximal runs of a map are one list.
-use Rattle.std.proofs.Common.{◌≡◌, ℕ, ◌+◌, ◌<◌, ◌≤◌, List, [], ◌∷◌, Bool, true, false, cond, Option, Some, None, refl, ap, sym, ◌∙◌, ⊎_elim, arith}
+use Rattle.std.proofs.Common.{◌≡◌, ℕ, ◌+◌, ◌<◌, ◌≤◌, List, [], ◌∷◌, Option, Some, None, refl, ap, sym, ◌∙◌, ⊎_elim, arith}
 use Rattle.std.proofs.lemmas.Bool.{cases_lt}
 use Rattle.goo_types.specs.declared.piece.Piece.{Piece}
-use Rattle.goo_types.specs.Piece.{Label, label_of, at_of, IsRising, IsRisingFrom}
+use Rattle.goo_types.specs.Piece.{Label, label_of, at_of, IsRisingFrom}
 use Rattle.goo_spec.specs.Runs.{IsApart, AreRunsOf}
-use Rattle.goo_ranges.proofs.Covers.{covers-inside, covers-above}
+use Rattle.goo_ranges.proofs.Covers.{covers-above}
 use Rattle.goo_ranges.proofs.Maximal.{at-own, not-after}
 use Rattle.goo_ranges.proofs.Rising.{at_of-below}
 
@@ -40,9 +40,9 @@ unique low (p ∷ ps) (q ∷ qs) r a s b same =
     let last : p.last ≡ q.last = equal p.last q.last (no_shorter low p q ps qs r a s same first label) (no_shorter low q p qs ps s b r back (sym first) (sym label)) in
     let head : p ≡ q = λ i. record { first = first i; last = last i; lot = (label i).0; place = (label i).1 } in
     let rest : (n : ℕ) → at_of ps n ≡ at_of qs n = λ n. ⊎_elim
-        (λ (above : p.last < n). let e = covers-above p n above in let f = covers-above q n (omega arith) in let h = same n in rw (e, f) at h)
-        (λ (within : n ≤ p.last). at_of-below (p.last + 1) ps n r.2 (omega arith) ∙ sym (at_of-below (q.last + 1) qs n s.2 (omega arith)))
-        (cases_lt p.last n) in
+    (λ (above : p.last < n). let e = covers-above p n above in let f = covers-above q n (omega arith) in let h = same n in rw (e, f) at h)
+    (λ (within : n ≤ p.last). at_of-below (p.last + 1) ps n r.2 (omega arith) ∙ sym (at_of-below (q.last + 1) qs n s.2 (omega arith)))
+    (cases_lt p.last n) in
     let tail : IsRisingFrom (p.last + 1) qs = rw last s.2 in
     let more : ps ≡ qs = unique (p.last + 1) ps qs r.2 (apart-tail p ps a) tail (apart-tail q qs b) rest in
     λ i. head i ∷ more i

@@ -7,14 +7,12 @@ ghost use Rattle.goo_types.specs.declared.fault.Fault.TheVariants.{Memory};
 ghost use Rattle.goo_rows.specs.Rows.{is_near as near_to, meeting, with_each};
 ghost use Rattle.goo_rows.specs.Plans.{near_after as near_rows};
 
-use std::alloc::AllocError;
-
+use crate::row_edits::{put_in, take_out_each};
 use goo_ranges::Edit;
 use goo_types::fault::Fault;
 use goo_types::piece::Piece;
 use goo_types::range::Range;
-
-use crate::row_edits::{put_in, take_out_each};
+use std::alloc::AllocError;
 
 /// Whether a row has a number of the range, or one next to it.
 fn is_near(row: &Piece, range: &Range) -> bool

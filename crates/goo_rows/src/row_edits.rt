@@ -3,10 +3,9 @@ ghost use Rattle.std.specs.Prelude.{◌≡◌, OnOk};
 ghost use Rattle.std.specs.List.Sorted.{IsNonDecreasingBy};
 ghost use Rattle.goo_rows.specs.Rows.{without, without_each, with};
 
-use std::alloc::AllocError;
-
 use goo_types::number::Number;
 use goo_types::piece::Piece;
+use std::alloc::AllocError;
 
 /// Takes out the row that begins at a number, if there is one.
 fn take_out(rows: &mut Vec<Piece>, first: Number)

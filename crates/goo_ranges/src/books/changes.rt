@@ -8,19 +8,17 @@ ghost use Rattle.goo_ranges.specs.Edit.{IsExact};
 ghost use Rattle.goo_ranges.specs.Touching.{IsTouched, IsMeeting, IsBegin, IsEnd, IsWidened, IsTrimmed};
 ghost use Rattle.goo_spec.specs.Runs.{IsApart};
 
-use std::alloc::AllocError;
-
+use super::Book;
+use crate::edits::Edit;
+use crate::joined::{joined_pieces, moved_pieces, put_between, set_pieces};
+use crate::parts::is_same;
 use goo_types::fault::Fault;
 use goo_types::lot::Lot;
 use goo_types::number::Number;
 use goo_types::piece::Piece;
 use goo_types::place::Place;
 use goo_types::range::Range;
-
-use super::Book;
-use crate::edits::Edit;
-use crate::joined::{joined_pieces, moved_pieces, put_between, set_pieces};
-use crate::parts::is_same;
+use std::alloc::AllocError;
 
 impl Book {
     /// The indices between which the pieces meet the range or are next to it.

@@ -1,7 +1,6 @@
-use Rattle.std.proofs.Common.{◌≡◌, ◌+◌, ◌<◌, ◌≤◌, ◌++◌, length, take, arith}
+use Rattle.std.proofs.Common.{◌+◌, ◌++◌, take, arith}
 use Rattle.std.specs.Option.{option_to_list}
 use Rattle.goo_ranges.specs.Change.{IsKept}
-use Rattle.goo_types.specs.Piece.{IsRising}
 use Rattle.goo_ranges.proofs.Joining.{piece-forward, rising-take, take-piece}
 use Rattle.goo_ranges.proofs.Keeping.{kept-nil, kept-more, kept-joining}
 use Rattle.goo_ranges.proofs.Rising.{rising-weaken}
@@ -14,7 +13,7 @@ part-requires c = piece-forward 0 c.args.pieces.now c.loop-piece.piece-index c.p
 kept-now : (c : After-part) → IsKept c.args.low c.args.high (take (c.loop-piece.piece-index + 1) c.args.pieces.now) (c.loop-piece.out.items ++ option_to_list c.part.result)
 kept-now c =
     rw (take-piece c.args.pieces.now c.loop-piece.piece-index c.piece-item.result (omega arith) c.piece-item.is)
-        (kept-more c.args.low c.args.high _ c.loop-piece.out.items c.piece-item.result c.part.result c.loop-piece.invariant c.part.ensures)
+    (kept-more c.args.low c.args.high _ c.loop-piece.out.items c.piece-item.result c.part.result c.loop-piece.invariant c.part.ensures)
 
 pub push_part-requires : goal.push_part-requires
 push_part-requires c =

@@ -1,9 +1,7 @@
-use Rattle.std.proofs.Common.{◌≡◌, ◌+◌, ◌-◌, ◌<◌, ◌≤◌, List, [], ◌∷◌, ◌++◌, length, take, arith, rules, sym, ◌∙◌}
-use Rattle.std.proofs.lemmas.List.{take_all}
+use Rattle.std.proofs.Common.{◌+◌, [], ◌∷◌, ◌++◌, take, arith}
 use Rattle.std.specs.Option.{option_to_list}
-use Rattle.goo_types.specs.declared.piece.Piece.{Piece}
 use Rattle.goo_types.specs.Piece.{IsRising}
-use Rattle.goo_ranges.specs.Change.{IsChanged, IsPart, moved, cuts}
+use Rattle.goo_ranges.specs.Change.{IsChanged, moved, cuts}
 use Rattle.goo_ranges.proofs.Changing.{changed-nil, changed-joining, changed-append, changed-piece, moved-none}
 use Rattle.goo_ranges.proofs.Joining.{piece-forward, rising-take, take-piece, push-first, push-second, push-third, push-all}
 use Rattle.goo_ranges.proofs.joined.moved_pieces.Goals as goal
@@ -32,7 +30,7 @@ changed-now c =
     let valid = c.get-first.ensures.limit in
     let here = changed-piece first last place p c.part-left.result c.part-middle.result c.part-right.result (omega arith) (omega arith) left middle right in
     rw (take-piece c.args.touched.now i p (omega arith) c.piece-item.is)
-        (changed-append (moved first last place) (cuts first last) (moved-none first last place) (take i c.args.touched.now) (p ∷ []) c.loop-piece.out.items _ c.loop-piece.invariant.changed here)
+    (changed-append (moved first last place) (cuts first last) (moved-none first last place) (take i c.args.touched.now) (p ∷ []) c.loop-piece.out.items _ c.loop-piece.invariant.changed here)
 
 rising-now : (c : After-part-right) → IsRising (c.loop-piece.out.items ++ (option_to_list c.part-left.result ++ (option_to_list c.part-middle.result ++ option_to_list c.part-right.result)))
 rising-now c = (changed-now c).rising 0 (rising-take c.args.touched.now (c.loop-piece.piece-index + 1) c.requires.rising)
@@ -59,6 +57,6 @@ loop-piece-preserved c =
     let here = (goal.at.loop-piece-preserved c).After-part-right in
     record {
       changed = changed-joining (moved first last place) (cuts first last) (moved-none first last place) (take (c.loop-piece.piece-index + 1) c.args.touched.now) (c.loop-piece.out.items ++ (option_to_list c.part-left.result ++ (option_to_list c.part-middle.result ++ option_to_list c.part-right.result))) c.push_part-in-loop-piece-2.new.pieces.items (changed-now here)
-        (push-all c.loop-piece.out.items (option_to_list c.part-left.result) (option_to_list c.part-middle.result) (option_to_list c.part-right.result) (rising-now here) _ _ _ c.in_ok-push_part.ensures.joined c.in_ok-push_part-2.ensures.joined c.in_ok-push_part-3.ensures.joined);
+          (push-all c.loop-piece.out.items (option_to_list c.part-left.result) (option_to_list c.part-middle.result) (option_to_list c.part-right.result) (rising-now here) _ _ _ c.in_ok-push_part.ensures.joined c.in_ok-push_part-2.ensures.joined c.in_ok-push_part-3.ensures.joined);
       apart = c.in_ok-push_part-3.ensures.apart (c.in_ok-push_part-2.ensures.apart (c.in_ok-push_part.ensures.apart c.loop-piece.invariant.apart));
     }

@@ -1,4 +1,4 @@
-use Rattle.std.proofs.Common.{◌≡◌, ◌+◌, ◌-◌, ◌<◌, ◌≤◌, length, arith, rules, sym, ◌∙◌}
+use Rattle.std.proofs.Common.{◌≡◌, ◌-◌, arith, rules, sym, ◌∙◌}
 use Rattle.std.proofs.lemmas.List.{get_or_read}
 use Rattle.goo_types.specs.Piece.{Follows}
 use Rattle.goo_ranges.proofs.Joining.{joining-set, apart-set, apart-more, apart-first}
@@ -26,6 +26,6 @@ returns-clause-apart c = λ a.
     let i = c.len-end.result - 1 in
     let p = c.args.piece in
     rw c.in_ok-push.ensures.items (elim c.else-end-gt0.branch [
-      else-end-gt0-via-then-end-gt0+else-is_followed_by w ↦ (apart-more xs i w.index.result.now p (omega arith) w.index.ensures (search rules) a)
-    | else-end-gt0-via-else-end-gt0 w ↦ apart-first xs p (omega arith)
+      | else-end-gt0-via-then-end-gt0+else-is_followed_by w ↦ (apart-more xs i w.index.result.now p (omega arith) w.index.ensures (search rules) a)
+      | else-end-gt0-via-else-end-gt0 w ↦ apart-first xs p (omega arith)
     ])

@@ -1,4 +1,4 @@
-use Rattle.std.proofs.Common.{◌≡◌, suc, ◌+◌, ◌<◌, ◌≤◌, Some, None, false, true, drop, arith, sym, refl, rules}
+use Rattle.std.proofs.Common.{◌≡◌, suc, ◌+◌, None, false, drop, arith, sym, refl}
 use Rattle.goo_spec.specs.Lots.{is_absent}
 use Rattle.std.proofs.lemmas.List.{drop_all}
 use Rattle.goo_types.specs.Piece.{at_of}
@@ -50,11 +50,11 @@ returns c =
     let next = c.loop-piece.next in
     let inv = c.loop-piece.invariant in
     let missing : at_of all next ≡ None =
-        elim c.loop-piece-test.branch [
-          else-loop-piece-test w ↦ (let none = drop_all i items (omega arith) in rest-end all next (rw none at inv.rest) next (omega arith))
-        | then-loop-piece-test+then-next-get w ↦
-            (let split = drop-piece items i w.piece-item.result (omega arith) w.piece-item.is in
-            rest-gap all (drop (i + 1) items) w.piece-item.result next (rw split at inv.rest) next (omega arith) (omega arith))
-        ]
+    elim c.loop-piece-test.branch [
+      | else-loop-piece-test w ↦ (let none = drop_all i items (omega arith) in rest-end all next (rw none at inv.rest) next (omega arith))
+      | then-loop-piece-test+then-next-get w ↦
+          (let split = drop-piece items i w.piece-item.result (omega arith) w.piece-item.is in
+          rest-gap all (drop (i + 1) items) w.piece-item.result next (rw split at inv.rest) next (omega arith) (omega arith))
+    ]
     in
     rw c.between.ensures (sym (find-span-some (λ n. is_absent (at_of all n)) c.args.first next (suc c.args.last) (omega arith) (omega arith) inv.present (rw missing refl)))

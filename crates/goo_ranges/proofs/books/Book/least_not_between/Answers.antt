@@ -1,4 +1,4 @@
-use Rattle.std.proofs.Common.{◌≡◌, suc, ◌+◌, ◌<◌, ◌≤◌, Some, None, false, true, drop, arith, sym, refl, ap, ◌∙◌, rules}
+use Rattle.std.proofs.Common.{◌≡◌, suc, ◌+◌, ◌<◌, ◌≤◌, false, true, drop, arith, sym, refl, ap, ◌∙◌}
 use Rattle.std.specs.Prelude.{not, max}
 use Rattle.std.proofs.lemmas.Bool.Decides.{nat_tests}
 use Rattle.std.proofs.lemmas.List.{drop_all}
@@ -20,11 +20,15 @@ loop-piece-preserved g c =
     let inv = c.loop-piece.invariant in
     let split = drop-piece items i p (omega arith) c.piece-item.is in
     let rest = rw split at inv.1 in
-    let reached : inv.0 ≤ p.last = rest.reaches in
-    (p.last + 1, rest-next all (drop (i + 1) items) p inv.0 rest, omega (arith, inv.2), starts-rising c.args.first (p.last + 1) (drop (i + 1) items) rest.rising.2,
-    λ passes answers.
-        let passed : true ≡ passes p.lot p.place = answers p.lot p.place true c.if-not-test.ensures in
-        known-past (λ o. fails passes o ≡ false) all (drop (i + 1) items) p c.args.first inv.0 rest refl (ap not (sym passed)) (inv.4 passes answers))
+    let reached : inv.0 ≤ p.last = rest.reaches in (
+      p.last + 1,
+      rest-next all (drop (i + 1) items) p inv.0 rest,
+      omega (arith, inv.2),
+      starts-rising c.args.first (p.last + 1) (drop (i + 1) items) rest.rising.2,
+      λ passes answers.
+          let passed : true ≡ passes p.lot p.place = answers p.lot p.place true c.if-not-test.ensures in
+          known-past (λ o. fails passes o ≡ false) all (drop (i + 1) items) p c.args.first inv.0 rest refl (ap not (sym passed)) (inv.4 passes answers),
+    )
 
 pub returns-then-lt : goal.returns-then-lt
 returns-then-lt g c = λ passes answers.
@@ -58,7 +62,7 @@ returns-then-not-test g c = λ passes answers.
     let here = rest-inside all (drop (i + 1) items) p inv.0 rest (max low p.first) starts (omega arith) (omega arith) in
     let before = known-gap (λ o. fails passes o ≡ false) all (drop (i + 1) items) p low inv.0 rest refl (inv.4 passes answers) in
     rw later (sym (find-span-some (λ n. fails passes (at_of all n)) low (max low p.first) (suc c.args.last) (omega arith) (omega arith)
-        (λ m from below. before m from (omega arith)) (rw here (ap not (sym failed)))))
+    (λ m from below. before m from (omega arith)) (rw here (ap not (sym failed)))))
 
 pub returns : goal.returns
 returns g c = λ passes answers.

@@ -1,8 +1,6 @@
-use Rattle.std.proofs.Common.{◌≡◌, suc, ◌+◌, ◌<◌, ◌≤◌, Some, None, false, true, arith, sym, refl, ◌∙◌, rules}
+use Rattle.std.proofs.Common.{◌≡◌, suc, ◌<◌, ◌≤◌, arith, sym, refl, ◌∙◌}
 use Rattle.std.specs.Prelude.{is_some, max}
-use Rattle.std.specs.List.{find}
 use Rattle.std.proofs.lemmas.Bool.Decides.{nat_tests}
-use Rattle.goo_ranges.specs.Walk.{span}
 use Rattle.goo_types.specs.Piece.{at_of}
 use Rattle.goo_ranges.proofs.Find.{find-span-none, find-span-some}
 use Rattle.goo_ranges.proofs.Rest.{rest-head, rest-empty, rest-end, rest-gap, rest-inside, later-of}
@@ -40,4 +38,4 @@ returns c =
     let forward : p.first ≤ p.last = head.1.rising.1.0 in
     let here = rest-inside all head.0 p low head.1 (max low p.first) (omega arith) (omega arith) (omega arith) in
     rw later (sym (find-span-some (λ n. is_some (at_of all n)) low (max low p.first) (suc c.args.last) (omega arith) (omega arith)
-        (λ m above below. rw (rest-gap all head.0 p low head.1 m above (omega arith)) refl) (rw here refl)))
+    (λ m above below. rw (rest-gap all head.0 p low head.1 m above (omega arith)) refl) (rw here refl)))

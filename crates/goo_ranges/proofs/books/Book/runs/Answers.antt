@@ -1,4 +1,4 @@
-use Rattle.std.proofs.Common.{◌≡◌, ◌+◌, ◌<◌, ◌≤◌, [], ◌∷◌, ◌++◌, length, take, arith, rules, sym, ◌∙◌}
+use Rattle.std.proofs.Common.{◌+◌, [], ◌∷◌, take, arith}
 use Rattle.std.proofs.lemmas.List.{take_all}
 use Rattle.goo_types.specs.Piece.{IsRising, at_of}
 use Rattle.goo_ranges.proofs.Joining.{joining-self, joining-then, joining-append, rising-take, take-piece}
