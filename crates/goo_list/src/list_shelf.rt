@@ -1,4 +1,4 @@
-ghost use Rattle.std.specs.Prelude.{◌≡◌};
+ghost use Rattle.std.specs.Prelude.{◌≡◌, []};
 ghost use Rattle.goo_shelf.specs.Counters.{AreNumbers, next_numbers};
 ghost use Rattle.goo_spec.specs.Created.{created};
 ghost use Rattle.goo_list.specs.States.{state_of};
@@ -52,7 +52,8 @@ impl ListShelf {
     /// The shelf of a new registry, which knows nothing but its code, its date and its next serial.
     #[tactic(auto, unfolding(crate::specs::States::state_of, crate::specs::Rows::certificates_of, goo_spec::specs::Created::created))]
     pub fn new(alloc: Global, code: RegistryCode, next_serial: Serial, today: Day) -> ListShelf
-        ensures { state_of result ≡ created code today next_serial }
+        ensures state { state_of result ≡ created code today next_serial }
+        ensures rows { result.rows.pieces ≡ [] }
     {
         ListShelf {
             own: code,
