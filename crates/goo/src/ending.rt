@@ -69,7 +69,9 @@ impl From<LineFault> for Ending {
             LineFault::Place => Ending::Misused("goo: --memory is missing"),
             LineFault::Code => Ending::Misused("goo: --code is a number of 1 to 99"),
             LineFault::Today => Ending::Misused("goo: --today is a day as 2025-03-01"),
-            LineFault::NextSerial => Ending::Misused("goo: --next-serial is a number of 1 to 999999999999"),
+            LineFault::NextSerial => Ending::Misused(
+                "goo: --next-serial is a number of 1 to 999999999999",
+            ),
             LineFault::Memory => Ending::Failed(Failure::Memory),
         }
     }

@@ -6,7 +6,8 @@ use std::slice;
 use std::test::Fail;
 
 /// Two holders with an account each, and a device of the first.
-const BASE: &str = "ISSUER {\"command\":\"open_holder\",\"holder\":\"SUN\",\"key\":\"a1\",\"name\":\"Sun Power\"}
+const BASE: &str =
+    "ISSUER {\"command\":\"open_holder\",\"holder\":\"SUN\",\"key\":\"a1\",\"name\":\"Sun Power\"}
 ISSUER {\"command\":\"open_account\",\"holder\":\"SUN\",\"key\":\"a2\"}
 ISSUER {\"command\":\"open_holder\",\"holder\":\"VOLT\",\"key\":\"a3\",\"name\":\"Volt\"}
 ISSUER {\"command\":\"open_account\",\"holder\":\"VOLT\",\"key\":\"a4\"}
@@ -43,8 +44,16 @@ const fn declared(first: &'static str, last: &'static str, gross: u64, aux: u64)
 
 /// The line that asks for a declaration.
 fn line_of(alloc: Global, declared: &Declaration) -> Result<String, Fail> {
-    let Declaration { device, first, last, gross, aux } = declared;
-    Ok(format!(in alloc; "ISSUER {{\"aux_wh\":{aux},\"command\":\"declare\",\"device\":\"{device}\",\"first_day\":\"{first}\",\"gross_wh\":{gross},\"key\":\"{first}{last}{gross}\",\"last_day\":\"{last}\"}}\n")?)
+    let Declaration {
+        device,
+        first,
+        last,
+        gross,
+        aux,
+    } = declared;
+    Ok(format!(in alloc;
+        "ISSUER {{\"aux_wh\":{aux},\"command\":\"declare\",\"device\":\"{device}\",\"first_day\":\"{first}\",\"gross_wh\":{gross},\"key\":\"{first}{last}{gross}\",\"last_day\":\"{last}\"}}\n"
+    )?)
 }
 
 /// A registry of code 7 on the first of March 2025.
@@ -75,7 +84,11 @@ fn answers(
 }
 
 /// The outcome of the last of these declarations alone, where each before is accepted.
-fn last_answer(alloc: Global, next_serial: &str, declarations: &[Declaration]) -> Result<String, Fail> {
+fn last_answer(
+    alloc: Global,
+    next_serial: &str,
+    declarations: &[Declaration],
+) -> Result<String, Fail> {
     let (output, _) = answers(alloc, next_serial, declarations)?;
     let text = str::from_utf8(output.as_slice())?;
     match text.trim_end().rsplit('\n').next() {
@@ -97,12 +110,30 @@ fn each_refusal_of_a_declaration(rt: HostRuntime) -> Result<(), Fail> {
             },
             "{\"code\":9,\"name\":\"UnknownDevice\",\"outcome\":\"refused\"}",
         ),
-        (declared("2025-01-31", "2025-02-01", 5, 0), "{\"code\":12,\"name\":\"PeriodSpan\",\"outcome\":\"refused\"}"),
-        (declared("2025-03-01", "2025-03-01", 5, 0), "{\"code\":28,\"name\":\"FuturePeriod\",\"outcome\":\"refused\"}"),
-        (declared("2020-06-14", "2020-06-30", 5, 0), "{\"code\":10,\"name\":\"BeforeCommissioning\",\"outcome\":\"refused\"}"),
-        (declared("2023-08-01", "2023-08-31", 5, 0), "{\"code\":27,\"name\":\"Stale\",\"outcome\":\"refused\"}"),
-        (declared("2025-02-01", "2025-02-28", 5, 6), "{\"code\":13,\"name\":\"AuxExceedsGross\",\"outcome\":\"refused\"}"),
-        (declared("2025-01-01", "2025-01-31", 1_490_000_001, 0), "{\"code\":14,\"name\":\"OverCapacity\",\"outcome\":\"refused\"}"),
+        (
+            declared("2025-01-31", "2025-02-01", 5, 0),
+            "{\"code\":12,\"name\":\"PeriodSpan\",\"outcome\":\"refused\"}",
+        ),
+        (
+            declared("2025-03-01", "2025-03-01", 5, 0),
+            "{\"code\":28,\"name\":\"FuturePeriod\",\"outcome\":\"refused\"}",
+        ),
+        (
+            declared("2020-06-14", "2020-06-30", 5, 0),
+            "{\"code\":10,\"name\":\"BeforeCommissioning\",\"outcome\":\"refused\"}",
+        ),
+        (
+            declared("2023-08-01", "2023-08-31", 5, 0),
+            "{\"code\":27,\"name\":\"Stale\",\"outcome\":\"refused\"}",
+        ),
+        (
+            declared("2025-02-01", "2025-02-28", 5, 6),
+            "{\"code\":13,\"name\":\"AuxExceedsGross\",\"outcome\":\"refused\"}",
+        ),
+        (
+            declared("2025-01-01", "2025-01-31", 1_490_000_001, 0),
+            "{\"code\":14,\"name\":\"OverCapacity\",\"outcome\":\"refused\"}",
+        ),
     ];
     for (declared, wanted) in cases {
         let answer = last_answer(rt.alloc(), "1", slice::from_ref(&declared))?;

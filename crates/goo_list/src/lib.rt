@@ -18,5 +18,7 @@ mod production;
 mod row_edits;
 mod rows;
 mod shelf;
+#[cfg(test)]
+mod tests;
 mod totals;
 mod withdraw_record;

@@ -11,4 +11,4 @@ new-requires-clause-rows c = λ none.
     let shelf = c.new-shelf.result in
     let opening = c.args.opening in
     subst (λ (rows : List Piece). AreRowsOf (state_of shelf).at rows) (sym c.new-shelf.ensures.rows)
-      (subst (λ (s : State). AreRowsOf s.at []) (sym c.new-shelf.ensures.state) (new_rows opening.code opening.today opening.next_serial))
+    (subst (λ (s : State). AreRowsOf s.at []) (sym c.new-shelf.ensures.state) (new_rows opening.code opening.today opening.next_serial))
