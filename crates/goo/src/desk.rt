@@ -19,13 +19,9 @@ impl MemoryDesk {
     ghost use Rattle.goo.specs.Desk.{seen_by};
 
     /// A new registry.
-    #[tactic(auto, using(goo_spec::proofs::Creating::created_is_sound, crate::proofs::Opening::new_rows))]
     pub fn new(alloc: Global, opening: Opening) -> MemoryDesk
         ensures { (seen_by result.registry.shelf).state ≡ created opening.code opening.today opening.next_serial }
     {
-        // Code and serial are in hand with their limits.
-        let _code = opening.code.get();
-        let _serial = opening.next_serial.get();
         let shelf = ListShelf::new(alloc, opening.code, opening.next_serial, opening.today);
         MemoryDesk {
             registry: Registry::new(shelf),
