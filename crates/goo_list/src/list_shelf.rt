@@ -1,6 +1,8 @@
-ghost use Rattle.std.specs.Prelude.{◌≡◌};
+ghost use Rattle.std.specs.Prelude.{◌≡◌, []};
 ghost use Rattle.goo_shelf.specs.Counters.{AreNumbers, next_numbers};
 ghost use Rattle.goo_spec.specs.Created.{created};
+ghost use Rattle.goo_spec.specs.Sound.{IsSound};
+ghost use Rattle.goo_rows.specs.Rows.{AreRowsOf};
 ghost use Rattle.goo_list.specs.States.{state_of};
 
 use crate::kept::Kept;
@@ -50,9 +52,21 @@ pub struct ListShelf {
 
 impl ListShelf {
     /// The shelf of a new registry, which knows nothing but its code, its date and its next serial.
-    #[tactic(auto, unfolding(crate::specs::States::state_of, crate::specs::Rows::certificates_of, goo_spec::specs::Created::created))]
     pub fn new(alloc: Global, code: RegistryCode, next_serial: Serial, today: Day) -> ListShelf
-        ensures { state_of result ≡ created code today next_serial }
+        ensures state { state_of result ≡ created code today next_serial }
+        ensures sound { IsSound (state_of result) }
+        ensures rows { AreRowsOf (state_of result).at result.rows.pieces }
+    {
+        let _code = code.get();
+        let _serial = next_serial.get();
+        ListShelf::empty(alloc, code, next_serial, today)
+    }
+
+    /// A shelf with empty lists.
+    #[tactic(auto, unfolding(crate::specs::States::state_of, crate::specs::Rows::certificates_of, goo_spec::specs::Created::created))]
+    fn empty(alloc: Global, code: RegistryCode, next_serial: Serial, today: Day) -> ListShelf
+        ensures state { state_of result ≡ created code today next_serial }
+        ensures rows { result.rows.pieces ≡ [] }
     {
         ListShelf {
             own: code,

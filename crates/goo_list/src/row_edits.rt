@@ -1,5 +1,5 @@
 //! Rows by rising first numbers, and edits of them.
-ghost use Rattle.std.specs.Prelude.{◌≡◌, ℕ, ◌+◌, ◌<◌, ◌≤◌, length, IfSome};
+ghost use Rattle.std.specs.Prelude.{◌≡◌, ℕ, ◌+◌, ◌<◌, ◌≤◌, ◌^◌, length, IsSome, IfSome};
 ghost use Rattle.std.specs.List.Sorted.{IsNonDecreasingBy};
 ghost use Rattle.std.specs.Vec.{vec_len, vec_capacity};
 ghost use Rattle.goo_rows.specs.Rows.{without, without_each, with, with_each, edited, edited_all};
@@ -79,7 +79,8 @@ pub fn edit_each(rows: &mut Vec<Piece>, edits: &[Edit])
 
 /// How many rows some edits insert; None where no `usize` counts them.
 pub fn count_inserts(edits: &[Edit]) -> Option<usize>
-    ensures { IfSome result (λ count. count ≡ inserts edits.now) }
+    ensures count { IfSome result (λ count. count ≡ inserts edits.now) }
+    ensures fits { inserts edits.now < 2 ^ 64 → IsSome result }
 {
     let mut count: usize = 0;
     for edit in edits {
