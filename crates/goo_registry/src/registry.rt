@@ -86,7 +86,6 @@ impl<S: Shelf> Registry<S> {
     /// Room for all outcomes is taken first: where it is refused, that is a `Memory` with nothing done.
     ///
     /// A run of one request does what `apply` does.
-    #[tactic(auto, using(crate::proofs::Alone::alone))]
     pub fn run(&mut self, alloc: Global, requests: &[Request]) -> Result<Vec<Outcome>, RunFault>
         ensures runs { Runs (S.seen self.old.shelf) (S.seen self.new.shelf) result requests.now }
         ensures one { RunsAsOne (S.seen self.old.shelf) (S.seen self.new.shelf) result requests.now }
