@@ -82,8 +82,8 @@ promise_so_far : (old new : Moment) (qs : List Request) → AllObey qs → IsWel
 promise_so_far old new qs obey well none is = promised old.state new.state qs obey (well.sound none) is
 
 -- all were answered
-pub going_ends : (old new : Moment) (qs : List Request) (j : ℕ) (done : Vec Outcome Global) → IsWell old → (new.doubts ≡ 0 → IsSafe new new.state) → IsGoing old new qs j done.items → length qs ≤ j → Runs old new (Ok done) qs
-going_ends old new qs j done well settled going over =
+pub going_ends : (old new : Moment) (qs : List Request) (j : ℕ) (done : Vec Outcome Global) → IsWell old → (new.doubts ≡ 0 → IsSafe new new.state) → IsGoing old new qs j done.items → length qs ≤ j → j ≤ length qs → Runs old new (Ok done) qs
+going_ends old new qs j done well settled going over within =
     let all : take j qs ≡ qs = take_all j qs over in
     let state : new.doubts ≡ 0 → new.state ≡ final old.state qs = λ none. going.state none ∙ ap (final old.state) all in
     record {
@@ -94,11 +94,13 @@ going_ends old new qs j done well settled going over =
       rows = going.well.rows;
       fewest = going.fewest;
       idle = going.idle;
+      whole = omega (arith, over, within, going.count);
       short = tt;
       doubted = going.doubted;
       lied = going.lied;
       kept = going.kept;
       told = going.told;
+      works = going.works;
       crash = λ late none o there. let sure = going.works late none in inl (subst (IsSafe new) (state sure) (settled sure) o there);
     }
 
@@ -117,11 +119,13 @@ going_stops old mid new qs j done fault q well going more is applies =
       rows = applies.rows;
       fewest = λ none apart. applies.fewest none (going.fewest (applies.doubted none) apart);
       idle = λ none empty. applies.rows_unchanged none ∙ going.idle (applies.doubted none) empty;
+      whole = tt;
       short = omega (arith, more, going.count);
       doubted = λ none. going.doubted (applies.doubted none);
       lied = λ none. going.lied (applies.lied none);
       kept = omega (arith, going.kept, applies.kept);
       told = λ none. applies.told;
+      works = tt;
       crash = λ late none.
           let sure = going.works (applies.lied late) none in
           let now : mid.state ≡ final old.state (take (length done.items) qs) = going.state sure ∙ ap (final old.state) (sym first) in
@@ -143,10 +147,12 @@ no_room m qs done empty some well settled =
       rows = well.rows;
       fewest = λ none apart. apart;
       idle = λ none is. refl;
+      whole = tt;
       short = subst (λ (l : List Outcome). length l < length qs) (sym empty) some;
       doubted = λ none. none;
       lied = λ none. none;
       kept = omega (arith);
       told = λ none. none;
+      works = tt;
       crash = λ late none o there. inl (subst (IsSafe m) state (settled none) o there);
     }

@@ -1,3 +1,4 @@
+pub mod Alone
 pub mod Carrying
 pub mod Finding
 pub mod Going

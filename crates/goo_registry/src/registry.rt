@@ -4,7 +4,7 @@ ghost use Rattle.std.specs.Prelude.{◌≡◌};
 ghost use Rattle.goo_rows.specs.Rows.{AreRowsOf, rows-prop};
 ghost use Rattle.goo_spec.specs.Sound.{IsSound};
 ghost use Rattle.goo_registry.specs.Applying.{Applies};
-ghost use Rattle.goo_registry.specs.Running.{Runs};
+ghost use Rattle.goo_registry.specs.Running.{Runs, RunsAsOne};
 ghost use Rattle.goo_registry.specs.Shown.{Shows, apart as answer_of};
 ghost use Rattle.goo_registry.specs.Reads.{place_shown, notice_shown, AreHoldings, IsCancellationShown, IsAudit};
 
@@ -84,8 +84,11 @@ impl<S: Shelf> Registry<S> {
     /// Requests in order: what each comes to, or the first fault and what was answered before. Those that
     /// were answered stand; the request of the fault changed nothing, and the later ones weren't tried.
     /// Room for all outcomes is taken first: where it is refused, that is a `Memory` with nothing done.
+    ///
+    /// A run of one request does what `apply` does.
     pub fn run(&mut self, alloc: Global, requests: &[Request]) -> Result<Vec<Outcome>, RunFault>
-        ensures { Runs (S.seen self.old.shelf) (S.seen self.new.shelf) result requests.now }
+        ensures runs { Runs (S.seen self.old.shelf) (S.seen self.new.shelf) result requests.now }
+        ensures one { RunsAsOne (S.seen self.old.shelf) (S.seen self.new.shelf) result requests.now }
     {
         run_all(alloc, &mut self.shelf, requests)
     }

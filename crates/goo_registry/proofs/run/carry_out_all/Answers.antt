@@ -38,4 +38,4 @@ loop-request-preserved g c =
 pub returns : goal.returns
 returns g c =
     going_ends (g.S.Shelf.seen c.args.shelf.now) (g.S.Shelf.seen c.loop-request.shelf) c.args.requests.now c.loop-request.request-index c.loop-request.done
-    (record { sound = c.requires.sound; rows = c.requires.rows }) (g.met.S.Shelf.settled c.loop-request.shelf) c.loop-request.invariant.going (search rules)
+    (record { sound = c.requires.sound; rows = c.requires.rows }) (g.met.S.Shelf.settled c.loop-request.shelf) c.loop-request.invariant.going (search rules) c.loop-request.auto.request-index-end
