@@ -12,3 +12,5 @@ pub mod Same
 pub mod Updating
 pub mod Joining
 pub mod Unique
+pub mod Ordered
+pub mod Meeting

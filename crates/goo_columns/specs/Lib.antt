@@ -5,3 +5,4 @@ pub mod Stands
 pub mod Asked
 pub mod Beside
 pub mod Once
+pub mod Met

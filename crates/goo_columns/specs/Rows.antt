@@ -18,6 +18,7 @@ use Rattle.goo_columns.specs.declared.cancellation.CancellationRow.{Cancellation
 use Rattle.goo_columns.specs.declared.withdrawal.WithdrawalRow.{WithdrawalRow}
 use Rattle.goo_columns.specs.declared.notice_out.NoticeOutRow.{NoticeOutRow}
 use Rattle.goo_columns.specs.declared.notice_in.NoticeInRow.{NoticeInRow}
+use Rattle.goo_columns.specs.declared.numbered_meta.NumberedMeta.{NumberedMeta}
 use Rattle.goo_columns.specs.declared.plant.PlantRow.{PlantRow}
 
 -- a number that a column keeps, and 0 at a value of another kind
@@ -95,6 +96,20 @@ meta_at r = record {
   next_withdrawal = number_in (column r 8);
   next_notice = number_in (column r 9);
 }
+
+-- a row of `meta` under any number
+pub record Numbered : Type 0 where
+  pub id : ℕ
+  pub meta : Meta
+
+abbrev pub numbered_key : Numbered → ℤ
+numbered_key n = pos n.id
+
+abbrev pub numbered_row : Numbered → Row
+numbered_row n = Int (pos n.id) ∷ Null ∷ meta_columns n.meta
+
+abbrev pub numbered_in : NumberedMeta → Numbered
+numbered_in n = record { id = n.id; meta = meta_in n.meta }
 
 -- ---- holder: a holder
 

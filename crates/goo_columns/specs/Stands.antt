@@ -79,11 +79,11 @@ pub record Rests (old new : State) : Type 0 where
   pub committed : IsTrue new.is_open → new.committed ≡ old.committed
 
 -- A look-up: what it finds is right of the tables, and it changes nothing, whether it succeeds or not.
--- `found` and `rests` are of a disk that has returned what was written; `crash` is of any.
+-- `found` and `rests` are of a disk that has returned what was written; `crash` is of any. The last two ask that the tables are ours, and nothing of their rows.
 pub record Looks {T : Type 0} (old new : State) (result : Result T Error) (right : Tables → T → Type 0) : Type 0 where
   pub found : HasCleanDisk new → (t : Tables) → Stands old.now t → IfOk result (right t)
   pub clean : doubt old.is_clean ≤ doubt new.is_clean
   pub works : OnOk result (HasCleanDisk new → IsTrue new.is_open)
   pub was_open : HasCleanDisk new → IsTrue new.is_open → IsTrue old.is_open
-  pub rests : HasCleanDisk new → (t : Tables) → Stands old.now t → IsSettled old → Rests old new
-  pub crash : (t : Tables) → Stands old.now t → Survives old new (λ _. ⊥)
+  pub rests : HasCleanDisk new → old.now.schema ≡ registry_schema → IsSettled old → Rests old new
+  pub crash : old.now.schema ≡ registry_schema → Survives old new (λ _. ⊥)

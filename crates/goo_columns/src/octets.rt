@@ -1,8 +1,8 @@
 //! Bytes that a column keeps.
 
-ghost use Rattle.std.specs.Prelude.{◌≡◌, IfOk};
+ghost use Rattle.std.specs.Prelude.{IfOk};
 ghost use Rattle.sqlite.specs.Order.{column};
-ghost use Rattle.sqlite_typed.specs.Columns.{bytes_of};
+ghost use Rattle.goo_columns.specs.Reads.{IsOctets};
 
 use sqlite::types::{Type, ValueRef};
 use sqlite::{Error, Row};
@@ -14,7 +14,7 @@ use std::alloc::Global;
 ///
 /// `InvalidColumnType` for a value of another kind, `InvalidColumnIndex` where the row ends before, and `OutOfMemory`.
 pub fn octets_at(alloc: Global, row: &Row, at: usize) -> Result<Vec<u8>, Error>
-    ensures { IfOk result (λ b. bytes_of (column row.now at) ≡ b.items) }
+    ensures { IfOk result (λ b. IsOctets (column row.now at) b.items) }
 {
     let value = row.get_ref(at)?;
     match value {

@@ -6,6 +6,8 @@
 
 mod line_fault;
 mod task;
+#[cfg(test)]
+mod tests;
 mod values;
 mod words;
 

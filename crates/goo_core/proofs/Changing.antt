@@ -1,5 +1,5 @@
 -- From the rows that a range meets to all rows.
-use Rattle.std.proofs.Common.{◌≡◌, ◌∙◌, ℕ, ◌≤◌, List, [], ◌∷◌, Bool, false, if◌then◌else◌, Option, Some, refl, ap, sym, subst}
+use Rattle.std.proofs.Common.{◌≡◌, ◌∙◌, ℕ, ◌≤◌, List, [], ◌∷◌, Bool, false, if◌then◌else◌, Option, Some, ap, sym, subst}
 use Rattle.std.specs.Option.{option_map}
 use Rattle.std.specs.FinMap.{get}
 use Rattle.goo_types.specs.Piece.{Label, at_of, IsRising}
@@ -11,14 +11,13 @@ use Rattle.goo_ranges.specs.Change.{inside, moved, set_to}
 use Rattle.goo_ranges.specs.Edit.{IsExact}
 use Rattle.goo_ranges.specs.declared.edits.Edit.{Edit}
 use Rattle.goo_spec.specs.Lots.{Certificates}
-use Rattle.goo_spec.specs.Maps.{each, place_each, give_each}
+use Rattle.goo_spec.specs.Maps.{each, give_each}
 use Rattle.goo_spec.specs.Runs.{IsApart}
-use Rattle.goo_rows.specs.Plans.{IsTurned, AreEditsOf, AreEditsWithin}
-use Rattle.goo_rows.specs.Rows.{AreRowsOf, meeting, edited_all}
+use Rattle.goo_rows.specs.Rows.{AreRowsOf, meeting}
 use Rattle.goo_rows.proofs.Chains.{within-of_book, edited-exact, turned-by_book, edits-framed, within-edits}
 use Rattle.goo_rows.proofs.Framing.{met-block}
 use Rattle.goo_shelf.proofs.Plans.{stay_rising}
-use Rattle.goo_rows.proofs.Mapping.{get-move_each, get-give_each-range}
+use Rattle.goo_rows.proofs.Mapping.{get-give_each-range}
 use Rattle.goo_core.specs.Changes.{AreEditsFor, IsTurnedInTurn}
 
 pub moved-outside : (range : Numbers) (place : Place) (n : ℕ) (o : Option Label) → inside range.first range.last n ≡ false → moved range.first range.last place n o ≡ o
@@ -48,12 +47,6 @@ turned_by at after rows range edits change up kept outside so are = record {
   turned = turned-by_book at after rows range edits change up kept are.within outside are.changes so;
   rising = stay_rising edits rows kept.disjoint (within-edits range rows edits (edits-framed range rows (meeting range rows) edits up (met-block range rows kept.disjoint) kept.disjoint are.within).edits);
 }
-
--- certificates of a range that go to another place
-pub moved_turned : (at : Certificates) (rows : List Piece) (range : Numbers) (place : Place) (edits : List Edit) → range.first ≤ range.last → AreRowsOf at rows
-    → AreEditsFor range (meeting range rows) (moved range.first range.last place) edits → IsTurnedInTurn (place_each (λ lot old. place) (each range) at) rows edits
-moved_turned at rows range place edits up kept are =
-    turned_by at (place_each (λ lot old. place) (each range) at) rows range edits (moved range.first range.last place) up kept (moved-outside range place) (λ n. get-move_each range place at n up) are
 
 -- numbers of a range that get a lot and a place
 pub added_turned : (at : Certificates) (rows : List Piece) (range : Numbers) (lot : LotFields) (place : Place) (edits : List Edit) → range.first ≤ range.last → AreRowsOf at rows

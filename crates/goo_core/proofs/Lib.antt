@@ -11,3 +11,8 @@ pub mod Numbering
 pub mod Closing
 pub mod Exporting
 pub mod Expiring
+pub mod Takings
+pub mod Arrivals
+pub mod Importing
+pub mod Withdrawing
+pub mod Deciding

@@ -1,6 +1,7 @@
 -- From what met rows come to, to what all rows come to.
-use Rattle.std.proofs.Common.{◌≡◌, ◌∙◌, ℕ, ◌≤◌, List, [], ◌∷◌, ◌++◌, Option, Some, None, refl, ap, sym, subst}
+use Rattle.std.proofs.Common.{◌≡◌, ◌∙◌, ℕ, ◌≤◌, List, [], ◌∷◌, ◌++◌, false, Option, Some, None, refl, ap, sym, subst}
 use Rattle.std.specs.FinMap.{get}
+use Rattle.goo_types.specs.Piece.{Label}
 use Rattle.goo_types.specs.Range.{Numbers}
 use Rattle.goo_types.specs.declared.piece.Piece.{Piece}
 use Rattle.goo_types.specs.declared.place.Place.{Place}
@@ -9,14 +10,15 @@ use Rattle.goo_spec.specs.Checks.{first_refusal}
 use Rattle.goo_spec.specs.Lots.{Certificates}
 use Rattle.goo_spec.specs.Maps.{each, place_each}
 use Rattle.goo_spec.proofs.Mapping.{none_some}
-use Rattle.goo_ranges.specs.Change.{moved}
+use Rattle.goo_ranges.specs.Change.{inside, moved}
 use Rattle.goo_rows.specs.Rows.{AreRowsOf, meeting}
+use Rattle.goo_rows.proofs.Mapping.{get-move_each}
 use Rattle.goo_core.specs.Changes.{AreEditsFor}
-use Rattle.goo_core.specs.Moves.{IsMove, IsMoveRuling}
+use Rattle.goo_core.specs.Moves.{IsChangeRuling, IsMoveRuling}
 use Rattle.goo_core.specs.Ruling.{Meaning, IsRuling}
 use Rattle.goo_core.specs.declared.ruling.Ruling.{Ruling}
 use Rattle.goo_core.specs.declared.ruling.Ruling.TheVariants.{Refused, Repeated, Passed}
-use Rattle.goo_core.proofs.Changing.{moved_turned}
+use Rattle.goo_core.proofs.Changing.{turned_by, moved-outside}
 
 -- the first of some checks that fails is the first of all
 pub failed_early : (early late : List (Option Refusal)) (r : Refusal) → first_refusal early ≡ Some r → first_refusal (early ++ late) ≡ Some r
@@ -30,21 +32,31 @@ passed_early [] late is = refl
 passed_early (None ∷ early) late is = passed_early early late is
 passed_early (Some q ∷ early) late is = none_some q (sym is)
 
+-- a command that changes the certificates of its range
+pub ruled_change : (meaning : Meaning) (at : Certificates) (rows met : List Piece) (refused : Option Refusal) (range : Numbers) (change : ℕ → Option Label → Option Label) (ruling : Ruling)
+    → AreRowsOf at rows → met ≡ meeting range rows → meaning.repeated ≡ None → meaning.refused ≡ refused
+    → ((n : ℕ) (o : Option Label) → inside range.first range.last n ≡ false → change n o ≡ o)
+    → (range.first ≤ range.last → (n : ℕ) → get meaning.after n ≡ change n (get at n))
+    → IsChangeRuling refused meaning.reply meaning.notice range change met ruling → IsRuling meaning rows ruling
+ruled_change meaning at rows met refused range change (Refused r) kept is fresh same outside so ruled = (fresh, same ∙ ruled)
+ruled_change meaning at rows met refused range change (Repeated reply) kept is fresh same outside so ruled = absurd ruled
+ruled_change meaning at rows met refused range change (Passed made) kept is fresh same outside so ruled =
+    let one = ruled.1 in
+    let edits : AreEditsFor range (meeting range rows) change made.edits.items = subst (λ m. AreEditsFor range m change made.edits.items) is one.edits in
+    let turned = turned_by at meaning.after rows range made.edits.items change one.up kept outside (so one.up) edits in
+    record {
+      fresh = fresh;
+      allowed = same ∙ ruled.0;
+      answered = one.answered;
+      sent = one.sent;
+      rising = turned.rising;
+      turned = turned.turned;
+    }
+
 -- a command that puts the certificates of its range in a place
 pub ruled_move : (meaning : Meaning) (at : Certificates) (rows met : List Piece) (refused : Option Refusal) (range : Numbers) (place : Place) (ruling : Ruling)
     → AreRowsOf at rows → met ≡ meeting range rows → meaning.repeated ≡ None → meaning.refused ≡ refused → meaning.after ≡ place_each (λ lot old. place) (each range) at
     → IsMoveRuling refused meaning.reply meaning.notice range place met ruling → IsRuling meaning rows ruling
-ruled_move meaning at rows met refused range place (Refused r) kept is fresh same after ruled = (fresh, same ∙ ruled)
-ruled_move meaning at rows met refused range place (Repeated reply) kept is fresh same after ruled = absurd ruled
-ruled_move meaning at rows met refused range place (Passed change) kept is fresh same after ruled =
-    let move = ruled.1 in
-    let edits : AreEditsFor range (meeting range rows) (moved range.first range.last place) change.edits.items = subst (λ m. AreEditsFor range m (moved range.first range.last place) change.edits.items) is move.edits in
-    let turned = moved_turned at rows range place change.edits.items move.up kept edits in
-    record {
-      fresh = fresh;
-      allowed = same ∙ ruled.0;
-      answered = move.answered;
-      sent = move.sent;
-      rising = turned.rising;
-      turned = rw after turned.turned;
-    }
+ruled_move meaning at rows met refused range place ruling kept is fresh same after ruled =
+    ruled_change meaning at rows met refused range (moved range.first range.last place) ruling kept is fresh same (moved-outside range place)
+    (λ up n. ap (λ m. get m n) after ∙ get-move_each range place at n up) ruled

@@ -12,3 +12,7 @@ pub mod CloseAccount
 pub mod Trade
 pub mod Export
 pub mod Advance
+pub mod Import
+pub mod Taking
+pub mod Withdraw
+pub mod Decision

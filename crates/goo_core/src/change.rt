@@ -1,6 +1,6 @@
 //! Edits of the rows that a range meets.
 
-ghost use Rattle.std.specs.Prelude.{◌≡◌, ◌≤◌, [], ◌∷◌, IfOk, IfErr};
+ghost use Rattle.std.specs.Prelude.{◌≡◌, ◌≤◌, [], ◌∷◌, ◌++◌, OnOk, IfOk, IfErr};
 ghost use Rattle.goo_types.specs.Piece.{IsRising};
 ghost use Rattle.goo_types.specs.declared.fault.Fault.TheVariants.{Memory};
 ghost use Rattle.goo_ranges.specs.Change.{moved, set_to};
@@ -21,6 +21,14 @@ pub fn single(alloc: Global, edit: Edit) -> Result<Vec<Edit>, AllocError>
     let mut edits = Vec::new(alloc);
     edits.push(edit)?;
     Ok(edits)
+}
+
+/// One edit more.
+pub fn push_edit(edits: &mut Vec<Edit>, edit: Edit) -> Result<(), AllocError>
+    ensures { OnOk result (edits.new.items ≡ edits.old.items ++ edit ∷ []) }
+{
+    edits.push(edit)?;
+    Ok(())
 }
 
 /// The edit that puts the certificates of a range in another place.

@@ -3,13 +3,16 @@
 
 mod add_peer;
 mod advance;
+mod arriving;
 pub mod callers;
 mod cancel;
 mod change;
 mod close_account;
 mod days;
+pub mod decision;
 mod declare;
 mod export;
+mod import;
 mod issue;
 mod open_account;
 mod open_holder;
@@ -18,5 +21,7 @@ mod parts;
 mod range_checks;
 mod register_device;
 mod ruling;
+mod taking;
 mod transfer;
 mod verdict;
+mod withdraw;

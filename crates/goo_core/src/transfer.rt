@@ -1,7 +1,8 @@
 ghost use Rattle.std.specs.Prelude.{◌≡◌, None, IfOk, IfErr};
 ghost use Rattle.goo_spec.specs.Checks.{first_refusal};
 ghost use Rattle.goo_shelf.specs.Shelf.{Looks, IsReady};
-ghost use Rattle.goo_core.specs.Transfer.{entry_checks, range_checks};
+ghost use Rattle.goo_core.specs.Transfer.{entry_checks};
+ghost use Rattle.goo_core.specs.Trade.{trade_checks};
 ghost use Rattle.goo_spec.specs.Transfer.{transfer_refusal, transfer_reply, with_transfer};
 ghost use Rattle.goo_rows.specs.Rows.{AreRowsOf};
 ghost use Rattle.goo_core.specs.Moves.{IsMoveRuling};
@@ -12,6 +13,10 @@ ghost use Rattle.goo_types.specs.declared.place.Place.TheVariants.{Held};
 ghost use Rattle.goo_types.specs.declared.reply.Reply.TheVariants.{Moved};
 ghost use Rattle.goo_spec.specs.Maps.{count_of};
 
+use crate::callers::is_holder;
+use crate::change::move_met;
+use crate::range_checks::trade_refusal;
+use crate::ruling::{Change, Ruling};
 use goo_ranges::Book;
 use goo_shelf::shelf::Shelf;
 use goo_types::command::Transfer;
@@ -23,11 +28,6 @@ use goo_types::place::Place;
 use goo_types::refusal::Refusal;
 use goo_types::reply::Reply;
 use std::alloc::Global;
-
-use crate::callers::is_holder;
-use crate::change::move_met;
-use crate::range_checks::{least_closed, least_not_held_by};
-use crate::ruling::{Change, Ruling};
 
 /// The checks of a transfer before those over its range.
 fn entry_refusal<S: Shelf>(
@@ -53,23 +53,6 @@ fn entry_refusal<S: Shelf>(
     Ok(None)
 }
 
-/// The checks of a transfer over its range, on a book of the rows that it meets.
-fn range_refusal(book: &Book, transfer: &Transfer, today: Day) -> Option<Refusal>
-    ensures { result ≡ first_refusal (range_checks (at_of book.now) today transfer.now) }
-{
-    let range = transfer.range;
-    if let Some(number) = book.least_missing(range) {
-        return Some(Refusal::UnknownNumber(number));
-    }
-    if let Some(number) = least_not_held_by(book, range, transfer.giver) {
-        return Some(Refusal::NotHeld(number));
-    }
-    if let Some(number) = least_closed(book, range, today) {
-        return Some(Refusal::TradeClosed(number));
-    }
-    None
-}
-
 /// What a transfer comes to on the rows that its range meets.
 fn move_certificates(
     alloc: Global,
@@ -78,11 +61,11 @@ fn move_certificates(
     today: Day,
 ) -> Result<Ruling, Fault>
     requires { IsRising met.items }
-    ensures ruling { IfOk result (IsMoveRuling (first_refusal (range_checks (at_of met.items) today transfer.now)) (Moved (count_of transfer.now.range)) None transfer.now.range (Held transfer.now.taker) met.items) }
+    ensures ruling { IfOk result (IsMoveRuling (first_refusal (trade_checks (at_of met.items) transfer.now.range transfer.now.giver today)) (Moved (count_of transfer.now.range)) None transfer.now.range (Held transfer.now.taker) met.items) }
     ensures memory { IfErr result (λ fault. fault ≡ Memory) }
 {
     let book = Book::of_rows(met);
-    if let Some(refusal) = range_refusal(&book, transfer, today) {
+    if let Some(refusal) = trade_refusal(&book, transfer.range, transfer.giver, today) {
         return Ok(Ruling::Refused(refusal));
     }
     let range = transfer.range;

@@ -1,7 +1,6 @@
 -- Answering one more line.
-use Rattle.std.proofs.Common.{◌≡◌, ◌==◌, ◌≤◌, ◌+◌, ℕ, List, [], ◌∷◌, ◌++◌, refl, sym, arith, inl, inr, Option, ◌∙◌, append_assoc, length, length-append, ap, ◌<◌, true, false, Result, Ok, Err, IfErr, IfSome, IsErrAnd, OnErr, Some, None}
+use Rattle.std.proofs.Common.{◌≡◌, ◌==◌, ◌≤◌, ◌+◌, ℕ, List, [], ◌∷◌, ◌++◌, refl, sym, arith, Option, ◌∙◌, append_assoc, length, length-append, ap, ◌<◌, true, false, Result, Ok, Err, IfErr, IfSome, IsErrAnd, OnErr, Some, None}
 use Rattle.std.proofs.lemmas.List.{append-nil}
-use Rattle.std.proofs.lemmas.Bool.{cases_Bool}
 use Rattle.std.proofs.lemmas.List.Splits.{length-slice_split}
 use Rattle.std.proofs.lemmas.List.Sums.{count_by-le-length}
 use Rattle.std.specs.Io.KnownBytes.{Appends, Keeps}
@@ -110,7 +109,8 @@ stands-next first s new had mid has done line t after stood next =
       state = rw (last, state-parts a line) (next.state ∙ ap (λ (b : Answered). b.state) single);
       text = rw (last, text-parts a line) (appends-more had mid has a.text (with_line (untold a) line).text stood.text (rw single at next.text));
       good = rw (last, good-parts a line) (next.good ∙ ap (λ (b : Answered). b.good) single);
-      bad = rw (last, bad-parts a line) (next.bad ∙ ap (λ (b : Answered). b.bad) single) }
+      bad = rw (last, bad-parts a line) (next.bad ∙ ap (λ (b : Answered). b.bad) single);
+    }
 
 pub whole-at : (first s : State) (new : Seen) (had mid has : Option (List ℕ)) (input : List ℕ) (done left : List (List ℕ)) (t : Tally) → lines_of input ≡ done ++ left → Stands first s had mid done t
     → (new.doubts ≡ 0 → new.state ≡ s) → Keeps mid has → StandsWhole input first new had has
@@ -119,7 +119,8 @@ whole-at first s new had mid has input done left t order stood same kept = recor
   left = left;
   order = order;
   state = λ sure. same sure ∙ stood.state;
-  text = appends-kept had mid has (answering first done).text stood.text kept }
+  text = appends-kept had mid has (answering first done).text stood.text kept;
+}
 
 pub part-at : (first s new : State) (had mid has : Option (List ℕ)) (input : List ℕ) (done left : List (List ℕ)) (line : List ℕ) (t : Tally) → lines_of input ≡ done ++ line ∷ left → Stands first s had mid done t
     → new ≡ (with_line (counted s t) line).state → AppendsPrefix mid has (with_line (counted s t) line).text → StandsInPart input first new had has
@@ -132,7 +133,8 @@ part-at first s new had mid has input done left line t order stood state text =
       left = left;
       order = rw (append_assoc done (line ∷ []) left) order;
       state = rw (last, state-parts a line) (state ∙ ap (λ (b : Answered). b.state) single);
-      text = rw (last, text-parts a line) (prefix-more had mid has a.text (with_line (untold a) line).text stood.text (rw single at text)) }
+      text = rw (last, text-parts a line) (prefix-more had mid has a.text (with_line (untold a) line).text stood.text (rw single at text));
+    }
 
 -- the error that is handed on
 pub on-same-err : {T E : Type 0} (r : Result T E) (e : E) (P : E → Type 0) → IsErrAnd r (λ f. f ≡ e) → P e → IfErr r P

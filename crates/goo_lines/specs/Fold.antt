@@ -22,7 +22,8 @@ with_answer a given after = record {
   text = a.text ++ answer_line given;
   state = after;
   good = if is_good given then a.good + 1 else a.good;
-  bad = if is_good given then a.bad else a.bad + 1 }
+  bad = if is_good given then a.bad else a.bad + 1;
+}
 
 -- a line is answered, or passed over where it is empty
 abbrev pub with_line : Answered → List ℕ → Answered

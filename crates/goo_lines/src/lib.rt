@@ -11,6 +11,8 @@ mod lines;
 mod lines_fault;
 mod run;
 mod tally;
+#[cfg(test)]
+mod tests;
 mod unread;
 
 pub use answer::Answer;

@@ -1,9 +1,9 @@
 -- What the checks of an accepted command say of its change.
-use Rattle.std.proofs.Common.{◌≡◌, ℕ, ◌+◌, ◌<◌, ◌≤◌, ◌==◌, not, Bool, true, false, List, [], ◌∷◌, Option, Some, None, refl, sym, ap, ◌∙◌, arith}
+use Rattle.std.proofs.Common.{◌≡◌, ℕ, ◌+◌, ◌≤◌, ◌==◌, not, List, Option, Some, None, refl, sym, ap, ◌∙◌, arith}
 use Rattle.std.specs.FinMap.{get}
 use Rattle.std.proofs.lemmas.Bool.{and_parts, not-false, or_parts, ltb-false, eqb-true}
 use Rattle.std.proofs.lemmas.Bool.Decides.{nat_tests}
-use Rattle.goo_types.specs.Day.{CalendarDay, day_number}
+use Rattle.goo_types.specs.Day.{day_number}
 use Rattle.goo_types.specs.Lot.{IsLot}
 use Rattle.goo_types.specs.declared.command.OpenAccount.{OpenAccount}
 use Rattle.goo_types.specs.declared.command.Declare.{Declare}

@@ -1,13 +1,13 @@
 -- Rows by rising first numbers, and edits of them.
-use Rattle.std.proofs.Common.{◌≡◌, ◌≢◌, ℕ, zero, suc, ◌+◌, ◌-◌, ◌<◌, ◌≤◌, List, [], ◌∷◌, ◌++◌, Bool, true, false, cond, ◌==◌, ltb, leb, ⊎_elim, length, get_or, take, drop, refl, ap, sym, ◌∙◌, arith, rules}
+use Rattle.std.proofs.Common.{◌≡◌, ◌≢◌, ℕ, zero, suc, ◌+◌, ◌<◌, ◌≤◌, List, [], ◌∷◌, true, false, ◌==◌, ltb, leb, ⊎_elim, length, get_or, refl, ap, arith}
 use Rattle.std.specs.List.{AllWithin, insert, remove}
 use Rattle.std.specs.List.Sorted.{IsPartitionPoint, IsNonDecreasingBy}
 use Rattle.std.proofs.lemmas.Bool.{cases_lt}
 use Rattle.std.proofs.lemmas.Bool.Decides.{nat_tests}
 use Rattle.std.proofs.lemmas.List.Edits.{get_or-remove_below, get_or-remove_above, length-remove}
 use Rattle.goo_types.specs.declared.piece.Piece.{Piece}
-use Rattle.goo_types.specs.Piece.{IsForward, IsRisingFrom, IsRising}
-use Rattle.goo_rows.specs.Rows.{without, without_each, with, with_each}
+use Rattle.goo_types.specs.Piece.{IsRisingFrom}
+use Rattle.goo_rows.specs.Rows.{without, with}
 
 -- the rows that begin before the number, and then the others
 abbrev pub ParesAt : ℕ → List Piece → ℕ → Type 0
@@ -45,10 +45,10 @@ without-missed n xs i sorted at missed = without-none n xs (λ k d lt.
     ⊎_elim
     (λ (before : k < i). let low = at.0 k d (omega arith) before in grind (arith, nat_tests))
     (λ (after : i ≤ k).
-        let up = sorted i k d after lt in
-        let other = missed (omega arith) d in
-        let high = at.1 i d (omega arith) (omega arith) in
-        grind (arith, nat_tests))
+    let up = sorted i k d after lt in
+    let other = missed (omega arith) d in
+    let high = at.1 i d (omega arith) (omega arith) in
+    grind (arith, nat_tests))
     (cases_lt k i))
 
 pub removed-sorted : (xs : List Piece) (i : ℕ) → i < length xs → IsNonDecreasingBy (λ p. p.first) xs → IsNonDecreasingBy (λ p. p.first) (remove xs i)
@@ -57,11 +57,11 @@ removed-sorted xs i lt sorted k j d le within =
     ⊎_elim
     (λ (low : j < i). rw (get_or-remove_below xs i d k (omega arith) lt, get_or-remove_below xs i d j low lt) (sorted k j d le (omega arith)))
     (λ (high : i ≤ j).
-        let later = get_or-remove_above xs i d j high lt in
-        ⊎_elim
-        (λ (before : k < i). rw (get_or-remove_below xs i d k before lt, later) (sorted k (j + 1) d (omega arith) short))
-        (λ (after : i ≤ k). rw (get_or-remove_above xs i d k after lt, later) (sorted (k + 1) (j + 1) d (omega arith) short))
-        (cases_lt k i))
+    let later = get_or-remove_above xs i d j high lt in
+    ⊎_elim
+    (λ (before : k < i). rw (get_or-remove_below xs i d k before lt, later) (sorted k (j + 1) d (omega arith) short))
+    (λ (after : i ≤ k). rw (get_or-remove_above xs i d k after lt, later) (sorted (k + 1) (j + 1) d (omega arith) short))
+    (cases_lt k i))
     (cases_lt j i)
 
 first-below : (low : ℕ) (ps : List Piece) (j : ℕ) (d : Piece) → IsRisingFrom low ps → j < length ps → low ≤ (get_or ps j d).first

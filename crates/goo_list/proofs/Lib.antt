@@ -5,3 +5,6 @@ pub mod ProductionLemmas
 pub mod AllowedLemmas
 pub mod CertificateLemmas
 pub mod ReceiptLemmas
+pub mod LookLemmas
+pub mod OrderLemmas
+pub mod SumLemmas

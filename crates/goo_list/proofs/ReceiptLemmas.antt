@@ -21,7 +21,7 @@ use Rattle.goo_spec.specs.Advance.{advance_refusal, with_day}
 use Rattle.goo_spec.specs.AddPeer.{add_peer_refusal, with_peer}
 use Rattle.goo_spec.specs.Export.{export_refusal, notice_of, with_export}
 use Rattle.goo_spec.specs.Import.{import_refusal, with_import}
-use Rattle.goo_spec.specs.Step.{refusal, reply_to, changed, outcome, accept}
+use Rattle.goo_spec.specs.Step.{refusal, changed, outcome, accept}
 use Rattle.goo_spec.proofs.Again.{accepted_reply}
 use Rattle.goo_spec.proofs.Stepping.{accepted_passes}
 use Rattle.goo_shelf.specs.Plan.{notice_sent}

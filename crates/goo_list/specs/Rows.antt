@@ -1,6 +1,8 @@
 -- The rows in memory.
-use Rattle.std.specs.Prelude.{ℕ, ◌-◌, suc, List, [], ◌∷◌, length, sum_by}
+use Rattle.std.specs.Prelude.{ℕ, ◌+◌, ◌-◌, ◌==◌, ◌&&◌, cond, List, [], ◌∷◌, length, sum_by}
+use Rattle.std.specs.Str.{bytes_eq}
 use Rattle.std.specs.FinMap.{empty}
+use Rattle.goo_types.specs.Number.{code_of}
 use Rattle.goo_types.specs.Range.{Numbers}
 use Rattle.goo_types.specs.declared.piece.Piece.{Piece}
 use Rattle.goo_spec.specs.Lots.{Certificates}
@@ -21,6 +23,10 @@ inserts edits = sum_by (λ e. length e.insert.items) edits
 
 abbrev pub numbers_of : Piece → Numbers
 numbers_of p = record { first = p.first; last = p.last }
+
+-- how many of a row's certificates are own ones of the device
+abbrev pub issued_in : ℕ → List ℕ → Piece → ℕ
+issued_in own device p = cond (code_of p.first == own && bytes_eq p.lot.device device) (p.last + 1 - p.first) 0
 
 -- each number of each row has the row's lot and place
 unfoldable pub certificates_of : List Piece → Certificates

@@ -7,6 +7,11 @@ ghost use Rattle.goo_spec.specs.Export.{with_export, notice_of};
 ghost use Rattle.goo_spec.specs.Import.{with_import};
 ghost use Rattle.goo_list.specs.States.{state_of, beside, Changes};
 
+use crate::list_shelf::ListShelf;
+use crate::lots::add_lots;
+use crate::maps::{put, put_back};
+use crate::next_numbers::{after_cancellation, after_notice, after_withdrawal};
+use crate::withdraw_record::WithdrawRecord;
 use goo_shelf::cancel_record::CancelRecord;
 use goo_shelf::sent::Sent;
 use goo_types::act_no::ActNo;
@@ -14,12 +19,6 @@ use goo_types::command::{Cancel, Export, Import, Withdraw};
 use goo_types::fault::Fault;
 use goo_types::notice::Notice;
 use std::alloc::Global;
-
-use crate::list_shelf::ListShelf;
-use crate::lots::add_lots;
-use crate::maps::{put, put_back};
-use crate::next_numbers::{after_cancellation, after_notice, after_withdrawal};
-use crate::withdraw_record::WithdrawRecord;
 
 impl ListShelf {
     /// Keeps the record of a cancellation.
@@ -76,7 +75,11 @@ impl ListShelf {
         let copy = notice.copy(alloc)?;
         let before = put(&mut self.arrived, (notice.sender(), notice.number()), copy)?;
         if let Err(fault) = add_lots(&mut self.lots, notice.parts()) {
-            put_back(&mut self.arrived, (notice.sender(), notice.number()), before);
+            put_back(
+                &mut self.arrived,
+                (notice.sender(), notice.number()),
+                before,
+            );
             return Err(fault);
         }
         Ok(())

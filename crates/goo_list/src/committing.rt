@@ -1,25 +1,27 @@
 //! The whole change of an accepted request.
-ghost use Rattle.std.specs.Prelude.{◌≡◌, IfErr, OnOk, OnErr};
+ghost use Rattle.std.specs.Prelude.{◌≡◌, ℕ, ◌<◌, List, IfErr, OnOk, OnErr};
 ghost use Rattle.goo_types.specs.declared.fault.Fault.TheVariants.{Memory};
 ghost use Rattle.goo_types.specs.declared.outcome.Outcome.TheVariants.{Accepted};
 ghost use Rattle.goo_spec.specs.Step.{outcome, accept};
 ghost use Rattle.goo_rows.specs.Rows.{edited_all};
 ghost use Rattle.goo_shelf.specs.Plan.{Fits, notice_sent};
+ghost use Rattle.goo_spec.specs.Energy.{total};
+ghost use Rattle.goo_list.specs.Production.{beyond_all};
 ghost use Rattle.goo_list.specs.States.{state_of, beside, Changes};
-
-use goo_shelf::plan::Plan;
-use goo_types::fault::Fault;
-use std::alloc::Global;
 
 use crate::kept::Kept;
 use crate::list_shelf::ListShelf;
 use crate::maps::{put, put_back};
+use goo_shelf::plan::Plan;
+use goo_types::fault::Fault;
+use std::alloc::Global;
 
 impl ListShelf {
     /// Keeps an accepted request's receipt, and what it changes beside the certificates.
     #[tactic(auto, unfolding(crate::specs::States::state_of))]
     fn keep(&mut self, alloc: Global, plan: &Plan) -> Result<(), Fault>
         requires accepted { outcome (state_of self.old) plan.now.request ≡ Accepted plan.now.reply }
+        requires sums { (device : List ℕ) → total (state_of self.old) device < beyond_all }
         requires sent { plan.now.notice ≡ notice_sent (state_of self.old) plan.now.request.command }
         ensures { Changes self.old self.new result (beside (state_of self.old).at (accept (state_of self.old) plan.now.request)) }
     {

@@ -1,22 +1,23 @@
 //! What is kept of declarations.
-ghost use Rattle.std.specs.Prelude.{◌≡◌, ◌+◌, ◌≤◌, Some};
+ghost use Rattle.std.specs.Prelude.{◌≡◌, ◌+◌, ◌<◌, ◌≤◌, Some};
 ghost use Rattle.std.specs.FinMap.{get};
 ghost use Rattle.goo_types.specs.Lot.{IsLot};
 ghost use Rattle.goo_spec.specs.State.{Device as Known, serials};
 ghost use Rattle.goo_spec.specs.Declare.{earned as due_for, lot_of as lot_stated, with_issue};
+ghost use Rattle.goo_spec.specs.Energy.{total};
+ghost use Rattle.goo_list.specs.Production.{beyond_all};
 ghost use Rattle.goo_list.specs.States.{state_of, beside, Changes};
-
-use goo_shelf::device::Device;
-use goo_types::command::Declare;
-use goo_types::fault::Fault;
-use goo_types::lot::Lot;
-use goo_types::lot_fields::LotFields;
 
 use crate::list_shelf::ListShelf;
 use crate::lots::key_of_lot;
 use crate::maps::{find, put, put_back};
 use crate::next_numbers::after_serials;
 use crate::production::CERTIFICATE;
+use goo_shelf::device::Device;
+use goo_types::command::Declare;
+use goo_types::fault::Fault;
+use goo_types::lot::Lot;
+use goo_types::lot_fields::LotFields;
 
 impl ListShelf {
     /// How many certificates a declaration makes due: one for each MWh of the device's carry and the
@@ -54,9 +55,10 @@ impl ListShelf {
     }
 
     /// Keeps a declaration, and the lot of the certificates that are issued for it.
-    #[tactic(auto, unfolding(crate::specs::States::state_of, goo_spec::specs::Declare::with_issue, goo_spec::specs::Declare::with_declaration))]
+    #[tactic(auto, unfolding(crate::specs::States::state_of, goo_spec::specs::Declare::with_issue, goo_spec::specs::Declare::with_declaration, goo_spec::specs::Energy::total))]
     pub(crate) fn add_declaration(&mut self, declared: &Declare) -> Result<(), Fault>
         requires lot { (device : Known) → get (state_of self.old).devices declared.now.device ≡ Some device → IsLot (lot_stated (state_of self.old) declared.now device) }
+        requires sums { total (state_of self.old) declared.now.device < beyond_all }
         requires numbers_left { (state_of self.old).next_serial + due_for (state_of self.old) declared.now ≤ serials }
         ensures { Changes self.old self.new result (beside (state_of self.old).at (with_issue (state_of self.old) declared.now)) }
     {

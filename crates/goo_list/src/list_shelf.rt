@@ -3,6 +3,12 @@ ghost use Rattle.goo_shelf.specs.Counters.{AreNumbers, next_numbers};
 ghost use Rattle.goo_spec.specs.Created.{created};
 ghost use Rattle.goo_list.specs.States.{state_of};
 
+use crate::kept::Kept;
+use crate::lot_key::LotKey;
+use crate::maps::empty_map;
+use crate::production::Production;
+use crate::rows::Rows;
+use crate::withdraw_record::WithdrawRecord;
 use goo_shelf::account::Account;
 use goo_shelf::cancel_record::CancelRecord;
 use goo_shelf::counters::Counters;
@@ -21,13 +27,6 @@ use goo_types::registry_code::RegistryCode;
 use goo_types::serial::Serial;
 use std::alloc::Global;
 use std::collections::BTreeMap;
-
-use crate::kept::Kept;
-use crate::lot_key::LotKey;
-use crate::maps::empty_map;
-use crate::production::Production;
-use crate::rows::Rows;
-use crate::withdraw_record::WithdrawRecord;
 
 /// A registry's state in plain memory: it is gone when the program ends.
 #[derive(Drop)]

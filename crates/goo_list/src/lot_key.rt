@@ -4,13 +4,12 @@ ghost use Rattle.std.specs.Cmp.Lexicographic.{pointwise, slice_cmp, nat_list_cmp
 ghost use Rattle.std.specs.FinMap.{nat_cmp-IsAntisymmetric, slice_cmp-IsAntisymmetric};
 ghost use Rattle.std.specs.Ordering.{nat_cmp};
 
+use crate::map_key::MapKey;
 use goo_types::day::Day;
 use goo_types::gsrn::Gsrn;
 use goo_types::registry_code::RegistryCode;
 use std::cmp::Ordering;
 use std::marker::Model;
-
-use crate::map_key::MapKey;
 
 /// What a lot is known by: its origin, its first day and its device, in this order.
 #[derive(Clone, Copy)]

@@ -6,13 +6,12 @@ ghost use Rattle.goo_spec.specs.Lots.{key_of};
 ghost use Rattle.goo_spec.specs.Import.{with_lots};
 ghost use Rattle.goo_list.specs.Maps.{map_of};
 
+use crate::lot_key::LotKey;
+use crate::maps::{put, put_back};
 use goo_types::fault::Fault;
 use goo_types::lot::Lot;
 use goo_types::part::Part;
 use std::collections::BTreeMap;
-
-use crate::lot_key::LotKey;
-use crate::maps::{put, put_back};
 
 /// What a lot is known by.
 pub fn key_of_lot(lot: &Lot) -> LotKey

@@ -1,12 +1,12 @@
+ghost use Rattle.std.specs.FinMap.{nat_cmp-IsAntisymmetric, slice_cmp-IsAntisymmetric};
+ghost use Rattle.goo_list.specs.Maps.{pair-IsAntisymmetric};
+
 use goo_types::account_no::AccountNo;
 use goo_types::act_no::ActNo;
 use goo_types::gsrn::Gsrn;
 use goo_types::holder_code::HolderCode;
 use goo_types::key::Key;
 use goo_types::registry_code::RegistryCode;
-
-ghost use Rattle.std.specs.FinMap.{nat_cmp-IsAntisymmetric, slice_cmp-IsAntisymmetric};
-ghost use Rattle.goo_list.specs.Maps.{pair-IsAntisymmetric};
 
 /// The key of a map: its order tells any two keys apart.
 pub trait MapKey: Ord + Copy + Drop {

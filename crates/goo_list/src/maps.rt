@@ -5,11 +5,10 @@ ghost use Rattle.std.specs.Option.{option_copied};
 ghost use Rattle.goo_types.specs.declared.fault.Fault.TheVariants.{Memory};
 ghost use Rattle.goo_list.specs.Maps.{map_of};
 
+use crate::map_key::MapKey;
 use goo_types::fault::Fault;
 use std::alloc::Global;
 use std::collections::BTreeMap;
-
-use crate::map_key::MapKey;
 
 /// A map without entries.
 pub fn empty_map<K: MapKey, V>(alloc: Global) -> BTreeMap<K, V>
@@ -26,7 +25,11 @@ pub fn find<'m, K: MapKey, V>(map: &'m BTreeMap<K, V>, key: &K) -> Option<&'m V>
 }
 
 /// Puts a value under a key, and answers what stood there.
-pub fn put<K: MapKey, V: Drop>(map: &mut BTreeMap<K, V>, key: K, value: V) -> Result<Option<V>, Fault>
+pub fn put<K: MapKey, V: Drop>(
+    map: &mut BTreeMap<K, V>,
+    key: K,
+    value: V,
+) -> Result<Option<V>, Fault>
     ensures before { IfOk result (λ before. before ≡ get (map_of K.cmp map.old) key) }
     ensures done { OnOk result (map_of K.cmp map.new ≡ insert (map_of K.cmp map.old) key value) }
     ensures there { OnOk result (IsTrue (contains_key (map_of K.cmp map.new) key)) }

@@ -1,9 +1,10 @@
-ghost use Rattle.std.specs.Prelude.{◌≡◌, ◌%◌, [], ◌∷◌, ◌++◌, IfErr, OnOk, OnErr};
+ghost use Rattle.std.specs.Prelude.{◌≡◌, ◌<◌, ◌%◌, [], ◌∷◌, ◌++◌, IfErr, OnOk, OnErr};
 ghost use Rattle.goo_types.specs.declared.fault.Fault.TheVariants.{Memory};
 ghost use Rattle.goo_spec.specs.Declare.{declared_by, last_end};
 ghost use Rattle.goo_spec.specs.Energy.{certificate};
-ghost use Rattle.goo_list.specs.Production.{net_by};
+ghost use Rattle.goo_list.specs.Production.{net_by, beyond_all};
 
+use crate::maps::{empty_map, find, put};
 use goo_shelf::found::Progress;
 use goo_types::command::Declare;
 use goo_types::day::Day;
@@ -13,8 +14,6 @@ use goo_types::wh::Wh;
 use std::alloc::Global;
 use std::collections::BTreeMap;
 use std::marker::Model;
-
-use crate::maps::{empty_map, find, put};
 
 /// The watt hours of a certificate.
 pub const CERTIFICATE: u64 = 1_000_000;
@@ -91,21 +90,25 @@ impl Production {
         }
     }
 
-    /// Adds a declaration. It fails for want of memory, or where a device's sum of all times has no
-    /// `u64`, which no registry comes to; then nothing is added.
+    /// Adds a declaration. It fails for want of memory alone, and then nothing is added.
     pub fn add(&mut self, declaration: &Declare) -> Result<(), Fault>
+        requires { net_by declaration.now.device self.old < beyond_all }
         ensures done { OnOk result (self.new ≡ self.old ++ declaration.now ∷ []) }
         ensures undone { OnErr result (self.new ≡ self.old) }
         ensures memory { IfErr result (λ fault. fault ≡ Memory) }
     {
         self.declarations.reserve(1)?;
-        let before = self.net(&declaration.device);
-        let more = declaration.gross.get().saturating_sub(declaration.aux.get());
-        let Some(net) = before.checked_add(more) else {
-            return Err(Fault::Memory);
-        };
+        let more = declaration
+            .gross
+            .get()
+            .saturating_sub(declaration.aux.get());
+        let net = self.net(&declaration.device) + more;
         let last_day = declaration.last_day;
-        put(&mut self.devices, declaration.device, Produced { last_day, net })?;
+        put(
+            &mut self.devices,
+            declaration.device,
+            Produced { last_day, net },
+        )?;
         let pushed: Result<_, _> = self.declarations.push(*declaration);
         pushed.unwrap();
         Ok(())

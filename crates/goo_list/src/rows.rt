@@ -1,22 +1,25 @@
-ghost use Rattle.std.specs.Prelude.{◌≡◌, ◌≤◌, [], IfOk, IfErr, OnOk};
+ghost use Rattle.std.specs.Prelude.{◌≡◌, ◌+◌, ◌^◌, ◌<◌, ◌≤◌, [], count_by, IfOk, IfErr, OnOk};
+ghost use Rattle.std.specs.FinMap.{entries};
 ghost use Rattle.goo_types.specs.declared.fault.Fault.TheVariants.{Memory};
-ghost use Rattle.goo_types.specs.Piece.{IsRising};
+ghost use Rattle.goo_types.specs.Piece.{IsForward, IsRising};
 ghost use Rattle.goo_spec.specs.Advance.{expires};
 ghost use Rattle.goo_rows.specs.Rows.{meeting, edited_all};
 ghost use Rattle.goo_shelf.specs.Rows.{expiring_on, naming_account};
-ghost use Rattle.goo_list.specs.Rows.{inserts};
+ghost use Rattle.goo_spec.specs.Energy.{is_issued_to};
+ghost use Rattle.goo_list.specs.Rows.{certificates_of, inserts, issued_in};
 
+use crate::row_edits::{count_inserts, edit_each};
 use goo_ranges::Edit;
 use goo_types::account_no::AccountNo;
 use goo_types::day::Day;
 use goo_types::fault::Fault;
+use goo_types::gsrn::Gsrn;
 use goo_types::piece::Piece;
 use goo_types::place::Place;
 use goo_types::range::Range;
+use goo_types::registry_code::RegistryCode;
 use std::alloc::Global;
 use std::marker::Model;
-
-use crate::row_edits::{count_inserts, edit_each};
 
 /// Whether a row is held, and can't be on a day.
 #[tactic(auto, unfolding(goo_spec::specs::Days::is_over))]
@@ -29,6 +32,22 @@ fn is_expiring(row: &Piece, day: Day) -> bool
             None => false,
         },
         _ => false,
+    }
+}
+
+/// How many of a row's certificates are a registry's own ones, issued to a device.
+fn issued_in_row(row: &Piece, own: RegistryCode, device: &Gsrn) -> u64
+    requires { IsForward row.now }
+    ensures value { result ≡ issued_in own device.now row.now }
+    ensures limit { result + row.now.first ≤ row.now.last + 1 }
+    ensures small { row.now.last < 2 ^ 60 }
+{
+    let first = row.first.get();
+    let last = row.last.get();
+    if row.first.code() == own.get() && row.lot.device() == *device {
+        last + 1 - first
+    } else {
+        0
     }
 }
 
@@ -61,21 +80,16 @@ impl Rows {
         }
     }
 
-    /// The rows.
-    pub fn as_slice(&self) -> &[Piece]
-        ensures rows { result.now ≡ self.now.pieces }
-        ensures rising { IsRising self.now.pieces }
-    {
-        &self.pieces
-    }
-
     /// The rows with a number of the range or next to one.
     fn near(&self, range: Range) -> &[Piece]
-        ensures { result.now ≡ meeting range self.now.pieces }
+        ensures met { result.now ≡ meeting range self.now.pieces }
+        ensures rising { IsRising result.now }
     {
         let first = range.first().get();
         let last = range.last().get();
-        let start = self.pieces.partition_point(|row| row.last.get() + 1 < first);
+        let start = self
+            .pieces
+            .partition_point(|row| row.last.get() + 1 < first);
         let later = &self.pieces[start..];
         let count = later.partition_point(|row| row.first.get() <= last + 1);
         &later[..count]
@@ -84,6 +98,7 @@ impl Rows {
     /// A copy of the rows with a number of the range or next to one. It fails for want of memory alone.
     pub fn meeting(&self, alloc: Global, range: Range) -> Result<Vec<Piece>, Fault>
         ensures met { IfOk result (λ met. met.items ≡ meeting range self.now.pieces) }
+        ensures rising { IfOk result (λ met. IsRising met.items) }
         ensures memory { IfErr result (λ fault. fault ≡ Memory) }
     {
         Ok(Vec::from_slice(alloc, self.near(range))?)
@@ -92,6 +107,7 @@ impl Rows {
     /// A copy of the held rows whose lot is over on a day. It fails for want of memory alone.
     pub fn expiring(&self, alloc: Global, day: Day) -> Result<Vec<Piece>, Fault>
         ensures met { IfOk result (λ met. met.items ≡ expiring_on day self.now.pieces) }
+        ensures rising { IfOk result (λ met. IsRising met.items) }
         ensures memory { IfErr result (λ fault. fault ≡ Memory) }
     {
         let rows = self.pieces.iter().copied();
@@ -101,10 +117,25 @@ impl Rows {
     /// A copy of the rows whose place names an account. It fails for want of memory alone.
     pub fn pieces_of(&self, alloc: Global, account: AccountNo) -> Result<Vec<Piece>, Fault>
         ensures met { IfOk result (λ met. met.items ≡ naming_account account self.now.pieces) }
+        ensures rising { IfOk result (λ met. IsRising met.items) }
         ensures memory { IfErr result (λ fault. fault ≡ Memory) }
     {
         let rows = self.pieces.iter().copied();
-        Ok(rows.filter(|row| row.place.account() == account).collect(alloc)?)
+        Ok(
+            rows.filter(|row| row.place.account() == account)
+                .collect(alloc)?,
+        )
+    }
+
+    /// How many of a registry's own certificates were issued to a device.
+    pub fn issued(&self, own: RegistryCode, device: &Gsrn) -> u64
+        ensures { result ≡ count_by (is_issued_to own device.now) (entries (certificates_of self.now.pieces)) }
+    {
+        let mut count = 0;
+        for row in &self.pieces {
+            count += issued_in_row(row, own, device);
+        }
+        count
     }
 
     /// Makes room for what some edits insert. It fails for want of memory alone; the rows stay.

@@ -73,7 +73,8 @@ impl Book {
 
     /// Its pieces, rising.
     pub fn pieces(&self) -> &[Piece]
-        ensures { result.now ≡ self.now }
+        ensures value { result.now ≡ self.now }
+        ensures rising { IsRising self.now }
     {
         &self.pieces
     }

@@ -37,6 +37,14 @@ use Rattle.goo_columns.proofs.Read.{all_listed, first_listed}
 use Rattle.goo_columns.proofs.Same.{account_same}
 use Rattle.goo_tables.specs.Changes.{with_account, with_closed}
 use Rattle.goo_tables.proofs.Queries.{in_order, unordered}
+use Rattle.sqlite.specs.Order.{column}
+use Rattle.sqlite.specs.declared.types.Value.TheVariants.{Real, Text, Blob}
+use Rattle.std.proofs.Common.{arith}
+use Rattle.goo_columns.specs.Stands.{Keeps}
+use Rattle.goo_columns.specs.Met.{HasOurTables, Keyed, whole, all_keyed}
+use Rattle.goo_columns.proofs.Ordered.{keyed_rows}
+use Rattle.goo_columns.proofs.Meeting.{IsTyped, typed_rows, type_rules, shape_rules, typed_length, listed_met, no_number, int_same}
+use Rattle.sqlite_typed.proofs.TestLemmas.{then_value}
 
 -- ---- account: a row is added
 
@@ -141,8 +149,35 @@ closes_row old new t number (Ok count) it ran =
     let p = λ (a : Account). int_eq (account_key a) (pos number) in
     let source = last_table db 3 account_row account_key t.accounts it.accounts.are it.accounts.rise (at_end db) in
     let rows = answer_of_one close_query db params source p (λ a. last_term (at_ints false Eq (account_key a) (pos number))) (λ a. Int (account_key a) ∷ account_row (closing a)) (λ _. refl) refl refl
-        (one_keyed account_key (pos number) t.accounts it.accounts.rise) made.0 (made.1.answer Null) in
+    (one_keyed account_key (pos number) t.accounts it.accounts.rise) made.0 (made.1.answer Null) in
     accounts_stand old.now new.now t it made.2.schema_is made.2.applied.tables (update_where p closing t.accounts) (record {
       are = made.2.applied.rows ∙ updated account_key account_row (λ _. refl) account (λ a. simp (cast_null, cast_int) refl) p closing (λ _. refl) old.now.trees t.accounts it.accounts.are it.accounts.rise made.0 rows;
       rise = IsKeyedBy-update_where account_key p closing (λ _. refl) t.accounts it.accounts.rise;
     })
+
+-- ---- account: the whole table, met as it is
+
+abbrev account_shown : Keyed → Row
+account_shown k = Int k.0 ∷ column (whole k) 2 ∷ column (whole k) 3 ∷ []
+
+account_is : (k : Keyed) (x : AccountRow) → IsTyped account.key account.columns k → account_reads (account_shown k) x → (whole k ≡ account_row (account_in x)) × (k.0 ≡ account_key (account_in x))
+account_is (id, []) x fits reads = absurd (no_number reads.2)
+account_is (id, a ∷ []) x fits reads = absurd (no_number reads.2)
+account_is (id, a ∷ b ∷ []) x fits reads = absurd (no_number reads.2)
+account_is (id, Null ∷ b ∷ c ∷ []) x fits reads = (then_value reads.0 (then_value refl (then_value reads.1 (then_value reads.2 refl))), int_same reads.0)
+account_is (id, Int v ∷ b ∷ c ∷ []) x fits reads = absurd (let h = fits in cc)
+account_is (id, Real v ∷ b ∷ c ∷ []) x fits reads = absurd (let h = fits in cc)
+account_is (id, Text v ∷ b ∷ c ∷ []) x fits reads = absurd (let h = fits in cc)
+account_is (id, Blob v ∷ b ∷ c ∷ []) x fits reads = absurd (let h = fits in cc)
+account_is (id, a ∷ b ∷ c ∷ d ∷ more) x fits reads = absurd (omega (arith, typed_length account.key 0 account.columns (a ∷ b ∷ c ∷ d ∷ more) fits))
+
+pub meets_all : (old : State) → HasOurTables old.now → (xs : List AccountRow) (rows : List Row) → IsAnswer all_query (overlay old.now.trees []) [] rows → AllZip account_reads rows xs → Keeps (old.now.trees 3) account_row account_key (map account_in xs)
+meets_all old it xs rows answer read =
+    let db = overlay old.now.trees [] in
+    let stored = keyed_rows (old.now.trees 3) (shape_rules old.now it).1.1.0 in
+    let source = last_table db 3 whole (λ k. k.0) (all_keyed old.now 3) stored.0 stored.1 (at_end db) in
+    let shown = answer_by_keys all_query db [] source (λ _. true) (λ _. refl) (λ r. r) account_shown (λ _. refl) refl refl (λ a b. last_key (value_cmp-Int a.0 b.0)) rows answer in
+    let all = sym (map-id rows) ∙ shown ∙ ap (map account_shown) (unfiltered (all_keyed old.now 3) refl) in
+    let met = subst (λ l. AllZip account_reads l xs) all read in
+    let fits = typed_rows account old.now (type_rules old.now it).1.1.0 in
+    listed_met account_in account_reads account_shown (IsTyped account.key account.columns) (old.now.trees 3) (all_keyed old.now 3) xs stored.0 stored.1 fits met account_key account_row account_is

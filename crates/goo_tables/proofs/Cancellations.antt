@@ -34,6 +34,15 @@ use Rattle.goo_columns.proofs.Read.{all_listed, first_listed}
 use Rattle.goo_columns.proofs.Same.{cancellation_same}
 use Rattle.goo_tables.specs.Changes.{with_cancellation}
 use Rattle.goo_tables.proofs.Queries.{in_order}
+use Rattle.sqlite.specs.Order.{column}
+use Rattle.sqlite.specs.declared.types.Value.TheVariants.{Real, Text, Blob}
+use Rattle.std.proofs.Common.{arith}
+use Rattle.goo_columns.specs.Columns.{cancellation}
+use Rattle.goo_columns.specs.Stands.{Keeps}
+use Rattle.goo_columns.specs.Met.{HasOurTables, Keyed, whole, all_keyed}
+use Rattle.goo_columns.proofs.Ordered.{keyed_rows}
+use Rattle.goo_columns.proofs.Meeting.{IsTyped, typed_rows, type_rules, shape_rules, typed_length, listed_met, no_text, int_same}
+use Rattle.sqlite_typed.proofs.TestLemmas.{then_value}
 
 -- ---- cancellation: a row is added
 
@@ -109,3 +118,35 @@ shows_all old t it xs rows answer read =
     let shown = answer_by_keys all_query db [] source (λ _. true) (λ _. refl) (λ r. r) cancellation_columns (λ _. refl) refl refl (λ a b. last_key (value_cmp-Int (cancellation_key a) (cancellation_key b))) rows answer in
     let all = sym (map-id rows) ∙ shown ∙ ap (map (λ (x : Cancellation). cancellation_columns x)) (unfiltered t.cancellations refl) in
     all_listed cancellation_reads cancellation_columns cancellation_in cancellation_same t.cancellations xs (subst (λ l. AllZip cancellation_reads l xs) all read)
+
+-- ---- cancellation: the whole table, met as it is
+
+abbrev cancellation_shown : Keyed → Row
+cancellation_shown k = Int k.0 ∷ column (whole k) 2 ∷ column (whole k) 3 ∷ column (whole k) 4 ∷ column (whole k) 5 ∷ column (whole k) 6 ∷ column (whole k) 7 ∷ column (whole k) 8 ∷ []
+
+cancellation_is : (k : Keyed) (x : CancellationRow) → IsTyped cancellation.key cancellation.columns k → cancellation_reads (cancellation_shown k) x → (whole k ≡ cancellation_row (cancellation_in x)) × (k.0 ≡ cancellation_key (cancellation_in x))
+cancellation_is (id, []) x fits reads = absurd (no_text reads.7)
+cancellation_is (id, a ∷ []) x fits reads = absurd (no_text reads.7)
+cancellation_is (id, a ∷ b ∷ []) x fits reads = absurd (no_text reads.7)
+cancellation_is (id, a ∷ b ∷ c ∷ []) x fits reads = absurd (no_text reads.7)
+cancellation_is (id, a ∷ b ∷ c ∷ d ∷ []) x fits reads = absurd (no_text reads.7)
+cancellation_is (id, a ∷ b ∷ c ∷ d ∷ e ∷ []) x fits reads = absurd (no_text reads.7)
+cancellation_is (id, a ∷ b ∷ c ∷ d ∷ e ∷ f ∷ []) x fits reads = absurd (no_text reads.7)
+cancellation_is (id, a ∷ b ∷ c ∷ d ∷ e ∷ f ∷ g ∷ []) x fits reads = absurd (no_text reads.7)
+cancellation_is (id, Null ∷ b ∷ c ∷ d ∷ e ∷ f ∷ g ∷ h ∷ []) x fits reads = (then_value reads.0 (then_value refl (then_value reads.1 (then_value reads.2 (then_value reads.3 (then_value reads.4 (then_value reads.5 (then_value reads.6 (then_value reads.7 refl)))))))), int_same reads.0)
+cancellation_is (id, Int v ∷ b ∷ c ∷ d ∷ e ∷ f ∷ g ∷ h ∷ []) x fits reads = absurd (let h = fits in cc)
+cancellation_is (id, Real v ∷ b ∷ c ∷ d ∷ e ∷ f ∷ g ∷ h ∷ []) x fits reads = absurd (let h = fits in cc)
+cancellation_is (id, Text v ∷ b ∷ c ∷ d ∷ e ∷ f ∷ g ∷ h ∷ []) x fits reads = absurd (let h = fits in cc)
+cancellation_is (id, Blob v ∷ b ∷ c ∷ d ∷ e ∷ f ∷ g ∷ h ∷ []) x fits reads = absurd (let h = fits in cc)
+cancellation_is (id, a ∷ b ∷ c ∷ d ∷ e ∷ f ∷ g ∷ h ∷ i ∷ more) x fits reads = absurd (omega (arith, typed_length cancellation.key 0 cancellation.columns (a ∷ b ∷ c ∷ d ∷ e ∷ f ∷ g ∷ h ∷ i ∷ more) fits))
+
+pub meets_all : (old : State) → HasOurTables old.now → (xs : List CancellationRow) (rows : List Row) → IsAnswer all_query (overlay old.now.trees []) [] rows → AllZip cancellation_reads rows xs → Keeps (old.now.trees 15) cancellation_row cancellation_key (map cancellation_in xs)
+meets_all old it xs rows answer read =
+    let db = overlay old.now.trees [] in
+    let stored = keyed_rows (old.now.trees 15) (shape_rules old.now it).1.1.1.1.1.1.1.1.1.0 in
+    let source = last_table db 15 whole (λ k. k.0) (all_keyed old.now 15) stored.0 stored.1 (at_end db) in
+    let shown = answer_by_keys all_query db [] source (λ _. true) (λ _. refl) (λ r. r) cancellation_shown (λ _. refl) refl refl (λ a b. last_key (value_cmp-Int a.0 b.0)) rows answer in
+    let all = sym (map-id rows) ∙ shown ∙ ap (map cancellation_shown) (unfiltered (all_keyed old.now 15) refl) in
+    let met = subst (λ l. AllZip cancellation_reads l xs) all read in
+    let fits = typed_rows cancellation old.now (type_rules old.now it).1.1.1.1.1.1.1.1.1.0 in
+    listed_met cancellation_in cancellation_reads cancellation_shown (IsTyped cancellation.key cancellation.columns) (old.now.trees 15) (all_keyed old.now 15) xs stored.0 stored.1 fits met cancellation_key cancellation_row cancellation_is

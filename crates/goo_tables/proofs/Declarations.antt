@@ -38,6 +38,15 @@ use Rattle.sqlite_keyed.proofs.ListLemmas.{ascending_weaker}
 use Rattle.goo_columns.proofs.Same.{declaration_same}
 use Rattle.goo_tables.specs.Changes.{with_declaration}
 use Rattle.goo_tables.proofs.Queries.{in_order, last_of}
+use Rattle.sqlite.specs.Order.{column}
+use Rattle.sqlite.specs.declared.types.Value.TheVariants.{Int, Real, Blob}
+use Rattle.std.proofs.Common.{arith}
+use Rattle.goo_columns.specs.Columns.{declaration}
+use Rattle.goo_columns.specs.Stands.{Keeps}
+use Rattle.goo_columns.specs.Met.{HasOurTables, Keyed, whole, all_keyed}
+use Rattle.goo_columns.proofs.Ordered.{keyed_rows}
+use Rattle.goo_columns.proofs.Meeting.{IsTyped, typed_rows, type_rules, shape_rules, typed_length, listed_met, no_number, int_same}
+use Rattle.sqlite_typed.proofs.TestLemmas.{then_value}
 
 -- ---- declaration: a row is added
 
@@ -139,3 +148,33 @@ shows_last old t it x rows answer read =
     let all = subst (λ l. IsPermutation l (reverse t.declarations)) (sym (unfiltered t.declarations refl)) (IsPermutation-reverse t.declarations) in
     let shown = answer_listed last_query db [] source (λ _. true) (λ _. refl) declaration_columns (λ _. refl) refl refl (reverse t.declarations) all falls rows answer in
     top_listed declaration_reads declaration_columns declaration_in declaration_same (reverse t.declarations) x (first_left declaration_reads _ x (subst (λ l. FirstZip declaration_reads l x) shown read))
+
+-- ---- declaration: the whole table, met as it is
+
+abbrev declaration_shown : Keyed → Row
+declaration_shown k = Int k.0 ∷ column (whole k) 2 ∷ column (whole k) 3 ∷ column (whole k) 4 ∷ column (whole k) 5 ∷ column (whole k) 6 ∷ []
+
+declaration_is : (k : Keyed) (x : DeclarationRow) → IsTyped declaration.key declaration.columns k → declaration_reads (declaration_shown k) x → (whole k ≡ declaration_row (declaration_in x)) × (k.0 ≡ declaration_key (declaration_in x))
+declaration_is (id, []) x fits reads = absurd (no_number reads.5)
+declaration_is (id, a ∷ []) x fits reads = absurd (no_number reads.5)
+declaration_is (id, a ∷ b ∷ []) x fits reads = absurd (no_number reads.5)
+declaration_is (id, a ∷ b ∷ c ∷ []) x fits reads = absurd (no_number reads.5)
+declaration_is (id, a ∷ b ∷ c ∷ d ∷ []) x fits reads = absurd (no_number reads.5)
+declaration_is (id, a ∷ b ∷ c ∷ d ∷ e ∷ []) x fits reads = absurd (no_number reads.5)
+declaration_is (id, Null ∷ b ∷ c ∷ d ∷ e ∷ f ∷ []) x fits reads = (then_value reads.0 (then_value refl (then_value reads.1 (then_value reads.2 (then_value reads.3 (then_value reads.4 (then_value reads.5 refl)))))), int_same reads.0)
+declaration_is (id, Int v ∷ b ∷ c ∷ d ∷ e ∷ f ∷ []) x fits reads = absurd (let h = fits in cc)
+declaration_is (id, Real v ∷ b ∷ c ∷ d ∷ e ∷ f ∷ []) x fits reads = absurd (let h = fits in cc)
+declaration_is (id, Text v ∷ b ∷ c ∷ d ∷ e ∷ f ∷ []) x fits reads = absurd (let h = fits in cc)
+declaration_is (id, Blob v ∷ b ∷ c ∷ d ∷ e ∷ f ∷ []) x fits reads = absurd (let h = fits in cc)
+declaration_is (id, a ∷ b ∷ c ∷ d ∷ e ∷ f ∷ g ∷ more) x fits reads = absurd (omega (arith, typed_length declaration.key 0 declaration.columns (a ∷ b ∷ c ∷ d ∷ e ∷ f ∷ g ∷ more) fits))
+
+pub meets_all : (old : State) → HasOurTables old.now → (xs : List DeclarationRow) (rows : List Row) → IsAnswer all_query (overlay old.now.trees []) [] rows → AllZip declaration_reads rows xs → Keeps (old.now.trees 6) declaration_row declaration_key (map declaration_in xs)
+meets_all old it xs rows answer read =
+    let db = overlay old.now.trees [] in
+    let stored = keyed_rows (old.now.trees 6) (shape_rules old.now it).1.1.1.1.0 in
+    let source = last_table db 6 whole (λ k. k.0) (all_keyed old.now 6) stored.0 stored.1 (at_end db) in
+    let shown = answer_by_keys all_query db [] source (λ _. true) (λ _. refl) (λ r. r) declaration_shown (λ _. refl) refl refl (λ a b. last_key (value_cmp-Int a.0 b.0)) rows answer in
+    let all = sym (map-id rows) ∙ shown ∙ ap (map declaration_shown) (unfiltered (all_keyed old.now 6) refl) in
+    let met = subst (λ l. AllZip declaration_reads l xs) all read in
+    let fits = typed_rows declaration old.now (type_rules old.now it).1.1.1.1.0 in
+    listed_met declaration_in declaration_reads declaration_shown (IsTyped declaration.key declaration.columns) (old.now.trees 6) (all_keyed old.now 6) xs stored.0 stored.1 fits met declaration_key declaration_row declaration_is

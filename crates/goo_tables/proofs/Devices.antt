@@ -40,6 +40,12 @@ use Rattle.goo_columns.proofs.Read.{all_read, first_read}
 use Rattle.goo_columns.proofs.Same.{device_same}
 use Rattle.goo_tables.specs.Changes.{added, with_device, with_progress, progressed}
 use Rattle.goo_tables.proofs.Queries.{in_order, unordered}
+use Rattle.sqlite.specs.Order.{column}
+use Rattle.std.proofs.Common.{arith}
+use Rattle.goo_columns.specs.Met.{HasOurTables, Keyed, whole, all_keyed, KeepsSome}
+use Rattle.goo_columns.proofs.Ordered.{keyed_rows}
+use Rattle.goo_columns.proofs.Meeting.{IsTyped, typed_rows, type_rules, shape_rules, typed_length, kept_met, no_number}
+use Rattle.sqlite_typed.proofs.TestLemmas.{then_value}
 
 -- ---- device: a row is added
 
@@ -151,3 +157,34 @@ progresses_row old new t gsrn last_day carry once (Ok count) it ran =
       are = made.2.applied.rows ∙ updated kept_key device_row (λ _. refl) device (λ k. simp (cast_int, cast_maybe) refl) p f (λ _. refl) old.now.trees t.devices it.devices.are it.devices.rise made.0 rows;
       rise = IsKeyedBy-update_where kept_key p f (λ _. refl) t.devices it.devices.rise;
     })
+
+-- ---- device: the whole table, met as it is
+
+abbrev device_shown : Keyed → Row
+device_shown k = column (whole k) 1 ∷ column (whole k) 2 ∷ column (whole k) 3 ∷ column (whole k) 4 ∷ column (whole k) 5 ∷ column (whole k) 6 ∷ column (whole k) 7 ∷ column (whole k) 8 ∷ column (whole k) 9 ∷ column (whole k) 10 ∷ column (whole k) 11 ∷ []
+
+device_is : (k : Keyed) (x : DeviceRow) → IsTyped device.key device.columns k → device_reads (device_shown k) x → whole k ≡ device_row (k.0, device_in x)
+device_is (id, []) x fits reads = absurd (no_number reads.4)
+device_is (id, a ∷ []) x fits reads = absurd (no_number reads.4)
+device_is (id, a ∷ b ∷ []) x fits reads = absurd (no_number reads.4)
+device_is (id, a ∷ b ∷ c ∷ []) x fits reads = absurd (no_number reads.4)
+device_is (id, a ∷ b ∷ c ∷ d ∷ []) x fits reads = absurd (no_number reads.4)
+device_is (id, a ∷ b ∷ c ∷ d ∷ e ∷ []) x fits reads = absurd (no_number reads.4)
+device_is (id, a ∷ b ∷ c ∷ d ∷ e ∷ f ∷ []) x fits reads = absurd (no_number reads.4)
+device_is (id, a ∷ b ∷ c ∷ d ∷ e ∷ f ∷ g ∷ []) x fits reads = absurd (no_number reads.4)
+device_is (id, a ∷ b ∷ c ∷ d ∷ e ∷ f ∷ g ∷ h ∷ []) x fits reads = absurd (no_number reads.4)
+device_is (id, a ∷ b ∷ c ∷ d ∷ e ∷ f ∷ g ∷ h ∷ i ∷ []) x fits reads = absurd (no_number reads.4)
+device_is (id, a ∷ b ∷ c ∷ d ∷ e ∷ f ∷ g ∷ h ∷ i ∷ j ∷ []) x fits reads = absurd (no_number reads.4)
+device_is (id, a ∷ b ∷ c ∷ d ∷ e ∷ f ∷ g ∷ h ∷ i ∷ j ∷ k ∷ []) x fits reads = then_value refl (then_value reads.0 (then_value reads.1 (then_value reads.2.0 (then_value reads.2.1 (then_value reads.2.2 (then_value reads.2.3 (then_value reads.2.4 (then_value reads.2.5 (then_value reads.2.6 (then_value reads.3 (then_value reads.4 refl)))))))))))
+device_is (id, a ∷ b ∷ c ∷ d ∷ e ∷ f ∷ g ∷ h ∷ i ∷ j ∷ k ∷ l ∷ more) x fits reads = absurd (omega (arith, typed_length device.key 0 device.columns (a ∷ b ∷ c ∷ d ∷ e ∷ f ∷ g ∷ h ∷ i ∷ j ∷ k ∷ l ∷ more) fits))
+
+pub meets_all : (old : State) → HasOurTables old.now → (xs : List DeviceRow) (rows : List Row) → IsAnswer all_query (overlay old.now.trees []) [] rows → AllZip device_reads rows xs → KeepsSome (old.now.trees 4) device_row (map device_in xs)
+meets_all old it xs rows answer read =
+    let db = overlay old.now.trees [] in
+    let stored = keyed_rows (old.now.trees 4) (shape_rules old.now it).1.1.1.0 in
+    let source = last_table db 4 whole (λ k. k.0) (all_keyed old.now 4) stored.0 stored.1 (at_end db) in
+    let shown = answer_by_keys all_query db [] source (λ _. true) (λ _. refl) (λ r. r) device_shown (λ _. refl) refl refl (λ a b. last_key (value_cmp-Int a.0 b.0)) rows answer in
+    let all = sym (map-id rows) ∙ shown ∙ ap (map device_shown) (unfiltered (all_keyed old.now 4) refl) in
+    let met = subst (λ l. AllZip device_reads l xs) all read in
+    let fits = typed_rows device old.now (type_rules old.now it).1.1.1.0 in
+    kept_met device_in device_reads device_shown (IsTyped device.key device.columns) (old.now.trees 4) (all_keyed old.now 4) xs stored.0 stored.1 fits met device_row device_is

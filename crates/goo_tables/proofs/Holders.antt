@@ -36,6 +36,13 @@ use Rattle.goo_columns.proofs.Read.{all_read, first_read}
 use Rattle.goo_columns.proofs.Same.{holder_same}
 use Rattle.goo_tables.specs.Changes.{added, with_holder}
 use Rattle.goo_tables.proofs.Queries.{in_order}
+use Rattle.sqlite.specs.Order.{column}
+use Rattle.std.proofs.Common.{arith}
+use Rattle.goo_columns.specs.Columns.{holder}
+use Rattle.goo_columns.specs.Met.{HasOurTables, Keyed, whole, all_keyed, KeepsSome}
+use Rattle.goo_columns.proofs.Ordered.{keyed_rows}
+use Rattle.goo_columns.proofs.Meeting.{IsTyped, typed_rows, type_rules, shape_rules, typed_length, kept_met, no_text}
+use Rattle.sqlite_typed.proofs.TestLemmas.{then_value}
 
 -- ---- holder: a row is added
 
@@ -114,3 +121,25 @@ shows_all old t it xs rows answer read =
     let shown = answer_by_keys all_query db [] source (λ _. true) (λ _. refl) (λ r. r) (λ k. holder_columns k.1) (λ _. refl) refl refl (λ a b. last_key (value_cmp-Int a.0 b.0)) rows answer in
     let all = sym (map-id rows) ∙ shown ∙ ap (map (λ (k : (Kept Holder)). holder_columns k.1)) (unfiltered t.holders refl) in
     all_read holder_reads (λ k. holder_columns k.1) holder_in (λ k. k.1) (λ k. holder_same k.1) t.holders xs (subst (λ l. AllZip holder_reads l xs) all read)
+
+-- ---- holder: the whole table, met as it is
+
+abbrev holder_shown : Keyed → Row
+holder_shown k = column (whole k) 1 ∷ column (whole k) 2 ∷ []
+
+holder_is : (k : Keyed) (x : HolderRow) → IsTyped holder.key holder.columns k → holder_reads (holder_shown k) x → whole k ≡ holder_row (k.0, holder_in x)
+holder_is (id, []) x fits reads = absurd (no_text reads.1)
+holder_is (id, a ∷ []) x fits reads = absurd (no_text reads.1)
+holder_is (id, a ∷ b ∷ []) x fits reads = then_value refl (then_value reads.0 (then_value reads.1 refl))
+holder_is (id, a ∷ b ∷ c ∷ more) x fits reads = absurd (omega (arith, typed_length holder.key 0 holder.columns (a ∷ b ∷ c ∷ more) fits))
+
+pub meets_all : (old : State) → HasOurTables old.now → (xs : List HolderRow) (rows : List Row) → IsAnswer all_query (overlay old.now.trees []) [] rows → AllZip holder_reads rows xs → KeepsSome (old.now.trees 1) holder_row (map holder_in xs)
+meets_all old it xs rows answer read =
+    let db = overlay old.now.trees [] in
+    let stored = keyed_rows (old.now.trees 1) (shape_rules old.now it).1.0 in
+    let source = last_table db 1 whole (λ k. k.0) (all_keyed old.now 1) stored.0 stored.1 (at_end db) in
+    let shown = answer_by_keys all_query db [] source (λ _. true) (λ _. refl) (λ r. r) holder_shown (λ _. refl) refl refl (λ a b. last_key (value_cmp-Int a.0 b.0)) rows answer in
+    let all = sym (map-id rows) ∙ shown ∙ ap (map holder_shown) (unfiltered (all_keyed old.now 1) refl) in
+    let met = subst (λ l. AllZip holder_reads l xs) all read in
+    let fits = typed_rows holder old.now (type_rules old.now it).1.0 in
+    kept_met holder_in holder_reads holder_shown (IsTyped holder.key holder.columns) (old.now.trees 1) (all_keyed old.now 1) xs stored.0 stored.1 fits met holder_row holder_is

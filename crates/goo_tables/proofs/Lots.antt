@@ -38,6 +38,15 @@ use Rattle.sqlite_keyed.proofs.ListLemmas.{ascending_weaker}
 use Rattle.goo_columns.proofs.Same.{lot_same}
 use Rattle.goo_tables.specs.Changes.{with_lot}
 use Rattle.goo_tables.proofs.Queries.{in_order, last_of}
+use Rattle.sqlite.specs.Order.{column}
+use Rattle.sqlite.specs.declared.types.Value.TheVariants.{Real, Blob}
+use Rattle.std.proofs.Common.{arith}
+use Rattle.goo_columns.specs.Columns.{lot}
+use Rattle.goo_columns.specs.Stands.{Keeps}
+use Rattle.goo_columns.specs.Met.{HasOurTables, Keyed, whole, all_keyed}
+use Rattle.goo_columns.proofs.Ordered.{keyed_rows}
+use Rattle.goo_columns.proofs.Meeting.{IsTyped, typed_rows, type_rules, shape_rules, typed_length, listed_met, no_text, int_same}
+use Rattle.sqlite_typed.proofs.TestLemmas.{then_value}
 
 -- ---- lot: a row is added
 
@@ -89,6 +98,32 @@ finds old origin device first_day t it x rows answer read =
     (λ a b. last_key (value_cmp-Int (lot_key a) (lot_key b))) rows answer in
     first_listed (lot_reads 0) lot_columns lot_in lot_same _ t.lots x (subst (λ l. FirstZip (lot_reads 0) l x) (sym (map-id rows) ∙ shown) read)
 
+-- ---- lot: the row with a number
+
+abbrev pub by_id_text : List ℕ
+by_id_text = codes "SELECT id, origin, device, country, site, tech, source, capacity_w, commissioned, support, first_day, last_day, expires_on, issued_on FROM lot WHERE id = ?1 ORDER BY id"
+
+abbrev pub by_id_query : Query
+by_id_query = in_order 8 (op2 (Compare Eq Binary) (col 1 0) (col 0 0) ∷ []) (col 1 0 ∷ col 1 2 ∷ col 1 3 ∷ col 1 4 ∷ col 1 5 ∷ col 1 6 ∷ col 1 7 ∷ col 1 8 ∷ col 1 9 ∷ col 1 10 ∷ col 1 11 ∷ col 1 12 ∷ col 1 13 ∷ col 1 14 ∷ [])
+
+pub by_id_is : (command_of (understood registry_schema by_id_text) ≡ Select (record { lets = []; body = by_id_query }) (codes "id" ∷ codes "origin" ∷ codes "device" ∷ codes "country" ∷ codes "site" ∷ codes "tech" ∷ codes "source" ∷ codes "capacity_w" ∷ codes "commissioned" ∷ codes "support" ∷ codes "first_day" ∷ codes "last_day" ∷ codes "expires_on" ∷ codes "issued_on" ∷ [])) × (reads_listing registry_schema by_id_text ≡ false)
+unfolding understood everything
+by_id_is = (refl, refl)
+
+pub by_id_plain : IsPlain (understood registry_schema by_id_text)
+unfolding understood everything
+by_id_plain = (refl, refl)
+
+pub finds_by_id : (old : State) (id : ℕ) (t : Tables) → Stands old.now t → (x : Option LotRow) (rows : List Row) → IsAnswer by_id_query (overlay old.now.trees []) (Int (pos id) ∷ []) rows → FirstZip (lot_reads 0) rows x
+    → option_map lot_in x ≡ find (λ (l : Lot). int_eq (lot_key l) (pos id)) t.lots
+finds_by_id old id t it x rows answer read =
+    let db = overlay old.now.trees [] in
+    let p = λ (l : Lot). int_eq (lot_key l) (pos id) in
+    let source = last_table db 8 lot_row lot_key t.lots it.lots.are it.lots.rise (at_end db) in
+    let shown = answer_by_keys by_id_query db (Int (pos id) ∷ []) source p (λ l. last_term (at_ints false Eq (lot_key l) (pos id))) (λ r. r) lot_columns (λ _. refl) refl refl
+    (λ a b. last_key (value_cmp-Int (lot_key a) (lot_key b))) rows answer in
+    first_listed (lot_reads 0) lot_columns lot_in lot_same p t.lots x (subst (λ l. FirstZip (lot_reads 0) l x) (sym (map-id rows) ∙ shown) read)
+
 -- ---- lot: the whole table
 
 abbrev pub all_text : List ℕ
@@ -139,3 +174,41 @@ shows_last old t it x rows answer read =
     let all = subst (λ l. IsPermutation l (reverse t.lots)) (sym (unfiltered t.lots refl)) (IsPermutation-reverse t.lots) in
     let shown = answer_listed last_query db [] source (λ _. true) (λ _. refl) lot_columns (λ _. refl) refl refl (reverse t.lots) all falls rows answer in
     top_listed (lot_reads 0) lot_columns lot_in lot_same (reverse t.lots) x (first_left (lot_reads 0) _ x (subst (λ l. FirstZip (lot_reads 0) l x) shown read))
+
+-- ---- lot: the whole table, met as it is
+
+abbrev lot_shown : Keyed → Row
+lot_shown k = Int k.0 ∷ column (whole k) 2 ∷ column (whole k) 3 ∷ column (whole k) 4 ∷ column (whole k) 5 ∷ column (whole k) 6 ∷ column (whole k) 7 ∷ column (whole k) 8 ∷ column (whole k) 9 ∷ column (whole k) 10 ∷ column (whole k) 11 ∷ column (whole k) 12 ∷ column (whole k) 13 ∷ column (whole k) 14 ∷ []
+
+lot_is : (k : Keyed) (x : LotRow) → IsTyped lot.key lot.columns k → lot_reads 0 (lot_shown k) x → (whole k ≡ lot_row (lot_in x)) × (k.0 ≡ lot_key (lot_in x))
+lot_is (id, []) x fits reads = absurd (no_text reads.7)
+lot_is (id, a ∷ []) x fits reads = absurd (no_text reads.7)
+lot_is (id, a ∷ b ∷ []) x fits reads = absurd (no_text reads.7)
+lot_is (id, a ∷ b ∷ c ∷ []) x fits reads = absurd (no_text reads.7)
+lot_is (id, a ∷ b ∷ c ∷ d ∷ []) x fits reads = absurd (no_text reads.7)
+lot_is (id, a ∷ b ∷ c ∷ d ∷ e ∷ []) x fits reads = absurd (no_text reads.7)
+lot_is (id, a ∷ b ∷ c ∷ d ∷ e ∷ f ∷ []) x fits reads = absurd (no_text reads.7)
+lot_is (id, a ∷ b ∷ c ∷ d ∷ e ∷ f ∷ g ∷ []) x fits reads = absurd (no_text reads.7)
+lot_is (id, a ∷ b ∷ c ∷ d ∷ e ∷ f ∷ g ∷ h ∷ []) x fits reads = absurd (no_text reads.7)
+lot_is (id, a ∷ b ∷ c ∷ d ∷ e ∷ f ∷ g ∷ h ∷ i ∷ []) x fits reads = absurd (no_text reads.7)
+lot_is (id, a ∷ b ∷ c ∷ d ∷ e ∷ f ∷ g ∷ h ∷ i ∷ j ∷ []) x fits reads = absurd (no_text reads.7)
+lot_is (id, a ∷ b ∷ c ∷ d ∷ e ∷ f ∷ g ∷ h ∷ i ∷ j ∷ k ∷ []) x fits reads = absurd (no_text reads.7)
+lot_is (id, a ∷ b ∷ c ∷ d ∷ e ∷ f ∷ g ∷ h ∷ i ∷ j ∷ k ∷ l ∷ []) x fits reads = absurd (no_text reads.7)
+lot_is (id, a ∷ b ∷ c ∷ d ∷ e ∷ f ∷ g ∷ h ∷ i ∷ j ∷ k ∷ l ∷ m ∷ []) x fits reads = absurd (no_text reads.7)
+lot_is (id, Null ∷ b ∷ c ∷ d ∷ e ∷ f ∷ g ∷ h ∷ i ∷ j ∷ k ∷ l ∷ m ∷ n ∷ []) x fits reads = (then_value reads.0 (then_value refl (then_value reads.1 (then_value reads.2 (then_value reads.3.0 (then_value reads.3.1 (then_value reads.3.2 (then_value reads.3.3 (then_value reads.3.4 (then_value reads.3.5 (then_value reads.3.6 (then_value reads.4 (then_value reads.5 (then_value reads.6 (then_value reads.7 refl)))))))))))))), int_same reads.0)
+lot_is (id, Int v ∷ b ∷ c ∷ d ∷ e ∷ f ∷ g ∷ h ∷ i ∷ j ∷ k ∷ l ∷ m ∷ n ∷ []) x fits reads = absurd (let h = fits in cc)
+lot_is (id, Real v ∷ b ∷ c ∷ d ∷ e ∷ f ∷ g ∷ h ∷ i ∷ j ∷ k ∷ l ∷ m ∷ n ∷ []) x fits reads = absurd (let h = fits in cc)
+lot_is (id, Text v ∷ b ∷ c ∷ d ∷ e ∷ f ∷ g ∷ h ∷ i ∷ j ∷ k ∷ l ∷ m ∷ n ∷ []) x fits reads = absurd (let h = fits in cc)
+lot_is (id, Blob v ∷ b ∷ c ∷ d ∷ e ∷ f ∷ g ∷ h ∷ i ∷ j ∷ k ∷ l ∷ m ∷ n ∷ []) x fits reads = absurd (let h = fits in cc)
+lot_is (id, a ∷ b ∷ c ∷ d ∷ e ∷ f ∷ g ∷ h ∷ i ∷ j ∷ k ∷ l ∷ m ∷ n ∷ o ∷ more) x fits reads = absurd (omega (arith, typed_length lot.key 0 lot.columns (a ∷ b ∷ c ∷ d ∷ e ∷ f ∷ g ∷ h ∷ i ∷ j ∷ k ∷ l ∷ m ∷ n ∷ o ∷ more) fits))
+
+pub meets_all : (old : State) → HasOurTables old.now → (xs : List LotRow) (rows : List Row) → IsAnswer all_query (overlay old.now.trees []) [] rows → AllZip (lot_reads 0) rows xs → Keeps (old.now.trees 8) lot_row lot_key (map lot_in xs)
+meets_all old it xs rows answer read =
+    let db = overlay old.now.trees [] in
+    let stored = keyed_rows (old.now.trees 8) (shape_rules old.now it).1.1.1.1.1.0 in
+    let source = last_table db 8 whole (λ k. k.0) (all_keyed old.now 8) stored.0 stored.1 (at_end db) in
+    let shown = answer_by_keys all_query db [] source (λ _. true) (λ _. refl) (λ r. r) lot_shown (λ _. refl) refl refl (λ a b. last_key (value_cmp-Int a.0 b.0)) rows answer in
+    let all = sym (map-id rows) ∙ shown ∙ ap (map lot_shown) (unfiltered (all_keyed old.now 8) refl) in
+    let met = subst (λ l. AllZip (lot_reads 0) l xs) all read in
+    let fits = typed_rows lot old.now (type_rules old.now it).1.1.1.1.1.0 in
+    listed_met lot_in (lot_reads 0) lot_shown (IsTyped lot.key lot.columns) (old.now.trees 8) (all_keyed old.now 8) xs stored.0 stored.1 fits met lot_key lot_row lot_is

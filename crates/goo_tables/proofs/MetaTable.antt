@@ -1,39 +1,40 @@
 -- What the statements on `meta` do and show.
-use Rattle.std.proofs.Common.{◌≡◌, ℕ, ℤ, pos, inr, List, [], ◌∷◌, codes, true, false, Some, Option, option_map, Ok, Err, Result, OnOk, refl, sym, ap, subst, ◌∙◌, map-id}
+use Rattle.std.proofs.Common.{arith, map, ◌≡◌, ℕ, ℤ, pos, inr, List, [], ◌∷◌, codes, true, false, Some, Option, option_map, Ok, Err, Result, OnOk, refl, sym, ap, subst, ◌∙◌, map-id}
+use Rattle.std.specs.List.{AllZip}
 use Rattle.sqlite_tied.specs.Compute.{everything}
-use Rattle.sqlite.specs.declared.types.Value.TheVariants.{Null, Int, Text}
+use Rattle.sqlite.specs.declared.types.Value.TheVariants.{Null, Int, Real, Text, Blob}
 use Rattle.sqlite.specs.declared.error.Error.{Error}
 use Rattle.sqlite.specs.Collation.TheVariants.{Binary}
-use Rattle.sqlite.specs.Order.{Row}
+use Rattle.sqlite.specs.Order.{Row, column}
 use Rattle.sqlite.specs.Term.{Term, lit, col, op2}
 use Rattle.sqlite.specs.Query.{Query, IsAnswer}
 use Rattle.sqlite.specs.Program.{overlay}
 use Rattle.sqlite.specs.Source.TheVariants.{Values}
 use Rattle.sqlite.specs.Command.TheVariants.{Insert, Select, Update}
-use Rattle.sqlite.specs.Edit.{put_all, edited, edit_of}
-use Rattle.sqlite.specs.Rowids.TheVariants.{Given}
-use Rattle.sqlite.specs.Effect.{Database}
 use Rattle.sqlite.specs.Listing.{understood, reads_listing}
 use Rattle.sqlite.specs.State.{State, Executes}
 use Rattle.sqlite.proofs.Callers.{IsPlain, command_of}
-use Rattle.sqlite_rules.specs.Calls.{ids_of}
 use Rattle.sqlite_sql.specs.declared.ops.BinaryOp.TheVariants.{Compare}
 use Rattle.sqlite_sql.specs.declared.ops.CompareOp.TheVariants.{Eq}
 use Rattle.sqlite_value.proofs.OrderLemmas.{value_cmp-Int}
 use Rattle.sqlite_typed.proofs.AnswerLemmas.{at_end, last_table, answer_by_keys, unfiltered}
-use Rattle.sqlite_typed.proofs.TestLemmas.{at_ints, last_term, last_key}
+use Rattle.sqlite_typed.proofs.TestLemmas.{at_ints, last_term, last_key, then_value}
 use Rattle.goo_columns.specs.Columns.{registry_schema, meta}
-use Rattle.goo_columns.specs.Rows.{Tables, Meta, meta_columns, meta_row, meta_in}
+use Rattle.goo_columns.specs.Rows.{Tables, Meta, meta_columns, meta_row, meta_in, Numbered, numbered_in, numbered_key, numbered_row}
+use Rattle.goo_columns.specs.declared.numbered_meta.NumberedMeta.{NumberedMeta}
 use Rattle.goo_columns.specs.declared.meta.MetaRow.{MetaRow}
-use Rattle.goo_columns.specs.Reads.{meta_reads}
-use Rattle.goo_columns.specs.Stands.{Stands, IsBare}
+use Rattle.goo_columns.specs.Reads.{meta_reads, numbered_meta_reads}
+use Rattle.goo_columns.specs.Stands.{Stands, IsBare, Keeps}
+use Rattle.goo_columns.specs.Met.{HasOurTables, Keyed, whole, all_keyed}
+use Rattle.goo_columns.proofs.Ordered.{keyed_rows}
+use Rattle.goo_columns.proofs.Meeting.{IsTyped, typed_rows, type_rules, shape_rules, typed_length, listed_met, no_number, int_same}
 use Rattle.goo_columns.specs.Asked.{FirstZip}
 use Rattle.goo_columns.proofs.Writing.{inserts, updates}
 use Rattle.goo_columns.proofs.Typed.{cast_int, cast_null, puts}
 use Rattle.goo_columns.proofs.Updating.{updated}
 use Rattle.goo_columns.proofs.Alone.{with_meta_stands, begun_stands}
 use Rattle.goo_columns.proofs.One.{answer_of_one}
-use Rattle.goo_columns.proofs.Read.{first_listed}
+use Rattle.goo_columns.proofs.Read.{first_listed, all_read}
 use Rattle.goo_columns.proofs.Same.{meta_same}
 use Rattle.goo_tables.specs.Changes.{begun, at_day, with_counters}
 use Rattle.goo_tables.specs.declared.counters.Counters.{Counters}
@@ -170,3 +171,70 @@ counters_shows c old t rows it answer =
 
 pub sets_counters : (old new : State) (t : Tables) (c : Counters) (r : Result ℕ Error) → Stands old.now t → Executes counters_text (counters_params c) old new r → OnOk r (Stands new.now (with_counters t c))
 sets_counters old new t c r it = changes counters_text (counters_params c) counters_terms (counted c) counters_is counters_plain (counters_shows c) old new t it r
+
+-- ---- all rows
+
+abbrev pub all_text : List ℕ
+all_text = codes "SELECT id, version, code, today, next_serial, next_account, next_cancellation, next_withdrawal, next_notice FROM meta ORDER BY id"
+
+abbrev pub all_query : Query
+all_query = in_order 0 [] (col 1 0 ∷ col 1 2 ∷ col 1 3 ∷ col 1 4 ∷ col 1 5 ∷ col 1 6 ∷ col 1 7 ∷ col 1 8 ∷ col 1 9 ∷ [])
+
+pub all_is : (command_of (understood registry_schema all_text)
+    ≡ Select (record { lets = []; body = all_query }) (codes "id" ∷ codes "version" ∷ codes "code" ∷ codes "today" ∷ codes "next_serial" ∷ codes "next_account" ∷ codes "next_cancellation" ∷ codes "next_withdrawal" ∷ codes "next_notice" ∷ []))
+    × (reads_listing registry_schema all_text ≡ false)
+unfolding understood everything
+all_is = (refl, refl)
+
+pub all_plain : IsPlain (understood registry_schema all_text)
+unfolding understood everything
+all_plain = (refl, refl)
+
+abbrev numbered : Meta → Numbered
+numbered m = record { id = 1; meta = m }
+
+numbered_same : (m : Meta) (x : NumberedMeta) → numbered_meta_reads (Int (pos 1) ∷ meta_columns m) x → numbered_in x ≡ numbered m
+numbered_same m x reads =
+    let id : x.id ≡ 1 = cc in
+    let rest = meta_same m x.meta (reads.1, reads.2, reads.3, reads.4, reads.5, reads.6, reads.7, reads.8) in
+    λ i. record { id = id i; meta = rest i }
+
+pub shows_all : (old : State) (t : Tables) → Stands old.now t → (xs : List NumberedMeta) (rows : List Row) → IsAnswer all_query (overlay old.now.trees []) [] rows → AllZip numbered_meta_reads rows xs
+    → map numbered_in xs ≡ numbered t.meta ∷ []
+shows_all old t it xs rows answer read =
+    let db = overlay old.now.trees [] in
+    let source = last_table db 0 meta_row meta_key (t.meta ∷ []) it.meta (tt, tt) (at_end db) in
+    let shown = answer_by_keys all_query db [] source (λ _. true) (λ _. refl) (λ r. r) (λ m. Int (pos 1) ∷ meta_columns m) (λ _. refl) refl refl (λ a b. last_key (value_cmp-Int (pos 1) (pos 1))) rows answer in
+    all_read numbered_meta_reads (λ m. Int (pos 1) ∷ meta_columns m) numbered_in numbered numbered_same (t.meta ∷ []) xs (subst (λ l. AllZip numbered_meta_reads l xs) (sym (map-id rows) ∙ shown) read)
+
+abbrev meta_shown : Keyed → Row
+meta_shown k = Int k.0 ∷ column (whole k) 2 ∷ column (whole k) 3 ∷ column (whole k) 4 ∷ column (whole k) 5 ∷ column (whole k) 6 ∷ column (whole k) 7 ∷ column (whole k) 8 ∷ column (whole k) 9 ∷ []
+
+meta_is : (k : Keyed) (x : NumberedMeta) → IsTyped meta.key meta.columns k → numbered_meta_reads (meta_shown k) x → (whole k ≡ numbered_row (numbered_in x)) × (k.0 ≡ numbered_key (numbered_in x))
+meta_is (id, []) x fits reads = absurd (no_number reads.8)
+meta_is (id, a ∷ []) x fits reads = absurd (no_number reads.8)
+meta_is (id, a ∷ b ∷ []) x fits reads = absurd (no_number reads.8)
+meta_is (id, a ∷ b ∷ c ∷ []) x fits reads = absurd (no_number reads.8)
+meta_is (id, a ∷ b ∷ c ∷ d ∷ []) x fits reads = absurd (no_number reads.8)
+meta_is (id, a ∷ b ∷ c ∷ d ∷ e ∷ []) x fits reads = absurd (no_number reads.8)
+meta_is (id, a ∷ b ∷ c ∷ d ∷ e ∷ f ∷ []) x fits reads = absurd (no_number reads.8)
+meta_is (id, a ∷ b ∷ c ∷ d ∷ e ∷ f ∷ g ∷ []) x fits reads = absurd (no_number reads.8)
+meta_is (id, a ∷ b ∷ c ∷ d ∷ e ∷ f ∷ g ∷ h ∷ []) x fits reads = absurd (no_number reads.8)
+meta_is (id, Null ∷ b ∷ c ∷ d ∷ e ∷ f ∷ g ∷ h ∷ i ∷ []) x fits reads = (then_value reads.0 (then_value refl (then_value reads.1 (then_value reads.2 (then_value reads.3 (then_value reads.4 (then_value reads.5 (then_value reads.6 (then_value reads.7 (then_value reads.8 refl))))))))), int_same reads.0)
+meta_is (id, Int v ∷ b ∷ c ∷ d ∷ e ∷ f ∷ g ∷ h ∷ i ∷ []) x fits reads = absurd (let h = fits in cc)
+meta_is (id, Real v ∷ b ∷ c ∷ d ∷ e ∷ f ∷ g ∷ h ∷ i ∷ []) x fits reads = absurd (let h = fits in cc)
+meta_is (id, Text v ∷ b ∷ c ∷ d ∷ e ∷ f ∷ g ∷ h ∷ i ∷ []) x fits reads = absurd (let h = fits in cc)
+meta_is (id, Blob v ∷ b ∷ c ∷ d ∷ e ∷ f ∷ g ∷ h ∷ i ∷ []) x fits reads = absurd (let h = fits in cc)
+meta_is (id, a ∷ b ∷ c ∷ d ∷ e ∷ f ∷ g ∷ h ∷ i ∷ j ∷ more) x fits reads = absurd (omega (arith, typed_length meta.key 0 meta.columns (a ∷ b ∷ c ∷ d ∷ e ∷ f ∷ g ∷ h ∷ i ∷ j ∷ more) fits))
+
+pub meets_all : (old : State) → HasOurTables old.now → (xs : List NumberedMeta) (rows : List Row) → IsAnswer all_query (overlay old.now.trees []) [] rows → AllZip numbered_meta_reads rows xs
+    → Keeps (old.now.trees 0) numbered_row numbered_key (map numbered_in xs)
+meets_all old it xs rows answer read =
+    let db = overlay old.now.trees [] in
+    let stored = keyed_rows (old.now.trees 0) (shape_rules old.now it).0 in
+    let source = last_table db 0 whole (λ k. k.0) (all_keyed old.now 0) stored.0 stored.1 (at_end db) in
+    let shown = answer_by_keys all_query db [] source (λ _. true) (λ _. refl) (λ r. r) meta_shown (λ _. refl) refl refl (λ a b. last_key (value_cmp-Int a.0 b.0)) rows answer in
+    let all = sym (map-id rows) ∙ shown ∙ ap (map meta_shown) (unfiltered (all_keyed old.now 0) refl) in
+    let met = subst (λ l. AllZip numbered_meta_reads l xs) all read in
+    let fits = typed_rows meta old.now (type_rules old.now it).0 in
+    listed_met numbered_in numbered_meta_reads meta_shown (IsTyped meta.key meta.columns) (old.now.trees 0) (all_keyed old.now 0) xs stored.0 stored.1 fits met numbered_key numbered_row meta_is

@@ -35,6 +35,14 @@ use Rattle.goo_columns.proofs.Read.{all_read, first_read}
 use Rattle.goo_columns.proofs.Same.{notice_in_same}
 use Rattle.goo_tables.specs.Changes.{added, with_notice_in}
 use Rattle.goo_tables.proofs.Queries.{in_order}
+use Rattle.sqlite.specs.Order.{column}
+use Rattle.std.proofs.Common.{arith}
+use Rattle.goo_columns.specs.Columns.{notice_in}
+use Rattle.goo_columns.specs.Met.{HasOurTables, Keyed, whole, all_keyed, KeepsSome}
+use Rattle.goo_columns.proofs.Ordered.{keyed_rows}
+use Rattle.goo_columns.proofs.Meeting.{IsTyped, typed_rows, type_rules, shape_rules, typed_length, kept_met, no_octets, text_octets}
+use Rattle.sqlite_typed.proofs.TestLemmas.{then_value}
+use Rattle.std.proofs.lemmas.Bool.{and_parts}
 
 -- ---- notice_in: a row is added
 
@@ -113,3 +121,26 @@ shows_all old t it xs rows answer read =
     let shown = answer_by_keys all_query db [] source (λ _. true) (λ _. refl) (λ r. r) (λ k. notice_in_columns k.1) (λ _. refl) refl refl (λ a b. last_key (value_cmp-Int a.0 b.0)) rows answer in
     let all = sym (map-id rows) ∙ shown ∙ ap (map (λ (k : (Kept NoticeIn)). notice_in_columns k.1)) (unfiltered t.notices_in refl) in
     all_read notice_in_reads (λ k. notice_in_columns k.1) notice_in_in (λ k. k.1) (λ k. notice_in_same k.1) t.notices_in xs (subst (λ l. AllZip notice_in_reads l xs) all read)
+
+-- ---- notice_in: the whole table, met as it is
+
+abbrev notice_in_shown : Keyed → Row
+notice_in_shown k = column (whole k) 1 ∷ column (whole k) 2 ∷ column (whole k) 3 ∷ []
+
+notice_in_is : (k : Keyed) (x : NoticeInRow) → IsTyped notice_in.key notice_in.columns k → notice_in_reads (notice_in_shown k) x → whole k ≡ notice_in_row (k.0, notice_in_in x)
+notice_in_is (id, []) x fits reads = absurd (no_octets reads.2)
+notice_in_is (id, a ∷ []) x fits reads = absurd (no_octets reads.2)
+notice_in_is (id, a ∷ b ∷ []) x fits reads = absurd (no_octets reads.2)
+notice_in_is (id, a ∷ b ∷ c ∷ []) x fits reads = then_value refl (then_value reads.0 (then_value reads.1 (then_value (text_octets (codes "body") c (and_parts _ _ (and_parts _ _ (and_parts _ _ fits).1).1).0 reads.2) refl)))
+notice_in_is (id, a ∷ b ∷ c ∷ d ∷ more) x fits reads = absurd (omega (arith, typed_length notice_in.key 0 notice_in.columns (a ∷ b ∷ c ∷ d ∷ more) fits))
+
+pub meets_all : (old : State) → HasOurTables old.now → (xs : List NoticeInRow) (rows : List Row) → IsAnswer all_query (overlay old.now.trees []) [] rows → AllZip notice_in_reads rows xs → KeepsSome (old.now.trees 18) notice_in_row (map notice_in_in xs)
+meets_all old it xs rows answer read =
+    let db = overlay old.now.trees [] in
+    let stored = keyed_rows (old.now.trees 18) (shape_rules old.now it).1.1.1.1.1.1.1.1.1.1.1.1.0 in
+    let source = last_table db 18 whole (λ k. k.0) (all_keyed old.now 18) stored.0 stored.1 (at_end db) in
+    let shown = answer_by_keys all_query db [] source (λ _. true) (λ _. refl) (λ r. r) notice_in_shown (λ _. refl) refl refl (λ a b. last_key (value_cmp-Int a.0 b.0)) rows answer in
+    let all = sym (map-id rows) ∙ shown ∙ ap (map notice_in_shown) (unfiltered (all_keyed old.now 18) refl) in
+    let met = subst (λ l. AllZip notice_in_reads l xs) all read in
+    let fits = typed_rows notice_in old.now (type_rules old.now it).1.1.1.1.1.1.1.1.1.1.1.1.0 in
+    kept_met notice_in_in notice_in_reads notice_in_shown (IsTyped notice_in.key notice_in.columns) (old.now.trees 18) (all_keyed old.now 18) xs stored.0 stored.1 fits met notice_in_row notice_in_is

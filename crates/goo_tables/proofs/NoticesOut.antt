@@ -34,6 +34,16 @@ use Rattle.goo_columns.proofs.Read.{all_listed, first_listed}
 use Rattle.goo_columns.proofs.Same.{notice_out_same}
 use Rattle.goo_tables.specs.Changes.{with_notice_out}
 use Rattle.goo_tables.proofs.Queries.{in_order}
+use Rattle.sqlite.specs.Order.{column}
+use Rattle.sqlite.specs.declared.types.Value.TheVariants.{Real, Text, Blob}
+use Rattle.std.proofs.Common.{arith}
+use Rattle.goo_columns.specs.Columns.{notice_out}
+use Rattle.goo_columns.specs.Stands.{Keeps}
+use Rattle.goo_columns.specs.Met.{HasOurTables, Keyed, whole, all_keyed}
+use Rattle.goo_columns.proofs.Ordered.{keyed_rows}
+use Rattle.goo_columns.proofs.Meeting.{IsTyped, typed_rows, type_rules, shape_rules, typed_length, listed_met, no_octets, int_same, text_octets}
+use Rattle.sqlite_typed.proofs.TestLemmas.{then_value}
+use Rattle.std.proofs.lemmas.Bool.{and_parts}
 
 -- ---- notice_out: a row is added
 
@@ -109,3 +119,30 @@ shows_all old t it xs rows answer read =
     let shown = answer_by_keys all_query db [] source (λ _. true) (λ _. refl) (λ r. r) notice_out_columns (λ _. refl) refl refl (λ a b. last_key (value_cmp-Int (notice_out_key a) (notice_out_key b))) rows answer in
     let all = sym (map-id rows) ∙ shown ∙ ap (map (λ (x : NoticeOut). notice_out_columns x)) (unfiltered t.notices_out refl) in
     all_listed notice_out_reads notice_out_columns notice_out_in notice_out_same t.notices_out xs (subst (λ l. AllZip notice_out_reads l xs) all read)
+
+-- ---- notice_out: the whole table, met as it is
+
+abbrev notice_out_shown : Keyed → Row
+notice_out_shown k = Int k.0 ∷ column (whole k) 2 ∷ column (whole k) 3 ∷ []
+
+notice_out_is : (k : Keyed) (x : NoticeOutRow) → IsTyped notice_out.key notice_out.columns k → notice_out_reads (notice_out_shown k) x → (whole k ≡ notice_out_row (notice_out_in x)) × (k.0 ≡ notice_out_key (notice_out_in x))
+notice_out_is (id, []) x fits reads = absurd (no_octets reads.2)
+notice_out_is (id, a ∷ []) x fits reads = absurd (no_octets reads.2)
+notice_out_is (id, a ∷ b ∷ []) x fits reads = absurd (no_octets reads.2)
+notice_out_is (id, Null ∷ b ∷ c ∷ []) x fits reads = (then_value reads.0 (then_value refl (then_value reads.1 (then_value (text_octets (codes "body") c (and_parts _ _ (and_parts _ _ fits).1).0 reads.2) refl))), int_same reads.0)
+notice_out_is (id, Int v ∷ b ∷ c ∷ []) x fits reads = absurd (let h = fits in cc)
+notice_out_is (id, Real v ∷ b ∷ c ∷ []) x fits reads = absurd (let h = fits in cc)
+notice_out_is (id, Text v ∷ b ∷ c ∷ []) x fits reads = absurd (let h = fits in cc)
+notice_out_is (id, Blob v ∷ b ∷ c ∷ []) x fits reads = absurd (let h = fits in cc)
+notice_out_is (id, a ∷ b ∷ c ∷ d ∷ more) x fits reads = absurd (omega (arith, typed_length notice_out.key 0 notice_out.columns (a ∷ b ∷ c ∷ d ∷ more) fits))
+
+pub meets_all : (old : State) → HasOurTables old.now → (xs : List NoticeOutRow) (rows : List Row) → IsAnswer all_query (overlay old.now.trees []) [] rows → AllZip notice_out_reads rows xs → Keeps (old.now.trees 17) notice_out_row notice_out_key (map notice_out_in xs)
+meets_all old it xs rows answer read =
+    let db = overlay old.now.trees [] in
+    let stored = keyed_rows (old.now.trees 17) (shape_rules old.now it).1.1.1.1.1.1.1.1.1.1.1.0 in
+    let source = last_table db 17 whole (λ k. k.0) (all_keyed old.now 17) stored.0 stored.1 (at_end db) in
+    let shown = answer_by_keys all_query db [] source (λ _. true) (λ _. refl) (λ r. r) notice_out_shown (λ _. refl) refl refl (λ a b. last_key (value_cmp-Int a.0 b.0)) rows answer in
+    let all = sym (map-id rows) ∙ shown ∙ ap (map notice_out_shown) (unfiltered (all_keyed old.now 17) refl) in
+    let met = subst (λ l. AllZip notice_out_reads l xs) all read in
+    let fits = typed_rows notice_out old.now (type_rules old.now it).1.1.1.1.1.1.1.1.1.1.1.0 in
+    listed_met notice_out_in notice_out_reads notice_out_shown (IsTyped notice_out.key notice_out.columns) (old.now.trees 17) (all_keyed old.now 17) xs stored.0 stored.1 fits met notice_out_key notice_out_row notice_out_is

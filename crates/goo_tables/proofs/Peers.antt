@@ -36,6 +36,13 @@ use Rattle.std.proofs.lemmas.Iterator.Adapters.{option_map_id}
 use Rattle.goo_columns.proofs.Same.{peer_same}
 use Rattle.goo_tables.specs.Changes.{added, with_peer}
 use Rattle.goo_tables.proofs.Queries.{in_order}
+use Rattle.sqlite.specs.Order.{column}
+use Rattle.std.proofs.Common.{arith}
+use Rattle.goo_columns.specs.Columns.{peer}
+use Rattle.goo_columns.specs.Met.{HasOurTables, Keyed, whole, all_keyed, KeepsSome}
+use Rattle.goo_columns.proofs.Ordered.{keyed_rows}
+use Rattle.goo_columns.proofs.Meeting.{IsTyped, typed_rows, type_rules, shape_rules, typed_length, kept_met, no_number}
+use Rattle.sqlite_typed.proofs.TestLemmas.{then_value}
 
 -- ---- peer: a row is added
 
@@ -114,3 +121,24 @@ shows_all old t it xs rows answer read =
     let shown = answer_by_keys all_query db [] source (λ _. true) (λ _. refl) (λ r. r) (λ k. peer_columns k.1) (λ _. refl) refl refl (λ a b. last_key (value_cmp-Int a.0 b.0)) rows answer in
     let all = sym (map-id rows) ∙ shown ∙ ap (map (λ (k : (Kept PeerRow)). peer_columns k.1)) (unfiltered t.peers refl) in
     sym (map-id xs) ∙ all_read peer_reads (λ k. peer_columns k.1) (λ x. x) (λ k. k.1) (λ k. peer_same k.1) t.peers xs (subst (λ l. AllZip peer_reads l xs) all read)
+
+-- ---- peer: the whole table, met as it is
+
+abbrev peer_shown : Keyed → Row
+peer_shown k = column (whole k) 1 ∷ []
+
+peer_is : (k : Keyed) (x : PeerRow) → IsTyped peer.key peer.columns k → peer_reads (peer_shown k) x → whole k ≡ peer_row (k.0, x)
+peer_is (id, []) x fits reads = absurd (no_number reads)
+peer_is (id, a ∷ []) x fits reads = then_value refl (then_value reads refl)
+peer_is (id, a ∷ b ∷ more) x fits reads = absurd (omega (arith, typed_length peer.key 0 peer.columns (a ∷ b ∷ more) fits))
+
+pub meets_all : (old : State) → HasOurTables old.now → (xs : List PeerRow) (rows : List Row) → IsAnswer all_query (overlay old.now.trees []) [] rows → AllZip peer_reads rows xs → KeepsSome (old.now.trees 11) peer_row (xs)
+meets_all old it xs rows answer read =
+    let db = overlay old.now.trees [] in
+    let stored = keyed_rows (old.now.trees 11) (shape_rules old.now it).1.1.1.1.1.1.1.0 in
+    let source = last_table db 11 whole (λ k. k.0) (all_keyed old.now 11) stored.0 stored.1 (at_end db) in
+    let shown = answer_by_keys all_query db [] source (λ _. true) (λ _. refl) (λ r. r) peer_shown (λ _. refl) refl refl (λ a b. last_key (value_cmp-Int a.0 b.0)) rows answer in
+    let all = sym (map-id rows) ∙ shown ∙ ap (map peer_shown) (unfiltered (all_keyed old.now 11) refl) in
+    let met = subst (λ l. AllZip peer_reads l xs) all read in
+    let fits = typed_rows peer old.now (type_rules old.now it).1.1.1.1.1.1.1.0 in
+    subst (λ l. KeepsSome (old.now.trees 11) peer_row l) (map-id xs) (kept_met (λ x. x) peer_reads peer_shown (IsTyped peer.key peer.columns) (old.now.trees 11) (all_keyed old.now 11) xs stored.0 stored.1 fits met peer_row peer_is)

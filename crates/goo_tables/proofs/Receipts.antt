@@ -36,6 +36,14 @@ use Rattle.goo_columns.proofs.Read.{all_read, first_read}
 use Rattle.goo_columns.proofs.Same.{receipt_same}
 use Rattle.goo_tables.specs.Changes.{added, with_receipt}
 use Rattle.goo_tables.proofs.Queries.{in_order}
+use Rattle.sqlite.specs.Order.{column}
+use Rattle.std.proofs.Common.{arith}
+use Rattle.goo_columns.specs.Columns.{receipt}
+use Rattle.goo_columns.specs.Met.{HasOurTables, Keyed, whole, all_keyed, KeepsSome}
+use Rattle.goo_columns.proofs.Ordered.{keyed_rows}
+use Rattle.goo_columns.proofs.Meeting.{IsTyped, typed_rows, type_rules, shape_rules, typed_length, kept_met, no_number, blob_octets}
+use Rattle.sqlite_typed.proofs.TestLemmas.{then_value}
+use Rattle.std.proofs.lemmas.Bool.{and_parts}
 
 -- ---- receipt: a row is added
 
@@ -114,3 +122,30 @@ shows_all old t it xs rows answer read =
     let shown = answer_by_keys all_query db [] source (λ _. true) (λ _. refl) (λ r. r) (λ k. receipt_columns k.1) (λ _. refl) refl refl (λ a b. last_key (value_cmp-Int a.0 b.0)) rows answer in
     let all = sym (map-id rows) ∙ shown ∙ ap (map (λ (k : (Kept Receipt)). receipt_columns k.1)) (unfiltered t.receipts refl) in
     all_read receipt_reads (λ k. receipt_columns k.1) receipt_in (λ k. k.1) (λ k. receipt_same k.1) t.receipts xs (subst (λ l. AllZip receipt_reads l xs) all read)
+
+-- ---- receipt: the whole table, met as it is
+
+abbrev receipt_shown : Keyed → Row
+receipt_shown k = column (whole k) 1 ∷ column (whole k) 2 ∷ column (whole k) 3 ∷ column (whole k) 4 ∷ column (whole k) 5 ∷ column (whole k) 6 ∷ column (whole k) 7 ∷ []
+
+receipt_is : (k : Keyed) (x : ReceiptRow) → IsTyped receipt.key receipt.columns k → receipt_reads (receipt_shown k) x → whole k ≡ receipt_row (k.0, receipt_in x)
+receipt_is (id, []) x fits reads = absurd (no_number reads.6)
+receipt_is (id, a ∷ []) x fits reads = absurd (no_number reads.6)
+receipt_is (id, a ∷ b ∷ []) x fits reads = absurd (no_number reads.6)
+receipt_is (id, a ∷ b ∷ c ∷ []) x fits reads = absurd (no_number reads.6)
+receipt_is (id, a ∷ b ∷ c ∷ d ∷ []) x fits reads = absurd (no_number reads.6)
+receipt_is (id, a ∷ b ∷ c ∷ d ∷ e ∷ []) x fits reads = absurd (no_number reads.6)
+receipt_is (id, a ∷ b ∷ c ∷ d ∷ e ∷ f ∷ []) x fits reads = absurd (no_number reads.6)
+receipt_is (id, a ∷ b ∷ c ∷ d ∷ e ∷ f ∷ g ∷ []) x fits reads = then_value refl (then_value reads.0 (then_value reads.1 (then_value (blob_octets (codes "command") c (and_parts _ _ (and_parts _ _ (and_parts _ _ fits).1).1).0 reads.2) (then_value reads.3 (then_value reads.4 (then_value reads.5 (then_value reads.6 refl)))))))
+receipt_is (id, a ∷ b ∷ c ∷ d ∷ e ∷ f ∷ g ∷ h ∷ more) x fits reads = absurd (omega (arith, typed_length receipt.key 0 receipt.columns (a ∷ b ∷ c ∷ d ∷ e ∷ f ∷ g ∷ h ∷ more) fits))
+
+pub meets_all : (old : State) → HasOurTables old.now → (xs : List ReceiptRow) (rows : List Row) → IsAnswer all_query (overlay old.now.trees []) [] rows → AllZip receipt_reads rows xs → KeepsSome (old.now.trees 13) receipt_row (map receipt_in xs)
+meets_all old it xs rows answer read =
+    let db = overlay old.now.trees [] in
+    let stored = keyed_rows (old.now.trees 13) (shape_rules old.now it).1.1.1.1.1.1.1.1.0 in
+    let source = last_table db 13 whole (λ k. k.0) (all_keyed old.now 13) stored.0 stored.1 (at_end db) in
+    let shown = answer_by_keys all_query db [] source (λ _. true) (λ _. refl) (λ r. r) receipt_shown (λ _. refl) refl refl (λ a b. last_key (value_cmp-Int a.0 b.0)) rows answer in
+    let all = sym (map-id rows) ∙ shown ∙ ap (map receipt_shown) (unfiltered (all_keyed old.now 13) refl) in
+    let met = subst (λ l. AllZip receipt_reads l xs) all read in
+    let fits = typed_rows receipt old.now (type_rules old.now it).1.1.1.1.1.1.1.1.0 in
+    kept_met receipt_in receipt_reads receipt_shown (IsTyped receipt.key receipt.columns) (old.now.trees 13) (all_keyed old.now 13) xs stored.0 stored.1 fits met receipt_row receipt_is

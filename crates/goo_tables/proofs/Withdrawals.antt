@@ -34,6 +34,15 @@ use Rattle.goo_columns.proofs.Read.{all_listed, first_listed}
 use Rattle.goo_columns.proofs.Same.{withdrawal_same}
 use Rattle.goo_tables.specs.Changes.{with_withdrawal}
 use Rattle.goo_tables.proofs.Queries.{in_order}
+use Rattle.sqlite.specs.Order.{column}
+use Rattle.sqlite.specs.declared.types.Value.TheVariants.{Real, Text, Blob}
+use Rattle.std.proofs.Common.{arith}
+use Rattle.goo_columns.specs.Columns.{withdrawal}
+use Rattle.goo_columns.specs.Stands.{Keeps}
+use Rattle.goo_columns.specs.Met.{HasOurTables, Keyed, whole, all_keyed}
+use Rattle.goo_columns.proofs.Ordered.{keyed_rows}
+use Rattle.goo_columns.proofs.Meeting.{IsTyped, typed_rows, type_rules, shape_rules, typed_length, listed_met, no_text, int_same}
+use Rattle.sqlite_typed.proofs.TestLemmas.{then_value}
 
 -- ---- withdrawal: a row is added
 
@@ -109,3 +118,32 @@ shows_all old t it xs rows answer read =
     let shown = answer_by_keys all_query db [] source (λ _. true) (λ _. refl) (λ r. r) withdrawal_columns (λ _. refl) refl refl (λ a b. last_key (value_cmp-Int (withdrawal_key a) (withdrawal_key b))) rows answer in
     let all = sym (map-id rows) ∙ shown ∙ ap (map (λ (x : Withdrawal). withdrawal_columns x)) (unfiltered t.withdrawals refl) in
     all_listed withdrawal_reads withdrawal_columns withdrawal_in withdrawal_same t.withdrawals xs (subst (λ l. AllZip withdrawal_reads l xs) all read)
+
+-- ---- withdrawal: the whole table, met as it is
+
+abbrev withdrawal_shown : Keyed → Row
+withdrawal_shown k = Int k.0 ∷ column (whole k) 2 ∷ column (whole k) 3 ∷ column (whole k) 4 ∷ column (whole k) 5 ∷ []
+
+withdrawal_is : (k : Keyed) (x : WithdrawalRow) → IsTyped withdrawal.key withdrawal.columns k → withdrawal_reads (withdrawal_shown k) x → (whole k ≡ withdrawal_row (withdrawal_in x)) × (k.0 ≡ withdrawal_key (withdrawal_in x))
+withdrawal_is (id, []) x fits reads = absurd (no_text reads.4)
+withdrawal_is (id, a ∷ []) x fits reads = absurd (no_text reads.4)
+withdrawal_is (id, a ∷ b ∷ []) x fits reads = absurd (no_text reads.4)
+withdrawal_is (id, a ∷ b ∷ c ∷ []) x fits reads = absurd (no_text reads.4)
+withdrawal_is (id, a ∷ b ∷ c ∷ d ∷ []) x fits reads = absurd (no_text reads.4)
+withdrawal_is (id, Null ∷ b ∷ c ∷ d ∷ e ∷ []) x fits reads = (then_value reads.0 (then_value refl (then_value reads.1 (then_value reads.2 (then_value reads.3 (then_value reads.4 refl))))), int_same reads.0)
+withdrawal_is (id, Int v ∷ b ∷ c ∷ d ∷ e ∷ []) x fits reads = absurd (let h = fits in cc)
+withdrawal_is (id, Real v ∷ b ∷ c ∷ d ∷ e ∷ []) x fits reads = absurd (let h = fits in cc)
+withdrawal_is (id, Text v ∷ b ∷ c ∷ d ∷ e ∷ []) x fits reads = absurd (let h = fits in cc)
+withdrawal_is (id, Blob v ∷ b ∷ c ∷ d ∷ e ∷ []) x fits reads = absurd (let h = fits in cc)
+withdrawal_is (id, a ∷ b ∷ c ∷ d ∷ e ∷ f ∷ more) x fits reads = absurd (omega (arith, typed_length withdrawal.key 0 withdrawal.columns (a ∷ b ∷ c ∷ d ∷ e ∷ f ∷ more) fits))
+
+pub meets_all : (old : State) → HasOurTables old.now → (xs : List WithdrawalRow) (rows : List Row) → IsAnswer all_query (overlay old.now.trees []) [] rows → AllZip withdrawal_reads rows xs → Keeps (old.now.trees 16) withdrawal_row withdrawal_key (map withdrawal_in xs)
+meets_all old it xs rows answer read =
+    let db = overlay old.now.trees [] in
+    let stored = keyed_rows (old.now.trees 16) (shape_rules old.now it).1.1.1.1.1.1.1.1.1.1.0 in
+    let source = last_table db 16 whole (λ k. k.0) (all_keyed old.now 16) stored.0 stored.1 (at_end db) in
+    let shown = answer_by_keys all_query db [] source (λ _. true) (λ _. refl) (λ r. r) withdrawal_shown (λ _. refl) refl refl (λ a b. last_key (value_cmp-Int a.0 b.0)) rows answer in
+    let all = sym (map-id rows) ∙ shown ∙ ap (map withdrawal_shown) (unfiltered (all_keyed old.now 16) refl) in
+    let met = subst (λ l. AllZip withdrawal_reads l xs) all read in
+    let fits = typed_rows withdrawal old.now (type_rules old.now it).1.1.1.1.1.1.1.1.1.1.0 in
+    listed_met withdrawal_in withdrawal_reads withdrawal_shown (IsTyped withdrawal.key withdrawal.columns) (old.now.trees 16) (all_keyed old.now 16) xs stored.0 stored.1 fits met withdrawal_key withdrawal_row withdrawal_is

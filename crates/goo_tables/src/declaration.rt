@@ -1,11 +1,12 @@
 //! The statements on `declaration`.
 
-ghost use Rattle.std.specs.Prelude.{slice_get, reverse, ◌≡◌, ◌&&◌, false, map, find, OnOk, option_map};
+ghost use Rattle.std.specs.Prelude.{slice_get, reverse, ◌≡◌, ◌&&◌, false, map, find, IfOk, OnOk, option_map};
 ghost use Rattle.sqlite.specs.State.{HasCleanDisk, KeepsCommit, Survives};
 ghost use Rattle.sqlite.specs.Held.{state};
 ghost use Rattle.sqlite_typed.specs.Tests.{bytes_eq};
-ghost use Rattle.goo_columns.specs.Rows.{Tables, declaration_in};
-ghost use Rattle.goo_columns.specs.Stands.{Sees, Looks};
+ghost use Rattle.goo_columns.specs.Rows.{Tables, declaration_in, declaration_row, declaration_key};
+ghost use Rattle.goo_columns.specs.Stands.{Sees, Looks, Keeps};
+ghost use Rattle.goo_columns.specs.Met.{HasOurTables};
 ghost use Rattle.goo_tables.specs.Changes.{with_declaration, DeclarationFits};
 
 use goo_columns::ask::{ask_all, ask_first};
@@ -66,6 +67,7 @@ pub fn all_declarations<S: Alter>(
     conn: &mut Connection<S>,
 ) -> Result<Vec<DeclarationRow>, Error>
     ensures looks { Looks (state S.Store conn.old) (state S.Store conn.new) result (λ t found. map declaration_in found.items ≡ t.declarations) }
+    ensures met { HasCleanDisk (state S.Store conn.new) → HasOurTables (state S.Store conn.old).now → IfOk result (λ found. Keeps ((state S.Store conn.old).now.trees 6) declaration_row declaration_key (map declaration_in found.items)) }
     ensures outside { conn.old.in_transaction ≡ false → conn.new.in_transaction ≡ false }
 {
     ask_all(

@@ -1,12 +1,13 @@
 //! The statements on `device`.
 
-ghost use Rattle.std.specs.Prelude.{◌≡◌, ◌<◌, ◌^◌, false, map, filter, find, OnOk, option_map};
+ghost use Rattle.std.specs.Prelude.{◌≡◌, ◌<◌, ◌^◌, false, map, filter, find, IfOk, OnOk, option_map};
 ghost use Rattle.sqlite.specs.State.{HasCleanDisk, KeepsCommit, Survives};
 ghost use Rattle.sqlite.specs.Held.{state};
 ghost use Rattle.sqlite_typed.specs.Tests.{bytes_eq};
-ghost use Rattle.goo_columns.specs.Rows.{Tables, device_in};
+ghost use Rattle.goo_columns.specs.Rows.{Tables, device_in, device_row};
 ghost use Rattle.goo_columns.specs.Once.{IsOnce};
 ghost use Rattle.goo_columns.specs.Stands.{Sees, Looks};
+ghost use Rattle.goo_columns.specs.Met.{HasOurTables, KeepsSome};
 ghost use Rattle.goo_tables.specs.Changes.{with_device, with_progress, DeviceFits};
 
 use goo_columns::ask::{ask_all, ask_first};
@@ -95,6 +96,7 @@ pub fn all_devices<S: Alter>(
     conn: &mut Connection<S>,
 ) -> Result<Vec<DeviceRow>, Error>
     ensures looks { Looks (state S.Store conn.old) (state S.Store conn.new) result (λ t found. map device_in found.items ≡ map (λ k. k.1) t.devices) }
+    ensures met { HasCleanDisk (state S.Store conn.new) → HasOurTables (state S.Store conn.old).now → IfOk result (λ found. KeepsSome ((state S.Store conn.old).now.trees 4) device_row (map device_in found.items)) }
     ensures outside { conn.old.in_transaction ≡ false → conn.new.in_transaction ≡ false }
 {
     ask_all(

@@ -1,11 +1,12 @@
 //! The statements on `holder`.
 
-ghost use Rattle.std.specs.Prelude.{◌≡◌, false, map, find, OnOk, option_map};
+ghost use Rattle.std.specs.Prelude.{◌≡◌, false, map, find, IfOk, OnOk, option_map};
 ghost use Rattle.sqlite.specs.State.{HasCleanDisk, KeepsCommit, Survives};
 ghost use Rattle.sqlite.specs.Held.{state};
 ghost use Rattle.sqlite_typed.specs.Tests.{bytes_eq};
-ghost use Rattle.goo_columns.specs.Rows.{Tables, holder_in};
+ghost use Rattle.goo_columns.specs.Rows.{Tables, holder_in, holder_row};
 ghost use Rattle.goo_columns.specs.Stands.{Sees, Looks};
+ghost use Rattle.goo_columns.specs.Met.{HasOurTables, KeepsSome};
 ghost use Rattle.goo_tables.specs.Changes.{with_holder};
 
 use goo_columns::ask::{ask_all, ask_first};
@@ -57,6 +58,7 @@ pub fn all_holders<S: Alter>(
     conn: &mut Connection<S>,
 ) -> Result<Vec<HolderRow>, Error>
     ensures looks { Looks (state S.Store conn.old) (state S.Store conn.new) result (λ t found. map holder_in found.items ≡ map (λ k. k.1) t.holders) }
+    ensures met { HasCleanDisk (state S.Store conn.new) → HasOurTables (state S.Store conn.old).now → IfOk result (λ found. KeepsSome ((state S.Store conn.old).now.trees 1) holder_row (map holder_in found.items)) }
     ensures outside { conn.old.in_transaction ≡ false → conn.new.in_transaction ≡ false }
 {
     ask_all(

@@ -1,12 +1,14 @@
 //! The statements on `lot`.
 
-ghost use Rattle.std.specs.Prelude.{slice_get, reverse, ◌≡◌, ◌&&◌, false, pos, map, find, OnOk, option_map};
+ghost use Rattle.std.specs.Prelude.{slice_get, reverse, ◌≡◌, ◌&&◌, false, pos, map, find, IfOk, OnOk, option_map, ◌<◌, ◌^◌};
 ghost use Rattle.std.specs.Ordering.{int_eq};
 ghost use Rattle.sqlite.specs.State.{HasCleanDisk, KeepsCommit, Survives};
 ghost use Rattle.sqlite.specs.Held.{state};
 ghost use Rattle.sqlite_typed.specs.Tests.{bytes_eq};
-ghost use Rattle.goo_columns.specs.Rows.{Tables, lot_in};
-ghost use Rattle.goo_columns.specs.Stands.{Sees, Looks};
+ghost use Rattle.sqlite_keyed.specs.Keyed.{get_by};
+ghost use Rattle.goo_columns.specs.Rows.{Tables, lot_in, lot_row, lot_key};
+ghost use Rattle.goo_columns.specs.Stands.{Sees, Looks, Keeps};
+ghost use Rattle.goo_columns.specs.Met.{HasOurTables};
 ghost use Rattle.goo_tables.specs.Changes.{with_lot, LotFits};
 
 use goo_columns::ask::{ask_all, ask_first};
@@ -67,9 +69,28 @@ pub fn find_lot<S: Alter>(
     )
 }
 
+/// The lot with this number in the database.
+pub fn find_lot_by_id<S: Alter>(
+    alloc: Global,
+    conn: &mut Connection<S>,
+    id: u64,
+) -> Result<Option<LotRow>, Error>
+    requires { id < 2 ^ 63 }
+    ensures looks { Looks (state S.Store conn.old) (state S.Store conn.new) result (λ t found. option_map lot_in found ≡ get_by lot_key t.lots (pos id)) }
+    ensures outside { conn.old.in_transaction ≡ false → conn.new.in_transaction ≡ false }
+{
+    ask_first(
+        alloc,
+        conn,
+        "SELECT id, origin, device, country, site, tech, source, capacity_w, commissioned, support, first_day, last_day, expires_on, issued_on FROM lot WHERE id = ?1 ORDER BY id",
+        &[number(id)],
+    )
+}
+
 /// All lots, in the order in which they came.
 pub fn all_lots<S: Alter>(alloc: Global, conn: &mut Connection<S>) -> Result<Vec<LotRow>, Error>
     ensures looks { Looks (state S.Store conn.old) (state S.Store conn.new) result (λ t found. map lot_in found.items ≡ t.lots) }
+    ensures met { HasCleanDisk (state S.Store conn.new) → HasOurTables (state S.Store conn.old).now → IfOk result (λ found. Keeps ((state S.Store conn.old).now.trees 8) lot_row lot_key (map lot_in found.items)) }
     ensures outside { conn.old.in_transaction ≡ false → conn.new.in_transaction ≡ false }
 {
     ask_all(
@@ -81,10 +102,7 @@ pub fn all_lots<S: Alter>(alloc: Global, conn: &mut Connection<S>) -> Result<Vec
 }
 
 /// The lot with the highest number.
-pub fn last_lot<S: Alter>(
-    alloc: Global,
-    conn: &mut Connection<S>,
-) -> Result<Option<LotRow>, Error>
+pub fn last_lot<S: Alter>(alloc: Global, conn: &mut Connection<S>) -> Result<Option<LotRow>, Error>
     ensures looks { Looks (state S.Store conn.old) (state S.Store conn.new) result (λ t found. option_map lot_in found ≡ slice_get (reverse t.lots) 0) }
     ensures outside { conn.old.in_transaction ≡ false → conn.new.in_transaction ≡ false }
 {

@@ -1,25 +1,24 @@
 //! The statements on `meta`, which has one row.
 
-ghost use Rattle.std.specs.Prelude.{◌≡◌, false, Some, IsTrue, OnOk, option_map};
+ghost use Rattle.std.specs.Prelude.{◌≡◌, [], ◌∷◌, false, map, Some, IsTrue, IfOk, OnOk, option_map};
 ghost use Rattle.sqlite.specs.State.{HasCleanDisk, KeepsCommit, Survives};
 ghost use Rattle.sqlite.specs.Held.{state};
-ghost use Rattle.goo_columns.specs.Rows.{Tables, meta_in};
-ghost use Rattle.goo_columns.specs.Stands.{Sees, Looks, IsBare};
+ghost use Rattle.goo_columns.specs.Rows.{Tables, meta_in, numbered_in, numbered_key, numbered_row};
+ghost use Rattle.goo_columns.specs.Stands.{Sees, Looks, IsBare, Keeps};
+ghost use Rattle.goo_columns.specs.Met.{HasOurTables};
 ghost use Rattle.goo_tables.specs.Changes.{MetaFits, CountersFit, begun, at_day, with_counters};
 
 use crate::counters::Counters;
-use goo_columns::ask::ask_first;
+use goo_columns::ask::{ask_all, ask_first};
 use goo_columns::meta::MetaRow;
+use goo_columns::numbered_meta::NumberedMeta;
 use goo_columns::put::put;
 use goo_columns::values::{number, small, text};
 use sqlite::{Alter, Connection, Error, Transaction};
 use std::alloc::Global;
 
 /// Adds the row that makes bare tables a registry.
-pub fn insert_meta<S: Alter>(
-    tx: &mut Transaction<'_, S>,
-    meta: &MetaRow,
-) -> Result<usize, Error>
+pub fn insert_meta<S: Alter>(tx: &mut Transaction<'_, S>, meta: &MetaRow) -> Result<usize, Error>
     requires { MetaFits meta.now }
     ensures same_reference { tx.new.conn.ghost_name ≡ tx.old.conn.ghost_name }
     ensures begun { HasCleanDisk (state S.Store tx.new.conn.now) → IsTrue (state S.Store tx.old.conn.now).in_transaction → IsBare (state S.Store tx.old.conn.now).now
@@ -96,5 +95,22 @@ pub fn set_counters<S: Alter>(
             small(counters.next_withdrawal),
             small(counters.next_notice),
         ],
+    )
+}
+
+/// All rows of `meta`, with their numbers: one row with the number 1, where the database is a registry.
+pub fn all_meta<S: Alter>(
+    alloc: Global,
+    conn: &mut Connection<S>,
+) -> Result<Vec<NumberedMeta>, Error>
+    ensures looks { Looks (state S.Store conn.old) (state S.Store conn.new) result (λ t found. map numbered_in found.items ≡ record { id = 1; meta = t.meta } ∷ []) }
+    ensures met { HasCleanDisk (state S.Store conn.new) → HasOurTables (state S.Store conn.old).now → IfOk result (λ found. Keeps ((state S.Store conn.old).now.trees 0) numbered_row numbered_key (map numbered_in found.items)) }
+    ensures outside { conn.old.in_transaction ≡ false → conn.new.in_transaction ≡ false }
+{
+    ask_all(
+        alloc,
+        conn,
+        "SELECT id, version, code, today, next_serial, next_account, next_cancellation, next_withdrawal, next_notice FROM meta ORDER BY id",
+        &[],
     )
 }

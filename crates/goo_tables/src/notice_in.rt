@@ -1,11 +1,12 @@
 //! The statements on `notice_in`.
 
-ghost use Rattle.std.specs.Prelude.{◌≡◌, ◌&&◌, false, pos, map, find, OnOk, option_map};
+ghost use Rattle.std.specs.Prelude.{◌≡◌, ◌&&◌, false, pos, map, find, IfOk, OnOk, option_map};
 ghost use Rattle.std.specs.Ordering.{int_eq};
 ghost use Rattle.sqlite.specs.State.{HasCleanDisk, KeepsCommit, Survives};
 ghost use Rattle.sqlite.specs.Held.{state};
-ghost use Rattle.goo_columns.specs.Rows.{Tables, notice_in_in};
+ghost use Rattle.goo_columns.specs.Rows.{Tables, notice_in_in, notice_in_row};
 ghost use Rattle.goo_columns.specs.Stands.{Sees, Looks};
+ghost use Rattle.goo_columns.specs.Met.{HasOurTables, KeepsSome};
 ghost use Rattle.goo_tables.specs.Changes.{with_notice_in};
 
 use goo_columns::ask::{ask_all, ask_first};
@@ -62,6 +63,7 @@ pub fn all_notices_in<S: Alter>(
     conn: &mut Connection<S>,
 ) -> Result<Vec<NoticeInRow>, Error>
     ensures looks { Looks (state S.Store conn.old) (state S.Store conn.new) result (λ t found. map notice_in_in found.items ≡ map (λ k. k.1) t.notices_in) }
+    ensures met { HasCleanDisk (state S.Store conn.new) → HasOurTables (state S.Store conn.old).now → IfOk result (λ found. KeepsSome ((state S.Store conn.old).now.trees 18) notice_in_row (map notice_in_in found.items)) }
     ensures outside { conn.old.in_transaction ≡ false → conn.new.in_transaction ≡ false }
 {
     ask_all(

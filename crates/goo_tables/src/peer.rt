@@ -1,11 +1,12 @@
 //! The statements on `peer`.
 
-ghost use Rattle.std.specs.Prelude.{◌≡◌, false, pos, map, find, OnOk, option_map};
+ghost use Rattle.std.specs.Prelude.{◌≡◌, false, pos, map, find, IfOk, OnOk, option_map};
 ghost use Rattle.std.specs.Ordering.{int_eq};
 ghost use Rattle.sqlite.specs.State.{HasCleanDisk, KeepsCommit, Survives};
 ghost use Rattle.sqlite.specs.Held.{state};
-ghost use Rattle.goo_columns.specs.Rows.{Tables};
+ghost use Rattle.goo_columns.specs.Rows.{Tables, peer_row};
 ghost use Rattle.goo_columns.specs.Stands.{Sees, Looks};
+ghost use Rattle.goo_columns.specs.Met.{HasOurTables, KeepsSome};
 ghost use Rattle.goo_tables.specs.Changes.{with_peer};
 
 use goo_columns::ask::{ask_all, ask_first};
@@ -51,6 +52,7 @@ pub fn find_peer<S: Alter>(
 /// All peers, in the order in which they came.
 pub fn all_peers<S: Alter>(alloc: Global, conn: &mut Connection<S>) -> Result<Vec<PeerRow>, Error>
     ensures looks { Looks (state S.Store conn.old) (state S.Store conn.new) result (λ t found. found.items ≡ map (λ k. k.1) t.peers) }
+    ensures met { HasCleanDisk (state S.Store conn.new) → HasOurTables (state S.Store conn.old).now → IfOk result (λ found. KeepsSome ((state S.Store conn.old).now.trees 11) peer_row found.items) }
     ensures outside { conn.old.in_transaction ≡ false → conn.new.in_transaction ≡ false }
 {
     ask_all(alloc, conn, "SELECT code FROM peer ORDER BY rowid", &[])

@@ -1,16 +1,20 @@
 //! The statements on `piece`.
 
-ghost use Rattle.std.specs.Prelude.{◌≡◌, ◌<◌, ◌^◌, OnOk};
+ghost use Rattle.std.specs.Prelude.{◌≡◌, ◌<◌, ◌^◌, false, IfOk, OnOk, pos};
 ghost use Rattle.sqlite.specs.State.{HasCleanDisk, KeepsCommit, Survives};
 ghost use Rattle.sqlite.specs.Held.{state};
-ghost use Rattle.goo_columns.specs.Rows.{Tables};
-ghost use Rattle.goo_columns.specs.Stands.{Sees};
+ghost use Rattle.sqlite_keyed.specs.Keyed.{get_by};
+ghost use Rattle.goo_columns.specs.Rows.{Tables, piece_row, piece_key};
+ghost use Rattle.goo_columns.specs.Stands.{Sees, Looks, Keeps};
+ghost use Rattle.goo_columns.specs.Met.{HasOurTables};
 ghost use Rattle.goo_tables.specs.Changes.{with_piece, without_piece, PieceFits};
 
+use goo_columns::ask::{ask_all, ask_first};
 use goo_columns::piece::PieceRow;
 use goo_columns::put::put;
 use goo_columns::values::{number, small};
-use sqlite::{Alter, Error, Transaction};
+use sqlite::{Alter, Connection, Error, Transaction};
+use std::alloc::Global;
 
 /// Adds a piece, whose first number must be that of no other piece.
 pub fn insert_piece<S: Alter>(tx: &mut Transaction<'_, S>, piece: &PieceRow) -> Result<usize, Error>
@@ -45,4 +49,36 @@ pub fn delete_piece<S: Alter>(tx: &mut Transaction<'_, S>, first: u64) -> Result
     ensures survives { Survives (state S.Store tx.old.conn.now) (state S.Store tx.new.conn.now) (λ _. ⊥) }
 {
     put(tx, "DELETE FROM piece WHERE first = ?1", &[number(first)])
+}
+
+/// The piece that begins with this number.
+pub fn find_piece<S: Alter>(
+    alloc: Global,
+    conn: &mut Connection<S>,
+    first: u64,
+) -> Result<Option<PieceRow>, Error>
+    requires { first < 2 ^ 63 }
+    ensures looks { Looks (state S.Store conn.old) (state S.Store conn.new) result (λ t found. found ≡ get_by piece_key t.pieces (pos first)) }
+    ensures outside { conn.old.in_transaction ≡ false → conn.new.in_transaction ≡ false }
+{
+    ask_first(
+        alloc,
+        conn,
+        "SELECT first, last, lot, kind, account, act FROM piece WHERE first = ?1 ORDER BY first",
+        &[number(first)],
+    )
+}
+
+/// All pieces, by their first numbers.
+pub fn all_pieces<S: Alter>(alloc: Global, conn: &mut Connection<S>) -> Result<Vec<PieceRow>, Error>
+    ensures looks { Looks (state S.Store conn.old) (state S.Store conn.new) result (λ t found. found.items ≡ t.pieces) }
+    ensures met { HasCleanDisk (state S.Store conn.new) → HasOurTables (state S.Store conn.old).now → IfOk result (λ found. Keeps ((state S.Store conn.old).now.trees 10) piece_row piece_key found.items) }
+    ensures outside { conn.old.in_transaction ≡ false → conn.new.in_transaction ≡ false }
+{
+    ask_all(
+        alloc,
+        conn,
+        "SELECT first, last, lot, kind, account, act FROM piece ORDER BY first",
+        &[],
+    )
 }

@@ -1,11 +1,12 @@
 //! The statements on `receipt`.
 
-ghost use Rattle.std.specs.Prelude.{◌≡◌, ◌&&◌, false, map, find, OnOk, option_map};
+ghost use Rattle.std.specs.Prelude.{◌≡◌, ◌&&◌, false, map, find, IfOk, OnOk, option_map};
 ghost use Rattle.sqlite.specs.State.{HasCleanDisk, KeepsCommit, Survives};
 ghost use Rattle.sqlite.specs.Held.{state};
 ghost use Rattle.sqlite_typed.specs.Tests.{bytes_eq};
-ghost use Rattle.goo_columns.specs.Rows.{Tables, receipt_in};
+ghost use Rattle.goo_columns.specs.Rows.{Tables, receipt_in, receipt_row};
 ghost use Rattle.goo_columns.specs.Stands.{Sees, Looks};
+ghost use Rattle.goo_columns.specs.Met.{HasOurTables, KeepsSome};
 ghost use Rattle.goo_tables.specs.Changes.{with_receipt, ReceiptFits};
 
 use goo_columns::ask::{ask_all, ask_first};
@@ -67,6 +68,7 @@ pub fn all_receipts<S: Alter>(
     conn: &mut Connection<S>,
 ) -> Result<Vec<ReceiptRow>, Error>
     ensures looks { Looks (state S.Store conn.old) (state S.Store conn.new) result (λ t found. map receipt_in found.items ≡ map (λ k. k.1) t.receipts) }
+    ensures met { HasCleanDisk (state S.Store conn.new) → HasOurTables (state S.Store conn.old).now → IfOk result (λ found. KeepsSome ((state S.Store conn.old).now.trees 13) receipt_row (map receipt_in found.items)) }
     ensures outside { conn.old.in_transaction ≡ false → conn.new.in_transaction ≡ false }
 {
     ask_all(

@@ -1,11 +1,12 @@
 //! The statements on `withdrawal`.
 
-ghost use Rattle.std.specs.Prelude.{◌≡◌, false, pos, map, OnOk, option_map};
+ghost use Rattle.std.specs.Prelude.{◌≡◌, false, pos, map, IfOk, OnOk, option_map};
 ghost use Rattle.sqlite.specs.State.{HasCleanDisk, KeepsCommit, Survives};
 ghost use Rattle.sqlite.specs.Held.{state};
 ghost use Rattle.sqlite_keyed.specs.Keyed.{get_by};
-ghost use Rattle.goo_columns.specs.Rows.{Tables, withdrawal_in, withdrawal_key};
-ghost use Rattle.goo_columns.specs.Stands.{Sees, Looks};
+ghost use Rattle.goo_columns.specs.Rows.{Tables, withdrawal_in, withdrawal_key, withdrawal_row};
+ghost use Rattle.goo_columns.specs.Stands.{Sees, Looks, Keeps};
+ghost use Rattle.goo_columns.specs.Met.{HasOurTables};
 ghost use Rattle.goo_tables.specs.Changes.{with_withdrawal, WithdrawalFits};
 
 use goo_columns::ask::{ask_all, ask_first};
@@ -64,6 +65,7 @@ pub fn all_withdrawals<S: Alter>(
     conn: &mut Connection<S>,
 ) -> Result<Vec<WithdrawalRow>, Error>
     ensures looks { Looks (state S.Store conn.old) (state S.Store conn.new) result (λ t found. map withdrawal_in found.items ≡ t.withdrawals) }
+    ensures met { HasCleanDisk (state S.Store conn.new) → HasOurTables (state S.Store conn.old).now → IfOk result (λ found. Keeps ((state S.Store conn.old).now.trees 16) withdrawal_row withdrawal_key (map withdrawal_in found.items)) }
     ensures outside { conn.old.in_transaction ≡ false → conn.new.in_transaction ≡ false }
 {
     ask_all(

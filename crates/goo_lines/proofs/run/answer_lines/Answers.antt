@@ -1,4 +1,4 @@
-use Rattle.std.proofs.Common.{rules, refl, ◌≡◌, ◌≤◌, ◌++◌, ◌∷◌, Bor, ℕ, List, [], map, length, append_assoc, length-append, arith, IsErrAnd}
+use Rattle.std.proofs.Common.{rules, refl, ◌≡◌, ◌∷◌, Bor, ℕ, List, [], map, append_assoc, length-append, arith, IsErrAnd}
 use Rattle.std.proofs.lemmas.List.{map-append, length-map}
 use Rattle.goo_lines.specs.Lines.{lines_left}
 use Rattle.goo_lines.proofs.AnswerFacts.{lines-bound, none-stand, on-same-err, part-at, stands-next}
@@ -6,10 +6,11 @@ use Rattle.goo_lines.proofs.run.answer_lines.Goals as goal
 
 pub loop-line-init : goal.loop-line-init
 loop-line-init g c = rw c.into_iter-line-iterator.ensures.into_iter_gives (record {
-    order = refl;
-    count = omega arith;
-    lied = λ below. below;
-    answered = λ below. none-stand (g.D.Desk.seen c.args.desk.now).state (g.W.Write.contents c.args.writer.now) })
+  order = refl;
+  count = omega arith;
+  lied = λ below. below;
+  answered = λ below. none-stand (g.D.Desk.seen c.args.desk.now).state (g.W.Write.contents c.args.writer.now);
+})
 
 pub answer_next-requires : goal.answer_next-requires
 answer_next-requires g c =
@@ -30,7 +31,8 @@ loop-line-preserved g c =
       answered = λ below. stands-next (g.D.Desk.seen c.args.desk.now).state (g.D.Desk.seen c.loop-line.desk).state (g.D.Desk.seen c.answer_next.new.desk).state
           (g.W.Write.contents c.args.writer.now) (g.W.Write.contents c.loop-line.writer) (g.W.Write.contents c.answer_next.new.writer)
           done c.in-Some.line.now c.loop-line.tally c.answer_next.new.tally
-          (i.answered (made.lied below)) (made.answered below) })
+          (i.answered (made.lied below)) (made.answered below);
+    })
 
 pub returns-in_err-answer_next-clause-part : goal.returns-in_err-answer_next-clause-part
 returns-in_err-answer_next-clause-part g c =
@@ -39,7 +41,7 @@ returns-in_err-answer_next-clause-part g c =
     let stopped = c.in_err-answer_next.ensures in
     let told : IsErrAnd c.from_residual.result (λ fault. fault ≡ c.in_err-answer_next.field-0.0) = search rules in
     on-same-err c.from_residual.result c.in_err-answer_next.field-0.0 _ told (λ is below. part-at
-        (g.D.Desk.seen c.args.desk.now).state (g.D.Desk.seen c.loop-line.desk).state (g.D.Desk.seen c.answer_next.new.desk).state
-        (g.W.Write.contents c.args.writer.now) (g.W.Write.contents c.loop-line.writer) (g.W.Write.contents c.answer_next.new.writer)
-        c.args.input.now (map (λ (line : Bor (List ℕ)). line.now) c.loop-line.yielded) (lines_left c.next.new.self.0) c.in-Some.line.now c.loop-line.tally
-        order (i.answered (stopped.lied below)) (stopped.stands is below) (stopped.prefix is below))
+    (g.D.Desk.seen c.args.desk.now).state (g.D.Desk.seen c.loop-line.desk).state (g.D.Desk.seen c.answer_next.new.desk).state
+    (g.W.Write.contents c.args.writer.now) (g.W.Write.contents c.loop-line.writer) (g.W.Write.contents c.answer_next.new.writer)
+    c.args.input.now (map (λ (line : Bor (List ℕ)). line.now) c.loop-line.yielded) (lines_left c.next.new.self.0) c.in-Some.line.now c.loop-line.tally
+    order (i.answered (stopped.lied below)) (stopped.stands is below) (stopped.prefix is below))

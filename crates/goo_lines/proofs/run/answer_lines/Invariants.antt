@@ -1,4 +1,4 @@
-use Rattle.std.proofs.Common.{◌≡◌, ◌≤◌, ◌+◌, ◌++◌, ℕ, length, map}
+use Rattle.std.proofs.Common.{◌≡◌, ◌≤◌, ◌+◌, ◌++◌, length, map}
 use Rattle.goo_lines.specs.Lines.{lines_of, lines_left}
 use Rattle.goo_lines.proofs.AnswerFacts.{Stands}
 use Rattle.goo_lines.proofs.run.answer_lines.Given as goal
@@ -9,4 +9,5 @@ invariant-loop-line g l = record {
   count : l.tally.good + l.tally.bad ≤ length l.yielded;
   lied : (g.D.Desk.seen l.desk).lies ≡ 0 → (g.D.Desk.seen l.initial.desk).lies ≡ 0;
   answered : (g.D.Desk.seen l.desk).lies ≡ 0
-      → Stands (g.D.Desk.seen l.initial.desk).state (g.D.Desk.seen l.desk).state (g.W.Write.contents l.initial.writer) (g.W.Write.contents l.writer) (map (λ line. line.now) l.yielded) l.tally }
+      → Stands (g.D.Desk.seen l.initial.desk).state (g.D.Desk.seen l.desk).state (g.W.Write.contents l.initial.writer) (g.W.Write.contents l.writer) (map (λ line. line.now) l.yielded) l.tally;
+}

@@ -1,4 +1,4 @@
-use Rattle.std.proofs.Common.{rules, ◌≡◌, ◌<◌, length, sym}
+use Rattle.std.proofs.Common.{rules, ◌<◌, length}
 use Rattle.goo_lines.proofs.AnswerFacts.{answers-good, answers-bad, writes-part, on-any-err}
 use Rattle.goo_lines.proofs.run.answer_next.Goals as goal
 
@@ -20,6 +20,6 @@ pub returns-in_err-write_line-clause-prefix : goal.returns-in_err-write_line-cla
 returns-in_err-write_line-clause-prefix g c =
     let some : 0 < length c.args.line.now = search rules in
     on-any-err c.from_residual-in_err-write_line.result _ (λ fault is true-below.
-        writes-part (g.D.Desk.seen c.args.desk.now).state (g.D.Desk.seen c.answer_line.new.desk).state c.args.tally.now c.args.line.now c.in_ok-answer.answer
-        (g.W.Write.contents c.args.writer.now) (g.W.Write.contents c.write_line.new.writer) some
-        (c.in_ok-answer.ensures.answer true-below) (c.in_ok-answer.ensures.state true-below) (search rules))
+    writes-part (g.D.Desk.seen c.args.desk.now).state (g.D.Desk.seen c.answer_line.new.desk).state c.args.tally.now c.args.line.now c.in_ok-answer.answer
+    (g.W.Write.contents c.args.writer.now) (g.W.Write.contents c.write_line.new.writer) some
+    (c.in_ok-answer.ensures.answer true-below) (c.in_ok-answer.ensures.state true-below) (search rules))

@@ -1,7 +1,4 @@
-use Rattle.std.proofs.Common.{rules, ◌≡◌, ap, sym, ◌∙◌, subst}
-use Rattle.std.specs.FinMap.{get, contains_key, insert, empty}
-use Rattle.std.specs.Option.{option_copied}
-use Rattle.goo_list.proofs.MapLemmas.{get-map_of, map_of-empty, map_of-unchanged, map_of-insert, map_of-remove}
+use Rattle.goo_list.proofs.MapLemmas.{map_of-empty}
 use Rattle.goo_list.proofs.maps.empty_map.Goals as goal
 
 pub returns : goal.returns

@@ -1,7 +1,6 @@
-use Rattle.std.proofs.Common.{rules, ◌≡◌, ap, sym, ◌∙◌, subst}
+use Rattle.std.proofs.Common.{sym, ◌∙◌, subst}
 use Rattle.std.specs.Prelude.{IsTrue}
-use Rattle.std.specs.FinMap.{insert, contains_key}
-use Rattle.goo_list.specs.Maps.{map_of}
+use Rattle.std.specs.FinMap.{contains_key}
 use Rattle.goo_list.proofs.MapLemmas.{get-map_of, map_of-unchanged, map_of-insert, is_there}
 use Rattle.goo_list.proofs.maps.put.Goals as goal
 

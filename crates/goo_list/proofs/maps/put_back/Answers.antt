@@ -1,7 +1,5 @@
-use Rattle.std.proofs.Common.{rules, ◌≡◌, ap, sym, ◌∙◌, subst}
-use Rattle.std.specs.Prelude.{IsTrue}
+use Rattle.std.proofs.Common.{ap, sym, ◌∙◌}
 use Rattle.std.specs.FinMap.{insert, remove}
-use Rattle.goo_list.specs.Maps.{map_of}
 use Rattle.goo_list.proofs.MapLemmas.{map_of-insert, map_of-remove, put_there, carried_out, taken_back, set_again}
 use Rattle.goo_list.proofs.maps.put_back.Goals as goal
 

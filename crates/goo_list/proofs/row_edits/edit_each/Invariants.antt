@@ -1,7 +1,7 @@
-use Rattle.std.proofs.Common.{◌≡◌, ℕ, ◌+◌, ◌<◌, ◌≤◌, take, drop, length}
+use Rattle.std.proofs.Common.{◌≡◌, ◌+◌, ◌≤◌, drop}
 use Rattle.std.specs.List.Sorted.{IsNonDecreasingBy}
 use Rattle.std.specs.Vec.{vec_len, vec_capacity}
-use Rattle.goo_rows.specs.Rows.{without_each, with_each, edited_all}
+use Rattle.goo_rows.specs.Rows.{edited_all}
 use Rattle.goo_list.specs.Rows.{inserts}
 use Rattle.goo_list.proofs.row_edits.edit_each.Given as goal
 

@@ -1,5 +1,5 @@
-use Rattle.std.proofs.Common.{◌≡◌, ◌+◌, ◌<◌, ◌≤◌, ltb, leb, take, drop, length, true, false, arith, rules, sym, ◌∙◌}
-use Rattle.std.proofs.lemmas.List.Sorted.{IsPartitionPoint-from_clause, IsPartitionedBy-leb, IsPartitionedBy-ltb, IsNonDecreasingBy-insert}
+use Rattle.std.proofs.Common.{◌≡◌, leb, true, false, arith, rules, sym}
+use Rattle.std.proofs.lemmas.List.Sorted.{IsPartitionPoint-from_clause, IsPartitionedBy-leb, IsNonDecreasingBy-insert}
 use Rattle.std.proofs.lemmas.Bool.Decides.{nat_tests}
 use Rattle.std.specs.List.Sorted.{IsPartitionPoint}
 use Rattle.goo_list.proofs.EditLemmas.{with-inserted}
@@ -20,5 +20,5 @@ pub returns-clause-sorted : goal.returns-clause-sorted
 returns-clause-sorted c =
     let at = point c in
     rw (c.insert-put.ensures.items, c.unwrap.ensures) (IsNonDecreasingBy-insert (λ p. p.first) c.args.rows.now.items c.partition_point-index.result c.args.row c.requires.sorted (rw c.deref.ensures.value at c.partition_point-index.ensures.bound)
-        (λ k d lt. let low = at.0 k d (omega arith) lt in grind (arith, nat_tests))
-        (λ k d le lt. let high = at.1 k d le lt in grind (arith, nat_tests)))
+    (λ k d lt. let low = at.0 k d (omega arith) lt in grind (arith, nat_tests))
+    (λ k d le lt. let high = at.1 k d le lt in grind (arith, nat_tests)))

@@ -1,5 +1,5 @@
-use Rattle.std.proofs.Common.{◌≡◌, ◌+◌, ◌<◌, ◌≤◌, ltb, leb, take, drop, length, true, false, arith, rules, sym, ◌∙◌}
-use Rattle.std.proofs.lemmas.List.Sorted.{IsPartitionPoint-from_clause, IsPartitionedBy-leb, IsPartitionedBy-ltb, IsNonDecreasingBy-insert}
+use Rattle.std.proofs.Common.{ltb, arith, rules, sym}
+use Rattle.std.proofs.lemmas.List.Sorted.{IsPartitionPoint-from_clause, IsPartitionedBy-ltb}
 use Rattle.std.proofs.lemmas.Bool.Decides.{nat_tests}
 use Rattle.std.proofs.lemmas.List.{get_or_read}
 use Rattle.goo_list.proofs.EditLemmas.{without-found, without-missed, removed-sorted}
@@ -22,7 +22,7 @@ returns-else-index-len-clause-rows c =
     let parted = IsPartitionedBy-ltb (λ p. p.first) xs c.args.first c.requires.sorted in
     let point = IsPartitionPoint-from_clause (λ p. ltb p.first c.args.first) xs _ (rw c.deref.ensures.value at c.partition_point-index.ensures.partitioned) parted (λ a r q k. search rules) in
     sym (without-missed c.args.first xs c.partition_point-index.result c.requires.sorted point (λ lt d.
-        elim c.else-index-len.branch [
-          else-index-len-via-then-index-len+else-eq w ↦ let read = get_or_read xs c.partition_point-index.result w.index.result.now lt w.index.ensures d in rw (← read) (grind (arith, nat_tests))
-        | else-index-len-via-else-index-len w ↦ absurd (omega arith)
-        ]))
+    elim c.else-index-len.branch [
+      | else-index-len-via-then-index-len+else-eq w ↦ let read = get_or_read xs c.partition_point-index.result w.index.result.now lt w.index.ensures d in rw (← read) (grind (arith, nat_tests))
+      | else-index-len-via-else-index-len w ↦ absurd (omega arith)
+    ]))

@@ -1,12 +1,14 @@
-use Rattle.std.proofs.Common.{◌≡◌, ap, sym, ◌∙◌, subst, refl}
+use Rattle.std.proofs.Common.{◌≡◌, ap, sym, ◌∙◌, subst}
 use Rattle.goo_types.specs.declared.outcome.Outcome.TheVariants.{Accepted}
 use Rattle.goo_spec.specs.Step.{outcome, accept}
 use Rattle.goo_rows.specs.Rows.{edited_all}
 use Rattle.goo_shelf.specs.Plan.{notice_sent}
 use Rattle.goo_list.specs.Rows.{certificates_of}
+use Rattle.goo_spec.specs.Energy.{total}
 use Rattle.goo_list.specs.States.{state_of, beside}
 use Rattle.goo_list.proofs.CertificateLemmas.{certificates-same}
 use Rattle.goo_list.proofs.MapLemmas.{failing}
+use Rattle.goo_list.proofs.SumLemmas.{sums-below}
 use Rattle.goo_list.proofs.list_shelf.ListShelf.carry_out.Goals as goal
 
 pub returns-in_err-make_room-clause-undone : goal.returns-in_err-make_room-clause-undone
@@ -19,6 +21,10 @@ keep-requires-clause-accepted c =
     let s = state_of c.args.self.now in
     let same = ap (λ ps. beside (certificates_of ps) s) c.make_room.ensures.rows in
     subst (λ t. outcome t c.args.plan.now.request ≡ Accepted c.args.plan.now.reply) (sym same) c.requires.accepted
+
+pub keep-requires-clause-sums : goal.keep-requires-clause-sums
+unfolding state_of total
+keep-requires-clause-sums c = sums-below (state_of c.args.self.now) c.args.self.now.rows.pieces c.requires.sound c.requires.before
 
 pub keep-requires-clause-sent : goal.keep-requires-clause-sent
 unfolding state_of
@@ -40,7 +46,7 @@ returns-clause-done c =
     let edits = c.args.plan.now.edits.items in
     let same = ap (λ ps. beside (certificates_of ps) s) c.make_room.ensures.rows in
     let edited : c.edit.new.self.pieces ≡ edited_all edits c.args.self.now.rows.pieces =
-        c.edit.ensures ∙ (λ i. edited_all (c.deref-2.ensures.value i) (c.in_ok-keep.ensures.rows i).pieces) ∙ ap (edited_all edits) c.make_room.ensures.rows
+    c.edit.ensures ∙ (λ i. edited_all (c.deref-2.ensures.value i) (c.in_ok-keep.ensures.rows i).pieces) ∙ ap (edited_all edits) c.make_room.ensures.rows
     in
     (λ i. beside (certificates_of (edited i)) (c.in_ok-keep.ensures.done i))
     ∙ ap (λ t. beside (certificates_of (edited_all edits c.args.self.now.rows.pieces)) (accept t q)) same

@@ -1,5 +1,3 @@
-use Rattle.std.proofs.Common.{◌≡◌, ap, sym, ◌∙◌, rules, None}
-use Rattle.goo_spec.specs.Step.{refusal}
 use Rattle.goo_list.specs.States.{state_of}
 use Rattle.goo_list.proofs.AllowedLemmas.{account_left, cancellation_left, withdrawal_left, notice_left, serials_left, lot_fits}
 use Rattle.goo_list.proofs.list_shelf.ListShelf.change.Goals as goal

@@ -1,9 +1,10 @@
-use Rattle.std.proofs.Common.{◌≡◌, ap, sym, ◌∙◌, subst, Some}
+use Rattle.std.proofs.Common.{ap, sym, ◌∙◌, subst, Some}
 use Rattle.std.specs.Prelude.{IsTrue}
 use Rattle.std.specs.FinMap.{insert, contains_key}
 use Rattle.goo_spec.specs.State.{receipt_cmp}
 use Rattle.goo_spec.specs.Step.{changed}
 use Rattle.goo_list.specs.Maps.{map_of}
+use Rattle.goo_spec.specs.Energy.{total}
 use Rattle.goo_list.specs.States.{state_of, beside}
 use Rattle.goo_list.proofs.ReceiptLemmas.{receipted, allowed-receipted, notice-receipted, change-receipted}
 use Rattle.goo_list.proofs.list_shelf.ListShelf.keep.Goals as goal
@@ -11,6 +12,10 @@ use Rattle.goo_list.proofs.list_shelf.ListShelf.keep.Goals as goal
 pub change-requires-clause-allowed : goal.change-requires-clause-allowed
 unfolding state_of
 change-requires-clause-allowed c = allowed-receipted _ (state_of c.args.self.now) c.args.plan.now.request c.args.plan.now.reply c.requires.accepted
+
+pub change-requires-clause-sums : goal.change-requires-clause-sums
+unfolding state_of total
+change-requires-clause-sums c = c.requires.sums
 
 pub change-requires-clause-sent : goal.change-requires-clause-sent
 unfolding state_of

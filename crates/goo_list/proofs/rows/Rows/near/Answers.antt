@@ -1,13 +1,21 @@
-use Rattle.std.proofs.Common.{rules, arith, ltb, leb, ◌≡◌, ◌+◌, ◌-◌, ◌≤◌, length, length-drop, sym, ◌∙◌, take, drop}
+use Rattle.std.proofs.Common.{rules, arith, ltb, leb, ◌≡◌, ◌+◌, ◌-◌, ◌≤◌, length, length-drop, take, drop}
 use Rattle.std.proofs.lemmas.List.{take_all}
 use Rattle.std.proofs.lemmas.List.Sorted.{IsPartitionPoint-from_clause}
 use Rattle.goo_ranges.proofs.Touching.{partitioned-from, partitioned-to}
 use Rattle.goo_ranges.proofs.Rising.{rising-drop}
+use Rattle.goo_ranges.proofs.Joining.{rising-take}
 use Rattle.goo_list.proofs.NearLemmas.{near-block}
 use Rattle.goo_list.proofs.rows.Rows.near.Goals as goal
 
-pub returns : goal.returns
-returns c =
+pub returns-clause-rising : goal.returns-clause-rising
+returns-clause-rising c =
+    let rest = drop c.partition_point-start.result c.self.inside.pieces.items in
+    let size = length-drop c.partition_point-start.result c.self.inside.pieces.items in
+    let whole = take_all (length c.self.inside.pieces.items - c.partition_point-start.result) rest (omega (arith, size)) in
+    rw (c.deref-2.ensures.value, whole) (rising-take rest c.partition_point-count.result (rising-drop c.self.inside.pieces.items c.partition_point-start.result c.self.invariant))
+
+pub returns-clause-met : goal.returns-clause-met
+returns-clause-met c =
     let ps = c.self.inside.pieces.items in
     let first = c.args.range.first in
     let last = c.args.range.last in

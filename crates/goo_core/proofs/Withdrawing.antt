@@ -1,0 +1,140 @@
+-- Certificates that are withdrawn row by row.
+use Rattle.std.proofs.Common.{◌≡◌, ◌∙◌, ℕ, ◌+◌, ◌<◌, ◌≤◌, List, [], ◌∷◌, ◌++◌, Bool, true, false, cond, ◌&&◌, if◌then◌else◌, Option, Some, None, refl, ap, sym, subst, arith}
+use Rattle.std.specs.Prelude.{not, Vec, Result, Ok, Err, IfOk}
+use Rattle.std.specs.Global.{Global}
+use Rattle.goo_types.specs.declared.fault.Fault.{Fault}
+use Rattle.std.specs.Option.{option_map}
+use Rattle.std.specs.FinMap.{get}
+use Rattle.std.proofs.lemmas.Bool.Decides.{nat_tests}
+use Rattle.goo_types.specs.Piece.{Label, label_of, covers, at_of, IsRising, IsRisingFrom}
+use Rattle.goo_types.specs.Place.{account_of}
+use Rattle.goo_types.specs.Range.{Numbers}
+use Rattle.goo_types.specs.declared.piece.Piece.{Piece}
+use Rattle.goo_types.specs.declared.place.Place.{Place}
+use Rattle.goo_types.specs.declared.place.Place.TheVariants.{Withdrawn}
+use Rattle.goo_ranges.specs.Change.{inside, moved}
+use Rattle.goo_ranges.specs.Edit.{IsExact}
+use Rattle.goo_ranges.specs.declared.edits.Edit.{Edit}
+use Rattle.goo_spec.specs.Runs.{IsApart}
+use Rattle.goo_rows.specs.Plans.{IsEditWithin, AreEditsWithin}
+use Rattle.goo_rows.specs.Rows.{edited, edited_all}
+use Rattle.goo_rows.proofs.Chains.{within-of_book, within-push, edited-exact, edited_all-push}
+use Rattle.goo_rows.proofs.Framing.{absent-alike, failing-alike}
+use Rattle.goo_rows.proofs.Mapping.{get-place_each-range}
+use Rattle.goo_rows.specs.Rows.{AreRowsOf, meeting}
+use Rattle.goo_types.specs.declared.command.Withdraw.{Withdraw}
+use Rattle.goo_types.specs.declared.refusal.Refusal.TheVariants.{NotAllowed}
+use Rattle.goo_types.specs.declared.reply.Reply.TheVariants as reply
+use Rattle.goo_spec.specs.Checks.{first_refusal, when, is_issuer}
+use Rattle.goo_spec.specs.Lots.{is_held}
+use Rattle.goo_spec.specs.Maps.{count_of}
+use Rattle.goo_spec.specs.State.{State}
+use Rattle.goo_spec.specs.Withdraw.{withdraw_refusal, withdraw_reply, with_withdrawal}
+use Rattle.goo_spec.proofs.Placing.{replaced}
+use Rattle.goo_core.specs.Moves.{IsChangeRuling}
+use Rattle.goo_core.specs.Ruling.{IsRuling, plain_meaning}
+use Rattle.goo_core.specs.declared.ruling.Ruling.{Ruling}
+use Rattle.goo_core.proofs.Rulings.{ruled_change}
+use Rattle.goo_core.specs.Changes.{AreMade, AreEditsFor}
+use Rattle.goo_core.specs.Withdraw.{withdrawn, row_withdrawn, rows_withdrawn, range_checks, AreCommon}
+
+common_none : (row : Piece) (range : Numbers) (n : ℕ) → AreCommon row range None → (covers row n && inside range.first range.last n) ≡ false
+common_none row range n apart = grind (arith, nat_tests)
+
+common_inside : (row : Piece) (range part : Numbers) (n : ℕ) → AreCommon row range (Some part) → inside part.first part.last n ≡ (covers row n && inside range.first range.last n)
+common_inside row range part n common = rw (common.0, common.1) (grind (arith, nat_tests))
+
+-- no part of the row lies in the range
+pub none_made : (range : Numbers) (met : List Piece) (change : ℕ → Option Label → Option Label) (book : List Piece) (edits : List Edit) (row : Piece) (act : ℕ) → AreCommon row range None
+    → AreMade range met change book edits → AreMade range met (λ n o. row_withdrawn range act row n (change n o)) book edits
+none_made range met change book edits row act apart made = record {
+  within = made.within;
+  book_is = made.book_is;
+  changes = λ n. made.changes n ∙ sym (ap (λ (b : Bool). if b then option_map (λ (label : Label). (label.0, Withdrawn (account_of row.place) act)) (change n (at_of met n)) else change n (at_of met n)) (common_none row range n apart));
+}
+
+module _ (range part : Numbers) (row : Piece) (act : ℕ) (common : AreCommon row range (Some part)) where
+  abbrev place : Place
+  place = Withdrawn (account_of row.place) act
+
+  beyond : (n : ℕ) (o : Option Label) → inside range.first range.last n ≡ false → moved part.first part.last place n o ≡ o
+  beyond n o out =
+      let none : inside part.first part.last n ≡ false = common_inside row range part n common ∙ ap (λ b. covers row n && b) out ∙ elim (covers row n) as (λ b. (b && false) ≡ false) [ true ↦ refl | false ↦ refl ] in
+      ap (λ (b : Bool). if b then option_map (λ (label : Label). (label.0, place)) o else o) none
+
+  -- the part of the row that lies in the range, withdrawn by one edit
+  pub part_made : (met : List Piece) (change : ℕ → Option Label → Option Label) (old new : List Piece) (es edits : List Edit) (edit : Edit) → edits ≡ es ++ edit ∷ []
+      → IsExact old new edit → IsRising old → IsRising new → (IsApart old → IsApart new) → ((n : ℕ) → at_of new n ≡ moved part.first part.last place n (at_of old n))
+      → AreMade range met change old es → AreMade range met (λ n o. row_withdrawn range act row n (change n o)) new edits
+  part_made met change old new es edits edit are exact was now apart map made =
+      let one : IsEditWithin range (edited_all es met) edit = subst (λ b. IsEditWithin range b edit) made.book_is (within-of_book range old new edit (moved part.first part.last place) exact was now apart beyond map) in
+      record {
+        within = subst (AreEditsWithin range met) (sym are) (within-push range met es edit made.within one);
+        book_is = sym (edited-exact old new edit exact was now) ∙ ap (edited edit) made.book_is ∙ sym (edited_all-push met es edit) ∙ ap (λ l. edited_all l met) (sym are);
+        changes = λ n. map n
+            ∙ ap (λ (b : Bool). if b then option_map (λ (label : Label). (label.0, place)) (at_of old n) else at_of old n) (common_inside row range part n common)
+            ∙ ap (row_withdrawn range act row n) (made.changes n);
+      }
+
+-- one row more
+pub rows_withdrawn_push : (range : Numbers) (act : ℕ) (ps : List Piece) (p : Piece) (n : ℕ) (o : Option Label) → rows_withdrawn range act (ps ++ p ∷ []) n o ≡ row_withdrawn range act p n (rows_withdrawn range act ps n o)
+rows_withdrawn_push range act [] p n o = refl
+rows_withdrawn_push range act (q ∷ ps) p n o = rows_withdrawn_push range act ps p n (row_withdrawn range act q n o)
+
+-- a number below the rows stays
+untouched : (range : Numbers) (act low : ℕ) (ps : List Piece) (n : ℕ) (o : Option Label) → IsRisingFrom low ps → n < low → rows_withdrawn range act ps n o ≡ o
+untouched range act low [] n o r below = refl
+untouched range act low (p ∷ ps) n o r below =
+    let out : (covers p n && inside range.first range.last n) ≡ false = grind (arith, nat_tests, r.0) in
+    ap (rows_withdrawn range act ps n) (ap (λ (b : Bool). if b then option_map (λ (label : Label). (label.0, Withdrawn (account_of p.place) act)) o else o) out)
+    ∙ untouched range act (p.last + 1) ps n o r.2 (omega (arith, r.0, r.1.0))
+
+-- row by row each number of the range is withdrawn
+pub all_withdrawn : (range : Numbers) (act low : ℕ) (ps : List Piece) (n : ℕ) → IsRisingFrom low ps → rows_withdrawn range act ps n (at_of ps n) ≡ withdrawn range act n (at_of ps n)
+all_withdrawn range act low [] n r =
+    let none : Option Label = None in
+    elim (inside range.first range.last n) as (λ b. none ≡ (if b then option_map (λ (label : Label). (label.0, Withdrawn (account_of label.1) act)) none else none)) [ true ↦ refl | false ↦ refl ]
+all_withdrawn range act low (p ∷ ps) n r =
+    elim (covers p n) as (λ b. covers p n ≡ b → rows_withdrawn range act ps n (if b && inside range.first range.last n then option_map (λ (label : Label). (label.0, Withdrawn (account_of p.place) act)) (if b then Some (label_of p) else at_of ps n) else (if b then Some (label_of p) else at_of ps n))
+    ≡ withdrawn range act n (if b then Some (label_of p) else at_of ps n)) [
+      | true ↦ λ here. untouched range act (p.last + 1) ps n (withdrawn range act n (Some (label_of p))) r.2 (grind (arith, nat_tests, here))
+      | false ↦ λ here. all_withdrawn range act (p.last + 1) ps n r.2
+    ] refl
+
+-- the edits, row by row, are those of the whole range
+pub withdrawn_edits : (range : Numbers) (act : ℕ) (rows book new : List Piece) (edits : List Edit) → IsRising rows → rows ≡ book → AreMade range book (rows_withdrawn range act rows) new edits → AreEditsFor range book (withdrawn range act) edits
+withdrawn_edits range act rows book new edits rising same made = record {
+  within = made.within;
+  changes = λ n. ap (λ l. at_of l n) (sym made.book_is) ∙ made.changes n ∙ ap (λ l. rows_withdrawn range act l n (at_of book n)) same ∙ all_withdrawn range act 0 book n (subst IsRising same rising);
+}
+
+-- a withdrawal as the definitions say it
+same_withdrawn : (act : ℕ) (b : Bool) (o : Option Label) → cond b (replaced (λ lot place. Withdrawn (account_of place) act) o) o ≡ (if b then option_map (λ (label : Label). (label.0, Withdrawn (account_of label.1) act)) o else o)
+same_withdrawn act true None = refl
+same_withdrawn act true (Some label) = refl
+same_withdrawn act false o = refl
+
+pub ruled_withdraw : (s : State) (rows met : List Piece) (caller : List ℕ) (x : Withdraw) (next : ℕ) (ruling : Ruling) → AreRowsOf s.at rows
+    → is_issuer caller ≡ true → next ≡ s.next_withdrawal → met ≡ meeting x.range rows
+    → IsChangeRuling (first_refusal (range_checks (at_of met) next x)) (reply.Withdrawn next (count_of x.range)) None x.range (withdrawn x.range next) met ruling
+    → IsRuling (plain_meaning (withdraw_refusal s caller x) (withdraw_reply s x) (with_withdrawal s x).at) rows ruling
+unfolding withdraw_refusal withdraw_reply with_withdrawal
+ruled_withdraw s rows met caller x next ruling kept issuer number is ruled =
+    let act = s.next_withdrawal in
+    let here : IsChangeRuling (first_refusal (range_checks (at_of met) act x)) (reply.Withdrawn act (count_of x.range)) None x.range (withdrawn x.range act) met ruling
+    = subst (λ (k : ℕ). IsChangeRuling (first_refusal (range_checks (at_of met) k x)) (reply.Withdrawn k (count_of x.range)) None x.range (withdrawn x.range k) met ruling) number ruled in
+    let alike : first_refusal (range_checks (get s.at) act x) ≡ first_refusal (range_checks (at_of met) act x) =
+    rw (is, ← absent-alike s.at rows x.range kept, ← failing-alike (λ lot place. is_held place) s.at rows x.range kept) refl in
+    let issued : first_refusal (when (not (is_issuer caller)) NotAllowed ∷ range_checks (get s.at) act x) ≡ first_refusal (range_checks (get s.at) act x) =
+    ap (λ b. first_refusal (when (not b) NotAllowed ∷ range_checks (get s.at) act x)) issuer in
+    ruled_change (plain_meaning (withdraw_refusal s caller x) (withdraw_reply s x) (with_withdrawal s x).at) s.at rows met (first_refusal (range_checks (at_of met) act x)) x.range (withdrawn x.range act) ruling kept is refl
+    (issued ∙ alike)
+    (λ n o out. ap (λ (b : Bool). if b then option_map (λ (label : Label). (label.0, Withdrawn (account_of label.1) act)) o else o) out)
+    (λ up n. get-place_each-range (λ lot place. Withdrawn (account_of place) act) (λ lot place. refl) x.range s.at n up ∙ same_withdrawn act (inside x.range.first x.range.last n) (get s.at n))
+    here
+
+pub withdrawn_edits_if : (range : Numbers) (act : ℕ) (rows book new : List Piece) (result : Result (Vec Edit Global) Fault) → range.first ≤ range.last → IsRising rows → rows ≡ book
+    → IfOk result (λ edits. AreMade range book (rows_withdrawn range act rows) new edits.items)
+    → IfOk result (λ edits. (range.first ≤ range.last) × AreEditsFor range book (withdrawn range act) edits.items)
+withdrawn_edits_if range act rows book new (Ok edits) up rising same made = (up, withdrawn_edits range act rows book new edits.items rising same made)
+withdrawn_edits_if range act rows book new (Err e) up rising same made = tt

@@ -1,0 +1,47 @@
+-- The edits that take in what a notice brings.
+use Rattle.std.specs.Prelude.{◌≡◌, ℕ, ◌≤◌, List, [], ◌∷◌, Option, Some, None, Vec}
+use Rattle.std.specs.Global.{Global}
+use Rattle.goo_types.specs.Piece.{at_of}
+use Rattle.goo_types.specs.declared.piece.Piece.{Piece}
+use Rattle.goo_types.specs.declared.place.Place.TheVariants.{Held}
+use Rattle.goo_ranges.specs.Change.{set_to}
+use Rattle.goo_ranges.specs.declared.edits.Edit.{Edit}
+use Rattle.goo_rows.specs.Plans.{AreEditsOf, IsEditWithin}
+use Rattle.goo_rows.specs.Rows.{meeting, edited, edited_all}
+use Rattle.goo_types.specs.declared.reply.Reply.TheVariants.{Imported}
+use Rattle.goo_spec.specs.Checks.{first_refusal}
+use Rattle.goo_core.specs.Import.{given, numbers_checks}
+use Rattle.goo_core.specs.declared.ruling.Ruling.{Ruling}
+use Rattle.goo_core.specs.declared.ruling.Ruling.TheVariants.{Refused, Repeated, Passed}
+use Rattle.goo_core.specs.declared.arriving.Arriving.{Arriving}
+
+-- each part's book has the rows that its range meets
+abbrev pub AreMet : List Piece → List Arriving → Type 0
+AreMet rows [] = Unit {0}
+AreMet rows (a ∷ more) = (a.book ≡ meeting a.part.range rows) × AreMet rows more
+
+-- an edit of the rows near a part as the edits before left them, which gives its numbers the lot and the account
+pub record IsPartEdit (rows : List Piece) (es : List Edit) (a : Arriving) (account : ℕ) (e : Edit) : Type 0 where
+  pub forward : a.part.range.first ≤ a.part.range.last
+  pub within : IsEditWithin a.part.range (meeting a.part.range (edited_all es rows)) e
+  pub changes : (n : ℕ) → at_of (edited e (meeting a.part.range (edited_all es rows))) n ≡ set_to a.part.range.first a.part.range.last (a.part.lot, Held account) n (at_of (meeting a.part.range (edited_all es rows)) n)
+
+abbrev pub IsStepOf : List Piece → List Edit → Arriving → ℕ → Option Edit → Type 0
+IsStepOf rows es a account None = ⊥
+IsStepOf rows es a account (Some e) = IsPartEdit rows es a account e
+
+-- edits of the rows that give all parts' numbers their lots and the account
+pub record AreTaken (rows : List Piece) (arriving : List Arriving) (account : ℕ) (es : List Edit) : Type 0 where
+  pub edits : AreEditsOf rows es
+  pub changes : (n : ℕ) → at_of (edited_all es rows) n ≡ given arriving account n (at_of rows n)
+
+abbrev pub IsTaking : List Piece → List Arriving → ℕ → Option (Vec Edit Global) → Type 0
+IsTaking rows arriving account None = ⊥
+IsTaking rows arriving account (Some es) = AreTaken rows arriving account es.items
+
+-- what taking in the certificates comes to
+abbrev pub IsTakeRuling : List Piece → List Arriving → ℕ → ℕ → ℕ → Ruling → Type 0
+IsTakeRuling rows arriving own account count (Refused refusal) = first_refusal (numbers_checks own arriving) ≡ Some refusal
+IsTakeRuling rows arriving own account count (Repeated kept) = ⊥
+IsTakeRuling rows arriving own account count (Passed change) =
+    (first_refusal (numbers_checks own arriving) ≡ None) × (change.reply ≡ Imported count) × (change.notice ≡ None) × AreTaken rows arriving account change.edits.items

@@ -1,0 +1,130 @@
+ghost use Rattle.std.specs.Prelude.{◌≡◌, None};
+ghost use Rattle.std.specs.FinMap.{get};
+ghost use Rattle.goo_spec.specs.Sound.{IsSound};
+ghost use Rattle.goo_rows.specs.Rows.{AreRowsOf};
+ghost use Rattle.goo_shelf.specs.Shelf.{Looks, IsReady};
+ghost use Rattle.goo_core.specs.Decision.{IsDecision, IsQuietRuling};
+ghost use Rattle.goo_core.specs.Ruling.{IsRuling, meaning_of};
+
+use crate::add_peer::judge_add_peer;
+use crate::advance::judge_advance;
+use crate::cancel::judge_cancel;
+use crate::close_account::judge_close_account;
+use crate::declare::judge_declare;
+use crate::export::judge_export;
+use crate::import::judge_import;
+use crate::open_account::judge_open_account;
+use crate::open_holder::judge_open_holder;
+use crate::register_device::judge_register_device;
+use crate::ruling::{Change, Ruling};
+use crate::transfer::judge_transfer;
+use crate::verdict::Verdict;
+use crate::withdraw::judge_withdraw;
+use goo_shelf::found::Receipt;
+use goo_shelf::plan::Plan;
+use goo_shelf::shelf::Shelf;
+use goo_types::command::Command;
+use goo_types::fault::Fault;
+use goo_types::holder_code::HolderCode;
+use goo_types::refusal::Refusal;
+use goo_types::reply::Reply;
+use goo_types::request::Request;
+use std::alloc::Global;
+
+/// What a request comes to.
+#[derive(Drop)]
+pub enum Decision {
+    /// It isn't carried out.
+    Refused(Refusal),
+    /// It was carried out before, with this reply.
+    Repeated(Reply),
+    /// It may be carried out by committing the plan, and is then answered with the reply.
+    Accept(Plan, Reply),
+}
+
+/// What a command comes to that leaves the rows as they are.
+fn quiet(alloc: Global, verdict: Verdict) -> Ruling
+    ensures { IsQuietRuling verdict result }
+{
+    match verdict {
+        Verdict::Fails(refusal) => Ruling::Refused(refusal),
+        Verdict::Passes(reply) => Ruling::Passed(Change {
+            reply,
+            edits: Vec::new(alloc),
+            notice: None,
+        }),
+    }
+}
+
+/// What a command comes to, by its judge.
+fn judge<S: Shelf>(
+    alloc: Global,
+    shelf: &mut S,
+    caller: &HolderCode,
+    command: &Command,
+) -> Result<Ruling, Fault>
+    requires ready { IsReady (S.seen shelf.old) }
+    requires sound { (S.seen shelf.old).doubts ≡ 0 → IsSound (S.seen shelf.old).state }
+    requires rows { (S.seen shelf.old).doubts ≡ 0 → AreRowsOf (S.seen shelf.old).state.at (S.seen shelf.old).rows }
+    ensures { Looks (S.seen shelf.old) (S.seen shelf.new) result (IsRuling (meaning_of (S.seen shelf.old).state caller.now command.now) (S.seen shelf.old).rows) }
+{
+    match command {
+        Command::OpenHolder(x) => Ok(quiet(alloc, judge_open_holder(shelf, caller, x)?)),
+        Command::OpenAccount(x) => Ok(quiet(alloc, judge_open_account(shelf, caller, x)?)),
+        Command::CloseAccount(x) => Ok(quiet(alloc, judge_close_account(alloc, shelf, caller, x)?)),
+        Command::RegisterDevice(x) => Ok(quiet(alloc, judge_register_device(shelf, caller, x)?)),
+        Command::Declare(x) => judge_declare(alloc, shelf, caller, x),
+        Command::Transfer(x) => judge_transfer(alloc, shelf, caller, x),
+        Command::Cancel(x) => judge_cancel(alloc, shelf, caller, x),
+        Command::Withdraw(x) => judge_withdraw(alloc, shelf, caller, x),
+        Command::Advance(x) => judge_advance(alloc, shelf, caller, x),
+        Command::AddPeer(x) => Ok(quiet(alloc, judge_add_peer(shelf, caller, x)?)),
+        Command::Export(x) => judge_export(alloc, shelf, caller, x),
+        Command::Import(x) => judge_import(alloc, shelf, caller, x),
+    }
+}
+
+/// What a request comes to whose key isn't kept.
+fn decide_fresh<S: Shelf>(
+    alloc: Global,
+    shelf: &mut S,
+    request: &Request,
+) -> Result<Decision, Fault>
+    requires ready { IsReady (S.seen shelf.old) }
+    requires sound { (S.seen shelf.old).doubts ≡ 0 → IsSound (S.seen shelf.old).state }
+    requires rows { (S.seen shelf.old).doubts ≡ 0 → AreRowsOf (S.seen shelf.old).state.at (S.seen shelf.old).rows }
+    requires fresh { (S.seen shelf.old).doubts ≡ 0 → get (S.seen shelf.old).state.receipts (request.now.caller, request.now.key) ≡ None }
+    ensures { Looks (S.seen shelf.old) (S.seen shelf.new) result (IsDecision (S.seen shelf.old).state (S.seen shelf.old).rows request.now) }
+{
+    match judge(alloc, shelf, &request.caller, &request.command)? {
+        Ruling::Refused(refusal) => Ok(Decision::Refused(refusal)),
+        Ruling::Repeated(reply) => Ok(Decision::Repeated(reply)),
+        Ruling::Passed(change) => {
+            let reply = change.reply;
+            let plan = Plan {
+                request: request.copy(alloc)?,
+                reply,
+                edits: change.edits,
+                notice: change.notice,
+            };
+            Ok(Decision::Accept(plan, reply))
+        }
+    }
+}
+
+/// What a request comes to here. It changes nothing: an accepted one is carried out by committing
+/// its plan. A key that is kept answers first, then the command's checks in their order.
+///
+/// A fault takes the place of any answer: `Store` as the shelf tells it, `Memory` where an
+/// allocation was refused. State and rows stay as they are.
+pub fn decide<S: Shelf>(alloc: Global, shelf: &mut S, request: &Request) -> Result<Decision, Fault>
+    requires sound { (S.seen shelf.old).doubts ≡ 0 → IsSound (S.seen shelf.old).state }
+    requires rows { (S.seen shelf.old).doubts ≡ 0 → AreRowsOf (S.seen shelf.old).state.at (S.seen shelf.old).rows }
+    ensures { Looks (S.seen shelf.old) (S.seen shelf.new) result (IsDecision (S.seen shelf.old).state (S.seen shelf.old).rows request.now) }
+{
+    match shelf.receipt(alloc, &request.caller, &request.key, &request.command)? {
+        Receipt::Same(reply) => Ok(Decision::Repeated(reply)),
+        Receipt::Other => Ok(Decision::Refused(Refusal::KeyReused)),
+        Receipt::Absent => decide_fresh(alloc, shelf, request),
+    }
+}

@@ -1,0 +1,207 @@
+ghost use Rattle.std.specs.Prelude.{◌≡◌, ◌≤◌, ◌<◌, List, [], ◌∷◌, ◌++◌, length, sum_by, None, IfOk, IfErr, OnOk};
+ghost use Rattle.goo_types.specs.Piece.{IsRising};
+ghost use Rattle.goo_types.specs.Notice.{IsWhole};
+ghost use Rattle.goo_types.specs.declared.fault.Fault.TheVariants.{Memory};
+ghost use Rattle.goo_types.specs.declared.piece.Piece.{Piece as Row};
+ghost use Rattle.goo_spec.specs.Checks.{first_refusal};
+ghost use Rattle.goo_spec.specs.Import.{entry_checks};
+ghost use Rattle.goo_spec.specs.Maps.{count_of};
+ghost use Rattle.goo_rows.specs.Rows.{AreRowsOf};
+ghost use Rattle.goo_shelf.specs.Shelf.{Looks, IsReady};
+ghost use Rattle.goo_core.specs.Import.{IsArriving, AreArriving, standing_checks, fresh_meaning, import_meaning};
+ghost use Rattle.goo_core.specs.Taking.{IsTakeRuling, AreMet};
+ghost use Rattle.goo_core.specs.Ruling.{IsRuling};
+
+use crate::arriving::{Arriving, is_stale, numbers_refusal};
+use crate::callers::is_issuer;
+use crate::ruling::{Change, Ruling};
+use crate::taking::take_parts;
+use goo_ranges::Book;
+use goo_shelf::found::Arrival;
+use goo_shelf::shelf::Shelf;
+use goo_types::account_no::AccountNo;
+use goo_types::command::Import;
+use goo_types::fault::Fault;
+use goo_types::holder_code::HolderCode;
+use goo_types::part::Part;
+use goo_types::refusal::Refusal;
+use goo_types::registry_code::RegistryCode;
+use goo_types::reply::Reply;
+use std::alloc::{AllocError, Global};
+
+/// The checks of an import before that for the same notice.
+fn entry_refusal<S: Shelf>(
+    shelf: &mut S,
+    caller: &HolderCode,
+    import: &Import,
+) -> Result<Option<Refusal>, Fault>
+    requires { IsReady (S.seen shelf.old) }
+    ensures { Looks (S.seen shelf.old) (S.seen shelf.new) result (λ refusal. refusal ≡ first_refusal (entry_checks (S.seen shelf.old).state caller.now import.now)) }
+{
+    if !is_issuer(caller) {
+        return Ok(Some(Refusal::NotAllowed));
+    }
+    if import.notice.addressee() != shelf.code()? {
+        return Ok(Some(Refusal::WrongRegistry));
+    }
+    if !shelf.peer(import.notice.sender())? {
+        return Ok(Some(Refusal::UnknownPeer));
+    }
+    Ok(None)
+}
+
+/// The checks of the account that is to hold the certificates, and of their age.
+fn standing_refusal<S: Shelf>(shelf: &mut S, import: &Import) -> Result<Option<Refusal>, Fault>
+    ensures { Looks (S.seen shelf.old) (S.seen shelf.new) result (λ refusal. refusal ≡ first_refusal (standing_checks (S.seen shelf.old).state import.now)) }
+{
+    let Some(account) = shelf.account(import.notice.account())? else {
+        return Ok(Some(Refusal::UnknownAccount));
+    };
+    if account.is_closed() {
+        return Ok(Some(Refusal::AccountClosed));
+    }
+    let today = shelf.today()?;
+    if is_stale(import.notice.parts(), today) {
+        return Ok(Some(Refusal::Stale));
+    }
+    Ok(None)
+}
+
+/// What is known of a part.
+fn arrive<S: Shelf>(alloc: Global, shelf: &mut S, part: &Part) -> Result<Arriving, Fault>
+    ensures { Looks (S.seen shelf.old) (S.seen shelf.new) result (IsArriving (S.seen shelf.old).state (S.seen shelf.old).rows part.now) }
+{
+    let lot = part.lot;
+    let known = shelf.lot(lot.origin(), &lot.device(), lot.first_day())?;
+    let rows = shelf.meeting(alloc, part.range)?;
+    Ok(Arriving {
+        part: *part,
+        book: Book::of_rows(rows),
+        known,
+    })
+}
+
+/// Puts one more part behind others.
+fn push_arriving(arriving: &mut Vec<Arriving>, part: Arriving) -> Result<(), AllocError>
+    ensures { OnOk result (arriving.new.items ≡ arriving.old.items ++ part ∷ []) }
+{
+    arriving.push(part)?;
+    Ok(())
+}
+
+/// What is known of the parts of a notice.
+fn arrive_all<S: Shelf>(
+    alloc: Global,
+    shelf: &mut S,
+    parts: &[Part],
+) -> Result<Vec<Arriving>, Fault>
+    requires { IsReady (S.seen shelf.old) }
+    ensures { Looks (S.seen shelf.old) (S.seen shelf.new) result (λ arriving. AreArriving (S.seen shelf.old).state (S.seen shelf.old).rows parts.now arriving.items) }
+{
+    let mut arriving = Vec::new(alloc);
+    for part in parts {
+        let found = arrive(alloc, shelf, part)?;
+        push_arriving(&mut arriving, found)?;
+    }
+    Ok(arriving)
+}
+
+/// How many certificates a part has.
+fn count_in(part: &Part) -> u64
+    ensures value { result ≡ count_of part.now.range }
+    ensures limit { result ≤ 100_000_000_000_000 }
+{
+    let _first = part.range.first().get();
+    let _last = part.range.last().get();
+    part.range.len()
+}
+
+/// How many certificates some parts have.
+fn count_in_all(parts: &[Part]) -> u64
+    requires { length parts.now ≤ 100 }
+    ensures { result ≡ sum_by (λ p. count_of p.range) parts.now }
+{
+    let mut count = 0;
+    for part in parts {
+        count += count_in(part);
+    }
+    count
+}
+
+/// What taking in a notice's certificates comes to. That the rows make no book is told as a conflict:
+/// those of a shelf always do.
+fn take_in(
+    alloc: Global,
+    arriving: &[Arriving],
+    own: RegistryCode,
+    account: AccountNo,
+    count: u64,
+) -> Result<Ruling, Fault>
+    ensures ruling { (rows : List Row) → IsRising rows → AreMet rows arriving.now → IfOk result (IsTakeRuling rows arriving.now own account count) }
+    ensures memory { IfErr result (λ fault. fault ≡ Memory) }
+{
+    if let Some(refusal) = numbers_refusal(own, arriving) {
+        return Ok(Ruling::Refused(refusal));
+    }
+    match take_parts(alloc, arriving, account)? {
+        Some(edits) => Ok(Ruling::Passed(Change {
+            reply: Reply::Imported { count },
+            edits,
+            notice: None,
+        })),
+        None => Ok(Ruling::Refused(Refusal::NoticeConflict)),
+    }
+}
+
+/// What an import comes to whose notice is new, once its account may hold.
+fn import_certificates<S: Shelf>(
+    alloc: Global,
+    shelf: &mut S,
+    import: &Import,
+) -> Result<Ruling, Fault>
+    requires ready { IsReady (S.seen shelf.old) }
+    requires rows { (S.seen shelf.old).doubts ≡ 0 → AreRowsOf (S.seen shelf.old).state.at (S.seen shelf.old).rows }
+    ensures { Looks (S.seen shelf.old) (S.seen shelf.new) result (λ ruling. first_refusal (standing_checks (S.seen shelf.old).state import.now) ≡ None → IsRuling (fresh_meaning (S.seen shelf.old).state import.now) (S.seen shelf.old).rows ruling) }
+{
+    let notice = &import.notice;
+    let parts = notice.parts();
+    let count = count_in_all(parts);
+    let account = notice.account();
+    let arriving = arrive_all(alloc, shelf, parts)?;
+    let own = shelf.code()?;
+    take_in(alloc, &arriving, own, account, count)
+}
+
+/// What an import comes to whose notice is new.
+fn judge_fresh<S: Shelf>(alloc: Global, shelf: &mut S, import: &Import) -> Result<Ruling, Fault>
+    requires { (S.seen shelf.old).doubts ≡ 0 → AreRowsOf (S.seen shelf.old).state.at (S.seen shelf.old).rows }
+    ensures { Looks (S.seen shelf.old) (S.seen shelf.new) result (IsRuling (fresh_meaning (S.seen shelf.old).state import.now) (S.seen shelf.old).rows) }
+{
+    if let Some(refusal) = standing_refusal(shelf, import)? {
+        return Ok(Ruling::Refused(refusal));
+    }
+    import_certificates(alloc, shelf, import)
+}
+
+/// What an import comes to.
+pub fn judge_import<S: Shelf>(
+    alloc: Global,
+    shelf: &mut S,
+    caller: &HolderCode,
+    import: &Import,
+) -> Result<Ruling, Fault>
+    requires ready { IsReady (S.seen shelf.old) }
+    requires rows { (S.seen shelf.old).doubts ≡ 0 → AreRowsOf (S.seen shelf.old).state.at (S.seen shelf.old).rows }
+    ensures { Looks (S.seen shelf.old) (S.seen shelf.new) result (IsRuling (import_meaning (S.seen shelf.old).state caller.now import.now) (S.seen shelf.old).rows) }
+{
+    if let Some(refusal) = entry_refusal(shelf, caller, import)? {
+        return Ok(Ruling::Refused(refusal));
+    }
+    match shelf.arrived(alloc, &import.notice)? {
+        Arrival::Same => Ok(Ruling::Repeated(Reply::Imported {
+            count: count_in_all(import.notice.parts()),
+        })),
+        Arrival::Other => Ok(Ruling::Refused(Refusal::NoticeConflict)),
+        Arrival::Absent => judge_fresh(alloc, shelf, import),
+    }
+}

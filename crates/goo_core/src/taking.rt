@@ -1,0 +1,67 @@
+//! The edits that take in what a notice brings.
+
+ghost use Rattle.std.specs.Prelude.{◌≡◌, List, [], ◌∷◌, ◌++◌, IfOk, IfErr, OnOk};
+ghost use Rattle.goo_types.specs.Piece.{IsRising};
+ghost use Rattle.goo_types.specs.declared.fault.Fault.TheVariants.{Memory};
+ghost use Rattle.goo_types.specs.declared.piece.Piece.{Piece as Row};
+ghost use Rattle.goo_rows.specs.Plans.{AreEditsOf};
+ghost use Rattle.goo_rows.specs.Rows.{meeting};
+ghost use Rattle.goo_core.specs.Taking.{IsStepOf, IsTaking, AreMet};
+
+use crate::arriving::Arriving;
+use goo_ranges::{Book, Edit};
+use goo_rows::near_after;
+use goo_types::account_no::AccountNo;
+use goo_types::fault::Fault;
+use goo_types::place::Place;
+use std::alloc::{AllocError, Global};
+
+/// The edit that takes in one part, after those of the parts before it; None where the rows make no
+/// book, which those of a shelf always do.
+fn take_part(
+    alloc: Global,
+    arriving: &Arriving,
+    edits: &[Edit],
+    account: AccountNo,
+) -> Result<Option<Edit>, Fault>
+    ensures taken { (rows : List Row) → IsRising rows → AreEditsOf rows edits.now → arriving.now.book ≡ meeting arriving.now.part.range rows → IfOk result (IsStepOf rows edits.now arriving.now account) }
+    ensures memory { IfErr result (λ fault. fault ≡ Memory) }
+{
+    let range = arriving.part.range;
+    let rows = Vec::from_slice(alloc, arriving.book.pieces())?;
+    let near = near_after(rows, edits, &range)?;
+    let Ok(mut book) = Book::new(near) else {
+        return Ok(None);
+    };
+    let _first = range.first();
+    let edit = book.add(range, arriving.part.lot, Place::Held(account))?;
+    Ok(Some(edit))
+}
+
+/// Puts one more edit behind others.
+fn push_edit(edits: &mut Vec<Edit>, edit: Edit) -> Result<(), AllocError>
+    ensures { OnOk result (edits.new.items ≡ edits.old.items ++ edit ∷ []) }
+{
+    edits.push(edit)?;
+    Ok(())
+}
+
+/// The edits that take in all parts, one for each; None where the rows make no book, which those of a
+/// shelf always do.
+pub fn take_parts(
+    alloc: Global,
+    arriving: &[Arriving],
+    account: AccountNo,
+) -> Result<Option<Vec<Edit>>, Fault>
+    ensures taken { (rows : List Row) → IsRising rows → AreMet rows arriving.now → IfOk result (IsTaking rows arriving.now account) }
+    ensures memory { IfErr result (λ fault. fault ≡ Memory) }
+{
+    let mut edits = Vec::new(alloc);
+    for part in arriving {
+        let Some(edit) = take_part(alloc, part, &edits, account)? else {
+            return Ok(None);
+        };
+        push_edit(&mut edits, edit)?;
+    }
+    Ok(Some(edits))
+}

@@ -1,0 +1,170 @@
+use super::*;
+use goo_types::fault::Fault;
+use goo_types::outcome::Outcome;
+use goo_types::request::Request;
+use std::alloc::Global;
+use std::io::{self, Write};
+use std::test::Fail;
+
+/// A desk over records that fail at each request.
+#[derive(Drop)]
+struct FailingDesk {
+    fault: Fault,
+}
+
+impl Desk for FailingDesk {
+    ghost use Rattle.goo_spec.specs.Created.{created};
+
+    ghost seen = { λ _. record { state = created 7 (record { year = 2025; month = 3; day = 1 }) 1; lies = 0; doubts = 0 } };
+
+    fn apply(&mut self, _alloc: Global, _request: &Request) -> Result<Outcome, Fault> {
+        Err(self.fault)
+    }
+}
+
+/// A writer with room for so many bytes.
+#[derive(Drop)]
+struct ShortWriter {
+    text: Vec<u8>,
+    room: usize,
+}
+
+impl Write for ShortWriter {
+    fn write(&mut self, text: &[u8]) -> io::Result<usize> {
+        match text.first() {
+            Some(first) if self.text.len() < self.room => {
+                self.text.push(*first)?;
+                Ok(1)
+            }
+            _ => Err(io::Error::from(io::ErrorKind::BrokenPipe)),
+        }
+    }
+
+    fn flush(&mut self) -> io::Result<()> {
+        Ok(())
+    }
+}
+
+/// What a line without a request is answered, by its word.
+const CALLER: &str = "{\"fault\":\"Caller\",\"outcome\":\"unreadable\"}\n";
+
+const NOT_JSON: &str = "{\"fault\":\"NotJson\",\"outcome\":\"unreadable\"}\n";
+
+const SHAPE: &str = "{\"fault\":\"Shape\",\"outcome\":\"unreadable\"}\n";
+
+const FIELD: &str = "{\"fault\":\"Field\",\"outcome\":\"unreadable\"}\n";
+
+#[test]
+fn each_unreadable_line_is_told(rt: HostRuntime) -> Result<(), Fail> {
+    let cases: [(&str, &str); 13] = [
+        ("ISSUER", CALLER),
+        ("\r", CALLER),
+        (" {}", CALLER),
+        ("issuer {}", CALLER),
+        ("ABCDEFGHIJKLMNOPQ {}", CALLER),
+        ("ISSUER ", NOT_JSON),
+        (
+            "ISSUER {\"command\":\"open_account\",\"holder\":\"SUN\",\"key\":\"a\"",
+            NOT_JSON,
+        ),
+        ("ISSUER  {}\r", SHAPE),
+        ("ISSUER []", SHAPE),
+        (
+            "ISSUER {\"command\":\"open_acount\",\"holder\":\"SUN\",\"key\":\"a\"}",
+            SHAPE,
+        ),
+        (
+            "ISSUER {\"command\":\"open_account\",\"holder\":1,\"key\":\"a\"}",
+            SHAPE,
+        ),
+        (
+            "ISSUER {\"command\":\"open_account\",\"holder\":\"\",\"key\":\"a\"}",
+            FIELD,
+        ),
+        (
+            "ISSUER {\"command\":\"open_account\",\"holder\":\"SUN\",\"key\":\"\"}",
+            FIELD,
+        ),
+    ];
+    for (line, wanted) in cases {
+        let mut desk = FailingDesk {
+            fault: Fault::Store,
+        };
+        let mut writer = Vec::new(rt.alloc());
+        let tally = run_lines(rt.alloc(), &mut desk, &mut line.as_bytes(), &mut writer)?;
+        assert_eq!(rt; writer.as_slice(), wanted.as_bytes(), "for {line}");
+        assert_eq!(rt; tally, Tally { good: 0, bad: 1 });
+    }
+    Ok(())
+}
+
+#[test]
+fn empty_lines_are_passed_over(rt: HostRuntime) -> Result<(), Fail> {
+    for (input, bad) in [
+        ("", 0),
+        ("\n", 0),
+        ("\n\nISSUER\n\nSUN", 2),
+        ("ISSUER\nSUN\n", 2),
+    ] {
+        let mut desk = FailingDesk {
+            fault: Fault::Store,
+        };
+        let mut writer = Vec::new(rt.alloc());
+        let tally = run_lines(rt.alloc(), &mut desk, &mut input.as_bytes(), &mut writer)?;
+        assert_eq!(rt; tally, Tally { good: 0, bad });
+        assert_eq!(rt; writer.len(), bad * CALLER.len());
+    }
+    Ok(())
+}
+
+#[test]
+fn the_lines_before_a_fault_are_told(rt: HostRuntime) {
+    let input =
+        "ISSUER\nISSUER {\"command\":\"open_account\",\"holder\":\"SUN\",\"key\":\"a\"}\nSUN\n";
+    for (fault, wanted) in [
+        (Fault::Store, LinesFault::Store),
+        (Fault::Memory, LinesFault::Memory),
+    ] {
+        let mut desk = FailingDesk { fault };
+        let mut writer = Vec::new(rt.alloc());
+        let answered = run_lines(rt.alloc(), &mut desk, &mut input.as_bytes(), &mut writer);
+        assert!(rt; matches!(&answered, Err(fault) if *fault == wanted));
+        assert_eq!(rt; writer.as_slice(), CALLER.as_bytes());
+    }
+}
+
+#[test]
+fn a_beginning_is_written_before_a_write_fault(rt: HostRuntime) {
+    let mut desk = FailingDesk {
+        fault: Fault::Store,
+    };
+    let mut writer = ShortWriter {
+        text: Vec::new(rt.alloc()),
+        room: CALLER.len() + 4,
+    };
+    let answered = run_lines(
+        rt.alloc(),
+        &mut desk,
+        &mut b"ISSUER\nSUN {\n".as_slice(),
+        &mut writer,
+    );
+    assert!(rt; matches!(answered, Err(LinesFault::Write)));
+    assert_eq!(rt;
+        writer.text.as_slice(),
+        b"{\"fault\":\"Caller\",\"outcome\":\"unreadable\"}\n{\"fa".as_slice()
+    );
+}
+
+#[test]
+fn the_limit_of_the_input_is_exact(rt: HostRuntime) -> Result<(), Fail> {
+    let mut input = vec![in rt.alloc(); b'\n'; MOST_INPUT]?;
+    let mut desk = FailingDesk {
+        fault: Fault::Store,
+    };
+    let mut writer = Vec::new(rt.alloc());
+    run_lines(rt.alloc(), &mut desk, &mut input.as_slice(), &mut writer)?;
+    input.push(b'\n')?;
+    let answered = run_lines(rt.alloc(), &mut desk, &mut input.as_slice(), &mut writer);
+    assert!(rt; matches!(answered, Err(LinesFault::Read)));
+    Ok(())
+}
