@@ -24,7 +24,8 @@ use std::marker::Model;
 mod accounts;
 mod changes;
 
-/// Pieces that rise and have no number in common.
+/// Pieces that rise and have no number in common, seen as the map that they give: from certificate
+/// numbers to lots and places. Look-ups search the pieces by halves.
 #[derive(Drop)]
 pub struct Book {
     pieces: Vec<Piece>,
@@ -43,7 +44,9 @@ impl Model for Book {
 }
 
 impl Book {
-    /// The book of these pieces. A refusal drops them.
+    /// The book of these pieces. It is refused at the least index at fault: `Backwards` where that piece
+    /// runs backwards or has two codes, else `Overlap` where it begins at or before the end of the one
+    /// before. A refusal drops the pieces.
     pub fn new(pieces: Vec<Piece>) -> Result<Self, BookFault>
         ensures ok { IfOk result (λ book. book ≡ pieces.items) }
         ensures sound { IfOk result IsRising }
@@ -86,7 +89,7 @@ impl Book {
         &self.pieces[start..]
     }
 
-    /// The lot and the place of a number.
+    /// The lot and the place of a number; None where the book lacks it.
     pub fn at(&self, number: Number) -> Option<(Lot, Place)>
         ensures { result ≡ at_of self.now number }
     {
@@ -97,7 +100,7 @@ impl Book {
         Some((piece.lot, piece.place))
     }
 
-    /// The least number of the range that the book lacks.
+    /// The least number of the range that the book lacks; None where it has them all.
     pub fn least_missing(&self, range: Range) -> Option<Number>
         ensures { result ≡ least_absent (at_of self.now) (each range) }
     {
@@ -123,7 +126,7 @@ impl Book {
         Some(Number::between(first, last, next))
     }
 
-    /// The least number of the range that the book has.
+    /// The least number of the range that the book has; None where it has none.
     pub fn least_present(&self, range: Range) -> Option<Number>
         ensures { result ≡ find (λ n. is_some (at_of self.now n)) (each range) }
     {
@@ -143,7 +146,8 @@ impl Book {
         Some(first.max(piece.first))
     }
 
-    /// The least number of the range whose lot and place fail the test.
+    /// The least number of the range whose lot and place fail the test; None where none fails. Numbers
+    /// that the book lacks are passed over. The test is asked once a piece.
     pub fn least_not<F: Fn(Lot, Place) -> bool + Drop>(
         &self,
         range: Range,
@@ -181,7 +185,8 @@ impl Book {
         None
     }
 
-    /// The maximal ranges of one lot and one place, rising.
+    /// The maximal ranges of consecutive numbers with one lot and one place, rising: no list of ranges
+    /// that gives the same map is shorter. `Memory` where an allocation was refused.
     pub fn runs(&self) -> Result<Vec<Piece>, Fault>
         ensures runs { IfOk result (λ runs. AreRunsOf (at_of self.now) runs.items) }
         ensures fewest { IfOk result (λ runs. (ranges : List Piece) → Gives ranges (at_of self.now) → length runs.items ≤ length ranges) }

@@ -1,10 +1,11 @@
 //! Two joined pieces that are moved, added to and looked up, the edges of one row of ten numbers,
-//! and lists of pieces that make no book, against results worked out by hand.
+//! runs of one account, and lists of pieces that make no book, against results worked out by hand.
 
 use crate::books::Book;
 use crate::edits::Edit;
 use crate::faults::BookFault;
 use goo_types::account_no::AccountNo;
+use goo_types::act_no::ActNo;
 use goo_types::country::Country;
 use goo_types::day::Day;
 use goo_types::gsrn::Gsrn;
@@ -108,6 +109,20 @@ fn edges_of_one_row(rt: HostRuntime) -> Result<(), Fail> {
     );
     let back = book.reassign(range(5, 5)?, held(1)?)?;
     assert!(rt; back.delete.len() == 3 && back.insert.as_slice() == [piece(1, 10, 1)?].as_slice());
+    Ok(())
+}
+
+#[test]
+fn runs_of_one_account(rt: HostRuntime) -> Result<(), Fail> {
+    let alloc = rt.alloc();
+    let mut cancelled = piece(4, 6, 1)?;
+    cancelled.place = Place::Cancelled(
+        AccountNo::new(1).ok_or("no account")?,
+        ActNo::new(1).ok_or("no act")?,
+    );
+    let pieces = vec![in alloc; piece(1, 3, 1)?, cancelled, piece(7, 9, 2)?]?;
+    let book = Book::new(pieces).map_err(|_| "no book")?;
+    assert!(rt; book.account_runs()?.as_slice() == [piece(1, 6, 1)?, piece(7, 9, 2)?].as_slice());
     Ok(())
 }
 

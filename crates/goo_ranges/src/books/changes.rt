@@ -107,7 +107,9 @@ impl Book {
         Ok(Edit { delete, insert })
     }
 
-    /// Sets the place of each number of the range that the book has. After an `Err` the book is unchanged.
+    /// Sets the place of each number of the range that the book has, and tells which rows this deletes
+    /// and inserts: those that the range meets, joined with equal ones next to them. `Memory` where an
+    /// allocation was refused; the book is then unchanged.
     pub fn reassign(&mut self, range: Range, place: Place) -> Result<Edit, Fault>
         ensures map { OnOk result ((n : ℕ) → at_of self.new n ≡ moved range.first range.last place n (at_of self.old n)) }
         ensures disjoint { OnOk result (IsRising self.new) }
@@ -150,7 +152,9 @@ impl Book {
         set_pieces(*self.pieces.allocator(), replaced, new)
     }
 
-    /// Sets the lot and the place of each number of the range. After an `Err` the book is unchanged.
+    /// Sets the lot and the place of each number of the range, and tells which rows this deletes and
+    /// inserts: those that the range meets, and the new one, joined with equal ones next to it. `Memory`
+    /// where an allocation was refused; the book is then unchanged.
     pub fn add(&mut self, range: Range, lot: Lot, place: Place) -> Result<Edit, Fault>
         ensures map { OnOk result ((n : ℕ) → at_of self.new n ≡ set_to range.first range.last (lot, place) n (at_of self.old n)) }
         ensures disjoint { OnOk result (IsRising self.new) }
