@@ -134,8 +134,8 @@ registry_indexes =
     ∷ index_of (codes "peer") 11 (1 ∷ [])
     ∷ index_of (codes "receipt") 13 (1 ∷ 2 ∷ [])
     ∷ index_of (codes "notice_in") 18 (1 ∷ 2 ∷ [])
-    ∷ index_on (codes "piece_by_account") 20 10 (5 ∷ [])
-    ∷ index_on (codes "piece_by_kind") 21 10 (4 ∷ []) ∷ []
+    ∷ index_on (codes "piece_by_account") 20 10 (5 ∷ 0 ∷ [])
+    ∷ index_on (codes "piece_by_kind") 21 10 (4 ∷ 0 ∷ []) ∷ []
 
 abbrev pub registry_schema : Schema
 registry_schema = record { tables = registry_tables; indexes = registry_indexes; views = [] }

@@ -118,13 +118,13 @@ makes_notice_in : Leads (codes "CREATE TABLE notice_in (sender INTEGER NOT NULL,
 unfolding understood everything
 makes_notice_in = creates (begun_schema 12 6) (begun_schema 13 7) (codes "CREATE TABLE notice_in (sender INTEGER NOT NULL, number INTEGER NOT NULL, body TEXT NOT NULL, PRIMARY KEY (sender, number)) STRICT") (record notice_in { tree = 0 }) refl (refl, refl) refl refl refl refl
 
-makes_piece_by_account : Leads (codes "CREATE INDEX piece_by_account ON piece (account)") (begun_schema 13 7) (begun_schema 13 8)
+makes_piece_by_account : Leads (codes "CREATE INDEX piece_by_account ON piece (account, first)") (begun_schema 13 7) (begun_schema 13 8)
 unfolding understood everything
-makes_piece_by_account = creates_index (begun_schema 13 7) (begun_schema 13 8) (codes "CREATE INDEX piece_by_account ON piece (account)") 6 piece (index_on (codes "piece_by_account") 0 10 (5 ∷ [])) refl refl (refl, refl) refl refl refl
+makes_piece_by_account = creates_index (begun_schema 13 7) (begun_schema 13 8) (codes "CREATE INDEX piece_by_account ON piece (account, first)") 6 piece (index_on (codes "piece_by_account") 0 10 (5 ∷ 0 ∷ [])) refl refl (refl, refl) refl refl refl
 
-makes_piece_by_kind : Leads (codes "CREATE INDEX piece_by_kind ON piece (kind)") (begun_schema 13 8) (begun_schema 13 9)
+makes_piece_by_kind : Leads (codes "CREATE INDEX piece_by_kind ON piece (kind, first)") (begun_schema 13 8) (begun_schema 13 9)
 unfolding understood everything
-makes_piece_by_kind = creates_index (begun_schema 13 8) (begun_schema 13 9) (codes "CREATE INDEX piece_by_kind ON piece (kind)") 6 piece (index_on (codes "piece_by_kind") 0 10 (4 ∷ [])) refl refl (refl, refl) refl refl refl
+makes_piece_by_kind = creates_index (begun_schema 13 8) (begun_schema 13 9) (codes "CREATE INDEX piece_by_kind ON piece (kind, first)") 6 piece (index_on (codes "piece_by_kind") 0 10 (4 ∷ 0 ∷ [])) refl refl (refl, refl) refl refl refl
 
 -- ---- all texts in turn
 

@@ -14,7 +14,7 @@ use Rattle.sqlite.specs.State.{State}
 use Rattle.sqlite.specs.Tree.{Trees}
 use Rattle.sqlite.proofs.Callers.{IsPlain, command_of}
 use Rattle.sqlite_sql.specs.declared.ops.BinaryOp.TheVariants.{Compare}
-use Rattle.sqlite_sql.specs.declared.ops.CompareOp.TheVariants.{Eq, Lt, Le, Ge}
+use Rattle.sqlite_sql.specs.declared.ops.CompareOp.TheVariants.{Gt, Eq, Lt, Le, Ge}
 use Rattle.sqlite_value.specs.declared.keys.Key.{Key}
 use Rattle.sqlite_value.proofs.OrderLemmas.{value_cmp-Int}
 use Rattle.sqlite_keyed.proofs.KeyedLemmas.{Less-from_lt}
@@ -72,6 +72,12 @@ module _ (where_terms : List Term) (params : Row) (old : State) (t : Tables) (it
     pub shows_rising : IsAnswer (joined_query where_terms rising (negsuc 0)) db params rows → rows ≡ map joined_columns (filter q (pieces_beside t))
     shows_rising =
         answer_listed (joined_query where_terms rising (negsuc 0)) db params source (λ a. is_of_lot a && q a) on_and joined_columns (λ _. refl) refl refl (filter q (pieces_beside t))
+        (IsPermutation-same _ _ (passing_pairs t.lots t.pieces q it.lots.rise))
+        (ascending_weaker _ _ (λ a b h. last_key (value_cmp-Int (piece_key a.0) (piece_key b.0)) ∙ Less-from_lt (piece_key a.0) (piece_key b.0) h) _ (rising_passing t.lots t.pieces q it.pieces.rise)) rows
+
+    pub shows_first : IsAnswer (joined_query where_terms rising (pos 1)) db params rows → rows ≡ take 1 (map joined_columns (filter q (pieces_beside t)))
+    shows_first =
+        answer_listed (joined_query where_terms rising (pos 1)) db params source (λ a. is_of_lot a && q a) on_and joined_columns (λ _. refl) refl refl (filter q (pieces_beside t))
         (IsPermutation-same _ _ (passing_pairs t.lots t.pieces q it.lots.rise))
         (ascending_weaker _ _ (λ a b h. last_key (value_cmp-Int (piece_key a.0) (piece_key b.0)) ∙ Less-from_lt (piece_key a.0) (piece_key b.0) h) _ (rising_passing t.lots t.pieces q it.pieces.rise)) rows
 
@@ -184,3 +190,55 @@ expiring_shows old day t it xs rows answer read =
     let q = λ (a : PieceRow × Lot). int_eq (pos a.0.kind) (pos 1) && both_and bytes_lt a.1.expires_on (Some day) in
     let shown = shows_rising expiring_where (Text day ∷ []) old t it q (λ a. then_term (at_ints false Eq (pos a.0.kind) (pos 1)) (last_term (at_nullable Text false Lt bytes_lt (at_texts false Lt) a.1.expires_on (Some day)))) rows answer in
     all_listed joined_reads joined_columns joined_in joined_same (filter q (pieces_beside t)) xs (subst (λ l. AllZip joined_reads l xs) shown read)
+
+-- ---- next_of
+
+abbrev pub next_of_text : List ℕ
+next_of_text = codes "SELECT p.first, p.last, p.lot, p.kind, p.account, p.act, l.id, l.origin, l.device, l.country, l.site, l.tech, l.source, l.capacity_w, l.commissioned, l.support, l.first_day, l.last_day, l.expires_on, l.issued_on FROM piece AS p JOIN lot AS l ON l.id = p.lot WHERE p.account = ?1 AND p.first > ?2 ORDER BY p.first LIMIT 1"
+
+abbrev next_of_where : List Term
+next_of_where = op2 (Compare Eq Binary) (col 1 5) (col 0 0) ∷ op2 (Compare Gt Binary) (col 1 0) (col 0 1) ∷ []
+
+abbrev pub next_of_query : Query
+next_of_query = joined_query next_of_where rising (pos 1)
+
+pub next_of_is : (command_of (understood registry_schema next_of_text) ≡ Select (record { lets = []; body = next_of_query }) joined_names) × (reads_listing registry_schema next_of_text ≡ false)
+unfolding understood everything
+next_of_is = (refl, refl)
+
+pub next_of_plain : IsPlain (understood registry_schema next_of_text)
+unfolding understood everything
+next_of_plain = (refl, refl)
+
+pub next_of_shows : (old : State) (account : ℕ) (after : ℕ) (t : Tables) → Stands old.now t → (x : Option JoinedRow) (rows : List Row) → IsAnswer next_of_query (overlay old.now.trees []) (Int (pos account) ∷ Int (pos after) ∷ []) rows → FirstZip joined_reads rows x
+    → option_map joined_in x ≡ find (λ (a : PieceRow × Lot). int_eq (pos a.0.account) (pos account) && nat_lt after a.0.first) (pieces_beside t)
+next_of_shows old account after t it x rows answer read =
+    let q = λ (a : PieceRow × Lot). int_eq (pos a.0.account) (pos account) && nat_lt after a.0.first in
+    let shown = shows_first next_of_where (Int (pos account) ∷ Int (pos after) ∷ []) old t it q (λ a. then_term (at_ints false Eq (pos a.0.account) (pos account)) (last_term (at_ints false Gt (pos a.0.first) (pos after)))) rows answer in
+    first_listed joined_reads joined_columns joined_in joined_same q (pieces_beside t) x (first_left joined_reads _ x (subst (λ l. FirstZip joined_reads l x) shown read))
+
+-- ---- next_due
+
+abbrev pub next_due_text : List ℕ
+next_due_text = codes "SELECT p.first, p.last, p.lot, p.kind, p.account, p.act, l.id, l.origin, l.device, l.country, l.site, l.tech, l.source, l.capacity_w, l.commissioned, l.support, l.first_day, l.last_day, l.expires_on, l.issued_on FROM piece AS p JOIN lot AS l ON l.id = p.lot WHERE p.kind = 1 AND p.first > ?2 AND l.expires_on < ?1 ORDER BY p.first LIMIT 1"
+
+abbrev next_due_where : List Term
+next_due_where = op2 (Compare Eq Binary) (col 1 4) (lit (Int (pos 1))) ∷ op2 (Compare Gt Binary) (col 1 0) (col 0 1) ∷ op2 (Compare Lt Binary) (col 2 13) (col 0 0) ∷ []
+
+abbrev pub next_due_query : Query
+next_due_query = joined_query next_due_where rising (pos 1)
+
+pub next_due_is : (command_of (understood registry_schema next_due_text) ≡ Select (record { lets = []; body = next_due_query }) joined_names) × (reads_listing registry_schema next_due_text ≡ false)
+unfolding understood everything
+next_due_is = (refl, refl)
+
+pub next_due_plain : IsPlain (understood registry_schema next_due_text)
+unfolding understood everything
+next_due_plain = (refl, refl)
+
+pub next_due_shows : (old : State) (day : List ℕ) (after : ℕ) (t : Tables) → Stands old.now t → (x : Option JoinedRow) (rows : List Row) → IsAnswer next_due_query (overlay old.now.trees []) (Text day ∷ Int (pos after) ∷ []) rows → FirstZip joined_reads rows x
+    → option_map joined_in x ≡ find (λ (a : PieceRow × Lot). int_eq (pos a.0.kind) (pos 1) && (nat_lt after a.0.first && both_and bytes_lt a.1.expires_on (Some day))) (pieces_beside t)
+next_due_shows old day after t it x rows answer read =
+    let q = λ (a : PieceRow × Lot). int_eq (pos a.0.kind) (pos 1) && (nat_lt after a.0.first && both_and bytes_lt a.1.expires_on (Some day)) in
+    let shown = shows_first next_due_where (Text day ∷ Int (pos after) ∷ []) old t it q (λ a. then_term (at_ints false Eq (pos a.0.kind) (pos 1)) (then_term (at_ints false Gt (pos a.0.first) (pos after)) (last_term (at_nullable Text false Lt bytes_lt (at_texts false Lt) a.1.expires_on (Some day))))) rows answer in
+    first_listed joined_reads joined_columns joined_in joined_same q (pieces_beside t) x (first_left joined_reads _ x (subst (λ l. FirstZip joined_reads l x) shown read))

@@ -21,8 +21,8 @@ create_texts =
     ∷ codes "CREATE TABLE withdrawal (number INTEGER PRIMARY KEY, first INTEGER NOT NULL, last INTEGER NOT NULL, reason TEXT NOT NULL, day TEXT NOT NULL) STRICT"
     ∷ codes "CREATE TABLE notice_out (number INTEGER PRIMARY KEY, account INTEGER NOT NULL, body TEXT NOT NULL) STRICT"
     ∷ codes "CREATE TABLE notice_in (sender INTEGER NOT NULL, number INTEGER NOT NULL, body TEXT NOT NULL, PRIMARY KEY (sender, number)) STRICT"
-    ∷ codes "CREATE INDEX piece_by_account ON piece (account)"
-    ∷ codes "CREATE INDEX piece_by_kind ON piece (kind)" ∷ []
+    ∷ codes "CREATE INDEX piece_by_account ON piece (account, first)"
+    ∷ codes "CREATE INDEX piece_by_kind ON piece (kind, first)" ∷ []
 
 -- the schema with so many of the tables and of the indexes
 abbrev pub begun_schema : ℕ → ℕ → Schema

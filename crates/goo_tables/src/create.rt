@@ -40,8 +40,8 @@ fn statement(at: u32) -> &'static str
             "CREATE TABLE notice_out (number INTEGER PRIMARY KEY, account INTEGER NOT NULL, body TEXT NOT NULL) STRICT",
         12 =>
             "CREATE TABLE notice_in (sender INTEGER NOT NULL, number INTEGER NOT NULL, body TEXT NOT NULL, PRIMARY KEY (sender, number)) STRICT",
-        13 => "CREATE INDEX piece_by_account ON piece (account)",
-        _ => "CREATE INDEX piece_by_kind ON piece (kind)",
+        13 => "CREATE INDEX piece_by_account ON piece (account, first)",
+        _ => "CREATE INDEX piece_by_kind ON piece (kind, first)",
     }
 }
 

@@ -89,3 +89,45 @@ pub fn pieces_expiring<S: Alter>(
         &[text(day)],
     )
 }
+
+/// The first piece that names the account and begins above `after`, beside its lot.
+///
+/// A piece that begins at `after` or below and reaches above it is the one that `piece_before` finds.
+pub fn next_of_account<S: Alter>(
+    alloc: Global,
+    conn: &mut Connection<S>,
+    account: u32,
+    after: u64,
+) -> Result<Option<JoinedRow>, Error>
+    requires { after < 2 ^ 63 }
+    ensures looks { Looks (state S.Store conn.old) (state S.Store conn.new) result
+        (λ t found. option_map joined_in found ≡ find (λ a. int_eq (pos a.0.account) (pos account) && nat_lt after a.0.first) (pieces_beside t)) }
+    ensures outside { conn.old.in_transaction ≡ false → conn.new.in_transaction ≡ false }
+{
+    ask_first(
+        alloc,
+        conn,
+        "SELECT p.first, p.last, p.lot, p.kind, p.account, p.act, l.id, l.origin, l.device, l.country, l.site, l.tech, l.source, l.capacity_w, l.commissioned, l.support, l.first_day, l.last_day, l.expires_on, l.issued_on FROM piece AS p JOIN lot AS l ON l.id = p.lot WHERE p.account = ?1 AND p.first > ?2 ORDER BY p.first LIMIT 1",
+        &[small(account), number(after)],
+    )
+}
+
+/// The first held piece that begins above `after` and whose lot expires before the day, beside its lot. The day is written as `dddd-dd-dd`.
+pub fn next_expiring<S: Alter>(
+    alloc: Global,
+    conn: &mut Connection<S>,
+    day: &str,
+    after: u64,
+) -> Result<Option<JoinedRow>, Error>
+    requires { after < 2 ^ 63 }
+    ensures looks { Looks (state S.Store conn.old) (state S.Store conn.new) result
+        (λ t found. option_map joined_in found ≡ find (λ a. int_eq (pos a.0.kind) (pos 1) && (nat_lt after a.0.first && both_and bytes_lt a.1.expires_on (Some day.now))) (pieces_beside t)) }
+    ensures outside { conn.old.in_transaction ≡ false → conn.new.in_transaction ≡ false }
+{
+    ask_first(
+        alloc,
+        conn,
+        "SELECT p.first, p.last, p.lot, p.kind, p.account, p.act, l.id, l.origin, l.device, l.country, l.site, l.tech, l.source, l.capacity_w, l.commissioned, l.support, l.first_day, l.last_day, l.expires_on, l.issued_on FROM piece AS p JOIN lot AS l ON l.id = p.lot WHERE p.kind = 1 AND p.first > ?2 AND l.expires_on < ?1 ORDER BY p.first LIMIT 1",
+        &[text(day), number(after)],
+    )
+}
