@@ -22,7 +22,7 @@ use Rattle.goo_core.specs.Ruling.{IsRuling, plain_meaning}
 use Rattle.goo_core.specs.Transfer.{entry_checks}
 use Rattle.goo_core.specs.Trade.{trade_checks}
 use Rattle.goo_core.specs.declared.ruling.Ruling.{Ruling}
-use Rattle.goo_core.proofs.Exporting.{alike}
+use Rattle.goo_core.proofs.Exporting.{trade-alike}
 use Rattle.goo_core.proofs.Rulings.{passed_early, ruled_move}
 
 pub ruled_transfer : (s : State) (rows met : List Piece) (caller : List ℕ) (x : Transfer) (today : CalendarDay) (ruling : Ruling) → AreRowsOf s.at rows
@@ -31,6 +31,6 @@ pub ruled_transfer : (s : State) (rows met : List Piece) (caller : List ℕ) (x 
     → IsRuling (plain_meaning (transfer_refusal s caller x) (transfer_reply s x) (with_transfer s x).at) rows ruling
 unfolding transfer_refusal transfer_reply with_transfer
 ruled_transfer s rows met caller x today ruling kept passed day is ruled =
-    let late : first_refusal (trade_checks (get s.at) x.range x.giver s.today) ≡ first_refusal (trade_checks (at_of met) x.range x.giver today) = alike s.at rows x.range x.giver s.today kept ∙ rw (is, day) refl in
+    let late : first_refusal (trade_checks (get s.at) x.range x.giver s.today) ≡ first_refusal (trade_checks (at_of met) x.range x.giver today) = trade-alike s.at rows x.range x.giver s.today kept ∙ rw (is, day) refl in
     ruled_move (plain_meaning (transfer_refusal s caller x) (transfer_reply s x) (with_transfer s x).at) s.at rows met (first_refusal (trade_checks (at_of met) x.range x.giver today)) x.range (Held x.taker) ruling kept is refl
       (passed_early (entry_checks s caller x) (trade_checks (get s.at) x.range x.giver s.today) passed ∙ late) refl ruled
