@@ -1,14 +1,13 @@
 -- That the rows of a table are in the order of their keys.
-use Rattle.std.proofs.Common.{Result, Ok, Err, IfOk, ◌<ℤ◌, ◌≡◌, ℕ, ℤ, pos, false, List, [], ◌∷◌, map, IsTrue, refl, sym, ap, subst, ◌∙◌, int_cmp, Less}
+use Rattle.std.proofs.Common.{◌<ℤ◌, ◌≡◌, ℕ, ℤ, pos, List, [], ◌∷◌, map, IsTrue, refl, sym, ap, subst, ◌∙◌, Less}
 use Rattle.std.specs.List.{AllByRecursion}
-use Rattle.sqlite_value.specs.declared.value.Value.{Value}
 use Rattle.sqlite_value.specs.declared.value.Value.TheVariants.{Null, Int, Real, Text, Blob}
 use Rattle.sqlite_value.specs.Order.{Row, value_cmp}
 use Rattle.sqlite_value.proofs.OrderLemmas.{value_cmp-Int}
 use Rattle.sqlite_trees.specs.declared.store.Shape.{Shape}
 use Rattle.sqlite_trees.specs.declared.store.Shape.TheVariants as shape
-use Rattle.sqlite_trees.specs.Tree.{Trees, rowid, IsTable, IsAscending}
-use Rattle.sqlite_trees.specs.View.{View, IsShaped, IsOrdered, is_int}
+use Rattle.sqlite_trees.specs.Tree.{Trees, rowid, IsTable}
+use Rattle.sqlite_trees.specs.View.{IsShaped, IsOrdered, is_int}
 use Rattle.sqlite_trees.specs.Objects.{catalog_tree, IsListed}
 use Rattle.sqlite_schema.specs.declared.schema.Schema.{Schema}
 use Rattle.sqlite_schema.specs.declared.schema.Table.{Table}
@@ -61,7 +60,7 @@ module _ {X : Type 0} (to_row : X → Row) (key : X → ℤ) (ids : (x : X) → 
   shaped_list : (xs : List X) → IsKeyedBy key xs → IsShaped shape.Table (map to_row xs)
   shaped_list xs up = (
     ascending-map (λ a b. value_cmp (rowid a) (rowid b) ≡ Less) to_row xs
-    (ascending_weaker _ (λ a b. value_cmp (rowid (to_row a)) (rowid (to_row b)) ≡ Less) (λ a b h. rw (ids a, ids b) (value_cmp-Int (key a) (key b) ∙ Less-from_lt (key a) (key b) h)) xs up),
+        (ascending_weaker _ (λ a b. value_cmp (rowid (to_row a)) (rowid (to_row b)) ≡ Less) (λ a b h. rw (ids a, ids b) (value_cmp-Int (key a) (key b) ∙ Less-from_lt (key a) (key b) h)) xs up),
     all-map (λ r. IsTrue (is_int (rowid r))) to_row (λ x. rw (ids x) refl) xs,
   )
 

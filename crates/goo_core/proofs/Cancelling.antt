@@ -1,5 +1,5 @@
 -- What a cancellation comes to.
-use Rattle.std.proofs.Common.{◌≡◌, ◌∙◌, ℕ, List, [], ◌∷◌, Option, None, refl, ap, sym, subst}
+use Rattle.std.proofs.Common.{◌≡◌, ◌∙◌, ℕ, List, None, refl, subst}
 use Rattle.std.specs.FinMap.{get}
 use Rattle.goo_types.specs.Piece.{at_of}
 use Rattle.goo_types.specs.declared.command.Cancel.{Cancel}
@@ -31,7 +31,7 @@ pub ruled_cancel : (s : State) (rows met : List Piece) (caller : List ℕ) (x : 
 unfolding cancel_refusal cancel_reply with_cancellation
 ruled_cancel s rows met caller x next ruling kept passed number is ruled =
     let here : IsMoveRuling (first_refusal (range_checks (at_of met) s.next_cancellation x)) (reply.Cancelled s.next_cancellation (count_of x.range)) None x.range (place.Cancelled x.account s.next_cancellation) met ruling
-        = subst (λ (k : ℕ). IsMoveRuling (first_refusal (range_checks (at_of met) k x)) (reply.Cancelled k (count_of x.range)) None x.range (place.Cancelled x.account k) met ruling) number ruled in
+    = subst (λ (k : ℕ). IsMoveRuling (first_refusal (range_checks (at_of met) k x)) (reply.Cancelled k (count_of x.range)) None x.range (place.Cancelled x.account k) met ruling) number ruled in
     let late : first_refusal (range_checks (get s.at) s.next_cancellation x) ≡ first_refusal (range_checks (at_of met) s.next_cancellation x) = alike s.at rows s.next_cancellation x kept ∙ rw is refl in
     ruled_move (plain_meaning (cancel_refusal s caller x) (cancel_reply s x) (with_cancellation s x).at) s.at rows met (first_refusal (range_checks (at_of met) s.next_cancellation x)) x.range (place.Cancelled x.account s.next_cancellation) ruling kept is refl
-      (passed_early (entry_checks s caller x) (range_checks (get s.at) s.next_cancellation x) passed ∙ late) refl here
+    (passed_early (entry_checks s caller x) (range_checks (get s.at) s.next_cancellation x) passed ∙ late) refl here

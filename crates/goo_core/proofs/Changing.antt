@@ -1,5 +1,5 @@
 -- From the rows that a range meets to all rows.
-use Rattle.std.proofs.Common.{◌≡◌, ◌∙◌, ℕ, ◌≤◌, List, [], ◌∷◌, Bool, false, if◌then◌else◌, Option, Some, refl, ap, sym, subst}
+use Rattle.std.proofs.Common.{◌≡◌, ◌∙◌, ℕ, ◌≤◌, List, [], ◌∷◌, Bool, false, if◌then◌else◌, Option, Some, ap, sym, subst}
 use Rattle.std.specs.Option.{option_map}
 use Rattle.std.specs.FinMap.{get}
 use Rattle.goo_types.specs.Piece.{Label, at_of, IsRising}
@@ -11,14 +11,13 @@ use Rattle.goo_ranges.specs.Change.{inside, moved, set_to}
 use Rattle.goo_ranges.specs.Edit.{IsExact}
 use Rattle.goo_ranges.specs.declared.edits.Edit.{Edit}
 use Rattle.goo_spec.specs.Lots.{Certificates}
-use Rattle.goo_spec.specs.Maps.{each, place_each, give_each}
+use Rattle.goo_spec.specs.Maps.{each, give_each}
 use Rattle.goo_spec.specs.Runs.{IsApart}
-use Rattle.goo_rows.specs.Plans.{IsTurned, AreEditsOf, AreEditsWithin}
-use Rattle.goo_rows.specs.Rows.{AreRowsOf, meeting, edited_all}
+use Rattle.goo_rows.specs.Rows.{AreRowsOf, meeting}
 use Rattle.goo_rows.proofs.Chains.{within-of_book, edited-exact, turned-by_book, edits-framed, within-edits}
 use Rattle.goo_rows.proofs.Framing.{met-block}
 use Rattle.goo_shelf.proofs.Plans.{stay_rising}
-use Rattle.goo_rows.proofs.Mapping.{get-move_each, get-give_each-range}
+use Rattle.goo_rows.proofs.Mapping.{get-give_each-range}
 use Rattle.goo_core.specs.Changes.{AreEditsFor, IsTurnedInTurn}
 
 pub moved-outside : (range : Numbers) (place : Place) (n : ℕ) (o : Option Label) → inside range.first range.last n ≡ false → moved range.first range.last place n o ≡ o

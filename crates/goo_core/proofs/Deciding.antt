@@ -1,23 +1,21 @@
 -- From a ruling to what the request comes to.
-use Rattle.std.proofs.Common.{◌≡◌, ◌∙◌, List, [], Bool, true, false, cond, Option, Some, None, refl, ap, sym, subst}
+use Rattle.std.proofs.Common.{◌≡◌, ◌∙◌, List, true, false, cond, Option, Some, None, refl, ap, sym, subst}
 use Rattle.std.specs.FinMap.{get}
 use Rattle.goo_types.specs.declared.command.Command.{Command}
 use Rattle.goo_types.specs.declared.outcome.Outcome.TheVariants as outcome_of
 use Rattle.goo_types.specs.declared.piece.Piece.{Piece}
 use Rattle.goo_types.specs.declared.refusal.Refusal.{Refusal}
-use Rattle.goo_types.specs.declared.refusal.Refusal.TheVariants.{KeyReused}
 use Rattle.goo_types.specs.declared.reply.Reply.{Reply}
 use Rattle.goo_types.specs.declared.request.Request.{Request}
 use Rattle.goo_spec.specs.Lots.{Certificates}
 use Rattle.goo_spec.specs.Sound.{IsSound}
 use Rattle.goo_spec.specs.State.{State}
-use Rattle.goo_spec.specs.Step.{outcome, keyed_outcome, fresh_outcome, is_kept, accept, changed}
+use Rattle.goo_spec.specs.Step.{outcome, keyed_outcome, fresh_outcome, is_kept, accept}
 use Rattle.goo_rows.specs.Rows.{AreRowsOf}
-use Rattle.goo_shelf.specs.Plan.{Fits}
 use Rattle.goo_shelf.specs.Shelf.{receipt_of}
 use Rattle.goo_shelf.specs.declared.found.Receipt.TheVariants as receipt
 use Rattle.goo_shelf.specs.declared.plan.Plan.{Plan}
-use Rattle.goo_core.specs.Decision.{IsPlanOf, IsQuiet, IsQuietRuling}
+use Rattle.goo_core.specs.Decision.{IsPlanOf, IsQuietRuling}
 use Rattle.goo_core.specs.Ruling.{Meaning, IsPassed, IsRuling, plain_meaning, meaning_of}
 use Rattle.goo_core.specs.Verdict.{verdict_of}
 use Rattle.goo_core.specs.declared.ruling.Change.{Change}
@@ -74,8 +72,8 @@ unfolding accept
 decided_plan s rows q plan change sound kept none ruled request reply edits notice =
     let m = meaning_of s q.caller q.command in
     let accepted : outcome s q ≡ outcome_of.Accepted plan.reply =
-        fresh s q none m refl ∙ ap (λ o. fresh_outcome o m.refused m.reply) ruled.fresh ∙ ap (λ o. fresh_outcome None o m.reply) ruled.allowed
-        ∙ ap outcome_of.Accepted (sym ruled.answered ∙ sym reply) in
+    fresh s q none m refl ∙ ap (λ o. fresh_outcome o m.refused m.reply) ruled.fresh ∙ ap (λ o. fresh_outcome None o m.reply) ruled.allowed
+    ∙ ap outcome_of.Accepted (sym ruled.answered ∙ sym reply) in
     record {
       request = request;
       reply_is = reply;

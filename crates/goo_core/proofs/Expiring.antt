@@ -1,12 +1,10 @@
 -- Rows that expire, and what moving the date on comes to.
 use Rattle.std.proofs.Common.{◌≡◌, ◌∙◌, ℕ, zero, suc, ◌+◌, ◌-◌, ◌<◌, ◌≤◌, List, [], ◌∷◌, ◌++◌, length, take, get_or, Bool, true, false, cond, refl, ap, sym, subst, arith}
-use Rattle.std.specs.Prelude.{count_by, sum_by, Vec, Some, None}
+use Rattle.std.specs.Prelude.{sum_by, Vec, None}
 use Rattle.std.specs.Global.{Global}
-use Rattle.std.specs.List.{filter}
-use Rattle.std.specs.FinMap.{entries, get}
 use Rattle.std.proofs.lemmas.List.Sums.{sum_by-cons}
 use Rattle.goo_types.specs.Day.{CalendarDay}
-use Rattle.goo_types.specs.Piece.{label_of, IsRisingFrom}
+use Rattle.goo_types.specs.Piece.{IsRisingFrom}
 use Rattle.goo_types.specs.Place.{account_of}
 use Rattle.goo_types.specs.declared.command.Advance.{Advance}
 use Rattle.goo_types.specs.declared.lot_fields.LotFields.{LotFields}
@@ -18,7 +16,7 @@ use Rattle.goo_spec.specs.Advance.{expires, aged, advance_refusal, advance_reply
 use Rattle.goo_spec.specs.Sound.{IsSound}
 use Rattle.goo_spec.specs.State.{State}
 use Rattle.goo_ranges.specs.declared.edits.Edit.{Edit}
-use Rattle.goo_rows.specs.Plans.{placed, IsMoveOf, AreMovesOf}
+use Rattle.goo_rows.specs.Plans.{IsMoveOf, AreMovesOf}
 use Rattle.goo_rows.specs.Rows.{AreRowsOf}
 use Rattle.goo_rows.proofs.Aging.{aged-turned}
 use Rattle.goo_shelf.specs.Rows.{expiring_on}

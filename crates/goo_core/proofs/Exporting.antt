@@ -1,5 +1,5 @@
 -- What an export comes to.
-use Rattle.std.proofs.Common.{◌≡◌, ◌≢◌, ◌∙◌, ◌⊎◌, inl, inr, ℕ, ◌+◌, ◌<◌, ◌≤◌, List, [], ◌∷◌, ◌++◌, Option, Some, None, refl, ap, sym, subst, arith}
+use Rattle.std.proofs.Common.{◌≡◌, ◌∙◌, inl, inr, ℕ, ◌+◌, ◌≤◌, List, [], ◌∷◌, ◌++◌, Option, Some, None, refl, ap, sym, subst, arith}
 use Rattle.std.specs.Prelude.{not}
 use Rattle.std.specs.FinMap.{get}
 use Rattle.goo_types.specs.Day.{CalendarDay}
@@ -7,7 +7,6 @@ use Rattle.goo_types.specs.Notice.{NoticeContents, IsNotice}
 use Rattle.goo_types.specs.Piece.{Label, at_of}
 use Rattle.goo_types.specs.Range.{Numbers, IsRange}
 use Rattle.goo_types.specs.declared.command.Export.{Export}
-use Rattle.goo_types.specs.declared.lot_fields.LotFields.{LotFields}
 use Rattle.goo_types.specs.declared.part.Part.{Part}
 use Rattle.goo_types.specs.declared.piece.Piece.{Piece}
 use Rattle.goo_types.specs.declared.place.Place.TheVariants as place
@@ -26,8 +25,8 @@ use Rattle.goo_spec.proofs.Noticing.{notice_is_whole}
 use Rattle.goo_spec.proofs.Parting.{parts_are, one_list_of_parts, row_ends}
 use Rattle.goo_rows.specs.Rows.{AreRowsOf, meeting}
 use Rattle.goo_rows.proofs.Framing.{absent-alike, failing-alike, meeting-at}
-use Rattle.goo_core.specs.Export.{entry_checks, sending_checks, notice_with, IsUnsendable, IsHeldBack, IsSentOut, IsExportRuling, export_meaning}
-use Rattle.goo_core.specs.Moves.{IsMove, IsMoveRuling}
+use Rattle.goo_core.specs.Export.{entry_checks, sending_checks, notice_with, IsUnsendable, IsHeldBack, IsExportRuling, export_meaning}
+use Rattle.goo_core.specs.Moves.{IsMove}
 use Rattle.goo_core.specs.Ruling.{IsRuling}
 use Rattle.goo_core.specs.Trade.{trade_checks}
 use Rattle.goo_core.specs.declared.ruling.Ruling.{Ruling}
@@ -51,9 +50,10 @@ lots-alike f g low high first end [] same from to row lots = tt
 lots-alike f g low high first end (p ∷ ps) same from to row lots =
     let starts : p.range.first ≡ first = row.0 in
     let up : first ≤ p.range.last = row.1 in
-    let ends : p.range.last + 1 ≤ end = row_ends (p.range.last + 1) end ps row.2 in
-    ((λ n above below. ap lot_in (sym (same n (omega (arith, from, starts, above)) (omega (arith, below, ends, to)))) ∙ lots.0 n above below),
-     lots-alike f g low high (p.range.last + 1) end ps same (omega arith) to row.2 lots.1)
+    let ends : p.range.last + 1 ≤ end = row_ends (p.range.last + 1) end ps row.2 in (
+      (λ n above below. ap lot_in (sym (same n (omega (arith, from, starts, above)) (omega (arith, below, ends, to)))) ∙ lots.0 n above below),
+      lots-alike f g low high (p.range.last + 1) end ps same (omega arith) to row.2 lots.1,
+    )
 
 module _ (s : State) (rows met : List Piece) (caller : List ℕ) (x : Export) (kept : AreRowsOf s.at rows) (is : met ≡ meeting x.range rows) (range : IsRange x.range)
     (passed : first_refusal (entry_checks s caller x) ≡ None) where
@@ -67,8 +67,8 @@ module _ (s : State) (rows met : List Piece) (caller : List ℕ) (x : Export) (k
       let there : least_absent (get s.at) (each x.range) ≡ None = unfound _ _ (none_fail (trade_checks (get s.at) x.range x.giver s.today) (late ∙ none)).0 in
       let same : (n : ℕ) → x.range.first ≤ n → n ≤ x.range.last → at_of met n ≡ get s.at n = λ n from to. ap (λ l. at_of l n) is ∙ meeting-at s.at rows x.range kept n from to in
       one_list_of_parts (get s.at) x.range (parts_of s.at (each x.range)) parts
-        (parts_are s.at x.range (omega arith) there)
-        (record { row = are.row; longest = are.longest; lots = lots-alike (at_of met) (get s.at) x.range.first x.range.last x.range.first (x.range.last + 1) parts same (omega arith) (omega arith) are.row are.lots })
+      (parts_are s.at x.range (omega arith) there)
+      (record { row = are.row; longest = are.longest; lots = lots-alike (at_of met) (get s.at) x.range.first x.range.last x.range.first (x.range.last + 1) parts same (omega arith) (omega arith) are.row are.lots })
 
   pub refusal-early : first_refusal (trade_checks (at_of met) x.range x.giver s.today) ≡ None → (parts : List Part) → ArePartsOf (at_of met) x.range parts
       → export_refusal s caller x ≡ first_refusal (sending_checks parts s.next_notice)
@@ -106,5 +106,5 @@ module _ (s : State) (rows met : List Piece) (caller : List ℕ) (x : Export) (k
       let out = ruled.1.1 in
       let free = refusal-early ruled.0 out.parts out.are ∙ out.free in
       let move : IsMove (reply.Exported s.next_notice (count_of x.range)) (Some (notice_of s x)) x.range (place.Exported x.giver s.next_notice) met change
-          = subst (λ (m : NoticeContents). IsMove (reply.Exported s.next_notice (count_of x.range)) (Some m) x.range (place.Exported x.giver s.next_notice) met change) (out.says ∙ notice-same out.parts ruled.0 out.are) ruled.1.2 in
+      = subst (λ (m : NoticeContents). IsMove (reply.Exported s.next_notice (count_of x.range)) (Some m) x.range (place.Exported x.giver s.next_notice) met change) (out.says ∙ notice-same out.parts ruled.0 out.are) ruled.1.2 in
       ruled_move (export_meaning s caller x) s.at rows met None x.range (place.Exported x.giver s.next_notice) (Passed change) kept is refl free refl (refl, move)

@@ -1,34 +1,30 @@
 -- What an import comes to.
-use Rattle.std.proofs.Common.{◌≡◌, ◌∙◌, ℕ, ◌+◌, ◌<◌, ◌≤◌, Bool, true, false, cond, ◌==◌, ◌&&◌, List, [], ◌∷◌, ◌++◌, Option, Some, None, refl, ap, sym, subst, arith}
+use Rattle.std.proofs.Common.{◌≡◌, ◌∙◌, ℕ, Bool, true, false, cond, ◌==◌, ◌&&◌, List, [], ◌∷◌, ◌++◌, Option, Some, None, refl, ap, sym}
 use Rattle.std.specs.Prelude.{find, sum_by, All, not, Result, Ok, Err, IfOk}
 use Rattle.std.specs.Option.{option_or}
 use Rattle.std.specs.FinMap.{get}
 use Rattle.std.proofs.lemmas.List.Elements.{All-head, All-tail}
 use Rattle.goo_types.specs.Notice.{NoticeContents, IsWhole}
 use Rattle.goo_types.specs.Number.{code_of}
-use Rattle.goo_types.specs.Piece.{Label, at_of, IsRising}
+use Rattle.goo_types.specs.Piece.{at_of, IsRising}
 use Rattle.goo_types.specs.declared.fault.Fault.{Fault}
-use Rattle.goo_types.specs.Range.{Numbers, IsRange}
+use Rattle.goo_types.specs.Range.{IsRange}
 use Rattle.goo_types.specs.declared.command.Import.{Import}
 use Rattle.goo_types.specs.declared.lot_fields.LotFields.{LotFields}
 use Rattle.goo_types.specs.declared.part.Part.{Part}
 use Rattle.goo_types.specs.declared.piece.Piece.{Piece}
-use Rattle.goo_types.specs.declared.place.Place.{Place}
 use Rattle.goo_types.specs.declared.place.Place.TheVariants.{Held}
 use Rattle.goo_types.specs.declared.refusal.Refusal.{Refusal}
 use Rattle.goo_types.specs.declared.refusal.Refusal.TheVariants.{UnknownNumber, NumberTaken, LotDiffers, NoticeConflict}
-use Rattle.goo_types.specs.declared.reply.Reply.{Reply}
 use Rattle.goo_types.specs.declared.reply.Reply.TheVariants.{Imported}
 use Rattle.goo_ranges.specs.Change.{set_to}
-use Rattle.goo_ranges.specs.declared.edits.Edit.{Edit}
 use Rattle.goo_spec.specs.Checks.{first_refusal, when, naming}
-use Rattle.goo_spec.specs.Import.{numbered, least_where, is_other, is_arrived, same_notice, is_other_lot, differs, entry_checks, import_checks, import_refusal, import_reply, import_repeats, arrived_reply, taken, with_import}
+use Rattle.goo_spec.specs.Import.{least_where, is_other, is_arrived, same_notice, is_other_lot, differs, entry_checks, import_refusal, import_reply, import_repeats, arrived_reply, taken, with_import}
 use Rattle.goo_spec.specs.Lots.{Certificates, is_absent, is_exported, same_lot, fails, key_of}
 use Rattle.goo_spec.specs.Maps.{each, count_of, give_each, least_absent, least_failing}
 use Rattle.goo_spec.specs.State.{State}
 use Rattle.goo_spec.proofs.Naming.{least_by_part, absent_in_part, here_in_part, differing_in_part, length_numbered}
-use Rattle.goo_rows.specs.Plans.{IsTurned}
-use Rattle.goo_rows.specs.Rows.{AreRowsOf, meeting, edited_all}
+use Rattle.goo_rows.specs.Rows.{AreRowsOf, meeting}
 use Rattle.goo_rows.proofs.Chains.{edits-turned}
 use Rattle.goo_rows.proofs.Framing.{absent-alike, failing-alike}
 use Rattle.goo_rows.proofs.Mapping.{get-give_each-range}
@@ -37,11 +33,11 @@ use Rattle.goo_shelf.specs.Shelf.{arrival_of}
 use Rattle.goo_shelf.specs.declared.found.Arrival.TheVariants as arrival
 use Rattle.goo_core.specs.Import.{least_of, unknown_in, taken_in, differing_in, numbers_checks, standing_checks, number_checks, IsArriving, AreArriving, given, fresh_meaning, import_meaning}
 use Rattle.goo_core.specs.Ruling.{IsRuling}
-use Rattle.goo_core.specs.Taking.{AreMet, AreTaken, IsTakeRuling}
+use Rattle.goo_core.specs.Taking.{AreMet, IsTakeRuling}
 use Rattle.goo_core.specs.declared.arriving.Arriving.{Arriving}
 use Rattle.goo_core.specs.declared.ruling.Ruling.{Ruling}
 use Rattle.goo_core.specs.declared.ruling.Ruling.TheVariants.{Refused, Repeated, Passed}
-use Rattle.goo_core.proofs.Rulings.{failed_early, passed_early}
+use Rattle.goo_core.proofs.Rulings.{passed_early}
 
 pub met_all : (s : State) (rows : List Piece) (ps : List Part) (known : List Arriving) → AreArriving s rows ps known → AreMet rows known
 met_all s rows [] [] are = tt
@@ -69,7 +65,7 @@ module _ (s : State) (rows : List Piece) (kept : AreRowsOf s.at rows) where
   differing-same : (p : Part) (a : Arriving) → IsRange p.range → IsArriving s rows p a → find (λ n. differs s (n, p.lot)) (each p.range) ≡ differing_in a
   differing-same p a range is =
       let met : least_failing (λ lot place. same_lot lot p.lot) (get s.at) (each p.range) ≡ least_failing (λ lot place. same_lot lot p.lot) (at_of a.book) (each p.range)
-          = sym (failing-alike (λ lot place. same_lot lot p.lot) s.at rows p.range kept) ∙ ap (λ l. least_failing (λ lot place. same_lot lot p.lot) (at_of l) (each p.range)) (sym is.met) in
+      = sym (failing-alike (λ lot place. same_lot lot p.lot) s.at rows p.range kept) ∙ ap (λ l. least_failing (λ lot place. same_lot lot p.lot) (at_of l) (each p.range)) (sym is.met) in
       differing_in_part s p range.rising
       ∙ ap (λ o. cond (is_other_lot p.lot (get s.lots (key_of p.lot))) (Some p.range.first) o) met
       ∙ ap (λ o. cond (is_other_lot p.lot o) (Some p.range.first) (least_failing (λ lot place. same_lot lot p.lot) (at_of a.book) (each p.range))) (sym is.known)
@@ -118,7 +114,7 @@ module _ (s : State) (rows : List Piece) (kept : AreRowsOf s.at rows) where
         sent = ruled.2;
         rising = stay_rising change.edits.items rows kept.disjoint taken_edits.edits;
         turned = edits-turned (taken x.notice.parts (Held x.notice.account) s.at) rows change.edits.items kept.disjoint taken_edits.edits
-          (λ n. taken_edits.changes n ∙ ap (given known x.notice.account n) (kept.same n) ∙ given-taken x.notice.parts known x.notice.account n s.at whole.ranges are);
+            (λ n. taken_edits.changes n ∙ ap (given known x.notice.account n) (kept.same n) ∙ given-taken x.notice.parts known x.notice.account n s.at whole.ranges are);
       }
 
 -- what holds of a ruling for all rows

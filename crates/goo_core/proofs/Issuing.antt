@@ -21,7 +21,6 @@ use Rattle.goo_ranges.specs.declared.edits.Edit.{Edit}
 use Rattle.goo_rows.specs.Rows.{AreRowsOf, meeting}
 use Rattle.goo_core.specs.Changes.{AreEditsFor, IsTurnedInTurn}
 use Rattle.goo_core.specs.Issue.{issue_with, terms_of, appraisal_with, appraisal_by, appraisal_of, range_in, with_issued}
-use Rattle.goo_core.specs.declared.issue.Appraisal.{Appraisal}
 use Rattle.goo_core.specs.declared.issue.Appraisal.TheVariants.{Fails, Passes}
 use Rattle.goo_core.specs.declared.issue.Issue.{Issue}
 use Rattle.goo_core.specs.declared.issue.Terms.{Terms}
@@ -94,7 +93,7 @@ pub issued_turned : (at : Certificates) (rows met : List Piece) (issue : Issue) 
     → IsTurnedInTurn (with_issued (Some issue) at) rows edits
 issued_turned at rows met issue edits kept is made =
     let here : AreEditsFor issue.range (meeting issue.range rows) (set_to issue.range.first issue.range.last (issue.lot, Held issue.account)) edits
-        = subst (λ m. AreEditsFor issue.range m (set_to issue.range.first issue.range.last (issue.lot, Held issue.account)) edits) is made.1 in
+    = subst (λ m. AreEditsFor issue.range m (set_to issue.range.first issue.range.last (issue.lot, Held issue.account)) edits) is made.1 in
     added_turned at rows issue.range issue.lot (Held issue.account) edits made.0 kept here
 
 -- a declaration that passes, with the edits of its issue

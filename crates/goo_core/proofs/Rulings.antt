@@ -59,4 +59,4 @@ pub ruled_move : (meaning : Meaning) (at : Certificates) (rows met : List Piece)
     → IsMoveRuling refused meaning.reply meaning.notice range place met ruling → IsRuling meaning rows ruling
 ruled_move meaning at rows met refused range place ruling kept is fresh same after ruled =
     ruled_change meaning at rows met refused range (moved range.first range.last place) ruling kept is fresh same (moved-outside range place)
-      (λ up n. ap (λ m. get m n) after ∙ get-move_each range place at n up) ruled
+    (λ up n. ap (λ m. get m n) after ∙ get-move_each range place at n up) ruled

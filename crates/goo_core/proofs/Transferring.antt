@@ -1,22 +1,17 @@
 -- What a transfer comes to.
-use Rattle.std.proofs.Common.{◌≡◌, ◌∙◌, ℕ, List, [], ◌∷◌, Option, None, refl, ap, sym, subst}
-use Rattle.std.specs.Prelude.{not}
+use Rattle.std.proofs.Common.{◌≡◌, ◌∙◌, ℕ, List, None, refl}
 use Rattle.std.specs.FinMap.{get}
 use Rattle.goo_types.specs.Day.{CalendarDay}
 use Rattle.goo_types.specs.Piece.{at_of}
 use Rattle.goo_types.specs.declared.command.Transfer.{Transfer}
 use Rattle.goo_types.specs.declared.piece.Piece.{Piece}
 use Rattle.goo_types.specs.declared.place.Place.TheVariants.{Held}
-use Rattle.goo_types.specs.declared.refusal.Refusal.{Refusal}
 use Rattle.goo_types.specs.declared.reply.Reply.TheVariants.{Moved}
 use Rattle.goo_spec.specs.Checks.{first_refusal}
-use Rattle.goo_spec.specs.Days.{is_closed}
-use Rattle.goo_spec.specs.Lots.{Certificates, is_held_by}
 use Rattle.goo_spec.specs.Maps.{count_of}
 use Rattle.goo_spec.specs.State.{State}
 use Rattle.goo_spec.specs.Transfer.{transfer_refusal, transfer_reply, with_transfer}
 use Rattle.goo_rows.specs.Rows.{AreRowsOf, meeting}
-use Rattle.goo_rows.proofs.Framing.{absent-alike, failing-alike}
 use Rattle.goo_core.specs.Moves.{IsMoveRuling}
 use Rattle.goo_core.specs.Ruling.{IsRuling, plain_meaning}
 use Rattle.goo_core.specs.Transfer.{entry_checks}
@@ -33,4 +28,4 @@ unfolding transfer_refusal transfer_reply with_transfer
 ruled_transfer s rows met caller x today ruling kept passed day is ruled =
     let late : first_refusal (trade_checks (get s.at) x.range x.giver s.today) ≡ first_refusal (trade_checks (at_of met) x.range x.giver today) = trade-alike s.at rows x.range x.giver s.today kept ∙ rw (is, day) refl in
     ruled_move (plain_meaning (transfer_refusal s caller x) (transfer_reply s x) (with_transfer s x).at) s.at rows met (first_refusal (trade_checks (at_of met) x.range x.giver today)) x.range (Held x.taker) ruling kept is refl
-      (passed_early (entry_checks s caller x) (trade_checks (get s.at) x.range x.giver s.today) passed ∙ late) refl ruled
+    (passed_early (entry_checks s caller x) (trade_checks (get s.at) x.range x.giver s.today) passed ∙ late) refl ruled

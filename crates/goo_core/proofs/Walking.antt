@@ -1,23 +1,22 @@
 -- A walk over the pieces of a range, which are all there.
-use Rattle.std.proofs.Common.{◌≡◌, ◌≢◌, ◌∙◌, ◌⊎◌, inl, inr, ⊎_elim, ℕ, zero, suc, ◌+◌, ◌-◌, ◌<◌, ◌≤◌, List, [], ◌∷◌, Bool, true, false, cond, Option, Some, None, refl, ap, sym, subst, arith}
+use Rattle.std.proofs.Common.{◌≡◌, ◌≢◌, ◌∙◌, inl, inr, ⊎_elim, ℕ, ◌+◌, ◌<◌, ◌≤◌, List, [], ◌∷◌, true, false, Option, Some, None, refl, ap, sym, subst, arith}
 use Rattle.std.specs.Prelude.{min}
 use Rattle.std.proofs.lemmas.Bool.{cases_lt, true≢false}
 use Rattle.std.proofs.lemmas.Bool.Decides.{nat_tests}
-use Rattle.goo_types.specs.Piece.{Label, at_of, covers, IsRising, IsRisingFrom}
+use Rattle.goo_types.specs.Piece.{Label, at_of, IsRising, IsRisingFrom}
 use Rattle.goo_types.specs.Range.{Numbers}
 use Rattle.goo_types.specs.declared.part.Part.{Part}
 use Rattle.goo_types.specs.declared.piece.Piece.{Piece}
-use Rattle.goo_ranges.proofs.Covers.{covers-inside, covers-below, covers-above}
-use Rattle.goo_ranges.proofs.Rising.{at_of-below, rising-weaken}
+use Rattle.goo_ranges.proofs.Covers.{covers-inside, covers-above}
+use Rattle.goo_ranges.proofs.Rising.{at_of-below}
 use Rattle.goo_spec.specs.Lots.{lot_in, is_absent}
 use Rattle.goo_spec.specs.Maps.{each, least_absent}
-use Rattle.goo_spec.specs.Parts.{AreInRow, LotsChange, HaveLots, ArePartsOf}
+use Rattle.goo_spec.specs.Parts.{AreInRow, ArePartsOf}
 use Rattle.goo_spec.proofs.Mapping.{none_some}
 use Rattle.goo_spec.proofs.Placing.{is_one_of, passed_over}
 use Rattle.goo_rows.proofs.Mapping.{one_of-each}
 use Rattle.goo_ranges.specs.Change.{inside}
-use Rattle.goo_core.specs.Parts.{IsLonger}
-use Rattle.goo_core.specs.Walk.{HasParts, IsPassed, IsTaken, IsStep}
+use Rattle.goo_core.specs.Walk.{HasParts, IsStep}
 
 -- a number of a piece that the pieces before lack
 at-here : (p : Piece) (ps : List Piece) (n : ℕ) → p.first ≤ n → n ≤ p.last → lot_in (at_of (p ∷ ps) n) ≡ Some p.lot
@@ -36,13 +35,13 @@ module _ (pieces : List Piece) (range : Numbers) (there : (n : ℕ) → range.fi
       let same : after ≡ next = passed.stays in
       let low : min p.last range.last < next = passed.below in
       let moved : HasParts pieces ps range next old = record {
-          from = has.from;
-          to = has.to;
-          row = has.row;
-          longest = has.longest;
-          lots = has.lots;
-          rest = λ n above within. has.rest n above within ∙ at-later p ps n (omega (arith, low, above, within));
-        } in
+        from = has.from;
+        to = has.to;
+        row = has.row;
+        longest = has.longest;
+        lots = has.lots;
+        rest = λ n above within. has.rest n above within ∙ at-later p ps n (omega (arith, low, above, within));
+      } in
       subst (λ parts. HasParts pieces ps range after parts) (sym passed.same) (subst (λ (k : ℕ). HasParts pieces ps range k old) (sym same) moved)
   has_step p ps next after old new rising has (inr taken) =
       let begins : taken.taken.first ≡ next = taken.begins in
@@ -53,9 +52,9 @@ module _ (pieces : List Piece) (range : Numbers) (there : (n : ℕ) → range.fi
       let from : range.first ≤ next = has.from in
       let up : taken.taken.first ≤ taken.taken.last = omega (arith, begins, ends, on, within) in
       let reached : p.first ≤ next = ⊎_elim
-          (λ (gap : next < p.first). absurd (there next from within (has.rest next (omega arith) within ∙ at-gap 0 p ps next rising gap)))
-          (λ (le : p.first ≤ next). le)
-          (cases_lt next p.first) in
+      (λ (gap : next < p.first). absurd (there next from within (has.rest next (omega arith) within ∙ at-gap 0 p ps next rising gap)))
+      (λ (le : p.first ≤ next). le)
+      (cases_lt next p.first) in
       let row : AreInRow range.first taken.taken.first old = subst (λ (k : ℕ). AreInRow range.first k old) (sym begins) has.row in
       record {
         from = omega (arith, from, begins, up, stops);
@@ -71,9 +70,9 @@ module _ (pieces : List Piece) (range : Numbers) (there : (n : ℕ) → range.fi
   has_all next parts has =
       let to : next ≤ range.last + 1 = has.to in
       let end : next ≡ range.last + 1 = ⊎_elim
-          (λ (more : next < range.last + 1). absurd (there next has.from (omega (arith, more)) (has.rest next (omega arith) (omega (arith, more)))))
-          (λ (le : range.last + 1 ≤ next). let e : next ≡ range.last + 1 = omega (arith, to, le) in e)
-          (cases_lt next (range.last + 1)) in
+      (λ (more : next < range.last + 1). absurd (there next has.from (omega (arith, more)) (has.rest next (omega arith) (omega (arith, more)))))
+      (λ (le : range.last + 1 ≤ next). let e : next ≡ range.last + 1 = omega (arith, to, le) in e)
+      (cases_lt next (range.last + 1)) in
       record { row = subst (λ (k : ℕ). AreInRow range.first k parts) end has.row; longest = has.longest; lots = has.lots }
 
   pub has_none : range.first ≤ range.last + 1 → HasParts pieces pieces range range.first []

@@ -1,12 +1,12 @@
 -- Certificates that are withdrawn row by row.
 use Rattle.std.proofs.Common.{◌≡◌, ◌∙◌, ℕ, ◌+◌, ◌<◌, ◌≤◌, List, [], ◌∷◌, ◌++◌, Bool, true, false, cond, ◌&&◌, if◌then◌else◌, Option, Some, None, refl, ap, sym, subst, arith}
-use Rattle.std.specs.Prelude.{nat_le, not, Vec, Result, Ok, Err, IfOk}
+use Rattle.std.specs.Prelude.{not, Vec, Result, Ok, Err, IfOk}
 use Rattle.std.specs.Global.{Global}
 use Rattle.goo_types.specs.declared.fault.Fault.{Fault}
 use Rattle.std.specs.Option.{option_map}
 use Rattle.std.specs.FinMap.{get}
 use Rattle.std.proofs.lemmas.Bool.Decides.{nat_tests}
-use Rattle.goo_types.specs.Piece.{Label, label_of, covers, at_of, IsForward, IsRising, IsRisingFrom}
+use Rattle.goo_types.specs.Piece.{Label, label_of, covers, at_of, IsRising, IsRisingFrom}
 use Rattle.goo_types.specs.Place.{account_of}
 use Rattle.goo_types.specs.Range.{Numbers}
 use Rattle.goo_types.specs.declared.piece.Piece.{Piece}
@@ -72,8 +72,8 @@ module _ (range part : Numbers) (row : Piece) (act : ℕ) (common : AreCommon ro
         within = subst (AreEditsWithin range met) (sym are) (within-push range met es edit made.within one);
         book_is = sym (edited-exact old new edit exact was now) ∙ ap (edited edit) made.book_is ∙ sym (edited_all-push met es edit) ∙ ap (λ l. edited_all l met) (sym are);
         changes = λ n. map n
-          ∙ ap (λ (b : Bool). if b then option_map (λ (label : Label). (label.0, place)) (at_of old n) else at_of old n) (common_inside row range part n common)
-          ∙ ap (row_withdrawn range act row n) (made.changes n);
+            ∙ ap (λ (b : Bool). if b then option_map (λ (label : Label). (label.0, place)) (at_of old n) else at_of old n) (common_inside row range part n common)
+            ∙ ap (row_withdrawn range act row n) (made.changes n);
       }
 
 -- one row more
@@ -96,9 +96,9 @@ all_withdrawn range act low [] n r =
     elim (inside range.first range.last n) as (λ b. none ≡ (if b then option_map (λ (label : Label). (label.0, Withdrawn (account_of label.1) act)) none else none)) [ true ↦ refl | false ↦ refl ]
 all_withdrawn range act low (p ∷ ps) n r =
     elim (covers p n) as (λ b. covers p n ≡ b → rows_withdrawn range act ps n (if b && inside range.first range.last n then option_map (λ (label : Label). (label.0, Withdrawn (account_of p.place) act)) (if b then Some (label_of p) else at_of ps n) else (if b then Some (label_of p) else at_of ps n))
-        ≡ withdrawn range act n (if b then Some (label_of p) else at_of ps n)) [
-      true ↦ λ here. untouched range act (p.last + 1) ps n (withdrawn range act n (Some (label_of p))) r.2 (grind (arith, nat_tests, here))
-    | false ↦ λ here. all_withdrawn range act (p.last + 1) ps n r.2
+    ≡ withdrawn range act n (if b then Some (label_of p) else at_of ps n)) [
+      | true ↦ λ here. untouched range act (p.last + 1) ps n (withdrawn range act n (Some (label_of p))) r.2 (grind (arith, nat_tests, here))
+      | false ↦ λ here. all_withdrawn range act (p.last + 1) ps n r.2
     ] refl
 
 -- the edits, row by row, are those of the whole range
@@ -122,16 +122,16 @@ unfolding withdraw_refusal withdraw_reply with_withdrawal
 ruled_withdraw s rows met caller x next ruling kept issuer number is ruled =
     let act = s.next_withdrawal in
     let here : IsChangeRuling (first_refusal (range_checks (at_of met) act x)) (reply.Withdrawn act (count_of x.range)) None x.range (withdrawn x.range act) met ruling
-        = subst (λ (k : ℕ). IsChangeRuling (first_refusal (range_checks (at_of met) k x)) (reply.Withdrawn k (count_of x.range)) None x.range (withdrawn x.range k) met ruling) number ruled in
+    = subst (λ (k : ℕ). IsChangeRuling (first_refusal (range_checks (at_of met) k x)) (reply.Withdrawn k (count_of x.range)) None x.range (withdrawn x.range k) met ruling) number ruled in
     let alike : first_refusal (range_checks (get s.at) act x) ≡ first_refusal (range_checks (at_of met) act x) =
-        rw (is, ← absent-alike s.at rows x.range kept, ← failing-alike (λ lot place. is_held place) s.at rows x.range kept) refl in
+    rw (is, ← absent-alike s.at rows x.range kept, ← failing-alike (λ lot place. is_held place) s.at rows x.range kept) refl in
     let issued : first_refusal (when (not (is_issuer caller)) NotAllowed ∷ range_checks (get s.at) act x) ≡ first_refusal (range_checks (get s.at) act x) =
-        ap (λ b. first_refusal (when (not b) NotAllowed ∷ range_checks (get s.at) act x)) issuer in
+    ap (λ b. first_refusal (when (not b) NotAllowed ∷ range_checks (get s.at) act x)) issuer in
     ruled_change (plain_meaning (withdraw_refusal s caller x) (withdraw_reply s x) (with_withdrawal s x).at) s.at rows met (first_refusal (range_checks (at_of met) act x)) x.range (withdrawn x.range act) ruling kept is refl
-      (issued ∙ alike)
-      (λ n o out. ap (λ (b : Bool). if b then option_map (λ (label : Label). (label.0, Withdrawn (account_of label.1) act)) o else o) out)
-      (λ up n. get-place_each-range (λ lot place. Withdrawn (account_of place) act) (λ lot place. refl) x.range s.at n up ∙ same_withdrawn act (inside x.range.first x.range.last n) (get s.at n))
-      here
+    (issued ∙ alike)
+    (λ n o out. ap (λ (b : Bool). if b then option_map (λ (label : Label). (label.0, Withdrawn (account_of label.1) act)) o else o) out)
+    (λ up n. get-place_each-range (λ lot place. Withdrawn (account_of place) act) (λ lot place. refl) x.range s.at n up ∙ same_withdrawn act (inside x.range.first x.range.last n) (get s.at n))
+    here
 
 pub withdrawn_edits_if : (range : Numbers) (act : ℕ) (rows book new : List Piece) (result : Result (Vec Edit Global) Fault) → range.first ≤ range.last → IsRising rows → rows ≡ book
     → IfOk result (λ edits. AreMade range book (rows_withdrawn range act rows) new edits.items)

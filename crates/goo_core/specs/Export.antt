@@ -1,5 +1,5 @@
 -- The checks of an export in parts, and what it sends.
-use Rattle.std.specs.Prelude.{◌≡◌, ◌⊎◌, ℕ, List, [], ◌∷◌, ◌++◌, not, nat_lt, length, Option, Some, None}
+use Rattle.std.specs.Prelude.{◌≡◌, ◌⊎◌, ℕ, List, [], ◌∷◌, not, nat_lt, length, Option, Some, None}
 use Rattle.std.specs.FinMap.{get, contains_key}
 use Rattle.goo_types.specs.Day.{CalendarDay}
 use Rattle.goo_types.specs.Notice.{NoticeContents, IsNotice, notice_contents}

@@ -1,5 +1,5 @@
 -- What a notice brings, part by part.
-use Rattle.std.specs.Prelude.{◌≡◌, ◌==◌, ◌&&◌, ℕ, cond, not, List, [], ◌∷◌, ◌++◌, Option, Some, None}
+use Rattle.std.specs.Prelude.{◌≡◌, ◌==◌, ◌&&◌, ℕ, cond, List, [], ◌∷◌, ◌++◌, Option, Some, None}
 use Rattle.std.specs.Option.{option_or}
 use Rattle.std.specs.List.{list_any}
 use Rattle.std.specs.FinMap.{get}

@@ -10,7 +10,6 @@ use Rattle.goo_spec.specs.State.{State}
 use Rattle.goo_spec.specs.Step.{refusal, reply_to, repeats, changed}
 use Rattle.goo_rows.specs.Plans.{IsTurned}
 use Rattle.goo_shelf.specs.Plan.{StayRising, notice_sent}
-use Rattle.goo_shelf.specs.Shelf.{Moment}
 use Rattle.goo_core.specs.declared.ruling.Change.{Change}
 use Rattle.goo_core.specs.declared.ruling.Ruling.{Ruling}
 use Rattle.goo_core.specs.declared.ruling.Ruling.TheVariants.{Refused, Repeated, Passed}

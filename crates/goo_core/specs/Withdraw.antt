@@ -1,5 +1,5 @@
 -- The checks of a withdrawal over its range, and its change.
-use Rattle.std.specs.Prelude.{◌≡◌, ◌⊎◌, ℕ, ◌≤◌, ◌<◌, ◌&&◌, max, min, List, [], ◌∷◌, not, nat_lt, if◌then◌else◌, Option, Some, None}
+use Rattle.std.specs.Prelude.{◌≡◌, ◌⊎◌, ℕ, ◌≤◌, ◌<◌, ◌&&◌, max, min, List, [], ◌∷◌, nat_lt, if◌then◌else◌, Option, Some, None}
 use Rattle.std.specs.Option.{option_map}
 use Rattle.goo_types.specs.Piece.{Label, covers}
 use Rattle.goo_types.specs.Place.{account_of}

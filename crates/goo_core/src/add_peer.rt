@@ -3,15 +3,14 @@ ghost use Rattle.goo_spec.specs.AddPeer.{add_peer_refusal, add_peer_reply};
 ghost use Rattle.goo_shelf.specs.Shelf.{Looks, IsReady};
 ghost use Rattle.goo_core.specs.Verdict.{verdict_of};
 
+use crate::callers::is_issuer;
+use crate::verdict::Verdict;
 use goo_shelf::shelf::Shelf;
 use goo_types::command::AddPeer;
 use goo_types::fault::Fault;
 use goo_types::holder_code::HolderCode;
 use goo_types::refusal::Refusal;
 use goo_types::reply::Reply;
-
-use crate::callers::is_issuer;
-use crate::verdict::Verdict;
 
 /// The checks of making another registry known.
 #[tactic(auto, unfolding(goo_spec::specs::AddPeer::add_peer_refusal, goo_spec::specs::AddPeer::add_peer_reply))]

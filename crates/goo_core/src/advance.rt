@@ -10,6 +10,9 @@ ghost use Rattle.goo_shelf.specs.Shelf.{Looks, IsReady};
 ghost use Rattle.goo_core.specs.Advance.{expired_place, count_in};
 ghost use Rattle.goo_core.specs.Ruling.{IsRuling, plain_meaning};
 
+use crate::callers::is_issuer;
+use crate::days::is_before;
+use crate::ruling::{Change, Ruling};
 use goo_ranges::Edit;
 use goo_shelf::shelf::Shelf;
 use goo_types::command::Advance;
@@ -20,10 +23,6 @@ use goo_types::place::Place;
 use goo_types::refusal::Refusal;
 use goo_types::reply::Reply;
 use std::alloc::{AllocError, Global};
-
-use crate::callers::is_issuer;
-use crate::days::is_before;
-use crate::ruling::{Change, Ruling};
 
 /// The checks of moving the date on.
 #[tactic(auto, unfolding(goo_spec::specs::Advance::advance_refusal))]

@@ -12,6 +12,7 @@ ghost use Rattle.goo_spec.specs.Days.{is_over as over_test};
 ghost use Rattle.std.specs.List.{list_any};
 ghost use Rattle.goo_core.specs.Import.{unknown_in, taken_in, differing_in, least_of, numbers_checks};
 
+use crate::days::is_over;
 use goo_ranges::Book;
 use goo_types::day::Day;
 use goo_types::lot::Lot;
@@ -21,8 +22,6 @@ use goo_types::place::Place;
 use goo_types::range::Range;
 use goo_types::refusal::Refusal;
 use goo_types::registry_code::RegistryCode;
-
-use crate::days::is_over;
 
 /// A part of a notice, with what is known of its certificates and of its lot.
 #[derive(Drop)]
@@ -49,11 +48,12 @@ fn is_exported(place: Place) -> bool
 fn least_at_home(book: &Book, range: Range) -> Option<Number>
     ensures { result ≡ least_failing (λ lot place. exported_test place) (at_of book.now) (each range) }
 {
-    book.least_not(range, move |_, place| -> bool
-        ensures { result ≡ exported_test place }
-    {
-        is_exported(place)
-    })
+    book.least_not(
+        range,
+        move |_, place| -> bool
+            ensures { result ≡ exported_test place }
+        { is_exported(place) },
+    )
 }
 
 /// Whether both lots have the same contents.
@@ -67,11 +67,12 @@ fn is_same_lot(one: &Lot, other: &Lot) -> bool
 fn least_of_other_lot(book: &Book, range: Range, lot: Lot) -> Option<Number>
     ensures { result ≡ least_failing (λ known place. same_lot known lot) (at_of book.now) (each range) }
 {
-    book.least_not(range, move |known, _| -> bool
-        ensures { result ≡ same_lot known lot }
-    {
-        is_same_lot(&known, &lot)
-    })
+    book.least_not(
+        range,
+        move |known, _| -> bool
+            ensures { result ≡ same_lot known lot }
+        { is_same_lot(&known, &lot) },
+    )
 }
 
 /// Whether a lot is known with other contents.

@@ -12,6 +12,11 @@ ghost use Rattle.goo_core.specs.Cancel.{entry_checks, range_checks};
 ghost use Rattle.goo_core.specs.Moves.{IsMoveRuling};
 ghost use Rattle.goo_core.specs.Ruling.{IsRuling, plain_meaning};
 
+use crate::callers::is_holder;
+use crate::change::move_met;
+use crate::days::is_before;
+use crate::range_checks::least_not_held_by;
+use crate::ruling::{Change, Ruling};
 use goo_ranges::Book;
 use goo_shelf::counters::Counters;
 use goo_shelf::shelf::Shelf;
@@ -24,12 +29,6 @@ use goo_types::place::Place;
 use goo_types::refusal::Refusal;
 use goo_types::reply::Reply;
 use std::alloc::Global;
-
-use crate::callers::is_holder;
-use crate::change::move_met;
-use crate::days::is_before;
-use crate::range_checks::least_not_held_by;
-use crate::ruling::{Change, Ruling};
 
 /// The checks of a cancellation before those over its range.
 fn entry_refusal<S: Shelf>(
@@ -71,7 +70,12 @@ fn cancel_certificates(
     let Some(cancellation) = ActNo::new(counters.cancellation()) else {
         return Ok(Ruling::Refused(Refusal::NumbersExhausted));
     };
-    let edits = move_met(alloc, book, range, Place::Cancelled(cancel.account, cancellation))?;
+    let edits = move_met(
+        alloc,
+        book,
+        range,
+        Place::Cancelled(cancel.account, cancellation),
+    )?;
     Ok(Ruling::Passed(Change {
         reply: Reply::Cancelled {
             cancellation,

@@ -8,6 +8,9 @@ ghost use Rattle.goo_shelf.specs.Shelf.{Looks, IsReady};
 ghost use Rattle.goo_core.specs.CloseAccount.{entry_checks};
 ghost use Rattle.goo_core.specs.Verdict.{verdict_of};
 
+use crate::callers::{is_holder, is_issuer};
+use crate::range_checks::is_held_by;
+use crate::verdict::Verdict;
 use goo_shelf::shelf::Shelf;
 use goo_types::account_no::AccountNo;
 use goo_types::command::CloseAccount;
@@ -17,10 +20,6 @@ use goo_types::piece::Piece;
 use goo_types::refusal::Refusal;
 use goo_types::reply::Reply;
 use std::alloc::Global;
-
-use crate::callers::{is_holder, is_issuer};
-use crate::range_checks::is_held_by;
-use crate::verdict::Verdict;
 
 /// The checks of closing an account before the one over its certificates.
 fn entry_refusal<S: Shelf>(

@@ -6,17 +6,6 @@ ghost use Rattle.goo_shelf.specs.Shelf.{Looks, IsReady};
 ghost use Rattle.goo_core.specs.Decision.{IsDecision, IsQuietRuling};
 ghost use Rattle.goo_core.specs.Ruling.{IsRuling, meaning_of};
 
-use goo_shelf::found::Receipt;
-use goo_shelf::plan::Plan;
-use goo_shelf::shelf::Shelf;
-use goo_types::command::Command;
-use goo_types::fault::Fault;
-use goo_types::holder_code::HolderCode;
-use goo_types::refusal::Refusal;
-use goo_types::reply::Reply;
-use goo_types::request::Request;
-use std::alloc::Global;
-
 use crate::add_peer::judge_add_peer;
 use crate::advance::judge_advance;
 use crate::cancel::judge_cancel;
@@ -31,6 +20,16 @@ use crate::ruling::{Change, Ruling};
 use crate::transfer::judge_transfer;
 use crate::verdict::Verdict;
 use crate::withdraw::judge_withdraw;
+use goo_shelf::found::Receipt;
+use goo_shelf::plan::Plan;
+use goo_shelf::shelf::Shelf;
+use goo_types::command::Command;
+use goo_types::fault::Fault;
+use goo_types::holder_code::HolderCode;
+use goo_types::refusal::Refusal;
+use goo_types::reply::Reply;
+use goo_types::request::Request;
+use std::alloc::Global;
 
 /// What a request comes to.
 #[derive(Drop)]
@@ -118,11 +117,7 @@ fn decide_fresh<S: Shelf>(
 ///
 /// A fault takes the place of any answer: `Store` as the shelf tells it, `Memory` where an
 /// allocation was refused. State and rows stay as they are.
-pub fn decide<S: Shelf>(
-    alloc: Global,
-    shelf: &mut S,
-    request: &Request,
-) -> Result<Decision, Fault>
+pub fn decide<S: Shelf>(alloc: Global, shelf: &mut S, request: &Request) -> Result<Decision, Fault>
     requires sound { (S.seen shelf.old).doubts ≡ 0 → IsSound (S.seen shelf.old).state }
     requires rows { (S.seen shelf.old).doubts ≡ 0 → AreRowsOf (S.seen shelf.old).state.at (S.seen shelf.old).rows }
     ensures { Looks (S.seen shelf.old) (S.seen shelf.new) result (IsDecision (S.seen shelf.old).state (S.seen shelf.old).rows request.now) }

@@ -12,6 +12,11 @@ ghost use Rattle.goo_shelf.specs.Shelf.{Looks, IsReady};
 ghost use Rattle.goo_core.specs.Ruling.{IsRuling, plain_meaning};
 ghost use Rattle.goo_core.specs.Issue.{IsStandingIf, IsStanding, appraisal_of, appraisal_with, terms_of, lot_on, energy_checks};
 
+use crate::callers::is_issuer;
+use crate::days::{is_before, is_over};
+use crate::issue::{Appraisal, Terms, issue_edits, issue_of, issued_range, numbers_from};
+use crate::own::{Meta, read_meta};
+use crate::ruling::{Change, Ruling};
 use goo_shelf::account::Account;
 use goo_shelf::device::Device;
 use goo_shelf::found::Progress;
@@ -24,14 +29,8 @@ use goo_types::holder_code::HolderCode;
 use goo_types::lot::Lot;
 use goo_types::lot_fields::LotFields;
 use goo_types::refusal::Refusal;
-use std::alloc::Global;
 use goo_types::reply::Reply;
-
-use crate::callers::is_issuer;
-use crate::days::{is_before, is_over};
-use crate::own::{read_meta, Meta};
-use crate::ruling::{Change, Ruling};
-use crate::issue::{issue_edits, issue_of, issued_range, numbers_from, Appraisal, Terms};
+use std::alloc::Global;
 
 /// What a declaration is judged by.
 #[derive(Clone, Copy)]

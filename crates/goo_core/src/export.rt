@@ -9,6 +9,12 @@ ghost use Rattle.goo_shelf.specs.Shelf.{Looks, IsReady};
 ghost use Rattle.goo_core.specs.Export.{entry_checks, sending_checks, notice_with, IsUnsendable, IsExportRuling, export_meaning};
 ghost use Rattle.goo_core.specs.Ruling.{IsRuling};
 
+use crate::callers::is_holder;
+use crate::change::move_met;
+use crate::own::{Meta, read_meta};
+use crate::parts::parts_in;
+use crate::range_checks::trade_refusal;
+use crate::ruling::{Change, Ruling};
 use goo_ranges::Book;
 use goo_shelf::shelf::Shelf;
 use goo_types::act_no::ActNo;
@@ -22,13 +28,6 @@ use goo_types::place::Place;
 use goo_types::refusal::Refusal;
 use goo_types::reply::Reply;
 use std::alloc::Global;
-
-use crate::callers::is_holder;
-use crate::change::move_met;
-use crate::own::{Meta, read_meta};
-use crate::parts::parts_in;
-use crate::range_checks::trade_refusal;
-use crate::ruling::{Change, Ruling};
 
 /// The checks of an export before those over its range.
 fn entry_refusal<S: Shelf>(

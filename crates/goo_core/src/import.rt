@@ -12,6 +12,10 @@ ghost use Rattle.goo_core.specs.Import.{IsArriving, AreArriving, standing_checks
 ghost use Rattle.goo_core.specs.Taking.{IsTakeRuling, AreMet};
 ghost use Rattle.goo_core.specs.Ruling.{IsRuling};
 
+use crate::arriving::{Arriving, is_stale, numbers_refusal};
+use crate::callers::is_issuer;
+use crate::ruling::{Change, Ruling};
+use crate::taking::take_parts;
 use goo_ranges::Book;
 use goo_shelf::found::Arrival;
 use goo_shelf::shelf::Shelf;
@@ -24,11 +28,6 @@ use goo_types::refusal::Refusal;
 use goo_types::registry_code::RegistryCode;
 use goo_types::reply::Reply;
 use std::alloc::{AllocError, Global};
-
-use crate::arriving::{Arriving, is_stale, numbers_refusal};
-use crate::callers::is_issuer;
-use crate::ruling::{Change, Ruling};
-use crate::taking::take_parts;
 
 /// The checks of an import before that for the same notice.
 fn entry_refusal<S: Shelf>(

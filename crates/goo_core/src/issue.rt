@@ -8,6 +8,7 @@ ghost use Rattle.goo_rows.specs.Rows.{AreRowsOf};
 ghost use Rattle.goo_shelf.specs.Shelf.{Looks, IsReady};
 ghost use Rattle.goo_core.specs.Changes.{IsTurnedInTurn};
 
+use crate::change::add_met;
 use goo_ranges::{Book, Edit};
 use goo_shelf::shelf::Shelf;
 use goo_types::account_no::AccountNo;
@@ -16,11 +17,9 @@ use goo_types::lot::Lot;
 use goo_types::number::Number;
 use goo_types::place::Place;
 use goo_types::range::Range;
-use goo_types::registry_code::RegistryCode;
 use goo_types::refusal::Refusal;
+use goo_types::registry_code::RegistryCode;
 use std::alloc::Global;
-
-use crate::change::add_met;
 
 /// Certificates that are issued to an account.
 #[derive(Clone, Copy)]
@@ -104,5 +103,11 @@ pub fn issue_edits<S: Shelf>(
     };
     let met = shelf.meeting(alloc, issue.range)?;
     let book = Book::of_rows(met);
-    add_met(alloc, book, issue.range, issue.lot, Place::Held(issue.account))
+    add_met(
+        alloc,
+        book,
+        issue.range,
+        issue.lot,
+        Place::Held(issue.account),
+    )
 }

@@ -3,6 +3,8 @@ ghost use Rattle.goo_spec.specs.OpenAccount.{open_account_refusal, open_account_
 ghost use Rattle.goo_shelf.specs.Shelf.{Looks, IsReady};
 ghost use Rattle.goo_core.specs.Verdict.{verdict_of};
 
+use crate::callers::is_issuer;
+use crate::verdict::Verdict;
 use goo_shelf::shelf::Shelf;
 use goo_types::account_no::AccountNo;
 use goo_types::command::OpenAccount;
@@ -10,9 +12,6 @@ use goo_types::fault::Fault;
 use goo_types::holder_code::HolderCode;
 use goo_types::refusal::Refusal;
 use goo_types::reply::Reply;
-
-use crate::callers::is_issuer;
-use crate::verdict::Verdict;
 
 /// The checks of opening an account, and its number.
 #[tactic(auto, unfolding(goo_spec::specs::OpenAccount::open_account_refusal, goo_spec::specs::OpenAccount::open_account_reply))]

@@ -8,6 +8,7 @@ ghost use Rattle.goo_spec.specs.Maps.{each, least_failing};
 ghost use Rattle.goo_spec.specs.Checks.{first_refusal};
 ghost use Rattle.goo_core.specs.Trade.{trade_checks};
 
+use crate::days::is_closed;
 use goo_ranges::Book;
 use goo_types::account_no::AccountNo;
 use goo_types::day::Day;
@@ -15,8 +16,6 @@ use goo_types::number::Number;
 use goo_types::place::Place;
 use goo_types::range::Range;
 use goo_types::refusal::Refusal;
-
-use crate::days::is_closed;
 
 /// Whether a place is an account that holds.
 pub fn is_held(place: Place) -> bool
@@ -42,33 +41,36 @@ pub fn is_held_by(account: AccountNo, place: Place) -> bool
 pub fn least_not_held_by(book: &Book, range: Range, account: AccountNo) -> Option<Number>
     ensures { result ≡ least_failing (λ lot place. held_by_test account place) (at_of book.now) (each range) }
 {
-    book.least_not(range, move |_, place| -> bool
-        ensures { result ≡ held_by_test account place }
-    {
-        is_held_by(account, place)
-    })
+    book.least_not(
+        range,
+        move |_, place| -> bool
+            ensures { result ≡ held_by_test account place }
+        { is_held_by(account, place) },
+    )
 }
 
 /// The least number of the range that is there and that no account holds.
 pub fn least_not_held(book: &Book, range: Range) -> Option<Number>
     ensures { result ≡ least_failing (λ lot place. held_test place) (at_of book.now) (each range) }
 {
-    book.least_not(range, move |_, place| -> bool
-        ensures { result ≡ held_test place }
-    {
-        is_held(place)
-    })
+    book.least_not(
+        range,
+        move |_, place| -> bool
+            ensures { result ≡ held_test place }
+        { is_held(place) },
+    )
 }
 
 /// The least number of the range that is there and whose trade is closed.
 pub fn least_closed(book: &Book, range: Range, today: Day) -> Option<Number>
     ensures { result ≡ least_failing (λ lot place. not (closed_test lot today)) (at_of book.now) (each range) }
 {
-    book.least_not(range, move |lot, _| -> bool
-        ensures { result ≡ not (closed_test lot today) }
-    {
-        !is_closed(&lot, today)
-    })
+    book.least_not(
+        range,
+        move |lot, _| -> bool
+            ensures { result ≡ not (closed_test lot today) }
+        { !is_closed(&lot, today) },
+    )
 }
 
 /// The first check that fails of those over a range whose certificates an account gives away: each is

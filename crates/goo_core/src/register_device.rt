@@ -3,15 +3,14 @@ ghost use Rattle.goo_spec.specs.RegisterDevice.{register_device_refusal, registe
 ghost use Rattle.goo_shelf.specs.Shelf.{Looks, IsReady};
 ghost use Rattle.goo_core.specs.Verdict.{verdict_of};
 
+use crate::callers::is_issuer;
+use crate::verdict::Verdict;
 use goo_shelf::shelf::Shelf;
 use goo_types::command::RegisterDevice;
 use goo_types::fault::Fault;
 use goo_types::holder_code::HolderCode;
 use goo_types::refusal::Refusal;
 use goo_types::reply::Reply;
-
-use crate::callers::is_issuer;
-use crate::verdict::Verdict;
 
 /// The checks of registering a device.
 #[tactic(auto, unfolding(goo_spec::specs::RegisterDevice::register_device_refusal, goo_spec::specs::RegisterDevice::register_device_reply))]

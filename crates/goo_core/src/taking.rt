@@ -8,14 +8,13 @@ ghost use Rattle.goo_rows.specs.Plans.{AreEditsOf};
 ghost use Rattle.goo_rows.specs.Rows.{meeting};
 ghost use Rattle.goo_core.specs.Taking.{IsStepOf, IsTaking, AreMet};
 
+use crate::arriving::Arriving;
 use goo_ranges::{Book, Edit};
 use goo_rows::near_after;
 use goo_types::account_no::AccountNo;
 use goo_types::fault::Fault;
 use goo_types::place::Place;
 use std::alloc::{AllocError, Global};
-
-use crate::arriving::Arriving;
 
 /// The edit that takes in one part, after those of the parts before it; None where the rows make no
 /// book, which those of a shelf always do.

@@ -13,6 +13,10 @@ ghost use Rattle.goo_types.specs.declared.place.Place.TheVariants.{Held};
 ghost use Rattle.goo_types.specs.declared.reply.Reply.TheVariants.{Moved};
 ghost use Rattle.goo_spec.specs.Maps.{count_of};
 
+use crate::callers::is_holder;
+use crate::change::move_met;
+use crate::range_checks::trade_refusal;
+use crate::ruling::{Change, Ruling};
 use goo_ranges::Book;
 use goo_shelf::shelf::Shelf;
 use goo_types::command::Transfer;
@@ -24,11 +28,6 @@ use goo_types::place::Place;
 use goo_types::refusal::Refusal;
 use goo_types::reply::Reply;
 use std::alloc::Global;
-
-use crate::callers::is_holder;
-use crate::change::move_met;
-use crate::range_checks::trade_refusal;
-use crate::ruling::{Change, Ruling};
 
 /// The checks of a transfer before those over its range.
 fn entry_refusal<S: Shelf>(

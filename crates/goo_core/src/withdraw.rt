@@ -13,6 +13,10 @@ ghost use Rattle.goo_core.specs.Moves.{IsChangeRuling};
 ghost use Rattle.goo_core.specs.Ruling.{IsRuling, plain_meaning};
 ghost use Rattle.goo_core.specs.Withdraw.{range_checks, withdrawn, row_withdrawn, rows_withdrawn, AreCommon};
 
+use crate::callers::is_issuer;
+use crate::change::push_edit;
+use crate::range_checks::least_not_held;
+use crate::ruling::{Change, Ruling};
 use goo_ranges::{Book, Edit};
 use goo_shelf::counters::Counters;
 use goo_shelf::shelf::Shelf;
@@ -26,11 +30,6 @@ use goo_types::range::Range;
 use goo_types::refusal::Refusal;
 use goo_types::reply::Reply;
 use std::alloc::Global;
-
-use crate::callers::is_issuer;
-use crate::change::push_edit;
-use crate::range_checks::least_not_held;
-use crate::ruling::{Change, Ruling};
 
 /// The numbers that a row and a range have in common, if there are any.
 fn common_part(row: &Piece, range: Range) -> Option<Range>

@@ -1,3 +1,5 @@
+pub mod Carrying
 pub mod Finding
+pub mod Going
 pub mod Keeping
 pub mod Looking

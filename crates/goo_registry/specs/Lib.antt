@@ -1,2 +1,4 @@
 pub mod Shown
 pub mod Reads
+pub mod Applying
+pub mod Running

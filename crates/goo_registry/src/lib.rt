@@ -2,6 +2,7 @@
 #![tactic(auto)]
 
 mod access;
+mod apply;
 mod audit;
 mod cancellation;
 mod cancellation_statement;
@@ -10,7 +11,10 @@ mod notice;
 mod place;
 mod read_fault;
 mod registry;
+mod run;
+mod run_fault;
 
 pub use cancellation_statement::CancellationStatement;
 pub use read_fault::{Denial, ReadFault};
 pub use registry::Registry;
+pub use run_fault::RunFault;

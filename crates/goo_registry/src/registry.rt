@@ -1,11 +1,14 @@
-//! A registry over what keeps its records.
+//! A registry over what keeps its records: requests, and what may be read of it.
 
 ghost use Rattle.std.specs.Prelude.{◌≡◌};
 ghost use Rattle.goo_rows.specs.Rows.{AreRowsOf, rows-prop};
 ghost use Rattle.goo_spec.specs.Sound.{IsSound};
+ghost use Rattle.goo_registry.specs.Applying.{Applies};
+ghost use Rattle.goo_registry.specs.Running.{Runs};
 ghost use Rattle.goo_registry.specs.Shown.{Shows, apart as answer_of};
 ghost use Rattle.goo_registry.specs.Reads.{place_shown, notice_shown, AreHoldings, IsCancellationShown, IsAudit};
 
+use crate::apply::carry_out;
 use crate::audit::find_totals;
 use crate::cancellation::find_cancellation;
 use crate::cancellation_statement::CancellationStatement;
@@ -13,6 +16,8 @@ use crate::holdings::find_holdings;
 use crate::notice::find_notice;
 use crate::place::find_place;
 use crate::read_fault::{Denial, ReadFault};
+use crate::run::run_all;
+use crate::run_fault::RunFault;
 use goo_shelf::found::DeviceTotals;
 use goo_shelf::shelf::Shelf;
 use goo_types::account_no::AccountNo;
@@ -22,8 +27,10 @@ use goo_types::holder_code::HolderCode;
 use goo_types::lot::Lot;
 use goo_types::notice::Notice;
 use goo_types::number::Number;
+use goo_types::outcome::Outcome;
 use goo_types::piece::Piece;
 use goo_types::place::Place;
+use goo_types::request::Request;
 use std::alloc::Global;
 
 /// The registry of an issuing body of guarantees of origin (Directive (EU) 2018/2001, Article 19).
@@ -62,6 +69,25 @@ impl<S: Shelf> Registry<S> {
     {
         let Registry { shelf } = self;
         shelf
+    }
+
+    /// One request: what it comes to, and the state goes on as it says. A refused and a repeated request
+    /// change nothing; an accepted one is committed as a whole. A fault takes the place of the answer and
+    /// leaves everything as it was: `Store` where what lies below refused a call, `Memory` where memory
+    /// was refused.
+    pub fn apply(&mut self, alloc: Global, request: &Request) -> Result<Outcome, Fault>
+        ensures { Applies (S.seen self.old.shelf) (S.seen self.new.shelf) result request.now }
+    {
+        carry_out(alloc, &mut self.shelf, request)
+    }
+
+    /// Requests in order: what each comes to, or the first fault and what was answered before. Those that
+    /// were answered stand; the request of the fault changed nothing, and the later ones weren't tried.
+    /// Room for all outcomes is taken first: where it is refused, that is a `Memory` with nothing done.
+    pub fn run(&mut self, alloc: Global, requests: &[Request]) -> Result<Vec<Outcome>, RunFault>
+        ensures { Runs (S.seen self.old.shelf) (S.seen self.new.shelf) result requests.now }
+    {
+        run_all(alloc, &mut self.shelf, requests)
     }
 
     /// The lot and the place of a certificate: `NotAllowed` to a caller that is neither the issuing body

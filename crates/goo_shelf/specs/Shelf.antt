@@ -1,6 +1,6 @@
 -- What the calls of a shelf say.
-use Rattle.std.specs.Prelude.{◌≡◌, ◌⊎◌, ℕ, ◌≤◌, cond, Bool, List, map, Option, Some, None, Result, Ok, Err, IfOk, OnOk, OnErr}
-use Rattle.std.specs.FinMap.{get, entries}
+use Rattle.std.specs.Prelude.{◌≡◌, ℕ, ◌≤◌, cond, List, map, Option, Some, None, Result, Ok, Err, IfOk, OnOk}
+use Rattle.std.specs.FinMap.{entries}
 use Rattle.goo_types.specs.Day.{CalendarDay}
 use Rattle.goo_types.specs.Notice.{NoticeContents}
 use Rattle.goo_types.specs.declared.command.Cancel.{Cancel}

@@ -1,3 +1,10 @@
+use crate::account::Account;
+use crate::cancel_record::CancelRecord;
+use crate::counters::Counters;
+use crate::device::Device;
+use crate::found::{Arrival, DeviceTotals, Progress, Receipt};
+use crate::plan::Plan;
+use crate::sent::Sent;
 use goo_types::account_no::AccountNo;
 use goo_types::act_no::ActNo;
 use goo_types::command::Command;
@@ -13,14 +20,6 @@ use goo_types::piece::Piece;
 use goo_types::range::Range;
 use goo_types::registry_code::RegistryCode;
 use std::alloc::Global;
-
-use crate::account::Account;
-use crate::cancel_record::CancelRecord;
-use crate::counters::Counters;
-use crate::device::Device;
-use crate::found::{Arrival, DeviceTotals, Progress, Receipt};
-use crate::plan::Plan;
-use crate::sent::Sent;
 
 /// What keeps a registry's state, however it does.
 ///

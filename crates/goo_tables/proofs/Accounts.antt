@@ -149,7 +149,7 @@ closes_row old new t number (Ok count) it ran =
     let p = λ (a : Account). int_eq (account_key a) (pos number) in
     let source = last_table db 3 account_row account_key t.accounts it.accounts.are it.accounts.rise (at_end db) in
     let rows = answer_of_one close_query db params source p (λ a. last_term (at_ints false Eq (account_key a) (pos number))) (λ a. Int (account_key a) ∷ account_row (closing a)) (λ _. refl) refl refl
-        (one_keyed account_key (pos number) t.accounts it.accounts.rise) made.0 (made.1.answer Null) in
+    (one_keyed account_key (pos number) t.accounts it.accounts.rise) made.0 (made.1.answer Null) in
     accounts_stand old.now new.now t it made.2.schema_is made.2.applied.tables (update_where p closing t.accounts) (record {
       are = made.2.applied.rows ∙ updated account_key account_row (λ _. refl) account (λ a. simp (cast_null, cast_int) refl) p closing (λ _. refl) old.now.trees t.accounts it.accounts.are it.accounts.rise made.0 rows;
       rise = IsKeyedBy-update_where account_key p closing (λ _. refl) t.accounts it.accounts.rise;

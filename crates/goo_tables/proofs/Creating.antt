@@ -1,5 +1,5 @@
 -- What each CREATE leaves.
-use Rattle.std.proofs.Common.{◌≡◌, ℕ, ◌+◌, ◌<◌, zero, suc, IsTrue, arith, List, [], ◌∷◌, ◌++◌, map, get_or, slice_get, codes, true, false, Some, None, Ok, Err, Result, refl, sym, ap, subst, ◌∙◌}
+use Rattle.std.proofs.Common.{◌≡◌, ℕ, ◌+◌, ◌<◌, zero, suc, IsTrue, arith, List, [], ◌∷◌, get_or, slice_get, codes, false, Some, None, Ok, refl, sym, ap, subst, ◌∙◌}
 use Rattle.std.specs.List.{AllByRecursion}
 use Rattle.sqlite_tied.specs.Compute.{everything}
 use Rattle.sqlite.specs.Table.{Table}

@@ -121,7 +121,7 @@ finds_by_id old id t it x rows answer read =
     let p = λ (l : Lot). int_eq (lot_key l) (pos id) in
     let source = last_table db 8 lot_row lot_key t.lots it.lots.are it.lots.rise (at_end db) in
     let shown = answer_by_keys by_id_query db (Int (pos id) ∷ []) source p (λ l. last_term (at_ints false Eq (lot_key l) (pos id))) (λ r. r) lot_columns (λ _. refl) refl refl
-        (λ a b. last_key (value_cmp-Int (lot_key a) (lot_key b))) rows answer in
+    (λ a b. last_key (value_cmp-Int (lot_key a) (lot_key b))) rows answer in
     first_listed (lot_reads 0) lot_columns lot_in lot_same p t.lots x (subst (λ l. FirstZip (lot_reads 0) l x) (sym (map-id rows) ∙ shown) read)
 
 -- ---- lot: the whole table

@@ -1,5 +1,5 @@
 -- What the statements on `piece` do and show.
-use Rattle.std.proofs.Common.{◌≡◌, ℕ, pos, List, [], ◌∷◌, filter, codes, map, map-id, Some, true, false, Ok, Err, Result, OnOk, refl, sym, ap, subst, ◌∙◌, int_eq, find, Option}
+use Rattle.std.proofs.Common.{◌≡◌, ℕ, pos, List, [], ◌∷◌, filter, codes, map, map-id, true, false, Ok, Err, Result, OnOk, refl, sym, ap, subst, ◌∙◌, int_eq, find, Option}
 use Rattle.std.specs.List.{AllZip}
 use Rattle.sqlite_tied.specs.Compute.{everything}
 use Rattle.sqlite.specs.declared.types.Value.TheVariants.{Null, Int}
@@ -101,7 +101,7 @@ deletes_row old new t first (Ok count) it ran =
     let p = λ (x : PieceRow). int_eq (piece_key x) (pos first) in
     let source = last_table db 10 piece_row piece_key t.pieces it.pieces.are it.pieces.rise (at_end db) in
     let rows = answer_of_one delete_query db params source p (λ x. last_term (at_ints false Eq (piece_key x) (pos first))) (λ x. Int (piece_key x) ∷ []) (λ _. refl) refl refl
-        (one_keyed piece_key (pos first) t.pieces it.pieces.rise) made.0 (made.1.answer Null) in
+    (one_keyed piece_key (pos first) t.pieces it.pieces.rise) made.0 (made.1.answer Null) in
     pieces_stand old.now new.now t it made.2.schema_is made.2.applied.tables (delete_where p t.pieces) (record {
       are = made.2.applied.rows ∙ ap (λ l. without_all (old.now.trees 10) (ids_of l)) rows ∙ ap (without_all (old.now.trees 10)) (map-map (λ (r : Row). id_in (rowid r)) (λ (x : PieceRow). Int (piece_key x) ∷ []) (filter p t.pieces))
           ∙ removes piece_key piece_row (λ _. refl) (old.now.trees 10) t.pieces p it.pieces.are it.pieces.rise;
@@ -132,7 +132,7 @@ finds old first t it x rows answer read =
     let p = λ (x : PieceRow). int_eq (piece_key x) (pos first) in
     let source = last_table db 10 piece_row piece_key t.pieces it.pieces.are it.pieces.rise (at_end db) in
     let shown = answer_by_keys find_query db (Int (pos first) ∷ []) source p (λ x. last_term (at_ints false Eq (piece_key x) (pos first))) (λ r. r) piece_columns (λ _. refl) refl refl
-        (λ a b. last_key (value_cmp-Int (piece_key a) (piece_key b))) rows answer in
+    (λ a b. last_key (value_cmp-Int (piece_key a) (piece_key b))) rows answer in
     sym (option_map_id x) ∙ first_listed piece_reads piece_columns (λ x. x) piece_same p t.pieces x (subst (λ l. FirstZip piece_reads l x) (sym (map-id rows) ∙ shown) read)
 
 -- ---- piece: the whole table

@@ -1,13 +1,12 @@
 -- What the statements on `piece` joined with `lot` show.
-use Rattle.std.proofs.Common.{◌≡◌, ℕ, ℤ, Bool, pos, negsuc, ◌&&◌, List, [], ◌∷◌, map, filter, find, reverse, codes, true, false, None, Some, Option, option_map, refl, sym, subst, ◌∙◌, take, int_eq, nat_le, nat_lt}
+use Rattle.std.proofs.Common.{◌≡◌, ℕ, ℤ, Bool, pos, negsuc, ◌&&◌, List, [], ◌∷◌, map, filter, find, reverse, codes, false, None, Some, Option, option_map, refl, subst, ◌∙◌, take, int_eq, nat_le, nat_lt}
 use Rattle.std.specs.List.{AllZip, list_all}
-use Rattle.std.proofs.lemmas.List.Sorted.{IsPermutation-refl}
 use Rattle.sqlite_tied.specs.Compute.{everything}
 use Rattle.sqlite.specs.declared.types.Value.TheVariants.{Int, Text}
 use Rattle.sqlite.specs.Collation.TheVariants.{Binary}
 use Rattle.sqlite.specs.Order.{Row}
 use Rattle.sqlite.specs.Term.{Term, lit, col, op2, holds}
-use Rattle.sqlite.specs.Query.{Query, IsAnswer, inner, end, page}
+use Rattle.sqlite.specs.Query.{Query, IsAnswer, inner, end}
 use Rattle.sqlite.specs.Program.{overlay}
 use Rattle.sqlite.specs.Command.TheVariants.{Select}
 use Rattle.sqlite.specs.Listing.{understood, reads_listing}

@@ -3,10 +3,10 @@
 
 pub mod account;
 pub mod cancellation;
-pub mod declaration;
-pub mod device;
 pub mod counters;
 pub mod create;
+pub mod declaration;
+pub mod device;
 pub mod holder;
 pub mod joined;
 pub mod lot;

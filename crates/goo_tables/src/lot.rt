@@ -102,10 +102,7 @@ pub fn all_lots<S: Alter>(alloc: Global, conn: &mut Connection<S>) -> Result<Vec
 }
 
 /// The lot with the highest number.
-pub fn last_lot<S: Alter>(
-    alloc: Global,
-    conn: &mut Connection<S>,
-) -> Result<Option<LotRow>, Error>
+pub fn last_lot<S: Alter>(alloc: Global, conn: &mut Connection<S>) -> Result<Option<LotRow>, Error>
     ensures looks { Looks (state S.Store conn.old) (state S.Store conn.new) result (λ t found. option_map lot_in found ≡ slice_get (reverse t.lots) 0) }
     ensures outside { conn.old.in_transaction ≡ false → conn.new.in_transaction ≡ false }
 {

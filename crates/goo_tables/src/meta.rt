@@ -18,10 +18,7 @@ use sqlite::{Alter, Connection, Error, Transaction};
 use std::alloc::Global;
 
 /// Adds the row that makes bare tables a registry.
-pub fn insert_meta<S: Alter>(
-    tx: &mut Transaction<'_, S>,
-    meta: &MetaRow,
-) -> Result<usize, Error>
+pub fn insert_meta<S: Alter>(tx: &mut Transaction<'_, S>, meta: &MetaRow) -> Result<usize, Error>
     requires { MetaFits meta.now }
     ensures same_reference { tx.new.conn.ghost_name ≡ tx.old.conn.ghost_name }
     ensures begun { HasCleanDisk (state S.Store tx.new.conn.now) → IsTrue (state S.Store tx.old.conn.now).in_transaction → IsBare (state S.Store tx.old.conn.now).now

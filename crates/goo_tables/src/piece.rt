@@ -70,10 +70,7 @@ pub fn find_piece<S: Alter>(
 }
 
 /// All pieces, by their first numbers.
-pub fn all_pieces<S: Alter>(
-    alloc: Global,
-    conn: &mut Connection<S>,
-) -> Result<Vec<PieceRow>, Error>
+pub fn all_pieces<S: Alter>(alloc: Global, conn: &mut Connection<S>) -> Result<Vec<PieceRow>, Error>
     ensures looks { Looks (state S.Store conn.old) (state S.Store conn.new) result (λ t found. found.items ≡ t.pieces) }
     ensures met { HasCleanDisk (state S.Store conn.new) → HasOurTables (state S.Store conn.old).now → IfOk result (λ found. Keeps ((state S.Store conn.old).now.trees 10) piece_row piece_key found.items) }
     ensures outside { conn.old.in_transaction ≡ false → conn.new.in_transaction ≡ false }

@@ -1,7 +1,5 @@
-use Rattle.std.proofs.Common.{◌≡◌, ◌∙◌, ◌+◌, ◌<◌, ◌≤◌, [], ◌∷◌, ◌++◌, length, take, sym, ap, arith, rules}
-use Rattle.std.specs.Prelude.{sum_by}
+use Rattle.std.proofs.Common.{[], ◌∷◌, take, arith}
 use Rattle.std.proofs.lemmas.List.Sums.{sum_by-append, sum_by-cons}
-use Rattle.goo_rows.specs.Plans.{AreMovesOf}
 use Rattle.goo_ranges.proofs.Joining.{piece-forward, take-piece}
 use Rattle.goo_core.specs.Advance.{expired_place, count_in}
 use Rattle.goo_core.proofs.Expiring.{sum_before, moves_push}

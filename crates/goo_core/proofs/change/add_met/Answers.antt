@@ -7,7 +7,8 @@ pub returns-clause-edits : goal.returns-clause-edits
 returns-clause-edits c =
     let range = c.args.range in
     let label : Label = (c.args.lot, c.args.place) in
-    let made = c.in_ok-edit.ensures in
-    (c.first-first.ensures.limit.rising,
-     one_edit range c.args.book c.add.new.self c.in_ok-edit.edit _ (set_to range.first range.last label) c.in_ok-single.ensures
-        made.exact c.requires made.disjoint made.maximal (set-outside range label) made.map)
+    let made = c.in_ok-edit.ensures in (
+      c.first-first.ensures.limit.rising,
+      one_edit range c.args.book c.add.new.self c.in_ok-edit.edit _ (set_to range.first range.last label) c.in_ok-single.ensures
+          made.exact c.requires made.disjoint made.maximal (set-outside range label) made.map,
+    )

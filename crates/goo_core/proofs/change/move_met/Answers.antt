@@ -5,7 +5,8 @@ use Rattle.goo_core.proofs.change.move_met.Goals as goal
 pub returns-clause-edits : goal.returns-clause-edits
 returns-clause-edits c =
     let range = c.args.range in
-    let made = c.in_ok-edit.ensures in
-    (c.first-first.ensures.limit.rising,
-     one_edit range c.args.book c.reassign.new.self c.in_ok-edit.edit _ (moved range.first range.last c.args.place) c.in_ok-single.ensures
-        made.exact c.requires made.disjoint made.maximal (moved-outside range c.args.place) made.map)
+    let made = c.in_ok-edit.ensures in (
+      c.first-first.ensures.limit.rising,
+      one_edit range c.args.book c.reassign.new.self c.in_ok-edit.edit _ (moved range.first range.last c.args.place) c.in_ok-single.ensures
+          made.exact c.requires made.disjoint made.maximal (moved-outside range c.args.place) made.map,
+    )

@@ -1,4 +1,4 @@
-use Rattle.std.proofs.Common.{◌≡◌, None, refl, sym, subst}
+use Rattle.std.proofs.Common.{None, refl, sym, subst}
 use Rattle.goo_core.specs.Decision.{IsQuiet, IsQuietRuling}
 use Rattle.goo_core.specs.declared.ruling.Change.{Change}
 use Rattle.goo_core.specs.declared.ruling.Ruling.TheVariants.{Passed}

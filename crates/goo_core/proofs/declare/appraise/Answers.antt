@@ -1,4 +1,4 @@
-use Rattle.std.proofs.Common.{◌≡◌, ◌∙◌, true, rules}
+use Rattle.std.proofs.Common.{◌≡◌, true, rules}
 use Rattle.goo_spec.specs.Checks.{is_issuer}
 use Rattle.goo_core.proofs.Looking.{looked}
 use Rattle.goo_core.proofs.Appraising.{appraised}

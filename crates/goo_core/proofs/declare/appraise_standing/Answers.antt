@@ -1,4 +1,4 @@
-use Rattle.std.proofs.Common.{◌≡◌, rules}
+use Rattle.std.proofs.Common.{rules}
 use Rattle.goo_core.proofs.declare.appraise_standing.Goals as goal
 
 pub returns : goal.returns

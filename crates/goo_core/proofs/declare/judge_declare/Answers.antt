@@ -1,4 +1,4 @@
-use Rattle.std.proofs.Common.{◌≡◌, ◌∙◌, refl, sym}
+use Rattle.std.proofs.Common.{◌∙◌, refl, sym}
 use Rattle.goo_core.specs.Changes.{IsTurnedInTurn}
 use Rattle.goo_core.specs.Issue.{with_issued}
 use Rattle.goo_core.proofs.Issuing.{declared_fails, ruled_declare}
@@ -9,7 +9,7 @@ pub returns-in-Fails : goal.returns-in-Fails
 returns-in-Fails g c =
     let s = (g.S.Shelf.seen c.args.shelf.now).state in
     looked _ _ _ _ _ _ c.in_ok-refusal.ensures (λ none is.
-        (refl, declared_fails s c.args.caller.now c.args.declaration.now c.in-Fails.refusal (sym c.in-Fails.is ∙ is)))
+    (refl, declared_fails s c.args.caller.now c.args.declaration.now c.in-Fails.refusal (sym c.in-Fails.is ∙ is)))
 
 pub returns-in_ok-edits-in-Passes : goal.returns-in_ok-edits-in-Passes
 returns-in_ok-edits-in-Passes g c =
@@ -17,4 +17,4 @@ returns-in_ok-edits-in-Passes g c =
     let terms = c.in-Passes.terms in
     let all = looked_then old _ _ c.in_ok-refusal.field-0 _ _ (λ s rows edits. IsTurnedInTurn (with_issued terms.issue s.at) rows edits.items) c.in_ok-refusal.ensures c.in_ok-edits-in-Passes.ensures in
     looked old _ _ _ _ _ all (λ none found.
-        ruled_declare old.state old.rows c.args.caller.now c.args.declaration.now terms c.issued_range.result c.in_ok-edits-in-Passes.edits (sym c.in-Passes.is ∙ found.0) c.issued_range.ensures found.1)
+    ruled_declare old.state old.rows c.args.caller.now c.args.declaration.now terms c.issued_range.result c.in_ok-edits-in-Passes.edits (sym c.in-Passes.is ∙ found.0) c.issued_range.ensures found.1)

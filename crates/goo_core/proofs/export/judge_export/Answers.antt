@@ -1,6 +1,5 @@
-use Rattle.std.proofs.Common.{◌≡◌, ◌∙◌, ℕ, refl, ap, sym, subst}
+use Rattle.std.proofs.Common.{◌≡◌, ◌∙◌, refl, sym, subst}
 use Rattle.goo_rows.specs.Rows.{meeting}
-use Rattle.goo_shelf.specs.Counters.{counters_of}
 use Rattle.goo_core.specs.Meta.{meta_of}
 use Rattle.goo_core.specs.Export.{IsExportRuling}
 use Rattle.goo_core.specs.declared.own.Meta.{Meta}
@@ -12,7 +11,7 @@ pub returns-in-Some : goal.returns-in-Some
 returns-in-Some g c =
     let s = (g.S.Shelf.seen c.args.shelf.now).state in
     looked _ _ _ _ _ _ c.in_ok-refusal.ensures (λ none is.
-        (refl, entry-fails s c.args.caller.now c.args.export.now c.in-Some.refusal (sym is ∙ c.in-Some.is)))
+    (refl, entry-fails s c.args.caller.now c.args.export.now c.in-Some.refusal (sym is ∙ c.in-Some.is)))
 
 pub returns : goal.returns
 returns g c =
@@ -21,5 +20,5 @@ returns g c =
     let met = looked_then _ _ _ c.in_ok-meta.meta _ _ (λ s rows met. met.items ≡ meeting x.range rows) c.in_ok-meta.ensures c.in_ok-met.ensures.looks in
     let all = looked_then _ _ _ c.in_ok-refusal.field-0 _ _ (λ s rows met. (c.in_ok-meta.meta ≡ meta_of s) × (met.items ≡ meeting x.range rows)) c.in_ok-refusal.ensures met in
     looked_or_full old _ c.in_ok-met.met _ _ _ _ all c.send_certificates.ensures.memory c.send_certificates.ensures.ruling (λ none found ruling ruled.
-        ruled_export old.state old.rows c.in_ok-met.met.items c.args.caller.now x (c.requires.rows none) found.1.1 c.first-first.ensures.limit (sym found.0 ∙ c.in_default.is) (c.requires.sound none) ruling
-          (subst (λ (m : Meta). IsExportRuling m.code m.counters.notice m.today x c.in_ok-met.met.items ruling) found.1.0 ruled))
+    ruled_export old.state old.rows c.in_ok-met.met.items c.args.caller.now x (c.requires.rows none) found.1.1 c.first-first.ensures.limit (sym found.0 ∙ c.in_default.is) (c.requires.sound none) ruling
+    (subst (λ (m : Meta). IsExportRuling m.code m.counters.notice m.today x c.in_ok-met.met.items ruling) found.1.0 ruled))

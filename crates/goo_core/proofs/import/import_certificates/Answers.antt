@@ -20,10 +20,10 @@ returns g c =
     let both = looked_then _ _ _ c.in_ok-arriving.arriving _ _ (λ s rows own. own ≡ s.own) c.in_ok-arriving.ensures c.in_ok-own.ensures in
     let counted : count ≡ sum_by (λ p. count_of p.range) x.notice.parts = c.count_in_all-count.ensures ∙ ap (λ (ps : List Part). sum_by (λ p. count_of p.range) ps) c.parts-parts.ensures.value in
     looked_or_full old _ own _ _ _ _ both c.take_in.ensures.memory (ruled_for known own account count c.take_in.result c.take_in.ensures.ruling) (λ none found ruling is passed.
-        let kept = c.requires.rows none in
-        let listed : AreArriving old.state old.rows x.notice.parts c.in_ok-arriving.arriving.items = subst (λ (ps : List Part). AreArriving old.state old.rows ps c.in_ok-arriving.arriving.items) c.parts-parts.ensures.value found.0 in
-        let are : AreArriving old.state old.rows x.notice.parts known = subst (λ (l : List Arriving). AreArriving old.state old.rows x.notice.parts l) (sym c.deref.ensures.value) listed in
-        let ruled : IsTakeRuling old.rows known own account count ruling = is old.rows kept.disjoint (met_all old.state old.rows x.notice.parts known are) in
-        let mine : IsTakeRuling old.rows known old.state.own account count ruling = subst (λ (k : ℕ). IsTakeRuling old.rows known k account count ruling) found.1 ruled in
-        let theirs : IsTakeRuling old.rows known old.state.own x.notice.account count ruling = subst (λ (k : ℕ). IsTakeRuling old.rows known old.state.own k count ruling) c.account-account.ensures mine in
-        ruled_fresh old.state old.rows kept x known count ruling c.parts-parts.ensures.limit are counted passed theirs)
+    let kept = c.requires.rows none in
+    let listed : AreArriving old.state old.rows x.notice.parts c.in_ok-arriving.arriving.items = subst (λ (ps : List Part). AreArriving old.state old.rows ps c.in_ok-arriving.arriving.items) c.parts-parts.ensures.value found.0 in
+    let are : AreArriving old.state old.rows x.notice.parts known = subst (λ (l : List Arriving). AreArriving old.state old.rows x.notice.parts l) (sym c.deref.ensures.value) listed in
+    let ruled : IsTakeRuling old.rows known own account count ruling = is old.rows kept.disjoint (met_all old.state old.rows x.notice.parts known are) in
+    let mine : IsTakeRuling old.rows known old.state.own account count ruling = subst (λ (k : ℕ). IsTakeRuling old.rows known k account count ruling) found.1 ruled in
+    let theirs : IsTakeRuling old.rows known old.state.own x.notice.account count ruling = subst (λ (k : ℕ). IsTakeRuling old.rows known old.state.own k count ruling) c.account-account.ensures mine in
+    ruled_fresh old.state old.rows kept x known count ruling c.parts-parts.ensures.limit are counted passed theirs)

@@ -1,4 +1,4 @@
-use Rattle.std.proofs.Common.{◌≡◌, ◌∙◌, ℕ, List, sym, ap, subst}
+use Rattle.std.proofs.Common.{◌≡◌, ◌∙◌, List, sym, ap}
 use Rattle.std.specs.Prelude.{sum_by}
 use Rattle.std.specs.FinMap.{get}
 use Rattle.goo_types.specs.declared.part.Part.{Part}
@@ -21,8 +21,8 @@ returns-in-Same g c =
     let x = c.args.import.now in
     let both = looked_then _ _ _ c.in_ok-refusal.field-0 _ _ (λ s rows arrival. arrival ≡ arrival_of (get s.arrived (x.notice.sender, x.notice.number)) x.notice) c.in_ok-refusal.ensures c.in_ok-arrived.ensures in
     looked _ _ _ _ _ _ both (λ none found.
-        ruled_same old.state old.rows c.args.caller.now x c.count_in_all.result (sym found.0 ∙ c.in_default.is) (sym c.in-Same.is ∙ found.1)
-          (c.count_in_all.ensures ∙ ap (λ (ps : List Part). sum_by (λ p. count_of p.range) ps) c.parts.ensures.value))
+    ruled_same old.state old.rows c.args.caller.now x c.count_in_all.result (sym found.0 ∙ c.in_default.is) (sym c.in-Same.is ∙ found.1)
+    (c.count_in_all.ensures ∙ ap (λ (ps : List Part). sum_by (λ p. count_of p.range) ps) c.parts.ensures.value))
 
 pub returns-in-Other : goal.returns-in-Other
 returns-in-Other g c =
@@ -38,4 +38,4 @@ returns-in-Absent g c =
     let both = looked_then _ _ _ c.in_ok-refusal.field-0 _ _ (λ s rows arrival. arrival ≡ arrival_of (get s.arrived (x.notice.sender, x.notice.number)) x.notice) c.in_ok-refusal.ensures c.in_ok-arrived.ensures in
     let all = looked_then _ _ _ c.in_ok-arrived.field-0 _ _ (λ s rows ruling. IsRuling (fresh_meaning s x) rows ruling) both c.judge_fresh.ensures in
     looked_as old _ c.judge_fresh.result _ _ all (λ none ruling found.
-        ruled_absent old.state old.rows c.args.caller.now x ruling (sym found.0.0 ∙ c.in_default.is) (sym c.in-Absent.is ∙ found.0.1) found.1)
+    ruled_absent old.state old.rows c.args.caller.now x ruling (sym found.0.0 ∙ c.in_default.is) (sym c.in-Absent.is ∙ found.0.1) found.1)

@@ -1,4 +1,4 @@
-use Rattle.std.proofs.Common.{◌≡◌, ◌∙◌, sym, subst}
+use Rattle.std.proofs.Common.{◌∙◌, sym, subst}
 use Rattle.goo_types.specs.Piece.{IsRising}
 use Rattle.goo_core.proofs.Takings.{near_is, near_rises, part_edit, no_fault}
 use Rattle.goo_core.proofs.taking.take_part.Goals as goal

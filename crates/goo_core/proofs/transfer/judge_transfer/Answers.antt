@@ -15,7 +15,7 @@ returns-in-Some g c =
     let s = (g.S.Shelf.seen c.args.shelf.now).state in
     let x = c.args.transfer.now in
     looked _ _ _ _ _ _ c.in_ok-refusal.ensures (λ none is.
-        (refl, failed_early (entry_checks s c.args.caller.now x) (trade_checks (get s.at) x.range x.giver s.today) c.in-Some.refusal (sym is ∙ c.in-Some.is)))
+    (refl, failed_early (entry_checks s c.args.caller.now x) (trade_checks (get s.at) x.range x.giver s.today) c.in-Some.refusal (sym is ∙ c.in-Some.is)))
 
 pub returns : goal.returns
 returns g c =
@@ -24,4 +24,4 @@ returns g c =
     let met = looked_then _ _ _ c.in_ok-today.today _ _ (λ s rows met. met.items ≡ meeting x.range rows) c.in_ok-today.ensures c.in_ok-met.ensures.looks in
     let all = looked_then _ _ _ c.in_ok-refusal.field-0 _ _ (λ s rows met. (c.in_ok-today.today ≡ s.today) × (met.items ≡ meeting x.range rows)) c.in_ok-refusal.ensures met in
     looked_or_full old _ c.in_ok-met.met _ _ _ _ all c.move_certificates.ensures.memory c.move_certificates.ensures.ruling (λ none found ruling ruled.
-        ruled_transfer old.state old.rows c.in_ok-met.met.items c.args.caller.now x c.in_ok-today.today ruling (c.requires.rows none) (sym found.0 ∙ c.in_default.is) found.1.0 found.1.1 ruled)
+    ruled_transfer old.state old.rows c.in_ok-met.met.items c.args.caller.now x c.in_ok-today.today ruling (c.requires.rows none) (sym found.0 ∙ c.in_default.is) found.1.0 found.1.1 ruled)

@@ -13,5 +13,5 @@ returns g c =
     let issuer : is_issuer c.args.caller.now ≡ true = search rules in
     let met = looked_then old _ _ c.in_ok-counters.counters _ _ (λ s rows met. met.items ≡ meeting x.range rows) c.in_ok-counters.ensures c.in_ok-met.ensures.looks in
     looked_or_full old _ c.in_ok-met.met _ _ _ _ met c.withdraw_certificates.ensures.memory c.withdraw_certificates.ensures.ruling (λ none found ruling ruled.
-        ruled_withdraw old.state old.rows c.in_ok-met.met.items c.args.caller.now x c.in_ok-counters.counters.withdrawal ruling (c.requires.rows none) issuer
-          (ap (λ (n : NextNumbers). n.withdrawal) found.0) found.1 ruled)
+    ruled_withdraw old.state old.rows c.in_ok-met.met.items c.args.caller.now x c.in_ok-counters.counters.withdrawal ruling (c.requires.rows none) issuer
+    (ap (λ (n : NextNumbers). n.withdrawal) found.0) found.1 ruled)

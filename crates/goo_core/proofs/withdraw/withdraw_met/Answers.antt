@@ -1,4 +1,3 @@
-use Rattle.std.proofs.Common.{◌≡◌, Result, Ok, Err, IfOk}
 use Rattle.goo_core.proofs.Withdrawing.{withdrawn_edits_if}
 use Rattle.goo_core.proofs.withdraw.withdraw_met.Goals as goal
 

@@ -12,4 +12,4 @@ returns-clause-made c = λ met change made.
     let common = subst (AreCommon c.args.row.now c.args.range) c.in-Some.is c.common_part.ensures in
     let map = subst (λ (a : ℕ). (n : ℕ) → at_of c.reassign.new.self n ≡ moved c.in-Some.part.first c.in-Some.part.last (Withdrawn a c.args.act) n (at_of c.args.book.now n)) c.account.ensures edit.map in
     part_made c.args.range c.in-Some.part c.args.row.now c.args.act common met change c.args.book.now c.reassign.new.self c.args.edits.now.items c.push_edit.new.edits.items c.in_ok-edit.edit
-      c.in_ok-push_edit.ensures edit.exact c.requires.rising edit.disjoint edit.maximal map made
+    c.in_ok-push_edit.ensures edit.exact c.requires.rising edit.disjoint edit.maximal map made

@@ -1,4 +1,4 @@
-use Rattle.std.proofs.Common.{◌≡◌, ◌∙◌, ◌+◌, ◌<◌, [], ◌∷◌, ◌++◌, length, take, sym, ap, subst, arith}
+use Rattle.std.proofs.Common.{◌∙◌, take, sym, ap, arith}
 use Rattle.goo_ranges.proofs.Joining.{piece-forward, take-piece}
 use Rattle.goo_types.specs.Piece.{at_of}
 use Rattle.goo_core.specs.Withdraw.{rows_withdrawn}

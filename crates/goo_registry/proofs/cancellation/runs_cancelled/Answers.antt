@@ -1,4 +1,3 @@
-use Rattle.std.proofs.Common.{◌≡◌, arith}
 use Rattle.goo_registry.proofs.Keeping.{cancelled_runs, cancelled_rising}
 use Rattle.goo_registry.proofs.Looking.{looks_as}
 use Rattle.goo_registry.proofs.cancellation.runs_cancelled.Goals as goal

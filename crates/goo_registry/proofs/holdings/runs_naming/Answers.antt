@@ -1,4 +1,3 @@
-use Rattle.std.proofs.Common.{◌≡◌, arith}
 use Rattle.goo_registry.proofs.Keeping.{named_runs}
 use Rattle.goo_registry.proofs.Looking.{looks_as}
 use Rattle.goo_registry.proofs.holdings.runs_naming.Goals as goal

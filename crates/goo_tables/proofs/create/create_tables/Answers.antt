@@ -1,8 +1,8 @@
-use Rattle.std.proofs.Common.{◌≡◌, ◌∙◌, ◌<◌, ◌+◌, arith, get_or, [], refl}
+use Rattle.std.proofs.Common.{◌∙◌, ◌<◌, ◌+◌, arith, get_or, [], refl}
 use Rattle.sqlite.specs.Held.{state}
 use Rattle.goo_columns.specs.Columns.{no_schema}
 use Rattle.goo_tables.specs.Created.{create_texts, stages}
-use Rattle.goo_tables.proofs.Creating.{Makes, makes_nothing, makes_next, makes_keeps, makes_survives, leads, bare_from}
+use Rattle.goo_tables.proofs.Creating.{makes_nothing, makes_next, leads}
 use Rattle.goo_tables.proofs.create.create_tables.Goals as goal
 
 pub loop-at-init : goal.loop-at-init
@@ -14,5 +14,5 @@ loop-at-preserved g c =
     let low : i < 15 = omega (arith, c.loop-at-test.true) in (
       c.put.ensures.same_reference ∙ c.loop-at.invariant.0,
       makes_next (get_or stages i no_schema) (get_or stages (i + 1) no_schema) (get_or create_texts i []) (state g.S.Store c.args.tx.now.conn.now) (state g.S.Store c.loop-at.tx.conn.now) (state g.S.Store c.put.new.tx.conn.now)
-      c.loop-at.invariant.1 c.put.ensures.uncommitted c.put.ensures.survives c.in_ok-put.field-0 (leads i low) (rw (c.statement.ensures) at c.in_ok-put.ensures.runs),
+          c.loop-at.invariant.1 c.put.ensures.uncommitted c.put.ensures.survives c.in_ok-put.field-0 (leads i low) (rw (c.statement.ensures) at c.in_ok-put.ensures.runs),
     )
