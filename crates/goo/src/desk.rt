@@ -1,4 +1,8 @@
 //! The registry in memory as a desk.
+ghost use Rattle.std.specs.Prelude.{◌≡◌};
+ghost use Rattle.goo_spec.specs.Created.{created};
+ghost use Rattle.goo.specs.Desks.{seen_at};
+
 use goo_command_line::Opening;
 use goo_lines::Desk;
 use goo_list::list_shelf::ListShelf;
@@ -8,19 +12,15 @@ use goo_types::outcome::Outcome;
 use goo_types::request::Request;
 use std::alloc::Global;
 
-/// A registry whose records are in memory.
+/// A registry whose records are in memory, and are gone when the program ends.
 pub struct MemoryDesk {
     registry: Registry<ListShelf>,
 }
 
 impl MemoryDesk {
-    ghost use Rattle.std.specs.Prelude.{◌≡◌};
-    ghost use Rattle.goo_spec.specs.Created.{created};
-    ghost use Rattle.goo.specs.Desk.{seen_by};
-
-    /// A new registry.
+    /// The desk of a new registry.
     pub fn new(alloc: Global, opening: Opening) -> MemoryDesk
-        ensures { (seen_by result.registry.shelf).state ≡ created opening.code opening.today opening.next_serial }
+        ensures { seen_at result.registry.shelf ≡ record { state = created opening.code opening.today opening.next_serial; lies = 0; doubts = 0 } }
     {
         let shelf = ListShelf::new(alloc, opening.code, opening.next_serial, opening.today);
         MemoryDesk {
@@ -28,17 +28,15 @@ impl MemoryDesk {
         }
     }
 
-    /// Lets go of the registry and of its records.
+    /// Lets the registry go, with all that it knows.
     pub fn close(self) {
         let MemoryDesk { registry } = self;
-        let _records = registry.into_shelf();
+        let _shelf = registry.into_shelf();
     }
 }
 
 impl Desk for MemoryDesk {
-    ghost use Rattle.goo.specs.Desk.{seen_by};
-
-    ghost seen = { λ desk. seen_by desk.registry.shelf };
+    ghost seen = { λ d. seen_at d.registry.shelf };
 
     fn apply(&mut self, alloc: Global, request: &Request) -> Result<Outcome, Fault> {
         self.registry.apply(alloc, request)
