@@ -28,43 +28,49 @@ first-of o p l one two = cc
 
 answered_alone : (old new : Moment) (done : Vec Outcome Global) (q : Request) → IsReady old → Runs old new (Ok done) (q ∷ []) → (answer : Result Outcome Fault) × IsAlone (Ok done) answer × Applies old new answer q
 answered_alone old new done q ready runs =
-    let one = only done.items runs.whole in
-    (Ok one.0, one.1, record {
-      answer = λ none. first-of one.0 (outcome old.state q) done.items one.1 (runs.outcomes_are none);
-      state = runs.state;
-      unchanged = λ none. tt;
-      rows_unchanged = λ none. tt;
-      sound = runs.sound;
-      rows = runs.rows;
-      fewest = runs.fewest;
-      doubted = runs.doubted;
-      lied = runs.lied;
-      kept = runs.kept;
-      told = runs.told ready.told;
-      works = λ late. runs.works late (ready.works (runs.lied late));
-      crash = λ late none o there. inr (elim (runs.crash late none o there) [ inl is ↦ is | inr is ↦ is ]);
-    })
+    let one = only done.items runs.whole in (
+      Ok one.0,
+      one.1,
+      record {
+        answer = λ none. first-of one.0 (outcome old.state q) done.items one.1 (runs.outcomes_are none);
+        state = runs.state;
+        unchanged = λ none. tt;
+        rows_unchanged = λ none. tt;
+        sound = runs.sound;
+        rows = runs.rows;
+        fewest = runs.fewest;
+        doubted = runs.doubted;
+        lied = runs.lied;
+        kept = runs.kept;
+        told = runs.told ready.told;
+        works = λ late. runs.works late (ready.works (runs.lied late));
+        crash = λ late none o there. inr (elim (runs.crash late none o there) [ inl is ↦ is | inr is ↦ is ]);
+      },
+    )
 
 stopped_alone : (old new : Moment) (stop : RunFault) (q : Request) → IsReady old → Runs old new (Err stop) (q ∷ []) → (answer : Result Outcome Fault) × IsAlone (Err stop) answer × Applies old new answer q
 stopped_alone old new stop q ready runs =
     let empty : stop.done.items ≡ [] = none_there stop.done.items runs.short in
     let before : final old.state (take (length stop.done.items) (q ∷ [])) ≡ old.state = ap (λ (l : List Outcome). final old.state (take (length l) (q ∷ []))) empty in
-    let after : final old.state (take (length stop.done.items + 1) (q ∷ [])) ≡ next old.state q = ap (λ (l : List Outcome). final old.state (take (length l + 1) (q ∷ []))) empty in
-    (Err stop.fault, (empty, refl), record {
-      answer = λ none. tt;
-      state = λ none. tt;
-      unchanged = λ none. runs.state none ∙ before;
-      rows_unchanged = λ none. runs.idle none empty;
-      sound = runs.sound;
-      rows = runs.rows;
-      fewest = runs.fewest;
-      doubted = runs.doubted;
-      lied = runs.lied;
-      kept = runs.kept;
-      told = runs.told ready.told;
-      works = tt;
-      crash = λ late none. either_as new _ old.state _ (next old.state q) before after (runs.crash late none);
-    })
+    let after : final old.state (take (length stop.done.items + 1) (q ∷ [])) ≡ next old.state q = ap (λ (l : List Outcome). final old.state (take (length l + 1) (q ∷ []))) empty in (
+      Err stop.fault,
+      (empty, refl),
+      record {
+        answer = λ none. tt;
+        state = λ none. tt;
+        unchanged = λ none. runs.state none ∙ before;
+        rows_unchanged = λ none. runs.idle none empty;
+        sound = runs.sound;
+        rows = runs.rows;
+        fewest = runs.fewest;
+        doubted = runs.doubted;
+        lied = runs.lied;
+        kept = runs.kept;
+        told = runs.told ready.told;
+        works = tt;
+        crash = λ late none. either_as new _ old.state _ (next old.state q) before after (runs.crash late none);
+      },
+    )
 
 alone_by : (old new : Moment) (result : Result (Vec Outcome Global) RunFault) (q : Request) → IsReady old → Runs old new result (q ∷ []) → (answer : Result Outcome Fault) × IsAlone result answer × Applies old new answer q
 alone_by old new (Ok done) q ready runs = answered_alone old new done q ready runs
