@@ -5,6 +5,8 @@
 mod desk;
 mod ending;
 mod running;
+#[cfg(test)]
+mod tests;
 
 use ending::{Ending, Failure};
 use goo_command_line::{Place, Task, read_task};
