@@ -1,6 +1,8 @@
+use crate::perform_words;
 use crate::running::run_in_memory;
 use goo_command_line::{Opening, code_in, day_in, serial_in};
 use std::alloc::Global;
+use std::io::{self, ErrorKind, Read, Write};
 use std::slice;
 use std::test::Fail;
 
@@ -177,5 +179,93 @@ fn the_last_serial_of_all(rt: HostRuntime) -> Result<(), Fail> {
     );
     assert!(rt; output.as_slice().ends_with(wanted.as_bytes()));
     assert_eq!(rt; status, 1);
+    Ok(())
+}
+
+/// A stream that fails at each call.
+#[derive(Drop)]
+struct Broken;
+
+impl Read for Broken {
+    fn read(&mut self, _buffer: &mut [u8]) -> io::Result<usize> {
+        Err(io::Error::from(ErrorKind::BrokenPipe))
+    }
+}
+
+impl Write for Broken {
+    fn write(&mut self, _text: &[u8]) -> io::Result<usize> {
+        Err(io::Error::from(ErrorKind::BrokenPipe))
+    }
+
+    fn flush(&mut self) -> io::Result<()> {
+        Err(io::Error::from(ErrorKind::BrokenPipe))
+    }
+}
+
+/// The exit status of a run of a new registry from this reader to this writer.
+fn status_of<R: Read, W: Write>(
+    alloc: Global,
+    reader: &mut R,
+    writer: &mut W,
+) -> Result<u8, Fail> {
+    match march("1") {
+        Some(opening) => Ok(run_in_memory(alloc, opening, reader, writer).status()),
+        None => Err(Fail::new("no opening")),
+    }
+}
+
+/// The exit status of a run of an input whose outcomes are all written.
+fn status_of_input(alloc: Global, input: &str) -> Result<u8, Fail> {
+    let mut output = Vec::new(alloc);
+    status_of(alloc, &mut input.as_bytes(), &mut output)
+}
+
+#[test]
+fn each_exit_status_of_a_run(rt: HostRuntime) -> Result<(), Fail> {
+    for (input, wanted) in [("", 0), (BASE, 0), ("SUN\n", 1), ("SUN {}", 1)] {
+        let status = status_of_input(rt.alloc(), input)?;
+        assert_eq!(rt; status, wanted, "after {input}");
+    }
+    let unwritten = status_of(rt.alloc(), &mut BASE.as_bytes(), &mut Broken)?;
+    assert_eq!(rt; unwritten, 3);
+    let unflushed = status_of(rt.alloc(), &mut b"".as_slice(), &mut Broken)?;
+    assert_eq!(rt; unflushed, 3);
+    let mut output = Vec::new(rt.alloc());
+    let unread = status_of(rt.alloc(), &mut Broken, &mut output)?;
+    assert_eq!(rt; unread, 3);
+    Ok(())
+}
+
+/// The exit status of a command line.
+fn status_of_words(rt: &HostRuntime, line: &str) -> Result<u8, Fail> {
+    let mut words = Vec::new(rt.alloc());
+    for word in line.split(' ') {
+        words.push(format!(in rt.alloc(); "{word}")?)?;
+    }
+    Ok(perform_words(rt, words.as_slice()).status())
+}
+
+#[test]
+fn a_command_line_that_asks_for_nothing(rt: HostRuntime) -> Result<(), Fail> {
+    for line in [
+        "goo",
+        "goo --help",
+        "goo run",
+        "goo run --memory --code 7",
+        "goo run --memory --code 0 --today 2025-03-01",
+        "goo run --memory --code +7 --today 2025-03-01",
+        "goo run --memory --code 7 --today 2025-02-29",
+        "goo run --memory --code 7 --today 2025-03-01 --next-serial 0",
+        "goo run --db registry.db",
+        "goo run --db registry.db --memory --code 7 --today 2025-03-01",
+        "goo init --db registry.db --code 7 --today 2025-03-01",
+        "goo declare --db registry.db",
+        "goo statement 1 --db registry.db",
+        "goo audit --db registry.db",
+        "goo serve --port 8080 --count 1 --memory --code 7 --today 2025-03-01",
+    ] {
+        let status = status_of_words(&rt, line)?;
+        assert_eq!(rt; status, 2, "of {line}");
+    }
     Ok(())
 }
