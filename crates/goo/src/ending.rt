@@ -1,6 +1,6 @@
 //! How the program ends: its exit status, and what it says on standard error.
 ghost use Rattle.std.specs.Prelude.{◌≡◌};
-ghost use Rattle.goo.specs.Endings.{status_of, failure_text, failure_of, ending_of};
+ghost use Rattle.goo.specs.Endings.{status_of, failure_text, failure_of, ending_of, TellsLine};
 
 use clap::Error;
 use goo_command_line::LineFault;
@@ -62,6 +62,8 @@ pub enum Ending {
 }
 
 impl From<LineFault> for Ending {
+    ghost from_gives = { λ of ending. TellsLine of ending };
+
     fn from(fault: LineFault) -> Self {
         match fault {
             LineFault::Words(error) => Ending::Words(error),

@@ -15,6 +15,7 @@ use std::io::{Read, Write};
 /// Answers the lines of an input by a new registry in memory.
 ///
 /// - `all_done`: status 0 only where no line was refused or unreadable.
+/// - `not_all_done`: status 1 only where some line was refused or unreadable.
 /// - `written`: with status 0 and 1, all outcomes of the lines are written after what the writer had.
 /// - `no_words`: it never says that the command line was at fault.
 pub fn run_in_memory<R: Read, W: Write>(
@@ -24,6 +25,7 @@ pub fn run_in_memory<R: Read, W: Write>(
     writer: &mut W,
 ) -> Ending
     ensures all_done { status_of result ≡ 0 → IfSome (R.remaining reader.old) (λ input. (lines (created opening.code opening.today opening.next_serial) input).bad ≡ 0) }
+    ensures not_all_done { status_of result ≡ 1 → IfSome (R.remaining reader.old) (λ input. (lines (created opening.code opening.today opening.next_serial) input).bad ≢ 0) }
     ensures written { status_of result < 2 → IfSome (R.remaining reader.old) (λ input. Appends (W.contents writer.old) (W.contents writer.new) (lines (created opening.code opening.today opening.next_serial) input).text) }
     ensures no_words { status_of result ≢ 2 }
 {
