@@ -1,0 +1,68 @@
+"""Measures the built program over the workloads, each at n, 2n and 4n requests, beside the baseline in the same run.
+
+usage: python3 bench/measure.py [PROGRAM]
+
+PROGRAM is crates/goo/out/goo unless told (`./goo` builds it). Prints a table: processor seconds, requests a second, peak memory, the growth
+as a fitted exponent, and the ratio to the baseline (bench/baseline.py, in memory). Nothing here is part of the gate.
+"""
+import math
+import os
+import subprocess
+import sys
+import tempfile
+from pathlib import Path
+
+from workloads import WORKLOADS
+
+HERE = Path(__file__).resolve().parent
+SIZES = {'declarations': (25_000, 50_000, 100_000), 'trades': (5_000, 10_000, 20_000)}
+ARGUMENTS = ['run', '--memory', '--code', '7', '--today', '2025-03-01']
+
+
+def run(program, lines, outcomes):
+    """Processor seconds and peak memory in MB of one run."""
+    with open(lines, 'rb') as source, open(outcomes, 'wb') as target:
+        child = subprocess.Popen([program, *ARGUMENTS], stdin=source, stdout=target)
+        _, status, used = os.wait4(child.pid, 0)
+    if status != 0:
+        sys.exit(f'{program} ended with status {os.waitstatus_to_exitcode(status)}')
+    return used.ru_utime + used.ru_stime, used.ru_maxrss / 1024
+
+
+def baseline(lines):
+    done = subprocess.run([sys.executable, HERE / 'baseline.py', lines], check=True, capture_output=True, text=True)
+    return float(done.stdout)
+
+
+def exponent(small, great, factor):
+    return math.log(great / small) / math.log(factor)
+
+
+def measure(program, name, twice, folder):
+    """One workload at three sizes; with `twice` the whole script is sent a second time, and is repeated."""
+    seconds = []
+    for size in SIZES[name]:
+        requests = list(WORKLOADS[name](size)) * (2 if twice else 1)
+        lines, outcomes = folder / 'lines', folder / 'outcomes'
+        lines.write_text('\n'.join(requests) + '\n', encoding='utf-8')
+        used, memory = run(program, lines, outcomes)
+        plain = baseline(lines)
+        seconds.append(used)
+        title = f'{name}{", sent twice" if twice else ""}'
+        print(f'| {title} | {len(requests):,} | {used:.2f} | {len(requests) / used:,.0f} | {memory:.0f} MB | {plain:.2f} | {used / plain:.2f} |', flush=True)
+    print(f'| | | grows as n^{exponent(seconds[0], seconds[-1], 4):.2f} | | | | |', flush=True)
+
+
+def main(program):
+    print(f'load before: {os.getloadavg()[0]:.1f} on {os.cpu_count()} cores')
+    print('| Workload | Requests | Processor seconds | Requests a second | Peak memory | Baseline seconds | Ratio |')
+    print('|---|---|---|---|---|---|---|')
+    with tempfile.TemporaryDirectory() as folder:
+        for name in SIZES:
+            measure(program, name, False, Path(folder))
+        measure(program, 'trades', True, Path(folder))
+    print(f'load after: {os.getloadavg()[0]:.1f}')
+
+
+if __name__ == '__main__':
+    main(sys.argv[1] if len(sys.argv) > 1 else str(HERE.parent / 'crates/goo/out/goo'))
