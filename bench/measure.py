@@ -12,8 +12,6 @@ import sys
 import tempfile
 from pathlib import Path
 
-from workloads import WORKLOADS
-
 HERE = Path(__file__).resolve().parent
 SIZES = {'declarations': (25_000, 50_000, 100_000), 'trades': (5_000, 10_000, 20_000)}
 ARGUMENTS = ['run', '--memory', '--code', '7', '--today', '2025-03-01']
@@ -29,6 +27,15 @@ def run(program, lines, outcomes):
     return used.ru_utime + used.ru_stime, used.ru_maxrss / 1024
 
 
+def write_lines(name, size, times, lines):
+    """Writes a workload's lines, and tells how many; by a process of its own, since a child's peak begins at its parent's size."""
+    with open(lines, 'wb') as target:
+        for _ in range(times):
+            subprocess.run([sys.executable, HERE / 'workloads.py', name, str(size)], stdout=target, check=True)
+    with open(lines, 'rb') as written:
+        return sum(1 for _ in written)
+
+
 def baseline(lines):
     done = subprocess.run([sys.executable, HERE / 'baseline.py', lines], check=True, capture_output=True, text=True)
     return float(done.stdout)
@@ -42,14 +49,13 @@ def measure(program, name, twice, folder):
     """One workload at three sizes; with `twice` the whole script is sent a second time, and is repeated."""
     seconds = []
     for size in SIZES[name]:
-        requests = list(WORKLOADS[name](size)) * (2 if twice else 1)
         lines, outcomes = folder / 'lines', folder / 'outcomes'
-        lines.write_text('\n'.join(requests) + '\n', encoding='utf-8')
+        requests = write_lines(name, size, 2 if twice else 1, lines)
         used, memory = run(program, lines, outcomes)
         plain = baseline(lines)
         seconds.append(used)
         title = f'{name}{", sent twice" if twice else ""}'
-        print(f'| {title} | {len(requests):,} | {used:.2f} | {len(requests) / used:,.0f} | {memory:.0f} MB | {plain:.2f} | {used / plain:.2f} |', flush=True)
+        print(f'| {title} | {requests:,} | {used:.2f} | {requests / used:,.0f} | {memory:.0f} MB | {plain:.2f} | {used / plain:.2f} |', flush=True)
     print(f'| | | grows as n^{exponent(seconds[0], seconds[-1], 4):.2f} | | | | |', flush=True)
 
 

@@ -34,7 +34,7 @@ def certificate(serial):
 
 def registration(device, key, capacity_w):
     return line(ISSUING_BODY, account=1, capacity_w=capacity_w, command='register_device', commissioned='2020-06-15', country='DE',
-                device=device, key=key, site='North field', source='F01010100', support='none', tech='T010000')
+                device=device, key=key, site='North', source='F01010100', support='none', tech='T010000')
 
 
 def holders(count):
@@ -44,10 +44,10 @@ def holders(count):
 
 
 def months(device, index):
-    """The twelve months of 2024 of one device, 1,200 certificates and a carry each."""
+    """The twelve months of 2024 of one device, 1,234 certificates and a carry each."""
     for month in range(1, 13):
         last = calendar.monthrange(2024, month)[1]
-        yield line(ISSUING_BODY, aux_wh=34_567_890, command='declare', device=device, first_day=f'2024-{month:02d}-01',
+        yield line(ISSUING_BODY, aux_wh=0, command='declare', device=device, first_day=f'2024-{month:02d}-01',
                    gross_wh=1_234_567_891, key=f'd{index}.{month}', last_day=f'2024-{month:02d}-{last}')
 
 
