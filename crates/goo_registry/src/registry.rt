@@ -34,6 +34,7 @@ use goo_types::request::Request;
 use std::alloc::Global;
 
 /// The registry of an issuing body of guarantees of origin (Directive (EU) 2018/2001, Article 19).
+#[derive(Drop)]
 pub struct Registry<S: Shelf> {
     shelf: S,
     ghost sound: { (S.seen shelf).doubts ≡ 0 → IsSound (S.seen shelf).state },
