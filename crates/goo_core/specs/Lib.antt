@@ -1,3 +1,4 @@
+pub mod AccountRuns
 pub mod Meta
 pub mod Verdict
 pub mod Issue
