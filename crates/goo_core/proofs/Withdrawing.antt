@@ -39,7 +39,7 @@ use Rattle.goo_core.proofs.Rulings.{ruled_change}
 use Rattle.goo_core.specs.Changes.{AreMade, AreEditsFor}
 use Rattle.goo_core.specs.Withdraw.{withdrawn, run_withdrawn, runs_withdrawn, range_checks, AreCommon}
 use Rattle.goo_core.specs.AccountRuns.{account_in, account_runs}
-use Rattle.goo_core.proofs.AccountRuns.{few_runs}
+use Rattle.goo_core.proofs.AccountRuns.{few_runs, met_runs}
 use Rattle.goo_ranges.specs.Accounts.{AreAccountRuns}
 use Rattle.goo_ranges.proofs.Accounting.{accounts-alike, runs-rise}
 
@@ -143,21 +143,22 @@ same_withdrawn act false o = refl
 
 pub ruled_withdraw : (s : State) (rows met : List Piece) (caller : List ℕ) (x : Withdraw) (next : ℕ) (ruling : Ruling) → AreRowsOf s.at rows
     → is_issuer caller ≡ true → next ≡ s.next_withdrawal → met ≡ meeting x.range rows
-    → IsChangeRuling (first_refusal (range_checks (at_of met) next x)) (reply.Withdrawn next (count_of x.range)) None x.range (withdrawn x.range next) met ruling
-    → IsRuling (plain_meaning (withdraw_refusal s caller x) (withdraw_reply s x) (with_withdrawal s x).at) rows ruling
+    → IsChangeRuling (first_refusal (range_checks (at_of met) next x)) (reply.Withdrawn next (count_of x.range)) None x.range (withdrawn x.range next) (account_runs (at_of met) x.range) met ruling
+    → IsRuling (plain_meaning (withdraw_refusal s caller x) (withdraw_reply s x) (with_withdrawal s x).at (λ rows. account_runs (get s.at) x.range)) rows ruling
 unfolding withdraw_refusal withdraw_reply with_withdrawal
 ruled_withdraw s rows met caller x next ruling kept issuer number is ruled =
     let act = s.next_withdrawal in
-    let here : IsChangeRuling (first_refusal (range_checks (at_of met) act x)) (reply.Withdrawn act (count_of x.range)) None x.range (withdrawn x.range act) met ruling
-    = subst (λ (k : ℕ). IsChangeRuling (first_refusal (range_checks (at_of met) k x)) (reply.Withdrawn k (count_of x.range)) None x.range (withdrawn x.range k) met ruling) number ruled in
+    let here : IsChangeRuling (first_refusal (range_checks (at_of met) act x)) (reply.Withdrawn act (count_of x.range)) None x.range (withdrawn x.range act) (account_runs (at_of met) x.range) met ruling
+    = subst (λ (k : ℕ). IsChangeRuling (first_refusal (range_checks (at_of met) k x)) (reply.Withdrawn k (count_of x.range)) None x.range (withdrawn x.range k) (account_runs (at_of met) x.range) met ruling) number ruled in
     let alike : first_refusal (range_checks (get s.at) act x) ≡ first_refusal (range_checks (at_of met) act x) =
     rw (is, ← absent-alike s.at rows x.range kept, ← failing-alike (λ lot place. is_held place) s.at rows x.range kept) refl in
     let issued : first_refusal (when (not (is_issuer caller)) NotAllowed ∷ range_checks (get s.at) act x) ≡ first_refusal (range_checks (get s.at) act x) =
     ap (λ b. first_refusal (when (not b) NotAllowed ∷ range_checks (get s.at) act x)) issuer in
-    ruled_change (plain_meaning (withdraw_refusal s caller x) (withdraw_reply s x) (with_withdrawal s x).at) s.at rows met (first_refusal (range_checks (at_of met) act x)) x.range (withdrawn x.range act) ruling kept is refl
+    ruled_change (plain_meaning (withdraw_refusal s caller x) (withdraw_reply s x) (with_withdrawal s x).at (λ rows. account_runs (get s.at) x.range)) s.at rows met (first_refusal (range_checks (at_of met) act x)) x.range (withdrawn x.range act) (account_runs (at_of met) x.range) ruling kept is refl
     (issued ∙ alike)
     (λ n o out. ap (λ (b : Bool). if b then option_map (λ (label : Label). (label.0, Withdrawn (account_of label.1) act)) o else o) out)
     (λ up n. get-place_each-range (λ lot place. Withdrawn (account_of place) act) (λ lot place. refl) x.range s.at n up ∙ same_withdrawn act (inside x.range.first x.range.last n) (get s.at n))
+    (λ up. let same = met_runs s.at rows met x.range kept is in omega (arith, same))
     here
 
 pub withdrawn_edits_if : (range : Numbers) (act : ℕ) (runs book new : List Piece) (result : Result (Vec Edit Global) Fault) → range.first ≤ range.last → AreAccountRuns book runs
