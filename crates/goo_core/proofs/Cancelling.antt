@@ -27,11 +27,11 @@ alike at rows next x kept =
 pub ruled_cancel : (s : State) (rows met : List Piece) (caller : List ℕ) (x : Cancel) (next : ℕ) (ruling : Ruling) → AreRowsOf s.at rows
     → first_refusal (entry_checks s caller x) ≡ None → next ≡ s.next_cancellation → met ≡ meeting x.range rows
     → IsMoveRuling (first_refusal (range_checks (at_of met) next x)) (reply.Cancelled next (count_of x.range)) None x.range (place.Cancelled x.account next) met ruling
-    → IsRuling (plain_meaning (cancel_refusal s caller x) (cancel_reply s x) (with_cancellation s x).at) rows ruling
+    → IsRuling (plain_meaning (cancel_refusal s caller x) (cancel_reply s x) (with_cancellation s x).at (λ rows. 1)) rows ruling
 unfolding cancel_refusal cancel_reply with_cancellation
 ruled_cancel s rows met caller x next ruling kept passed number is ruled =
     let here : IsMoveRuling (first_refusal (range_checks (at_of met) s.next_cancellation x)) (reply.Cancelled s.next_cancellation (count_of x.range)) None x.range (place.Cancelled x.account s.next_cancellation) met ruling
     = subst (λ (k : ℕ). IsMoveRuling (first_refusal (range_checks (at_of met) k x)) (reply.Cancelled k (count_of x.range)) None x.range (place.Cancelled x.account k) met ruling) number ruled in
     let late : first_refusal (range_checks (get s.at) s.next_cancellation x) ≡ first_refusal (range_checks (at_of met) s.next_cancellation x) = alike s.at rows s.next_cancellation x kept ∙ rw is refl in
-    ruled_move (plain_meaning (cancel_refusal s caller x) (cancel_reply s x) (with_cancellation s x).at) s.at rows met (first_refusal (range_checks (at_of met) s.next_cancellation x)) x.range (place.Cancelled x.account s.next_cancellation) ruling kept is refl
-    (passed_early (entry_checks s caller x) (range_checks (get s.at) s.next_cancellation x) passed ∙ late) refl here
+    ruled_move (plain_meaning (cancel_refusal s caller x) (cancel_reply s x) (with_cancellation s x).at (λ rows. 1)) s.at rows met (first_refusal (range_checks (at_of met) s.next_cancellation x)) x.range (place.Cancelled x.account s.next_cancellation) ruling kept is refl
+    (passed_early (entry_checks s caller x) (range_checks (get s.at) s.next_cancellation x) passed ∙ late) refl refl here

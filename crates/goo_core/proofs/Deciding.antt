@@ -1,5 +1,5 @@
 -- From a ruling to what the request comes to.
-use Rattle.std.proofs.Common.{◌≡◌, ◌∙◌, List, true, false, cond, Option, Some, None, refl, ap, sym, subst}
+use Rattle.std.proofs.Common.{◌≡◌, ◌∙◌, List, true, false, cond, Option, Some, None, refl, ap, sym, subst, arith}
 use Rattle.std.specs.FinMap.{get}
 use Rattle.goo_types.specs.declared.command.Command.{Command}
 use Rattle.goo_types.specs.declared.outcome.Outcome.TheVariants as outcome_of
@@ -27,28 +27,29 @@ use Rattle.goo_core.proofs.Changing.{unturned}
 
 -- a command that leaves the rows as they are
 quiet_by : (refused : Option Refusal) (reply : Reply) (at : Certificates) (rows : List Piece) (verdict : Verdict) (ruling : Ruling) → AreRowsOf at rows → verdict ≡ verdict_of refused reply → IsQuietRuling verdict ruling
-    → IsRuling (plain_meaning refused reply at) rows ruling
-quiet_by (Some r) reply at rows (Fails q) ruling kept is quiet = subst (IsRuling (plain_meaning (Some r) reply at) rows) (sym quiet) (refl, cc)
+    → IsRuling (plain_meaning refused reply at (λ rows. 0)) rows ruling
+quiet_by (Some r) reply at rows (Fails q) ruling kept is quiet = subst (IsRuling (plain_meaning (Some r) reply at (λ rows. 0)) rows) (sym quiet) (refl, cc)
 quiet_by (Some r) reply at rows (Passes q) ruling kept is quiet = absurd (cc)
 quiet_by None reply at rows (Fails q) ruling kept is quiet = absurd (cc)
 quiet_by None reply at rows (Passes q) ruling kept is quiet =
     let change = quiet.0 in
     let same : q ≡ reply = cc in
     let none = unturned at rows kept in
-    let passed : IsPassed (plain_meaning None reply at) rows change = record {
+    let passed : IsPassed (plain_meaning None reply at (λ rows. 0)) rows change = record {
       fresh = refl;
       allowed = refl;
       answered = quiet.2.answered ∙ same;
       sent = quiet.2.sent;
       rising = rw quiet.2.edits none.rising;
       turned = rw quiet.2.edits none.turned;
+      few = rw quiet.2.edits (omega arith);
     } in
-    subst (IsRuling (plain_meaning None reply at) rows) (sym quiet.1) passed
+    subst (IsRuling (plain_meaning None reply at (λ rows. 0)) rows) (sym quiet.1) passed
 
 pub quiet_ruled : (refused : Option Refusal) (reply : Reply) (at after : Certificates) (rows : List Piece) (verdict : Verdict) (ruling : Ruling) → AreRowsOf at rows → after ≡ at → verdict ≡ verdict_of refused reply → IsQuietRuling verdict ruling
-    → IsRuling (plain_meaning refused reply after) rows ruling
+    → IsRuling (plain_meaning refused reply after (λ rows. 0)) rows ruling
 quiet_ruled refused reply at after rows verdict ruling kept same is quiet =
-    subst (λ (m : Certificates). IsRuling (plain_meaning refused reply m) rows ruling) (sym same) (quiet_by refused reply at rows verdict ruling kept is quiet)
+    subst (λ (m : Certificates). IsRuling (plain_meaning refused reply m (λ rows. 0)) rows ruling) (sym same) (quiet_by refused reply at rows verdict ruling kept is quiet)
 
 -- a request whose key isn't kept
 fresh : (s : State) (q : Request) → get s.receipts (q.caller, q.key) ≡ None → (meaning : Meaning) → meaning_of s q.caller q.command ≡ meaning → outcome s q ≡ fresh_outcome meaning.repeated meaning.refused meaning.reply
@@ -85,6 +86,7 @@ decided_plan s rows q plan change sound kept none ruled request reply edits noti
         rising = rw edits ruled.rising;
         turned = rw (edits, request) ruled.turned;
       };
+      few = rw edits ruled.few;
     }
 
 -- what a receipt says

@@ -107,4 +107,4 @@ module _ (s : State) (rows met : List Piece) (caller : List ℕ) (x : Export) (k
       let free = refusal-early ruled.0 out.parts out.are ∙ out.free in
       let move : IsMove (reply.Exported s.next_notice (count_of x.range)) (Some (notice_of s x)) x.range (place.Exported x.giver s.next_notice) met change
       = subst (λ (m : NoticeContents). IsMove (reply.Exported s.next_notice (count_of x.range)) (Some m) x.range (place.Exported x.giver s.next_notice) met change) (out.says ∙ notice-same out.parts ruled.0 out.are) ruled.1.2 in
-      ruled_move (export_meaning s caller x) s.at rows met None x.range (place.Exported x.giver s.next_notice) (Passed change) kept is refl free refl (refl, move)
+      ruled_move (export_meaning s caller x) s.at rows met None x.range (place.Exported x.giver s.next_notice) (Passed change) kept is refl free refl refl (refl, move)

@@ -1,5 +1,5 @@
 -- What an import comes to.
-use Rattle.std.proofs.Common.{◌≡◌, ◌∙◌, ℕ, Bool, true, false, cond, ◌==◌, ◌&&◌, List, [], ◌∷◌, ◌++◌, Option, Some, None, refl, ap, sym}
+use Rattle.std.proofs.Common.{◌≡◌, ◌∙◌, ℕ, Bool, true, false, cond, ◌==◌, ◌&&◌, List, [], ◌∷◌, ◌++◌, Option, Some, None, refl, ap, sym, length, arith}
 use Rattle.std.specs.Prelude.{find, sum_by, All, not, Result, Ok, Err, IfOk}
 use Rattle.std.specs.Option.{option_or}
 use Rattle.std.specs.FinMap.{get}
@@ -99,6 +99,12 @@ module _ (s : State) (rows : List Piece) (kept : AreRowsOf s.at rows) where
       ∙ ap (given known account n) (sym (get-give_each-range p.range p.lot (Held account) at n range.rising))
       ∙ given-taken ps known account n (give_each (each p.range) p.lot (Held account) at) (All-tail (λ q. IsRange q.range) p ps ranges) are.1
 
+  listed_alike : (ps : List Part) (known : List Arriving) → AreArriving s rows ps known → length known ≡ length ps
+  listed_alike [] [] are = refl
+  listed_alike [] (a ∷ known) are = absurd are
+  listed_alike (p ∷ ps) [] are = absurd are
+  listed_alike (p ∷ ps) (a ∷ known) are = let rest = listed_alike ps known are.1 in omega (arith, rest)
+
   pub ruled_fresh : (x : Import) (known : List Arriving) (count : ℕ) (ruling : Ruling) → IsWhole x.notice → AreArriving s rows x.notice.parts known → count ≡ sum_by (λ p. count_of p.range) x.notice.parts
       → first_refusal (standing_checks s x) ≡ None → IsTakeRuling rows known s.own x.notice.account count ruling → IsRuling (fresh_meaning s x) rows ruling
   unfolding import_reply with_import
@@ -115,6 +121,7 @@ module _ (s : State) (rows : List Piece) (kept : AreRowsOf s.at rows) where
         rising = stay_rising change.edits.items rows kept.disjoint taken_edits.edits;
         turned = edits-turned (taken x.notice.parts (Held x.notice.account) s.at) rows change.edits.items kept.disjoint taken_edits.edits
             (λ n. taken_edits.changes n ∙ ap (given known x.notice.account n) (kept.same n) ∙ given-taken x.notice.parts known x.notice.account n s.at whole.ranges are);
+        few = let e = listed_alike x.notice.parts known are in omega (arith, e, taken_edits.one_each);
       }
 
 -- what holds of a ruling for all rows
@@ -202,4 +209,5 @@ ruled_absent s rows caller x ruling passed absent ruled =
       sent = ruled.sent;
       rising = ruled.rising;
       turned = ruled.turned;
+      few = ruled.few;
     }

@@ -1,7 +1,7 @@
 -- What a declaration issues, and what it comes to.
 use Rattle.std.proofs.Common.{◌≡◌, ◌∙◌, ℕ, zero, suc, ◌+◌, ◌-◌, ◌≤◌, ◌∷◌, ◌==◌, List, [], Bool, true, false, cond, Option, Some, None, refl, ap, sym, subst, arith}
 use Rattle.std.proofs.lemmas.Bool.Decides.{nat_tests}
-use Rattle.std.specs.Prelude.{not}
+use Rattle.std.specs.Prelude.{not, length}
 use Rattle.std.specs.FinMap.{get}
 use Rattle.goo_types.specs.declared.command.Declare.{Declare}
 use Rattle.goo_types.specs.declared.lot_fields.LotFields.{LotFields}
@@ -89,17 +89,17 @@ declared_passes s caller x terms is =
 
 -- the edits of an issue
 pub issued_turned : (at : Certificates) (rows met : List Piece) (issue : Issue) (edits : List Edit) → AreRowsOf at rows → met ≡ meeting issue.range rows
-    → (issue.range.first ≤ issue.range.last) × AreEditsFor issue.range met (set_to issue.range.first issue.range.last (issue.lot, Held issue.account)) edits
-    → IsTurnedInTurn (with_issued (Some issue) at) rows edits
+    → (issue.range.first ≤ issue.range.last) × AreEditsFor issue.range met (set_to issue.range.first issue.range.last (issue.lot, Held issue.account)) edits × (length edits ≤ 1)
+    → IsTurnedInTurn (with_issued (Some issue) at) rows edits × (length edits ≤ 1)
 issued_turned at rows met issue edits kept is made =
     let here : AreEditsFor issue.range (meeting issue.range rows) (set_to issue.range.first issue.range.last (issue.lot, Held issue.account)) edits
     = subst (λ m. AreEditsFor issue.range m (set_to issue.range.first issue.range.last (issue.lot, Held issue.account)) edits) is made.1 in
-    added_turned at rows issue.range issue.lot (Held issue.account) edits made.0 kept here
+    (added_turned at rows issue.range issue.lot (Held issue.account) edits made.0 kept here, made.2)
 
 -- a declaration that passes, with the edits of its issue
 pub ruled_declare : (s : State) (rows : List Piece) (caller : List ℕ) (x : Declare) (terms : Terms) (issued : Option Numbers) (edits : Vec Edit Global) → Passes terms ≡ appraisal_of s caller x → issued ≡ range_in terms.issue
-    → IsTurnedInTurn (with_issued terms.issue s.at) rows edits.items
-    → IsPassed (plain_meaning (declare_refusal s caller x) (declare_reply s x) (with_issue s x).at) rows (record { reply = Declared terms.carry issued; edits = edits; notice = None })
+    → IsTurnedInTurn (with_issued terms.issue s.at) rows edits.items × (length edits.items ≤ 1)
+    → IsPassed (plain_meaning (declare_refusal s caller x) (declare_reply s x) (with_issue s x).at (λ rows. 1)) rows (record { reply = Declared terms.carry issued; edits = edits; notice = None })
 ruled_declare s rows caller x terms issued edits is range made =
     let declared = declared_passes s caller x terms is in
     record {
@@ -107,6 +107,7 @@ ruled_declare s rows caller x terms issued edits is range made =
       allowed = declared.allowed;
       answered = ap (λ o. Declared terms.carry o) range ∙ declared.answered;
       sent = refl;
-      rising = made.rising;
-      turned = rw declared.after made.turned;
+      rising = made.0.rising;
+      turned = rw declared.after made.0.turned;
+      few = made.1;
     }

@@ -16,3 +16,4 @@ pub mod Arrivals
 pub mod Importing
 pub mod Withdrawing
 pub mod Deciding
+pub mod AccountRuns

@@ -1,5 +1,5 @@
 -- From what met rows come to, to what all rows come to.
-use Rattle.std.proofs.Common.{◌≡◌, ◌∙◌, ℕ, ◌≤◌, List, [], ◌∷◌, ◌++◌, false, Option, Some, None, refl, ap, sym, subst}
+use Rattle.std.proofs.Common.{◌≡◌, ◌∙◌, ℕ, ◌≤◌, List, [], ◌∷◌, ◌++◌, false, Option, Some, None, refl, ap, sym, subst, arith}
 use Rattle.std.specs.FinMap.{get}
 use Rattle.goo_types.specs.Piece.{Label}
 use Rattle.goo_types.specs.Range.{Numbers}
@@ -33,14 +33,15 @@ passed_early (None ∷ early) late is = passed_early early late is
 passed_early (Some q ∷ early) late is = none_some q (sym is)
 
 -- a command that changes the certificates of its range
-pub ruled_change : (meaning : Meaning) (at : Certificates) (rows met : List Piece) (refused : Option Refusal) (range : Numbers) (change : ℕ → Option Label → Option Label) (ruling : Ruling)
+pub ruled_change : (meaning : Meaning) (at : Certificates) (rows met : List Piece) (refused : Option Refusal) (range : Numbers) (change : ℕ → Option Label → Option Label) (most : ℕ) (ruling : Ruling)
     → AreRowsOf at rows → met ≡ meeting range rows → meaning.repeated ≡ None → meaning.refused ≡ refused
     → ((n : ℕ) (o : Option Label) → inside range.first range.last n ≡ false → change n o ≡ o)
     → (range.first ≤ range.last → (n : ℕ) → get meaning.after n ≡ change n (get at n))
-    → IsChangeRuling refused meaning.reply meaning.notice range change met ruling → IsRuling meaning rows ruling
-ruled_change meaning at rows met refused range change (Refused r) kept is fresh same outside so ruled = (fresh, same ∙ ruled)
-ruled_change meaning at rows met refused range change (Repeated reply) kept is fresh same outside so ruled = absurd ruled
-ruled_change meaning at rows met refused range change (Passed made) kept is fresh same outside so ruled =
+    → (range.first ≤ range.last → most ≤ meaning.most rows)
+    → IsChangeRuling refused meaning.reply meaning.notice range change most met ruling → IsRuling meaning rows ruling
+ruled_change meaning at rows met refused range change most (Refused r) kept is fresh same outside so few ruled = (fresh, same ∙ ruled)
+ruled_change meaning at rows met refused range change most (Repeated reply) kept is fresh same outside so few ruled = absurd ruled
+ruled_change meaning at rows met refused range change most (Passed made) kept is fresh same outside so few ruled =
     let one = ruled.1 in
     let edits : AreEditsFor range (meeting range rows) change made.edits.items = subst (λ m. AreEditsFor range m change made.edits.items) is one.edits in
     let turned = turned_by at meaning.after rows range made.edits.items change one.up kept outside (so one.up) edits in
@@ -51,12 +52,13 @@ ruled_change meaning at rows met refused range change (Passed made) kept is fres
       sent = one.sent;
       rising = turned.rising;
       turned = turned.turned;
+      few = omega (arith, one.few, few one.up);
     }
 
 -- a command that puts the certificates of its range in a place
 pub ruled_move : (meaning : Meaning) (at : Certificates) (rows met : List Piece) (refused : Option Refusal) (range : Numbers) (place : Place) (ruling : Ruling)
-    → AreRowsOf at rows → met ≡ meeting range rows → meaning.repeated ≡ None → meaning.refused ≡ refused → meaning.after ≡ place_each (λ lot old. place) (each range) at
+    → AreRowsOf at rows → met ≡ meeting range rows → meaning.repeated ≡ None → meaning.refused ≡ refused → meaning.after ≡ place_each (λ lot old. place) (each range) at → meaning.most rows ≡ 1
     → IsMoveRuling refused meaning.reply meaning.notice range place met ruling → IsRuling meaning rows ruling
-ruled_move meaning at rows met refused range place ruling kept is fresh same after ruled =
-    ruled_change meaning at rows met refused range (moved range.first range.last place) ruling kept is fresh same (moved-outside range place)
-    (λ up n. ap (λ m. get m n) after ∙ get-move_each range place at n up) ruled
+ruled_move meaning at rows met refused range place ruling kept is fresh same after one ruled =
+    ruled_change meaning at rows met refused range (moved range.first range.last place) 1 ruling kept is fresh same (moved-outside range place)
+    (λ up n. ap (λ m. get m n) after ∙ get-move_each range place at n up) (λ up. omega (arith, one)) ruled

@@ -23,9 +23,9 @@ use Rattle.goo_core.proofs.Rulings.{passed_early, ruled_move}
 pub ruled_transfer : (s : State) (rows met : List Piece) (caller : List ℕ) (x : Transfer) (today : CalendarDay) (ruling : Ruling) → AreRowsOf s.at rows
     → first_refusal (entry_checks s caller x) ≡ None → today ≡ s.today → met ≡ meeting x.range rows
     → IsMoveRuling (first_refusal (trade_checks (at_of met) x.range x.giver today)) (Moved (count_of x.range)) None x.range (Held x.taker) met ruling
-    → IsRuling (plain_meaning (transfer_refusal s caller x) (transfer_reply s x) (with_transfer s x).at) rows ruling
+    → IsRuling (plain_meaning (transfer_refusal s caller x) (transfer_reply s x) (with_transfer s x).at (λ rows. 1)) rows ruling
 unfolding transfer_refusal transfer_reply with_transfer
 ruled_transfer s rows met caller x today ruling kept passed day is ruled =
     let late : first_refusal (trade_checks (get s.at) x.range x.giver s.today) ≡ first_refusal (trade_checks (at_of met) x.range x.giver today) = trade-alike s.at rows x.range x.giver s.today kept ∙ rw (is, day) refl in
-    ruled_move (plain_meaning (transfer_refusal s caller x) (transfer_reply s x) (with_transfer s x).at) s.at rows met (first_refusal (trade_checks (at_of met) x.range x.giver today)) x.range (Held x.taker) ruling kept is refl
-    (passed_early (entry_checks s caller x) (trade_checks (get s.at) x.range x.giver s.today) passed ∙ late) refl ruled
+    ruled_move (plain_meaning (transfer_refusal s caller x) (transfer_reply s x) (with_transfer s x).at (λ rows. 1)) s.at rows met (first_refusal (trade_checks (at_of met) x.range x.giver today)) x.range (Held x.taker) ruling kept is refl
+    (passed_early (entry_checks s caller x) (trade_checks (get s.at) x.range x.giver s.today) passed ∙ late) refl refl ruled

@@ -1,5 +1,5 @@
 -- What a request comes to.
-use Rattle.std.specs.Prelude.{◌≡◌, List, [], None}
+use Rattle.std.specs.Prelude.{◌≡◌, ◌≤◌, List, length, [], None}
 use Rattle.goo_types.specs.declared.outcome.Outcome.TheVariants as outcome_of
 use Rattle.goo_types.specs.declared.piece.Piece.{Piece}
 use Rattle.goo_types.specs.declared.reply.Reply.{Reply}
@@ -8,6 +8,7 @@ use Rattle.goo_spec.specs.State.{State}
 use Rattle.goo_spec.specs.Step.{outcome}
 use Rattle.goo_shelf.specs.Plan.{Fits}
 use Rattle.goo_shelf.specs.declared.plan.Plan.{Plan}
+use Rattle.goo_core.specs.Edits.{most_edits}
 use Rattle.goo_core.specs.declared.decision.Decision.{Decision}
 use Rattle.goo_core.specs.declared.decision.Decision.TheVariants as decided
 use Rattle.goo_core.specs.declared.ruling.Change.{Change}
@@ -16,11 +17,12 @@ use Rattle.goo_core.specs.declared.ruling.Ruling.TheVariants.{Refused, Passed}
 use Rattle.goo_core.specs.declared.verdict.Verdict.{Verdict}
 use Rattle.goo_core.specs.declared.verdict.Verdict.TheVariants.{Fails, Passes}
 
--- a plan of the request, with its reply, that may be committed
+-- a plan of the request, with its reply, that may be committed, and whose edits are few
 pub record IsPlanOf (s : State) (rows : List Piece) (q : Request) (plan : Plan) (reply : Reply) : Type 0 where
   pub request : plan.request ≡ q
   pub reply_is : plan.reply ≡ reply
   pub fits : Fits s rows plan
+  pub few : length plan.edits.items ≤ most_edits s rows q.command
 
 -- a decision is what the request comes to by the definitions, and its plan fits
 abbrev pub IsDecision : State → List Piece → Request → Decision → Type 0

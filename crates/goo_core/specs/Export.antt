@@ -71,4 +71,4 @@ IsExportRuling own next today x met (Passed change) =
 
 -- what its definitions say of an export
 abbrev pub export_meaning : State → List ℕ → Export → Meaning
-export_meaning s caller x = record { repeated = None; refused = export_refusal s caller x; reply = export_reply s x; notice = Some (notice_of s x); after = (with_export s x).at }
+export_meaning s caller x = record { repeated = None; refused = export_refusal s caller x; reply = export_reply s x; notice = Some (notice_of s x); after = (with_export s x).at; most = λ rows. 1 }

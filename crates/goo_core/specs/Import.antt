@@ -1,5 +1,5 @@
 -- What a notice brings, part by part.
-use Rattle.std.specs.Prelude.{◌≡◌, ◌==◌, ◌&&◌, ℕ, cond, List, [], ◌∷◌, ◌++◌, Option, Some, None}
+use Rattle.std.specs.Prelude.{◌≡◌, ◌==◌, ◌&&◌, ℕ, cond, List, [], ◌∷◌, ◌++◌, length, Option, Some, None}
 use Rattle.std.specs.Option.{option_or}
 use Rattle.std.specs.List.{list_any}
 use Rattle.std.specs.FinMap.{get}
@@ -24,7 +24,7 @@ use Rattle.goo_core.specs.declared.arriving.Arriving.{Arriving}
 
 -- what its definitions say of an import
 abbrev pub import_meaning : State → List ℕ → Import → Meaning
-import_meaning s caller x = record { repeated = import_repeats s caller x; refused = import_refusal s caller x; reply = import_reply s x; notice = None; after = (with_import s x).at }
+import_meaning s caller x = record { repeated = import_repeats s caller x; refused = import_refusal s caller x; reply = import_reply s x; notice = None; after = (with_import s x).at; most = λ rows. length x.notice.parts }
 
 -- the least number that some parts give, in their order
 abbrev pub least_of : (Arriving → Option ℕ) → List Arriving → Option ℕ
@@ -67,7 +67,7 @@ number_checks s x =
 
 -- what its definitions say of an import whose notice is new
 abbrev pub fresh_meaning : State → Import → Meaning
-fresh_meaning s x = record { repeated = None; refused = first_refusal (standing_checks s x ++ number_checks s x); reply = import_reply s x; notice = None; after = (with_import s x).at }
+fresh_meaning s x = record { repeated = None; refused = first_refusal (standing_checks s x ++ number_checks s x); reply = import_reply s x; notice = None; after = (with_import s x).at; most = λ rows. length x.notice.parts }
 
 -- what is known of a part
 pub record IsArriving (s : State) (rows : List Piece) (p : Part) (a : Arriving) : Type 0 where

@@ -1,3 +1,5 @@
+pub mod AccountRuns
+pub mod Edits
 pub mod Meta
 pub mod Verdict
 pub mod Issue

@@ -1,5 +1,5 @@
 -- What a command comes to under a key that isn't kept.
-use Rattle.std.specs.Prelude.{◌≡◌, ℕ, List, Option, Some, None}
+use Rattle.std.specs.Prelude.{◌≡◌, ℕ, ◌≤◌, List, length, Option, Some, None}
 use Rattle.goo_types.specs.Notice.{NoticeContents}
 use Rattle.goo_types.specs.declared.command.Command.{Command}
 use Rattle.goo_types.specs.declared.piece.Piece.{Piece}
@@ -10,19 +10,21 @@ use Rattle.goo_spec.specs.State.{State}
 use Rattle.goo_spec.specs.Step.{refusal, reply_to, repeats, changed}
 use Rattle.goo_rows.specs.Plans.{IsTurned}
 use Rattle.goo_shelf.specs.Plan.{StayRising, notice_sent}
+use Rattle.goo_core.specs.Edits.{most_edits}
 use Rattle.goo_core.specs.declared.ruling.Change.{Change}
 use Rattle.goo_core.specs.declared.ruling.Ruling.{Ruling}
 use Rattle.goo_core.specs.declared.ruling.Ruling.TheVariants.{Refused, Repeated, Passed}
 
--- what a command's definitions say here: its repeat, its refusal, its reply, its notice, and the certificates after it
+-- what a command's definitions say here: its repeat, its refusal, its reply, its notice, the certificates after it, and how many edits of the rows it takes at most
 pub record Meaning : Type 0 where
   pub repeated : Option Reply
   pub refused : Option Refusal
   pub reply : Reply
   pub notice : Option NoticeContents
   pub after : Certificates
+  pub most : List Piece → ℕ
 
--- a change with the reply and the notice, whose edits turn the rows into those after it
+-- a change with the reply and the notice, whose edits turn the rows into those after it, and are few
 pub record IsPassed (meaning : Meaning) (rows : List Piece) (change : Change) : Type 0 where
   pub fresh : meaning.repeated ≡ None
   pub allowed : meaning.refused ≡ None
@@ -30,6 +32,7 @@ pub record IsPassed (meaning : Meaning) (rows : List Piece) (change : Change) : 
   pub sent : change.notice ≡ meaning.notice
   pub rising : StayRising change.edits.items rows
   pub turned : IsTurned meaning.after rows change.edits.items
+  pub few : length change.edits.items ≤ meaning.most rows
 
 abbrev pub IsRuling : Meaning → List Piece → Ruling → Type 0
 IsRuling meaning rows (Refused refusal) = (meaning.repeated ≡ None) × (meaning.refused ≡ Some refusal)
@@ -37,8 +40,8 @@ IsRuling meaning rows (Repeated reply) = meaning.repeated ≡ Some reply
 IsRuling meaning rows (Passed change) = IsPassed meaning rows change
 
 -- what its definitions say of a command that is never repeated by itself and sends nothing
-abbrev pub plain_meaning : Option Refusal → Reply → Certificates → Meaning
-plain_meaning refused reply after = record { repeated = None; refused = refused; reply = reply; notice = None; after = after }
+abbrev pub plain_meaning : Option Refusal → Reply → Certificates → (List Piece → ℕ) → Meaning
+plain_meaning refused reply after most = record { repeated = None; refused = refused; reply = reply; notice = None; after = after; most = most }
 
 abbrev pub meaning_of : State → List ℕ → Command → Meaning
 meaning_of s caller command = record {
@@ -47,4 +50,5 @@ meaning_of s caller command = record {
   reply = reply_to s command;
   notice = notice_sent s command;
   after = (changed s command).at;
+  most = λ rows. most_edits s rows command;
 }

@@ -1,5 +1,5 @@
 -- The edits that take in what a notice brings.
-use Rattle.std.specs.Prelude.{◌≡◌, ℕ, ◌≤◌, List, [], ◌∷◌, Option, Some, None, Vec}
+use Rattle.std.specs.Prelude.{◌≡◌, ℕ, ◌≤◌, List, [], ◌∷◌, length, Option, Some, None, Vec}
 use Rattle.std.specs.Global.{Global}
 use Rattle.goo_types.specs.Piece.{at_of}
 use Rattle.goo_types.specs.declared.piece.Piece.{Piece}
@@ -30,10 +30,11 @@ abbrev pub IsStepOf : List Piece → List Edit → Arriving → ℕ → Option E
 IsStepOf rows es a account None = ⊥
 IsStepOf rows es a account (Some e) = IsPartEdit rows es a account e
 
--- edits of the rows that give all parts' numbers their lots and the account
+-- edits of the rows that give all parts' numbers their lots and the account, one for each part
 pub record AreTaken (rows : List Piece) (arriving : List Arriving) (account : ℕ) (es : List Edit) : Type 0 where
   pub edits : AreEditsOf rows es
   pub changes : (n : ℕ) → at_of (edited_all es rows) n ≡ given arriving account n (at_of rows n)
+  pub one_each : length es ≡ length arriving
 
 abbrev pub IsTaking : List Piece → List Arriving → ℕ → Option (Vec Edit Global) → Type 0
 IsTaking rows arriving account None = ⊥

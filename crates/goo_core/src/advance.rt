@@ -1,4 +1,4 @@
-ghost use Rattle.std.specs.Prelude.{◌≡◌, ◌≤◌, ◌<◌, sum_by, IfOk, IfErr};
+ghost use Rattle.std.specs.Prelude.{◌≡◌, ◌≤◌, ◌<◌, length, sum_by, IfOk, IfErr};
 ghost use Rattle.goo_types.specs.Piece.{IsRising};
 ghost use Rattle.goo_types.specs.declared.fault.Fault.TheVariants.{Memory};
 ghost use Rattle.goo_spec.specs.Advance.{advance_checks, advance_refusal, advance_reply, with_day};
@@ -6,6 +6,7 @@ ghost use Rattle.goo_spec.specs.Checks.{first_refusal};
 ghost use Rattle.goo_spec.specs.Sound.{IsSound};
 ghost use Rattle.goo_rows.specs.Plans.{IsMoveOf, AreMovesOf};
 ghost use Rattle.goo_rows.specs.Rows.{AreRowsOf};
+ghost use Rattle.goo_shelf.specs.Rows.{expiring_on};
 ghost use Rattle.goo_shelf.specs.Shelf.{Looks, IsReady};
 ghost use Rattle.goo_core.specs.Advance.{expired_place, count_in};
 ghost use Rattle.goo_core.specs.Ruling.{IsRuling, plain_meaning};
@@ -103,7 +104,7 @@ pub fn judge_advance<S: Shelf>(
     requires ready { IsReady (S.seen shelf.old) }
     requires sound { (S.seen shelf.old).doubts ≡ 0 → IsSound (S.seen shelf.old).state }
     requires rows { (S.seen shelf.old).doubts ≡ 0 → AreRowsOf (S.seen shelf.old).state.at (S.seen shelf.old).rows }
-    ensures { Looks (S.seen shelf.old) (S.seen shelf.new) result (IsRuling (plain_meaning (advance_refusal (S.seen shelf.old).state caller.now advance.now) (advance_reply (S.seen shelf.old).state advance.now) (with_day (S.seen shelf.old).state advance.now).at) (S.seen shelf.old).rows) }
+    ensures { Looks (S.seen shelf.old) (S.seen shelf.new) result (IsRuling (plain_meaning (advance_refusal (S.seen shelf.old).state caller.now advance.now) (advance_reply (S.seen shelf.old).state advance.now) (with_day (S.seen shelf.old).state advance.now).at (λ rows. length (expiring_on advance.now.day rows))) (S.seen shelf.old).rows) }
 {
     if let Some(refusal) = entry_refusal(shelf, caller, advance)? {
         return Ok(Ruling::Refused(refusal));

@@ -95,7 +95,7 @@ pub fn judge_cancel<S: Shelf>(
 ) -> Result<Ruling, Fault>
     requires ready { IsReady (S.seen shelf.old) }
     requires rows { (S.seen shelf.old).doubts ≡ 0 → AreRowsOf (S.seen shelf.old).state.at (S.seen shelf.old).rows }
-    ensures { Looks (S.seen shelf.old) (S.seen shelf.new) result (IsRuling (plain_meaning (cancel_refusal (S.seen shelf.old).state caller.now cancel.now) (cancel_reply (S.seen shelf.old).state cancel.now) (with_cancellation (S.seen shelf.old).state cancel.now).at) (S.seen shelf.old).rows) }
+    ensures { Looks (S.seen shelf.old) (S.seen shelf.new) result (IsRuling (plain_meaning (cancel_refusal (S.seen shelf.old).state caller.now cancel.now) (cancel_reply (S.seen shelf.old).state cancel.now) (with_cancellation (S.seen shelf.old).state cancel.now).at (λ rows. 1)) (S.seen shelf.old).rows) }
 {
     if let Some(refusal) = entry_refusal(shelf, caller, cancel)? {
         return Ok(Ruling::Refused(refusal));

@@ -1,6 +1,6 @@
 //! Edits of the rows that a range meets.
 
-ghost use Rattle.std.specs.Prelude.{◌≡◌, ◌≤◌, [], ◌∷◌, ◌++◌, OnOk, IfOk, IfErr};
+ghost use Rattle.std.specs.Prelude.{◌≡◌, ◌≤◌, [], ◌∷◌, ◌++◌, length, OnOk, IfOk, IfErr};
 ghost use Rattle.goo_types.specs.Piece.{IsRising};
 ghost use Rattle.goo_types.specs.declared.fault.Fault.TheVariants.{Memory};
 ghost use Rattle.goo_ranges.specs.Change.{moved, set_to};
@@ -39,7 +39,7 @@ pub fn move_met(
     place: Place,
 ) -> Result<Vec<Edit>, Fault>
     requires { IsRising book }
-    ensures edits { IfOk result (λ edits. (range.first ≤ range.last) × AreEditsFor range book (moved range.first range.last place) edits.items) }
+    ensures edits { IfOk result (λ edits. (range.first ≤ range.last) × AreEditsFor range book (moved range.first range.last place) edits.items × (length edits.items ≤ 1)) }
     ensures memory { IfErr result (λ fault. fault ≡ Memory) }
 {
     let _first = range.first();
@@ -56,7 +56,7 @@ pub fn add_met(
     place: Place,
 ) -> Result<Vec<Edit>, Fault>
     requires { IsRising book }
-    ensures edits { IfOk result (λ edits. (range.first ≤ range.last) × AreEditsFor range book (set_to range.first range.last (lot, place)) edits.items) }
+    ensures edits { IfOk result (λ edits. (range.first ≤ range.last) × AreEditsFor range book (set_to range.first range.last (lot, place)) edits.items × (length edits.items ≤ 1)) }
     ensures memory { IfErr result (λ fault. fault ≡ Memory) }
 {
     let _first = range.first();

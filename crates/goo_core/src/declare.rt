@@ -224,7 +224,7 @@ pub fn judge_declare<S: Shelf>(
 ) -> Result<Ruling, Fault>
     requires ready { IsReady (S.seen shelf.old) }
     requires rows { (S.seen shelf.old).doubts ≡ 0 → AreRowsOf (S.seen shelf.old).state.at (S.seen shelf.old).rows }
-    ensures { Looks (S.seen shelf.old) (S.seen shelf.new) result (IsRuling (plain_meaning (declare_refusal (S.seen shelf.old).state caller.now declaration.now) (declare_reply (S.seen shelf.old).state declaration.now) (with_issue (S.seen shelf.old).state declaration.now).at) (S.seen shelf.old).rows) }
+    ensures { Looks (S.seen shelf.old) (S.seen shelf.new) result (IsRuling (plain_meaning (declare_refusal (S.seen shelf.old).state caller.now declaration.now) (declare_reply (S.seen shelf.old).state declaration.now) (with_issue (S.seen shelf.old).state declaration.now).at (λ rows. 1)) (S.seen shelf.old).rows) }
 {
     match appraise(shelf, caller, declaration)? {
         Appraisal::Fails(refusal) => Ok(Ruling::Refused(refusal)),

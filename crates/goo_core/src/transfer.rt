@@ -86,7 +86,7 @@ pub fn judge_transfer<S: Shelf>(
 ) -> Result<Ruling, Fault>
     requires ready { IsReady (S.seen shelf.old) }
     requires rows { (S.seen shelf.old).doubts ≡ 0 → AreRowsOf (S.seen shelf.old).state.at (S.seen shelf.old).rows }
-    ensures { Looks (S.seen shelf.old) (S.seen shelf.new) result (IsRuling (plain_meaning (transfer_refusal (S.seen shelf.old).state caller.now transfer.now) (transfer_reply (S.seen shelf.old).state transfer.now) (with_transfer (S.seen shelf.old).state transfer.now).at) (S.seen shelf.old).rows) }
+    ensures { Looks (S.seen shelf.old) (S.seen shelf.new) result (IsRuling (plain_meaning (transfer_refusal (S.seen shelf.old).state caller.now transfer.now) (transfer_reply (S.seen shelf.old).state transfer.now) (with_transfer (S.seen shelf.old).state transfer.now).at (λ rows. 1)) (S.seen shelf.old).rows) }
 {
     if let Some(refusal) = entry_refusal(shelf, caller, transfer)? {
         return Ok(Ruling::Refused(refusal));

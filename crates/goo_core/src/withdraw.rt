@@ -1,4 +1,5 @@
-ghost use Rattle.std.specs.Prelude.{◌≡◌, ℕ, ◌≤◌, None, List, Option, IfOk, IfErr, OnOk};
+ghost use Rattle.std.specs.Prelude.{◌≡◌, ℕ, ◌+◌, ◌≤◌, None, List, length, count_by, Option, IfOk, IfErr, OnOk};
+ghost use Rattle.std.specs.FinMap.{get};
 ghost use Rattle.goo_types.specs.Piece.{Label, at_of, IsForward, IsRising};
 ghost use Rattle.goo_types.specs.declared.fault.Fault.TheVariants.{Memory};
 ghost use Rattle.goo_types.specs.declared.piece.Piece as piece;
@@ -6,12 +7,14 @@ ghost use Rattle.goo_types.specs.declared.reply.Reply.TheVariants as reply;
 ghost use Rattle.goo_spec.specs.Checks.{first_refusal};
 ghost use Rattle.goo_spec.specs.Maps.{count_of};
 ghost use Rattle.goo_spec.specs.Withdraw.{withdraw_refusal, withdraw_reply, with_withdrawal};
+ghost use Rattle.goo_ranges.specs.Change.{meets, one_if};
 ghost use Rattle.goo_rows.specs.Rows.{AreRowsOf};
 ghost use Rattle.goo_shelf.specs.Shelf.{Looks, IsReady};
+ghost use Rattle.goo_core.specs.AccountRuns.{account_runs};
 ghost use Rattle.goo_core.specs.Changes.{AreMade, AreEditsFor};
 ghost use Rattle.goo_core.specs.Moves.{IsChangeRuling};
 ghost use Rattle.goo_core.specs.Ruling.{IsRuling, plain_meaning};
-ghost use Rattle.goo_core.specs.Withdraw.{range_checks, withdrawn, row_withdrawn, rows_withdrawn, AreCommon};
+ghost use Rattle.goo_core.specs.Withdraw.{range_checks, withdrawn, run_withdrawn, runs_withdrawn, AreCommon};
 
 use crate::callers::is_issuer;
 use crate::change::push_edit;
@@ -31,73 +34,70 @@ use goo_types::refusal::Refusal;
 use goo_types::reply::Reply;
 use std::alloc::Global;
 
-/// The numbers that a row and a range have in common, if there are any.
-fn common_part(row: &Piece, range: Range) -> Option<Range>
-    requires { IsForward row.now }
-    ensures { AreCommon row.now range result }
+/// The numbers that a run and a range have in common, if there are any.
+fn common_part(run: &Piece, range: Range) -> Option<Range>
+    requires { IsForward run.now }
+    ensures { AreCommon run.now range result }
 {
-    let first = row.first.max(range.first());
-    let last = row.last.min(range.last());
+    let first = run.first.max(range.first());
+    let last = run.last.min(range.last());
     Range::new(first, last)
 }
 
-/// Withdraws the certificates of a row that lie in the range, from the account that held them.
-fn withdraw_row(
+/// Withdraws the certificates of a run of one account that lie in the range, if there are any.
+fn withdraw_run(
     book: &mut Book,
     edits: &mut Vec<Edit>,
-    row: &Piece,
+    run: &Piece,
     range: Range,
     act: ActNo,
 ) -> Result<(), Fault>
-    requires forward { IsForward row.now }
+    requires forward { IsForward run.now }
     requires rising { IsRising book.old }
-    ensures made { OnOk result ((met : List piece.Piece) (change : ℕ → Option Label → Option Label) → AreMade range met change book.old edits.old.items → AreMade range met (λ n o. row_withdrawn range act row.now n (change n o)) book.new edits.new.items) }
+    ensures made { OnOk result ((met : List piece.Piece) (change : ℕ → Option Label → Option Label) → AreMade range met change book.old edits.old.items → AreMade range met (λ n o. run_withdrawn range act run.now n (change n o)) book.new edits.new.items) }
+    ensures one { OnOk result (length edits.new.items ≡ length edits.old.items + one_if (meets range.first range.last run.now)) }
     ensures stays { OnOk result (IsRising book.new) }
     ensures memory { IfErr result (λ fault. fault ≡ Memory) }
 {
-    let Some(part) = common_part(row, range) else {
+    let Some(part) = common_part(run, range) else {
         return Ok(());
     };
-    let edit = book.reassign(part, Place::Withdrawn(row.place.account(), act))?;
+    let edit = book.reassign(part, Place::Withdrawn(run.place.account(), act))?;
     push_edit(edits, edit)?;
     Ok(())
 }
 
-/// Withdraws the certificates of a range, which is met by these rows, with an edit for each.
-fn withdraw_rows(
+/// Withdraws the certificates of a range, with an edit for each of these runs that it meets.
+fn withdraw_runs(
     alloc: Global,
-    rows: &[Piece],
+    runs: &[Piece],
     book: &mut Book,
     range: Range,
     act: ActNo,
 ) -> Result<Vec<Edit>, Fault>
-    requires rows_rise { IsRising rows.now }
+    requires runs_rise { IsRising runs.now }
     requires book_rises { IsRising book.old }
-    ensures made { IfOk result (λ edits. AreMade range book.old (rows_withdrawn range act rows.now) book.new edits.items) }
+    ensures made { IfOk result (λ edits. AreMade range book.old (runs_withdrawn range act runs.now) book.new edits.items) }
+    ensures one_each { IfOk result (λ edits. length edits.items ≡ count_by (meets range.first range.last) runs.now) }
     ensures memory { IfErr result (λ fault. fault ≡ Memory) }
 {
     let mut edits = Vec::new(alloc);
-    for row in rows {
-        withdraw_row(book, &mut edits, row, range, act)?;
+    for run in runs {
+        withdraw_run(book, &mut edits, run, range, act)?;
     }
     Ok(edits)
 }
 
-/// The edits that withdraw the certificates of a range, from a book of the rows that it meets.
-fn withdraw_met(
-    alloc: Global,
-    mut book: Book,
-    rows: &[Piece],
-    range: Range,
-    act: ActNo,
-) -> Result<Vec<Edit>, Fault>
-    requires same { rows.now ≡ book }
-    requires rising { IsRising rows.now }
+/// The edits that withdraw the certificates of a range, from a book of the rows that it meets: one for
+/// each run of numbers of one account.
+fn withdraw_met(alloc: Global, mut book: Book, range: Range, act: ActNo) -> Result<Vec<Edit>, Fault>
     ensures edits { IfOk result (λ edits. (range.first ≤ range.last) × AreEditsFor range book (withdrawn range act) edits.items) }
+    ensures few { IfOk result (λ edits. length edits.items ≤ account_runs (at_of book) range) }
     ensures memory { IfErr result (λ fault. fault ≡ Memory) }
 {
     let _first = range.first();
-    withdraw_rows(alloc, rows, &mut book, range, act)
+    let runs = book.account_runs()?;
+    withdraw_runs(alloc, &runs, &mut book, range, act)
 }
 
 /// What a withdrawal comes to on the rows that its range meets.
@@ -108,11 +108,10 @@ fn withdraw_certificates(
     counters: Counters,
 ) -> Result<Ruling, Fault>
     requires { IsRising met.items }
-    ensures ruling { IfOk result (IsChangeRuling (first_refusal (range_checks (at_of met.items) counters.withdrawal withdraw.now)) (reply.Withdrawn counters.withdrawal (count_of withdraw.now.range)) None withdraw.now.range (withdrawn withdraw.now.range counters.withdrawal) met.items) }
+    ensures ruling { IfOk result (IsChangeRuling (first_refusal (range_checks (at_of met.items) counters.withdrawal withdraw.now)) (reply.Withdrawn counters.withdrawal (count_of withdraw.now.range)) None withdraw.now.range (withdrawn withdraw.now.range counters.withdrawal) (account_runs (at_of met.items) withdraw.now.range) met.items) }
     ensures memory { IfErr result (λ fault. fault ≡ Memory) }
 {
     let range = withdraw.range;
-    let rows = Vec::from_slice(alloc, &met)?;
     let book = Book::of_rows(met);
     if let Some(number) = book.least_missing(range) {
         return Ok(Ruling::Refused(Refusal::UnknownNumber(number)));
@@ -123,7 +122,7 @@ fn withdraw_certificates(
     let Some(withdrawal) = ActNo::new(counters.withdrawal()) else {
         return Ok(Ruling::Refused(Refusal::NumbersExhausted));
     };
-    let edits = withdraw_met(alloc, book, &rows, range, withdrawal)?;
+    let edits = withdraw_met(alloc, book, range, withdrawal)?;
     Ok(Ruling::Passed(Change {
         reply: Reply::Withdrawn {
             withdrawal,
@@ -144,7 +143,7 @@ pub fn judge_withdraw<S: Shelf>(
 ) -> Result<Ruling, Fault>
     requires ready { IsReady (S.seen shelf.old) }
     requires rows { (S.seen shelf.old).doubts ≡ 0 → AreRowsOf (S.seen shelf.old).state.at (S.seen shelf.old).rows }
-    ensures { Looks (S.seen shelf.old) (S.seen shelf.new) result (IsRuling (plain_meaning (withdraw_refusal (S.seen shelf.old).state caller.now withdraw.now) (withdraw_reply (S.seen shelf.old).state withdraw.now) (with_withdrawal (S.seen shelf.old).state withdraw.now).at) (S.seen shelf.old).rows) }
+    ensures { Looks (S.seen shelf.old) (S.seen shelf.new) result (IsRuling (plain_meaning (withdraw_refusal (S.seen shelf.old).state caller.now withdraw.now) (withdraw_reply (S.seen shelf.old).state withdraw.now) (with_withdrawal (S.seen shelf.old).state withdraw.now).at (λ rows. account_runs (get (S.seen shelf.old).state.at) withdraw.now.range)) (S.seen shelf.old).rows) }
 {
     if !is_issuer(caller) {
         return Ok(Ruling::Refused(Refusal::NotAllowed));

@@ -1,3 +1,4 @@
+use Rattle.std.proofs.Common.{arith}
 use Rattle.goo_types.specs.Piece.{Label}
 use Rattle.goo_ranges.specs.Change.{set_to}
 use Rattle.goo_core.proofs.Changing.{one_edit, set-outside}
@@ -11,4 +12,5 @@ returns-clause-edits c =
       c.first-first.ensures.limit.rising,
       one_edit range c.args.book c.add.new.self c.in_ok-edit.edit _ (set_to range.first range.last label) c.in_ok-single.ensures
           made.exact c.requires made.disjoint made.maximal (set-outside range label) made.map,
+      rw c.in_ok-single.ensures (omega arith),
     )

@@ -1,3 +1,4 @@
+use Rattle.std.proofs.Common.{arith}
 use Rattle.goo_ranges.specs.Change.{moved}
 use Rattle.goo_core.proofs.Changing.{one_edit, moved-outside}
 use Rattle.goo_core.proofs.change.move_met.Goals as goal
@@ -9,4 +10,5 @@ returns-clause-edits c =
       c.first-first.ensures.limit.rising,
       one_edit range c.args.book c.reassign.new.self c.in_ok-edit.edit _ (moved range.first range.last c.args.place) c.in_ok-single.ensures
           made.exact c.requires made.disjoint made.maximal (moved-outside range c.args.place) made.map,
+      rw c.in_ok-single.ensures (omega arith),
     )
