@@ -1,5 +1,5 @@
 -- What an exit status tells of the lines.
-use Rattle.std.proofs.Common.{rules, arith, ◌≡◌, ◌≢◌, ◌==◌, ℕ, zero, suc, List, Bool, true, false, Result, Ok, Err, Option, Some, None, IfSome, IfOk, if◌then◌else◌}
+use Rattle.std.proofs.Common.{arith, ◌≡◌, ◌≢◌, ℕ, zero, suc, List, Bool, true, false, Result, Ok, Err, Option, Some, None, IfSome, IfOk}
 use Rattle.goo_lines.specs.declared.lines_fault.LinesFault.{LinesFault}
 use Rattle.goo_lines.specs.declared.lines_fault.LinesFault.TheVariants as fault
 use Rattle.goo_lines.specs.declared.tally.Tally.{Tally}

@@ -203,11 +203,7 @@ impl Write for Broken {
 }
 
 /// The exit status of a run of a new registry from this reader to this writer.
-fn status_of<R: Read, W: Write>(
-    alloc: Global,
-    reader: &mut R,
-    writer: &mut W,
-) -> Result<u8, Fail> {
+fn status_of<R: Read, W: Write>(alloc: Global, reader: &mut R, writer: &mut W) -> Result<u8, Fail> {
     match march("1") {
         Some(opening) => Ok(run_in_memory(alloc, opening, reader, writer).status()),
         None => Err(Fail::new("no opening")),

@@ -2,9 +2,11 @@
 
 ghost use Rattle.std.specs.Prelude.{◌≡◌};
 ghost use Rattle.goo_rows.specs.Rows.{AreRowsOf, rows-prop};
+ghost use Rattle.goo_spec.specs.Balanced.{IsBalanced};
+ghost use Rattle.goo_spec.specs.Promise.{HaveTheirPlace, AreThoseBrought, OthersAreIdle};
 ghost use Rattle.goo_spec.specs.Sound.{IsSound};
 ghost use Rattle.goo_registry.specs.Applying.{Applies};
-ghost use Rattle.goo_registry.specs.Running.{Runs, RunsAsOne};
+ghost use Rattle.goo_registry.specs.Running.{Runs, RunsAsOne, answered};
 ghost use Rattle.goo_registry.specs.Shown.{Shows, apart as answer_of};
 ghost use Rattle.goo_registry.specs.Reads.{place_shown, notice_shown, AreHoldings, IsCancellationShown, IsAudit};
 
@@ -87,9 +89,19 @@ impl<S: Shelf> Registry<S> {
     /// Room for all outcomes is taken first: where it is refused, that is a `Memory` with nothing done.
     ///
     /// A run of one request does what `apply` does.
+    ///
+    /// What a registry promises, of the requests that were answered:
+    /// - `energy`: each device's declared net energy in Wh is 1,000,000 times its issued certificates plus a carry below 1,000,000;
+    /// - `one_place`: each certificate known before, and each ever issued or imported, is in one place: the one that the
+    ///   accepted requests, each once, give it when they are applied certificate by certificate (`known`: there are no others);
+    /// - `others_idle`: refused and repeated requests change nothing.
     pub fn run(&mut self, alloc: Global, requests: &[Request]) -> Result<Vec<Outcome>, RunFault>
         ensures runs { Runs (S.seen self.old.shelf) (S.seen self.new.shelf) result requests.now }
         ensures one { RunsAsOne (S.seen self.old.shelf) (S.seen self.new.shelf) result requests.now }
+        ensures energy { (S.seen self.new.shelf).doubts ≡ 0 → IsBalanced (S.seen self.new.shelf).state }
+        ensures one_place { (S.seen self.new.shelf).doubts ≡ 0 → HaveTheirPlace (S.seen self.old.shelf).state (answered requests.now result) (S.seen self.new.shelf).state }
+        ensures known { (S.seen self.new.shelf).doubts ≡ 0 → AreThoseBrought (S.seen self.old.shelf).state (answered requests.now result) (S.seen self.new.shelf).state }
+        ensures others_idle { (S.seen self.new.shelf).doubts ≡ 0 → OthersAreIdle (S.seen self.old.shelf).state (answered requests.now result) }
     {
         run_all(alloc, &mut self.shelf, requests)
     }

@@ -16,14 +16,20 @@ abbrev pub OthersAreIdle : State → List Request → Type 0
 OthersAreIdle s [] = Unit {0}
 OthersAreIdle s (q ∷ qs) = (is_accepted (outcome s q) ≡ false → next s q ≡ s) × OthersAreIdle (next s q) qs
 
+-- each certificate of t is in one place: the one that the accepted requests, each once, give it, applied certificate by certificate
+abbrev pub HaveTheirPlace : State → List Request → State → Type 0
+HaveTheirPlace s qs t = (n : ℕ) → get t.at n ≡ fates s (accepted s qs) n (get s.at n)
+
+-- the certificates known are those known before and those ever issued or imported: none leaves, and no other comes
+abbrev pub AreThoseBrought : State → List Request → State → Type 0
+AreThoseBrought s qs t = (n : ℕ) → contains_key t.at n ≡ (contains_key s.at n || is_ever_brought s qs n)
+
 -- t is the state of a sound registry s after some requests
 pub record IsPromised (s : State) (qs : List Request) (t : State) : Type 0 where
   -- each device's declared net energy is that of its certificates, and a carry of less than one
   pub balanced : IsBalanced t
-  -- the certificates known are those known before and those ever issued or imported: none leaves, and no other comes
-  pub known : (n : ℕ) → contains_key t.at n ≡ (contains_key s.at n || is_ever_brought s qs n)
-  -- each of them is in one place: the one that the accepted requests, each once, give it
-  pub placed : (n : ℕ) → get t.at n ≡ fates s (accepted s qs) n (get s.at n)
+  pub known : AreThoseBrought s qs t
+  pub placed : HaveTheirPlace s qs t
   -- all else, too, is what the accepted requests, each once, make of it
   pub once : t ≡ applied s (accepted s qs)
   -- it is as though the refused and the repeated requests had never been sent
