@@ -8,7 +8,7 @@ use Rattle.std.proofs.lemmas.List.{take-append-drop, drop-drop, take_at, drop_at
 use Rattle.goo_types.specs.declared.piece.Piece.{Piece}
 use Rattle.goo_ranges.specs.declared.edits.Edit.{Edit}
 use Rattle.goo_rows.specs.Rows.{without, without_each, with, with_each, edited}
-use Rattle.goo_list.specs.Blocks.{BeginAfter, FitBefore}
+use Rattle.goo_list.specs.Blocks.{AreBelow, BeginAfter, FitBefore}
 
 -- each of the rows begins before the number
 abbrev pub Below : ℕ → List Piece → Type 0
@@ -91,7 +91,7 @@ cut-twice xs from to le =
     let far : drop (to - from) (drop from xs) ≡ drop to xs = drop-drop (to - from) from xs ∙ ap (λ n. drop n xs) sum in
     sym (take-append-drop from xs) ∙ ap (λ l. take from xs ++ l) (sym rest ∙ ap (λ l. take (to - from) (drop from xs) ++ l) far)
 
-pub block-edited : (xs : List Piece) (edit : Edit) (n from to : ℕ) → from ≤ to → to ≤ length xs → IsPartitionPoint (λ p. ltb p.first n ≡ true) (λ p. ltb p.first n ≡ false) xs from → map (λ p. p.first) (take (to - from) (drop from xs)) ≡ edit.delete.items → FitBefore n (drop to xs) edit.insert.items → edited edit xs ≡ take from xs ++ (edit.insert.items ++ drop to xs)
+pub block-edited : (xs : List Piece) (edit : Edit) (n from to : ℕ) → from ≤ to → to ≤ length xs → AreBelow n xs from → map (λ p. p.first) (take (to - from) (drop from xs)) ≡ edit.delete.items → FitBefore n (drop to xs) edit.insert.items → edited edit xs ≡ take from xs ++ (edit.insert.items ++ drop to xs)
 unfolding edited
 block-edited xs edit n from to le bound point named fits =
     let front = take from xs in

@@ -9,3 +9,4 @@ pub mod LookLemmas
 pub mod OrderLemmas
 pub mod SumLemmas
 pub mod BlockLemmas
+pub mod FoundLemmas

@@ -1,8 +1,11 @@
 //! Blocks of rows, and others put in their place at once.
-ghost use Rattle.std.specs.Prelude.{◌≡◌, ◌+◌, ◌-◌, ◌≤◌, ◌++◌, length, take, drop, map, IsTrue, IfSome};
+ghost use Rattle.std.specs.Prelude.{◌≡◌, ◌↔◌, ◌+◌, ◌-◌, ◌≤◌, List, ◌++◌, length, take, drop, map, IsTrue, IsSome, IfSome};
 ghost use Rattle.std.specs.List.Sorted.{IsNonDecreasingBy};
 ghost use Rattle.std.specs.Vec.{vec_len, vec_capacity};
-ghost use Rattle.goo_list.specs.Blocks.{BeginAfter, FitBefore, IsBlockOf};
+ghost use Rattle.goo_types.specs.declared.piece.Piece.{Piece};
+ghost use Rattle.goo_types.specs.Piece.{IsRising};
+ghost use Rattle.goo_ranges.specs.Edit.{IsExact};
+ghost use Rattle.goo_list.specs.Blocks.{AreBelow, BeginAfter, FitBefore, IsBlockOf, least_named};
 
 use goo_ranges::Edit;
 use goo_types::number::Number;
@@ -11,7 +14,7 @@ use goo_types::piece::Piece;
 /// Whether rows begin at these numbers, one by one.
 fn begin_at(rows: &[Piece], firsts: &[Number]) -> bool
     requires { length rows.now ≡ length firsts.now }
-    ensures { IsTrue result → map (λ p. p.first) rows.now ≡ firsts.now }
+    ensures { IsTrue result ↔ (map (λ p. p.first) rows.now ≡ firsts.now) }
 {
     for (i, first) in firsts.iter().enumerate() {
         if rows[i].first != *first {
@@ -23,7 +26,7 @@ fn begin_at(rows: &[Piece], firsts: &[Number]) -> bool
 
 /// Whether the first of the rows, if there is one, begins after a number.
 fn begin_after(rows: &[Piece], number: u64) -> bool
-    ensures { IsTrue result → BeginAfter number rows.now }
+    ensures { IsTrue result ↔ BeginAfter number rows.now }
 {
     match rows.first() {
         Some(row) => number < row.first.get(),
@@ -33,7 +36,7 @@ fn begin_after(rows: &[Piece], number: u64) -> bool
 
 /// Whether rows begin in order, none before a number, and each before those behind them.
 fn fit_before(rows: &[Piece], low: u64, behind: &[Piece]) -> bool
-    ensures { IsTrue result → FitBefore low behind.now rows.now }
+    ensures { IsTrue result ↔ FitBefore low behind.now rows.now }
 {
     let mut least = low;
     for row in rows {
@@ -46,21 +49,40 @@ fn fit_before(rows: &[Piece], low: u64, behind: &[Piece]) -> bool
     true
 }
 
-/// The least first number that an edit names, where its block begins. Only speed rests on it.
-fn begin_of(edit: &Edit) -> u64 {
-    let deleted = edit.delete.first().map_or(u64::MAX, |first| first.get());
-    let inserted = edit.insert.first().map_or(u64::MAX, |row| row.first.get());
-    deleted.min(inserted)
+/// The least first number that an edit names; 0 where it names none.
+fn least_named_by(edit: &Edit) -> u64
+    ensures { result ≡ least_named edit.now.delete.items edit.now.insert.items }
+{
+    match edit.delete.first() {
+        Some(first) => match edit.insert.first() {
+            Some(row) => first.get().min(row.first.get()),
+            None => first.get(),
+        },
+        None => match edit.insert.first() {
+            Some(row) => row.first.get(),
+            None => 0,
+        },
+    }
+}
+
+/// How many of some rows in order begin before a number.
+fn count_below(rows: &[Piece], number: u64) -> usize
+    requires { IsNonDecreasingBy (λ p. p.first) rows.now }
+    ensures bound { result ≤ length rows.now }
+    ensures below { AreBelow number rows.now result }
+{
+    rows.partition_point(|row| row.first.get() < number)
 }
 
 /// The indices between which the rows stand that an edit deletes, where it puts its own rows in their
-/// place; None where the rows that it names are no one block.
+/// place; None where it doesn't. Each edit of a book does.
 pub fn block_of(rows: &[Piece], edit: &Edit) -> Option<(usize, usize)>
     requires { IsNonDecreasingBy (λ p. p.first) rows.now }
-    ensures { IfSome result (λ at. IsBlockOf rows.now edit.now at.0 at.1) }
+    ensures value { IfSome result (λ at. IsBlockOf rows.now edit.now at.0 at.1) }
+    ensures found { (after : List Piece) → IsExact rows.now after edit.now → IsRising rows.now → IsRising after → IsSome result }
 {
-    let begin = begin_of(edit);
-    let from = rows.partition_point(|row| row.first.get() < begin);
+    let least = least_named_by(edit);
+    let from = count_below(rows, least);
     let count = edit.delete.len();
     if rows.len() - from < count {
         return None;
@@ -69,7 +91,7 @@ pub fn block_of(rows: &[Piece], edit: &Edit) -> Option<(usize, usize)>
     if !begin_at(&rows[from..to], &edit.delete) {
         return None;
     }
-    if !fit_before(&edit.insert, begin, &rows[to..]) {
+    if !fit_before(&edit.insert, least, &rows[to..]) {
         return None;
     }
     Some((from, to))
