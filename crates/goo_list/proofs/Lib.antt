@@ -8,3 +8,5 @@ pub mod ReceiptLemmas
 pub mod LookLemmas
 pub mod OrderLemmas
 pub mod SumLemmas
+pub mod BlockLemmas
+pub mod FoundLemmas

@@ -4,3 +4,4 @@ pub mod Moments
 pub mod States
 pub mod LotKeys
 pub mod Production
+pub mod Blocks

@@ -15,6 +15,7 @@ mod next_numbers;
 mod notices;
 mod opening;
 mod production;
+mod row_blocks;
 mod row_edits;
 mod rows;
 mod shelf;

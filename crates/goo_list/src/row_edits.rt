@@ -5,6 +5,7 @@ ghost use Rattle.std.specs.Vec.{vec_len, vec_capacity};
 ghost use Rattle.goo_rows.specs.Rows.{without, without_each, with, with_each, edited, edited_all};
 ghost use Rattle.goo_list.specs.Rows.{inserts};
 
+use crate::row_blocks::{block_of, put_between};
 use goo_ranges::Edit;
 use goo_types::number::Number;
 use goo_types::piece::Piece;
@@ -64,16 +65,34 @@ fn put_in_each(rows: &mut Vec<Piece>, more: &[Piece])
     }
 }
 
-/// Carries out some edits, one after another.
+/// Carries out one edit: at once where it puts one block of rows in the place of another, as the edits of
+/// a book do, and else row by row.
 #[tactic(auto, unfolding(goo_rows::specs::Rows::edited))]
+fn edit_one(rows: &mut Vec<Piece>, edit: &Edit)
+    requires sorted { IsNonDecreasingBy (λ p. p.first) rows.old.items }
+    requires room { vec_len rows.old + length edit.now.insert.items ≤ vec_capacity rows.old }
+    ensures rows { rows.new.items ≡ edited edit.now rows.old.items }
+    ensures sorted { IsNonDecreasingBy (λ p. p.first) rows.new.items }
+    ensures len { vec_len rows.new ≤ vec_len rows.old + length edit.now.insert.items }
+    ensures capacity { vec_capacity rows.old ≤ vec_capacity rows.new }
+{
+    match block_of(rows, edit) {
+        Some((from, to)) => put_between(rows, from, to, &edit.insert),
+        None => {
+            take_out_each(rows, &edit.delete);
+            put_in_each(rows, &edit.insert);
+        }
+    }
+}
+
+/// Carries out some edits, one after another.
 pub fn edit_each(rows: &mut Vec<Piece>, edits: &[Edit])
     requires sorted { IsNonDecreasingBy (λ p. p.first) rows.old.items }
     requires room { vec_len rows.old + inserts edits.now ≤ vec_capacity rows.old }
     ensures rows { rows.new.items ≡ edited_all edits.now rows.old.items }
 {
     for edit in edits {
-        take_out_each(rows, &edit.delete);
-        put_in_each(rows, &edit.insert);
+        edit_one(rows, edit);
     }
 }
 

@@ -76,7 +76,7 @@ impl Book {
         ensures value { result.now ≡ self.now }
         ensures rising { IsRising self.now }
     {
-        &self.pieces
+        self.pieces.as_slice()
     }
 
     /// The pieces from the first one on that ends at the number or after it.
