@@ -17,3 +17,4 @@ pub mod Importing
 pub mod Withdrawing
 pub mod Deciding
 pub mod AccountRuns
+mod ExampleRuns

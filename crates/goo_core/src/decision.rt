@@ -113,7 +113,9 @@ fn decide_fresh<S: Shelf>(
 }
 
 /// What a request comes to here. It changes nothing: an accepted one is carried out by committing
-/// its plan. A key that is kept answers first, then the command's checks in their order.
+/// its plan. A key that is kept answers first, then the command's checks in their order. A plan edits
+/// the rows once at most, but once for each run of one account that is withdrawn, for each part that
+/// is imported, and for each row that expires.
 ///
 /// A fault takes the place of any answer: `Store` as the shelf tells it, `Memory` where an
 /// allocation was refused. State and rows stay as they are.

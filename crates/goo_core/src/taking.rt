@@ -1,6 +1,6 @@
 //! The edits that take in what a notice brings.
 
-ghost use Rattle.std.specs.Prelude.{◌≡◌, List, [], ◌∷◌, ◌++◌, IfOk, IfErr, OnOk};
+ghost use Rattle.std.specs.Prelude.{◌≡◌, List, IfOk, IfErr};
 ghost use Rattle.goo_types.specs.Piece.{IsRising};
 ghost use Rattle.goo_types.specs.declared.fault.Fault.TheVariants.{Memory};
 ghost use Rattle.goo_types.specs.declared.piece.Piece.{Piece as Row};
@@ -9,12 +9,13 @@ ghost use Rattle.goo_rows.specs.Rows.{meeting};
 ghost use Rattle.goo_core.specs.Taking.{IsStepOf, IsTaking, AreMet};
 
 use crate::arriving::Arriving;
+use crate::change::push_edit;
 use goo_ranges::{Book, Edit};
 use goo_rows::near_after;
 use goo_types::account_no::AccountNo;
 use goo_types::fault::Fault;
 use goo_types::place::Place;
-use std::alloc::{AllocError, Global};
+use std::alloc::Global;
 
 /// The edit that takes in one part, after those of the parts before it; None where the rows make no
 /// book, which those of a shelf always do.
@@ -36,14 +37,6 @@ fn take_part(
     let _first = range.first();
     let edit = book.add(range, arriving.part.lot, Place::Held(account))?;
     Ok(Some(edit))
-}
-
-/// Puts one more edit behind others.
-fn push_edit(edits: &mut Vec<Edit>, edit: Edit) -> Result<(), AllocError>
-    ensures { OnOk result (edits.new.items ≡ edits.old.items ++ edit ∷ []) }
-{
-    edits.push(edit)?;
-    Ok(())
 }
 
 /// The edits that take in all parts, one for each; None where the rows make no book, which those of a
