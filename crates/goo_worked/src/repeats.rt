@@ -1,0 +1,42 @@
+//! Requests that are sent again.
+
+use crate::answers::{issued, moved, refused, repeated};
+use crate::asking::{ISSUER, SUN, declare, january, transfer};
+use crate::desk::Desk;
+use crate::numbers::serials;
+use crate::places::held;
+use crate::stages::{JANUARY_KEY, april, early};
+use goo_types::refusal::Refusal;
+use std::process::Abort;
+use std::test::Fail;
+
+/// January's declaration, sent again under its key, is answered as before; another one under it is refused.
+fn declares_january_again(rt: &impl Abort, desk: &mut Desk) -> Result<(), Fail> {
+    let outcome = desk.asks_under(JANUARY_KEY, ISSUER, &january())?;
+    assert_eq!(rt; outcome, repeated(issued(serials(1, 1200))));
+    let other = declare("2025-01-01", "2025-01-31", 1_234_567_891, 34_567_890);
+    let outcome = desk.asks_under(JANUARY_KEY, ISSUER, &other)?;
+    assert_eq!(rt; outcome, refused(Refusal::KeyReused));
+    Ok(())
+}
+
+#[test]
+fn a_declaration_counts_once(rt: HostRuntime) -> Result<(), Fail> {
+    let mut desk = early(&rt, rt.alloc())?;
+    declares_january_again(&rt, &mut desk)?;
+    desk.counts(&rt, (1_200_999_999, 1200, 999_999))?;
+    desk.shows(&rt, 1, &[(1, 1200, held(1))])?;
+    let mut desk = april(&rt, rt.alloc())?;
+    declares_january_again(&rt, &mut desk)?;
+    desk.counts(&rt, (1_201_000_000, 1201, 0))?;
+    desk.shows(&rt, 1, &[(1, 1200, held(1)), (1201, 1201, held(1))])
+}
+
+#[test]
+fn each_caller_has_keys_of_his_own(rt: HostRuntime) -> Result<(), Fail> {
+    let mut desk = april(&rt, rt.alloc())?;
+    let given = transfer(1, 2, serials(1, 1));
+    let outcome = desk.asks_under(JANUARY_KEY, SUN, &given)?;
+    assert_eq!(rt; outcome, moved(1));
+    Ok(())
+}
