@@ -9,6 +9,7 @@ use goo_types::key::Key;
 use goo_types::notice::Notice;
 use goo_types::outcome::Outcome;
 use goo_types::place::Place;
+use goo_types::registry_code::RegistryCode;
 use goo_types::request::Request;
 use goo_types::serial::Serial;
 use itoa::Buffer;
@@ -24,6 +25,7 @@ pub type Step = (&'static str, Ask, Outcome);
 pub struct Desk {
     pub registry: Registry<ListShelf>,
     pub alloc: Global,
+    pub code: RegistryCode,
     sent: u32,
 }
 
@@ -36,6 +38,7 @@ impl Desk {
         Ok(Desk {
             registry: Registry::new(shelf),
             alloc,
+            code,
             sent: 0,
         })
     }
@@ -71,10 +74,31 @@ impl Desk {
     }
 
     /// What is answered to what is asked under this key.
-    pub fn asks_under(&mut self, key: &str, caller: &str, ask: &Ask) -> Result<Outcome, Fail> {
+    fn asks_under(&mut self, key: &str, caller: &str, ask: &Ask) -> Result<Outcome, Fail> {
         let key = Key::read(key.as_bytes())?;
         let command = command_of(ask)?;
         self.sends_under(key, caller, command)
+    }
+
+    /// What is asked under this key comes to this.
+    pub fn answers(
+        &mut self,
+        rt: &impl Abort,
+        key: &str,
+        asked: (&str, Ask),
+        wanted: Outcome,
+    ) -> Result<(), Fail> {
+        let (caller, ask) = asked;
+        let outcome = self.asks_under(key, caller, &ask)?;
+        assert_eq!(rt; outcome, wanted, "under {key}");
+        Ok(())
+    }
+
+    /// A notice comes to this.
+    pub fn takes(&mut self, rt: &impl Abort, notice: Notice, wanted: Outcome) -> Result<(), Fail> {
+        let outcome = self.imports(notice)?;
+        assert_eq!(rt; outcome, wanted);
+        Ok(())
     }
 
     /// What the issuing body is answered to a notice, under a key of its own.

@@ -45,9 +45,7 @@ fn brings(
     wanted: Outcome,
 ) -> Result<(), Fail> {
     let notice = notice_to(desk.alloc, 7, number, range, batch)?;
-    let outcome = desk.imports(notice)?;
-    assert_eq!(rt; outcome, wanted);
-    Ok(())
+    desk.takes(rt, notice, wanted)
 }
 
 #[test]
@@ -98,9 +96,7 @@ fn another_lot_does_not_come_back(rt: HostRuntime) -> Result<(), Fail> {
 fn a_notice_for_another_registry(rt: HostRuntime) -> Result<(), Fail> {
     let mut desk = april(&rt, rt.alloc())?;
     let notice = notice_to(rt.alloc(), 8, 1, serials(20, 29), &JANUARY)?;
-    let outcome = desk.imports(notice)?;
-    assert_eq!(rt; outcome, refused(Refusal::WrongRegistry));
-    Ok(())
+    desk.takes(&rt, notice, refused(Refusal::WrongRegistry))
 }
 
 /// What the device produced on one day: a certificate's energy.
@@ -115,20 +111,25 @@ fn one_day(day: &str) -> Result<Command, Fail> {
     }))
 }
 
+/// A declaration of one day issues a certificate, and nothing is carried on.
+fn issues_one(desk: &mut Desk, day: &str) -> Result<(), Fail> {
+    let command = one_day(day)?;
+    match desk.sends(ISSUER, command)? {
+        Outcome::Accepted(
+            Reply::Declared {
+                carry: 0,
+                issued: Some(_),
+            },
+        ) => Ok(()),
+        _ => Err(Fail::new("a day without its certificate")),
+    }
+}
+
 /// A certificate is issued for each of the first days of a month.
 fn declares_days(desk: &mut Desk, month: &str, days: u32) -> Result<(), Fail> {
     for day in 1..=days {
         let text = format!(in desk.alloc; "{month}-{day:02}")?;
-        let outcome = desk.sends(ISSUER, one_day(text.as_str())?)?;
-        if !matches!(
-            outcome,
-            Outcome::Accepted(Reply::Declared {
-                carry: 0,
-                issued: Some(_)
-            })
-        ) {
-            return Err(Fail::new("a day without its certificate"));
-        }
+        issues_one(desk, text.as_str())?;
     }
     Ok(())
 }

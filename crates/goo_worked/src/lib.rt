@@ -16,11 +16,17 @@ mod commands;
 #[cfg(test)]
 mod desk;
 #[cfg(test)]
+mod dice;
+#[cfg(test)]
 mod exchange;
 #[cfg(test)]
 mod expiry;
 #[cfg(test)]
+mod home;
+#[cfg(test)]
 mod issuing;
+#[cfg(test)]
+mod memory;
 #[cfg(test)]
 mod notices;
 #[cfg(test)]
@@ -36,6 +42,10 @@ mod repeats;
 #[cfg(test)]
 mod running;
 #[cfg(test)]
+mod schedules;
+#[cfg(test)]
 mod stages;
 #[cfg(test)]
 mod trading;
+#[cfg(test)]
+mod world;

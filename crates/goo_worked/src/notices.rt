@@ -60,7 +60,16 @@ pub fn lot_of(batch: &Batch) -> Result<Lot, Fail> {
     Ok(Lot::new(fields).ok_or("no lot")?)
 }
 
-/// A notice of registry 9 under a number, to account 1 of another registry, with the certificates of a range.
+/// A notice of registry 9 under a number, to account 1 of another registry, with these parts.
+pub fn notice_with(parts: Vec<Part>, addressee: u8, number: u32) -> Result<Notice, Fail> {
+    let sender = code_of(9)?;
+    let addressee = code_of(addressee)?;
+    let number = act_of(number)?;
+    let account = account_of(1)?;
+    Ok(Notice::new(sender, addressee, number, account, parts)?)
+}
+
+/// Such a notice with the certificates of a range.
 pub fn notice_to(
     alloc: Global,
     addressee: u8,
@@ -69,10 +78,6 @@ pub fn notice_to(
     batch: &Batch,
 ) -> Result<Notice, Fail> {
     let lot = lot_of(batch)?;
-    let sender = code_of(9)?;
-    let addressee = code_of(addressee)?;
-    let number = act_of(number)?;
-    let account = account_of(1)?;
     let parts = vec![in alloc; Part { range, lot }]?;
-    Ok(Notice::new(sender, addressee, number, account, parts)?)
+    notice_with(parts, addressee, number)
 }

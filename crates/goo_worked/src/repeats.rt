@@ -12,12 +12,11 @@ use std::test::Fail;
 
 /// January's declaration, sent again under its key, is answered as before; another one under it is refused.
 fn declares_january_again(rt: &impl Abort, desk: &mut Desk) -> Result<(), Fail> {
-    let outcome = desk.asks_under(JANUARY_KEY, ISSUER, &january())?;
-    assert_eq!(rt; outcome, repeated(issued(serials(1, 1200))));
     let other = declare("2025-01-01", "2025-01-31", 1_234_567_891, 34_567_890);
-    let outcome = desk.asks_under(JANUARY_KEY, ISSUER, &other)?;
-    assert_eq!(rt; outcome, refused(Refusal::KeyReused));
-    Ok(())
+    let before = repeated(issued(serials(1, 1200)));
+    desk.answers(rt, JANUARY_KEY, (ISSUER, january()), before)?;
+    let reused = refused(Refusal::KeyReused);
+    desk.answers(rt, JANUARY_KEY, (ISSUER, other), reused)
 }
 
 #[test]
@@ -36,7 +35,5 @@ fn a_declaration_counts_once(rt: HostRuntime) -> Result<(), Fail> {
 fn each_caller_has_keys_of_his_own(rt: HostRuntime) -> Result<(), Fail> {
     let mut desk = april(&rt, rt.alloc())?;
     let given = transfer(1, 2, serials(1, 1));
-    let outcome = desk.asks_under(JANUARY_KEY, SUN, &given)?;
-    assert_eq!(rt; outcome, moved(1));
-    Ok(())
+    desk.answers(&rt, JANUARY_KEY, (SUN, given), moved(1))
 }

@@ -12,6 +12,7 @@ use goo_types::key::Key;
 use goo_types::outcome::Outcome;
 use goo_types::refusal::Refusal;
 use goo_types::request::Request;
+use std::process::Abort;
 use std::test::Fail;
 
 /// A request under a key.
@@ -23,26 +24,35 @@ fn request(caller: &str, key: &[u8], ask: &Ask) -> Result<Request, Fail> {
     })
 }
 
-/// What requests come to, one after another.
-fn outcomes(desk: &mut Desk, requests: &[Request]) -> Result<Vec<Outcome>, Fail> {
-    match desk.registry.run(desk.alloc, requests) {
-        Ok(outcomes) => Ok(outcomes),
-        Err(_) => Err(Fail::new("the run stopped")),
-    }
+/// Requests come to these outcomes, one after another.
+fn runs(
+    rt: &impl Abort,
+    desk: &mut Desk,
+    requests: &[Request],
+    wanted: &[Outcome],
+) -> Result<(), Fail> {
+    let Ok(outcomes) = desk.registry.run(desk.alloc, requests) else {
+        return Err(Fail::new("the run stopped"));
+    };
+    assert_eq!(rt; outcomes.as_slice(), wanted);
+    Ok(())
+}
+
+/// A hundred certificates are given, and the date doesn't move.
+fn two_requests() -> Result<[Request; 2], Fail> {
+    let given = request(SUN, b"given", &transfer(1, 2, serials(100, 199)))?;
+    let date = request(ISSUER, b"date", &Ask::Advance("2025-04-05"))?;
+    Ok([given, date])
 }
 
 #[test]
 fn two_requests_and_none(rt: HostRuntime) -> Result<(), Fail> {
     let mut desk = april(&rt, rt.alloc())?;
-    let given = transfer(1, 2, serials(100, 199));
-    let given = request(SUN, b"given", &given)?;
-    let date = request(ISSUER, b"date", &Ask::Advance("2025-04-05"))?;
-    let requests = vec![in rt.alloc(); given, date]?;
-    let answers = outcomes(&mut desk, &requests)?;
+    let requests = two_requests()?;
     let wanted = [moved(100), refused(Refusal::DateBackwards)];
-    assert_eq!(rt; answers.as_slice(), wanted.as_slice());
+    runs(&rt, &mut desk, &requests, &wanted)?;
     desk.shows(&rt, 2, &[(100, 199, held(2))])?;
-    assert!(rt; outcomes(&mut desk, &[])?.is_empty());
+    runs(&rt, &mut desk, &[], &[])?;
     desk.shows(&rt, 2, &[(100, 199, held(2))])
 }
 
