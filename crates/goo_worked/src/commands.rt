@@ -12,6 +12,7 @@ use goo_types::day::Day;
 use goo_types::gsrn::Gsrn;
 use goo_types::holder_code::HolderCode;
 use goo_types::name::Name;
+use goo_types::number::Number;
 use goo_types::range::Range;
 use goo_types::registry_code::RegistryCode;
 use goo_types::source_code::SourceCode;
@@ -56,6 +57,13 @@ pub fn account_of(number: u32) -> Result<AccountNo, Fail> {
 /// The act of a number.
 pub fn act_of(number: u32) -> Result<ActNo, Fail> {
     Ok(ActNo::new(number).ok_or("no act")?)
+}
+
+/// The certificates of a registry from one serial to another.
+pub fn range_of(code: u8, first: u64, last: u64) -> Result<Range, Fail> {
+    let first = Number::new(code, first).ok_or("no number")?;
+    let last = Number::new(code, last).ok_or("no number")?;
+    Ok(Range::new(first, last).ok_or("no range")?)
 }
 
 /// The registry of a code.

@@ -62,7 +62,7 @@ impl Desk {
     }
 
     /// What a command comes to that is sent under a key of its own.
-    pub fn sends(&mut self, caller: &str, command: Command) -> Result<Outcome, Fail> {
+    fn sends(&mut self, caller: &str, command: Command) -> Result<Outcome, Fail> {
         let key = self.next_key()?;
         self.sends_under(key, caller, command)
     }
@@ -85,20 +85,31 @@ impl Desk {
         &mut self,
         rt: &impl Abort,
         key: &str,
-        asked: (&str, Ask),
+        caller: &str,
+        ask: &Ask,
         wanted: Outcome,
     ) -> Result<(), Fail> {
-        let (caller, ask) = asked;
-        let outcome = self.asks_under(key, caller, &ask)?;
+        let outcome = self.asks_under(key, caller, ask)?;
         assert_eq!(rt; outcome, wanted, "under {key}");
+        Ok(())
+    }
+
+    /// A command under a key of its own comes to this.
+    pub fn does(
+        &mut self,
+        rt: &impl Abort,
+        caller: &str,
+        command: Command,
+        wanted: Outcome,
+    ) -> Result<(), Fail> {
+        let outcome = self.sends(caller, command)?;
+        assert_eq!(rt; outcome, wanted);
         Ok(())
     }
 
     /// A notice comes to this.
     pub fn takes(&mut self, rt: &impl Abort, notice: Notice, wanted: Outcome) -> Result<(), Fail> {
-        let outcome = self.imports(notice)?;
-        assert_eq!(rt; outcome, wanted);
-        Ok(())
+        self.does(rt, "ISSUER", Command::Import(Import { notice }), wanted)
     }
 
     /// What the issuing body is answered to a notice, under a key of its own.

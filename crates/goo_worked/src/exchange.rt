@@ -1,8 +1,8 @@
 //! Certificates that are sent to another registry, and come back.
 
-use crate::answers::{DONE, exported, imported, refused, repeated};
+use crate::answers::{DONE, exported, imported, issued, refused, repeated};
 use crate::asking::{Ask, ISSUER, SUN, export};
-use crate::commands::day_of;
+use crate::commands::{day_of, range_of};
 use crate::desk::Desk;
 use crate::notices::{Batch, JANUARY, notice_to};
 use crate::numbers::{act, number, serials};
@@ -14,7 +14,6 @@ use goo_types::number::Number;
 use goo_types::outcome::Outcome;
 use goo_types::range::Range;
 use goo_types::refusal::Refusal;
-use goo_types::reply::Reply;
 use goo_types::wh::Wh;
 use std::process::Abort;
 use std::test::Fail;
@@ -111,25 +110,19 @@ fn one_day(day: &str) -> Result<Command, Fail> {
     }))
 }
 
-/// A declaration of one day issues a certificate, and nothing is carried on.
-fn issues_one(desk: &mut Desk, day: &str) -> Result<(), Fail> {
-    let command = one_day(day)?;
-    match desk.sends(ISSUER, command)? {
-        Outcome::Accepted(
-            Reply::Declared {
-                carry: 0,
-                issued: Some(_),
-            },
-        ) => Ok(()),
-        _ => Err(Fail::new("a day without its certificate")),
-    }
-}
-
-/// A certificate is issued for each of the first days of a month.
-fn declares_days(desk: &mut Desk, month: &str, days: u32) -> Result<(), Fail> {
+/// A certificate is issued for each of the first days of a month, after so many others.
+fn declares_days(
+    rt: &impl Abort,
+    desk: &mut Desk,
+    month: &str,
+    days: u32,
+    before: u64,
+) -> Result<(), Fail> {
     for day in 1..=days {
         let text = format!(in desk.alloc; "{month}-{day:02}")?;
-        issues_one(desk, text.as_str())?;
+        let serial = before.wrapping_add(u64::from(day));
+        let wanted = issued(range_of(7, serial, serial)?);
+        desk.does(rt, ISSUER, one_day(text.as_str())?, wanted)?;
     }
     Ok(())
 }
@@ -138,10 +131,11 @@ fn declares_days(desk: &mut Desk, month: &str, days: u32) -> Result<(), Fail> {
 fn a_notice_has_a_hundred_parts_at_most(rt: HostRuntime) -> Result<(), Fail> {
     let mut desk = base(&rt, rt.alloc(), 1)?;
     desk.plays(&rt, &[(ISSUER, Ask::AddPeer(9), DONE)])?;
-    declares_days(&mut desk, "2024-10", 31)?;
-    declares_days(&mut desk, "2024-11", 30)?;
-    declares_days(&mut desk, "2024-12", 31)?;
-    declares_days(&mut desk, "2025-01", 9)?;
+    declares_days(&rt, &mut desk, "2024-10", 31, 0)?;
+    declares_days(&rt, &mut desk, "2024-11", 30, 31)?;
+    declares_days(&rt, &mut desk, "2024-12", 31, 61)?;
+    declares_days(&rt, &mut desk, "2025-01", 9, 92)?;
+    desk.counts(&rt, (101_000_000, 101, 0))?;
     let all = export(9, 5, serials(1, 101));
     let but_one = export(9, 5, serials(1, 100));
     desk.plays(
@@ -150,6 +144,5 @@ fn a_notice_has_a_hundred_parts_at_most(rt: HostRuntime) -> Result<(), Fail> {
             (SUN, all, refused(Refusal::TooManyParts)),
             (SUN, but_one, exported(act(1), 100)),
         ],
-    )?;
-    desk.counts(&rt, (101_000_000, 101, 0))
+    )
 }

@@ -61,9 +61,9 @@ fn follows(rt: &impl Abort, world: &mut World, rows: &[Row]) -> Result<(), Fail>
     let lot = lot_of(&JANUARY)?;
     for (index, (event, outcome, home, road)) in rows.iter().enumerate() {
         assert_eq!(rt; happens(world, event)?, *outcome, "event {index}");
-        assert_eq!(rt; world.home(number(20))?, *home, "event {index}");
-        assert_eq!(rt; world.road(number(20))?, *road, "event {index}");
-        assert!(rt; world.has_lot(number(20), &lot)?, "event {index}");
+        world.collects()?;
+        assert_eq!(rt; world.home(number(20), &lot)?, *home, "event {index}");
+        assert_eq!(rt; world.road(number(20), &lot)?, *road, "event {index}");
     }
     Ok(())
 }

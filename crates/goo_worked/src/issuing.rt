@@ -28,11 +28,11 @@ fn the_last_serial_of_all(rt: HostRuntime) -> Result<(), Fail> {
     let mut desk = base(&rt, rt.alloc(), 999_999_999_999)?;
     let two = declare("2025-01-01", "2025-01-31", 2_000_000, 0);
     let exhausted = refused(Refusal::NumbersExhausted);
-    desk.answers(&rt, "january", (ISSUER, two), exhausted)?;
+    desk.answers(&rt, "january", ISSUER, &two, exhausted)?;
     desk.counts(&rt, (0, 0, 0))?;
     let one = declare("2025-01-01", "2025-01-31", 1_000_000, 0);
     let last = issued(serials(999_999_999_999, 999_999_999_999));
-    desk.answers(&rt, "january", (ISSUER, one), last)?;
+    desk.answers(&rt, "january", ISSUER, &one, last)?;
     let short = declare("2025-02-01", "2025-02-28", 999_999, 0);
     desk.plays(&rt, &[(ISSUER, short, carried(999_999))])?;
     desk.counts(&rt, (1_999_999, 1, 999_999))

@@ -14,9 +14,9 @@ use std::test::Fail;
 fn declares_january_again(rt: &impl Abort, desk: &mut Desk) -> Result<(), Fail> {
     let other = declare("2025-01-01", "2025-01-31", 1_234_567_891, 34_567_890);
     let before = repeated(issued(serials(1, 1200)));
-    desk.answers(rt, JANUARY_KEY, (ISSUER, january()), before)?;
+    desk.answers(rt, JANUARY_KEY, ISSUER, &january(), before)?;
     let reused = refused(Refusal::KeyReused);
-    desk.answers(rt, JANUARY_KEY, (ISSUER, other), reused)
+    desk.answers(rt, JANUARY_KEY, ISSUER, &other, reused)
 }
 
 #[test]
@@ -35,5 +35,5 @@ fn a_declaration_counts_once(rt: HostRuntime) -> Result<(), Fail> {
 fn each_caller_has_keys_of_his_own(rt: HostRuntime) -> Result<(), Fail> {
     let mut desk = april(&rt, rt.alloc())?;
     let given = transfer(1, 2, serials(1, 1));
-    desk.answers(&rt, JANUARY_KEY, (SUN, given), moved(1))
+    desk.answers(&rt, JANUARY_KEY, SUN, &given, moved(1))
 }

@@ -8,6 +8,7 @@ use crate::numbers::serials;
 use crate::places::held;
 use crate::stages::april;
 use goo_shelf::shelf::Shelf;
+use goo_types::command::Command;
 use goo_types::key::Key;
 use goo_types::outcome::Outcome;
 use goo_types::refusal::Refusal;
@@ -16,11 +17,11 @@ use std::process::Abort;
 use std::test::Fail;
 
 /// A request under a key.
-fn request(caller: &str, key: &[u8], ask: &Ask) -> Result<Request, Fail> {
+fn request(caller: &str, key: &[u8], command: Command) -> Result<Request, Fail> {
     Ok(Request {
         caller: holder_of(caller)?,
         key: Key::read(key)?,
-        command: command_of(ask)?,
+        command,
     })
 }
 
@@ -39,18 +40,21 @@ fn runs(
 }
 
 /// A hundred certificates are given, and the date doesn't move.
-fn two_requests() -> Result<[Request; 2], Fail> {
-    let given = request(SUN, b"given", &transfer(1, 2, serials(100, 199)))?;
-    let date = request(ISSUER, b"date", &Ask::Advance("2025-04-05"))?;
-    Ok([given, date])
+fn gives_and_stays(rt: &impl Abort, desk: &mut Desk) -> Result<(), Fail> {
+    let given = command_of(&transfer(1, 2, serials(100, 199)))?;
+    let date = command_of(&Ask::Advance("2025-04-05"))?;
+    let requests = [
+        request(SUN, b"given", given)?,
+        request(ISSUER, b"date", date)?,
+    ];
+    let wanted = [moved(100), refused(Refusal::DateBackwards)];
+    runs(rt, desk, &requests, &wanted)
 }
 
 #[test]
 fn two_requests_and_none(rt: HostRuntime) -> Result<(), Fail> {
     let mut desk = april(&rt, rt.alloc())?;
-    let requests = two_requests()?;
-    let wanted = [moved(100), refused(Refusal::DateBackwards)];
-    runs(&rt, &mut desk, &requests, &wanted)?;
+    gives_and_stays(&rt, &mut desk)?;
     desk.shows(&rt, 2, &[(100, 199, held(2))])?;
     runs(&rt, &mut desk, &[], &[])?;
     desk.shows(&rt, 2, &[(100, 199, held(2))])

@@ -1,8 +1,9 @@
 //! Notices that are lost, repeated, late or sent astray, by chance, among three registries: after each event each
 //! certificate has one home, or is on one road, and one lot wherever it is known.
 
-use crate::answers::{DONE, issued};
-use crate::asking::{Ask, DEVICE, ISSUER, SUN, cancel, declare};
+use crate::answers::{DONE, issued, refused};
+use crate::asking::{Ask, DEVICE, ISSUER, SUN, cancel, declare, export};
+use crate::commands::range_of;
 use crate::desk::Desk;
 use crate::dice::Dice;
 use crate::notices::{Batch, JANUARY, lot_of};
@@ -20,7 +21,7 @@ use std::test::Fail;
 /// How many schedules are tried.
 const SCHEDULES: u64 = 1000;
 /// How many events a schedule has.
-const EVENTS: u64 = 24;
+const EVENTS: u64 = 16;
 /// How many certificates each issues.
 const CERTIFICATES: u64 = 3;
 
@@ -32,13 +33,6 @@ struct Tally {
     repeated: u64,
     astray: u64,
     late: u64,
-}
-
-/// The certificates of a registry from one serial to another.
-fn range_of(code: u8, first: u64, last: u64) -> Result<Range, Fail> {
-    let first = Number::new(code, first).ok_or("no number")?;
-    let last = Number::new(code, last).ok_or("no number")?;
-    Ok(Range::new(first, last).ok_or("no range")?)
 }
 
 /// A registry of three certificates that knows two others.
@@ -93,30 +87,46 @@ fn some_range(dice: &mut Dice) -> Result<Range, Fail> {
     range_of(code, first, last)
 }
 
-/// Some registry sends certificates that it may hold.
-fn sends(world: &mut World, dice: &mut Dice) -> Result<(), Fail> {
-    let at = dice.below(3) as usize;
-    let peer = some_code(dice);
-    let range = some_range(dice)?;
-    let _outcome = world.asks(at, SUN, &Ask::Export(1, peer, 1, range))?;
-    Ok(())
+/// A range for an account at some registry, or used up, by chance.
+fn some_ask(dice: &mut Dice, range: Range) -> Ask {
+    if dice.below(10) == 0 {
+        return cancel(1, range);
+    }
+    export(some_code(dice), 1, range)
 }
 
-/// Some registry's holder uses a certificate up.
-fn uses(world: &mut World, dice: &mut Dice) -> Result<(), Fail> {
-    let at = dice.below(3) as usize;
-    let code = some_code(dice);
-    let serial = 1 + dice.below(CERTIFICATES);
-    let range = range_of(code, serial, serial)?;
-    let _outcome = world.asks(at, SUN, &cancel(1, range))?;
+/// Where some of a range are held, the holder sends all of it away, or uses it up: he may, whether or not all are there.
+fn asks(rt: &impl Abort, world: &mut World, dice: &mut Dice) -> Result<(), Fail> {
+    let range = some_range(dice)?;
+    let Some(at) = world.holder(range.first())? else {
+        return Ok(());
+    };
+    let ask = some_ask(dice, range);
+    assert_ne!(rt; world.asks(at, SUN, &ask)?, refused(Refusal::NotAllowed));
+    world.collects()
+}
+
+/// What became of a notice that was delivered.
+fn counts(tally: &mut Tally, outcome: &Outcome) -> Result<(), Fail> {
+    match outcome {
+        Outcome::Accepted(_) => tally.accepted = tally.accepted.wrapping_add(1),
+        Outcome::Repeated(_) => tally.repeated = tally.repeated.wrapping_add(1),
+        Outcome::Refused(Refusal::WrongRegistry) => tally.astray = tally.astray.wrapping_add(1),
+        Outcome::Refused(_) => return Err(Fail::new("a notice was refused")),
+    }
     Ok(())
 }
 
 /// A notice that was sent comes to its addressee, or astray to any registry.
-fn brings(world: &mut World, dice: &mut Dice, is_astray: bool) -> Result<Option<Outcome>, Fail> {
+fn brings(
+    world: &mut World,
+    dice: &mut Dice,
+    tally: &mut Tally,
+    is_astray: bool,
+) -> Result<(), Fail> {
     let count = world.letters.len();
     if count == 0 {
-        return Ok(None);
+        return Ok(());
     }
     let which = dice.below(count as u64) as usize;
     let to = if is_astray {
@@ -124,28 +134,21 @@ fn brings(world: &mut World, dice: &mut Dice, is_astray: bool) -> Result<Option<
     } else {
         world.addressee(which)?
     };
-    Ok(Some(world.brings(which, to)?))
+    counts(tally, &world.brings(which, to)?)
 }
 
 /// One event by chance, and what it adds to the tally.
-fn happens(world: &mut World, dice: &mut Dice, tally: &mut Tally) -> Result<(), Fail> {
-    let chance = dice.below(10);
-    if chance < 4 {
-        return sends(world, dice);
+fn happens(
+    rt: &impl Abort,
+    world: &mut World,
+    dice: &mut Dice,
+    tally: &mut Tally,
+) -> Result<(), Fail> {
+    match dice.below(10) {
+        0..=4 => asks(rt, world, dice),
+        5 => brings(world, dice, tally, true),
+        _ => brings(world, dice, tally, false),
     }
-    if chance == 4 {
-        return uses(world, dice);
-    }
-    match brings(world, dice, chance == 5)? {
-        Some(Outcome::Accepted(_)) => tally.accepted = tally.accepted.wrapping_add(1),
-        Some(Outcome::Repeated(_)) => tally.repeated = tally.repeated.wrapping_add(1),
-        Some(Outcome::Refused(Refusal::WrongRegistry)) => {
-            tally.astray = tally.astray.wrapping_add(1);
-        }
-        Some(Outcome::Refused(_)) => return Err(Fail::new("a notice was refused")),
-        None => {}
-    }
-    Ok(())
 }
 
 /// The lot of the certificates that a registry issued.
@@ -161,10 +164,9 @@ fn stand(rt: &impl Abort, world: &mut World, code: u8) -> Result<(), Fail> {
     let lot = lot_of(&lot_from(code))?;
     for serial in 1..=CERTIFICATES {
         let number = Number::new(code, serial).ok_or("no number")?;
-        let home = world.home(number)?;
-        let road = world.road(number)?;
+        let home = world.home(number, &lot)?;
+        let road = world.road(number, &lot)?;
         assert!(rt; home.is_some() != road.is_some(), "{home:?} {road:?}");
-        assert!(rt; world.has_lot(number, &lot)?);
     }
     Ok(())
 }
@@ -181,7 +183,7 @@ fn schedule(rt: &impl Abort, alloc: Global, seed: u64, tally: &mut Tally) -> Res
     let mut world = three(rt, alloc)?;
     let mut dice = Dice::new(seed);
     for _ in 0..EVENTS {
-        happens(&mut world, &mut dice, tally)?;
+        happens(rt, &mut world, &mut dice, tally)?;
         all_stand(rt, &mut world)?;
     }
     tally.sent = tally.sent.wrapping_add(world.letters.len() as u64);

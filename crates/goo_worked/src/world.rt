@@ -7,12 +7,13 @@ use crate::asking::{Ask, ISSUER};
 use crate::commands::holder_of;
 use crate::desk::Desk;
 use goo_registry::ReadFault;
+use goo_types::act_no::ActNo;
 use goo_types::lot::Lot;
 use goo_types::notice::Notice;
 use goo_types::number::Number;
 use goo_types::outcome::Outcome;
 use goo_types::place::Place;
-use goo_types::reply::Reply;
+use goo_types::registry_code::RegistryCode;
 use std::alloc::{AllocError, Global};
 use std::test::Fail;
 
@@ -35,11 +36,6 @@ impl Letter {
             && number <= part.range.last())?;
         Some(part.lot)
     }
-
-    /// Whether the certificate is on the road with it.
-    fn carries(&self, number: Number) -> bool {
-        !self.is_accepted && self.lot_of(number).is_some()
-    }
 }
 
 /// Registries, and every notice that they ever sent.
@@ -49,8 +45,33 @@ pub struct World {
     pub letters: Vec<Letter>,
 }
 
-/// A letter at the end of others.
-fn keep(letters: &mut Vec<Letter>, letter: Letter) -> Result<(), AllocError> {
+/// The number of the next notice of a registry that has sent these.
+fn next_notice(letters: &[Letter], sender: RegistryCode) -> Result<ActNo, Fail> {
+    let count = letters
+        .iter()
+        .filter(|letter| letter.notice.sender() == sender)
+        .count();
+    let number = u32::try_from(count)?.checked_add(1);
+    let act = number.and_then(ActNo::new);
+    Ok(act.ok_or("too many notices")?)
+}
+
+/// A notice that a registry sent, as it shows it to the issuing body.
+fn notice_of(desk: &mut Desk, act: ActNo) -> Result<Option<Notice>, Fail> {
+    let issuer = holder_of(ISSUER)?;
+    match desk.registry.notice(desk.alloc, &issuer, act) {
+        Ok(notice) => Ok(Some(notice)),
+        Err(ReadFault::Unknown) => Ok(None),
+        Err(fault) => Err(fault.into()),
+    }
+}
+
+/// A notice behind those sent before: nobody has accepted it.
+fn keep(letters: &mut Vec<Letter>, notice: Notice) -> Result<(), AllocError> {
+    let letter = Letter {
+        notice,
+        is_accepted: false,
+    };
     Ok(letters.push(letter)?)
 }
 
@@ -78,22 +99,23 @@ impl World {
         }
     }
 
-    /// What a registry answers to a request; a notice that it sends is on the road from then on.
+    /// What a registry answers to a request. A notice that it sends is on the road once it is collected.
     pub fn asks(&mut self, at: usize, caller: &str, ask: &Ask) -> Result<Outcome, Fail> {
         let Some(desk) = self.desks.get_mut(at) else {
             return Err(Fail::new("no such registry"));
         };
-        let outcome = desk.asks(caller, ask)?;
-        if let Outcome::Accepted(Reply::Exported { notice, .. }) = outcome {
-            let issuer = holder_of(ISSUER)?;
-            let notice = desk.registry.notice(desk.alloc, &issuer, notice)?;
-            let letter = Letter {
-                notice,
-                is_accepted: false,
-            };
-            keep(&mut self.letters, letter)?;
+        desk.asks(caller, ask)
+    }
+
+    /// Collects the next notice of each registry, where it has sent one.
+    pub fn collects(&mut self) -> Result<(), Fail> {
+        for desk in &mut self.desks {
+            let number = next_notice(&self.letters, desk.code)?;
+            if let Some(notice) = notice_of(desk, number)? {
+                keep(&mut self.letters, notice)?;
+            }
         }
-        Ok(outcome)
+        Ok(())
     }
 
     /// What a registry answers to a notice that was sent.
@@ -112,6 +134,25 @@ impl World {
         Ok(outcome)
     }
 
+    /// Whether a registry has a certificate in an account.
+    fn is_held_at(&mut self, at: usize, number: Number) -> Result<bool, Fail> {
+        let Some(desk) = self.desks.get_mut(at) else {
+            return Err(Fail::new("no such registry"));
+        };
+        let known = known(desk, number)?;
+        Ok(known.is_some_and(|(_, place)| matches!(place, Place::Held(_))))
+    }
+
+    /// Where the registry stands that has a certificate in an account, if one has.
+    pub fn holder(&mut self, number: Number) -> Result<Option<usize>, Fail> {
+        for at in 0..self.desks.len() {
+            if self.is_held_at(at, number)? {
+                return Ok(Some(at));
+            }
+        }
+        Ok(None)
+    }
+
     /// Where the addressee of a notice stands.
     pub fn addressee(&self, which: usize) -> Result<usize, Fail> {
         let code = self.letters.get(which).ok_or("no such notice")?.addressee();
@@ -127,13 +168,17 @@ impl World {
             .count()
     }
 
-    /// The code of the registry that a certificate is at home in, if any; none has two homes.
-    pub fn home(&mut self, number: Number) -> Result<Option<u8>, Fail> {
+    /// The code of the registry that a certificate is at home in, if any. None has two homes, and each registry
+    /// that knows it knows it with this lot.
+    pub fn home(&mut self, number: Number, lot: &Lot) -> Result<Option<u8>, Fail> {
         let mut home = None;
         for desk in &mut self.desks {
-            let Some((_, place)) = known(desk, number)? else {
+            let Some((other, place)) = known(desk, number)? else {
                 continue;
             };
+            if !other.is(lot) {
+                return Err(Fail::new("another lot in a registry"));
+            }
             if is_home(place) {
                 if home.is_some() {
                     return Err(Fail::new("two homes"));
@@ -144,11 +189,18 @@ impl World {
         Ok(home)
     }
 
-    /// The sender and the number of the notice that a certificate is on the road with, if any; none is on two.
-    pub fn road(&self, number: Number) -> Result<Option<(u8, u32)>, Fail> {
+    /// The sender and the number of the notice that a certificate is on the road with, if any. None is on two, and
+    /// each notice that names it states this lot.
+    pub fn road(&self, number: Number, lot: &Lot) -> Result<Option<(u8, u32)>, Fail> {
         let mut road = None;
         for letter in &self.letters {
-            if letter.carries(number) {
+            let Some(other) = letter.lot_of(number) else {
+                continue;
+            };
+            if !other.is(lot) {
+                return Err(Fail::new("another lot on a notice"));
+            }
+            if !letter.is_accepted {
                 if road.is_some() {
                     return Err(Fail::new("two roads"));
                 }
@@ -156,22 +208,5 @@ impl World {
             }
         }
         Ok(road)
-    }
-
-    /// The lot of a certificate in each registry that knows it and on each notice is this one.
-    pub fn has_lot(&mut self, number: Number, lot: &Lot) -> Result<bool, Fail> {
-        for desk in &mut self.desks {
-            if let Some((other, _)) = known(desk, number)?
-                && !other.is(lot)
-            {
-                return Ok(false);
-            }
-        }
-        Ok(
-            self.letters
-                .iter()
-                .filter_map(|letter| letter.lot_of(number))
-                .all(|other| other.is(lot)),
-        )
     }
 }
