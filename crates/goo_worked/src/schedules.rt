@@ -106,19 +106,34 @@ fn asks(rt: &impl Abort, world: &mut World, dice: &mut Dice) -> Result<(), Fail>
     world.collects()
 }
 
-/// What became of a notice that was delivered.
-fn counts(tally: &mut Tally, outcome: &Outcome) -> Result<(), Fail> {
-    match outcome {
-        Outcome::Accepted(_) => tally.accepted = tally.accepted.wrapping_add(1),
-        Outcome::Repeated(_) => tally.repeated = tally.repeated.wrapping_add(1),
-        Outcome::Refused(Refusal::WrongRegistry) => tally.astray = tally.astray.wrapping_add(1),
-        Outcome::Refused(_) => return Err(Fail::new("a notice was refused")),
+/// A notice comes to its addressee, or astray to a registry: it is accepted, or repeated with what was answered
+/// before, or for another registry.
+fn delivers(
+    rt: &impl Abort,
+    world: &mut World,
+    tally: &mut Tally,
+    which: usize,
+    astray: Option<usize>,
+) -> Result<(), Fail> {
+    let to = match astray {
+        Some(to) => to,
+        None => world.addressee(which)?,
+    };
+    let outcome = world.brings(which, to)?;
+    if matches!(outcome, Outcome::Accepted(_)) {
+        tally.accepted = tally.accepted.wrapping_add(1);
+    } else if matches!(outcome, Outcome::Repeated(_)) {
+        tally.repeated = tally.repeated.wrapping_add(1);
+    } else {
+        assert_eq!(rt; outcome, refused(Refusal::WrongRegistry));
+        tally.astray = tally.astray.wrapping_add(1);
     }
     Ok(())
 }
 
-/// A notice that was sent comes to its addressee, or astray to any registry.
+/// One of the notices that were sent, accepted before or not, comes to its addressee, or astray.
 fn brings(
+    rt: &impl Abort,
     world: &mut World,
     dice: &mut Dice,
     tally: &mut Tally,
@@ -129,12 +144,8 @@ fn brings(
         return Ok(());
     }
     let which = dice.below(count as u64) as usize;
-    let to = if is_astray {
-        dice.below(3) as usize
-    } else {
-        world.addressee(which)?
-    };
-    counts(tally, &world.brings(which, to)?)
+    let anywhere = dice.below(3) as usize;
+    delivers(rt, world, tally, which, is_astray.then_some(anywhere))
 }
 
 /// One event by chance, and what it adds to the tally.
@@ -146,8 +157,8 @@ fn happens(
 ) -> Result<(), Fail> {
     match dice.below(10) {
         0..=4 => asks(rt, world, dice),
-        5 => brings(world, dice, tally, true),
-        _ => brings(world, dice, tally, false),
+        5 => brings(rt, world, dice, tally, true),
+        _ => brings(rt, world, dice, tally, false),
     }
 }
 
