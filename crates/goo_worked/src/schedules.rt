@@ -1,0 +1,222 @@
+//! Notices that are lost, repeated, late or sent astray, by chance, among three registries: after each event each
+//! certificate has one home, or is on one road, and one lot wherever it is known.
+
+use crate::answers::{DONE, issued, refused};
+use crate::asking::{Ask, DEVICE, ISSUER, SUN, cancel, declare, export};
+use crate::commands::range_of;
+use crate::desk::Desk;
+use crate::dice::Dice;
+use crate::notices::{Batch, JANUARY, lot_of};
+use crate::numbers::account;
+use crate::world::World;
+use goo_types::number::Number;
+use goo_types::outcome::Outcome;
+use goo_types::range::Range;
+use goo_types::refusal::Refusal;
+use goo_types::reply::Reply;
+use std::alloc::Global;
+use std::process::Abort;
+use std::test::Fail;
+
+/// How many schedules are tried.
+const SCHEDULES: u64 = 1000;
+/// How many events a schedule has.
+const EVENTS: u64 = 16;
+/// How many certificates each issues.
+const CERTIFICATES: u64 = 3;
+
+/// How often notices were sent and accepted, and what else became of them.
+#[derive(Clone, Copy)]
+struct Tally {
+    sent: u64,
+    accepted: u64,
+    repeated: u64,
+    astray: u64,
+    late: u64,
+}
+
+/// A registry of three certificates that knows two others.
+fn registry(rt: &impl Abort, alloc: Global, code: u8, peers: (u8, u8)) -> Result<Desk, Fail> {
+    let mut desk = Desk::new(alloc, code, 1, "2025-03-01")?;
+    let opened = Outcome::Accepted(Reply::Account {
+        account: account(1),
+    });
+    let certificates = issued(range_of(code, 1, CERTIFICATES)?);
+    let (one, other) = peers;
+    desk.plays(
+        rt,
+        &[
+            (ISSUER, Ask::OpenHolder(SUN), DONE),
+            (ISSUER, Ask::OpenAccount(SUN), opened),
+            (ISSUER, Ask::RegisterDevice(DEVICE, 1), DONE),
+            (ISSUER, Ask::AddPeer(one), DONE),
+            (ISSUER, Ask::AddPeer(other), DONE),
+            (
+                ISSUER,
+                declare("2025-01-01", "2025-01-31", 3_000_000, 0),
+                certificates,
+            ),
+        ],
+    )?;
+    Ok(desk)
+}
+
+/// Three registries, each of which knows the others.
+fn three(rt: &impl Abort, alloc: Global) -> Result<World, Fail> {
+    let seven = registry(rt, alloc, 7, (8, 9))?;
+    let eight = registry(rt, alloc, 8, (7, 9))?;
+    let nine = registry(rt, alloc, 9, (7, 8))?;
+    let desks = vec![in alloc; seven, eight, nine]?;
+    Ok(World::new(alloc, desks))
+}
+
+/// A registry by chance.
+fn some_code(dice: &mut Dice) -> u8 {
+    match dice.below(3) {
+        0 => 7,
+        1 => 8,
+        _ => 9,
+    }
+}
+
+/// Some of the certificates of a registry, by chance.
+fn some_range(dice: &mut Dice) -> Result<Range, Fail> {
+    let code = some_code(dice);
+    let first = 1 + dice.below(CERTIFICATES);
+    let last = first.max(1 + dice.below(CERTIFICATES));
+    range_of(code, first, last)
+}
+
+/// A range for an account at some registry, or used up, by chance.
+fn some_ask(dice: &mut Dice, range: Range) -> Ask {
+    if dice.below(10) == 0 {
+        return cancel(1, range);
+    }
+    export(some_code(dice), 1, range)
+}
+
+/// Where some of a range are held, the holder sends all of it away, or uses it up: he may, whether or not all are there.
+fn asks(rt: &impl Abort, world: &mut World, dice: &mut Dice) -> Result<(), Fail> {
+    let range = some_range(dice)?;
+    let Some(at) = world.holder(range.first())? else {
+        return Ok(());
+    };
+    let ask = some_ask(dice, range);
+    assert_ne!(rt; world.asks(at, SUN, &ask)?, refused(Refusal::NotAllowed));
+    world.collects()
+}
+
+/// A notice comes to its addressee, or astray to a registry: it is accepted, or repeated with what was answered
+/// before, or for another registry.
+fn delivers(
+    rt: &impl Abort,
+    world: &mut World,
+    tally: &mut Tally,
+    which: usize,
+    astray: Option<usize>,
+) -> Result<(), Fail> {
+    let to = match astray {
+        Some(to) => to,
+        None => world.addressee(which)?,
+    };
+    let outcome = world.brings(which, to)?;
+    if matches!(outcome, Outcome::Accepted(_)) {
+        tally.accepted = tally.accepted.wrapping_add(1);
+    } else if matches!(outcome, Outcome::Repeated(_)) {
+        tally.repeated = tally.repeated.wrapping_add(1);
+    } else {
+        assert_eq!(rt; outcome, refused(Refusal::WrongRegistry));
+        tally.astray = tally.astray.wrapping_add(1);
+    }
+    Ok(())
+}
+
+/// One of the notices that were sent, accepted before or not, comes to its addressee, or astray.
+fn brings(
+    rt: &impl Abort,
+    world: &mut World,
+    dice: &mut Dice,
+    tally: &mut Tally,
+    is_astray: bool,
+) -> Result<(), Fail> {
+    let count = world.letters.len();
+    if count == 0 {
+        return Ok(());
+    }
+    let which = dice.below(count as u64) as usize;
+    let anywhere = dice.below(3) as usize;
+    delivers(rt, world, tally, which, is_astray.then_some(anywhere))
+}
+
+/// One event by chance, and what it adds to the tally.
+fn happens(
+    rt: &impl Abort,
+    world: &mut World,
+    dice: &mut Dice,
+    tally: &mut Tally,
+) -> Result<(), Fail> {
+    match dice.below(10) {
+        0..=4 => asks(rt, world, dice),
+        5 => brings(rt, world, dice, tally, true),
+        _ => brings(rt, world, dice, tally, false),
+    }
+}
+
+/// The lot of the certificates that a registry issued.
+fn lot_from(code: u8) -> Batch {
+    Batch {
+        origin: code,
+        ..JANUARY
+    }
+}
+
+/// The certificates of a registry have one home each or are on one road, and have the lot that it issued.
+fn stand(rt: &impl Abort, world: &mut World, code: u8) -> Result<(), Fail> {
+    let lot = lot_of(&lot_from(code))?;
+    for serial in 1..=CERTIFICATES {
+        let number = Number::new(code, serial).ok_or("no number")?;
+        let home = world.home(number, &lot)?;
+        let road = world.road(number, &lot)?;
+        assert!(rt; home.is_some() != road.is_some(), "{home:?} {road:?}");
+    }
+    Ok(())
+}
+
+/// All certificates do.
+fn all_stand(rt: &impl Abort, world: &mut World) -> Result<(), Fail> {
+    stand(rt, world, 7)?;
+    stand(rt, world, 8)?;
+    stand(rt, world, 9)
+}
+
+/// One schedule, from the registries' creation.
+fn schedule(rt: &impl Abort, alloc: Global, seed: u64, tally: &mut Tally) -> Result<(), Fail> {
+    let mut world = three(rt, alloc)?;
+    let mut dice = Dice::new(seed);
+    for _ in 0..EVENTS {
+        happens(rt, &mut world, &mut dice, tally)?;
+        all_stand(rt, &mut world)?;
+    }
+    tally.sent = tally.sent.wrapping_add(world.letters.len() as u64);
+    tally.late = tally.late.wrapping_add(world.under_way() as u64);
+    Ok(())
+}
+
+#[test]
+fn a_thousand_schedules(rt: HostRuntime) -> Result<(), Fail> {
+    let mut tally = Tally {
+        sent: 0,
+        accepted: 0,
+        repeated: 0,
+        astray: 0,
+        late: 0,
+    };
+    for seed in 0..SCHEDULES {
+        schedule(&rt, rt.alloc(), seed, &mut tally)?;
+    }
+    assert!(rt; tally.sent > SCHEDULES && tally.accepted > SCHEDULES);
+    assert!(rt; tally.repeated > SCHEDULES && tally.astray > SCHEDULES / 2);
+    assert!(rt; tally.late > SCHEDULES / 10);
+    assert_eq!(rt; tally.sent, tally.accepted.wrapping_add(tally.late));
+    Ok(())
+}
