@@ -1,7 +1,6 @@
 -- The block that an edit of rising rows replaces is found.
 use Rattle.std.proofs.Common.{◌≡◌, ℕ, zero, suc, ◌+◌, ◌<◌, ◌≤◌, List, [], ◌∷◌, ◌++◌, true, false, ltb, min, ◌⊎◌, ⊎_elim, get_or, subst, map, length, take, drop, refl, ap, sym, ◌∙◌, arith}
 use Rattle.std.specs.List.Sorted.{IsPartitionPoint}
-use Rattle.std.proofs.lemmas.Bool.{cases_lt}
 use Rattle.std.proofs.lemmas.Bool.Decides.{nat_tests}
 use Rattle.std.proofs.lemmas.List.{take_at, drop_at, drop-drop, length-append, length-map}
 use Rattle.goo_types.specs.declared.piece.Piece.{Piece}

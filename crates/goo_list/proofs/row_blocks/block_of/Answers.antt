@@ -1,6 +1,6 @@
 use Rattle.std.proofs.Common.{◌≡◌, ◌+◌, ◌-◌, ◌≤◌, rules, ap, sym, ◌∙◌, arith, map, take, drop, length, length-drop}
 use Rattle.std.proofs.lemmas.List.{take_all}
-use Rattle.goo_list.specs.Blocks.{AreBelow, FitBefore, least_named}
+use Rattle.goo_list.specs.Blocks.{FitBefore}
 use Rattle.goo_list.proofs.BlockLemmas.{block-edited}
 use Rattle.goo_list.proofs.FoundLemmas.{block-found}
 use Rattle.goo_list.proofs.row_blocks.block_of.Goals as goal

@@ -1,4 +1,4 @@
-use Rattle.std.proofs.Common.{◌≡◌, ◌<◌, ◌⊎◌, inl, inr, subst, sym, arith}
+use Rattle.std.proofs.Common.{◌<◌, ◌⊎◌, inl, inr, subst, sym, arith}
 use Rattle.goo_list.specs.Blocks.{BeginAfter}
 use Rattle.goo_list.proofs.FoundLemmas.{not-fit}
 use Rattle.goo_list.proofs.row_blocks.fit_before.Goals as goal
