@@ -1,10 +1,12 @@
 -- Edits that put one block of rows in the place of another, and rows in order through any edit.
-use Rattle.std.proofs.Common.{◌≡◌, ℕ, zero, suc, ◌+◌, ◌-◌, ◌<◌, ◌≤◌, List, [], ◌∷◌, ◌++◌, true, false, ◌==◌, cond, ltb, ⊎_elim, map, length, take, drop, get_or, refl, ap, sym, ◌∙◌, arith, append_assoc}
+use Rattle.std.proofs.Common.{◌≡◌, ℕ, zero, suc, ◌+◌, ◌-◌, ◌<◌, ◌≤◌, List, [], ◌∷◌, ◌++◌, true, false, ◌==◌, cond, ltb, ⊎_elim, map, length, length-drop, take, drop, get_or, refl, ap, sym, ◌∙◌, arith, append_assoc}
 use Rattle.std.specs.List.{AllWithin}
 use Rattle.std.specs.List.Sorted.{IsNonDecreasingBy}
 use Rattle.std.proofs.lemmas.Bool.{cases_lt}
 use Rattle.std.proofs.lemmas.Bool.Decides.{nat_tests}
-use Rattle.std.proofs.lemmas.List.{take-append-drop, drop-drop, take_at, drop_at, length-append, length-take-le}
+use Rattle.std.proofs.lemmas.List.{take-append-drop, drop-drop, take_at, drop_at, length-append, length-take-le, take_all}
+use Rattle.std.proofs.lemmas.List.Edits.{take-paste}
+use lib.Seq.{paste}
 use Rattle.goo_types.specs.declared.piece.Piece.{Piece}
 use Rattle.goo_ranges.specs.declared.edits.Edit.{Edit}
 use Rattle.goo_rows.specs.Rows.{without, without_each, with, with_each, edited}
@@ -201,3 +203,14 @@ closed xs more front from to le bound is_front ys is =
     let far : (zs : List Piece) → drop (to - end) (drop end zs) ≡ drop to zs = λ zs. drop-drop (to - end) end zs ∙ ap (λ n. drop n zs) sum in
     let high : drop to ys ≡ drop to xs = sym (far ys) ∙ ap (drop (to - end)) here ∙ far xs in
     (λ i. low i ++ high i) ∙ append_assoc (take from xs) more (drop to xs)
+
+-- the rows from an index on, copied down to another, and what is left behind them cut off
+pub copied-down : (xs : List Piece) (from to len : ℕ) → from ≤ to → to ≤ len → len ≡ length xs → take (len - (to - from)) (paste xs from (drop to xs) (len - to)) ≡ take from xs ++ drop to xs
+copied-down xs from to len le bound is =
+    let rest = drop to xs in
+    let count = len - to in
+    let size = length-drop to xs in
+    let below : from ≤ length xs = omega arith in
+    let short : count ≤ length rest = omega (arith, size) in
+    let end : len - (to - from) ≡ from + count = omega arith in
+    ap (λ n. take n (paste xs from rest count)) end ∙ take-paste xs from rest count below short ∙ ap (λ l. take from xs ++ l) (take_all count rest (omega (arith, size)))

@@ -115,9 +115,12 @@ fn close_up(rows: &mut Vec<Piece>, from: usize, to: usize)
     ensures len { vec_len rows.new + (to - from) ≡ vec_len rows.old }
     ensures capacity { vec_capacity rows.old ≤ vec_capacity rows.new }
 {
-    let left = rows.len() - (to - from);
-    rows[from..].rotate_left(to - from);
-    rows.truncate(left);
+    if from == to {
+        return;
+    }
+    let len = rows.len();
+    rows.copy_within(to..len, from);
+    rows.truncate(len - (to - from));
 }
 
 /// Puts rows in at the index `at`, within the room that there is. Those behind are moved once.
