@@ -1,4 +1,4 @@
-//! Memory refused at any one allocation: `rt try --test --fail-alloc 1..` refuses each in turn.
+//! Memory refused at any one allocation. `tools/refuse-memory` runs this test with each allocation refused in turn.
 //!
 //! A request that was refused memory changed nothing: the registry shows what it showed before, and the request
 //! sent again under its key is accepted, and not repeated.

@@ -21,7 +21,7 @@ use std::test::Fail;
 /// How many schedules are tried.
 const SCHEDULES: u64 = 1000;
 /// How many events a schedule has.
-const EVENTS: u64 = 16;
+const EVENTS: u64 = 24;
 /// How many certificates each issues.
 const CERTIFICATES: u64 = 3;
 
@@ -35,13 +35,16 @@ struct Tally {
     late: u64,
 }
 
-/// A registry of three certificates that knows two others.
+/// A registry of three certificates, two of one lot and one of another, that knows two others.
 fn registry(rt: &impl Abort, alloc: Global, code: u8, peers: (u8, u8)) -> Result<Desk, Fail> {
     let mut desk = Desk::new(alloc, code, 1, "2025-03-01")?;
     let opened = Outcome::Accepted(Reply::Account {
         account: account(1),
     });
-    let certificates = issued(range_of(code, 1, CERTIFICATES)?);
+    let two = issued(range_of(code, 1, 2)?);
+    let third = issued(range_of(code, 3, 3)?);
+    let early = declare("2025-01-01", "2025-01-15", 2_000_000, 0);
+    let late = declare("2025-01-16", "2025-01-31", 1_000_000, 0);
     let (one, other) = peers;
     desk.plays(
         rt,
@@ -51,11 +54,8 @@ fn registry(rt: &impl Abort, alloc: Global, code: u8, peers: (u8, u8)) -> Result
             (ISSUER, Ask::RegisterDevice(DEVICE, 1), DONE),
             (ISSUER, Ask::AddPeer(one), DONE),
             (ISSUER, Ask::AddPeer(other), DONE),
-            (
-                ISSUER,
-                declare("2025-01-01", "2025-01-31", 3_000_000, 0),
-                certificates,
-            ),
+            (ISSUER, early, two),
+            (ISSUER, late, third),
         ],
     )?;
     Ok(desk)
@@ -162,18 +162,25 @@ fn happens(
     }
 }
 
-/// The lot of the certificates that a registry issued.
-fn lot_from(code: u8) -> Batch {
+/// The lot of a certificate, as the registry of its code issued it.
+fn lot_from(code: u8, serial: u64) -> Batch {
+    let (first, last) = if serial < 3 {
+        ("2025-01-01", "2025-01-15")
+    } else {
+        ("2025-01-16", "2025-01-31")
+    };
     Batch {
         origin: code,
+        first,
+        last,
         ..JANUARY
     }
 }
 
 /// The certificates of a registry have one home each or are on one road, and have the lot that it issued.
 fn stand(rt: &impl Abort, world: &mut World, code: u8) -> Result<(), Fail> {
-    let lot = lot_of(&lot_from(code))?;
     for serial in 1..=CERTIFICATES {
+        let lot = lot_of(&lot_from(code, serial))?;
         let number = Number::new(code, serial).ok_or("no number")?;
         let home = world.home(number, &lot)?;
         let road = world.road(number, &lot)?;
