@@ -1,0 +1,2 @@
+//! A registry kept in a database: a shelf over the tables.
+#![tactic(auto)]
