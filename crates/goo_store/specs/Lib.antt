@@ -6,3 +6,5 @@ pub mod Records
 pub mod States
 pub mod Readable
 pub mod Kept
+pub mod Moments
+pub mod Telling
