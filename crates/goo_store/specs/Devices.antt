@@ -1,6 +1,6 @@
 -- The devices and the declarations that rows stand for.
 use Rattle.std.specs.Prelude.{ℕ, List, find, Option, Some, None, option_map}
-use Rattle.std.specs.Str.{bytes_eq}
+use Rattle.sqlite_typed.specs.Tests.{bytes_eq}
 use Rattle.goo_types.specs.declared.command.Declare.{Declare}
 use Rattle.goo_spec.specs.State.{Device}
 use Rattle.goo_shelf.specs.declared.found.Progress.{Progress}

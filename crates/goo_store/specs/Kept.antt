@@ -1,7 +1,7 @@
 -- The rules that the tables of a registry keep.
 use Rattle.std.specs.Prelude.{◌≡◌, ◌≤◌, ℕ, ℤ, pos, true, List, filter, length, Some, option_map}
 use Rattle.std.specs.List.{list_all}
-use Rattle.std.specs.Str.{bytes_eq}
+use Rattle.sqlite_typed.specs.Tests.{bytes_eq}
 use Rattle.sqlite_keyed.specs.Keyed.{has_key, get_by}
 use Rattle.goo_types.specs.Day.{months_after}
 use Rattle.goo_types.specs.Lot.{IsLot}

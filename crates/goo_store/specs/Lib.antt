@@ -8,3 +8,4 @@ pub mod Readable
 pub mod Kept
 pub mod Moments
 pub mod Telling
+pub mod Plants

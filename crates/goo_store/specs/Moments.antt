@@ -1,7 +1,7 @@
 -- A shelf over the tables at one moment.
 use Rattle.std.specs.Prelude.{◌≡◌, ◌≤◌, ℕ, ℤ, pos, ◌<ℤ◌, List, filter, length, Bool, true, cond, Option, Some, None}
 use Rattle.std.specs.List.{list_all}
-use Rattle.std.specs.Str.{bytes_eq}
+use Rattle.sqlite_typed.specs.Tests.{bytes_eq}
 use Rattle.std.specs.Coded.{Coded-set}
 use Rattle.std.proofs.Props.{props}
 use mathlib.Core.Path.{ap}

@@ -1,17 +1,21 @@
 //! Texts that columns keep, as values.
 
 ghost use Rattle.std.specs.Prelude.{◌≡◌, IfOk};
-ghost use Rattle.goo_store.specs.Texts.{day_of, support_of};
+ghost use Rattle.goo_store.specs.Texts.{day_of, support_of, notice_of};
 
 use crate::trouble::Trouble;
+use goo_notice::NoticeFault;
+use goo_notice::read;
 use goo_types::country::Country;
 use goo_types::day::Day;
 use goo_types::gsrn::Gsrn;
 use goo_types::holder_code::HolderCode;
 use goo_types::name::Name;
+use goo_types::notice::Notice;
 use goo_types::source_code::SourceCode;
 use goo_types::support::Support;
 use goo_types::tech_code::TechCode;
+use std::alloc::Global;
 
 /// The code of a holder.
 #[tactic(auto, unfolding(goo_types::specs::TextReading::text_reading))]
@@ -95,6 +99,17 @@ pub fn support(text: &str) -> Result<Support, Trouble>
 {
     match Support::read(text.as_bytes()) {
         Ok(support) => Ok(support),
+        Err(_) => Err(Trouble::Refused),
+    }
+}
+
+/// A notice, by its text.
+pub fn notice(alloc: Global, body: &[u8]) -> Result<Notice, Trouble>
+    ensures { IfOk result (λ notice. notice ≡ notice_of body.now) }
+{
+    match read(alloc, body) {
+        Ok(notice) => Ok(notice),
+        Err(NoticeFault::Memory) => Err(Trouble::Memory),
         Err(_) => Err(Trouble::Refused),
     }
 }
