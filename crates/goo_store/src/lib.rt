@@ -2,11 +2,15 @@
 #![tactic(auto)]
 
 mod accounts;
+mod cancellations;
 mod devices;
 mod holders;
+mod lots;
+mod notices;
 mod numbers;
 mod peers;
 mod plants;
+mod receipts;
 mod registry_row;
 pub mod sql_shelf;
 mod texts;

@@ -90,3 +90,13 @@ pub fn range(first: u64, last: u64) -> Result<Range, Trouble>
         None => Err(Trouble::Refused),
     }
 }
+
+/// A number of an account or an act, as short as those are.
+pub fn small(value: u64) -> Result<u32, Trouble>
+    ensures { IfOk result (λ n. n ≡ value) }
+{
+    if value > 999_999_999 {
+        return Err(Trouble::Refused);
+    }
+    Ok(value as u32)
+}
