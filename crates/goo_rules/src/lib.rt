@@ -1,6 +1,8 @@
 //! The rules that the tables of a registry keep, judged over their rows.
 #![tactic(auto)]
 
+pub mod apart;
+pub mod lists;
 pub mod notices;
 mod numbers;
 pub mod receipts;

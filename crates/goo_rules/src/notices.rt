@@ -1,6 +1,6 @@
 //! Notices, which are kept as their texts.
 
-ghost use Rattle.std.specs.Prelude.{◌≡◌, ℤ, IfOk};
+ghost use Rattle.std.specs.Prelude.{◌≡◌, pos, IfOk};
 ghost use Rattle.goo_notice.specs.NoticeText.{notice_in};
 ghost use Rattle.goo_columns.specs.Rows.{notice_out_in, notice_in_in};
 ghost use Rattle.goo_store.specs.Readable.{is_notice_of, is_notice_out, is_notice_in};
@@ -48,7 +48,7 @@ pub fn accepts_sent(alloc: Global, own: u32, row: &NoticeOutRow) -> Result<bool,
 ///
 /// Where an allocation is refused.
 pub fn accepts_arrived(alloc: Global, row: &NoticeInRow) -> Result<bool, AllocError>
-    ensures { (id : ℤ) → IfOk result (λ yes. yes ≡ is_notice_in (id, notice_in_in row.now)) }
+    ensures { IfOk result (λ yes. yes ≡ is_notice_in (pos 0, notice_in_in row.now)) }
 {
     is_of(alloc, row.sender, row.number, &row.body)
 }

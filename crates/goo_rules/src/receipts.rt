@@ -1,6 +1,6 @@
 //! Receipts: what accepted requests left.
 
-ghost use Rattle.std.specs.Prelude.{◌≡◌, ◌==◌, ◌&&◌, ◌||◌, ℤ};
+ghost use Rattle.std.specs.Prelude.{◌≡◌, ◌==◌, ◌&&◌, ◌||◌, pos};
 ghost use Rattle.goo_columns.specs.Rows.{receipt_in};
 ghost use Rattle.goo_store.specs.Readable.{is_reply, is_receipt, is_act, are_ends};
 
@@ -31,7 +31,7 @@ fn accepts_reply(kind: u32, n1: u64, n2: u64, n3: u64) -> bool
 
 /// A receipt. Its command may be any bytes.
 pub fn accepts_receipt(row: &ReceiptRow) -> bool
-    ensures { (id : ℤ) → result ≡ is_receipt (id, receipt_in row.now) }
+    ensures { result ≡ is_receipt (pos 0, receipt_in row.now) }
 {
     is_code_text(&row.caller)
         && is_key(&row.key)

@@ -1,6 +1,6 @@
 //! Whether each value of a row is one that its reader or its limit accepts.
 
-ghost use Rattle.std.specs.Prelude.{◌≡◌, ℤ};
+ghost use Rattle.std.specs.Prelude.{◌≡◌, pos};
 ghost use Rattle.goo_columns.specs.Rows.{plant_in, meta_in, holder_in, account_in, device_in, declaration_in, lot_in, receipt_in, cancellation_in, withdrawal_in};
 ghost use Rattle.goo_store.specs.Readable.{is_meta, is_holder, is_account, is_plant, is_device, is_declaration, is_lot, is_piece, is_peer, is_receipt, is_cancellation, is_withdrawal};
 
@@ -37,7 +37,7 @@ pub fn accepts_meta(row: &MetaRow) -> bool
 
 /// A holder.
 pub fn accepts_holder(row: &HolderRow) -> bool
-    ensures { (id : ℤ) → result ≡ is_holder (id, holder_in row.now) }
+    ensures { result ≡ is_holder (pos 0, holder_in row.now) }
 {
     is_code_text(&row.code) && is_name(&row.name)
 }
@@ -65,7 +65,7 @@ pub fn accepts_plant(row: &PlantRow) -> bool
 
 /// A device.
 pub fn accepts_device(row: &DeviceRow) -> bool
-    ensures { (id : ℤ) → result ≡ is_device (id, device_in row.now) }
+    ensures { result ≡ is_device (pos 0, device_in row.now) }
 {
     is_gsrn(&row.gsrn)
         && is_given(row.account)
@@ -106,7 +106,7 @@ pub fn accepts_piece(row: &PieceRow) -> bool
 
 /// A peer.
 pub fn accepts_peer(row: &PeerRow) -> bool
-    ensures { (id : ℤ) → result ≡ is_peer (id, row.now) }
+    ensures { result ≡ is_peer (pos 0, row.now) }
 {
     is_registry(row.code)
 }

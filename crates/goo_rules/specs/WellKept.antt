@@ -1,0 +1,43 @@
+-- The rules that the tables of a registry keep, one by one.
+use Rattle.std.specs.Prelude.{ℕ, ◌==◌, ◌&&◌, ◌||◌, not, Bool, true, false, nat_le, nat_lt, List, [], ◌∷◌, Option, Some, None}
+use Rattle.std.specs.Str.{bytes_eq}
+use Rattle.goo_types.specs.Number.{code_of, serial_of}
+use Rattle.goo_spec.specs.Checks.{issuer}
+use Rattle.goo_columns.specs.Rows.{Kept, Holder, Account, Declaration, Cancellation, Withdrawal, NoticeOut}
+use Rattle.goo_columns.specs.declared.peer.PeerRow.{PeerRow}
+use Rattle.goo_columns.specs.declared.piece.PieceRow.{PieceRow}
+
+-- the issuing body is no holder
+abbrev pub is_no_issuer : Holder → Bool
+is_no_issuer h = not (bytes_eq h.code issuer)
+
+-- no peer is the registry itself
+abbrev pub is_another : ℕ → PeerRow → Bool
+is_another own p = not (p.code == own)
+
+-- no auxiliaries use more than was produced
+abbrev pub covers_aux : Declaration → Bool
+covers_aux d = nat_le d.aux d.gross
+
+-- numbers that were given are below the next one
+abbrev pub account_given : ℕ → Account → Bool
+account_given next a = nat_lt a.number next
+
+abbrev pub cancellation_given : ℕ → Cancellation → Bool
+cancellation_given next c = nat_lt c.number next
+
+abbrev pub withdrawal_given : ℕ → Withdrawal → Bool
+withdrawal_given next w = nat_lt w.number next
+
+abbrev pub notice_given : ℕ → NoticeOut → Bool
+notice_given next n = nat_lt n.number next
+
+-- certificates of the own code were issued: they end below the next serial
+abbrev pub is_issued : ℕ → ℕ → PieceRow → Bool
+is_issued own next p = not (code_of p.last == own) || nat_lt (serial_of p.last) next
+
+-- each piece begins above the last number of the piece before it
+abbrev pub are_apart : Option ℕ → List PieceRow → Bool
+are_apart before [] = true
+are_apart None (p ∷ ps) = are_apart (Some p.last) ps
+are_apart (Some last) (p ∷ ps) = nat_lt last p.first && are_apart (Some p.last) ps
