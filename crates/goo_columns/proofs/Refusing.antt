@@ -1,5 +1,5 @@
 -- Which errors a look-up may answer, for any text that reads one table or more.
-use Rattle.std.proofs.Common.{◌≡◌, ◌≤◌, ◌⊎◌, All, append-nil, inl, inr, IsTrue, IfErr, ℕ, Bool, List, [], ◌∷◌, length, true, false, Option, None, Some, is_none, Ok, Err, Result, sym, ap, subst, ◌∙◌, arith}
+use Rattle.std.proofs.Common.{◌≡◌, ◌≤◌, ◌⊎◌, All, append-nil, refl, inl, inr, IsTrue, IfErr, ℕ, Bool, List, [], ◌∷◌, length, true, false, Option, None, Some, is_none, Ok, Err, Result, sym, ap, subst, ◌∙◌, arith}
 use Rattle.std.proofs.lemmas.Bool.{and_parts, leb-true, eqb-true}
 use Rattle.sqlite_trees.specs.declared.error.StoreError.{StoreError}
 use Rattle.sqlite_trees.specs.declared.error.StoreError.TheVariants.{OutOfMemory, Io, Corrupt, Full, Broken, Unstorable}
@@ -31,10 +31,10 @@ use Rattle.goo_columns.specs.Refused.{IsFault, FailsByFault, is_whole, is_suited
 -- the store failed
 fault_of : (old new : State) (e : Error) → Fails old new ⊥ e → IsFault old new e
 fault_of old new e (OutOfMemory, is, cause, undone, told) = inl is
-fault_of old new e (Io, is, cause, undone, told) = inr (inl cause)
-fault_of old new e (Corrupt, is, cause, undone, told) = inr (inl cause)
-fault_of old new e (Full, is, cause, undone, told) = inr (inl cause)
-fault_of old new e (Broken, is, cause, undone, told) = inr (inr cause)
+fault_of old new e (Io, is, cause, undone, told) = inr (rw is refl, inl cause)
+fault_of old new e (Corrupt, is, cause, undone, told) = inr (rw is refl, inl cause)
+fault_of old new e (Full, is, cause, undone, told) = inr (rw is refl, inl cause)
+fault_of old new e (Broken, is, cause, undone, told) = inr (rw is refl, inr cause)
 fault_of old new e (Unstorable, is, cause, undone, told) = absurd cause
 
 no_group : (g : Option Grouping) (q : Query) (db : Trees) (params : Row) → is_none g ≡ true → ¬ Overflows g (matches db q.filter q.from (params ∷ []))

@@ -1,5 +1,5 @@
 -- Which errors a statement may answer.
-use Rattle.std.specs.Prelude.{[], ◌≡◌, ◌⊎◌, false, Bool, ◌&&◌, nat_le, nat_eq, is_none, None, Ok, Err, ℕ, List, length, Result, IfErr, IsTrue}
+use Rattle.std.specs.Prelude.{[], ◌≡◌, ◌⊎◌, true, false, Bool, ◌&&◌, nat_le, nat_eq, is_none, None, Ok, Err, ℕ, List, length, Result, IfErr, IsTrue}
 use Rattle.sqlite_disk.specs.Disk.{MoreFaults}
 use Rattle.sqlite.specs.Order.{Row}
 use Rattle.sqlite.specs.Query.{Query, has_no_fold}
@@ -9,7 +9,7 @@ use Rattle.sqlite_resolve.specs.declared.error.CompileError.{CompileError}
 use Rattle.sqlite_typing.specs.Types.{accepts_over}
 use Rattle.sqlite.specs.Listing.{understood}
 use Rattle.sqlite.specs.State.{State, HasCleanDisk}
-use Rattle.sqlite.specs.declared.error.ErrorCode.TheVariants.{OutOfMemory}
+use Rattle.sqlite.specs.declared.error.ErrorCode.TheVariants.{OutOfMemory, SystemIoFailure, DatabaseCorrupt, DiskFull, Closed}
 use Rattle.sqlite.specs.declared.error.Error.{Error}
 use Rattle.sqlite.specs.declared.error.Error.TheVariants.{SqliteFailure}
 use Rattle.goo_columns.specs.Columns.{registry_schema}
@@ -17,9 +17,17 @@ use Rattle.goo_columns.specs.Readable.{is_read_error}
 use Rattle.goo_columns.specs.Rows.{Tables}
 use Rattle.goo_columns.specs.Stands.{Stands}
 
--- memory failed, or the disk did in this call, or the connection was shut by an earlier failure
+-- an error that a store tells of its disk
+abbrev pub is_store_error : Error → Bool
+is_store_error (SqliteFailure SystemIoFailure) = true
+is_store_error (SqliteFailure DatabaseCorrupt) = true
+is_store_error (SqliteFailure DiskFull) = true
+is_store_error (SqliteFailure Closed) = true
+is_store_error _ = false
+
+-- memory failed, or the store told that the disk did in this call, or that an earlier failure shut the connection
 abbrev pub IsFault : State → State → Error → Type 0
-IsFault old new e = (e ≡ SqliteFailure OutOfMemory) ⊎ (MoreFaults old.faults new.faults ⊎ (old.is_open ≡ false))
+IsFault old new e = (e ≡ SqliteFailure OutOfMemory) ⊎ (IsTrue (is_store_error e) × (MoreFaults old.faults new.faults ⊎ (old.is_open ≡ false)))
 
 -- A look-up on our tables fails for such a fault, or since it showed a row that can't be read: never for its text, its values
 -- or a table that is missing. A limit on steps would add its own error.

@@ -53,8 +53,8 @@ module _ {T U : Type 0} (a b c : State) (x : T) (r : Result U Error) (First : Da
 
   worse : (e : Error) → a.faults ≤ b.faults → IsTrue b.is_open → IsFault b c e → IsFault a c e
   worse e up live (inl memory) = inl memory
-  worse e up live (inr (inl more)) = inr (inl (omega (arith, up, more)))
-  worse e up live (inr (inr shut)) = absurd (true≢false (sym live ∙ shut))
+  worse e up live (inr (told, inl more)) = inr (told, inl (omega (arith, up, more)))
+  worse e up live (inr (told, inr shut)) = absurd (true≢false (sym live ∙ shut))
 
   worse_all : (q : Result U Error) → a.faults ≤ b.faults → IsTrue b.is_open → IfErr q (IsFault b c) → IfErr q (IsFault a c)
   worse_all (Ok y) up live h = tt
