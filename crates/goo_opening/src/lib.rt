@@ -1,5 +1,7 @@
-//! Opening the tables of a registry: reading them whole, and judging whether they keep the rules.
+//! Opening the tables of a registry: finding them, and reading them whole.
 #![tactic(auto)]
 
+pub mod fault;
+pub mod finding;
 pub mod reading;
 pub mod rows;
