@@ -2,6 +2,7 @@
 #![tactic(auto)]
 
 pub mod apart;
+pub mod keys;
 pub mod lists;
 pub mod notices;
 mod numbers;
