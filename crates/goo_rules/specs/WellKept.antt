@@ -1,9 +1,12 @@
 -- The rules that the tables of a registry keep, one by one.
 use Rattle.std.specs.Prelude.{ℕ, ◌==◌, ◌&&◌, ◌||◌, not, Bool, true, false, nat_le, nat_lt, List, [], ◌∷◌, Option, Some, None}
 use Rattle.std.specs.Str.{bytes_eq}
+use Rattle.std.specs.List.{list_any}
 use Rattle.goo_types.specs.Number.{code_of, serial_of}
+use Rattle.std.specs.Ordering.{nat_cmp, eq_by_cmp}
+use Rattle.goo_spec.specs.State.{text_cmp}
 use Rattle.goo_spec.specs.Checks.{issuer}
-use Rattle.goo_columns.specs.Rows.{Kept, Holder, Account, Declaration, Cancellation, Withdrawal, NoticeOut}
+use Rattle.goo_columns.specs.Rows.{Holder, Account, Device, Declaration, Cancellation, Withdrawal, NoticeOut}
 use Rattle.goo_columns.specs.declared.peer.PeerRow.{PeerRow}
 use Rattle.goo_columns.specs.declared.piece.PieceRow.{PieceRow}
 
@@ -41,3 +44,23 @@ abbrev pub are_apart : Option ℕ → List PieceRow → Bool
 are_apart before [] = true
 are_apart None (p ∷ ps) = are_apart (Some p.last) ps
 are_apart (Some last) (p ∷ ps) = nat_lt last p.first && are_apart (Some p.last) ps
+
+-- ---- names that have to be there
+
+abbrev pub has_holder : List Holder → List ℕ → Bool
+has_holder holders code = list_any (λ h. eq_by_cmp text_cmp code h.code) holders
+
+abbrev pub has_account : List Account → ℕ → Bool
+has_account accounts number = list_any (λ a. eq_by_cmp nat_cmp number a.number) accounts
+
+abbrev pub has_device : List Device → List ℕ → Bool
+has_device devices gsrn = list_any (λ d. eq_by_cmp text_cmp gsrn d.gsrn) devices
+
+abbrev pub has_cancellation : List Cancellation → ℕ → Bool
+has_cancellation acts number = list_any (λ c. eq_by_cmp nat_cmp number c.number) acts
+
+abbrev pub has_withdrawal : List Withdrawal → ℕ → Bool
+has_withdrawal acts number = list_any (λ w. eq_by_cmp nat_cmp number w.number) acts
+
+abbrev pub has_sent : List NoticeOut → ℕ → Bool
+has_sent notices number = list_any (λ n. eq_by_cmp nat_cmp number n.number) notices

@@ -4,6 +4,7 @@
 pub mod apart;
 pub mod keys;
 pub mod lists;
+pub mod named;
 pub mod notices;
 mod numbers;
 pub mod receipts;
