@@ -5,6 +5,7 @@ pub mod apart;
 pub mod keys;
 pub mod lists;
 pub mod named;
+pub mod named_texts;
 pub mod notices;
 mod numbers;
 pub mod receipts;
