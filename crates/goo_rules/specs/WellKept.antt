@@ -1,5 +1,8 @@
 -- The rules that the tables of a registry keep, one by one.
-use Rattle.std.specs.Prelude.{ℕ, ◌==◌, ◌&&◌, ◌||◌, not, Bool, true, false, nat_le, nat_lt, List, [], ◌∷◌, Option, Some, None}
+use Rattle.std.specs.Prelude.{String}
+use Rattle.std.specs.declared.alloc.Global.{Global}
+use Rattle.std.specs.BTreeSet.{BTreeSet}
+use Rattle.std.specs.Prelude.{string_bytes, if◌then◌else◌, ℕ, ◌==◌, ◌&&◌, ◌||◌, not, Bool, true, false, nat_le, nat_lt, List, [], ◌∷◌, Option, Some, None}
 use Rattle.std.specs.Str.{bytes_eq}
 use Rattle.std.specs.List.{list_any}
 use Rattle.goo_types.specs.Number.{code_of, serial_of}
@@ -64,3 +67,14 @@ has_withdrawal acts number = list_any (λ w. eq_by_cmp nat_cmp number w.number) 
 
 abbrev pub has_sent : List NoticeOut → ℕ → Bool
 has_sent notices number = list_any (λ n. eq_by_cmp nat_cmp number n.number) notices
+
+-- the act that a piece names, if it names one: 2 a cancellation, 4 a withdrawal, 5 a notice that was sent
+abbrev pub act_in : (ℕ → Bool) → (ℕ → Bool) → (ℕ → Bool) → PieceRow → Bool
+act_in is_cancellation is_withdrawal is_sent p =
+    if p.kind == 2 then is_cancellation p.act
+    else (if p.kind == 4 then is_withdrawal p.act
+    else (if p.kind == 5 then is_sent p.act else true))
+
+-- whether a set of texts has one
+abbrev pub has_text : BTreeSet (String Global) → List ℕ → Bool
+has_text set text = list_any (λ k. eq_by_cmp text_cmp text (string_bytes k)) set.keys

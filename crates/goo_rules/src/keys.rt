@@ -24,7 +24,7 @@ pub fn keys_of<K: Ord + Copy + Drop>(alloc: Global, keys: &[K]) -> Result<BTreeS
 }
 
 /// Whether a key is one of a set.
-pub fn has<K: Ord + Copy + Drop>(set: &BTreeSet<K>, key: &K) -> bool
+pub fn has<K: Ord + Drop>(set: &BTreeSet<K>, key: &K) -> bool
     ensures { result ≡ contains K.cmp set.now key.now }
 {
     set.contains(key)

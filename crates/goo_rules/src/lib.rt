@@ -10,4 +10,5 @@ pub mod notices;
 mod numbers;
 pub mod receipts;
 mod texts;
+pub mod there;
 pub mod values;

@@ -1,7 +1,8 @@
 //! What rows name by a text: the sets of what is there.
 
-ghost use Rattle.std.specs.Prelude.{◌≡◌, ℕ, List, map, IfOk};
-ghost use Rattle.std.specs.Borrow.{Bor};
+ghost use Rattle.std.specs.Prelude.{◌≡◌, map, string_bytes, IfOk};
+ghost use Rattle.std.specs.Prelude.{String as Text};
+ghost use Rattle.std.specs.declared.alloc.Global.{Global as Memory};
 ghost use Rattle.std.specs.BTreeSet.{contains};
 ghost use Rattle.goo_spec.specs.State.{text_cmp};
 ghost use Rattle.goo_columns.specs.Rows.{holder_in, device_in};
@@ -17,12 +18,12 @@ use std::collections::BTreeSet;
 /// # Errors
 ///
 /// Where an allocation is refused.
-pub fn holder_codes<'a>(alloc: Global, rows: &'a [HolderRow]) -> Result<BTreeSet<&'a str>, AllocError>
-    ensures { IfOk result (λ set. (text : Bor (List ℕ)) → contains (λ a b. text_cmp a.now b.now) set text ≡ has_holder (map holder_in rows.now) text.now) }
+pub fn holder_codes(alloc: Global, rows: &[HolderRow]) -> Result<BTreeSet<String>, AllocError>
+    ensures { IfOk result (λ set. (text : Text Memory) → contains (λ a b. text_cmp (string_bytes a) (string_bytes b)) set text ≡ has_holder (map holder_in rows.now) (string_bytes text)) }
 {
     let mut set = BTreeSet::new(alloc);
     for row in rows {
-        set.insert(row.code.as_str())?;
+        set.insert(row.code.clone()?)?;
     }
     Ok(set)
 }
@@ -32,12 +33,12 @@ pub fn holder_codes<'a>(alloc: Global, rows: &'a [HolderRow]) -> Result<BTreeSet
 /// # Errors
 ///
 /// Where an allocation is refused.
-pub fn device_gsrns<'a>(alloc: Global, rows: &'a [DeviceRow]) -> Result<BTreeSet<&'a str>, AllocError>
-    ensures { IfOk result (λ set. (text : Bor (List ℕ)) → contains (λ a b. text_cmp a.now b.now) set text ≡ has_device (map device_in rows.now) text.now) }
+pub fn device_gsrns(alloc: Global, rows: &[DeviceRow]) -> Result<BTreeSet<String>, AllocError>
+    ensures { IfOk result (λ set. (text : Text Memory) → contains (λ a b. text_cmp (string_bytes a) (string_bytes b)) set text ≡ has_device (map device_in rows.now) (string_bytes text)) }
 {
     let mut set = BTreeSet::new(alloc);
     for row in rows {
-        set.insert(row.gsrn.as_str())?;
+        set.insert(row.gsrn.clone()?)?;
     }
     Ok(set)
 }
