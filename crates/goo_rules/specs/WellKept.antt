@@ -6,10 +6,10 @@ use Rattle.std.specs.Prelude.{string_bytes, if◌then◌else◌, ℕ, ◌==◌, 
 use Rattle.std.specs.Str.{bytes_eq}
 use Rattle.std.specs.List.{list_any}
 use Rattle.goo_types.specs.Number.{code_of, serial_of}
-use Rattle.std.specs.Ordering.{nat_cmp, eq_by_cmp}
+use Rattle.std.specs.Ordering.{nat_cmp, eq_by_cmp, is_lt}
 use Rattle.goo_spec.specs.State.{text_cmp}
 use Rattle.goo_spec.specs.Checks.{issuer}
-use Rattle.goo_columns.specs.Rows.{Holder, Account, Device, Declaration, Cancellation, Withdrawal, NoticeOut}
+use Rattle.goo_columns.specs.Rows.{Holder, Account, Lot, Device, Declaration, Cancellation, Withdrawal, NoticeOut}
 use Rattle.goo_columns.specs.declared.peer.PeerRow.{PeerRow}
 use Rattle.goo_columns.specs.declared.piece.PieceRow.{PieceRow}
 
@@ -78,3 +78,29 @@ act_in is_cancellation is_withdrawal is_sent p =
 -- whether a set of texts has one
 abbrev pub has_text : BTreeSet (String Global) → List ℕ → Bool
 has_text set text = list_any (λ k. eq_by_cmp text_cmp text (string_bytes k)) set.keys
+
+-- ---- what the lots and accounts of pieces allow
+
+abbrev pub has_closed : List Account → ℕ → Bool
+has_closed accounts number = list_any (λ a. (a.closed == 1) && eq_by_cmp nat_cmp number a.number) accounts
+
+-- the lot's certificates that are still held have expired before this day
+abbrev pub is_over_at : List ℕ → Option (List ℕ) → Bool
+is_over_at today None = false
+is_over_at today (Some expires_on) = is_lt (text_cmp expires_on today)
+
+abbrev pub has_over : List ℕ → List Lot → ℕ → Bool
+has_over today lots id = list_any (λ l. is_over_at today l.expires_on && eq_by_cmp nat_cmp id l.id) lots
+
+abbrev pub has_lot : List Lot → ℕ → Bool
+has_lot lots id = list_any (λ l. eq_by_cmp nat_cmp id l.id) lots
+
+-- a lot with this number, of this origin
+abbrev pub has_lot_of : ℕ → List Lot → ℕ → Bool
+has_lot_of origin lots id = list_any (λ l. (l.origin == origin) && eq_by_cmp nat_cmp id l.id) lots
+
+-- a held piece is of a lot that isn't over, in an account that isn't closed; an expired one of a lot that is over
+abbrev pub is_timely : (ℕ → Bool) → (ℕ → Bool) → PieceRow → Bool
+is_timely is_over is_closed p =
+    if p.kind == 1 then not (is_over p.lot) && not (is_closed p.account)
+    else (if p.kind == 3 then is_over p.lot else true)

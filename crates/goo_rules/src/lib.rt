@@ -4,6 +4,7 @@
 pub mod apart;
 pub mod keys;
 pub mod lists;
+pub mod marked;
 pub mod named;
 pub mod named_texts;
 pub mod notices;

@@ -4,7 +4,7 @@ ghost use Rattle.std.specs.Prelude.{◌≡◌, ◌==◌, ◌||◌, string_bytes,
 ghost use Rattle.std.specs.List.{list_all};
 ghost use Rattle.std.specs.Ordering.{nat_cmp};
 ghost use Rattle.std.specs.BTreeSet.{contains};
-ghost use Rattle.goo_rules.specs.WellKept.{has_text, act_in};
+ghost use Rattle.goo_rules.specs.WellKept.{has_text, act_in, is_timely};
 
 use crate::keys::has;
 use goo_columns::account::AccountRow;
@@ -82,4 +82,29 @@ pub fn pieces_have_acts(rows: &[PieceRow], acts: &ActNumbers) -> bool
     ensures { result ≡ list_all (act_in (contains nat_cmp acts.now.cancellations) (contains nat_cmp acts.now.withdrawals) (contains nat_cmp acts.now.sent)) rows.now }
 {
     rows.iter().all(|row| has_act(row, acts))
+}
+
+/// Whether each piece's lot is one of these.
+pub fn pieces_have_lots(rows: &[PieceRow], lots: &BTreeSet<u64>) -> bool
+    ensures { result ≡ list_all (λ row. contains nat_cmp lots.now row.lot) rows.now }
+{
+    rows.iter().all(|row| has(lots, &row.lot))
+}
+
+/// Whether a piece may be in its place today.
+fn is_in_time(row: &PieceRow, over: &BTreeSet<u64>, closed: &BTreeSet<u32>) -> bool
+    ensures { result ≡ is_timely (contains nat_cmp over.now) (contains nat_cmp closed.now) row.now }
+{
+    match row.kind {
+        1 => !has(over, &row.lot) && !has(closed, &row.account),
+        3 => has(over, &row.lot),
+        _ => true,
+    }
+}
+
+/// Whether each piece may be in its place today: `over` has the lots that are over, `closed` the accounts that are closed.
+pub fn pieces_are_in_time(rows: &[PieceRow], over: &BTreeSet<u64>, closed: &BTreeSet<u32>) -> bool
+    ensures { result ≡ list_all (is_timely (contains nat_cmp over.now) (contains nat_cmp closed.now)) rows.now }
+{
+    rows.iter().all(|row| is_in_time(row, over, closed))
 }
