@@ -3,10 +3,11 @@ use Rattle.std.specs.Prelude.{String}
 use Rattle.std.specs.declared.alloc.Global.{Global}
 use Rattle.std.specs.BTreeSet.{BTreeSet}
 use Rattle.std.specs.Prelude.{string_bytes, if◌then◌else◌, ℕ, ◌==◌, ◌&&◌, ◌||◌, not, Bool, true, false, nat_le, nat_lt, List, [], ◌∷◌, Option, Some, None}
+use Rattle.std.specs.declared.cmp.Ordering.{Ordering}
 use Rattle.std.specs.Str.{bytes_eq}
 use Rattle.std.specs.List.{list_any}
 use Rattle.goo_types.specs.Number.{code_of, serial_of}
-use Rattle.std.specs.Ordering.{nat_cmp, eq_by_cmp, is_lt}
+use Rattle.std.specs.Ordering.{nat_cmp, eq_by_cmp, is_lt, ordering_then}
 use Rattle.goo_spec.specs.State.{text_cmp}
 use Rattle.goo_spec.specs.Checks.{issuer}
 use Rattle.goo_columns.specs.Rows.{Holder, Account, Lot, Device, Declaration, Cancellation, Withdrawal, NoticeOut}
@@ -95,12 +96,20 @@ has_over today lots id = list_any (λ l. is_over_at today l.expires_on && eq_by_
 abbrev pub has_lot : List Lot → ℕ → Bool
 has_lot lots id = list_any (λ l. eq_by_cmp nat_cmp id l.id) lots
 
+-- pairs of numbers, by the first and then by the second
+abbrev pub pair_cmp : ℕ × ℕ → ℕ × ℕ → Ordering
+pair_cmp a b = ordering_then (nat_cmp a.0 b.0) (nat_cmp a.1 b.1)
+
 -- a lot with this number, of this origin
 abbrev pub has_lot_of : ℕ → List Lot → ℕ → Bool
-has_lot_of origin lots id = list_any (λ l. (l.origin == origin) && eq_by_cmp nat_cmp id l.id) lots
+has_lot_of origin lots id = list_any (λ l. eq_by_cmp pair_cmp (id, origin) (l.id, l.origin)) lots
 
 -- a held piece is of a lot that isn't over, in an account that isn't closed; an expired one of a lot that is over
 abbrev pub is_timely : (ℕ → Bool) → (ℕ → Bool) → PieceRow → Bool
 is_timely is_over is_closed p =
     if p.kind == 1 then not (is_over p.lot) && not (is_closed p.account)
     else (if p.kind == 3 then is_over p.lot else true)
+
+-- the code of a piece's certificates is the origin of its lot
+abbrev pub is_of_origin : List Lot → PieceRow → Bool
+is_of_origin lots p = has_lot_of (code_of p.first) lots p.lot

@@ -3,8 +3,9 @@
 ghost use Rattle.std.specs.Prelude.{◌≡◌, ◌==◌, ◌||◌, string_bytes, if◌then◌else◌};
 ghost use Rattle.std.specs.List.{list_all};
 ghost use Rattle.std.specs.Ordering.{nat_cmp};
+ghost use Rattle.goo_types.specs.Number.{code_of};
 ghost use Rattle.std.specs.BTreeSet.{contains};
-ghost use Rattle.goo_rules.specs.WellKept.{has_text, act_in, is_timely};
+ghost use Rattle.goo_rules.specs.WellKept.{has_text, act_in, is_timely, pair_cmp};
 
 use crate::keys::has;
 use goo_columns::account::AccountRow;
@@ -107,4 +108,12 @@ pub fn pieces_are_in_time(rows: &[PieceRow], over: &BTreeSet<u64>, closed: &BTre
     ensures { result ≡ list_all (is_timely (contains nat_cmp over.now) (contains nat_cmp closed.now)) rows.now }
 {
     rows.iter().all(|row| is_in_time(row, over, closed))
+}
+
+/// Whether each piece's certificates have the code of their lot's origin: `lots` has the lots, each with its origin.
+pub fn pieces_are_of_origins(rows: &[PieceRow], lots: &BTreeSet<(u64, u64)>) -> bool
+    ensures { result ≡ list_all (λ row. contains pair_cmp lots.now (row.lot, code_of row.first)) rows.now }
+{
+    rows.iter()
+        .all(|row| has(lots, &(row.lot, row.first / 1_000_000_000_000)))
 }
