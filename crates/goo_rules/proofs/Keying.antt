@@ -7,7 +7,7 @@ use Rattle.std.specs.Cmp.{IsTotalOrder, eq_by_cmp_equiv, then_total, on_total, n
 use Rattle.std.specs.declared.cmp.Ordering.{Ordering}
 use Rattle.std.specs.Cmp.Lexicographic.{nat_list_cmp_total}
 use Rattle.goo_spec.specs.State.{text_cmp}
-use Rattle.goo_rules.specs.WellKept.{pair_cmp}
+use Rattle.goo_rules.specs.WellKept.{pair_cmp, text_pair_cmp}
 
 later : (x c r : Bool) → x || cond c true r ≡ cond c true (x || r)
 later true true r = refl
@@ -41,3 +41,6 @@ text_noted = key_noted nat_list_cmp_total
 
 pub pair_total : IsTotalOrder pair_cmp
 pair_total = then_total (on_total (λ (p : ℕ × ℕ). p.0) nat_cmp_total) (on_total (λ (p : ℕ × ℕ). p.1) nat_cmp_total)
+
+pub text_pair_total : IsTotalOrder text_pair_cmp
+text_pair_total = then_total (on_total (λ (p : List ℕ × List ℕ). p.0) nat_list_cmp_total) (on_total (λ (p : List ℕ × List ℕ). p.1) nat_list_cmp_total)

@@ -113,3 +113,23 @@ is_timely is_over is_closed p =
 -- the code of a piece's certificates is the origin of its lot
 abbrev pub is_of_origin : List Lot → PieceRow → Bool
 is_of_origin lots p = has_lot_of (code_of p.first) lots p.lot
+
+-- ---- lots of the registry itself
+
+-- pairs of texts, by the first and then by the second
+abbrev pub text_pair_cmp : List ℕ × List ℕ → List ℕ × List ℕ → Ordering
+text_pair_cmp a b = ordering_then (text_cmp a.0 b.0) (text_cmp a.1 b.1)
+
+-- a declaration of the device with this first day
+abbrev pub has_declaration : List Declaration → List ℕ → List ℕ → Bool
+has_declaration declarations device first_day = list_any (λ d. eq_by_cmp text_pair_cmp (device, first_day) (d.device, d.first_day)) declarations
+
+abbrev pub bytes_pair : String Global × String Global → List ℕ × List ℕ
+bytes_pair p = (string_bytes p.0, string_bytes p.1)
+
+abbrev pub has_pair : BTreeSet (String Global × String Global) → List ℕ → List ℕ → Bool
+has_pair set a b = list_any (λ k. eq_by_cmp text_pair_cmp (a, b) (bytes_pair k)) set.keys
+
+-- an own lot was declared
+abbrev pub is_declared : (List ℕ → List ℕ → Bool) → ℕ → Lot → Bool
+is_declared has own l = not (l.origin == own) || has l.device l.first_day

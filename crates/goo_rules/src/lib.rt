@@ -2,6 +2,7 @@
 #![tactic(auto)]
 
 pub mod apart;
+pub mod declared;
 pub mod keys;
 pub mod lists;
 pub mod marked;
