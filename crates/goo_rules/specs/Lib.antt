@@ -1,1 +1,2 @@
 pub mod WellKept
+pub mod Lots

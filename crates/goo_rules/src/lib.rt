@@ -5,6 +5,7 @@ pub mod apart;
 pub mod declared;
 pub mod keys;
 pub mod lists;
+pub mod lots;
 pub mod marked;
 pub mod named;
 pub mod named_texts;
