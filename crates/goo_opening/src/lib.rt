@@ -5,3 +5,5 @@ pub mod fault;
 pub mod finding;
 pub mod reading;
 pub mod rows;
+#[cfg(test)]
+mod tests;
