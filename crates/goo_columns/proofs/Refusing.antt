@@ -1,7 +1,6 @@
 -- Which errors a look-up may answer, for any text that reads one table or more.
-use Rattle.std.proofs.Common.{◌≡◌, ◌≤◌, ◌⊎◌, All, append-nil, refl, inl, inr, IsTrue, IfErr, ℕ, Bool, List, [], ◌∷◌, length, true, false, Option, None, Some, is_none, Ok, Err, Result, sym, ap, subst, ◌∙◌, arith}
+use Rattle.std.proofs.Common.{◌≡◌, ◌≤◌, ◌⊎◌, All, append-nil, refl, inl, inr, IsTrue, IfErr, ℕ, List, [], ◌∷◌, length, true, false, Option, None, Some, is_none, Ok, Err, Result, sym, ap, subst, ◌∙◌}
 use Rattle.std.proofs.lemmas.Bool.{and_parts, leb-true, eqb-true}
-use Rattle.sqlite_trees.specs.declared.error.StoreError.{StoreError}
 use Rattle.sqlite_trees.specs.declared.error.StoreError.TheVariants.{OutOfMemory, Io, Corrupt, Full, Broken, Unstorable}
 use Rattle.sqlite.specs.Order.{Row}
 use Rattle.sqlite.specs.Query.{Query, IsAnswer, has_no_fold}
@@ -12,7 +11,7 @@ use Rattle.sqlite.specs.Command.TheVariants.{Select}
 use Rattle.sqlite.specs.Tree.{Trees}
 use Rattle.sqlite.specs.Listing.{understood, reads_listing, IsSourceOf}
 use Rattle.sqlite.specs.Effect.{Database, RefusesToRead}
-use Rattle.sqlite.specs.State.{State, HasCleanDisk, FailsToQuery, FailsToShow, IsNotRun, IsNoStatement, Fails}
+use Rattle.sqlite.specs.State.{State, FailsToQuery, IsNotRun, IsNoStatement, Fails}
 use Rattle.sqlite.specs.declared.error.Error.{Error}
 use Rattle.sqlite_resolve.specs.declared.compiled.Compiled.{Compiled}
 use Rattle.sqlite_resolve.specs.declared.error.CompileError.{CompileError}
@@ -26,7 +25,7 @@ use Rattle.goo_columns.specs.Columns.{registry_schema}
 use Rattle.goo_columns.specs.Asked.{FailsToAsk}
 use Rattle.goo_columns.proofs.Reading.{answers}
 use Rattle.goo_columns.specs.Readable.{is_read_error}
-use Rattle.goo_columns.specs.Refused.{IsFault, FailsByFault, is_whole, is_suited}
+use Rattle.goo_columns.specs.Refused.{IsFault, is_whole, is_suited}
 
 -- the store failed
 fault_of : (old new : State) (e : Error) → Fails old new ⊥ e → IsFault old new e

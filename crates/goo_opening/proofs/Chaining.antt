@@ -1,5 +1,5 @@
 -- Calls that only read, one after another.
-use Rattle.std.proofs.Common.{◌≡◌, ◌≤◌, inl, inr, ℕ, true, false, None, Ok, Err, Result, IfOk, IfErr, IsTrue, sym, subst, ◌∙◌, arith, true≢false}
+use Rattle.std.proofs.Common.{◌≡◌, ◌≤◌, inl, inr, Ok, Err, Result, IfOk, IfErr, IsTrue, sym, subst, ◌∙◌, arith, true≢false}
 use Rattle.sqlite.specs.State.{State, HasCleanDisk, Survives}
 use Rattle.sqlite.specs.Tree.{Trees}
 use Rattle.sqlite.specs.Effect.{Database}

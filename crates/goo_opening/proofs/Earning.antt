@@ -1,5 +1,5 @@
 -- From the rows that were read to the tables that hold them.
-use Rattle.std.proofs.Common.{◌≡◌, ◌⊎◌, inl, inr, map, Ok, Err, IsTrue, refl, sym}
+use Rattle.std.proofs.Common.{◌≡◌, inl, inr, map, Ok, Err, IsTrue, refl, sym}
 use Rattle.sqlite.specs.State.{State}
 use Rattle.sqlite.specs.Effect.{Database}
 use Rattle.sqlite.specs.declared.error.Error.{Error}
@@ -15,7 +15,6 @@ use Rattle.goo_opening.specs.Found.{Finds, ShowsMeta, ShowsTables, IsOutside}
 use Rattle.goo_opening.specs.declared.rows.AllRows.{AllRows}
 use Rattle.goo_opening.specs.declared.fault.OpenFault.{OpenFault}
 use Rattle.goo_opening.specs.declared.fault.OpenFault.TheVariants.{Store, Memory}
-use Rattle.goo_opening.specs.declared.finding.Found.{Found}
 use Rattle.goo_opening.proofs.Chaining.{reads_then}
 
 abbrev tables : (m : MetaRow) (db : Database) (x : AllRows) → ShowsAll db x → Tables

@@ -62,9 +62,21 @@ fn an_empty_database_is_no_registry(rt: HostRuntime) -> Result<(), Fail> {
 fn the_words_for_tables(rt: HostRuntime) -> Result<(), Fail> {
     let alloc = rt.alloc();
     assert_eq!(rt; found(alloc, 1, "")?, Ok(7));
-    assert_eq!(rt; found(alloc, 1, "DELETE FROM meta")?, Err(OpenFault::NotARegistry));
-    assert_eq!(rt; found(alloc, 9, "DROP TABLE piece")?, Err(OpenFault::Version(9)));
-    assert_eq!(rt; found(alloc, 1, "DROP TABLE piece")?, Err(OpenFault::Damaged));
-    assert_eq!(rt; found(alloc, 1, "INSERT INTO peer VALUES (-9)")?, Err(OpenFault::Damaged));
+    assert_eq!(rt;
+        found(alloc, 1, "DELETE FROM meta")?,
+        Err(OpenFault::NotARegistry)
+    );
+    assert_eq!(rt;
+        found(alloc, 9, "DROP TABLE piece")?,
+        Err(OpenFault::Version(9))
+    );
+    assert_eq!(rt;
+        found(alloc, 1, "DROP TABLE piece")?,
+        Err(OpenFault::Damaged)
+    );
+    assert_eq!(rt;
+        found(alloc, 1, "INSERT INTO peer VALUES (-9)")?,
+        Err(OpenFault::Damaged)
+    );
     Ok(())
 }

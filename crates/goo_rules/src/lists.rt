@@ -97,7 +97,8 @@ pub fn accepts_withdrawals(rows: &[WithdrawalRow]) -> bool
 pub fn have_no_issuer(rows: &[HolderRow]) -> bool
     ensures { result ≡ list_all (λ row. is_no_issuer (holder_in row)) rows.now }
 {
-    rows.iter().all(|row| row.code.as_bytes() != b"ISSUER".as_slice())
+    rows.iter()
+        .all(|row| row.code.as_bytes() != b"ISSUER".as_slice())
 }
 
 /// Whether no peer is the registry itself.
@@ -146,6 +147,6 @@ pub fn are_given_notices(next: u32, rows: &[NoticeOutRow]) -> bool
 pub fn are_issued(own: u32, next: u64, rows: &[PieceRow]) -> bool
     ensures { result ≡ list_all (is_issued own next) rows.now }
 {
-    rows.iter()
-        .all(|row| row.last / 1_000_000_000_000 != u64::from(own) || row.last % 1_000_000_000_000 < next)
+    rows.iter().all(|row| row.last / 1_000_000_000_000 != u64::from(own)
+        || row.last % 1_000_000_000_000 < next)
 }

@@ -33,7 +33,10 @@ pub fn account_numbers(alloc: Global, rows: &[AccountRow]) -> Result<BTreeSet<u3
 /// # Errors
 ///
 /// Where an allocation is refused.
-pub fn cancellation_numbers(alloc: Global, rows: &[CancellationRow]) -> Result<BTreeSet<u32>, AllocError>
+pub fn cancellation_numbers(
+    alloc: Global,
+    rows: &[CancellationRow],
+) -> Result<BTreeSet<u32>, AllocError>
     ensures { IfOk result (λ set. (n : ℕ) → contains nat_cmp set n ≡ has_cancellation (map cancellation_in rows.now) n) }
 {
     let mut set = BTreeSet::new(alloc);
@@ -48,7 +51,10 @@ pub fn cancellation_numbers(alloc: Global, rows: &[CancellationRow]) -> Result<B
 /// # Errors
 ///
 /// Where an allocation is refused.
-pub fn withdrawal_numbers(alloc: Global, rows: &[WithdrawalRow]) -> Result<BTreeSet<u32>, AllocError>
+pub fn withdrawal_numbers(
+    alloc: Global,
+    rows: &[WithdrawalRow],
+) -> Result<BTreeSet<u32>, AllocError>
     ensures { IfOk result (λ set. (n : ℕ) → contains nat_cmp set n ≡ has_withdrawal (map withdrawal_in rows.now) n) }
 {
     let mut set = BTreeSet::new(alloc);

@@ -33,7 +33,5 @@ fn accepts_reply(kind: u32, n1: u64, n2: u64, n3: u64) -> bool
 pub fn accepts_receipt(row: &ReceiptRow) -> bool
     ensures { result ≡ is_receipt (pos 0, receipt_in row.now) }
 {
-    is_code_text(&row.caller)
-        && is_key(&row.key)
-        && accepts_reply(row.kind, row.n1, row.n2, row.n3)
+    is_code_text(&row.caller) && is_key(&row.key) && accepts_reply(row.kind, row.n1, row.n2, row.n3)
 }

@@ -1,4 +1,4 @@
-use Rattle.std.proofs.Common.{rules, ◌≡◌, Err, Ok, sym, subst}
+use Rattle.std.proofs.Common.{rules, ◌≡◌, Err, sym, subst}
 use Rattle.sqlite.specs.Held.{state}
 use Rattle.goo_opening.specs.Reading.{OnlyReads}
 use Rattle.goo_opening.specs.Shown.{ShowsMembers, ShowsProduction, ShowsActs, ShowsNotices, ShowsAll}

@@ -1,5 +1,4 @@
 use Rattle.std.proofs.Common.{◌≡◌, ℕ, take, map}
-use Rattle.std.specs.Ordering.{nat_cmp}
 use Rattle.std.specs.BTreeSet.{contains}
 use Rattle.goo_columns.specs.Rows.{lot_in}
 use Rattle.goo_rules.specs.WellKept.{has_lot_of, pair_cmp}
