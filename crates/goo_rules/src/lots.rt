@@ -82,3 +82,4 @@ pub fn has_its_expiry(row: &LotRow) -> bool
         Err(_) => false,
     }
 }
+

@@ -1,6 +1,7 @@
 //! Notices, which are kept as their texts.
 
 ghost use Rattle.std.specs.Prelude.{◌≡◌, pos, IfOk};
+ghost use Rattle.std.specs.List.{list_all};
 ghost use Rattle.goo_notice.specs.NoticeText.{notice_in};
 ghost use Rattle.goo_columns.specs.Rows.{notice_out_in, notice_in_in};
 ghost use Rattle.goo_store.specs.Readable.{is_notice_of, is_notice_out, is_notice_in};
@@ -51,4 +52,40 @@ pub fn accepts_arrived(alloc: Global, row: &NoticeInRow) -> Result<bool, AllocEr
     ensures { IfOk result (λ yes. yes ≡ is_notice_in (pos 0, notice_in_in row.now)) }
 {
     is_of(alloc, row.sender, row.number, &row.body)
+}
+
+/// Whether each is a notice that the registry of this code sent.
+///
+/// # Errors
+///
+/// Where an allocation is refused.
+pub fn accepts_all_sent(
+    alloc: Global,
+    own: u32,
+    rows: &[NoticeOutRow],
+) -> Result<bool, AllocError>
+    ensures { IfOk result (λ yes. yes ≡ list_all (λ row. is_notice_out own (notice_out_in row)) rows.now) }
+{
+    for row in rows {
+        if !accepts_sent(alloc, own, row)? {
+            return Ok(false);
+        }
+    }
+    Ok(true)
+}
+
+/// Whether each is a notice that came in.
+///
+/// # Errors
+///
+/// Where an allocation is refused.
+pub fn accepts_all_arrived(alloc: Global, rows: &[NoticeInRow]) -> Result<bool, AllocError>
+    ensures { IfOk result (λ yes. yes ≡ list_all (λ row. is_notice_in (pos 0, notice_in_in row)) rows.now) }
+{
+    for row in rows {
+        if !accepts_arrived(alloc, row)? {
+            return Ok(false);
+        }
+    }
+    Ok(true)
 }
