@@ -12,6 +12,8 @@ pub mod named_texts;
 pub mod notices;
 mod numbers;
 pub mod receipts;
+#[cfg(test)]
+mod tests;
 mod texts;
 pub mod there;
 pub mod values;

@@ -82,4 +82,3 @@ pub fn has_its_expiry(row: &LotRow) -> bool
         Err(_) => false,
     }
 }
-

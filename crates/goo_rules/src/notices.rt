@@ -59,11 +59,7 @@ pub fn accepts_arrived(alloc: Global, row: &NoticeInRow) -> Result<bool, AllocEr
 /// # Errors
 ///
 /// Where an allocation is refused.
-pub fn accepts_all_sent(
-    alloc: Global,
-    own: u32,
-    rows: &[NoticeOutRow],
-) -> Result<bool, AllocError>
+pub fn accepts_all_sent(alloc: Global, own: u32, rows: &[NoticeOutRow]) -> Result<bool, AllocError>
     ensures { IfOk result (λ yes. yes ≡ list_all (λ row. is_notice_out own (notice_out_in row)) rows.now) }
 {
     for row in rows {
