@@ -8,6 +8,7 @@ pub mod lists;
 pub mod lots;
 pub mod marked;
 pub mod named;
+pub mod names;
 pub mod named_texts;
 pub mod notices;
 mod numbers;
