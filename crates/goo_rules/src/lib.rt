@@ -3,6 +3,7 @@
 
 pub mod apart;
 pub mod declared;
+pub mod keeping;
 pub mod keys;
 pub mod lists;
 pub mod lots;
