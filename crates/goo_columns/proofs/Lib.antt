@@ -4,6 +4,7 @@ pub mod Typed
 pub mod One
 pub mod Read
 pub mod Reading
+pub mod Refusing
 pub mod Inside
 pub mod Committed
 pub mod Decoded

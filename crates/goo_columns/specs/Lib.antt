@@ -1,8 +1,10 @@
 pub mod Columns
 pub mod Rows
 pub mod Reads
+pub mod Readable
 pub mod Stands
 pub mod Asked
 pub mod Beside
 pub mod Once
 pub mod Met
+pub mod Refused

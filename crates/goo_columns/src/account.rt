@@ -15,8 +15,11 @@ pub struct AccountRow {
 
 impl FromRow for AccountRow {
     ghost use Rattle.goo_columns.specs.Reads.{account_reads};
+    ghost use Rattle.goo_columns.specs.Readable.{account_readable};
 
     ghost reads = { account_reads };
+
+    ghost readable = { account_readable };
 
     fn from_row(_alloc: Global, row: &Row) -> Result<AccountRow, Error> {
         Ok(AccountRow {

@@ -25,8 +25,11 @@ pub struct CancellationRow {
 
 impl FromRow for CancellationRow {
     ghost use Rattle.goo_columns.specs.Reads.{cancellation_reads};
+    ghost use Rattle.goo_columns.specs.Readable.{cancellation_readable};
 
     ghost reads = { cancellation_reads };
+
+    ghost readable = { cancellation_readable };
 
     fn from_row(_alloc: Global, row: &Row) -> Result<CancellationRow, Error> {
         Ok(CancellationRow {

@@ -21,8 +21,11 @@ pub struct DeclarationRow {
 
 impl FromRow for DeclarationRow {
     ghost use Rattle.goo_columns.specs.Reads.{declaration_reads};
+    ghost use Rattle.goo_columns.specs.Readable.{declaration_readable};
 
     ghost reads = { declaration_reads };
+
+    ghost readable = { declaration_readable };
 
     fn from_row(_alloc: Global, row: &Row) -> Result<DeclarationRow, Error> {
         Ok(DeclarationRow {

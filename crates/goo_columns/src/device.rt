@@ -20,8 +20,11 @@ pub struct DeviceRow {
 
 impl FromRow for DeviceRow {
     ghost use Rattle.goo_columns.specs.Reads.{device_reads};
+    ghost use Rattle.goo_columns.specs.Readable.{device_readable};
 
     ghost reads = { device_reads };
+
+    ghost readable = { device_readable };
 
     fn from_row(_alloc: Global, row: &Row) -> Result<DeviceRow, Error> {
         Ok(DeviceRow {

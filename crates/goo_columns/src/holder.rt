@@ -13,8 +13,11 @@ pub struct HolderRow {
 
 impl FromRow for HolderRow {
     ghost use Rattle.goo_columns.specs.Reads.{holder_reads};
+    ghost use Rattle.goo_columns.specs.Readable.{holder_readable};
 
     ghost reads = { holder_reads };
+
+    ghost readable = { holder_readable };
 
     fn from_row(_alloc: Global, row: &Row) -> Result<HolderRow, Error> {
         Ok(HolderRow {

@@ -13,8 +13,11 @@ pub struct JoinedRow {
 
 impl FromRow for JoinedRow {
     ghost use Rattle.goo_columns.specs.Reads.{joined_reads};
+    ghost use Rattle.goo_columns.specs.Readable.{joined_readable};
 
     ghost reads = { joined_reads };
+
+    ghost readable = { joined_readable };
 
     fn from_row(alloc: Global, row: &Row) -> Result<JoinedRow, Error> {
         Ok(JoinedRow {

@@ -1,5 +1,6 @@
-ghost use Rattle.std.specs.Prelude.{◌≤◌, IfOk};
+ghost use Rattle.std.specs.Prelude.{◌≤◌, IfOk, IfErr};
 ghost use Rattle.goo_columns.specs.Reads.{lot_reads};
+ghost use Rattle.goo_columns.specs.Readable.{lot_readable, IsUnread};
 
 use crate::from_row::FromRow;
 use crate::plant::{PlantRow, plant_at};
@@ -30,7 +31,8 @@ pub struct LotRow {
 /// The columns of a row from a place on.
 pub fn lot_at(row: &Row, from: usize) -> Result<LotRow, Error>
     requires { from ≤ 50 }
-    ensures { IfOk result (lot_reads from row.now) }
+    ensures reads { IfOk result (lot_reads from row.now) }
+    ensures refused { IfErr result (IsUnread (lot_readable from row.now)) }
 {
     Ok(LotRow {
         id: row.get(from)?,
@@ -46,8 +48,11 @@ pub fn lot_at(row: &Row, from: usize) -> Result<LotRow, Error>
 
 impl FromRow for LotRow {
     ghost use Rattle.goo_columns.specs.Reads.{lot_reads};
+    ghost use Rattle.goo_columns.specs.Readable.{lot_readable};
 
     ghost reads = { lot_reads 0 };
+
+    ghost readable = { lot_readable 0 };
 
     fn from_row(_alloc: Global, row: &Row) -> Result<LotRow, Error> {
         lot_at(row, 0)

@@ -25,8 +25,11 @@ pub struct MetaRow {
 
 impl FromRow for MetaRow {
     ghost use Rattle.goo_columns.specs.Reads.{meta_reads};
+    ghost use Rattle.goo_columns.specs.Readable.{meta_readable};
 
     ghost reads = { meta_reads };
+
+    ghost readable = { meta_readable };
 
     fn from_row(_alloc: Global, row: &Row) -> Result<MetaRow, Error> {
         Ok(MetaRow {

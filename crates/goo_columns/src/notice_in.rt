@@ -16,8 +16,11 @@ pub struct NoticeInRow {
 
 impl FromRow for NoticeInRow {
     ghost use Rattle.goo_columns.specs.Reads.{notice_in_reads};
+    ghost use Rattle.goo_columns.specs.Readable.{notice_in_readable};
 
     ghost reads = { notice_in_reads };
+
+    ghost readable = { notice_in_readable };
 
     fn from_row(alloc: Global, row: &Row) -> Result<NoticeInRow, Error> {
         Ok(NoticeInRow {

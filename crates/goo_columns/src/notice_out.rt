@@ -16,8 +16,11 @@ pub struct NoticeOutRow {
 
 impl FromRow for NoticeOutRow {
     ghost use Rattle.goo_columns.specs.Reads.{notice_out_reads};
+    ghost use Rattle.goo_columns.specs.Readable.{notice_out_readable};
 
     ghost reads = { notice_out_reads };
+
+    ghost readable = { notice_out_readable };
 
     fn from_row(alloc: Global, row: &Row) -> Result<NoticeOutRow, Error> {
         Ok(NoticeOutRow {

@@ -14,8 +14,11 @@ pub struct NumberedMeta {
 
 impl FromRow for NumberedMeta {
     ghost use Rattle.goo_columns.specs.Reads.{numbered_meta_reads};
+    ghost use Rattle.goo_columns.specs.Readable.{numbered_meta_readable};
 
     ghost reads = { numbered_meta_reads };
+
+    ghost readable = { numbered_meta_readable };
 
     fn from_row(_alloc: Global, row: &Row) -> Result<NumberedMeta, Error> {
         Ok(NumberedMeta {

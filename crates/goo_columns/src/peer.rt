@@ -11,8 +11,11 @@ pub struct PeerRow {
 
 impl FromRow for PeerRow {
     ghost use Rattle.goo_columns.specs.Reads.{peer_reads};
+    ghost use Rattle.goo_columns.specs.Readable.{peer_readable};
 
     ghost reads = { peer_reads };
+
+    ghost readable = { peer_readable };
 
     fn from_row(_alloc: Global, row: &Row) -> Result<PeerRow, Error> {
         Ok(PeerRow { code: row.get(0)? })

@@ -21,8 +21,11 @@ pub struct PieceRow {
 
 impl FromRow for PieceRow {
     ghost use Rattle.goo_columns.specs.Reads.{piece_reads};
+    ghost use Rattle.goo_columns.specs.Readable.{piece_readable};
 
     ghost reads = { piece_reads };
+
+    ghost readable = { piece_readable };
 
     fn from_row(_alloc: Global, row: &Row) -> Result<PieceRow, Error> {
         Ok(PieceRow {

@@ -1,5 +1,6 @@
-ghost use Rattle.std.specs.Prelude.{◌≤◌, IfOk};
+ghost use Rattle.std.specs.Prelude.{◌≤◌, IfOk, IfErr};
 ghost use Rattle.goo_columns.specs.Reads.{plant_reads};
+ghost use Rattle.goo_columns.specs.Readable.{plant_readable, IsUnread};
 
 use sqlite::{Error, Row};
 
@@ -25,7 +26,8 @@ pub struct PlantRow {
 /// The columns of a row from a place on.
 pub fn plant_at(row: &Row, from: usize) -> Result<PlantRow, Error>
     requires { from ≤ 100 }
-    ensures { IfOk result (plant_reads from row.now) }
+    ensures reads { IfOk result (plant_reads from row.now) }
+    ensures refused { IfErr result (IsUnread (plant_readable from row.now)) }
 {
     Ok(PlantRow {
         country: row.get(from)?,

@@ -24,8 +24,11 @@ pub struct ReceiptRow {
 
 impl FromRow for ReceiptRow {
     ghost use Rattle.goo_columns.specs.Reads.{receipt_reads};
+    ghost use Rattle.goo_columns.specs.Readable.{receipt_readable};
 
     ghost reads = { receipt_reads };
+
+    ghost readable = { receipt_readable };
 
     fn from_row(alloc: Global, row: &Row) -> Result<ReceiptRow, Error> {
         Ok(ReceiptRow {

@@ -35,7 +35,7 @@ pub fn maybe_text<'a>(text: &'a Option<String>) -> ValueRef<'a>
     ensures { bound_value (owned result) ≡ or_null Text (option_map string_bytes text.now) }
 {
     match text {
-        Some(text) => ValueRef::Text(text.as_bytes()),
+        Some(given) => ValueRef::Text(given.as_bytes()),
         None => ValueRef::Null,
     }
 }

@@ -19,8 +19,11 @@ pub struct WithdrawalRow {
 
 impl FromRow for WithdrawalRow {
     ghost use Rattle.goo_columns.specs.Reads.{withdrawal_reads};
+    ghost use Rattle.goo_columns.specs.Readable.{withdrawal_readable};
 
     ghost reads = { withdrawal_reads };
+
+    ghost readable = { withdrawal_readable };
 
     fn from_row(_alloc: Global, row: &Row) -> Result<WithdrawalRow, Error> {
         Ok(WithdrawalRow {

@@ -25,6 +25,7 @@ use Rattle.goo_columns.specs.Columns.{registry_schema, account}
 use Rattle.goo_columns.specs.Rows.{Tables, Account, account_in, account_columns, account_row, account_key}
 use Rattle.goo_columns.specs.declared.account.AccountRow.{AccountRow}
 use Rattle.goo_columns.specs.Reads.{account_reads}
+use Rattle.goo_columns.specs.Refused.{is_suited}
 use Rattle.goo_columns.specs.Stands.{Stands}
 use Rattle.goo_columns.specs.Asked.{FirstZip}
 use Rattle.goo_columns.proofs.Writing.{inserts, updates}
@@ -87,6 +88,10 @@ pub find_plain : IsPlain (understood registry_schema find_text)
 unfolding understood everything
 find_plain = (refl, refl)
 
+pub find_suits : (a : ℕ) → is_suited registry_schema find_text find_query (Int (pos a) ∷ []) ≡ true
+unfolding understood everything
+find_suits a = refl
+
 pub finds : (old : State) (number : ℕ) (t : Tables) → Stands old.now t → (x : Option AccountRow) (rows : List Row) → IsAnswer find_query (overlay old.now.trees []) (Int (pos number) ∷ []) rows → FirstZip account_reads rows x
     → option_map account_in x ≡ find (λ (x : Account). int_eq (pos x.number) (pos number)) t.accounts
 finds old number t it x rows answer read =
@@ -112,14 +117,21 @@ pub all_plain : IsPlain (understood registry_schema all_text)
 unfolding understood everything
 all_plain = (refl, refl)
 
-pub shows_all : (old : State) (t : Tables) → Stands old.now t → (xs : List AccountRow) (rows : List Row) → IsAnswer all_query (overlay old.now.trees []) [] rows → AllZip account_reads rows xs
-    → map account_in xs ≡ t.accounts
-shows_all old t it xs rows answer read =
+pub all_suits : is_suited registry_schema all_text all_query [] ≡ true
+unfolding understood everything
+all_suits = refl
+
+pub shown_all : (old : State) (t : Tables) → Stands old.now t → (rows : List Row) → IsAnswer all_query (overlay old.now.trees []) [] rows → rows ≡ map (λ (x : Account). account_columns x) t.accounts
+shown_all old t it rows answer =
     let db = overlay old.now.trees [] in
     let source = last_table db 3 account_row account_key t.accounts it.accounts.are it.accounts.rise (at_end db) in
     let shown = answer_by_keys all_query db [] source (λ _. true) (λ _. refl) (λ r. r) account_columns (λ _. refl) refl refl (λ a b. last_key (value_cmp-Int (account_key a) (account_key b))) rows answer in
-    let all = sym (map-id rows) ∙ shown ∙ ap (map (λ (x : Account). account_columns x)) (unfiltered t.accounts refl) in
-    all_listed account_reads account_columns account_in account_same t.accounts xs (subst (λ l. AllZip account_reads l xs) all read)
+    sym (map-id rows) ∙ shown ∙ ap (map (λ (x : Account). account_columns x)) (unfiltered t.accounts refl)
+
+pub shows_all : (old : State) (t : Tables) → Stands old.now t → (xs : List AccountRow) (rows : List Row) → IsAnswer all_query (overlay old.now.trees []) [] rows → AllZip account_reads rows xs
+    → map account_in xs ≡ t.accounts
+shows_all old t it xs rows answer read =
+    all_listed account_reads account_columns account_in account_same t.accounts xs (subst (λ l. AllZip account_reads l xs) (shown_all old t it rows answer) read)
 
 -- ---- account: a row is closed
 

@@ -25,6 +25,7 @@ use Rattle.goo_columns.specs.Columns.{registry_schema}
 use Rattle.goo_columns.specs.Rows.{Tables, Cancellation, cancellation_in, cancellation_columns, cancellation_row, cancellation_key}
 use Rattle.goo_columns.specs.declared.cancellation.CancellationRow.{CancellationRow}
 use Rattle.goo_columns.specs.Reads.{cancellation_reads}
+use Rattle.goo_columns.specs.Refused.{is_suited}
 use Rattle.goo_columns.specs.Stands.{Stands}
 use Rattle.goo_columns.specs.Asked.{FirstZip}
 use Rattle.goo_columns.proofs.Writing.{inserts}
@@ -85,6 +86,10 @@ pub find_plain : IsPlain (understood registry_schema find_text)
 unfolding understood everything
 find_plain = (refl, refl)
 
+pub find_suits : (a : ℕ) → is_suited registry_schema find_text find_query (Int (pos a) ∷ []) ≡ true
+unfolding understood everything
+find_suits a = refl
+
 pub finds : (old : State) (number : ℕ) (t : Tables) → Stands old.now t → (x : Option CancellationRow) (rows : List Row) → IsAnswer find_query (overlay old.now.trees []) (Int (pos number) ∷ []) rows → FirstZip cancellation_reads rows x
     → option_map cancellation_in x ≡ find (λ (x : Cancellation). int_eq (pos x.number) (pos number)) t.cancellations
 finds old number t it x rows answer read =
@@ -110,14 +115,21 @@ pub all_plain : IsPlain (understood registry_schema all_text)
 unfolding understood everything
 all_plain = (refl, refl)
 
-pub shows_all : (old : State) (t : Tables) → Stands old.now t → (xs : List CancellationRow) (rows : List Row) → IsAnswer all_query (overlay old.now.trees []) [] rows → AllZip cancellation_reads rows xs
-    → map cancellation_in xs ≡ t.cancellations
-shows_all old t it xs rows answer read =
+pub all_suits : is_suited registry_schema all_text all_query [] ≡ true
+unfolding understood everything
+all_suits = refl
+
+pub shown_all : (old : State) (t : Tables) → Stands old.now t → (rows : List Row) → IsAnswer all_query (overlay old.now.trees []) [] rows → rows ≡ map (λ (x : Cancellation). cancellation_columns x) t.cancellations
+shown_all old t it rows answer =
     let db = overlay old.now.trees [] in
     let source = last_table db 15 cancellation_row cancellation_key t.cancellations it.cancellations.are it.cancellations.rise (at_end db) in
     let shown = answer_by_keys all_query db [] source (λ _. true) (λ _. refl) (λ r. r) cancellation_columns (λ _. refl) refl refl (λ a b. last_key (value_cmp-Int (cancellation_key a) (cancellation_key b))) rows answer in
-    let all = sym (map-id rows) ∙ shown ∙ ap (map (λ (x : Cancellation). cancellation_columns x)) (unfiltered t.cancellations refl) in
-    all_listed cancellation_reads cancellation_columns cancellation_in cancellation_same t.cancellations xs (subst (λ l. AllZip cancellation_reads l xs) all read)
+    sym (map-id rows) ∙ shown ∙ ap (map (λ (x : Cancellation). cancellation_columns x)) (unfiltered t.cancellations refl)
+
+pub shows_all : (old : State) (t : Tables) → Stands old.now t → (xs : List CancellationRow) (rows : List Row) → IsAnswer all_query (overlay old.now.trees []) [] rows → AllZip cancellation_reads rows xs
+    → map cancellation_in xs ≡ t.cancellations
+shows_all old t it xs rows answer read =
+    all_listed cancellation_reads cancellation_columns cancellation_in cancellation_same t.cancellations xs (subst (λ l. AllZip cancellation_reads l xs) (shown_all old t it rows answer) read)
 
 -- ---- cancellation: the whole table, met as it is
 

@@ -26,6 +26,7 @@ use Rattle.goo_columns.specs.Columns.{registry_schema}
 use Rattle.goo_columns.specs.Rows.{Tables, Declaration, declaration_in, declaration_columns, declaration_row, declaration_key}
 use Rattle.goo_columns.specs.declared.declaration.DeclarationRow.{DeclarationRow}
 use Rattle.goo_columns.specs.Reads.{declaration_reads}
+use Rattle.goo_columns.specs.Refused.{is_suited}
 use Rattle.goo_columns.specs.Stands.{Stands}
 use Rattle.goo_columns.specs.Asked.{FirstZip}
 use Rattle.goo_columns.proofs.Writing.{inserts}
@@ -89,6 +90,10 @@ pub find_plain : IsPlain (understood registry_schema find_text)
 unfolding understood everything
 find_plain = (refl, refl)
 
+pub find_suits : (a : List ℕ) (b : List ℕ) → is_suited registry_schema find_text find_query (Text a ∷ Text b ∷ []) ≡ true
+unfolding understood everything
+find_suits a b = refl
+
 pub finds : (old : State) (device : List ℕ) (first_day : List ℕ) (t : Tables) → Stands old.now t → (x : Option DeclarationRow) (rows : List Row) → IsAnswer find_query (overlay old.now.trees []) (Text device ∷ Text first_day ∷ []) rows → FirstZip declaration_reads rows x
     → option_map declaration_in x ≡ find (λ (x : Declaration). bytes_eq x.device device && bytes_eq x.first_day first_day) t.declarations
 finds old device first_day t it x rows answer read =
@@ -114,14 +119,21 @@ pub all_plain : IsPlain (understood registry_schema all_text)
 unfolding understood everything
 all_plain = (refl, refl)
 
-pub shows_all : (old : State) (t : Tables) → Stands old.now t → (xs : List DeclarationRow) (rows : List Row) → IsAnswer all_query (overlay old.now.trees []) [] rows → AllZip declaration_reads rows xs
-    → map declaration_in xs ≡ t.declarations
-shows_all old t it xs rows answer read =
+pub all_suits : is_suited registry_schema all_text all_query [] ≡ true
+unfolding understood everything
+all_suits = refl
+
+pub shown_all : (old : State) (t : Tables) → Stands old.now t → (rows : List Row) → IsAnswer all_query (overlay old.now.trees []) [] rows → rows ≡ map (λ (x : Declaration). declaration_columns x) t.declarations
+shown_all old t it rows answer =
     let db = overlay old.now.trees [] in
     let source = last_table db 6 declaration_row declaration_key t.declarations it.declarations.are it.declarations.rise (at_end db) in
     let shown = answer_by_keys all_query db [] source (λ _. true) (λ _. refl) (λ r. r) declaration_columns (λ _. refl) refl refl (λ a b. last_key (value_cmp-Int (declaration_key a) (declaration_key b))) rows answer in
-    let all = sym (map-id rows) ∙ shown ∙ ap (map (λ (x : Declaration). declaration_columns x)) (unfiltered t.declarations refl) in
-    all_listed declaration_reads declaration_columns declaration_in declaration_same t.declarations xs (subst (λ l. AllZip declaration_reads l xs) all read)
+    sym (map-id rows) ∙ shown ∙ ap (map (λ (x : Declaration). declaration_columns x)) (unfiltered t.declarations refl)
+
+pub shows_all : (old : State) (t : Tables) → Stands old.now t → (xs : List DeclarationRow) (rows : List Row) → IsAnswer all_query (overlay old.now.trees []) [] rows → AllZip declaration_reads rows xs
+    → map declaration_in xs ≡ t.declarations
+shows_all old t it xs rows answer read =
+    all_listed declaration_reads declaration_columns declaration_in declaration_same t.declarations xs (subst (λ l. AllZip declaration_reads l xs) (shown_all old t it rows answer) read)
 
 -- ---- declaration: the last row
 
@@ -138,6 +150,10 @@ last_is = (refl, refl)
 pub last_plain : IsPlain (understood registry_schema last_text)
 unfolding understood everything
 last_plain = (refl, refl)
+
+pub last_suits : is_suited registry_schema last_text last_query [] ≡ true
+unfolding understood everything
+last_suits = refl
 
 pub shows_last : (old : State) (t : Tables) → Stands old.now t → (x : Option DeclarationRow) (rows : List Row) → IsAnswer last_query (overlay old.now.trees []) [] rows → FirstZip declaration_reads rows x
     → option_map declaration_in x ≡ slice_get (reverse t.declarations) 0

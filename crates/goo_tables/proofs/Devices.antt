@@ -27,6 +27,7 @@ use Rattle.goo_columns.specs.Columns.{registry_schema, device}
 use Rattle.goo_columns.specs.Rows.{Tables, Kept, kept_key, Device, device_in, device_columns, device_row}
 use Rattle.goo_columns.specs.declared.device.DeviceRow.{DeviceRow}
 use Rattle.goo_columns.specs.Reads.{device_reads}
+use Rattle.goo_columns.specs.Refused.{is_suited}
 use Rattle.goo_columns.specs.Stands.{Stands}
 use Rattle.goo_columns.specs.Asked.{FirstZip}
 use Rattle.goo_columns.proofs.Writing.{inserts, updates}
@@ -91,6 +92,10 @@ pub find_plain : IsPlain (understood registry_schema find_text)
 unfolding understood everything
 find_plain = (refl, refl)
 
+pub find_suits : (a : List ℕ) → is_suited registry_schema find_text find_query (Text a ∷ []) ≡ true
+unfolding understood everything
+find_suits a = refl
+
 pub finds : (old : State) (gsrn : List ℕ) (t : Tables) → Stands old.now t → (x : Option DeviceRow) (rows : List Row) → IsAnswer find_query (overlay old.now.trees []) (Text gsrn ∷ []) rows → FirstZip device_reads rows x
     → option_map device_in x ≡ option_map (λ (k : (Kept Device)). k.1) (find (λ (k : (Kept Device)). bytes_eq k.1.gsrn gsrn) t.devices)
 finds old gsrn t it x rows answer read =
@@ -116,14 +121,21 @@ pub all_plain : IsPlain (understood registry_schema all_text)
 unfolding understood everything
 all_plain = (refl, refl)
 
-pub shows_all : (old : State) (t : Tables) → Stands old.now t → (xs : List DeviceRow) (rows : List Row) → IsAnswer all_query (overlay old.now.trees []) [] rows → AllZip device_reads rows xs
-    → map device_in xs ≡ map (λ (k : (Kept Device)). k.1) t.devices
-shows_all old t it xs rows answer read =
+pub all_suits : is_suited registry_schema all_text all_query [] ≡ true
+unfolding understood everything
+all_suits = refl
+
+pub shown_all : (old : State) (t : Tables) → Stands old.now t → (rows : List Row) → IsAnswer all_query (overlay old.now.trees []) [] rows → rows ≡ map (λ (k : (Kept Device)). device_columns k.1) t.devices
+shown_all old t it rows answer =
     let db = overlay old.now.trees [] in
     let source = last_table db 4 device_row kept_key t.devices it.devices.are it.devices.rise (at_end db) in
     let shown = answer_by_keys all_query db [] source (λ _. true) (λ _. refl) (λ r. r) (λ k. device_columns k.1) (λ _. refl) refl refl (λ a b. last_key (value_cmp-Int a.0 b.0)) rows answer in
-    let all = sym (map-id rows) ∙ shown ∙ ap (map (λ (k : (Kept Device)). device_columns k.1)) (unfiltered t.devices refl) in
-    all_read device_reads (λ k. device_columns k.1) device_in (λ k. k.1) (λ k. device_same k.1) t.devices xs (subst (λ l. AllZip device_reads l xs) all read)
+    sym (map-id rows) ∙ shown ∙ ap (map (λ (k : (Kept Device)). device_columns k.1)) (unfiltered t.devices refl)
+
+pub shows_all : (old : State) (t : Tables) → Stands old.now t → (xs : List DeviceRow) (rows : List Row) → IsAnswer all_query (overlay old.now.trees []) [] rows → AllZip device_reads rows xs
+    → map device_in xs ≡ map (λ (k : (Kept Device)). k.1) t.devices
+shows_all old t it xs rows answer read =
+    all_read device_reads (λ k. device_columns k.1) device_in (λ k. k.1) (λ k. device_same k.1) t.devices xs (subst (λ l. AllZip device_reads l xs) (shown_all old t it rows answer) read)
 
 -- ---- device: its progress is set
 

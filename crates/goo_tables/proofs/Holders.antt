@@ -27,6 +27,7 @@ use Rattle.goo_columns.specs.Columns.{registry_schema}
 use Rattle.goo_columns.specs.Rows.{Tables, Kept, kept_key, Holder, holder_in, holder_columns, holder_row}
 use Rattle.goo_columns.specs.declared.holder.HolderRow.{HolderRow}
 use Rattle.goo_columns.specs.Reads.{holder_reads}
+use Rattle.goo_columns.specs.Refused.{is_suited}
 use Rattle.goo_columns.specs.Stands.{Stands}
 use Rattle.goo_columns.specs.Asked.{FirstZip}
 use Rattle.goo_columns.proofs.Writing.{inserts}
@@ -88,6 +89,10 @@ pub find_plain : IsPlain (understood registry_schema find_text)
 unfolding understood everything
 find_plain = (refl, refl)
 
+pub find_suits : (a : List ℕ) → is_suited registry_schema find_text find_query (Text a ∷ []) ≡ true
+unfolding understood everything
+find_suits a = refl
+
 pub finds : (old : State) (code : List ℕ) (t : Tables) → Stands old.now t → (x : Option HolderRow) (rows : List Row) → IsAnswer find_query (overlay old.now.trees []) (Text code ∷ []) rows → FirstZip holder_reads rows x
     → option_map holder_in x ≡ option_map (λ (k : (Kept Holder)). k.1) (find (λ (k : (Kept Holder)). bytes_eq k.1.code code) t.holders)
 finds old code t it x rows answer read =
@@ -113,14 +118,21 @@ pub all_plain : IsPlain (understood registry_schema all_text)
 unfolding understood everything
 all_plain = (refl, refl)
 
-pub shows_all : (old : State) (t : Tables) → Stands old.now t → (xs : List HolderRow) (rows : List Row) → IsAnswer all_query (overlay old.now.trees []) [] rows → AllZip holder_reads rows xs
-    → map holder_in xs ≡ map (λ (k : (Kept Holder)). k.1) t.holders
-shows_all old t it xs rows answer read =
+pub all_suits : is_suited registry_schema all_text all_query [] ≡ true
+unfolding understood everything
+all_suits = refl
+
+pub shown_all : (old : State) (t : Tables) → Stands old.now t → (rows : List Row) → IsAnswer all_query (overlay old.now.trees []) [] rows → rows ≡ map (λ (k : (Kept Holder)). holder_columns k.1) t.holders
+shown_all old t it rows answer =
     let db = overlay old.now.trees [] in
     let source = last_table db 1 holder_row kept_key t.holders it.holders.are it.holders.rise (at_end db) in
     let shown = answer_by_keys all_query db [] source (λ _. true) (λ _. refl) (λ r. r) (λ k. holder_columns k.1) (λ _. refl) refl refl (λ a b. last_key (value_cmp-Int a.0 b.0)) rows answer in
-    let all = sym (map-id rows) ∙ shown ∙ ap (map (λ (k : (Kept Holder)). holder_columns k.1)) (unfiltered t.holders refl) in
-    all_read holder_reads (λ k. holder_columns k.1) holder_in (λ k. k.1) (λ k. holder_same k.1) t.holders xs (subst (λ l. AllZip holder_reads l xs) all read)
+    sym (map-id rows) ∙ shown ∙ ap (map (λ (k : (Kept Holder)). holder_columns k.1)) (unfiltered t.holders refl)
+
+pub shows_all : (old : State) (t : Tables) → Stands old.now t → (xs : List HolderRow) (rows : List Row) → IsAnswer all_query (overlay old.now.trees []) [] rows → AllZip holder_reads rows xs
+    → map holder_in xs ≡ map (λ (k : (Kept Holder)). k.1) t.holders
+shows_all old t it xs rows answer read =
+    all_read holder_reads (λ k. holder_columns k.1) holder_in (λ k. k.1) (λ k. holder_same k.1) t.holders xs (subst (λ l. AllZip holder_reads l xs) (shown_all old t it rows answer) read)
 
 -- ---- holder: the whole table, met as it is
 

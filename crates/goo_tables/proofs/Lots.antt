@@ -26,6 +26,7 @@ use Rattle.goo_columns.specs.Columns.{registry_schema}
 use Rattle.goo_columns.specs.Rows.{Tables, Lot, lot_in, lot_columns, lot_row, lot_key}
 use Rattle.goo_columns.specs.declared.lot.LotRow.{LotRow}
 use Rattle.goo_columns.specs.Reads.{lot_reads}
+use Rattle.goo_columns.specs.Refused.{is_suited}
 use Rattle.goo_columns.specs.Stands.{Stands}
 use Rattle.goo_columns.specs.Asked.{FirstZip}
 use Rattle.goo_columns.proofs.Writing.{inserts}
@@ -89,6 +90,10 @@ pub find_plain : IsPlain (understood registry_schema find_text)
 unfolding understood everything
 find_plain = (refl, refl)
 
+pub find_suits : (a : ℕ) (b : List ℕ) (c : List ℕ) → is_suited registry_schema find_text find_query (Int (pos a) ∷ Text b ∷ Text c ∷ []) ≡ true
+unfolding understood everything
+find_suits a b c = refl
+
 pub finds : (old : State) (origin : ℕ) (device : List ℕ) (first_day : List ℕ) (t : Tables) → Stands old.now t → (x : Option LotRow) (rows : List Row) → IsAnswer find_query (overlay old.now.trees []) (Int (pos origin) ∷ Text device ∷ Text first_day ∷ []) rows → FirstZip (lot_reads 0) rows x
     → option_map lot_in x ≡ find (λ (x : Lot). int_eq (pos x.origin) (pos origin) && (bytes_eq x.device device && bytes_eq x.first_day first_day)) t.lots
 finds old origin device first_day t it x rows answer read =
@@ -113,6 +118,10 @@ by_id_is = (refl, refl)
 pub by_id_plain : IsPlain (understood registry_schema by_id_text)
 unfolding understood everything
 by_id_plain = (refl, refl)
+
+pub by_id_suits : (a : ℕ) → is_suited registry_schema by_id_text by_id_query (Int (pos a) ∷ []) ≡ true
+unfolding understood everything
+by_id_suits a = refl
 
 pub finds_by_id : (old : State) (id : ℕ) (t : Tables) → Stands old.now t → (x : Option LotRow) (rows : List Row) → IsAnswer by_id_query (overlay old.now.trees []) (Int (pos id) ∷ []) rows → FirstZip (lot_reads 0) rows x
     → option_map lot_in x ≡ find (λ (l : Lot). int_eq (lot_key l) (pos id)) t.lots
@@ -140,14 +149,21 @@ pub all_plain : IsPlain (understood registry_schema all_text)
 unfolding understood everything
 all_plain = (refl, refl)
 
-pub shows_all : (old : State) (t : Tables) → Stands old.now t → (xs : List LotRow) (rows : List Row) → IsAnswer all_query (overlay old.now.trees []) [] rows → AllZip (lot_reads 0) rows xs
-    → map lot_in xs ≡ t.lots
-shows_all old t it xs rows answer read =
+pub all_suits : is_suited registry_schema all_text all_query [] ≡ true
+unfolding understood everything
+all_suits = refl
+
+pub shown_all : (old : State) (t : Tables) → Stands old.now t → (rows : List Row) → IsAnswer all_query (overlay old.now.trees []) [] rows → rows ≡ map (λ (x : Lot). lot_columns x) t.lots
+shown_all old t it rows answer =
     let db = overlay old.now.trees [] in
     let source = last_table db 8 lot_row lot_key t.lots it.lots.are it.lots.rise (at_end db) in
     let shown = answer_by_keys all_query db [] source (λ _. true) (λ _. refl) (λ r. r) lot_columns (λ _. refl) refl refl (λ a b. last_key (value_cmp-Int (lot_key a) (lot_key b))) rows answer in
-    let all = sym (map-id rows) ∙ shown ∙ ap (map (λ (x : Lot). lot_columns x)) (unfiltered t.lots refl) in
-    all_listed (lot_reads 0) lot_columns lot_in lot_same t.lots xs (subst (λ l. AllZip (lot_reads 0) l xs) all read)
+    sym (map-id rows) ∙ shown ∙ ap (map (λ (x : Lot). lot_columns x)) (unfiltered t.lots refl)
+
+pub shows_all : (old : State) (t : Tables) → Stands old.now t → (xs : List LotRow) (rows : List Row) → IsAnswer all_query (overlay old.now.trees []) [] rows → AllZip (lot_reads 0) rows xs
+    → map lot_in xs ≡ t.lots
+shows_all old t it xs rows answer read =
+    all_listed (lot_reads 0) lot_columns lot_in lot_same t.lots xs (subst (λ l. AllZip (lot_reads 0) l xs) (shown_all old t it rows answer) read)
 
 -- ---- lot: the last row
 
@@ -164,6 +180,10 @@ last_is = (refl, refl)
 pub last_plain : IsPlain (understood registry_schema last_text)
 unfolding understood everything
 last_plain = (refl, refl)
+
+pub last_suits : is_suited registry_schema last_text last_query [] ≡ true
+unfolding understood everything
+last_suits = refl
 
 pub shows_last : (old : State) (t : Tables) → Stands old.now t → (x : Option LotRow) (rows : List Row) → IsAnswer last_query (overlay old.now.trees []) [] rows → FirstZip (lot_reads 0) rows x
     → option_map lot_in x ≡ slice_get (reverse t.lots) 0

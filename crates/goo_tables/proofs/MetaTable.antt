@@ -24,6 +24,7 @@ use Rattle.goo_columns.specs.Rows.{Tables, Meta, meta_columns, meta_row, meta_in
 use Rattle.goo_columns.specs.declared.numbered_meta.NumberedMeta.{NumberedMeta}
 use Rattle.goo_columns.specs.declared.meta.MetaRow.{MetaRow}
 use Rattle.goo_columns.specs.Reads.{meta_reads, numbered_meta_reads}
+use Rattle.goo_columns.specs.Refused.{is_suited}
 use Rattle.goo_columns.specs.Stands.{Stands, IsBare, Keeps}
 use Rattle.goo_columns.specs.Met.{HasOurTables, Keyed, whole, all_keyed}
 use Rattle.goo_columns.proofs.Ordered.{keyed_rows}
@@ -86,6 +87,10 @@ find_is = (refl, refl)
 pub find_plain : IsPlain (understood registry_schema find_text)
 unfolding understood everything
 find_plain = (refl, refl)
+
+pub find_suits : is_suited registry_schema find_text find_query [] ≡ true
+unfolding understood everything
+find_suits = refl
 
 pub finds : (old : State) (t : Tables) → Stands old.now t → (x : Option MetaRow) (rows : List Row) → IsAnswer find_query (overlay old.now.trees []) [] rows → FirstZip meta_reads rows x
     → option_map meta_in x ≡ Some t.meta
@@ -190,6 +195,10 @@ pub all_plain : IsPlain (understood registry_schema all_text)
 unfolding understood everything
 all_plain = (refl, refl)
 
+pub all_suits : is_suited registry_schema all_text all_query [] ≡ true
+unfolding understood everything
+all_suits = refl
+
 abbrev numbered : Meta → Numbered
 numbered m = record { id = 1; meta = m }
 
@@ -199,13 +208,17 @@ numbered_same m x reads =
     let rest = meta_same m x.meta (reads.1, reads.2, reads.3, reads.4, reads.5, reads.6, reads.7, reads.8) in
     λ i. record { id = id i; meta = rest i }
 
-pub shows_all : (old : State) (t : Tables) → Stands old.now t → (xs : List NumberedMeta) (rows : List Row) → IsAnswer all_query (overlay old.now.trees []) [] rows → AllZip numbered_meta_reads rows xs
-    → map numbered_in xs ≡ numbered t.meta ∷ []
-shows_all old t it xs rows answer read =
+pub shown_all : (old : State) (t : Tables) → Stands old.now t → (rows : List Row) → IsAnswer all_query (overlay old.now.trees []) [] rows → rows ≡ map (λ (m : Meta). Int (pos 1) ∷ meta_columns m) (t.meta ∷ [])
+shown_all old t it rows answer =
     let db = overlay old.now.trees [] in
     let source = last_table db 0 meta_row meta_key (t.meta ∷ []) it.meta (tt, tt) (at_end db) in
     let shown = answer_by_keys all_query db [] source (λ _. true) (λ _. refl) (λ r. r) (λ m. Int (pos 1) ∷ meta_columns m) (λ _. refl) refl refl (λ a b. last_key (value_cmp-Int (pos 1) (pos 1))) rows answer in
-    all_read numbered_meta_reads (λ m. Int (pos 1) ∷ meta_columns m) numbered_in numbered numbered_same (t.meta ∷ []) xs (subst (λ l. AllZip numbered_meta_reads l xs) (sym (map-id rows) ∙ shown) read)
+    sym (map-id rows) ∙ shown
+
+pub shows_all : (old : State) (t : Tables) → Stands old.now t → (xs : List NumberedMeta) (rows : List Row) → IsAnswer all_query (overlay old.now.trees []) [] rows → AllZip numbered_meta_reads rows xs
+    → map numbered_in xs ≡ numbered t.meta ∷ []
+shows_all old t it xs rows answer read =
+    all_read numbered_meta_reads (λ m. Int (pos 1) ∷ meta_columns m) numbered_in numbered numbered_same (t.meta ∷ []) xs (subst (λ l. AllZip numbered_meta_reads l xs) (shown_all old t it rows answer) read)
 
 abbrev meta_shown : Keyed → Row
 meta_shown k = Int k.0 ∷ column (whole k) 2 ∷ column (whole k) 3 ∷ column (whole k) 4 ∷ column (whole k) 5 ∷ column (whole k) 6 ∷ column (whole k) 7 ∷ column (whole k) 8 ∷ column (whole k) 9 ∷ []

@@ -26,6 +26,7 @@ use Rattle.goo_columns.specs.Columns.{registry_schema}
 use Rattle.goo_columns.specs.Rows.{Tables, Kept, kept_key, NoticeIn, notice_in_in, notice_in_columns, notice_in_row}
 use Rattle.goo_columns.specs.declared.notice_in.NoticeInRow.{NoticeInRow}
 use Rattle.goo_columns.specs.Reads.{notice_in_reads}
+use Rattle.goo_columns.specs.Refused.{is_suited}
 use Rattle.goo_columns.specs.Stands.{Stands}
 use Rattle.goo_columns.specs.Asked.{FirstZip}
 use Rattle.goo_columns.proofs.Writing.{inserts}
@@ -88,6 +89,10 @@ pub find_plain : IsPlain (understood registry_schema find_text)
 unfolding understood everything
 find_plain = (refl, refl)
 
+pub find_suits : (a : ℕ) (b : ℕ) → is_suited registry_schema find_text find_query (Int (pos a) ∷ Int (pos b) ∷ []) ≡ true
+unfolding understood everything
+find_suits a b = refl
+
 pub finds : (old : State) (sender : ℕ) (number : ℕ) (t : Tables) → Stands old.now t → (x : Option NoticeInRow) (rows : List Row) → IsAnswer find_query (overlay old.now.trees []) (Int (pos sender) ∷ Int (pos number) ∷ []) rows → FirstZip notice_in_reads rows x
     → option_map notice_in_in x ≡ option_map (λ (k : (Kept NoticeIn)). k.1) (find (λ (k : (Kept NoticeIn)). int_eq (pos k.1.sender) (pos sender) && int_eq (pos k.1.number) (pos number)) t.notices_in)
 finds old sender number t it x rows answer read =
@@ -113,14 +118,21 @@ pub all_plain : IsPlain (understood registry_schema all_text)
 unfolding understood everything
 all_plain = (refl, refl)
 
-pub shows_all : (old : State) (t : Tables) → Stands old.now t → (xs : List NoticeInRow) (rows : List Row) → IsAnswer all_query (overlay old.now.trees []) [] rows → AllZip notice_in_reads rows xs
-    → map notice_in_in xs ≡ map (λ (k : (Kept NoticeIn)). k.1) t.notices_in
-shows_all old t it xs rows answer read =
+pub all_suits : is_suited registry_schema all_text all_query [] ≡ true
+unfolding understood everything
+all_suits = refl
+
+pub shown_all : (old : State) (t : Tables) → Stands old.now t → (rows : List Row) → IsAnswer all_query (overlay old.now.trees []) [] rows → rows ≡ map (λ (k : (Kept NoticeIn)). notice_in_columns k.1) t.notices_in
+shown_all old t it rows answer =
     let db = overlay old.now.trees [] in
     let source = last_table db 18 notice_in_row kept_key t.notices_in it.notices_in.are it.notices_in.rise (at_end db) in
     let shown = answer_by_keys all_query db [] source (λ _. true) (λ _. refl) (λ r. r) (λ k. notice_in_columns k.1) (λ _. refl) refl refl (λ a b. last_key (value_cmp-Int a.0 b.0)) rows answer in
-    let all = sym (map-id rows) ∙ shown ∙ ap (map (λ (k : (Kept NoticeIn)). notice_in_columns k.1)) (unfiltered t.notices_in refl) in
-    all_read notice_in_reads (λ k. notice_in_columns k.1) notice_in_in (λ k. k.1) (λ k. notice_in_same k.1) t.notices_in xs (subst (λ l. AllZip notice_in_reads l xs) all read)
+    sym (map-id rows) ∙ shown ∙ ap (map (λ (k : (Kept NoticeIn)). notice_in_columns k.1)) (unfiltered t.notices_in refl)
+
+pub shows_all : (old : State) (t : Tables) → Stands old.now t → (xs : List NoticeInRow) (rows : List Row) → IsAnswer all_query (overlay old.now.trees []) [] rows → AllZip notice_in_reads rows xs
+    → map notice_in_in xs ≡ map (λ (k : (Kept NoticeIn)). k.1) t.notices_in
+shows_all old t it xs rows answer read =
+    all_read notice_in_reads (λ k. notice_in_columns k.1) notice_in_in (λ k. k.1) (λ k. notice_in_same k.1) t.notices_in xs (subst (λ l. AllZip notice_in_reads l xs) (shown_all old t it rows answer) read)
 
 -- ---- notice_in: the whole table, met as it is
 

@@ -25,6 +25,7 @@ use Rattle.goo_columns.specs.Columns.{registry_schema}
 use Rattle.goo_columns.specs.Rows.{Tables, NoticeOut, notice_out_in, notice_out_columns, notice_out_row, notice_out_key}
 use Rattle.goo_columns.specs.declared.notice_out.NoticeOutRow.{NoticeOutRow}
 use Rattle.goo_columns.specs.Reads.{notice_out_reads}
+use Rattle.goo_columns.specs.Refused.{is_suited}
 use Rattle.goo_columns.specs.Stands.{Stands}
 use Rattle.goo_columns.specs.Asked.{FirstZip}
 use Rattle.goo_columns.proofs.Writing.{inserts}
@@ -86,6 +87,10 @@ pub find_plain : IsPlain (understood registry_schema find_text)
 unfolding understood everything
 find_plain = (refl, refl)
 
+pub find_suits : (a : ℕ) → is_suited registry_schema find_text find_query (Int (pos a) ∷ []) ≡ true
+unfolding understood everything
+find_suits a = refl
+
 pub finds : (old : State) (number : ℕ) (t : Tables) → Stands old.now t → (x : Option NoticeOutRow) (rows : List Row) → IsAnswer find_query (overlay old.now.trees []) (Int (pos number) ∷ []) rows → FirstZip notice_out_reads rows x
     → option_map notice_out_in x ≡ find (λ (x : NoticeOut). int_eq (pos x.number) (pos number)) t.notices_out
 finds old number t it x rows answer read =
@@ -111,14 +116,21 @@ pub all_plain : IsPlain (understood registry_schema all_text)
 unfolding understood everything
 all_plain = (refl, refl)
 
-pub shows_all : (old : State) (t : Tables) → Stands old.now t → (xs : List NoticeOutRow) (rows : List Row) → IsAnswer all_query (overlay old.now.trees []) [] rows → AllZip notice_out_reads rows xs
-    → map notice_out_in xs ≡ t.notices_out
-shows_all old t it xs rows answer read =
+pub all_suits : is_suited registry_schema all_text all_query [] ≡ true
+unfolding understood everything
+all_suits = refl
+
+pub shown_all : (old : State) (t : Tables) → Stands old.now t → (rows : List Row) → IsAnswer all_query (overlay old.now.trees []) [] rows → rows ≡ map (λ (x : NoticeOut). notice_out_columns x) t.notices_out
+shown_all old t it rows answer =
     let db = overlay old.now.trees [] in
     let source = last_table db 17 notice_out_row notice_out_key t.notices_out it.notices_out.are it.notices_out.rise (at_end db) in
     let shown = answer_by_keys all_query db [] source (λ _. true) (λ _. refl) (λ r. r) notice_out_columns (λ _. refl) refl refl (λ a b. last_key (value_cmp-Int (notice_out_key a) (notice_out_key b))) rows answer in
-    let all = sym (map-id rows) ∙ shown ∙ ap (map (λ (x : NoticeOut). notice_out_columns x)) (unfiltered t.notices_out refl) in
-    all_listed notice_out_reads notice_out_columns notice_out_in notice_out_same t.notices_out xs (subst (λ l. AllZip notice_out_reads l xs) all read)
+    sym (map-id rows) ∙ shown ∙ ap (map (λ (x : NoticeOut). notice_out_columns x)) (unfiltered t.notices_out refl)
+
+pub shows_all : (old : State) (t : Tables) → Stands old.now t → (xs : List NoticeOutRow) (rows : List Row) → IsAnswer all_query (overlay old.now.trees []) [] rows → AllZip notice_out_reads rows xs
+    → map notice_out_in xs ≡ t.notices_out
+shows_all old t it xs rows answer read =
+    all_listed notice_out_reads notice_out_columns notice_out_in notice_out_same t.notices_out xs (subst (λ l. AllZip notice_out_reads l xs) (shown_all old t it rows answer) read)
 
 -- ---- notice_out: the whole table, met as it is
 

@@ -26,6 +26,7 @@ use Rattle.goo_columns.specs.Columns.{registry_schema}
 use Rattle.goo_columns.specs.Rows.{Tables, Kept, kept_key, peer_columns, peer_row}
 use Rattle.goo_columns.specs.declared.peer.PeerRow.{PeerRow}
 use Rattle.goo_columns.specs.Reads.{peer_reads}
+use Rattle.goo_columns.specs.Refused.{is_suited}
 use Rattle.goo_columns.specs.Stands.{Stands}
 use Rattle.goo_columns.specs.Asked.{FirstZip}
 use Rattle.goo_columns.proofs.Writing.{inserts}
@@ -88,6 +89,10 @@ pub find_plain : IsPlain (understood registry_schema find_text)
 unfolding understood everything
 find_plain = (refl, refl)
 
+pub find_suits : (a : ℕ) → is_suited registry_schema find_text find_query (Int (pos a) ∷ []) ≡ true
+unfolding understood everything
+find_suits a = refl
+
 pub finds : (old : State) (code : ℕ) (t : Tables) → Stands old.now t → (x : Option PeerRow) (rows : List Row) → IsAnswer find_query (overlay old.now.trees []) (Int (pos code) ∷ []) rows → FirstZip peer_reads rows x
     → x ≡ option_map (λ (k : (Kept PeerRow)). k.1) (find (λ (k : (Kept PeerRow)). int_eq (pos k.1.code) (pos code)) t.peers)
 finds old code t it x rows answer read =
@@ -113,14 +118,21 @@ pub all_plain : IsPlain (understood registry_schema all_text)
 unfolding understood everything
 all_plain = (refl, refl)
 
-pub shows_all : (old : State) (t : Tables) → Stands old.now t → (xs : List PeerRow) (rows : List Row) → IsAnswer all_query (overlay old.now.trees []) [] rows → AllZip peer_reads rows xs
-    → xs ≡ map (λ (k : (Kept PeerRow)). k.1) t.peers
-shows_all old t it xs rows answer read =
+pub all_suits : is_suited registry_schema all_text all_query [] ≡ true
+unfolding understood everything
+all_suits = refl
+
+pub shown_all : (old : State) (t : Tables) → Stands old.now t → (rows : List Row) → IsAnswer all_query (overlay old.now.trees []) [] rows → rows ≡ map (λ (k : (Kept PeerRow)). peer_columns k.1) t.peers
+shown_all old t it rows answer =
     let db = overlay old.now.trees [] in
     let source = last_table db 11 peer_row kept_key t.peers it.peers.are it.peers.rise (at_end db) in
     let shown = answer_by_keys all_query db [] source (λ _. true) (λ _. refl) (λ r. r) (λ k. peer_columns k.1) (λ _. refl) refl refl (λ a b. last_key (value_cmp-Int a.0 b.0)) rows answer in
-    let all = sym (map-id rows) ∙ shown ∙ ap (map (λ (k : (Kept PeerRow)). peer_columns k.1)) (unfiltered t.peers refl) in
-    sym (map-id xs) ∙ all_read peer_reads (λ k. peer_columns k.1) (λ x. x) (λ k. k.1) (λ k. peer_same k.1) t.peers xs (subst (λ l. AllZip peer_reads l xs) all read)
+    sym (map-id rows) ∙ shown ∙ ap (map (λ (k : (Kept PeerRow)). peer_columns k.1)) (unfiltered t.peers refl)
+
+pub shows_all : (old : State) (t : Tables) → Stands old.now t → (xs : List PeerRow) (rows : List Row) → IsAnswer all_query (overlay old.now.trees []) [] rows → AllZip peer_reads rows xs
+    → xs ≡ map (λ (k : (Kept PeerRow)). k.1) t.peers
+shows_all old t it xs rows answer read =
+    sym (map-id xs) ∙ all_read peer_reads (λ k. peer_columns k.1) (λ x. x) (λ k. k.1) (λ k. peer_same k.1) t.peers xs (subst (λ l. AllZip peer_reads l xs) (shown_all old t it rows answer) read)
 
 -- ---- peer: the whole table, met as it is
 

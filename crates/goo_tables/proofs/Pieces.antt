@@ -34,6 +34,7 @@ use Rattle.goo_columns.proofs.Read.{all_listed, first_listed}
 use Rattle.std.proofs.lemmas.Iterator.Adapters.{option_map_id}
 use Rattle.goo_columns.specs.Asked.{FirstZip}
 use Rattle.goo_columns.proofs.Same.{piece_same}
+use Rattle.goo_columns.specs.Refused.{is_suited}
 use Rattle.goo_columns.specs.Stands.{Stands}
 use Rattle.goo_columns.proofs.Writing.{inserts, deletes}
 use Rattle.goo_columns.proofs.Typed.{cast_int, cast_null, puts, removes}
@@ -125,6 +126,10 @@ pub find_plain : IsPlain (understood registry_schema find_text)
 unfolding understood everything
 find_plain = (refl, refl)
 
+pub find_suits : (a : ℕ) → is_suited registry_schema find_text find_query (Int (pos a) ∷ []) ≡ true
+unfolding understood everything
+find_suits a = refl
+
 pub finds : (old : State) (first : ℕ) (t : Tables) → Stands old.now t → (x : Option PieceRow) (rows : List Row) → IsAnswer find_query (overlay old.now.trees []) (Int (pos first) ∷ []) rows → FirstZip piece_reads rows x
     → x ≡ find (λ (p : PieceRow). int_eq (piece_key p) (pos first)) t.pieces
 finds old first t it x rows answer read =
@@ -152,13 +157,20 @@ pub all_plain : IsPlain (understood registry_schema all_text)
 unfolding understood everything
 all_plain = (refl, refl)
 
-pub shows_all : (old : State) (t : Tables) → Stands old.now t → (xs : List PieceRow) (rows : List Row) → IsAnswer all_query (overlay old.now.trees []) [] rows → AllZip piece_reads rows xs → xs ≡ t.pieces
-shows_all old t it xs rows answer read =
+pub all_suits : is_suited registry_schema all_text all_query [] ≡ true
+unfolding understood everything
+all_suits = refl
+
+pub shown_all : (old : State) (t : Tables) → Stands old.now t → (rows : List Row) → IsAnswer all_query (overlay old.now.trees []) [] rows → rows ≡ map piece_columns t.pieces
+shown_all old t it rows answer =
     let db = overlay old.now.trees [] in
     let source = last_table db 10 piece_row piece_key t.pieces it.pieces.are it.pieces.rise (at_end db) in
     let shown = answer_by_keys all_query db [] source (λ _. true) (λ _. refl) (λ r. r) piece_columns (λ _. refl) refl refl (λ a b. last_key (value_cmp-Int (piece_key a) (piece_key b))) rows answer in
-    let all = sym (map-id rows) ∙ shown ∙ ap (map piece_columns) (unfiltered t.pieces refl) in
-    sym (map-id xs) ∙ all_listed piece_reads piece_columns (λ x. x) piece_same t.pieces xs (subst (λ l. AllZip piece_reads l xs) all read)
+    sym (map-id rows) ∙ shown ∙ ap (map piece_columns) (unfiltered t.pieces refl)
+
+pub shows_all : (old : State) (t : Tables) → Stands old.now t → (xs : List PieceRow) (rows : List Row) → IsAnswer all_query (overlay old.now.trees []) [] rows → AllZip piece_reads rows xs → xs ≡ t.pieces
+shows_all old t it xs rows answer read =
+    sym (map-id xs) ∙ all_listed piece_reads piece_columns (λ x. x) piece_same t.pieces xs (subst (λ l. AllZip piece_reads l xs) (shown_all old t it rows answer) read)
 
 -- ---- piece: the whole table, met as it is
 

@@ -1,5 +1,5 @@
 -- What the statements on `piece` joined with `lot` show.
-use Rattle.std.proofs.Common.{◌≡◌, ℕ, ℤ, Bool, pos, negsuc, ◌&&◌, List, [], ◌∷◌, map, filter, find, reverse, codes, false, None, Some, Option, option_map, refl, subst, ◌∙◌, take, int_eq, nat_le, nat_lt}
+use Rattle.std.proofs.Common.{◌≡◌, ℕ, ℤ, Bool, pos, negsuc, ◌&&◌, List, [], ◌∷◌, map, filter, find, reverse, codes, false, None, Some, Option, option_map, refl, subst, ◌∙◌, take, int_eq, nat_le, nat_lt, true}
 use Rattle.std.specs.List.{AllZip, list_all}
 use Rattle.sqlite_tied.specs.Compute.{everything}
 use Rattle.sqlite.specs.declared.types.Value.TheVariants.{Int, Text}
@@ -28,6 +28,7 @@ use Rattle.goo_columns.specs.Beside.{pieces_beside, joined_in, joined_columns}
 use Rattle.goo_columns.specs.declared.piece.PieceRow.{PieceRow}
 use Rattle.goo_columns.specs.declared.joined.JoinedRow.{JoinedRow}
 use Rattle.goo_columns.specs.Reads.{joined_reads}
+use Rattle.goo_columns.specs.Refused.{is_suited}
 use Rattle.goo_columns.specs.Stands.{Stands}
 use Rattle.goo_columns.specs.Asked.{FirstZip}
 use Rattle.goo_columns.proofs.Read.{all_listed, first_listed}
@@ -106,6 +107,10 @@ pub in_range_plain : IsPlain (understood registry_schema in_range_text)
 unfolding understood everything
 in_range_plain = (refl, refl)
 
+pub in_range_suits : (a : ℕ) (b : ℕ) → is_suited registry_schema in_range_text in_range_query (Int (pos a) ∷ Int (pos b) ∷ []) ≡ true
+unfolding understood everything
+in_range_suits a b = refl
+
 pub in_range_shows : (old : State) (low : ℕ) (high : ℕ) (t : Tables) → Stands old.now t → (xs : List JoinedRow) (rows : List Row) → IsAnswer in_range_query (overlay old.now.trees []) (Int (pos low) ∷ Int (pos high) ∷ []) rows → AllZip joined_reads rows xs
     → map joined_in xs ≡ filter (λ (a : PieceRow × Lot). nat_le low a.0.first && nat_le a.0.first high) (pieces_beside t)
 in_range_shows old low high t it xs rows answer read =
@@ -131,6 +136,10 @@ before_is = (refl, refl)
 pub before_plain : IsPlain (understood registry_schema before_text)
 unfolding understood everything
 before_plain = (refl, refl)
+
+pub before_suits : (a : ℕ) → is_suited registry_schema before_text before_query (Int (pos a) ∷ []) ≡ true
+unfolding understood everything
+before_suits a = refl
 
 pub before_shows : (old : State) (low : ℕ) (t : Tables) → Stands old.now t → (x : Option JoinedRow) (rows : List Row) → IsAnswer before_query (overlay old.now.trees []) (Int (pos low) ∷ []) rows → FirstZip joined_reads rows x
     → option_map joined_in x ≡ find (λ (a : PieceRow × Lot). nat_lt a.0.first low) (reverse (pieces_beside t))
@@ -158,6 +167,10 @@ pub of_account_plain : IsPlain (understood registry_schema of_account_text)
 unfolding understood everything
 of_account_plain = (refl, refl)
 
+pub of_account_suits : (a : ℕ) → is_suited registry_schema of_account_text of_account_query (Int (pos a) ∷ []) ≡ true
+unfolding understood everything
+of_account_suits a = refl
+
 pub of_account_shows : (old : State) (account : ℕ) (t : Tables) → Stands old.now t → (xs : List JoinedRow) (rows : List Row) → IsAnswer of_account_query (overlay old.now.trees []) (Int (pos account) ∷ []) rows → AllZip joined_reads rows xs
     → map joined_in xs ≡ filter (λ (a : PieceRow × Lot). int_eq (pos a.0.account) (pos account)) (pieces_beside t)
 of_account_shows old account t it xs rows answer read =
@@ -183,6 +196,10 @@ expiring_is = (refl, refl)
 pub expiring_plain : IsPlain (understood registry_schema expiring_text)
 unfolding understood everything
 expiring_plain = (refl, refl)
+
+pub expiring_suits : (a : List ℕ) → is_suited registry_schema expiring_text expiring_query (Text a ∷ []) ≡ true
+unfolding understood everything
+expiring_suits a = refl
 
 pub expiring_shows : (old : State) (day : List ℕ) (t : Tables) → Stands old.now t → (xs : List JoinedRow) (rows : List Row) → IsAnswer expiring_query (overlay old.now.trees []) (Text day ∷ []) rows → AllZip joined_reads rows xs
     → map joined_in xs ≡ filter (λ (a : PieceRow × Lot). int_eq (pos a.0.kind) (pos 1) && both_and bytes_lt a.1.expires_on (Some day)) (pieces_beside t)
@@ -210,6 +227,10 @@ pub next_of_plain : IsPlain (understood registry_schema next_of_text)
 unfolding understood everything
 next_of_plain = (refl, refl)
 
+pub next_of_suits : (a : ℕ) (b : ℕ) → is_suited registry_schema next_of_text next_of_query (Int (pos a) ∷ Int (pos b) ∷ []) ≡ true
+unfolding understood everything
+next_of_suits a b = refl
+
 pub next_of_shows : (old : State) (account : ℕ) (after : ℕ) (t : Tables) → Stands old.now t → (x : Option JoinedRow) (rows : List Row) → IsAnswer next_of_query (overlay old.now.trees []) (Int (pos account) ∷ Int (pos after) ∷ []) rows → FirstZip joined_reads rows x
     → option_map joined_in x ≡ find (λ (a : PieceRow × Lot). int_eq (pos a.0.account) (pos account) && nat_lt after a.0.first) (pieces_beside t)
 next_of_shows old account after t it x rows answer read =
@@ -235,6 +256,10 @@ next_due_is = (refl, refl)
 pub next_due_plain : IsPlain (understood registry_schema next_due_text)
 unfolding understood everything
 next_due_plain = (refl, refl)
+
+pub next_due_suits : (a : List ℕ) (b : ℕ) → is_suited registry_schema next_due_text next_due_query (Text a ∷ Int (pos b) ∷ []) ≡ true
+unfolding understood everything
+next_due_suits a b = refl
 
 pub next_due_shows : (old : State) (day : List ℕ) (after : ℕ) (t : Tables) → Stands old.now t → (x : Option JoinedRow) (rows : List Row) → IsAnswer next_due_query (overlay old.now.trees []) (Text day ∷ Int (pos after) ∷ []) rows → FirstZip joined_reads rows x
     → option_map joined_in x ≡ find (λ (a : PieceRow × Lot). int_eq (pos a.0.kind) (pos 1) && (nat_lt after a.0.first && both_and bytes_lt a.1.expires_on (Some day))) (pieces_beside t)

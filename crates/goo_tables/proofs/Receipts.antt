@@ -27,6 +27,7 @@ use Rattle.goo_columns.specs.Columns.{registry_schema}
 use Rattle.goo_columns.specs.Rows.{Tables, Kept, kept_key, Receipt, receipt_in, receipt_columns, receipt_row}
 use Rattle.goo_columns.specs.declared.receipt.ReceiptRow.{ReceiptRow}
 use Rattle.goo_columns.specs.Reads.{receipt_reads}
+use Rattle.goo_columns.specs.Refused.{is_suited}
 use Rattle.goo_columns.specs.Stands.{Stands}
 use Rattle.goo_columns.specs.Asked.{FirstZip}
 use Rattle.goo_columns.proofs.Writing.{inserts}
@@ -89,6 +90,10 @@ pub find_plain : IsPlain (understood registry_schema find_text)
 unfolding understood everything
 find_plain = (refl, refl)
 
+pub find_suits : (a : List ℕ) (b : List ℕ) → is_suited registry_schema find_text find_query (Text a ∷ Text b ∷ []) ≡ true
+unfolding understood everything
+find_suits a b = refl
+
 pub finds : (old : State) (caller : List ℕ) (key : List ℕ) (t : Tables) → Stands old.now t → (x : Option ReceiptRow) (rows : List Row) → IsAnswer find_query (overlay old.now.trees []) (Text caller ∷ Text key ∷ []) rows → FirstZip receipt_reads rows x
     → option_map receipt_in x ≡ option_map (λ (k : (Kept Receipt)). k.1) (find (λ (k : (Kept Receipt)). bytes_eq k.1.caller caller && bytes_eq k.1.key key) t.receipts)
 finds old caller key t it x rows answer read =
@@ -114,14 +119,21 @@ pub all_plain : IsPlain (understood registry_schema all_text)
 unfolding understood everything
 all_plain = (refl, refl)
 
-pub shows_all : (old : State) (t : Tables) → Stands old.now t → (xs : List ReceiptRow) (rows : List Row) → IsAnswer all_query (overlay old.now.trees []) [] rows → AllZip receipt_reads rows xs
-    → map receipt_in xs ≡ map (λ (k : (Kept Receipt)). k.1) t.receipts
-shows_all old t it xs rows answer read =
+pub all_suits : is_suited registry_schema all_text all_query [] ≡ true
+unfolding understood everything
+all_suits = refl
+
+pub shown_all : (old : State) (t : Tables) → Stands old.now t → (rows : List Row) → IsAnswer all_query (overlay old.now.trees []) [] rows → rows ≡ map (λ (k : (Kept Receipt)). receipt_columns k.1) t.receipts
+shown_all old t it rows answer =
     let db = overlay old.now.trees [] in
     let source = last_table db 13 receipt_row kept_key t.receipts it.receipts.are it.receipts.rise (at_end db) in
     let shown = answer_by_keys all_query db [] source (λ _. true) (λ _. refl) (λ r. r) (λ k. receipt_columns k.1) (λ _. refl) refl refl (λ a b. last_key (value_cmp-Int a.0 b.0)) rows answer in
-    let all = sym (map-id rows) ∙ shown ∙ ap (map (λ (k : (Kept Receipt)). receipt_columns k.1)) (unfiltered t.receipts refl) in
-    all_read receipt_reads (λ k. receipt_columns k.1) receipt_in (λ k. k.1) (λ k. receipt_same k.1) t.receipts xs (subst (λ l. AllZip receipt_reads l xs) all read)
+    sym (map-id rows) ∙ shown ∙ ap (map (λ (k : (Kept Receipt)). receipt_columns k.1)) (unfiltered t.receipts refl)
+
+pub shows_all : (old : State) (t : Tables) → Stands old.now t → (xs : List ReceiptRow) (rows : List Row) → IsAnswer all_query (overlay old.now.trees []) [] rows → AllZip receipt_reads rows xs
+    → map receipt_in xs ≡ map (λ (k : (Kept Receipt)). k.1) t.receipts
+shows_all old t it xs rows answer read =
+    all_read receipt_reads (λ k. receipt_columns k.1) receipt_in (λ k. k.1) (λ k. receipt_same k.1) t.receipts xs (subst (λ l. AllZip receipt_reads l xs) (shown_all old t it rows answer) read)
 
 -- ---- receipt: the whole table, met as it is
 

@@ -25,6 +25,7 @@ use Rattle.goo_columns.specs.Columns.{registry_schema}
 use Rattle.goo_columns.specs.Rows.{Tables, Withdrawal, withdrawal_in, withdrawal_columns, withdrawal_row, withdrawal_key}
 use Rattle.goo_columns.specs.declared.withdrawal.WithdrawalRow.{WithdrawalRow}
 use Rattle.goo_columns.specs.Reads.{withdrawal_reads}
+use Rattle.goo_columns.specs.Refused.{is_suited}
 use Rattle.goo_columns.specs.Stands.{Stands}
 use Rattle.goo_columns.specs.Asked.{FirstZip}
 use Rattle.goo_columns.proofs.Writing.{inserts}
@@ -85,6 +86,10 @@ pub find_plain : IsPlain (understood registry_schema find_text)
 unfolding understood everything
 find_plain = (refl, refl)
 
+pub find_suits : (a : ℕ) → is_suited registry_schema find_text find_query (Int (pos a) ∷ []) ≡ true
+unfolding understood everything
+find_suits a = refl
+
 pub finds : (old : State) (number : ℕ) (t : Tables) → Stands old.now t → (x : Option WithdrawalRow) (rows : List Row) → IsAnswer find_query (overlay old.now.trees []) (Int (pos number) ∷ []) rows → FirstZip withdrawal_reads rows x
     → option_map withdrawal_in x ≡ find (λ (x : Withdrawal). int_eq (pos x.number) (pos number)) t.withdrawals
 finds old number t it x rows answer read =
@@ -110,14 +115,21 @@ pub all_plain : IsPlain (understood registry_schema all_text)
 unfolding understood everything
 all_plain = (refl, refl)
 
-pub shows_all : (old : State) (t : Tables) → Stands old.now t → (xs : List WithdrawalRow) (rows : List Row) → IsAnswer all_query (overlay old.now.trees []) [] rows → AllZip withdrawal_reads rows xs
-    → map withdrawal_in xs ≡ t.withdrawals
-shows_all old t it xs rows answer read =
+pub all_suits : is_suited registry_schema all_text all_query [] ≡ true
+unfolding understood everything
+all_suits = refl
+
+pub shown_all : (old : State) (t : Tables) → Stands old.now t → (rows : List Row) → IsAnswer all_query (overlay old.now.trees []) [] rows → rows ≡ map (λ (x : Withdrawal). withdrawal_columns x) t.withdrawals
+shown_all old t it rows answer =
     let db = overlay old.now.trees [] in
     let source = last_table db 16 withdrawal_row withdrawal_key t.withdrawals it.withdrawals.are it.withdrawals.rise (at_end db) in
     let shown = answer_by_keys all_query db [] source (λ _. true) (λ _. refl) (λ r. r) withdrawal_columns (λ _. refl) refl refl (λ a b. last_key (value_cmp-Int (withdrawal_key a) (withdrawal_key b))) rows answer in
-    let all = sym (map-id rows) ∙ shown ∙ ap (map (λ (x : Withdrawal). withdrawal_columns x)) (unfiltered t.withdrawals refl) in
-    all_listed withdrawal_reads withdrawal_columns withdrawal_in withdrawal_same t.withdrawals xs (subst (λ l. AllZip withdrawal_reads l xs) all read)
+    sym (map-id rows) ∙ shown ∙ ap (map (λ (x : Withdrawal). withdrawal_columns x)) (unfiltered t.withdrawals refl)
+
+pub shows_all : (old : State) (t : Tables) → Stands old.now t → (xs : List WithdrawalRow) (rows : List Row) → IsAnswer all_query (overlay old.now.trees []) [] rows → AllZip withdrawal_reads rows xs
+    → map withdrawal_in xs ≡ t.withdrawals
+shows_all old t it xs rows answer read =
+    all_listed withdrawal_reads withdrawal_columns withdrawal_in withdrawal_same t.withdrawals xs (subst (λ l. AllZip withdrawal_reads l xs) (shown_all old t it rows answer) read)
 
 -- ---- withdrawal: the whole table, met as it is
 

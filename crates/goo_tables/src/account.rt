@@ -1,10 +1,12 @@
 //! The statements on `account`.
 
-ghost use Rattle.std.specs.Prelude.{◌≡◌, false, pos, map, IfOk, OnOk, option_map};
+ghost use Rattle.std.specs.Prelude.{◌≡◌, false, pos, map, IfOk, OnOk, option_map, All};
 ghost use Rattle.sqlite.specs.State.{HasCleanDisk, KeepsCommit, Survives};
 ghost use Rattle.sqlite.specs.Held.{state};
 ghost use Rattle.sqlite_keyed.specs.Keyed.{get_by};
-ghost use Rattle.goo_columns.specs.Rows.{Tables, account_in, account_key, account_row};
+ghost use Rattle.goo_columns.specs.Rows.{Tables, account_in, account_key, account_row, account_columns};
+ghost use Rattle.goo_columns.specs.Readable.{account_readable};
+ghost use Rattle.goo_columns.specs.Refused.{FailsByFault, FailsOnlyByFault};
 ghost use Rattle.goo_columns.specs.Stands.{Sees, Looks, Keeps};
 ghost use Rattle.goo_columns.specs.Met.{HasOurTables};
 ghost use Rattle.goo_tables.specs.Changes.{with_account, with_closed};
@@ -61,6 +63,7 @@ pub fn find_account<S: Alter>(
 ) -> Result<Option<AccountRow>, Error>
     ensures looks { Looks (state S.Store conn.old) (state S.Store conn.new) result
         (λ t found. option_map account_in found ≡ get_by account_key t.accounts (pos number)) }
+    ensures refused { FailsByFault (state S.Store conn.old) (state S.Store conn.new) result }
     ensures outside { conn.old.in_transaction ≡ false → conn.new.in_transaction ≡ false }
 {
     ask_first(
@@ -78,6 +81,8 @@ pub fn all_accounts<S: Alter>(
 ) -> Result<Vec<AccountRow>, Error>
     ensures looks { Looks (state S.Store conn.old) (state S.Store conn.new) result (λ t found. map account_in found.items ≡ t.accounts) }
     ensures met { HasCleanDisk (state S.Store conn.new) → HasOurTables (state S.Store conn.old).now → IfOk result (λ found. Keeps ((state S.Store conn.old).now.trees 3) account_row account_key (map account_in found.items)) }
+    ensures readable { FailsOnlyByFault (state S.Store conn.old) (state S.Store conn.new) result (λ t. All account_readable (map account_columns t.accounts)) }
+    ensures refused { FailsByFault (state S.Store conn.old) (state S.Store conn.new) result }
     ensures outside { conn.old.in_transaction ≡ false → conn.new.in_transaction ≡ false }
 {
     ask_all(

@@ -1,10 +1,12 @@
 //! The statements on `cancellation`.
 
-ghost use Rattle.std.specs.Prelude.{◌≡◌, false, pos, map, IfOk, OnOk, option_map};
+ghost use Rattle.std.specs.Prelude.{◌≡◌, false, pos, map, IfOk, OnOk, option_map, All};
 ghost use Rattle.sqlite.specs.State.{HasCleanDisk, KeepsCommit, Survives};
 ghost use Rattle.sqlite.specs.Held.{state};
 ghost use Rattle.sqlite_keyed.specs.Keyed.{get_by};
-ghost use Rattle.goo_columns.specs.Rows.{Tables, cancellation_in, cancellation_key, cancellation_row};
+ghost use Rattle.goo_columns.specs.Rows.{Tables, cancellation_in, cancellation_key, cancellation_row, cancellation_columns};
+ghost use Rattle.goo_columns.specs.Readable.{cancellation_readable};
+ghost use Rattle.goo_columns.specs.Refused.{FailsByFault, FailsOnlyByFault};
 ghost use Rattle.goo_columns.specs.Stands.{Sees, Looks, Keeps};
 ghost use Rattle.goo_columns.specs.Met.{HasOurTables};
 ghost use Rattle.goo_tables.specs.Changes.{with_cancellation, CancellationFits};
@@ -52,6 +54,7 @@ pub fn find_cancellation<S: Alter>(
 ) -> Result<Option<CancellationRow>, Error>
     ensures looks { Looks (state S.Store conn.old) (state S.Store conn.new) result
         (λ t found. option_map cancellation_in found ≡ get_by cancellation_key t.cancellations (pos number)) }
+    ensures refused { FailsByFault (state S.Store conn.old) (state S.Store conn.new) result }
     ensures outside { conn.old.in_transaction ≡ false → conn.new.in_transaction ≡ false }
 {
     ask_first(
@@ -69,6 +72,8 @@ pub fn all_cancellations<S: Alter>(
 ) -> Result<Vec<CancellationRow>, Error>
     ensures looks { Looks (state S.Store conn.old) (state S.Store conn.new) result (λ t found. map cancellation_in found.items ≡ t.cancellations) }
     ensures met { HasCleanDisk (state S.Store conn.new) → HasOurTables (state S.Store conn.old).now → IfOk result (λ found. Keeps ((state S.Store conn.old).now.trees 15) cancellation_row cancellation_key (map cancellation_in found.items)) }
+    ensures readable { FailsOnlyByFault (state S.Store conn.old) (state S.Store conn.new) result (λ t. All cancellation_readable (map cancellation_columns t.cancellations)) }
+    ensures refused { FailsByFault (state S.Store conn.old) (state S.Store conn.new) result }
     ensures outside { conn.old.in_transaction ≡ false → conn.new.in_transaction ≡ false }
 {
     ask_all(

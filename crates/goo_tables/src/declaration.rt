@@ -1,10 +1,12 @@
 //! The statements on `declaration`.
 
-ghost use Rattle.std.specs.Prelude.{slice_get, reverse, ◌≡◌, ◌&&◌, false, map, find, IfOk, OnOk, option_map};
+ghost use Rattle.std.specs.Prelude.{slice_get, reverse, ◌≡◌, ◌&&◌, false, map, find, IfOk, OnOk, option_map, All};
 ghost use Rattle.sqlite.specs.State.{HasCleanDisk, KeepsCommit, Survives};
 ghost use Rattle.sqlite.specs.Held.{state};
 ghost use Rattle.sqlite_typed.specs.Tests.{bytes_eq};
-ghost use Rattle.goo_columns.specs.Rows.{Tables, declaration_in, declaration_row, declaration_key};
+ghost use Rattle.goo_columns.specs.Rows.{Tables, declaration_in, declaration_row, declaration_key, declaration_columns};
+ghost use Rattle.goo_columns.specs.Readable.{declaration_readable};
+ghost use Rattle.goo_columns.specs.Refused.{FailsByFault, FailsOnlyByFault};
 ghost use Rattle.goo_columns.specs.Stands.{Sees, Looks, Keeps};
 ghost use Rattle.goo_columns.specs.Met.{HasOurTables};
 ghost use Rattle.goo_tables.specs.Changes.{with_declaration, DeclarationFits};
@@ -51,6 +53,7 @@ pub fn find_declaration<S: Alter>(
 ) -> Result<Option<DeclarationRow>, Error>
     ensures looks { Looks (state S.Store conn.old) (state S.Store conn.new) result
         (λ t found. option_map declaration_in found ≡ find (λ x. bytes_eq x.device device.now && bytes_eq x.first_day first_day.now) t.declarations) }
+    ensures refused { FailsByFault (state S.Store conn.old) (state S.Store conn.new) result }
     ensures outside { conn.old.in_transaction ≡ false → conn.new.in_transaction ≡ false }
 {
     ask_first(
@@ -68,6 +71,8 @@ pub fn all_declarations<S: Alter>(
 ) -> Result<Vec<DeclarationRow>, Error>
     ensures looks { Looks (state S.Store conn.old) (state S.Store conn.new) result (λ t found. map declaration_in found.items ≡ t.declarations) }
     ensures met { HasCleanDisk (state S.Store conn.new) → HasOurTables (state S.Store conn.old).now → IfOk result (λ found. Keeps ((state S.Store conn.old).now.trees 6) declaration_row declaration_key (map declaration_in found.items)) }
+    ensures readable { FailsOnlyByFault (state S.Store conn.old) (state S.Store conn.new) result (λ t. All declaration_readable (map declaration_columns t.declarations)) }
+    ensures refused { FailsByFault (state S.Store conn.old) (state S.Store conn.new) result }
     ensures outside { conn.old.in_transaction ≡ false → conn.new.in_transaction ≡ false }
 {
     ask_all(
@@ -84,6 +89,7 @@ pub fn last_declaration<S: Alter>(
     conn: &mut Connection<S>,
 ) -> Result<Option<DeclarationRow>, Error>
     ensures looks { Looks (state S.Store conn.old) (state S.Store conn.new) result (λ t found. option_map declaration_in found ≡ slice_get (reverse t.declarations) 0) }
+    ensures refused { FailsByFault (state S.Store conn.old) (state S.Store conn.new) result }
     ensures outside { conn.old.in_transaction ≡ false → conn.new.in_transaction ≡ false }
 {
     ask_first(

@@ -1,11 +1,13 @@
 //! The statements on `device`.
 
-ghost use Rattle.std.specs.Prelude.{◌≡◌, ◌<◌, ◌^◌, false, map, filter, find, IfOk, OnOk, option_map};
+ghost use Rattle.std.specs.Prelude.{◌≡◌, ◌<◌, ◌^◌, false, map, filter, find, IfOk, OnOk, option_map, All};
 ghost use Rattle.sqlite.specs.State.{HasCleanDisk, KeepsCommit, Survives};
 ghost use Rattle.sqlite.specs.Held.{state};
 ghost use Rattle.sqlite_typed.specs.Tests.{bytes_eq};
-ghost use Rattle.goo_columns.specs.Rows.{Tables, device_in, device_row};
+ghost use Rattle.goo_columns.specs.Rows.{Tables, device_in, device_row, device_columns};
 ghost use Rattle.goo_columns.specs.Once.{IsOnce};
+ghost use Rattle.goo_columns.specs.Readable.{device_readable};
+ghost use Rattle.goo_columns.specs.Refused.{FailsByFault, FailsOnlyByFault};
 ghost use Rattle.goo_columns.specs.Stands.{Sees, Looks};
 ghost use Rattle.goo_columns.specs.Met.{HasOurTables, KeepsSome};
 ghost use Rattle.goo_tables.specs.Changes.{with_device, with_progress, DeviceFits};
@@ -80,6 +82,7 @@ pub fn find_device<S: Alter>(
 ) -> Result<Option<DeviceRow>, Error>
     ensures looks { Looks (state S.Store conn.old) (state S.Store conn.new) result
         (λ t found. option_map device_in found ≡ option_map (λ k. k.1) (find (λ k. bytes_eq k.1.gsrn gsrn.now) t.devices)) }
+    ensures refused { FailsByFault (state S.Store conn.old) (state S.Store conn.new) result }
     ensures outside { conn.old.in_transaction ≡ false → conn.new.in_transaction ≡ false }
 {
     ask_first(
@@ -97,6 +100,8 @@ pub fn all_devices<S: Alter>(
 ) -> Result<Vec<DeviceRow>, Error>
     ensures looks { Looks (state S.Store conn.old) (state S.Store conn.new) result (λ t found. map device_in found.items ≡ map (λ k. k.1) t.devices) }
     ensures met { HasCleanDisk (state S.Store conn.new) → HasOurTables (state S.Store conn.old).now → IfOk result (λ found. KeepsSome ((state S.Store conn.old).now.trees 4) device_row (map device_in found.items)) }
+    ensures readable { FailsOnlyByFault (state S.Store conn.old) (state S.Store conn.new) result (λ t. All device_readable (map (λ k. device_columns k.1) t.devices)) }
+    ensures refused { FailsByFault (state S.Store conn.old) (state S.Store conn.new) result }
     ensures outside { conn.old.in_transaction ≡ false → conn.new.in_transaction ≡ false }
 {
     ask_all(

@@ -1,10 +1,12 @@
 //! The statements on `holder`.
 
-ghost use Rattle.std.specs.Prelude.{◌≡◌, false, map, find, IfOk, OnOk, option_map};
+ghost use Rattle.std.specs.Prelude.{◌≡◌, false, map, find, IfOk, OnOk, option_map, All};
 ghost use Rattle.sqlite.specs.State.{HasCleanDisk, KeepsCommit, Survives};
 ghost use Rattle.sqlite.specs.Held.{state};
 ghost use Rattle.sqlite_typed.specs.Tests.{bytes_eq};
-ghost use Rattle.goo_columns.specs.Rows.{Tables, holder_in, holder_row};
+ghost use Rattle.goo_columns.specs.Rows.{Tables, holder_in, holder_row, holder_columns};
+ghost use Rattle.goo_columns.specs.Readable.{holder_readable};
+ghost use Rattle.goo_columns.specs.Refused.{FailsByFault, FailsOnlyByFault};
 ghost use Rattle.goo_columns.specs.Stands.{Sees, Looks};
 ghost use Rattle.goo_columns.specs.Met.{HasOurTables, KeepsSome};
 ghost use Rattle.goo_tables.specs.Changes.{with_holder};
@@ -42,6 +44,7 @@ pub fn find_holder<S: Alter>(
 ) -> Result<Option<HolderRow>, Error>
     ensures looks { Looks (state S.Store conn.old) (state S.Store conn.new) result
         (λ t found. option_map holder_in found ≡ option_map (λ k. k.1) (find (λ k. bytes_eq k.1.code code.now) t.holders)) }
+    ensures refused { FailsByFault (state S.Store conn.old) (state S.Store conn.new) result }
     ensures outside { conn.old.in_transaction ≡ false → conn.new.in_transaction ≡ false }
 {
     ask_first(
@@ -59,6 +62,8 @@ pub fn all_holders<S: Alter>(
 ) -> Result<Vec<HolderRow>, Error>
     ensures looks { Looks (state S.Store conn.old) (state S.Store conn.new) result (λ t found. map holder_in found.items ≡ map (λ k. k.1) t.holders) }
     ensures met { HasCleanDisk (state S.Store conn.new) → HasOurTables (state S.Store conn.old).now → IfOk result (λ found. KeepsSome ((state S.Store conn.old).now.trees 1) holder_row (map holder_in found.items)) }
+    ensures readable { FailsOnlyByFault (state S.Store conn.old) (state S.Store conn.new) result (λ t. All holder_readable (map (λ k. holder_columns k.1) t.holders)) }
+    ensures refused { FailsByFault (state S.Store conn.old) (state S.Store conn.new) result }
     ensures outside { conn.old.in_transaction ≡ false → conn.new.in_transaction ≡ false }
 {
     ask_all(

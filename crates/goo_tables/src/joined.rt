@@ -4,6 +4,7 @@ ghost use Rattle.std.specs.Prelude.{◌≡◌, ◌&&◌, ◌<◌, ◌^◌, Some,
 ghost use Rattle.std.specs.Ordering.{int_eq};
 ghost use Rattle.sqlite.specs.Held.{state};
 ghost use Rattle.sqlite_typed.specs.Tests.{bytes_lt, both_and};
+ghost use Rattle.goo_columns.specs.Refused.{FailsByFault};
 ghost use Rattle.goo_columns.specs.Stands.{Looks};
 ghost use Rattle.goo_columns.specs.Beside.{joined_in, pieces_beside};
 
@@ -25,6 +26,7 @@ pub fn pieces_beginning<S: Alter>(
     requires { (low < 2 ^ 63) × (high < 2 ^ 63) }
     ensures looks { Looks (state S.Store conn.old) (state S.Store conn.new) result
         (λ t found. map joined_in found.items ≡ filter (λ a. nat_le low a.0.first && nat_le a.0.first high) (pieces_beside t)) }
+    ensures refused { FailsByFault (state S.Store conn.old) (state S.Store conn.new) result }
     ensures outside { conn.old.in_transaction ≡ false → conn.new.in_transaction ≡ false }
 {
     ask_all(
@@ -44,6 +46,7 @@ pub fn piece_before<S: Alter>(
     requires { low < 2 ^ 63 }
     ensures looks { Looks (state S.Store conn.old) (state S.Store conn.new) result
         (λ t found. option_map joined_in found ≡ find (λ a. nat_lt a.0.first low) (reverse (pieces_beside t))) }
+    ensures refused { FailsByFault (state S.Store conn.old) (state S.Store conn.new) result }
     ensures outside { conn.old.in_transaction ≡ false → conn.new.in_transaction ≡ false }
 {
     ask_first(
@@ -62,6 +65,7 @@ pub fn pieces_of_account<S: Alter>(
 ) -> Result<Vec<JoinedRow>, Error>
     ensures looks { Looks (state S.Store conn.old) (state S.Store conn.new) result
         (λ t found. map joined_in found.items ≡ filter (λ a. int_eq (pos a.0.account) (pos account)) (pieces_beside t)) }
+    ensures refused { FailsByFault (state S.Store conn.old) (state S.Store conn.new) result }
     ensures outside { conn.old.in_transaction ≡ false → conn.new.in_transaction ≡ false }
 {
     ask_all(
@@ -80,6 +84,7 @@ pub fn pieces_expiring<S: Alter>(
 ) -> Result<Vec<JoinedRow>, Error>
     ensures looks { Looks (state S.Store conn.old) (state S.Store conn.new) result
         (λ t found. map joined_in found.items ≡ filter (λ a. int_eq (pos a.0.kind) (pos 1) && both_and bytes_lt a.1.expires_on (Some day.now)) (pieces_beside t)) }
+    ensures refused { FailsByFault (state S.Store conn.old) (state S.Store conn.new) result }
     ensures outside { conn.old.in_transaction ≡ false → conn.new.in_transaction ≡ false }
 {
     ask_all(
@@ -102,6 +107,7 @@ pub fn next_of_account<S: Alter>(
     requires { after < 2 ^ 63 }
     ensures looks { Looks (state S.Store conn.old) (state S.Store conn.new) result
         (λ t found. option_map joined_in found ≡ find (λ a. int_eq (pos a.0.account) (pos account) && nat_lt after a.0.first) (pieces_beside t)) }
+    ensures refused { FailsByFault (state S.Store conn.old) (state S.Store conn.new) result }
     ensures outside { conn.old.in_transaction ≡ false → conn.new.in_transaction ≡ false }
 {
     ask_first(
@@ -122,6 +128,7 @@ pub fn next_expiring<S: Alter>(
     requires { after < 2 ^ 63 }
     ensures looks { Looks (state S.Store conn.old) (state S.Store conn.new) result
         (λ t found. option_map joined_in found ≡ find (λ a. int_eq (pos a.0.kind) (pos 1) && (nat_lt after a.0.first && both_and bytes_lt a.1.expires_on (Some day.now))) (pieces_beside t)) }
+    ensures refused { FailsByFault (state S.Store conn.old) (state S.Store conn.new) result }
     ensures outside { conn.old.in_transaction ≡ false → conn.new.in_transaction ≡ false }
 {
     ask_first(

@@ -1,12 +1,14 @@
 //! The statements on `lot`.
 
-ghost use Rattle.std.specs.Prelude.{slice_get, reverse, ◌≡◌, ◌&&◌, false, pos, map, find, IfOk, OnOk, option_map, ◌<◌, ◌^◌};
+ghost use Rattle.std.specs.Prelude.{slice_get, reverse, ◌≡◌, ◌&&◌, false, pos, map, find, IfOk, OnOk, option_map, ◌<◌, ◌^◌, All};
 ghost use Rattle.std.specs.Ordering.{int_eq};
 ghost use Rattle.sqlite.specs.State.{HasCleanDisk, KeepsCommit, Survives};
 ghost use Rattle.sqlite.specs.Held.{state};
 ghost use Rattle.sqlite_typed.specs.Tests.{bytes_eq};
 ghost use Rattle.sqlite_keyed.specs.Keyed.{get_by};
-ghost use Rattle.goo_columns.specs.Rows.{Tables, lot_in, lot_row, lot_key};
+ghost use Rattle.goo_columns.specs.Rows.{Tables, lot_in, lot_row, lot_key, lot_columns};
+ghost use Rattle.goo_columns.specs.Readable.{lot_readable};
+ghost use Rattle.goo_columns.specs.Refused.{FailsByFault, FailsOnlyByFault};
 ghost use Rattle.goo_columns.specs.Stands.{Sees, Looks, Keeps};
 ghost use Rattle.goo_columns.specs.Met.{HasOurTables};
 ghost use Rattle.goo_tables.specs.Changes.{with_lot, LotFits};
@@ -59,6 +61,7 @@ pub fn find_lot<S: Alter>(
 ) -> Result<Option<LotRow>, Error>
     ensures looks { Looks (state S.Store conn.old) (state S.Store conn.new) result
         (λ t found. option_map lot_in found ≡ find (λ x. int_eq (pos x.origin) (pos origin) && (bytes_eq x.device device.now && bytes_eq x.first_day first_day.now)) t.lots) }
+    ensures refused { FailsByFault (state S.Store conn.old) (state S.Store conn.new) result }
     ensures outside { conn.old.in_transaction ≡ false → conn.new.in_transaction ≡ false }
 {
     ask_first(
@@ -77,6 +80,7 @@ pub fn find_lot_by_id<S: Alter>(
 ) -> Result<Option<LotRow>, Error>
     requires { id < 2 ^ 63 }
     ensures looks { Looks (state S.Store conn.old) (state S.Store conn.new) result (λ t found. option_map lot_in found ≡ get_by lot_key t.lots (pos id)) }
+    ensures refused { FailsByFault (state S.Store conn.old) (state S.Store conn.new) result }
     ensures outside { conn.old.in_transaction ≡ false → conn.new.in_transaction ≡ false }
 {
     ask_first(
@@ -91,6 +95,8 @@ pub fn find_lot_by_id<S: Alter>(
 pub fn all_lots<S: Alter>(alloc: Global, conn: &mut Connection<S>) -> Result<Vec<LotRow>, Error>
     ensures looks { Looks (state S.Store conn.old) (state S.Store conn.new) result (λ t found. map lot_in found.items ≡ t.lots) }
     ensures met { HasCleanDisk (state S.Store conn.new) → HasOurTables (state S.Store conn.old).now → IfOk result (λ found. Keeps ((state S.Store conn.old).now.trees 8) lot_row lot_key (map lot_in found.items)) }
+    ensures readable { FailsOnlyByFault (state S.Store conn.old) (state S.Store conn.new) result (λ t. All (lot_readable 0) (map lot_columns t.lots)) }
+    ensures refused { FailsByFault (state S.Store conn.old) (state S.Store conn.new) result }
     ensures outside { conn.old.in_transaction ≡ false → conn.new.in_transaction ≡ false }
 {
     ask_all(
@@ -104,6 +110,7 @@ pub fn all_lots<S: Alter>(alloc: Global, conn: &mut Connection<S>) -> Result<Vec
 /// The lot with the highest number.
 pub fn last_lot<S: Alter>(alloc: Global, conn: &mut Connection<S>) -> Result<Option<LotRow>, Error>
     ensures looks { Looks (state S.Store conn.old) (state S.Store conn.new) result (λ t found. option_map lot_in found ≡ slice_get (reverse t.lots) 0) }
+    ensures refused { FailsByFault (state S.Store conn.old) (state S.Store conn.new) result }
     ensures outside { conn.old.in_transaction ≡ false → conn.new.in_transaction ≡ false }
 {
     ask_first(

@@ -1,9 +1,12 @@
 //! The statements on `meta`, which has one row.
 
-ghost use Rattle.std.specs.Prelude.{◌≡◌, [], ◌∷◌, false, map, Some, IsTrue, IfOk, OnOk, option_map};
+ghost use Rattle.std.specs.Prelude.{◌≡◌, [], ◌∷◌, false, map, Some, IsTrue, IfOk, OnOk, option_map, All, pos};
 ghost use Rattle.sqlite.specs.State.{HasCleanDisk, KeepsCommit, Survives};
 ghost use Rattle.sqlite.specs.Held.{state};
-ghost use Rattle.goo_columns.specs.Rows.{Tables, meta_in, numbered_in, numbered_key, numbered_row};
+ghost use Rattle.sqlite.specs.declared.types.Value.TheVariants.{Int};
+ghost use Rattle.goo_columns.specs.Rows.{Tables, meta_in, numbered_in, numbered_key, numbered_row, meta_columns};
+ghost use Rattle.goo_columns.specs.Readable.{numbered_meta_readable};
+ghost use Rattle.goo_columns.specs.Refused.{FailsByFault, FailsOnlyByFault};
 ghost use Rattle.goo_columns.specs.Stands.{Sees, Looks, IsBare, Keeps};
 ghost use Rattle.goo_columns.specs.Met.{HasOurTables};
 ghost use Rattle.goo_tables.specs.Changes.{MetaFits, CountersFit, begun, at_day, with_counters};
@@ -48,6 +51,7 @@ pub fn find_meta<S: Alter>(
     conn: &mut Connection<S>,
 ) -> Result<Option<MetaRow>, Error>
     ensures looks { Looks (state S.Store conn.old) (state S.Store conn.new) result (λ t found. option_map meta_in found ≡ Some t.meta) }
+    ensures refused { FailsByFault (state S.Store conn.old) (state S.Store conn.new) result }
     ensures outside { conn.old.in_transaction ≡ false → conn.new.in_transaction ≡ false }
 {
     ask_first(
@@ -105,6 +109,8 @@ pub fn all_meta<S: Alter>(
 ) -> Result<Vec<NumberedMeta>, Error>
     ensures looks { Looks (state S.Store conn.old) (state S.Store conn.new) result (λ t found. map numbered_in found.items ≡ record { id = 1; meta = t.meta } ∷ []) }
     ensures met { HasCleanDisk (state S.Store conn.new) → HasOurTables (state S.Store conn.old).now → IfOk result (λ found. Keeps ((state S.Store conn.old).now.trees 0) numbered_row numbered_key (map numbered_in found.items)) }
+    ensures readable { FailsOnlyByFault (state S.Store conn.old) (state S.Store conn.new) result (λ t. All numbered_meta_readable (map (λ m. Int (pos 1) ∷ meta_columns m) (t.meta ∷ []))) }
+    ensures refused { FailsByFault (state S.Store conn.old) (state S.Store conn.new) result }
     ensures outside { conn.old.in_transaction ≡ false → conn.new.in_transaction ≡ false }
 {
     ask_all(

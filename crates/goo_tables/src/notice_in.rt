@@ -1,10 +1,12 @@
 //! The statements on `notice_in`.
 
-ghost use Rattle.std.specs.Prelude.{◌≡◌, ◌&&◌, false, pos, map, find, IfOk, OnOk, option_map};
+ghost use Rattle.std.specs.Prelude.{◌≡◌, ◌&&◌, false, pos, map, find, IfOk, OnOk, option_map, All};
 ghost use Rattle.std.specs.Ordering.{int_eq};
 ghost use Rattle.sqlite.specs.State.{HasCleanDisk, KeepsCommit, Survives};
 ghost use Rattle.sqlite.specs.Held.{state};
-ghost use Rattle.goo_columns.specs.Rows.{Tables, notice_in_in, notice_in_row};
+ghost use Rattle.goo_columns.specs.Rows.{Tables, notice_in_in, notice_in_row, notice_in_columns};
+ghost use Rattle.goo_columns.specs.Readable.{notice_in_readable};
+ghost use Rattle.goo_columns.specs.Refused.{FailsByFault, FailsOnlyByFault};
 ghost use Rattle.goo_columns.specs.Stands.{Sees, Looks};
 ghost use Rattle.goo_columns.specs.Met.{HasOurTables, KeepsSome};
 ghost use Rattle.goo_tables.specs.Changes.{with_notice_in};
@@ -47,6 +49,7 @@ pub fn find_notice_in<S: Alter>(
 ) -> Result<Option<NoticeInRow>, Error>
     ensures looks { Looks (state S.Store conn.old) (state S.Store conn.new) result
         (λ t found. option_map notice_in_in found ≡ option_map (λ k. k.1) (find (λ k. int_eq (pos k.1.sender) (pos sender) && int_eq (pos k.1.number) (pos number)) t.notices_in)) }
+    ensures refused { FailsByFault (state S.Store conn.old) (state S.Store conn.new) result }
     ensures outside { conn.old.in_transaction ≡ false → conn.new.in_transaction ≡ false }
 {
     ask_first(
@@ -64,6 +67,8 @@ pub fn all_notices_in<S: Alter>(
 ) -> Result<Vec<NoticeInRow>, Error>
     ensures looks { Looks (state S.Store conn.old) (state S.Store conn.new) result (λ t found. map notice_in_in found.items ≡ map (λ k. k.1) t.notices_in) }
     ensures met { HasCleanDisk (state S.Store conn.new) → HasOurTables (state S.Store conn.old).now → IfOk result (λ found. KeepsSome ((state S.Store conn.old).now.trees 18) notice_in_row (map notice_in_in found.items)) }
+    ensures readable { FailsOnlyByFault (state S.Store conn.old) (state S.Store conn.new) result (λ t. All notice_in_readable (map (λ k. notice_in_columns k.1) t.notices_in)) }
+    ensures refused { FailsByFault (state S.Store conn.old) (state S.Store conn.new) result }
     ensures outside { conn.old.in_transaction ≡ false → conn.new.in_transaction ≡ false }
 {
     ask_all(

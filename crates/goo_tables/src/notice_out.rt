@@ -1,10 +1,12 @@
 //! The statements on `notice_out`.
 
-ghost use Rattle.std.specs.Prelude.{◌≡◌, false, pos, map, IfOk, OnOk, option_map};
+ghost use Rattle.std.specs.Prelude.{◌≡◌, false, pos, map, IfOk, OnOk, option_map, All};
 ghost use Rattle.sqlite.specs.State.{HasCleanDisk, KeepsCommit, Survives};
 ghost use Rattle.sqlite.specs.Held.{state};
 ghost use Rattle.sqlite_keyed.specs.Keyed.{get_by};
-ghost use Rattle.goo_columns.specs.Rows.{Tables, notice_out_in, notice_out_key, notice_out_row};
+ghost use Rattle.goo_columns.specs.Rows.{Tables, notice_out_in, notice_out_key, notice_out_row, notice_out_columns};
+ghost use Rattle.goo_columns.specs.Readable.{notice_out_readable};
+ghost use Rattle.goo_columns.specs.Refused.{FailsByFault, FailsOnlyByFault};
 ghost use Rattle.goo_columns.specs.Stands.{Sees, Looks, Keeps};
 ghost use Rattle.goo_columns.specs.Met.{HasOurTables};
 ghost use Rattle.goo_tables.specs.Changes.{with_notice_out};
@@ -46,6 +48,7 @@ pub fn find_notice_out<S: Alter>(
 ) -> Result<Option<NoticeOutRow>, Error>
     ensures looks { Looks (state S.Store conn.old) (state S.Store conn.new) result
         (λ t found. option_map notice_out_in found ≡ get_by notice_out_key t.notices_out (pos number)) }
+    ensures refused { FailsByFault (state S.Store conn.old) (state S.Store conn.new) result }
     ensures outside { conn.old.in_transaction ≡ false → conn.new.in_transaction ≡ false }
 {
     ask_first(
@@ -63,6 +66,8 @@ pub fn all_notices_out<S: Alter>(
 ) -> Result<Vec<NoticeOutRow>, Error>
     ensures looks { Looks (state S.Store conn.old) (state S.Store conn.new) result (λ t found. map notice_out_in found.items ≡ t.notices_out) }
     ensures met { HasCleanDisk (state S.Store conn.new) → HasOurTables (state S.Store conn.old).now → IfOk result (λ found. Keeps ((state S.Store conn.old).now.trees 17) notice_out_row notice_out_key (map notice_out_in found.items)) }
+    ensures readable { FailsOnlyByFault (state S.Store conn.old) (state S.Store conn.new) result (λ t. All notice_out_readable (map notice_out_columns t.notices_out)) }
+    ensures refused { FailsByFault (state S.Store conn.old) (state S.Store conn.new) result }
     ensures outside { conn.old.in_transaction ≡ false → conn.new.in_transaction ≡ false }
 {
     ask_all(

@@ -1,10 +1,12 @@
 //! The statements on `peer`.
 
-ghost use Rattle.std.specs.Prelude.{◌≡◌, false, pos, map, find, IfOk, OnOk, option_map};
+ghost use Rattle.std.specs.Prelude.{◌≡◌, false, pos, map, find, IfOk, OnOk, option_map, All};
 ghost use Rattle.std.specs.Ordering.{int_eq};
 ghost use Rattle.sqlite.specs.State.{HasCleanDisk, KeepsCommit, Survives};
 ghost use Rattle.sqlite.specs.Held.{state};
-ghost use Rattle.goo_columns.specs.Rows.{Tables, peer_row};
+ghost use Rattle.goo_columns.specs.Rows.{Tables, peer_row, peer_columns};
+ghost use Rattle.goo_columns.specs.Readable.{peer_readable};
+ghost use Rattle.goo_columns.specs.Refused.{FailsByFault, FailsOnlyByFault};
 ghost use Rattle.goo_columns.specs.Stands.{Sees, Looks};
 ghost use Rattle.goo_columns.specs.Met.{HasOurTables, KeepsSome};
 ghost use Rattle.goo_tables.specs.Changes.{with_peer};
@@ -39,6 +41,7 @@ pub fn find_peer<S: Alter>(
 ) -> Result<Option<PeerRow>, Error>
     ensures looks { Looks (state S.Store conn.old) (state S.Store conn.new) result
         (λ t found. found ≡ option_map (λ k. k.1) (find (λ k. int_eq (pos k.1.code) (pos code)) t.peers)) }
+    ensures refused { FailsByFault (state S.Store conn.old) (state S.Store conn.new) result }
     ensures outside { conn.old.in_transaction ≡ false → conn.new.in_transaction ≡ false }
 {
     ask_first(
@@ -53,6 +56,8 @@ pub fn find_peer<S: Alter>(
 pub fn all_peers<S: Alter>(alloc: Global, conn: &mut Connection<S>) -> Result<Vec<PeerRow>, Error>
     ensures looks { Looks (state S.Store conn.old) (state S.Store conn.new) result (λ t found. found.items ≡ map (λ k. k.1) t.peers) }
     ensures met { HasCleanDisk (state S.Store conn.new) → HasOurTables (state S.Store conn.old).now → IfOk result (λ found. KeepsSome ((state S.Store conn.old).now.trees 11) peer_row found.items) }
+    ensures readable { FailsOnlyByFault (state S.Store conn.old) (state S.Store conn.new) result (λ t. All peer_readable (map (λ k. peer_columns k.1) t.peers)) }
+    ensures refused { FailsByFault (state S.Store conn.old) (state S.Store conn.new) result }
     ensures outside { conn.old.in_transaction ≡ false → conn.new.in_transaction ≡ false }
 {
     ask_all(alloc, conn, "SELECT code FROM peer ORDER BY rowid", &[])

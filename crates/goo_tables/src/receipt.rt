@@ -1,10 +1,12 @@
 //! The statements on `receipt`.
 
-ghost use Rattle.std.specs.Prelude.{◌≡◌, ◌&&◌, false, map, find, IfOk, OnOk, option_map};
+ghost use Rattle.std.specs.Prelude.{◌≡◌, ◌&&◌, false, map, find, IfOk, OnOk, option_map, All};
 ghost use Rattle.sqlite.specs.State.{HasCleanDisk, KeepsCommit, Survives};
 ghost use Rattle.sqlite.specs.Held.{state};
 ghost use Rattle.sqlite_typed.specs.Tests.{bytes_eq};
-ghost use Rattle.goo_columns.specs.Rows.{Tables, receipt_in, receipt_row};
+ghost use Rattle.goo_columns.specs.Rows.{Tables, receipt_in, receipt_row, receipt_columns};
+ghost use Rattle.goo_columns.specs.Readable.{receipt_readable};
+ghost use Rattle.goo_columns.specs.Refused.{FailsByFault, FailsOnlyByFault};
 ghost use Rattle.goo_columns.specs.Stands.{Sees, Looks};
 ghost use Rattle.goo_columns.specs.Met.{HasOurTables, KeepsSome};
 ghost use Rattle.goo_tables.specs.Changes.{with_receipt, ReceiptFits};
@@ -52,6 +54,7 @@ pub fn find_receipt<S: Alter>(
 ) -> Result<Option<ReceiptRow>, Error>
     ensures looks { Looks (state S.Store conn.old) (state S.Store conn.new) result
         (λ t found. option_map receipt_in found ≡ option_map (λ k. k.1) (find (λ k. bytes_eq k.1.caller caller.now && bytes_eq k.1.key key.now) t.receipts)) }
+    ensures refused { FailsByFault (state S.Store conn.old) (state S.Store conn.new) result }
     ensures outside { conn.old.in_transaction ≡ false → conn.new.in_transaction ≡ false }
 {
     ask_first(
@@ -69,6 +72,8 @@ pub fn all_receipts<S: Alter>(
 ) -> Result<Vec<ReceiptRow>, Error>
     ensures looks { Looks (state S.Store conn.old) (state S.Store conn.new) result (λ t found. map receipt_in found.items ≡ map (λ k. k.1) t.receipts) }
     ensures met { HasCleanDisk (state S.Store conn.new) → HasOurTables (state S.Store conn.old).now → IfOk result (λ found. KeepsSome ((state S.Store conn.old).now.trees 13) receipt_row (map receipt_in found.items)) }
+    ensures readable { FailsOnlyByFault (state S.Store conn.old) (state S.Store conn.new) result (λ t. All receipt_readable (map (λ k. receipt_columns k.1) t.receipts)) }
+    ensures refused { FailsByFault (state S.Store conn.old) (state S.Store conn.new) result }
     ensures outside { conn.old.in_transaction ≡ false → conn.new.in_transaction ≡ false }
 {
     ask_all(

@@ -1,10 +1,12 @@
 //! The statements on `withdrawal`.
 
-ghost use Rattle.std.specs.Prelude.{◌≡◌, false, pos, map, IfOk, OnOk, option_map};
+ghost use Rattle.std.specs.Prelude.{◌≡◌, false, pos, map, IfOk, OnOk, option_map, All};
 ghost use Rattle.sqlite.specs.State.{HasCleanDisk, KeepsCommit, Survives};
 ghost use Rattle.sqlite.specs.Held.{state};
 ghost use Rattle.sqlite_keyed.specs.Keyed.{get_by};
-ghost use Rattle.goo_columns.specs.Rows.{Tables, withdrawal_in, withdrawal_key, withdrawal_row};
+ghost use Rattle.goo_columns.specs.Rows.{Tables, withdrawal_in, withdrawal_key, withdrawal_row, withdrawal_columns};
+ghost use Rattle.goo_columns.specs.Readable.{withdrawal_readable};
+ghost use Rattle.goo_columns.specs.Refused.{FailsByFault, FailsOnlyByFault};
 ghost use Rattle.goo_columns.specs.Stands.{Sees, Looks, Keeps};
 ghost use Rattle.goo_columns.specs.Met.{HasOurTables};
 ghost use Rattle.goo_tables.specs.Changes.{with_withdrawal, WithdrawalFits};
@@ -49,6 +51,7 @@ pub fn find_withdrawal<S: Alter>(
 ) -> Result<Option<WithdrawalRow>, Error>
     ensures looks { Looks (state S.Store conn.old) (state S.Store conn.new) result
         (λ t found. option_map withdrawal_in found ≡ get_by withdrawal_key t.withdrawals (pos number)) }
+    ensures refused { FailsByFault (state S.Store conn.old) (state S.Store conn.new) result }
     ensures outside { conn.old.in_transaction ≡ false → conn.new.in_transaction ≡ false }
 {
     ask_first(
@@ -66,6 +69,8 @@ pub fn all_withdrawals<S: Alter>(
 ) -> Result<Vec<WithdrawalRow>, Error>
     ensures looks { Looks (state S.Store conn.old) (state S.Store conn.new) result (λ t found. map withdrawal_in found.items ≡ t.withdrawals) }
     ensures met { HasCleanDisk (state S.Store conn.new) → HasOurTables (state S.Store conn.old).now → IfOk result (λ found. Keeps ((state S.Store conn.old).now.trees 16) withdrawal_row withdrawal_key (map withdrawal_in found.items)) }
+    ensures readable { FailsOnlyByFault (state S.Store conn.old) (state S.Store conn.new) result (λ t. All withdrawal_readable (map withdrawal_columns t.withdrawals)) }
+    ensures refused { FailsByFault (state S.Store conn.old) (state S.Store conn.new) result }
     ensures outside { conn.old.in_transaction ≡ false → conn.new.in_transaction ≡ false }
 {
     ask_all(

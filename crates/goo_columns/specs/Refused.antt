@@ -1,0 +1,52 @@
+-- Which errors a statement may answer.
+use Rattle.std.specs.Prelude.{[], ◌≡◌, ◌⊎◌, true, false, Bool, ◌&&◌, nat_le, nat_eq, is_none, None, Ok, Err, ℕ, List, length, Result, IfErr, IsTrue}
+use Rattle.sqlite_disk.specs.Disk.{MoreFaults}
+use Rattle.sqlite.specs.Order.{Row}
+use Rattle.sqlite.specs.Query.{Query, has_no_fold}
+use Rattle.sqlite.specs.Schema.{Schema}
+use Rattle.sqlite_resolve.specs.declared.compiled.Compiled.{Compiled}
+use Rattle.sqlite_resolve.specs.declared.error.CompileError.{CompileError}
+use Rattle.sqlite_typing.specs.Types.{accepts_over}
+use Rattle.sqlite.specs.Listing.{understood}
+use Rattle.sqlite.specs.State.{State, HasCleanDisk}
+use Rattle.sqlite.specs.declared.error.ErrorCode.TheVariants.{OutOfMemory, SystemIoFailure, DatabaseCorrupt, DiskFull, Closed}
+use Rattle.sqlite.specs.declared.error.Error.{Error}
+use Rattle.sqlite.specs.declared.error.Error.TheVariants.{SqliteFailure}
+use Rattle.goo_columns.specs.Columns.{registry_schema}
+use Rattle.goo_columns.specs.Readable.{is_read_error}
+use Rattle.goo_columns.specs.Rows.{Tables}
+use Rattle.goo_columns.specs.Stands.{Stands}
+
+-- an error that a store tells of its disk
+abbrev pub is_store_error : Error → Bool
+is_store_error (SqliteFailure SystemIoFailure) = true
+is_store_error (SqliteFailure DatabaseCorrupt) = true
+is_store_error (SqliteFailure DiskFull) = true
+is_store_error (SqliteFailure Closed) = true
+is_store_error _ = false
+
+-- memory failed, or the store told that the disk did in this call, or that an earlier failure shut the connection
+abbrev pub IsFault : State → State → Error → Type 0
+IsFault old new e = (e ≡ SqliteFailure OutOfMemory) ⊎ (IsTrue (is_store_error e) × (MoreFaults old.faults new.faults ⊎ (old.is_open ≡ false)))
+
+-- A look-up on our tables fails for such a fault, or since it showed a row that can't be read: never for its text, its values
+-- or a table that is missing. A limit on steps would add its own error.
+abbrev pub FailsByFault : {T : Type 0} → State → State → Result T Error → Type 0
+FailsByFault old new result =
+    HasCleanDisk new → old.now.schema ≡ registry_schema → old.step_limit ≡ None → IfErr result (λ e. IsFault old new e ⊎ IsTrue (is_read_error e))
+
+-- the same where each row that the query has to show can be read: then an error is such a fault
+abbrev pub FailsOnlyByFault : {T : Type 0} → State → State → Result T Error → (Tables → Type 0) → Type 0
+FailsOnlyByFault old new result IsReadable =
+    HasCleanDisk new → old.step_limit ≡ None → (t : Tables) → Stands old.now t → IsReadable t → IfErr result (IsFault old new)
+
+-- ---- a test of a text, which computes
+
+abbrev pub is_whole : ℕ → ℕ → Result Compiled CompileError → Bool
+is_whole size given (Ok c) = nat_le size c.tail && nat_eq given (length c.names)
+is_whole size given (Err e) = false
+
+-- the text is one statement with so many parameters, whose types suit the query, and nothing in it adds up
+abbrev pub is_suited : Schema → List ℕ → Query → Row → Bool
+is_suited schema sql q params =
+    is_whole (length sql) (length params) (understood schema sql) && (accepts_over schema [] q params && (has_no_fold q.from && is_none q.group))

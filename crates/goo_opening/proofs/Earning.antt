@@ -1,0 +1,110 @@
+-- From the rows that were read to the tables that hold them.
+use Rattle.std.proofs.Common.{◌≡◌, inl, inr, map, Ok, Err, IsTrue, refl, sym}
+use Rattle.sqlite.specs.State.{State}
+use Rattle.sqlite.specs.Effect.{Database}
+use Rattle.sqlite.specs.declared.error.Error.{Error}
+use Rattle.sqlite.specs.declared.error.Error.TheVariants.{SqliteFailure}
+use Rattle.sqlite.specs.declared.error.ErrorCode.TheVariants.{OutOfMemory}
+use Rattle.goo_columns.specs.Rows.{Tables, meta_in, account_in, declaration_in, lot_in, cancellation_in, withdrawal_in, notice_out_in}
+use Rattle.goo_columns.specs.Met.{HasOurTables}
+use Rattle.goo_columns.specs.Refused.{IsFault, is_store_error}
+use Rattle.goo_columns.specs.declared.meta.MetaRow.{MetaRow}
+use Rattle.goo_opening.specs.Reading.{OnlyReads}
+use Rattle.goo_opening.specs.Shown.{ShowsAll}
+use Rattle.goo_opening.specs.Found.{Finds, ShowsMeta, ShowsTables, IsOutside}
+use Rattle.goo_opening.specs.declared.rows.AllRows.{AllRows}
+use Rattle.goo_opening.specs.declared.fault.OpenFault.{OpenFault}
+use Rattle.goo_opening.specs.declared.fault.OpenFault.TheVariants.{Store, Memory}
+use Rattle.goo_opening.proofs.Chaining.{reads_then}
+
+abbrev tables : (m : MetaRow) (db : Database) (x : AllRows) → ShowsAll db x → Tables
+tables m db x shows = record {
+  meta = meta_in m;
+  holders = shows.members.holders.0;
+  accounts = map account_in x.members.accounts.items;
+  devices = shows.production.devices.0;
+  declarations = map declaration_in x.production.declarations.items;
+  lots = map lot_in x.production.lots.items;
+  pieces = x.production.pieces.items;
+  peers = shows.members.peers.0;
+  receipts = shows.acts.receipts.0;
+  cancellations = map cancellation_in x.acts.cancellations.items;
+  withdrawals = map withdrawal_in x.acts.withdrawals.items;
+  notices_out = map notice_out_in x.notices.sent.items;
+  notices_in = shows.notices.came.0;
+}
+
+earned : (db : Database) (m : MetaRow) (x : AllRows) → HasOurTables db → ShowsMeta db m → ShowsAll db x → ShowsTables db (record { meta = m; rows = x })
+earned db m x ours one all = (
+  tables m db x all,
+  record {
+    schema = ours.schema;
+    meta = one.only;
+    holders = all.members.holders.1;
+    accounts = all.members.accounts;
+    devices = all.production.devices.1;
+    declarations = all.production.declarations;
+    lots = all.production.lots;
+    pieces = all.production.pieces;
+    peers = all.members.peers.1;
+    receipts = all.acts.receipts.1;
+    cancellations = all.acts.cancellations;
+    withdrawals = all.acts.withdrawals;
+    notices_out = all.notices.sent;
+    notices_in = all.notices.came.1;
+  },
+  record {
+    meta = refl;
+    holders = sym all.members.holders.2;
+    accounts = refl;
+    peers = sym all.members.peers.2;
+    devices = sym all.production.devices.2;
+    declarations = refl;
+    lots = refl;
+    pieces = refl;
+    receipts = sym all.acts.receipts.2;
+    cancellations = refl;
+    withdrawals = refl;
+    notices_out = refl;
+    notices_in = sym all.notices.came.2;
+  },
+  one.version,
+)
+
+module _ (a b c : State) (m : MetaRow) (one : Finds a b (Ok m) ShowsMeta) where
+  first : OnlyReads a b (Ok m) ShowsMeta
+  first = record { clean = one.clean; rests = one.rests; works = one.works; seen = one.seen; crash = one.crash; counts = one.counts; limit = one.limit; faulty = λ _ _ _ _ _ _. tt }
+
+  -- all was read
+  pub found : (x : AllRows) → OnlyReads b c (Ok x) ShowsAll → Finds a c (Ok (record { meta = m; rows = x })) ShowsTables
+  found x two =
+      let both = reads_then a b c m (Ok x) ShowsMeta ShowsAll first two in
+      record {
+        clean = both.clean;
+        rests = both.rests;
+        works = both.works;
+        seen = λ clean it. let seen = both.seen clean it in earned a.now m x it.0 seen.0 seen.1;
+        crash = both.crash;
+        counts = both.counts;
+        limit = both.limit;
+        right = λ _ _ _ _ _ _. tt;
+      }
+
+  -- the rows of the tables weren't read
+  pub not_found : (e : Error) (f : OpenFault) → OnlyReads b c (Err e) ShowsAll → (e ≡ SqliteFailure OutOfMemory → f ≡ Memory) → (IsTrue (is_store_error e) → f ≡ Store) → Finds a c (Err f) ShowsTables
+  not_found e f two memory store =
+      let both = reads_then a b c m (Err e) ShowsMeta ShowsAll first two in
+      record {
+        clean = both.clean;
+        rests = both.rests;
+        works = tt;
+        seen = λ _ _. tt;
+        crash = both.crash;
+        counts = both.counts;
+        limit = both.limit;
+        right = λ clean it unlimited t stands good. outside (both.faulty clean it unlimited t stands good.0);
+      }
+    where
+      outside : IsFault a c e → IsOutside f
+      outside (inl want) = inr (memory want)
+      outside (inr fault) = inl (store fault.0)

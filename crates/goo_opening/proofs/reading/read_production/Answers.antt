@@ -1,0 +1,38 @@
+use Rattle.std.proofs.Common.{rules, ◌≡◌, Err, sym, subst}
+use Rattle.std.specs.Prelude.{⊤}
+use Rattle.sqlite.specs.Held.{state}
+use Rattle.goo_opening.specs.Reading.{OnlyReads}
+use Rattle.goo_opening.specs.Shown.{ShowsProduction}
+use Rattle.goo_opening.proofs.Chaining.{reads_table, reads_then, reads_failed}
+use Rattle.goo_opening.proofs.reading.read_production.Goals as goal
+
+pub returns-in_err-all_lots : goal.returns-in_err-all_lots
+returns-in_err-all_lots g c =
+    let s0 = state g.S.Store c.args.conn.now in
+    let s1 = state g.S.Store c.all_devices.new.conn in
+    let s2 = state g.S.Store c.all_declarations.new.conn in
+    let s3 = state g.S.Store c.all_lots.new.conn in
+    let t1 = reads_table s0 s1 _ _ (λ _ _. ⊤) _ c.in_ok-all_devices.ensures.looks (λ _ _. tt) c.in_ok-all_devices.ensures.readable (λ _ can. can.devices) in
+    let t2 = reads_table s1 s2 _ _ (λ _ _. ⊤) _ c.in_ok-all_declarations.ensures.looks (λ _ _. tt) c.in_ok-all_declarations.ensures.readable (λ _ can. can.declarations) in
+    let t3 = reads_table s2 s3 _ _ (λ _ _. ⊤) _ c.in_err-all_lots.ensures.looks (λ _ _. tt) c.in_err-all_lots.ensures.readable (λ _ can. can.lots) in
+    let r1 = reads_then s0 s1 s2 _ _ _ _ t1 t2 in
+    let r2 = reads_then s0 s2 s3 _ _ _ _ r1 t3 in
+    let same : c.from_residual-in_err-all_lots.result ≡ Err c.in_err-all_lots.field-0.0 = search rules in
+    subst (λ r. OnlyReads s0 s3 r ShowsProduction) (sym same) (reads_failed s0 s3 _ _ ShowsProduction r2)
+
+pub returns-in_err-all_pieces : goal.returns-in_err-all_pieces
+returns-in_err-all_pieces g c =
+    let s0 = state g.S.Store c.args.conn.now in
+    let s1 = state g.S.Store c.all_devices.new.conn in
+    let s2 = state g.S.Store c.all_declarations.new.conn in
+    let s3 = state g.S.Store c.all_lots.new.conn in
+    let s4 = state g.S.Store c.all_pieces.new.conn in
+    let t1 = reads_table s0 s1 _ _ (λ _ _. ⊤) _ c.in_ok-all_devices.ensures.looks (λ _ _. tt) c.in_ok-all_devices.ensures.readable (λ _ can. can.devices) in
+    let t2 = reads_table s1 s2 _ _ (λ _ _. ⊤) _ c.in_ok-all_declarations.ensures.looks (λ _ _. tt) c.in_ok-all_declarations.ensures.readable (λ _ can. can.declarations) in
+    let t3 = reads_table s2 s3 _ _ (λ _ _. ⊤) _ c.in_ok-all_lots.ensures.looks (λ _ _. tt) c.in_ok-all_lots.ensures.readable (λ _ can. can.lots) in
+    let t4 = reads_table s3 s4 _ _ (λ _ _. ⊤) _ c.in_err-all_pieces.ensures.looks (λ _ _. tt) c.in_err-all_pieces.ensures.readable (λ _ can. can.pieces) in
+    let r1 = reads_then s0 s1 s2 _ _ _ _ t1 t2 in
+    let r2 = reads_then s0 s2 s3 _ _ _ _ r1 t3 in
+    let r3 = reads_then s0 s3 s4 _ _ _ _ r2 t4 in
+    let same : c.from_residual-in_err-all_pieces.result ≡ Err c.in_err-all_pieces.field-0.0 = search rules in
+    subst (λ r. OnlyReads s0 s4 r ShowsProduction) (sym same) (reads_failed s0 s4 _ _ ShowsProduction r3)

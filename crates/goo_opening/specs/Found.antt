@@ -1,0 +1,61 @@
+-- What is found where the tables of a registry are looked for.
+use Rattle.std.specs.Prelude.{◌≡◌, ◌⊎◌, ◌≤◌, List, [], ◌∷◌, map, None, Result, IfOk, IfErr, OnOk, IsTrue}
+use Rattle.sqlite.specs.State.{State, HasCleanDisk}
+use Rattle.sqlite.specs.Tree.{Trees}
+use Rattle.sqlite.specs.Effect.{Database}
+use Rattle.goo_columns.specs.Rows.{Tables, Kept, meta_row, meta_in, holder_in, account_in, device_in, declaration_in, lot_in, receipt_in, cancellation_in, withdrawal_in, notice_out_in, notice_in_in}
+use Rattle.goo_columns.specs.Stands.{Stands, Rests}
+use Rattle.goo_columns.specs.declared.meta.MetaRow.{MetaRow}
+use Rattle.goo_opening.specs.Reading.{CanBeRead, IsMet}
+use Rattle.goo_opening.specs.declared.fault.OpenFault.{OpenFault}
+use Rattle.goo_opening.specs.declared.fault.OpenFault.TheVariants.{Store, Memory}
+use Rattle.goo_opening.specs.declared.finding.Found.{Found}
+
+-- the values of rows under rowids of their own
+abbrev pub values : {X : Type 0} → List (Kept X) → List X
+values = map (λ k. k.1)
+
+-- what was read is what these tables hold
+pub record AreOf (t : Tables) (x : Found) : Type 0 where
+  pub meta : meta_in x.meta ≡ t.meta
+  pub holders : map holder_in x.rows.members.holders.items ≡ values t.holders
+  pub accounts : map account_in x.rows.members.accounts.items ≡ t.accounts
+  pub peers : x.rows.members.peers.items ≡ values t.peers
+  pub devices : map device_in x.rows.production.devices.items ≡ values t.devices
+  pub declarations : map declaration_in x.rows.production.declarations.items ≡ t.declarations
+  pub lots : map lot_in x.rows.production.lots.items ≡ t.lots
+  pub pieces : x.rows.production.pieces.items ≡ t.pieces
+  pub receipts : map receipt_in x.rows.acts.receipts.items ≡ values t.receipts
+  pub cancellations : map cancellation_in x.rows.acts.cancellations.items ≡ t.cancellations
+  pub withdrawals : map withdrawal_in x.rows.acts.withdrawals.items ≡ t.withdrawals
+  pub notices_out : map notice_out_in x.rows.notices.sent.items ≡ t.notices_out
+  pub notices_in : map notice_in_in x.rows.notices.came.items ≡ values t.notices_in
+
+-- the only row of `meta`
+pub record ShowsMeta (db : Database) (m : MetaRow) : Type 0 where
+  pub only : db.trees 0 ≡ meta_row (meta_in m) ∷ []
+  pub version : m.version ≡ 1
+
+-- the database holds tables of version 1, and they are what was read
+abbrev pub ShowsTables : Database → Found → Type 0
+ShowsTables db x = (t : Tables) × Stands db t × AreOf t x × (t.meta.version ≡ 1)
+
+-- tables of version 1 whose values can be read
+abbrev pub IsReadable : Tables → Type 0
+IsReadable t = CanBeRead t × (t.meta.version ≡ 1)
+
+-- the database failed, or memory did
+abbrev pub IsOutside : OpenFault → Type 0
+IsOutside f = (f ≡ Store) ⊎ (f ≡ Memory)
+
+-- A call that reads and changes nothing, as `OnlyReads`, whose refusals are words on the tables.
+-- `right`: tables that can be read are refused for want of memory or a fault of the store alone.
+pub record Finds {T : Type 0} (old new : State) (result : Result T OpenFault) (Shows : Database → T → Type 0) : Type 0 where
+  pub clean : HasCleanDisk new → HasCleanDisk old
+  pub rests : HasCleanDisk new → IsMet old → Rests old new
+  pub works : OnOk result (HasCleanDisk new → IsTrue new.is_open)
+  pub seen : HasCleanDisk new → IsMet old → IfOk result (Shows old.now)
+  pub crash : HasCleanDisk new → IsMet old → (db : Trees) → new.may_leave db → old.may_leave db
+  pub counts : HasCleanDisk new → IsMet old → old.faults ≤ new.faults
+  pub limit : HasCleanDisk new → IsMet old → new.step_limit ≡ old.step_limit
+  pub right : HasCleanDisk new → IsMet old → old.step_limit ≡ None → (t : Tables) → Stands old.now t → IsReadable t → IfErr result IsOutside

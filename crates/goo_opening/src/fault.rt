@@ -1,0 +1,39 @@
+//! Why tables are not opened as a registry, or not made one.
+
+ghost use Rattle.std.specs.Prelude.{◌≡◌, IsTrue};
+ghost use Rattle.goo_columns.specs.Refused.{is_store_error};
+
+use sqlite::{Error, ErrorCode};
+
+/// Why tables are not opened as a registry, or not made one.
+#[derive(Clone, Copy, Debug, PartialEq, Eq)]
+pub enum OpenFault {
+    /// A table of a registry is there already.
+    AlreadyThere,
+    /// There is no table `meta` with its columns and its row.
+    NotARegistry,
+    /// The tables are of this version, which is not read here.
+    Version(u32),
+    /// A table or a column is missing, a value cannot be read, or a rule of the tables is broken.
+    Damaged,
+    /// The database failed.
+    Store,
+    /// An allocation was refused.
+    Memory,
+}
+
+/// The word for the error of a statement; `missing` is the one where the statement's table or a column of it is missing.
+pub fn fault_of(error: Error, missing: OpenFault) -> OpenFault
+    ensures memory { error ≡ Error.SqliteFailure ErrorCode.OutOfMemory → result ≡ OpenFault.Memory }
+    ensures store { IsTrue (is_store_error error) → result ≡ OpenFault.Store }
+{
+    match error {
+        Error::SqliteFailure(ErrorCode::OutOfMemory) => OpenFault::Memory,
+        Error::SqlInputError(_) => missing,
+        Error::InvalidColumnIndex(_)
+        | Error::InvalidColumnType(..)
+        | Error::IntegralValueOutOfRange(_)
+        | Error::Utf8Error(_) => OpenFault::Damaged,
+        _ => OpenFault::Store,
+    }
+}

@@ -1,0 +1,55 @@
+//! The rows of all tables but `meta`, each table in the order of its rowids.
+
+use goo_columns::account::AccountRow;
+use goo_columns::cancellation::CancellationRow;
+use goo_columns::declaration::DeclarationRow;
+use goo_columns::device::DeviceRow;
+use goo_columns::holder::HolderRow;
+use goo_columns::lot::LotRow;
+use goo_columns::notice_in::NoticeInRow;
+use goo_columns::notice_out::NoticeOutRow;
+use goo_columns::peer::PeerRow;
+use goo_columns::piece::PieceRow;
+use goo_columns::receipt::ReceiptRow;
+use goo_columns::withdrawal::WithdrawalRow;
+
+/// Those that the registry knows.
+#[derive(Debug, Drop)]
+pub struct Members {
+    pub holders: Vec<HolderRow>,
+    pub accounts: Vec<AccountRow>,
+    pub peers: Vec<PeerRow>,
+}
+
+/// What was produced, and the certificates for it.
+#[derive(Debug, Drop)]
+pub struct Production {
+    pub devices: Vec<DeviceRow>,
+    pub declarations: Vec<DeclarationRow>,
+    pub lots: Vec<LotRow>,
+    pub pieces: Vec<PieceRow>,
+}
+
+/// The requests that were accepted, and the records of acts.
+#[derive(Debug, Drop)]
+pub struct Acts {
+    pub receipts: Vec<ReceiptRow>,
+    pub cancellations: Vec<CancellationRow>,
+    pub withdrawals: Vec<WithdrawalRow>,
+}
+
+/// The notices that were sent and that came in.
+#[derive(Debug, Drop)]
+pub struct Notices {
+    pub sent: Vec<NoticeOutRow>,
+    pub came: Vec<NoticeInRow>,
+}
+
+/// The rows of all tables but `meta`.
+#[derive(Debug, Drop)]
+pub struct AllRows {
+    pub members: Members,
+    pub production: Production,
+    pub acts: Acts,
+    pub notices: Notices,
+}

@@ -1,0 +1,107 @@
+-- Look-ups of a shelf, from those of the tables.
+use Rattle.std.proofs.Common.{◌≡◌, ◌≤◌, inl, inr, ℕ, Bool, true, false, IsTrue, refl, sym, ap, subst, ◌∙◌, arith, true≢false, Ok, Err, Result, IfOk, OnOk, Option, cond}
+use Rattle.sqlite_trees.specs.View.{doubt}
+use Rattle.sqlite.specs.State.{State, HasCleanDisk, Survives}
+use Rattle.sqlite.specs.Effect.{Database}
+use Rattle.sqlite.specs.declared.error.Error.{Error}
+use Rattle.goo_types.specs.declared.fault.Fault.{Fault}
+use Rattle.goo_types.specs.declared.fault.Fault.TheVariants as fault
+use Rattle.goo_shelf.specs.Shelf as shelf
+use Rattle.goo_columns.specs.Columns.{registry_schema}
+use Rattle.goo_columns.specs.Rows.{Tables, tables_of}
+use Rattle.goo_columns.specs.Stands.{Stands, Rests, Looks, IsSettled, doubts}
+use Rattle.goo_store.specs.declared.trouble.Trouble.{Trouble}
+use Rattle.goo_store.specs.declared.trouble.Trouble.TheVariants.{Memory, Refused}
+use Rattle.goo_store.specs.Kept.{AreKept}
+use Rattle.goo_store.specs.Places.{rows_of}
+use Rattle.goo_store.specs.States.{state_of}
+use Rattle.goo_store.specs.Telling.{Passes, Tells}
+use Rattle.goo_store.specs.Moments.{tables_in, count, moment, IsWell}
+use Rattle.goo_store.proofs.Holding.{is_sure, sure, LeavesCommit, left_by, safe}
+
+module _ (old new : State) (it : IsWell old) {T : Type 0} (r : Result T Error) (right : Tables → T → Type 0) (looks : Looks old new r right) where
+  before : doubts new ≡ 0 → doubts old ≡ 0
+  before none = is_sure old (omega (arith, (sure new none).0, looks.clean)) (looks.was_open (sure new none).0 (sure new none).1)
+
+  rests : doubts new ≡ 0 → Rests old new
+  rests none = looks.rests (sure new none).0 (it.stands (before none)).schema (λ _. it.settled (before none))
+
+  now_same : doubts new ≡ 0 → new.now ≡ old.now
+  now_same none = (rests none).now (sure new none).1
+
+  tables_same : doubts new ≡ 0 → tables_in new ≡ tables_in old
+  tables_same none = ap (λ (d : Database). tables_of d.trees) (now_same none)
+
+  -- the shelf stays well
+  pub well : IsWell new
+  well = record {
+    stands = λ none. subst (λ (d : Database). Stands d (tables_of d.trees)) (sym (now_same none)) (it.stands (before none));
+    kept = λ none. subst AreKept (sym (tables_same none)) (it.kept (before none));
+    settled = λ none. now_same none ∙ it.settled (before none) ∙ sym ((rests none).committed (sure new none).1);
+  }
+
+  crash : LeavesCommit old → HasCleanDisk new → doubts old ≡ 0 → (b : Bool) → shelf.IsSafe (moment new b) (state_of (tables_in old))
+  crash law late none b o left =
+      elim ((looks.crash (it.stands none).schema).crash late left.0 left.1) [
+        | inl early ↦ left_by old it law none left.0 early o left.2
+        | inr bad ↦ absurd bad
+      ]
+
+  told_so : {U : Type 0} (read : Result U Trouble) (a b : Bool) (result : Result U Fault) → a ≡ false → Tells read result a b → shelf.IsTold result (count b)
+  told_so {U = U} (Ok x) a b result not_yet told = subst (λ (z : Result U Fault). shelf.IsTold z (count b)) (sym told.0) (ap count (told.1 ∙ not_yet))
+  told_so {U = U} (Err Memory) a b result not_yet told = subst (λ (z : Result U Fault). shelf.IsTold z (count b)) (sym told.0) (ap count (told.1 ∙ not_yet))
+  told_so {U = U} (Err Refused) a b result not_yet told = subst (λ (z : Result U Fault). shelf.IsTold z (count b)) (sym told.0) (ap count told.1)
+
+  still : (a b : Bool) → a ≡ false → count a ≤ count b
+  still a b not_yet = omega (arith, ap count not_yet)
+
+  -- what is told is Ok only where something was read and found
+  found_so : {U : Type 0} (P : U → Type 0) (read : Result U Trouble) (a b : Bool) (result : Result U Fault) → Tells read result a b → IfOk read P → IfOk result P
+  found_so {U = U} P (Ok x) a b result told is = subst (λ (z : Result U Fault). IfOk z P) (sym told.0) is
+  found_so {U = U} P (Err Memory) a b result told is = subst (λ (z : Result U Fault). IfOk z P) (sym told.0) tt
+  found_so {U = U} P (Err Refused) a b result told is = subst (λ (z : Result U Fault). IfOk z P) (sym told.0) tt
+
+  passed : {U : Type 0} (P : U → Type 0) (R : T → U → Type 0) (q : Result T Error) (read : Result U Trouble) (t : Tables) → Passes q read R → IfOk q (right t) → ((x : T) (y : U) → right t x → R x y → P y) → IfOk read P
+  passed P R (Ok x) (Ok y) t passes is says = says x y is passes
+  passed P R (Ok x) (Err e) t passes is says = tt
+  passed P R (Err e) (Ok y) t passes is says = absurd (true≢false (sym passes))
+  passed P R (Err e) (Err f) t passes is says = tt
+
+  works_sure : (q : Result T Error) → OnOk q (HasCleanDisk new → IsTrue new.is_open) → OnOk q (HasCleanDisk new → doubts new ≡ 0)
+  works_sure (Ok x) works = λ late. is_sure new late (works late)
+  works_sure (Err e) works = tt
+
+  works_so : {U : Type 0} (W : Type 0) (R : T → U → Type 0) (q : Result T Error) (read : Result U Trouble) (a b : Bool) (result : Result U Fault) → Passes q read R → Tells read result a b → OnOk q W → OnOk result W
+  works_so {U = U} W R (Ok x) (Ok y) a b result passes told works = subst (λ (z : Result U Fault). OnOk z W) (sym told.0) works
+  works_so W R (Err e) (Ok y) a b result passes told works = absurd (true≢false (sym passes))
+  works_so {U = U} W R q (Err Memory) a b result passes told works = subst (λ (z : Result U Fault). OnOk z W) (sym told.0) tt
+  works_so {U = U} W R q (Err Refused) a b result passes told works = subst (λ (z : Result U Fault). OnOk z W) (sym told.0) tt
+
+  -- a look-up that was told
+  pub looked : {U : Type 0} (P : U → Type 0) (R : T → U → Type 0) (read : Result U Trouble) (a b : Bool) (result : Result U Fault) → LeavesCommit old → a ≡ false → Passes r read R → Tells read result a b
+      → (AreKept (tables_in old) → (x : T) (y : U) → right (tables_in old) x → R x y → P y) → shelf.Looks (moment old a) (moment new b) result P
+  looked P R read a b result law not_yet passes told says = record {
+    found = λ none. found_so P read a b result told (passed P R r read (tables_in old) passes (looks.found (sure new none).0 (tables_in old) (it.stands (before none))) (says (it.kept (before none))));
+    same = λ none. ap state_of (tables_same none);
+    rows_same = λ none. ap rows_of (tables_same none);
+    doubted = before;
+    lied = λ late. omega (arith, late, looks.clean);
+    kept = still a b not_yet;
+    told = told_so read a b result not_yet told;
+    works = works_so _ R r read a b result passes told (works_sure r looks.works);
+    crash = λ late none. crash law late none b;
+  }
+
+-- once the flag is up
+pub refused_look : (old : State) → IsWell old → (a : Bool) → a ≡ true → LeavesCommit old → {U : Type 0} (P : U → Type 0) → shelf.Looks (moment old a) (moment old a) (Err fault.Store) P
+refused_look old it a has law P = record {
+  found = λ _. tt;
+  same = λ _. refl;
+  rows_same = λ _. refl;
+  doubted = λ none. none;
+  lied = λ late. late;
+  kept = omega arith;
+  told = ap count has;
+  works = tt;
+  crash = λ late none. safe old it law none a;
+}

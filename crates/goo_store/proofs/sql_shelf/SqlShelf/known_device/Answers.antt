@@ -1,0 +1,25 @@
+use Rattle.std.proofs.Common.{◌≡◌, ◌∙◌, ap, sym, refl}
+use Rattle.sqlite.specs.Held.{state as view}
+use Rattle.std.specs.Cmp.Lexicographic.{nat_list_cmp_total}
+use Rattle.sqlite_typed.specs.Tests.{bytes_eq}
+use Rattle.goo_store.specs.Devices.{device_of}
+use Rattle.goo_store.proofs.Known.{known_kept, text_test}
+use Rattle.goo_store.specs.States.{state_of}
+use Rattle.goo_store.proofs.Looking.{looked, refused_look, well}
+use Rattle.goo_store.proofs.sql_shelf.SqlShelf.known_device.Goals as goal
+
+pub returns-then-self : goal.returns-then-self
+returns-then-self g c = refused_look (view g.S.Store c.args.self.now.conn) c.args.self.now.well c.args.self.now.refused c.if-self.true (λ live db may. g.met.S.Store.settled c.args.self.now.conn.store db live may) _
+
+pub invariant_of-self : goal.invariant_of-self
+invariant_of-self g c = record {
+  outside = c.find_device-found.ensures.outside c.args.self.now.outside;
+  well = well (view g.S.Store c.args.self.now.conn) (view g.S.Store c.find_device-found.new.conn) c.args.self.now.well _ _ c.find_device-found.ensures.looks;
+}
+
+pub returns : goal.returns
+unfolding state_of
+returns g c =
+    looked (view g.S.Store c.args.self.now.conn) (view g.S.Store c.find_device-found.new.conn) c.args.self.now.well _ _ c.find_device-found.ensures.looks _ _ c.read_device.result
+    c.args.self.now.refused c.told.new.refused c.told.result (λ live db may. g.met.S.Store.settled c.args.self.now.conn.store db live may) c.if-self.false c.read_device.ensures c.told.ensures
+    (λ kept row device found read. known_kept nat_list_cmp_total (λ k. k.1.gsrn) c.args.device.now _ (λ k. ap (bytes_eq k.1.gsrn) c.text.ensures.value ∙ text_test k.1.gsrn c.args.device.now) (λ k. k.1) device_of _ _ device found read)

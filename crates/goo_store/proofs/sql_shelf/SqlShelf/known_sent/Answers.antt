@@ -1,0 +1,25 @@
+use Rattle.std.proofs.Common.{◌≡◌, ◌∙◌, ap, sym, refl, pos}
+use Rattle.sqlite.specs.Held.{state as view}
+use Rattle.std.specs.Cmp.{nat_cmp_total}
+use Rattle.std.specs.Ordering.{int_eq}
+use Rattle.goo_store.specs.Records.{sent_of}
+use Rattle.goo_store.proofs.Known.{known_row, number_test}
+use Rattle.goo_store.specs.States.{state_of}
+use Rattle.goo_store.proofs.Looking.{looked, refused_look, well}
+use Rattle.goo_store.proofs.sql_shelf.SqlShelf.known_sent.Goals as goal
+
+pub returns-then-self : goal.returns-then-self
+returns-then-self g c = refused_look (view g.S.Store c.args.self.now.conn) c.args.self.now.well c.args.self.now.refused c.if-self.true (λ live db may. g.met.S.Store.settled c.args.self.now.conn.store db live may) _
+
+pub invariant_of-self : goal.invariant_of-self
+invariant_of-self g c = record {
+  outside = c.find_notice_out-found.ensures.outside c.args.self.now.outside;
+  well = well (view g.S.Store c.args.self.now.conn) (view g.S.Store c.find_notice_out-found.new.conn) c.args.self.now.well _ _ c.find_notice_out-found.ensures.looks;
+}
+
+pub returns : goal.returns
+unfolding state_of
+returns g c =
+    looked (view g.S.Store c.args.self.now.conn) (view g.S.Store c.find_notice_out-found.new.conn) c.args.self.now.well _ _ c.find_notice_out-found.ensures.looks _ _ c.read_sent.result
+    c.args.self.now.refused c.told.new.refused c.told.result (λ live db may. g.met.S.Store.settled c.args.self.now.conn.store db live may) c.if-self.false c.read_sent.ensures c.told.ensures
+    (λ kept row sent found read. known_row nat_cmp_total (λ a. a.number) c.args.notice _ (λ a. ap (λ n. int_eq (pos a.number) (pos n)) c.get.ensures.value ∙ number_test a.number c.args.notice) sent_of _ _ sent found read)

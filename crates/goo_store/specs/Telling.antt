@@ -1,0 +1,25 @@
+-- How an error of the database is passed on, and what is told of it.
+use Rattle.std.specs.Prelude.{◌≡◌, ◌≢◌, Bool, true, Result, Ok, Err, IfOk, IsErr}
+use Rattle.sqlite.specs.declared.error.Error.{Error}
+use Rattle.sqlite.specs.declared.error.Error.TheVariants.{SqliteFailure}
+use Rattle.sqlite.specs.declared.error.ErrorCode.TheVariants.{OutOfMemory}
+use Rattle.goo_types.specs.declared.fault.Fault.{Fault}
+use Rattle.goo_types.specs.declared.fault.Fault.TheVariants as fault
+use Rattle.goo_store.specs.declared.trouble.Trouble.{Trouble}
+use Rattle.goo_store.specs.declared.trouble.Trouble.TheVariants.{Memory, Refused}
+
+-- want of memory, and any other cause
+abbrev pub IsTroubleOf : Error → Trouble → Type 0
+IsTroubleOf error Memory = error ≡ SqliteFailure OutOfMemory
+IsTroubleOf error Refused = error ≢ SqliteFailure OutOfMemory
+
+-- what is read of something found stands in this relation to it, and an error is passed on as one
+abbrev pub Passes : {T U : Type 0} → Result T Error → Result U Trouble → (T → U → Type 0) → Type 0
+Passes (Ok x) read R = IfOk read (R x)
+Passes (Err e) read R = IsErr read
+
+-- what was read is told; want of memory is told and leaves the flag; anything else is told as a store fault and raises it
+abbrev pub Tells : {T : Type 0} → Result T Trouble → Result T Fault → Bool → Bool → Type 0
+Tells (Ok x) told old new = (told ≡ Ok x) × (new ≡ old)
+Tells (Err Memory) told old new = (told ≡ Err fault.Memory) × (new ≡ old)
+Tells (Err Refused) told old new = (told ≡ Err fault.Store) × (new ≡ true)

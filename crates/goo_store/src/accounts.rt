@@ -1,0 +1,44 @@
+//! Accounts, as they are found.
+
+ghost use Rattle.std.specs.Prelude.{◌≡◌, option_map};
+ghost use Rattle.std.specs.FinMap.{get};
+ghost use Rattle.sqlite.specs.Held.{state as view};
+ghost use Rattle.goo_columns.specs.Rows.{account_in};
+ghost use Rattle.goo_shelf.specs.Shelf.{Looks};
+ghost use Rattle.goo_store.specs.Moments.{moment};
+ghost use Rattle.goo_store.specs.States.{account_of};
+ghost use Rattle.goo_store.specs.Telling.{Passes};
+
+use crate::sql_shelf::SqlShelf;
+use crate::texts;
+use crate::trouble::{Trouble, told};
+use goo_columns::account::AccountRow;
+use goo_shelf::account::Account;
+use goo_tables::account::find_account;
+use goo_types::account_no::AccountNo;
+use goo_types::fault::Fault;
+use sqlite::{Alter, Error};
+
+/// The account in its row.
+fn read_account(found: Result<Option<AccountRow>, Error>) -> Result<Option<Account>, Trouble>
+    ensures { Passes found result (λ row account. account ≡ option_map account_of (option_map account_in row)) }
+{
+    let Some(row) = found? else {
+        return Ok(None);
+    };
+    let holder = texts::holder_code(&row.holder)?;
+    Ok(Some(Account::new(holder, row.closed == 1)))
+}
+
+impl<S: Alter> SqlShelf<S> {
+    /// An account.
+    pub(crate) fn known_account(&mut self, account: AccountNo) -> Result<Option<Account>, Fault>
+        ensures { Looks (moment (view S.Store self.old.conn) self.old.refused) (moment (view S.Store self.new.conn) self.new.refused) result (λ found. found ≡ get (moment (view S.Store self.old.conn) self.old.refused).state.accounts account) }
+    {
+        if self.refused {
+            return Err(Fault::Store);
+        }
+        let found = find_account(self.alloc, &mut self.conn, account.get());
+        told(read_account(found), &mut self.refused)
+    }
+}

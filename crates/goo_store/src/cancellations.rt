@@ -1,0 +1,56 @@
+//! Records of cancellations, as they are found.
+
+ghost use Rattle.std.specs.Prelude.{◌≡◌, option_map};
+ghost use Rattle.std.specs.FinMap.{get};
+ghost use Rattle.sqlite.specs.Held.{state as view};
+ghost use Rattle.goo_columns.specs.Rows.{cancellation_in};
+ghost use Rattle.goo_shelf.specs.Shelf.{Looks};
+ghost use Rattle.goo_store.specs.Moments.{moment};
+ghost use Rattle.goo_store.specs.Records.{cancellation_of};
+ghost use Rattle.goo_store.specs.Telling.{Passes};
+
+use crate::sql_shelf::SqlShelf;
+use crate::trouble::{Trouble, told};
+use crate::{numbers, texts};
+use goo_columns::cancellation::CancellationRow;
+use goo_shelf::cancel_record::CancelRecord;
+use goo_tables::cancellation::find_cancellation;
+use goo_types::act_no::ActNo;
+use goo_types::command::Cancel;
+use goo_types::fault::Fault;
+use sqlite::{Alter, Error};
+
+/// The record in its row.
+fn read_record(
+    found: Result<Option<CancellationRow>, Error>,
+) -> Result<Option<CancelRecord>, Trouble>
+    ensures { Passes found result (λ row kept. kept ≡ option_map cancellation_of (option_map cancellation_in row)) }
+{
+    let Some(row) = found? else {
+        return Ok(None);
+    };
+    let cancellation = Cancel {
+        account: numbers::account_no(row.account)?,
+        range: numbers::range(row.first, row.last)?,
+        beneficiary: texts::name(&row.beneficiary)?,
+        use_first: texts::day(&row.use_first)?,
+        use_last: texts::day(&row.use_last)?,
+    };
+    Ok(Some(CancelRecord::of(&cancellation, texts::day(&row.day)?)))
+}
+
+impl<S: Alter> SqlShelf<S> {
+    /// The record of a cancellation.
+    pub(crate) fn known_cancellation(
+        &mut self,
+        cancellation: ActNo,
+    ) -> Result<Option<CancelRecord>, Fault>
+        ensures { Looks (moment (view S.Store self.old.conn) self.old.refused) (moment (view S.Store self.new.conn) self.new.refused) result (λ found. found ≡ get (moment (view S.Store self.old.conn) self.old.refused).state.cancellations cancellation) }
+    {
+        if self.refused {
+            return Err(Fault::Store);
+        }
+        let found = find_cancellation(self.alloc, &mut self.conn, cancellation.get());
+        told(read_record(found), &mut self.refused)
+    }
+}

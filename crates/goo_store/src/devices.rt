@@ -1,0 +1,96 @@
+//! Devices, as they are found.
+
+ghost use Rattle.std.specs.Prelude.{◌≡◌, IfOk, option_map, string_bytes};
+ghost use Rattle.std.specs.FinMap.{get};
+ghost use Rattle.sqlite.specs.Held.{state as view};
+ghost use Rattle.goo_columns.specs.Rows.{device_in};
+ghost use Rattle.goo_shelf.specs.Shelf.{Looks, progress_of};
+ghost use Rattle.goo_store.specs.Devices.{device_of, progress_in};
+ghost use Rattle.goo_store.specs.Moments.{moment};
+ghost use Rattle.goo_store.specs.Telling.{Passes};
+ghost use Rattle.goo_store.specs.Texts.{day_of};
+
+use crate::plants::read_plant;
+use crate::sql_shelf::SqlShelf;
+use crate::trouble::{Trouble, told};
+use crate::{numbers, texts};
+use goo_columns::device::DeviceRow;
+use goo_shelf::device::Device;
+use goo_shelf::found::Progress;
+use goo_tables::device::find_device;
+use goo_types::command::RegisterDevice;
+use goo_types::day::Day;
+use goo_types::fault::Fault;
+use goo_types::gsrn::Gsrn;
+use sqlite::{Alter, Error};
+
+/// The device in its row.
+fn read_device(found: Result<Option<DeviceRow>, Error>) -> Result<Option<Device>, Trouble>
+    ensures { Passes found result (λ row device. device ≡ option_map device_of (option_map device_in row)) }
+{
+    let Some(row) = found? else {
+        return Ok(None);
+    };
+    let plant = read_plant(&row.plant)?;
+    Ok(Some(Device::of(&RegisterDevice {
+        device: texts::gsrn(&row.gsrn)?,
+        account: numbers::account_no(row.account)?,
+        country: plant.country,
+        site: plant.site,
+        tech: plant.tech,
+        source: plant.source,
+        capacity_w: plant.capacity_w,
+        commissioned: plant.commissioned,
+        support: plant.support,
+    })))
+}
+
+/// A day, where there is one.
+fn maybe_day(text: &Option<String>) -> Result<Option<Day>, Trouble>
+    ensures { IfOk result (λ day. day ≡ option_map day_of (option_map string_bytes text.now)) }
+{
+    match text {
+        Some(text) => Ok(Some(texts::day(text)?)),
+        None => Ok(None),
+    }
+}
+
+/// The last accepted period's end and the carry in the row of a device; neither is there without a row.
+fn read_progress(found: Result<Option<DeviceRow>, Error>) -> Result<Progress, Trouble>
+    ensures { Passes found result (λ row progress. progress ≡ progress_in (option_map device_in row)) }
+{
+    let Some(row) = found? else {
+        return Ok(Progress {
+            last_day: None,
+            carry: numbers::wh(0)?,
+        });
+    };
+    Ok(Progress {
+        last_day: maybe_day(&row.last_day)?,
+        carry: numbers::wh(row.carry)?,
+    })
+}
+
+impl<S: Alter> SqlShelf<S> {
+    /// A device.
+    pub(crate) fn known_device(&mut self, device: &Gsrn) -> Result<Option<Device>, Fault>
+        ensures { Looks (moment (view S.Store self.old.conn) self.old.refused) (moment (view S.Store self.new.conn) self.new.refused) result (λ found. found ≡ get (moment (view S.Store self.old.conn) self.old.refused).state.devices device.now) }
+    {
+        if self.refused {
+            return Err(Fault::Store);
+        }
+        let found = find_device(self.alloc, &mut self.conn, device.text());
+        told(read_device(found), &mut self.refused)
+    }
+
+    /// A device's last accepted period and its carry.
+    pub(crate) fn progress_for(&mut self, device: &Gsrn) -> Result<Progress, Fault>
+        ensures { Looks (moment (view S.Store self.old.conn) self.old.refused) (moment (view S.Store self.new.conn) self.new.refused) result (λ progress. progress ≡ progress_of (moment (view S.Store self.old.conn) self.old.refused).state device.now) }
+    {
+        if self.refused {
+            return Err(Fault::Store);
+        }
+        let found = find_device(self.alloc, &mut self.conn, device.text());
+        told(read_progress(found), &mut self.refused)
+    }
+}

@@ -1,0 +1,42 @@
+//! Holders, as they are found.
+
+ghost use Rattle.std.specs.Prelude.{◌≡◌, option_map};
+ghost use Rattle.std.specs.FinMap.{get};
+ghost use Rattle.sqlite.specs.Held.{state as view};
+ghost use Rattle.goo_columns.specs.Rows.{holder_in};
+ghost use Rattle.goo_shelf.specs.Shelf.{Looks};
+ghost use Rattle.goo_store.specs.Moments.{moment};
+ghost use Rattle.goo_store.specs.Telling.{Passes};
+
+use crate::sql_shelf::SqlShelf;
+use crate::texts;
+use crate::trouble::{Trouble, told};
+use goo_columns::holder::HolderRow;
+use goo_tables::holder::find_holder;
+use goo_types::fault::Fault;
+use goo_types::holder_code::HolderCode;
+use goo_types::name::Name;
+use sqlite::{Alter, Error};
+
+/// The name in the row of a holder.
+fn name_in(found: Result<Option<HolderRow>, Error>) -> Result<Option<Name>, Trouble>
+    ensures { Passes found result (λ row name. name ≡ option_map (λ h. h.name) (option_map holder_in row)) }
+{
+    let Some(row) = found? else {
+        return Ok(None);
+    };
+    Ok(Some(texts::name(&row.name)?))
+}
+
+impl<S: Alter> SqlShelf<S> {
+    /// The name of a holder.
+    pub(crate) fn name_of(&mut self, code: &HolderCode) -> Result<Option<Name>, Fault>
+        ensures { Looks (moment (view S.Store self.old.conn) self.old.refused) (moment (view S.Store self.new.conn) self.new.refused) result (λ name. name ≡ get (moment (view S.Store self.old.conn) self.old.refused).state.holders code.now) }
+    {
+        if self.refused {
+            return Err(Fault::Store);
+        }
+        let found = find_holder(self.alloc, &mut self.conn, code.text());
+        told(name_in(found), &mut self.refused)
+    }
+}

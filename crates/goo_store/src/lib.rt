@@ -1,0 +1,17 @@
+//! A registry kept in a database: a shelf over the tables.
+#![tactic(auto)]
+
+mod accounts;
+mod cancellations;
+mod devices;
+mod holders;
+mod lots;
+mod notices;
+mod numbers;
+mod peers;
+mod plants;
+mod receipts;
+mod registry_row;
+pub mod sql_shelf;
+mod texts;
+mod trouble;

@@ -1,0 +1,80 @@
+//! Lots, as they are found.
+
+ghost use Rattle.std.specs.Prelude.{◌≡◌, IfOk, option_map};
+ghost use Rattle.std.specs.FinMap.{get};
+ghost use Rattle.sqlite.specs.Held.{state as view};
+ghost use Rattle.goo_types.specs.Day.{IsDay};
+ghost use Rattle.goo_types.specs.Texts.{day_text};
+ghost use Rattle.goo_spec.specs.Lots.{lot_key};
+ghost use Rattle.goo_columns.specs.Rows.{lot_in};
+ghost use Rattle.goo_shelf.specs.Shelf.{Looks};
+ghost use Rattle.goo_store.specs.Moments.{moment};
+ghost use Rattle.goo_store.specs.Places.{lot_of};
+ghost use Rattle.goo_store.specs.Telling.{Passes};
+
+use crate::plants::read_plant;
+use crate::sql_shelf::SqlShelf;
+use crate::trouble::{Trouble, told};
+use crate::{numbers, texts};
+use goo_columns::lot::LotRow;
+use goo_notice::texts::day_text;
+use goo_tables::lot::find_lot;
+use goo_types::day::Day;
+use goo_types::fault::Fault;
+use goo_types::gsrn::Gsrn;
+use goo_types::lot::Lot;
+use goo_types::lot_fields::LotFields;
+use goo_types::registry_code::RegistryCode;
+use sqlite::{Alter, Error};
+
+/// The lot that a row states.
+pub fn read_lot(row: &LotRow) -> Result<Lot, Trouble>
+    ensures { IfOk result (λ lot. lot ≡ lot_of (lot_in row.now)) }
+{
+    let plant = read_plant(&row.plant)?;
+    let fields = LotFields {
+        origin: numbers::registry_code(row.origin)?,
+        device: texts::gsrn(&row.device)?,
+        country: plant.country,
+        site: plant.site,
+        tech: plant.tech,
+        source: plant.source,
+        capacity_w: plant.capacity_w,
+        commissioned: plant.commissioned,
+        support: plant.support,
+        first_day: texts::day(&row.first_day)?,
+        last_day: texts::day(&row.last_day)?,
+        issued_on: texts::day(&row.issued_on)?,
+    };
+    Lot::new(fields).ok_or(Trouble::Refused)
+}
+
+/// The lot, if there is one.
+fn read_found(found: Result<Option<LotRow>, Error>) -> Result<Option<Lot>, Trouble>
+    ensures { Passes found result (λ row lot. lot ≡ option_map lot_of (option_map lot_in row)) }
+{
+    match found? {
+        Some(row) => Ok(Some(read_lot(&row)?)),
+        None => Ok(None),
+    }
+}
+
+impl<S: Alter> SqlShelf<S> {
+    /// The known lot of an origin, a device and a first day.
+    pub(crate) fn known_lot(
+        &mut self,
+        origin: RegistryCode,
+        device: &Gsrn,
+        first_day: Day,
+    ) -> Result<Option<Lot>, Fault>
+        ensures { Looks (moment (view S.Store self.old.conn) self.old.refused) (moment (view S.Store self.new.conn) self.new.refused) result (λ lot. lot ≡ get (moment (view S.Store self.old.conn) self.old.refused).state.lots (lot_key origin device.now first_day)) }
+    {
+        if self.refused {
+            return Err(Fault::Store);
+        }
+        let origin = u32::from(origin.get());
+        let day = day_text(first_day);
+        let found = find_lot(self.alloc, &mut self.conn, origin, device.text(), day.as_str());
+        told(read_found(found), &mut self.refused)
+    }
+}

@@ -1,0 +1,89 @@
+//! Notices that were sent and that came in, as they are found.
+
+ghost use Rattle.std.specs.Prelude.{◌≡◌, Some, option_map};
+ghost use Rattle.std.specs.FinMap.{get};
+ghost use Rattle.sqlite.specs.Held.{state as view};
+ghost use Rattle.goo_columns.specs.Rows.{notice_out_in, notice_in_in};
+ghost use Rattle.goo_shelf.specs.Shelf.{Looks, arrival_of};
+ghost use Rattle.goo_store.specs.Moments.{moment};
+ghost use Rattle.goo_store.specs.Records.{sent_of, arrived_of};
+ghost use Rattle.goo_store.specs.Telling.{Passes};
+
+use crate::sql_shelf::SqlShelf;
+use crate::trouble::{Trouble, told};
+use crate::{numbers, texts};
+use goo_columns::notice_in::NoticeInRow;
+use goo_columns::notice_out::NoticeOutRow;
+use goo_shelf::found::Arrival;
+use goo_shelf::sent::Sent;
+use goo_tables::notice_in::find_notice_in;
+use goo_tables::notice_out::find_notice_out;
+use goo_types::act_no::ActNo;
+use goo_types::fault::Fault;
+use goo_types::notice::Notice;
+use sqlite::{Alter, Error};
+use std::alloc::Global;
+
+/// The notice that was sent, with the account in its row.
+fn read_sent(
+    alloc: Global,
+    found: Result<Option<NoticeOutRow>, Error>,
+) -> Result<Option<Sent>, Trouble>
+    ensures { Passes found result (λ row sent. sent ≡ option_map sent_of (option_map notice_out_in row)) }
+{
+    let Some(row) = found? else {
+        return Ok(None);
+    };
+    let account = numbers::account_no(row.account)?;
+    Ok(Some(Sent::new(account, texts::notice(alloc, &row.body)?)))
+}
+
+/// What is kept for a notice's sender and number, seen from the notice.
+fn arrival(kept: &Notice, notice: &Notice) -> Arrival
+    ensures { result ≡ arrival_of (Some kept.now) notice.now }
+{
+    if kept.is(notice) {
+        Arrival::Same
+    } else {
+        Arrival::Other
+    }
+}
+
+/// What the row keeps for a notice's sender and number, seen from the notice.
+fn read_arrival(
+    alloc: Global,
+    found: Result<Option<NoticeInRow>, Error>,
+    notice: &Notice,
+) -> Result<Arrival, Trouble>
+    ensures { Passes found result (λ row arrival. arrival ≡ arrival_of (option_map arrived_of (option_map notice_in_in row)) notice.now) }
+{
+    let Some(row) = found? else {
+        return Ok(Arrival::Absent);
+    };
+    Ok(arrival(&texts::notice(alloc, &row.body)?, notice))
+}
+
+impl<S: Alter> SqlShelf<S> {
+    /// A notice that was sent.
+    pub(crate) fn known_sent(&mut self, alloc: Global, notice: ActNo) -> Result<Option<Sent>, Fault>
+        ensures { Looks (moment (view S.Store self.old.conn) self.old.refused) (moment (view S.Store self.new.conn) self.new.refused) result (λ found. found ≡ get (moment (view S.Store self.old.conn) self.old.refused).state.sent notice) }
+    {
+        if self.refused {
+            return Err(Fault::Store);
+        }
+        let found = find_notice_out(alloc, &mut self.conn, notice.get());
+        told(read_sent(alloc, found), &mut self.refused)
+    }
+
+    /// What is kept for a notice's sender and number, seen from the notice.
+    pub(crate) fn arrival_of(&mut self, alloc: Global, notice: &Notice) -> Result<Arrival, Fault>
+        ensures { Looks (moment (view S.Store self.old.conn) self.old.refused) (moment (view S.Store self.new.conn) self.new.refused) result (λ arrival. arrival ≡ arrival_of (get (moment (view S.Store self.old.conn) self.old.refused).state.arrived (notice.now.sender, notice.now.number)) notice.now) }
+    {
+        if self.refused {
+            return Err(Fault::Store);
+        }
+        let sender = u32::from(notice.sender().get());
+        let found = find_notice_in(alloc, &mut self.conn, sender, notice.number().get());
+        told(read_arrival(alloc, found, notice), &mut self.refused)
+    }
+}

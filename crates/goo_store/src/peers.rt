@@ -1,0 +1,36 @@
+//! Other registries, as they are found.
+
+ghost use Rattle.std.specs.Prelude.{◌≡◌, is_some, option_map};
+ghost use Rattle.std.specs.FinMap.{contains_key};
+ghost use Rattle.sqlite.specs.Held.{state as view};
+ghost use Rattle.goo_shelf.specs.Shelf.{Looks};
+ghost use Rattle.goo_store.specs.Moments.{moment};
+ghost use Rattle.goo_store.specs.Telling.{Passes};
+
+use crate::sql_shelf::SqlShelf;
+use crate::trouble::{Trouble, told};
+use goo_columns::peer::PeerRow;
+use goo_tables::peer::find_peer;
+use goo_types::fault::Fault;
+use goo_types::registry_code::RegistryCode;
+use sqlite::{Alter, Error};
+
+/// Whether there is a row.
+fn is_there(found: Result<Option<PeerRow>, Error>) -> Result<bool, Trouble>
+    ensures { Passes found result (λ row there. there ≡ is_some row) }
+{
+    Ok(found?.is_some())
+}
+
+impl<S: Alter> SqlShelf<S> {
+    /// Whether another registry is known.
+    pub(crate) fn knows_peer(&mut self, code: RegistryCode) -> Result<bool, Fault>
+        ensures { Looks (moment (view S.Store self.old.conn) self.old.refused) (moment (view S.Store self.new.conn) self.new.refused) result (λ known. known ≡ contains_key (moment (view S.Store self.old.conn) self.old.refused).state.peers code) }
+    {
+        if self.refused {
+            return Err(Fault::Store);
+        }
+        let found = find_peer(self.alloc, &mut self.conn, u32::from(code.get()));
+        told(is_there(found), &mut self.refused)
+    }
+}

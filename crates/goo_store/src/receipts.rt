@@ -1,0 +1,118 @@
+//! Receipts, as they are found.
+
+ghost use Rattle.std.specs.Prelude.{◌≡◌, IfOk, option_map};
+ghost use Rattle.std.specs.FinMap.{get};
+ghost use Rattle.sqlite.specs.Held.{state as view};
+ghost use Rattle.goo_notice.specs.Law.{command_in};
+ghost use Rattle.goo_spec.specs.Step.{is_kept};
+ghost use Rattle.goo_columns.specs.Rows.{receipt_in};
+ghost use Rattle.goo_shelf.specs.Shelf.{Looks, receipt_of as seen_from};
+ghost use Rattle.goo_store.specs.Moments.{moment};
+ghost use Rattle.goo_store.specs.Replies.{issued_of, reply_of, receipt_of};
+ghost use Rattle.goo_store.specs.Telling.{Passes};
+
+use crate::numbers;
+use crate::sql_shelf::SqlShelf;
+use crate::trouble::{Trouble, told};
+use goo_columns::receipt::ReceiptRow;
+use goo_notice::{command_text, one_text};
+use goo_shelf::found::Receipt;
+use goo_tables::receipt::find_receipt;
+use goo_types::command::Command;
+use goo_types::fault::Fault;
+use goo_types::holder_code::HolderCode;
+use goo_types::key::Key;
+use goo_types::range::Range;
+use goo_types::reply::Reply;
+use sqlite::{Alter, Error};
+use std::alloc::Global;
+
+/// The numbers issued, if any were.
+fn read_issued(first: u64, last: u64) -> Result<Option<Range>, Trouble>
+    ensures { IfOk result (λ issued. issued ≡ issued_of first last) }
+{
+    if first == 0 && last == 0 {
+        return Ok(None);
+    }
+    Ok(Some(numbers::range(first, last)?))
+}
+
+/// The reply of a kind with its numbers.
+fn read_reply(kind: u32, n1: u64, n2: u64, n3: u64) -> Result<Reply, Trouble>
+    ensures { IfOk result (λ reply. reply ≡ reply_of kind n1 n2 n3) }
+{
+    match kind {
+        1 => Ok(Reply::Done),
+        2 => Ok(Reply::Account {
+            account: numbers::account_no(numbers::small(n1)?)?,
+        }),
+        3 => Ok(Reply::Declared {
+            carry: n1,
+            issued: read_issued(n2, n3)?,
+        }),
+        4 => Ok(Reply::Moved { count: n1 }),
+        5 => Ok(Reply::Cancelled {
+            cancellation: numbers::act_no(numbers::small(n1)?)?,
+            count: n2,
+        }),
+        6 => Ok(Reply::Withdrawn {
+            withdrawal: numbers::act_no(numbers::small(n1)?)?,
+            count: n2,
+        }),
+        7 => Ok(Reply::Advanced { expired: n1 }),
+        8 => Ok(Reply::Exported {
+            notice: numbers::act_no(numbers::small(n1)?)?,
+            count: n2,
+        }),
+        9 => Ok(Reply::Imported { count: n1 }),
+        _ => Err(Trouble::Refused),
+    }
+}
+
+/// Whether bytes are the text of a command.
+fn is_text_of(alloc: Global, bytes: &[u8], command: &Command) -> Result<bool, Trouble>
+    ensures { IfOk result (λ same. same ≡ is_kept (command_in bytes.now) command.now) }
+{
+    one_text();
+    match command_text(alloc, command) {
+        Ok(text) => Ok(text.as_slice() == bytes),
+        Err(_) => Err(Trouble::Memory),
+    }
+}
+
+/// What the row keeps for a key, seen from a command.
+fn read_receipt(
+    alloc: Global,
+    found: Result<Option<ReceiptRow>, Error>,
+    command: &Command,
+) -> Result<Receipt, Trouble>
+    ensures { Passes found result (λ row receipt. receipt ≡ seen_from (option_map receipt_of (option_map receipt_in row)) command.now) }
+{
+    let Some(row) = found? else {
+        return Ok(Receipt::Absent);
+    };
+    if is_text_of(alloc, &row.command, command)? {
+        Ok(Receipt::Same(read_reply(row.kind, row.n1, row.n2, row.n3)?))
+    } else {
+        Ok(Receipt::Other)
+    }
+}
+
+impl<S: Alter> SqlShelf<S> {
+    /// What is kept for a caller's key, seen from a command.
+    pub(crate) fn receipt_for(
+        &mut self,
+        alloc: Global,
+        caller: &HolderCode,
+        key: &Key,
+        command: &Command,
+    ) -> Result<Receipt, Fault>
+        ensures { Looks (moment (view S.Store self.old.conn) self.old.refused) (moment (view S.Store self.new.conn) self.new.refused) result (λ receipt. receipt ≡ seen_from (get (moment (view S.Store self.old.conn) self.old.refused).state.receipts (caller.now, key.now)) command.now) }
+    {
+        if self.refused {
+            return Err(Fault::Store);
+        }
+        let found = find_receipt(alloc, &mut self.conn, caller.text(), key.text());
+        told(read_receipt(alloc, found, command), &mut self.refused)
+    }
+}

@@ -1,0 +1,115 @@
+//! Texts that columns keep, as values.
+
+ghost use Rattle.std.specs.Prelude.{◌≡◌, IfOk};
+ghost use Rattle.goo_store.specs.Texts.{day_of, support_of, notice_of};
+
+use crate::trouble::Trouble;
+use goo_notice::NoticeFault;
+use goo_notice::read;
+use goo_types::country::Country;
+use goo_types::day::Day;
+use goo_types::gsrn::Gsrn;
+use goo_types::holder_code::HolderCode;
+use goo_types::name::Name;
+use goo_types::notice::Notice;
+use goo_types::source_code::SourceCode;
+use goo_types::support::Support;
+use goo_types::tech_code::TechCode;
+use std::alloc::Global;
+
+/// The code of a holder.
+#[tactic(auto, unfolding(goo_types::specs::TextReading::text_reading))]
+pub fn holder_code(text: &str) -> Result<HolderCode, Trouble>
+    ensures { IfOk result (λ code. code ≡ text.now) }
+{
+    match HolderCode::read(text.as_bytes()) {
+        Ok(code) => Ok(code),
+        Err(_) => Err(Trouble::Refused),
+    }
+}
+
+/// A name.
+#[tactic(auto, unfolding(goo_types::specs::TextReading::text_reading))]
+pub fn name(text: &str) -> Result<Name, Trouble>
+    ensures { IfOk result (λ name. name ≡ text.now) }
+{
+    match Name::read(text.as_bytes()) {
+        Ok(name) => Ok(name),
+        Err(_) => Err(Trouble::Refused),
+    }
+}
+
+/// A country.
+#[tactic(auto, unfolding(goo_types::specs::TextReading::text_reading))]
+pub fn country(text: &str) -> Result<Country, Trouble>
+    ensures { IfOk result (λ country. country ≡ text.now) }
+{
+    match Country::read(text.as_bytes()) {
+        Ok(country) => Ok(country),
+        Err(_) => Err(Trouble::Refused),
+    }
+}
+
+/// A technology.
+#[tactic(auto, unfolding(goo_types::specs::TextReading::text_reading))]
+pub fn tech_code(text: &str) -> Result<TechCode, Trouble>
+    ensures { IfOk result (λ code. code ≡ text.now) }
+{
+    match TechCode::read(text.as_bytes()) {
+        Ok(code) => Ok(code),
+        Err(_) => Err(Trouble::Refused),
+    }
+}
+
+/// An energy source.
+#[tactic(auto, unfolding(goo_types::specs::TextReading::text_reading))]
+pub fn source_code(text: &str) -> Result<SourceCode, Trouble>
+    ensures { IfOk result (λ code. code ≡ text.now) }
+{
+    match SourceCode::read(text.as_bytes()) {
+        Ok(code) => Ok(code),
+        Err(_) => Err(Trouble::Refused),
+    }
+}
+
+/// The number of a device (GS1 GSRN).
+#[tactic(auto, unfolding(goo_types::specs::Gsrn::gsrn_reading))]
+pub fn gsrn(text: &str) -> Result<Gsrn, Trouble>
+    ensures { IfOk result (λ gsrn. gsrn ≡ text.now) }
+{
+    match Gsrn::read(text.as_bytes()) {
+        Ok(gsrn) => Ok(gsrn),
+        Err(_) => Err(Trouble::Refused),
+    }
+}
+
+/// A day.
+pub fn day(text: &str) -> Result<Day, Trouble>
+    ensures { IfOk result (λ day. day ≡ day_of text.now) }
+{
+    match Day::read(text.as_bytes()) {
+        Ok(day) => Ok(day),
+        Err(_) => Err(Trouble::Refused),
+    }
+}
+
+/// The support that a device had.
+pub fn support(text: &str) -> Result<Support, Trouble>
+    ensures { IfOk result (λ support. support ≡ support_of text.now) }
+{
+    match Support::read(text.as_bytes()) {
+        Ok(support) => Ok(support),
+        Err(_) => Err(Trouble::Refused),
+    }
+}
+
+/// A notice, by its text.
+pub fn notice(alloc: Global, body: &[u8]) -> Result<Notice, Trouble>
+    ensures { IfOk result (λ notice. notice ≡ notice_of body.now) }
+{
+    match read(alloc, body) {
+        Ok(notice) => Ok(notice),
+        Err(NoticeFault::Memory) => Err(Trouble::Memory),
+        Err(_) => Err(Trouble::Refused),
+    }
+}

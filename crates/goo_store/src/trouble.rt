@@ -1,0 +1,47 @@
+//! Why a call of the database, or the reading of what it showed, fails.
+
+ghost use Rattle.goo_store.specs.Telling.{IsTroubleOf, Tells};
+
+use goo_types::fault::Fault;
+use sqlite::{Error, ErrorCode};
+use std::alloc::AllocError;
+
+/// Why a statement failed, or the reading of its rows.
+#[derive(Clone, Copy, Debug, PartialEq, Eq)]
+pub enum Trouble {
+    /// Memory was refused.
+    Memory,
+    /// A call was refused for another cause, or a row breaks the rules of the tables.
+    Refused,
+}
+
+impl From<Error> for Trouble {
+    fn from(error: Error) -> Trouble
+        ensures { IsTroubleOf error result }
+    {
+        match error {
+            Error::SqliteFailure(ErrorCode::OutOfMemory) => Trouble::Memory,
+            _ => Trouble::Refused,
+        }
+    }
+}
+
+impl From<AllocError> for Trouble {
+    fn from(_error: AllocError) -> Trouble {
+        Trouble::Memory
+    }
+}
+
+/// The answer to the caller. All but want of memory raises the flag, for good.
+pub fn told<T: Drop>(read: Result<T, Trouble>, refused: &mut bool) -> Result<T, Fault>
+    ensures { Tells read result refused.old refused.new }
+{
+    match read {
+        Ok(found) => Ok(found),
+        Err(Trouble::Memory) => Err(Fault::Memory),
+        Err(Trouble::Refused) => {
+            *refused = true;
+            Err(Fault::Store)
+        }
+    }
+}

@@ -1,0 +1,51 @@
+//! Runs each statement on the tables once in memory and once on a file, and prints what it found.
+//!
+//! The file is `registry.db` in the folder where it runs. `tools/tables-with-sqlite3` reads the same rows there by
+//! another program.
+#![tactic(auto)]
+
+mod changes;
+mod finds;
+mod lists;
+mod rows;
+mod searches;
+
+use changes::{change, create, fill};
+use finds::tell_finds;
+use lists::tell_lists;
+use searches::tell_searches;
+use sqlite::{Alter, Connection};
+
+/// Makes and fills the tables, changes them, and prints what is found.
+fn tour<S: Alter>(rt: &HostRuntime, conn: &mut Connection<S>) -> Result<bool, anyhow::Error> {
+    let alloc = rt.alloc();
+    if !create(alloc, conn)? || !fill(alloc, conn)? || !change(conn)? {
+        return Ok(false);
+    }
+    tell_lists(rt, conn)?;
+    tell_finds(rt, conn)?;
+    tell_searches(rt, conn)?;
+    Ok(true)
+}
+
+fn in_memory(rt: &HostRuntime) -> Result<(), anyhow::Error> {
+    println!(rt; "-- in memory")?;
+    let mut conn = Connection::open_in_memory(rt.alloc())?;
+    let done = tour(rt, &mut conn)?;
+    println!(rt; "-- done: {done}")?;
+    Ok(())
+}
+
+fn on_a_file(rt: &HostRuntime) -> Result<(), anyhow::Error> {
+    println!(rt; "-- on a file")?;
+    let mut conn = Connection::open(rt, "registry.db")?;
+    let done = tour(rt, &mut conn)?;
+    println!(rt; "-- done: {done}")?;
+    Ok(())
+}
+
+fn main(rt: HostRuntime) -> Result<(), anyhow::Error> {
+    in_memory(&rt)?;
+    on_a_file(&rt)?;
+    Ok(())
+}
