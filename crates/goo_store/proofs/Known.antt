@@ -146,3 +146,7 @@ lot_test origin device first_day o d day valid =
     (λ is.
       let same = same_key o origin 0 day (day_of first_day) d device (text_same (lot_key o d day) (lot_key origin device (day_of first_day)) is) in
       both_true _ _ _ (number_itself origin o (sym same.0)) (text_itself device d (sym same.1)) (text_itself first_day (day_text day) (only_day first_day day valid (sym same.2))))
+
+-- a test of numbers, as statements write it
+pub number_is : (a q : ℕ) → int_eq (pos a) (pos q) ≡ (a == q)
+number_is a q = alike (int_eq (pos a) (pos q)) (a == q) (λ is. eq-eqb a q (number_same a q is)) (λ is. number_itself a q (eqb-true a q is))

@@ -1,3 +1,5 @@
 pub mod Known
 pub mod Holding
 pub mod Looking
+pub mod RowsFound
+pub mod Merging

@@ -9,3 +9,4 @@ pub mod Kept
 pub mod Moments
 pub mod Telling
 pub mod Plants
+pub mod Near
