@@ -3,3 +3,4 @@ pub mod Holding
 pub mod Looking
 pub mod RowsFound
 pub mod Merging
+pub mod DayTexts
