@@ -4,3 +4,4 @@ pub mod Looking
 pub mod RowsFound
 pub mod Merging
 pub mod DayTexts
+pub mod Expiring

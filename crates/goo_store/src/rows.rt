@@ -5,15 +5,17 @@ ghost use Rattle.std.specs.List.{filter};
 ghost use Rattle.sqlite.specs.Held.{state as view};
 ghost use Rattle.goo_types.specs.Piece.{IsRising};
 ghost use Rattle.goo_rows.specs.Rows.{meeting as near};
-ghost use Rattle.goo_shelf.specs.Rows.{naming_account};
+ghost use Rattle.goo_shelf.specs.Rows.{naming_account, expiring_on};
 ghost use Rattle.goo_shelf.specs.Shelf.{Looks};
 ghost use Rattle.goo_store.specs.Moments.{moment};
 
 use crate::pieces::{join_near, read_maybe, read_rising};
 use crate::sql_shelf::SqlShelf;
 use crate::trouble::told;
-use goo_tables::joined::{piece_before, pieces_beginning, pieces_of_account};
+use goo_notice::texts::day_text;
+use goo_tables::joined::{piece_before, pieces_beginning, pieces_expiring, pieces_of_account};
 use goo_types::account_no::AccountNo;
+use goo_types::day::Day;
 use goo_types::fault::Fault;
 use goo_types::piece::Piece;
 use goo_types::range::Range;
@@ -70,6 +72,19 @@ impl<S: Alter> SqlShelf<S> {
             return Err(Fault::Store);
         }
         let found = pieces_of_account(alloc, &mut self.conn, account.get());
+        told(read_rising(alloc, found), &mut self.refused)
+    }
+
+    /// The held rows whose lot is over on a day, rising.
+    pub(crate) fn rows_expiring(&mut self, alloc: Global, day: Day) -> Result<Vec<Piece>, Fault>
+        ensures looks { Looks (moment (view S.Store self.old.conn) self.old.refused) (moment (view S.Store self.new.conn) self.new.refused) result (λ met. met.items ≡ expiring_on day (moment (view S.Store self.old.conn) self.old.refused).rows) }
+        ensures rising { IfOk result (λ met. IsRising met.items) }
+    {
+        if self.refused {
+            return Err(Fault::Store);
+        }
+        let text = day_text(day);
+        let found = pieces_expiring(alloc, &mut self.conn, text.as_str());
         told(read_rising(alloc, found), &mut self.refused)
     }
 }
