@@ -10,3 +10,4 @@ pub mod Moments
 pub mod Telling
 pub mod Plants
 pub mod Near
+pub mod Changes

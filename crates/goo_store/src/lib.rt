@@ -3,6 +3,7 @@
 
 mod accounts;
 mod cancellations;
+mod change;
 mod devices;
 mod holders;
 mod lots;
