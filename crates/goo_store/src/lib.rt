@@ -4,6 +4,7 @@
 mod accounts;
 mod cancellations;
 mod change;
+mod committing;
 mod devices;
 mod holders;
 mod lots;
