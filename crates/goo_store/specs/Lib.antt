@@ -11,3 +11,4 @@ pub mod Telling
 pub mod Plants
 pub mod Near
 pub mod Changes
+pub mod Creating

@@ -5,6 +5,7 @@ mod accounts;
 mod cancellations;
 mod change;
 mod committing;
+mod creating;
 mod devices;
 mod holders;
 mod lots;
