@@ -5,3 +5,4 @@ pub mod RowsFound
 pub mod Merging
 pub mod DayTexts
 pub mod Expiring
+pub mod Created

@@ -5,6 +5,8 @@ use Rattle.sqlite.specs.declared.error.Error.TheVariants.{SqliteFailure}
 use Rattle.sqlite.specs.declared.error.ErrorCode.TheVariants.{OutOfMemory}
 use Rattle.goo_types.specs.declared.fault.Fault.{Fault}
 use Rattle.goo_types.specs.declared.fault.Fault.TheVariants as fault
+use Rattle.goo_store.specs.declared.open_fault.OpenFault.{OpenFault}
+use Rattle.goo_store.specs.declared.open_fault.OpenFault.TheVariants as opening
 use Rattle.goo_store.specs.declared.trouble.Trouble.{Trouble}
 use Rattle.goo_store.specs.declared.trouble.Trouble.TheVariants.{Memory, Refused}
 
@@ -23,3 +25,8 @@ abbrev pub Tells : {T : Type 0} → Result T Trouble → Result T Fault → Bool
 Tells (Ok x) told old new = (told ≡ Ok x) × (new ≡ old)
 Tells (Err Memory) told old new = (told ≡ Err fault.Memory) × (new ≡ old)
 Tells (Err Refused) told old new = (told ≡ Err fault.Store) × (new ≡ true)
+
+-- the same, of a database that was to be opened
+abbrev pub open_fault_of : Trouble → OpenFault
+open_fault_of Memory = opening.Memory
+open_fault_of Refused = opening.Store

@@ -11,6 +11,7 @@ mod holders;
 mod lots;
 mod notices;
 mod numbers;
+pub mod open_fault;
 mod peers;
 mod pieces;
 mod plants;
