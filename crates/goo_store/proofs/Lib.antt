@@ -6,3 +6,4 @@ pub mod Merging
 pub mod DayTexts
 pub mod Expiring
 pub mod Created
+pub mod CommitLemmas

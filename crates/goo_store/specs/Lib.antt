@@ -12,3 +12,4 @@ pub mod Plants
 pub mod Near
 pub mod Changes
 pub mod Creating
+pub mod Planned

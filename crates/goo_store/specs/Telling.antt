@@ -1,5 +1,5 @@
 -- How an error of the database is passed on, and what is told of it.
-use Rattle.std.specs.Prelude.{◌≡◌, ◌≢◌, Bool, true, Result, Ok, Err, IfOk, IsErr}
+use Rattle.std.specs.Prelude.{◌≡◌, ◌≢◌, Bool, true, Result, Ok, Err, IfOk, IsOk, IsErr}
 use Rattle.sqlite.specs.declared.error.Error.{Error}
 use Rattle.sqlite.specs.declared.error.Error.TheVariants.{SqliteFailure}
 use Rattle.sqlite.specs.declared.error.ErrorCode.TheVariants.{OutOfMemory}
@@ -19,6 +19,11 @@ IsTroubleOf error Refused = error ≢ SqliteFailure OutOfMemory
 abbrev pub Passes : {T U : Type 0} → Result T Error → Result U Trouble → (T → U → Type 0) → Type 0
 Passes (Ok x) read R = IfOk read (R x)
 Passes (Err e) read R = IsErr read
+
+-- success is passed on as success, and an error as one
+abbrev pub PassesOn : {T U : Type 0} → Result T Error → Result U Trouble → Type 0
+PassesOn (Ok x) read = IsOk read
+PassesOn (Err e) read = IsErr read
 
 -- what was read is told; want of memory is told and leaves the flag; anything else is told as a store fault and raises it
 abbrev pub Tells : {T : Type 0} → Result T Trouble → Result T Fault → Bool → Bool → Type 0
