@@ -7,3 +7,5 @@ pub mod DayTexts
 pub mod Expiring
 pub mod Created
 pub mod CommitLemmas
+pub mod Inserted
+pub mod RowChanges
