@@ -11,7 +11,7 @@ use Rattle.sqlite_keyed.specs.Keyed.{insert_by, has_key, get_by}
 use Rattle.sqlite_keyed.proofs.RuleLemmas.{first_of_both, second_of_both}
 
 -- no row has the key, so none has it in front
-here_too : {A : Type 0} (b : Bool) (a : A) (rest : Option A) → is_some (cond b (Some a) rest) ≡ false → (b ≡ false) × (is_some rest ≡ false)
+pub here_too : {A : Type 0} (b : Bool) (a : A) (rest : Option A) → is_some (cond b (Some a) rest) ≡ false → (b ≡ false) × (is_some rest ≡ false)
 here_too true a rest none = absurd (true≢false none)
 here_too false a rest none = (refl, none)
 
