@@ -9,3 +9,4 @@ pub mod Created
 pub mod CommitLemmas
 pub mod Inserted
 pub mod RowChanges
+pub mod EditsMade

@@ -13,3 +13,4 @@ pub mod Near
 pub mod Changes
 pub mod Creating
 pub mod Planned
+pub mod EditChanges
