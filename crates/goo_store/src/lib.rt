@@ -19,5 +19,7 @@ mod receipts;
 mod registry_row;
 mod rows;
 pub mod sql_shelf;
+#[cfg(test)]
+mod tests;
 mod texts;
 mod trouble;

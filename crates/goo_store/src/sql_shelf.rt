@@ -30,6 +30,16 @@ pub struct SqlShelf<S: Alter> {
     ghost well: { IsWell (view S.Store conn) } by { IsWell-prop (view S.Store conn) },
 }
 
+impl<S: Alter + Drop> Drop for SqlShelf<S> {
+    fn drop(self) {
+        let SqlShelf {
+            alloc: _,
+            conn: _conn,
+            refused: _,
+        } = self;
+    }
+}
+
 impl<S: Alter> SqlShelf<S> {
     /// The registry that a database holds by all rules.
     pub fn over(alloc: Global, conn: Connection<S>) -> SqlShelf<S>
@@ -87,7 +97,9 @@ impl<S: Alter> SqlShelf<S> {
 
     /// The database, with the registry in it.
     pub fn into_connection(self) -> Connection<S>
-        ensures { result ≡ self.conn }
+        ensures conn { result ≡ self.conn }
+        ensures outside { result.in_transaction ≡ false }
+        ensures well { IsWell (view S.Store result) }
     {
         let SqlShelf {
             alloc: _,
