@@ -10,3 +10,4 @@ pub mod CommitLemmas
 pub mod Inserted
 pub mod RowChanges
 pub mod EditsMade
+pub mod PlannedLemmas

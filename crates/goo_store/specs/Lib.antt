@@ -14,3 +14,4 @@ pub mod Changes
 pub mod Creating
 pub mod Planned
 pub mod EditChanges
+pub mod Acted
