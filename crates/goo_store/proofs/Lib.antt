@@ -11,3 +11,5 @@ pub mod Inserted
 pub mod RowChanges
 pub mod EditsMade
 pub mod PlannedLemmas
+pub mod ReadableLemmas
+pub mod CommandsActed
