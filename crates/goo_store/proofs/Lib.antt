@@ -13,3 +13,5 @@ pub mod EditsMade
 pub mod PlannedLemmas
 pub mod ReadableLemmas
 pub mod CommandsActed
+pub mod Numbering
+pub mod ActsActed
