@@ -1,5 +1,5 @@
 -- What commands change that give the next number of a kind, and the one that sets the date.
-use Rattle.std.proofs.Common.{◌≡◌, ℕ, ℤ, pos, ◌+◌, ◌≤◌, List, true, false, map, refl, ap, sym, ◌∙◌, arith}
+use Rattle.std.proofs.Common.{◌≡◌, ℕ, ◌+◌, ◌≤◌, List, true, false, map, refl, ap, ◌∙◌, arith}
 use Rattle.std.specs.FinMap.{get, insert, from_entries}
 use Rattle.std.specs.List.{list_all}
 use Rattle.sqlite_keyed.specs.Keyed.{insert_by}

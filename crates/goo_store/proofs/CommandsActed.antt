@@ -1,5 +1,5 @@
 -- What commands change beside the certificates.
-use Rattle.std.proofs.Common.{◌≡◌, ℕ, ℤ, pos, ◌+◌, ◌<◌, ◌≤◌, ◌&&◌, List, [], ◌∷◌, Bool, true, false, cond, map, find, is_some, nat_le, Option, Some, None, option_map, refl, ap, sym, subst, ◌∙◌, arith, true≢false}
+use Rattle.std.proofs.Common.{◌≡◌, ℕ, ℤ, pos, ◌≤◌, List, true, map, None, refl, ap, sym, subst, ◌∙◌}
 use Rattle.std.specs.FinMap.{FinMap, get, contains_key, insert, from_entries, IsAntisymmetric, slice_cmp-IsAntisymmetric, nat_cmp-IsAntisymmetric}
 use Rattle.std.specs.Cmp.{nat_cmp_total}
 use Rattle.std.specs.Cmp.Lexicographic.{nat_list_cmp_total}
@@ -67,7 +67,7 @@ module _ (t : Tables) (kept : AreKept t) where
   holder_acted x h states reads rise none =
       let key = next_key kept_key t.holders in
       let put = map_inserted nat_list_cmp_total kept_key known_holder (key, h) texts_apart t.holders (next_key_is_free kept_key t.holders rise) (ap (λ e. get (from_entries {R = text_cmp} (map known_holder t.holders)) e.0) (states key) ∙ none)
-          ∙ ap (λ e. insert (from_entries {R = text_cmp} (map known_holder t.holders)) e.0 e.1) (states key) in
+      ∙ ap (λ e. insert (from_entries {R = text_cmp} (map known_holder t.holders)) e.0 e.1) (states key) in
       quiet t (change.with_holder t h) (with_holder (state_of t) x) kept refl refl refl refl refl (λ at i. record (beside at (state_of t)) { holders = put i })
       (with_holders t kept.readable (added t.holders h) (all_inserted kept_key is_holder (key, h) (reads key) t.holders kept.readable.holders))
 
@@ -78,6 +78,6 @@ module _ (t : Tables) (kept : AreKept t) where
   peer_acted x p states reads rise none =
       let key = next_key kept_key t.peers in
       let put = map_inserted nat_cmp_total kept_key known_peer (key, p) nat_cmp-IsAntisymmetric t.peers (next_key_is_free kept_key t.peers rise) (ap (λ e. get (from_entries {R = nat_cmp} (map known_peer t.peers)) e.0) (states key) ∙ none)
-          ∙ ap (λ e. insert (from_entries {R = nat_cmp} (map known_peer t.peers)) e.0 e.1) (states key) in
+      ∙ ap (λ e. insert (from_entries {R = nat_cmp} (map known_peer t.peers)) e.0 e.1) (states key) in
       quiet t (change.with_peer t p) (with_peer (state_of t) x) kept refl refl refl refl refl (λ at i. record (beside at (state_of t)) { peers = put i })
       (with_peers t kept.readable (added t.peers p) (all_inserted kept_key is_peer (key, p) (reads key) t.peers kept.readable.peers))

@@ -1,5 +1,5 @@
 -- A plan that is carried out by changes of the tables.
-use Rattle.std.proofs.Common.{◌≡◌, ◌⊎◌, ◌≤◌, inl, inr, ℕ, Bool, true, false, IsTrue, List, refl, sym, ap, subst, ◌∙◌, arith, true≢false, Ok, Err, Result, OnOk, OnErr, Option, Some, None}
+use Rattle.std.proofs.Common.{◌≡◌, ◌≤◌, inl, inr, Bool, false, IsTrue, List, sym, ap, subst, ◌∙◌, arith, true≢false, Ok, Err, Result, OnOk, OnErr, Option, Some}
 use Rattle.sqlite_trees.specs.View.{doubt}
 use Rattle.sqlite.specs.State.{State, HasCleanDisk, Survives}
 use Rattle.sqlite.specs.Tree.{Trees}
@@ -9,7 +9,6 @@ use Rattle.goo_types.specs.declared.fault.Fault.{Fault}
 use Rattle.goo_types.specs.declared.fault.Fault.TheVariants as fault
 use Rattle.goo_spec.specs.State as registry
 use Rattle.goo_spec.specs.Step.{accept}
-use Rattle.goo_rows.specs.Rows.{edited_all}
 use Rattle.goo_shelf.specs.Shelf as shelf
 use Rattle.goo_shelf.specs.Plan.{Commits, IsEither}
 use Rattle.goo_shelf.specs.declared.plan.Plan.{Plan}

@@ -1,9 +1,8 @@
 -- A new registry.
-use Rattle.std.proofs.Common.{◌≡◌, ◌&&◌, ◌∙◌, ℕ, [], true, nat_le, refl, sym, ap, subst, arith}
+use Rattle.std.proofs.Common.{◌≡◌, ◌&&◌, ℕ, true, refl, sym, ap, subst, arith}
 use Rattle.std.proofs.lemmas.Bool.{le-leb}
 use Rattle.sqlite.specs.State.{State, HasCleanDisk}
-use Rattle.goo_types.specs.Day.{CalendarDay, day_reading}
-use Rattle.goo_types.specs.Texts.{day_text}
+use Rattle.goo_types.specs.Day.{CalendarDay}
 use Rattle.goo_types.proofs.DayLemmas.{day_reading-day_text}
 use Rattle.goo_spec.specs.Created.{created}
 use Rattle.goo_spec.specs.Energy.{carry, total}
@@ -17,7 +16,7 @@ use Rattle.goo_store.specs.Creating.{meta_of, IsFirst}
 use Rattle.goo_store.specs.Kept.{AreKept}
 use Rattle.goo_store.specs.Moments.{IsWell, tables_in}
 use Rattle.goo_store.specs.Places.{rows_of}
-use Rattle.goo_store.specs.Readable.{is_meta, reads, is_code, is_between, is_next}
+use Rattle.goo_store.specs.Readable.{is_meta, reads}
 use Rattle.goo_store.specs.States.{state_of}
 use Rattle.goo_store.proofs.Holding.{sure}
 use Rattle.goo_store.proofs.Known.{day_back}

@@ -1,12 +1,11 @@
 -- The order of days' texts is that of days.
-use Rattle.std.proofs.Common.{◌≡◌, ◌⊎◌, inl, inr, ℕ, zero, suc, ◌+◌, ◌*◌, ◌/◌, ◌%◌, ◌^◌, ◌<◌, ◌≤◌, List, [], ◌∷◌, ◌++◌, Bool, true, false, Option, Some, None, append_assoc, refl, sym, ap, subst, pos, ◌∙◌, arith, nat_lt, cond, min}
+use Rattle.std.proofs.Common.{◌≡◌, inl, inr, ℕ, zero, suc, ◌+◌, ◌*◌, ◌/◌, ◌%◌, ◌^◌, ◌<◌, List, [], ◌∷◌, ◌++◌, Bool, true, false, Some, None, append_assoc, refl, sym, ap, subst, pos, ◌∙◌, arith, nat_lt}
 use Rattle.std.specs.Prelude.{if◌then◌else◌}
 use Rattle.std.specs.declared.cmp.Ordering.{Ordering}
 use Rattle.std.specs.declared.cmp.Ordering.TheVariants.{Less, Equal, Greater}
 use Rattle.std.specs.Bool.{one_answer}
 use Rattle.std.specs.Ordering.{nat_cmp, ordering_then, is_lt}
 use Rattle.std.specs.Cmp.{nat_cmp_is}
-use Rattle.std.specs.Cmp.Lexicographic.{slice_cmp}
 use Rattle.std.proofs.lemmas.Bool.{cases_order, ltb-true, lt-ltb, ltb-false}
 use Rattle.std.proofs.lemmas.List.{append-nil}
 use native.Mathlib.Numerals.{unary_clauses}
@@ -24,18 +23,18 @@ then_then Greater b c = refl
 
 last_digit : (a b : ℕ) → a / 10 ≡ b / 10 → nat_cmp (48 + a % 10) (48 + b % 10) ≡ nat_cmp a b
 last_digit a b eq = elim (cases_order (a % 10) (b % 10)) [
-    | inr (inl lt) ↦ sym (nat_cmp_is (48 + a % 10) (48 + b % 10) Less (omega (arith, lt))) ∙ nat_cmp_is a b Less (omega (arith, eq, lt))
-    | inl same ↦ sym (nat_cmp_is (48 + a % 10) (48 + b % 10) Equal (omega (arith, same))) ∙ nat_cmp_is a b Equal (omega (arith, eq, same))
-    | inr (inr gt) ↦ sym (nat_cmp_is (48 + a % 10) (48 + b % 10) Greater (omega (arith, gt))) ∙ nat_cmp_is a b Greater (omega (arith, eq, gt))
-  ]
+  | inr (inl lt) ↦ sym (nat_cmp_is (48 + a % 10) (48 + b % 10) Less (omega (arith, lt))) ∙ nat_cmp_is a b Less (omega (arith, eq, lt))
+  | inl same ↦ sym (nat_cmp_is (48 + a % 10) (48 + b % 10) Equal (omega (arith, same))) ∙ nat_cmp_is a b Equal (omega (arith, eq, same))
+  | inr (inr gt) ↦ sym (nat_cmp_is (48 + a % 10) (48 + b % 10) Greater (omega (arith, gt))) ∙ nat_cmp_is a b Greater (omega (arith, eq, gt))
+]
 
 -- the last digit decides where the rest is the same
 parted : (a b : ℕ) → ordering_then (nat_cmp (a / 10) (b / 10)) (nat_cmp (48 + a % 10) (48 + b % 10)) ≡ nat_cmp a b
 parted a b = elim (cases_order (a / 10) (b / 10)) [
-    | inr (inl lt) ↦ (λ i. ordering_then (sym (nat_cmp_is (a / 10) (b / 10) Less lt) i) (nat_cmp (48 + a % 10) (48 + b % 10))) ∙ nat_cmp_is a b Less (omega (arith, lt))
-    | inr (inr gt) ↦ (λ i. ordering_then (sym (nat_cmp_is (a / 10) (b / 10) Greater gt) i) (nat_cmp (48 + a % 10) (48 + b % 10))) ∙ nat_cmp_is a b Greater (omega (arith, gt))
-    | inl eq ↦ (λ i. ordering_then (sym (nat_cmp_is (a / 10) (b / 10) Equal eq) i) (nat_cmp (48 + a % 10) (48 + b % 10))) ∙ last_digit a b eq
-  ]
+  | inr (inl lt) ↦ (λ i. ordering_then (sym (nat_cmp_is (a / 10) (b / 10) Less lt) i) (nat_cmp (48 + a % 10) (48 + b % 10))) ∙ nat_cmp_is a b Less (omega (arith, lt))
+  | inr (inr gt) ↦ (λ i. ordering_then (sym (nat_cmp_is (a / 10) (b / 10) Greater gt) i) (nat_cmp (48 + a % 10) (48 + b % 10))) ∙ nat_cmp_is a b Greater (omega (arith, gt))
+  | inl eq ↦ (λ i. ordering_then (sym (nat_cmp_is (a / 10) (b / 10) Equal eq) i) (nat_cmp (48 + a % 10) (48 + b % 10))) ∙ last_digit a b eq
+]
 
 tenth : (a p : ℕ) → a < p * 10 → a / 10 < p
 tenth a p low = omega (arith, low)

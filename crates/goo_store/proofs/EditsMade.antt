@@ -1,5 +1,5 @@
 -- Edits of rows that are carried out by changes of pieces.
-use Rattle.std.proofs.Common.{◌≡◌, ℕ, pos, ◌∷◌, [], ◌++◌, List, Bool, true, false, not, cond, ◌&&◌, map, fold, is_some, Some, refl, ap, sym, subst, ◌∙◌}
+use Rattle.std.proofs.Common.{◌≡◌, ℕ, pos, ◌∷◌, [], ◌++◌, List, Bool, true, false, not, cond, ◌&&◌, map, is_some, refl, ap, sym, subst, ◌∙◌}
 use Rattle.std.specs.List.{list_all, filter}
 use Rattle.std.specs.Ordering.{int_eq}
 use Rattle.std.proofs.lemmas.List.Sums.{fold-append}
@@ -8,16 +8,15 @@ use Rattle.sqlite_keyed.specs.Lists.{delete_where}
 use Rattle.sqlite_keyed.proofs.KeyedLemmas.{IsKeyedBy-insert_by, IsKeyedBy-delete_where}
 use Rattle.sqlite_keyed.proofs.RuleLemmas.{first_of_both, second_of_both}
 use Rattle.goo_types.specs.declared.piece.Piece.{Piece}
-use Rattle.goo_types.specs.Piece.{IsRising, IsRisingFrom}
+use Rattle.goo_types.specs.Piece.{IsRising}
 use Rattle.goo_ranges.specs.declared.edits.Edit.{Edit}
-use Rattle.goo_rows.specs.Rows.{with, with_each, without, without_each, edited, edited_all}
+use Rattle.goo_rows.specs.Rows.{with, with_each, without_each, edited, edited_all}
 use Rattle.goo_shelf.specs.Plan.{StayRising}
 use Rattle.goo_columns.specs.Rows.{Tables, Lot, lot_key, piece_key}
 use Rattle.goo_columns.specs.declared.piece.PieceRow.{PieceRow}
 use Rattle.goo_tables.specs.Changes.{without_piece, with_piece}
 use Rattle.goo_store.specs.Changes.{made_all}
 use Rattle.goo_store.specs.EditChanges.{AreRowsOf, AreForEdit, AreForEdits}
-use Rattle.goo_store.specs.Places.{piece_of}
 use Rattle.goo_store.specs.Readable.{is_piece}
 use Rattle.goo_store.specs.declared.change.Change.{Change}
 use Rattle.goo_store.specs.declared.change.Change.TheVariants.{DeletePiece, InsertPiece}

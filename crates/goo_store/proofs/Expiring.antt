@@ -1,12 +1,12 @@
 -- The held rows whose lot is over.
-use Rattle.std.proofs.Common.{◌≡◌, ℕ, ℤ, pos, ◌==◌, ◌&&◌, List, [], ◌∷◌, Bool, true, false, cond, find, map, nat_lt, Option, Some, None, option_map, Result, Ok, Err, refl, sym, ap, subst, ◌∙◌, true≢false}
-use Rattle.std.specs.List.{filter, filter_map, cons_option, list_all, AllByRecursion}
+use Rattle.std.proofs.Common.{◌≡◌, ℕ, ℤ, pos, ◌==◌, ◌&&◌, List, [], ◌∷◌, Bool, true, false, cond, find, map, Option, Some, None, option_map, Result, Ok, Err, refl, sym, ap, subst, ◌∙◌, true≢false}
+use Rattle.std.specs.List.{filter, cons_option, list_all, AllByRecursion}
 use Rattle.std.specs.Ordering.{int_eq}
 use Rattle.sqlite_typed.specs.Tests.{bytes_lt, both_and}
 use Rattle.sqlite_keyed.specs.Keyed.{get_by}
 use Rattle.sqlite_keyed.proofs.ListLemmas.{filter-map}
 use Rattle.sqlite_keyed.proofs.RuleLemmas.{first_of_both, second_of_both}
-use Rattle.goo_types.specs.Day.{CalendarDay, IsDay, day_number, day_reading, months_after}
+use Rattle.goo_types.specs.Day.{CalendarDay, IsDay, day_reading, months_after}
 use Rattle.goo_types.specs.Texts.{day_text}
 use Rattle.goo_types.specs.declared.day.DayFault.{DayFault}
 use Rattle.goo_types.specs.declared.place.Place.TheVariants.{Held, Cancelled, Expired, Withdrawn, Exported}
@@ -91,6 +91,6 @@ pub expiring_found : (t : Tables) → AreKept t → (day : CalendarDay) → IsDa
     → ps ≡ filter (λ p. expires day p.lot p.place) (map piece_of (pieces_beside t))
 expiring_found t kept day valid found ps is read =
     read ∙ ap (map piece_of) (is ∙ same_filter _ (λ a. expires day (lot_of a.1) (place_of a.0.kind a.0.account a.0.act)) (λ a. Datable a.1)
-      (λ a it. λ i. (number_is a.0.kind 1 ∙ sym (place_held a.0.kind a.0.account a.0.act)) i && over_text a.1 day valid it.0 it.1 i)
-      (pieces_beside t) (all_beside Datable t.lots (λ id l here. (kept.lots id l here, last_day_read l (found_passes is_lot _ t.lots l kept.readable.lots here))) t.pieces))
+    (λ a it. λ i. (number_is a.0.kind 1 ∙ sym (place_held a.0.kind a.0.account a.0.act)) i && over_text a.1 day valid it.0 it.1 i)
+    (pieces_beside t) (all_beside Datable t.lots (λ id l here. (kept.lots id l here, last_day_read l (found_passes is_lot _ t.lots l kept.readable.lots here))) t.pieces))
     ∙ sym (filter-map (λ p. expires day p.lot p.place) piece_of (pieces_beside t))

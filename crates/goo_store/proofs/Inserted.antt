@@ -1,13 +1,13 @@
 -- A row more in a table, seen as a finite map.
-use Rattle.std.proofs.Common.{◌≡◌, ℕ, ℤ, pos, ◌&&◌, List, [], ◌∷◌, Bool, true, false, cond, map, find, is_some, Option, Some, None, refl, ap, sym, subst, ◌∙◌, true≢false}
+use Rattle.std.proofs.Common.{◌≡◌, ℤ, ◌&&◌, List, [], ◌∷◌, Bool, true, false, cond, map, find, is_some, Option, Some, None, refl, ap, sym, ◌∙◌, true≢false}
 use Rattle.std.specs.declared.cmp.Ordering.{Ordering}
 use Rattle.std.specs.declared.cmp.Ordering.TheVariants.{Less, Equal, Greater}
 use Rattle.std.specs.List.{list_all}
 use Rattle.std.specs.Ordering.{eq_by_cmp, int_eq, int_cmp, is_eq, match_ordering}
 use Rattle.std.specs.Cmp.{IsTotalOrder, eq_by_cmp_equiv}
-use Rattle.std.specs.FinMap.{FinMap, get, insert, from_entries, get-from_entries, get-insert, same_map, IsAntisymmetric}
+use Rattle.std.specs.FinMap.{get, insert, from_entries, get-from_entries, get-insert, same_map, IsAntisymmetric}
 use Rattle.std.specs.FinMap.Entries as entries
-use Rattle.sqlite_keyed.specs.Keyed.{insert_by, has_key, get_by}
+use Rattle.sqlite_keyed.specs.Keyed.{insert_by, has_key}
 use Rattle.sqlite_keyed.proofs.RuleLemmas.{first_of_both, second_of_both}
 
 -- no row has the key, so none has it in front
@@ -65,7 +65,7 @@ module _ {A K X : Type 0} {R : K → K → Ordering} (o : IsTotalOrder R) (key :
       → from_entries {R = R} (map entry (insert_by key xs x)) ≡ insert (from_entries (map entry xs)) (entry x).0 (entry x).1
   map_inserted exact xs fresh none =
       same_map o exact _ _ (λ q.
-        get-from_entries o (map entry (insert_by key xs x)) q
-        ∙ find-inserted xs fresh (sym (get-from_entries o (map entry xs) (entry x).0) ∙ none) q
-        ∙ ap (cond (eq_by_cmp R q (entry x).0) (Some (entry x).1)) (sym (get-from_entries o (map entry xs) q))
-        ∙ sym (get-insert o (from_entries (map entry xs)) (entry x).0 (entry x).1 q))
+      get-from_entries o (map entry (insert_by key xs x)) q
+      ∙ find-inserted xs fresh (sym (get-from_entries o (map entry xs) (entry x).0) ∙ none) q
+      ∙ ap (cond (eq_by_cmp R q (entry x).0) (Some (entry x).1)) (sym (get-from_entries o (map entry xs) q))
+      ∙ sym (get-insert o (from_entries (map entry xs)) (entry x).0 (entry x).1 q))

@@ -1,15 +1,13 @@
 -- Look-ups of a shelf, from those of the tables.
-use Rattle.std.proofs.Common.{◌≡◌, ◌≤◌, inl, inr, ℕ, Bool, true, false, IsTrue, refl, sym, ap, subst, ◌∙◌, arith, true≢false, Ok, Err, Result, IfOk, OnOk, Option, cond}
-use Rattle.sqlite_trees.specs.View.{doubt}
-use Rattle.sqlite.specs.State.{State, HasCleanDisk, Survives}
+use Rattle.std.proofs.Common.{◌≡◌, ◌≤◌, inl, inr, Bool, true, false, IsTrue, refl, sym, ap, subst, ◌∙◌, arith, true≢false, Ok, Err, Result, IfOk, OnOk}
+use Rattle.sqlite.specs.State.{State, HasCleanDisk}
 use Rattle.sqlite.specs.Effect.{Database}
 use Rattle.sqlite.specs.declared.error.Error.{Error}
 use Rattle.goo_types.specs.declared.fault.Fault.{Fault}
 use Rattle.goo_types.specs.declared.fault.Fault.TheVariants as fault
 use Rattle.goo_shelf.specs.Shelf as shelf
-use Rattle.goo_columns.specs.Columns.{registry_schema}
 use Rattle.goo_columns.specs.Rows.{Tables, tables_of}
-use Rattle.goo_columns.specs.Stands.{Stands, Rests, Looks, IsSettled, doubts}
+use Rattle.goo_columns.specs.Stands.{Stands, Rests, Looks, doubts}
 use Rattle.goo_store.specs.declared.trouble.Trouble.{Trouble}
 use Rattle.goo_store.specs.declared.trouble.Trouble.TheVariants.{Memory, Refused}
 use Rattle.goo_store.specs.Kept.{AreKept}

@@ -1,5 +1,5 @@
 -- The rows near a range, from the one before it and those that begin in it.
-use Rattle.std.proofs.Common.{◌≡◌, ℕ, ◌+◌, ◌≤◌, ◌<◌, ◌&&◌, List, [], ◌∷◌, ◌++◌, reverse, find, Bool, true, false, cond, nat_le, nat_lt, ltb, leb, Option, Some, None, refl, sym, ap, ◌∙◌, arith}
+use Rattle.std.proofs.Common.{◌≡◌, ℕ, ◌+◌, ◌≤◌, ◌&&◌, List, [], ◌∷◌, ◌++◌, reverse, find, Bool, true, false, cond, nat_le, nat_lt, Option, Some, None, refl, sym, ap, ◌∙◌, arith}
 use Rattle.std.specs.List.{filter}
 use Rattle.std.specs.Option.{option_or}
 use Rattle.std.proofs.lemmas.Bool.{le-ltb, le-leb, lt-leb, ltb-true, ltb-false, leb-true}
@@ -8,7 +8,7 @@ use Rattle.std.proofs.lemmas.List.Folds.{find-append}
 use Rattle.goo_types.specs.Range.{Numbers}
 use Rattle.goo_types.specs.declared.piece.Piece.{Piece}
 use Rattle.goo_types.specs.Piece.{IsRisingFrom}
-use Rattle.goo_rows.specs.Rows.{is_near, meeting}
+use Rattle.goo_rows.specs.Rows.{meeting}
 use Rattle.goo_store.specs.Near.{reaching}
 
 module _ (range : Numbers) where
@@ -29,9 +29,10 @@ module _ (range : Numbers) where
       let rest = none_below (p.last + 1) ps rising.2 (omega (arith, above, rising.0, rising.1.0)) in
       let out : begins p ≡ false = le-ltb p.first range.first (omega (arith, above, rising.0)) in
       let far : nat_le range.first (p.last + 1) ≡ true = le-leb range.first (p.last + 1) (omega (arith, above, rising.0, rising.1.0)) in
-      let from : nat_le range.first p.first ≡ true = le-leb range.first p.first (omega (arith, above, rising.0)) in
-      (before p ps ∙ (λ i. option_or (rest.0 i) (cond (out i) (Some p) None)),
-      (λ i. cond (far i && nat_le p.first (range.last + 1)) (p ∷ rest.1 i) (rest.1 i)) ∙ sym (λ i. cond (from i && nat_le p.first (range.last + 1)) (p ∷ filter within ps) (filter within ps)))
+      let from : nat_le range.first p.first ≡ true = le-leb range.first p.first (omega (arith, above, rising.0)) in (
+        before p ps ∙ (λ i. option_or (rest.0 i) (cond (out i) (Some p) None)),
+        (λ i. cond (far i && nat_le p.first (range.last + 1)) (p ∷ rest.1 i) (rest.1 i)) ∙ sym (λ i. cond (from i && nat_le p.first (range.last + 1)) (p ∷ filter within ps) (filter within ps)),
+      )
 
   short : (p : Piece) (o : Option Piece) → nat_le range.first (p.last + 1) ≡ false → reaching range (option_or o (Some p)) ≡ reaching range o
   short p None ends = ap (λ b. cond b (p ∷ []) []) ends

@@ -1,6 +1,6 @@
 -- Rows under numbers that are given one after another.
-use Rattle.std.proofs.Common.{◌≡◌, ℕ, ℤ, pos, ◌+◌, ◌<◌, ◌≤◌, ◌&&◌, List, Bool, true, false, map, find, is_some, nat_le, Option, Some, None, option_map, refl, ap, sym, subst, ◌∙◌, arith}
-use Rattle.std.specs.FinMap.{FinMap, get, contains_key, insert, from_entries, nat_cmp-IsAntisymmetric}
+use Rattle.std.proofs.Common.{◌≡◌, ℕ, pos, ◌≤◌, ◌&&◌, List, true, false, map, find, is_some, Option, Some, None, refl, ap, sym, ◌∙◌, arith}
+use Rattle.std.specs.FinMap.{FinMap, get, insert, from_entries, nat_cmp-IsAntisymmetric}
 use Rattle.std.specs.Cmp.{nat_cmp_total}
 use Rattle.std.specs.Ordering.{int_eq, nat_cmp}
 use Rattle.std.proofs.lemmas.Bool.{le-leb}
@@ -10,7 +10,7 @@ use Rattle.sqlite_keyed.proofs.SliceLemmas.{is_some-map}
 use Rattle.goo_types.specs.Day.{day_reading}
 use Rattle.goo_spec.specs.Sound.{AreBelow}
 use Rattle.goo_columns.specs.Rows.{Meta}
-use Rattle.goo_store.specs.Readable.{is_meta, is_code, is_between, is_next, reads}
+use Rattle.goo_store.specs.Readable.{is_meta, is_code, is_between, reads}
 use Rattle.goo_store.proofs.Inserted.{map_inserted}
 use Rattle.goo_store.proofs.Known.{get-known, number_test}
 
@@ -40,7 +40,7 @@ pub counters_read : (m : Meta) → is_meta m ≡ true → (serial account cancel
 counters_read m read serial account cancellation withdrawal notice a b c d e =
     let rest = second_of_both (is_code m.code) _ read in
     λ i. first_of_both (is_code m.code) _ read i && (first_of_both (reads (day_reading m.today)) _ rest i && (between 1 1000000000000 serial a.0 a.1 i
-      && (between 1 1000000000 account b.0 b.1 i && (between 1 1000000000 cancellation c.0 c.1 i && (between 1 1000000000 withdrawal d.0 d.1 i && between 1 1000000000 notice e.0 e.1 i)))))
+    && (between 1 1000000000 account b.0 b.1 i && (between 1 1000000000 cancellation c.0 c.1 i && (between 1 1000000000 withdrawal d.0 d.1 i && between 1 1000000000 notice e.0 e.1 i)))))
 
 -- the row of the registry on another day
 pub today_read : (m : Meta) → is_meta m ≡ true → (today : List ℕ) → reads (day_reading today) ≡ true → is_meta (record m { today = today }) ≡ true

@@ -1,5 +1,5 @@
 -- Changes that carry out a plan: those of its command, then those of its edits, and the receipt.
-use Rattle.std.proofs.Common.{◌≡◌, ℕ, ℤ, pos, List, [], ◌∷◌, ◌++◌, Option, Some, None, true, refl, ap, sym, subst, ◌∙◌}
+use Rattle.std.proofs.Common.{◌≡◌, ℕ, List, [], ◌∷◌, ◌++◌, Option, Some, None, true, refl, ap, sym, subst, ◌∙◌}
 use Rattle.std.specs.FinMap.{FinMap, get, insert, from_entries, IsAntisymmetric, slice_cmp-IsAntisymmetric, nat_cmp-IsAntisymmetric}
 use Rattle.std.specs.List.{list_all}
 use Rattle.std.proofs.lemmas.List.Sums.{fold-append}
@@ -17,7 +17,7 @@ use Rattle.goo_types.specs.declared.request.Request.{Request}
 use Rattle.goo_spec.specs.Energy.{carry, total}
 use Rattle.goo_spec.specs.Sound.{IsSound}
 use Rattle.goo_spec.specs.State.{State, receipt_cmp}
-use Rattle.goo_spec.specs.Step.{accept, changed, outcome, keyed_outcome, is_kept}
+use Rattle.goo_spec.specs.Step.{accept, changed, keyed_outcome, is_kept}
 use Rattle.goo_spec.proofs.Again.{accepted_reply}
 use Rattle.goo_spec.proofs.Stepping.{sound_accept}
 use Rattle.goo_rows.specs.Rows.{edited_all}
@@ -26,7 +26,6 @@ use Rattle.goo_shelf.specs.Shelf.{progress_of}
 use Rattle.goo_shelf.specs.declared.plan.Plan.{Plan}
 use Rattle.goo_list.specs.Maps.{pair-IsAntisymmetric}
 use Rattle.goo_list.specs.Rows.{certificates_of}
-use Rattle.goo_list.specs.States.{beside}
 use Rattle.goo_list.proofs.CertificateLemmas.{certificates-same}
 use Rattle.goo_columns.specs.Rows.{Tables, Kept, kept_key, piece_key}
 use Rattle.goo_columns.specs.Rows as row

@@ -1,19 +1,19 @@
 -- Pieces that are taken out and put in, seen as rows of certificates.
-use Rattle.std.proofs.Common.{◌≡◌, ℕ, zero, suc, ◌+◌, ◌≤◌, ◌<◌, ℤ, pos, ◌==◌, ◌&&◌, ◌<ℤ◌, List, [], ◌∷◌, Bool, true, false, not, cond, map, find, is_some, nat_lt, Option, Some, None, option_map, refl, ap, sym, subst, ◌∙◌, true≢false, arith}
+use Rattle.std.proofs.Common.{◌≡◌, ℕ, zero, suc, ◌+◌, ◌≤◌, ◌<◌, pos, ◌==◌, List, [], ◌∷◌, Bool, true, false, not, cond, map, find, is_some, nat_lt, Option, Some, None, option_map, refl, ap, sym, subst, ◌∙◌, true≢false, arith}
 use Rattle.std.specs.declared.cmp.Ordering.{Ordering}
 use Rattle.std.specs.declared.cmp.Ordering.TheVariants.{Less, Equal, Greater}
-use Rattle.std.specs.List.{list_all, filter, cons_option, AllByRecursion}
+use Rattle.std.specs.List.{list_all, cons_option}
 use Rattle.std.specs.Ordering.{int_eq, int_cmp, is_eq, match_ordering, ordering_reverse}
 use Rattle.std.specs.Cmp.{int_cmp_total}
 use Rattle.jiff_core.proofs.SignedLemmas.{signed_arith}
-use Rattle.std.proofs.lemmas.Bool.{ltb-true, ltb-false, lt-ltb, le-ltb, eqb-true, eq-eqb}
+use Rattle.std.proofs.lemmas.Bool.{lt-ltb, le-ltb, eqb-true, eq-eqb}
 use Rattle.sqlite_keyed.specs.Keyed.{insert_by, has_key, get_by, IsKeyedBy}
 use Rattle.sqlite_keyed.specs.Lists.{delete_where}
 use Rattle.sqlite_keyed.proofs.KeyedLemmas.{lt_from_Less, same_int, none_past}
 use Rattle.sqlite_keyed.proofs.RuleLemmas.{first_of_both, second_of_both}
 use Rattle.goo_types.specs.declared.piece.Piece.{Piece}
 use Rattle.goo_types.specs.Piece.{IsRisingFrom}
-use Rattle.goo_rows.specs.Rows.{with, with_each, without, without_each}
+use Rattle.goo_rows.specs.Rows.{with, with_each, without}
 use Rattle.goo_columns.specs.Beside.{beside}
 use Rattle.goo_columns.specs.Rows.{Lot, lot_key, piece_key}
 use Rattle.goo_columns.specs.declared.piece.PieceRow.{PieceRow}

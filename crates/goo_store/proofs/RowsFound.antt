@@ -1,10 +1,8 @@
 -- The rows that statements find, as pieces.
-use Rattle.std.proofs.Common.{◌≡◌, ℕ, pos, ◌==◌, ◌+◌, ◌≤◌, ◌<◌, ◌&&◌, List, [], ◌∷◌, ◌++◌, map, reverse, find, Bool, true, false, cond, nat_le, nat_lt, Option, Some, None, option_map, refl, sym, ap, ◌∙◌, arith}
+use Rattle.std.proofs.Common.{◌≡◌, ℕ, ◌==◌, List, [], ◌∷◌, ◌++◌, map, reverse, find, Bool, true, false, cond, Option, Some, option_map, refl, sym, ap, ◌∙◌}
 use Rattle.std.specs.List.{filter}
-use Rattle.std.specs.Ordering.{int_eq}
 use Rattle.std.proofs.lemmas.List.{reverse-append, map-append}
 use Rattle.goo_types.specs.Place.{account_of}
-use Rattle.goo_types.specs.declared.place.Place.{Place}
 use Rattle.goo_types.specs.declared.place.Place.TheVariants.{Held, Cancelled, Expired, Withdrawn, Exported}
 use Rattle.goo_types.specs.declared.piece.Piece.{Piece}
 use Rattle.sqlite_keyed.proofs.ListLemmas.{filter-map, filter_same}

@@ -1,9 +1,8 @@
 -- What an accepted command changes beside the certificates, in the tables.
-use Rattle.std.specs.Prelude.{◌≡◌, ◌≤◌, ℕ, ℤ, pos, true, List, map, filter, length, Option, Some}
+use Rattle.std.specs.Prelude.{◌≡◌, ◌≤◌, ℕ, ℤ, pos, true, List, map, filter, length, Some}
 use Rattle.std.specs.List.{list_all}
 use Rattle.sqlite_typed.specs.Tests.{bytes_eq}
 use Rattle.sqlite_keyed.specs.Keyed.{get_by, has_key}
-use Rattle.goo_types.specs.declared.command.Command.{Command}
 use Rattle.goo_types.specs.declared.reply.Reply.{Reply}
 use Rattle.goo_types.specs.declared.request.Request.{Request}
 use Rattle.goo_spec.specs.Lots.{Certificates}

@@ -1,6 +1,6 @@
 -- Changes of the tables, one statement each.
-use Rattle.std.specs.Prelude.{◌≡◌, ◌<◌, ◌^◌, ℕ, List, [], ◌∷◌, fold, take, get_or, length, string_bytes}
-use Rattle.std.specs.List.{filter, AllByRecursion}
+use Rattle.std.specs.Prelude.{◌<◌, ◌^◌, ℕ, List, fold, take, get_or, length, string_bytes}
+use Rattle.std.specs.List.{filter}
 use Rattle.sqlite_typed.specs.Tests.{bytes_eq}
 use Rattle.goo_columns.specs.Once.{IsOnce}
 use Rattle.goo_columns.specs.Rows.{Tables, holder_in, account_in, device_in, declaration_in, lot_in, receipt_in, cancellation_in, withdrawal_in, notice_out_in, notice_in_in}

@@ -1,5 +1,5 @@
 -- The rows near a range, as two statements find them.
-use Rattle.std.specs.Prelude.{ℕ, ◌+◌, cond, nat_le, List, [], ◌∷◌, Option, Some, None}
+use Rattle.std.specs.Prelude.{◌+◌, cond, nat_le, List, [], ◌∷◌, Option, Some, None}
 use Rattle.goo_types.specs.Range.{Numbers}
 use Rattle.goo_types.specs.declared.piece.Piece.{Piece}
 

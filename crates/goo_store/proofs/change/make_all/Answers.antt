@@ -1,4 +1,4 @@
-use Rattle.std.proofs.Common.{◌≡◌, ◌+◌, ◌<◌, ◌∙◌, take, length, sym, ap, subst, arith}
+use Rattle.std.proofs.Common.{◌<◌, ◌∙◌, take, length, sym, ap, subst, arith}
 use Rattle.sqlite.specs.Held.{state}
 use Rattle.goo_columns.specs.Stands.{Sees}
 use Rattle.goo_columns.proofs.Inside.{keeps_then, survives_both, fold_more}

@@ -1,6 +1,6 @@
-use Rattle.std.proofs.Common.{◌≡◌, OnOk, IsTrue, true, arith, rules, subst, sym}
+use Rattle.std.proofs.Common.{◌≡◌, IsTrue, true, arith, rules, subst, sym}
 use Rattle.sqlite.specs.State.{HasCleanDisk, KeepsCommit, Survives}
-use Rattle.sqlite.specs.Held.{Held, state}
+use Rattle.sqlite.specs.Held.{state}
 use Rattle.goo_columns.specs.Stands.{Sees, Settled, Holds}
 use Rattle.goo_columns.specs.Rows.{meta_in}
 use Rattle.goo_tables.specs.Changes.{begun}

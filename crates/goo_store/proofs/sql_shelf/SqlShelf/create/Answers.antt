@@ -1,9 +1,8 @@
-use Rattle.std.proofs.Common.{◌≡◌, ◌∙◌, ap, sym, subst, refl}
+use Rattle.std.proofs.Common.{◌≡◌, ◌∙◌, ap, sym, subst}
 use Rattle.sqlite.specs.Held.{state as view}
-use Rattle.goo_shelf.specs.Shelf.{IsReady}
 use Rattle.goo_spec.specs.Created.{created}
 use Rattle.goo_columns.specs.Stands.{doubts}
-use Rattle.goo_store.specs.Moments.{count, moment, tables_in}
+use Rattle.goo_store.specs.Moments.{count, tables_in}
 use Rattle.goo_store.specs.Places.{rows_of}
 use Rattle.goo_store.specs.States.{state_of}
 use Rattle.goo_store.specs.Telling.{open_fault_of}
@@ -21,8 +20,8 @@ pub returns-in-Ok-clause-state : goal.returns-in-Ok-clause-state
 returns-in-Ok-clause-state g c =
     subst (λ conn. doubts (view g.S.Store conn) ≡ 0 → state_of (tables_in (view g.S.Store conn)) ≡ created c.args.code c.args.today c.args.next_serial) (sym c.over.ensures.conn)
     (λ none.
-      ap state_of (created_tables c.args.code c.args.today c.args.next_serial c.in-Ok.ensures.limits (view g.S.Store c.begin.new.conn) c.in-Ok.ensures.done none)
-      ∙ begun_state c.args.code c.args.today c.args.next_serial c.in-Ok.ensures.limits)
+    ap state_of (created_tables c.args.code c.args.today c.args.next_serial c.in-Ok.ensures.limits (view g.S.Store c.begin.new.conn) c.in-Ok.ensures.done none)
+    ∙ begun_state c.args.code c.args.today c.args.next_serial c.in-Ok.ensures.limits)
 
 pub returns-in-Ok-clause-rows : goal.returns-in-Ok-clause-rows
 unfolding rows_of

@@ -30,7 +30,7 @@ returns-clause-looks g c =
     looked_both old (view g.S.Store mid.conn) (view g.S.Store new.conn) c.args.self.now.refused mid.refused new.refused c.told.new.refused
     c.in_ok-before.before _ c.in_ok-before.ensures c.in_ok-later.later _ _ c.join_near.result c.told.result c.in_ok-later.ensures c.told.ensures
     (λ fine same before later.
-      if_ok c.join_near.result c.join_near.ensures.value (λ met is.
-        is ∙ (λ i. reaching range (before i) ++ (c.deref.ensures.value ∙ later ∙ ap (filter (λ p. nat_le c.get-first.result p.first && nat_le p.first (c.get-last.result + 1))) same) i)
-        ∙ (λ i. reaching range (find (λ p. nat_lt p.first (low i)) (reverse rows)) ++ filter (λ p. nat_le (low i) p.first && nat_le p.first (high i + 1)) rows)
-        ∙ sym (near_rows range (omega (arith, limit.rising)) 0 rows (c.args.self.now.well.kept fine).rising)))
+    if_ok c.join_near.result c.join_near.ensures.value (λ met is.
+    is ∙ (λ i. reaching range (before i) ++ (c.deref.ensures.value ∙ later ∙ ap (filter (λ p. nat_le c.get-first.result p.first && nat_le p.first (c.get-last.result + 1))) same) i)
+    ∙ (λ i. reaching range (find (λ p. nat_lt p.first (low i)) (reverse rows)) ++ filter (λ p. nat_le (low i) p.first && nat_le p.first (high i + 1)) rows)
+    ∙ sym (near_rows range (omega (arith, limit.rising)) 0 rows (c.args.self.now.well.kept fine).rising)))
