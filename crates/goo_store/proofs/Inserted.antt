@@ -27,7 +27,7 @@ module _ {A : Type 0} (key : A → ℤ) (p : A → Bool) (x : A) (passes : p x �
       go Greater rest = λ i. passes i && all i
 
 -- which of two tests comes first doesn't matter, where they can't both hold
-swapped : {X : Type 0} (a b : Bool) (x y z : Option X) → (a ≡ true → b ≡ true → ⊥) → cond a x (cond b y z) ≡ cond b y (cond a x z)
+pub swapped : {X : Type 0} (a b : Bool) (x y z : Option X) → (a ≡ true → b ≡ true → ⊥) → cond a x (cond b y z) ≡ cond b y (cond a x z)
 swapped true true x y z apart = absurd (apart refl refl)
 swapped true false x y z apart = refl
 swapped false b x y z apart = refl

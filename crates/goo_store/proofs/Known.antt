@@ -123,7 +123,7 @@ first_true true true c is = (refl, refl, is)
 first_true true false c is = absurd (true≢false (sym is))
 first_true false b c is = absurd (true≢false (sym is))
 
-text_same : (a b : List ℕ) → bytes_eq a b ≡ true → a ≡ b
+pub text_same : (a b : List ℕ) → bytes_eq a b ≡ true → a ≡ b
 text_same a b is = slice_cmp-IsAntisymmetric nat_cmp-IsAntisymmetric a b (eq_by_cmp_true (text_cmp a b) is)
 
 text_itself : (a b : List ℕ) → a ≡ b → bytes_eq a b ≡ true

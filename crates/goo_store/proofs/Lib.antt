@@ -15,3 +15,5 @@ pub mod ReadableLemmas
 pub mod CommandsActed
 pub mod Numbering
 pub mod ActsActed
+pub mod ClosingActed
+pub mod RegisteringActed
