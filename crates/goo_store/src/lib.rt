@@ -9,6 +9,7 @@ mod creating;
 mod devices;
 mod holders;
 mod lots;
+mod new_rows;
 mod notices;
 mod numbers;
 pub mod open_fault;
