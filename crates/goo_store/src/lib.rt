@@ -9,6 +9,7 @@ mod creating;
 mod devices;
 mod holders;
 mod lots;
+mod new_receipts;
 mod new_rows;
 mod notices;
 mod numbers;
