@@ -9,6 +9,8 @@ mod creating;
 mod devices;
 mod holders;
 mod lots;
+mod new_devices;
+mod new_pieces;
 mod new_receipts;
 mod new_rows;
 mod notices;

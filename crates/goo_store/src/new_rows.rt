@@ -22,7 +22,7 @@ use goo_types::registry_code::RegistryCode;
 use std::alloc::{AllocError, Global};
 
 /// The text of a day.
-fn day_string(alloc: Global, day: Day) -> Result<String, AllocError>
+pub fn day_string(alloc: Global, day: Day) -> Result<String, AllocError>
     ensures states { IfOk result (λ text. day_of (string_bytes text) ≡ day) }
     ensures reads { IfOk result (λ text. reads (day_reading (string_bytes text)) ≡ true) }
 {
