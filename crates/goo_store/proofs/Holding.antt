@@ -1,16 +1,16 @@
 -- What a call on the connection leaves of a shelf.
-use Rattle.std.proofs.Common.{◌≡◌, ◌≤◌, inl, inr, ℕ, Bool, true, false, ◌&&◌, IsTrue, refl, sym, ap, subst, ◌∙◌, arith, true≢false, Option, Some, None}
+use Rattle.std.proofs.Common.{◌≡◌, Bool, true, false, ◌&&◌, IsTrue, refl, sym, ap, subst, ◌∙◌, arith, true≢false, Option, Some, None}
 use Rattle.sqlite_trees.specs.View.{doubt}
-use Rattle.sqlite.specs.State.{State, HasCleanDisk, Survives}
+use Rattle.sqlite.specs.State.{State, HasCleanDisk}
 use Rattle.sqlite.specs.Tree.{Trees}
 use Rattle.sqlite.specs.Effect.{Database}
 use Rattle.goo_spec.specs.State as registry
-use Rattle.goo_shelf.specs.Shelf.{Moment, IsSafe}
-use Rattle.goo_columns.specs.Rows.{Tables, tables_of}
-use Rattle.goo_columns.specs.Stands.{Stands, Holds, Rests, IsSettled, doubts}
+use Rattle.goo_shelf.specs.Shelf.{IsSafe}
+use Rattle.goo_columns.specs.Rows.{tables_of}
+use Rattle.goo_columns.specs.Stands.{Holds, doubts}
 use Rattle.goo_columns.proofs.Committed.{holds_from}
 use Rattle.goo_store.specs.Kept.{AreKept}
-use Rattle.goo_store.specs.Moments.{tables_in, OpensAs, leaves_in, moment, IsWell}
+use Rattle.goo_store.specs.Moments.{tables_in, OpensAs, moment, IsWell}
 use Rattle.goo_store.specs.States.{state_of}
 
 both : (a b : Bool) → doubt (a && b) ≡ 0 → (doubt a ≡ 0) × IsTrue b

@@ -7,7 +7,7 @@ use Rattle.std.proofs.lemmas.Cmp.{int_eq_equiv}
 use Rattle.std.proofs.lemmas.Bool.{eq-eqb, eqb-true}
 use Rattle.sqlite_keyed.proofs.KeyedLemmas.{same_int}
 use Rattle.std.specs.Cmp.Lexicographic.{nat_list_cmp_total}
-use Rattle.std.specs.FinMap.{FinMap, get, from_entries, get-from_entries}
+use Rattle.std.specs.FinMap.{get, from_entries, get-from_entries}
 use Rattle.std.specs.FinMap.Entries as entries
 use Rattle.sqlite_typed.specs.Tests.{bytes_eq}
 use Rattle.std.specs.Prelude.{◌&&◌}
@@ -123,7 +123,7 @@ first_true true true c is = (refl, refl, is)
 first_true true false c is = absurd (true≢false (sym is))
 first_true false b c is = absurd (true≢false (sym is))
 
-text_same : (a b : List ℕ) → bytes_eq a b ≡ true → a ≡ b
+pub text_same : (a b : List ℕ) → bytes_eq a b ≡ true → a ≡ b
 text_same a b is = slice_cmp-IsAntisymmetric nat_cmp-IsAntisymmetric a b (eq_by_cmp_true (text_cmp a b) is)
 
 text_itself : (a b : List ℕ) → a ≡ b → bytes_eq a b ≡ true
@@ -140,9 +140,13 @@ pub lot_test : (origin : ℕ) (device first_day : List ℕ) (o : ℕ) (d : List 
 lot_test origin device first_day o d day valid =
     alike (int_eq (pos origin) (pos o) && (bytes_eq device d && bytes_eq first_day (day_text day))) (eq_by_cmp text_cmp (lot_key o d day) (lot_key origin device (day_of first_day)))
     (λ is.
-      let parts = first_true _ _ _ is in
-      let day_is : day_of first_day ≡ day = ap day_of (text_same first_day (day_text day) parts.2) ∙ day_back day valid in
-      text_itself (lot_key o d day) (lot_key origin device (day_of first_day)) (λ i. lot_key (sym (number_same origin o parts.0) i) (sym (text_same device d parts.1) i) (sym day_is i)))
+    let parts = first_true _ _ _ is in
+    let day_is : day_of first_day ≡ day = ap day_of (text_same first_day (day_text day) parts.2) ∙ day_back day valid in
+    text_itself (lot_key o d day) (lot_key origin device (day_of first_day)) (λ i. lot_key (sym (number_same origin o parts.0) i) (sym (text_same device d parts.1) i) (sym day_is i)))
     (λ is.
-      let same = same_key o origin 0 day (day_of first_day) d device (text_same (lot_key o d day) (lot_key origin device (day_of first_day)) is) in
-      both_true _ _ _ (number_itself origin o (sym same.0)) (text_itself device d (sym same.1)) (text_itself first_day (day_text day) (only_day first_day day valid (sym same.2))))
+    let same = same_key o origin 0 day (day_of first_day) d device (text_same (lot_key o d day) (lot_key origin device (day_of first_day)) is) in
+    both_true _ _ _ (number_itself origin o (sym same.0)) (text_itself device d (sym same.1)) (text_itself first_day (day_text day) (only_day first_day day valid (sym same.2))))
+
+-- a test of numbers, as statements write it
+pub number_is : (a q : ℕ) → int_eq (pos a) (pos q) ≡ (a == q)
+number_is a q = alike (int_eq (pos a) (pos q)) (a == q) (λ is. eq-eqb a q (number_same a q is)) (λ is. number_itself a q (eqb-true a q is))

@@ -1,15 +1,13 @@
 -- Look-ups of a shelf, from those of the tables.
-use Rattle.std.proofs.Common.{◌≡◌, ◌≤◌, inl, inr, ℕ, Bool, true, false, IsTrue, refl, sym, ap, subst, ◌∙◌, arith, true≢false, Ok, Err, Result, IfOk, OnOk, Option, cond}
-use Rattle.sqlite_trees.specs.View.{doubt}
-use Rattle.sqlite.specs.State.{State, HasCleanDisk, Survives}
+use Rattle.std.proofs.Common.{◌≡◌, ◌≤◌, inl, inr, Bool, true, false, IsTrue, refl, sym, ap, subst, ◌∙◌, arith, true≢false, Ok, Err, Result, IfOk, OnOk}
+use Rattle.sqlite.specs.State.{State, HasCleanDisk}
 use Rattle.sqlite.specs.Effect.{Database}
 use Rattle.sqlite.specs.declared.error.Error.{Error}
 use Rattle.goo_types.specs.declared.fault.Fault.{Fault}
 use Rattle.goo_types.specs.declared.fault.Fault.TheVariants as fault
 use Rattle.goo_shelf.specs.Shelf as shelf
-use Rattle.goo_columns.specs.Columns.{registry_schema}
 use Rattle.goo_columns.specs.Rows.{Tables, tables_of}
-use Rattle.goo_columns.specs.Stands.{Stands, Rests, Looks, IsSettled, doubts}
+use Rattle.goo_columns.specs.Stands.{Stands, Rests, Looks, doubts}
 use Rattle.goo_store.specs.declared.trouble.Trouble.{Trouble}
 use Rattle.goo_store.specs.declared.trouble.Trouble.TheVariants.{Memory, Refused}
 use Rattle.goo_store.specs.Kept.{AreKept}
@@ -105,3 +103,57 @@ refused_look old it a has law P = record {
   works = tt;
   crash = λ late none. safe old it law none a;
 }
+
+-- one look-up after another, and what is told of both
+module _ (old mid new : State) (a0 a b c : Bool) {T U V : Type 0} (x : T) (first : T → Type 0) (one : shelf.Looks (moment old a0) (moment mid a) (Ok x) first) where
+  -- the second fails
+  pub failed_then : (second : U → Type 0) (P : V → Type 0) (e : Fault) (result : Result V Fault) → result ≡ Err e → shelf.Looks {T = U} (moment mid a) (moment new b) (Err e) second → shelf.Looks (moment old a0) (moment new b) result P
+  failed_then second P e result is two = subst (λ (z : Result V Fault). shelf.Looks (moment old a0) (moment new b) z P) (sym is) (record {
+    found = λ _. tt;
+    same = λ none. two.same none ∙ one.same (two.doubted none);
+    rows_same = λ none. two.rows_same none ∙ one.rows_same (two.doubted none);
+    doubted = λ none. one.doubted (two.doubted none);
+    lied = λ late. one.lied (two.lied late);
+    kept = omega (arith, one.kept, two.kept);
+    told = fault_told e two.told;
+    works = tt;
+    crash = λ late none. subst (shelf.IsSafe (moment new b)) (one.same (one.works (two.lied late))) (two.crash late (one.works (two.lied late)));
+  })
+    where
+      fault_told : (f : Fault) → shelf.IsTold {T = U} (Err f) (count b) → shelf.IsTold {T = V} (Err f) (count b)
+      fault_told fault.Store told = told
+      fault_told fault.Memory told = told
+
+  -- the second succeeds, and something is made of both
+  pub looked_both : (y : U) (second : U → Type 0) (P : V → Type 0) (read : Result V Trouble) (result : Result V Fault) → shelf.Looks (moment mid a) (moment new b) (Ok y) second → Tells read result b c
+      → (doubts old ≡ 0 → rows_of (tables_in mid) ≡ rows_of (tables_in old) → first x → second y → IfOk read P) → shelf.Looks (moment old a0) (moment new c) result P
+  looked_both y second P read result two told says = record {
+    found = λ none. found_told P read b c result told (says (one.doubted (two.doubted none)) (one.rows_same (two.doubted none)) (one.found (two.doubted none)) (two.found none));
+    same = λ none. two.same none ∙ one.same (two.doubted none);
+    rows_same = λ none. two.rows_same none ∙ one.rows_same (two.doubted none);
+    doubted = λ none. one.doubted (two.doubted none);
+    lied = λ late. one.lied (two.lied late);
+    kept = omega (arith, one.kept, one.told, two.told);
+    told = told_told read b c result told (down b two.told);
+    works = works_told read b c result told two.works;
+    crash = λ late none. subst (shelf.IsSafe (moment new b)) (one.same (one.works (two.lied late))) (two.crash late (one.works (two.lied late)));
+  }
+    where
+      down : (f : Bool) → count f ≡ 0 → f ≡ false
+      down true e = absurd (omega (arith, e))
+      down false e = refl
+
+      found_told : (Q : V → Type 0) (r : Result V Trouble) (d e : Bool) (z : Result V Fault) → Tells r z d e → IfOk r Q → IfOk z Q
+      found_told Q (Ok v) d e z tells is = subst (λ (w : Result V Fault). IfOk w Q) (sym tells.0) is
+      found_told Q (Err Memory) d e z tells is = subst (λ (w : Result V Fault). IfOk w Q) (sym tells.0) tt
+      found_told Q (Err Refused) d e z tells is = subst (λ (w : Result V Fault). IfOk w Q) (sym tells.0) tt
+
+      told_told : (r : Result V Trouble) (d e : Bool) (z : Result V Fault) → Tells r z d e → d ≡ false → shelf.IsTold z (count e)
+      told_told (Ok v) d e z tells low = subst (λ (w : Result V Fault). shelf.IsTold w (count e)) (sym tells.0) (ap count (tells.1 ∙ low))
+      told_told (Err Memory) d e z tells low = subst (λ (w : Result V Fault). shelf.IsTold w (count e)) (sym tells.0) (ap count (tells.1 ∙ low))
+      told_told (Err Refused) d e z tells low = subst (λ (w : Result V Fault). shelf.IsTold w (count e)) (sym tells.0) (ap count tells.1)
+
+      works_told : {W : Type 0} (r : Result V Trouble) (d e : Bool) (z : Result V Fault) → Tells r z d e → W → OnOk z W
+      works_told {W = W} (Ok v) d e z tells works = subst (λ (q : Result V Fault). OnOk q W) (sym tells.0) works
+      works_told {W = W} (Err Memory) d e z tells works = subst (λ (q : Result V Fault). OnOk q W) (sym tells.0) tt
+      works_told {W = W} (Err Refused) d e z tells works = subst (λ (q : Result V Fault). OnOk q W) (sym tells.0) tt

@@ -9,3 +9,9 @@ pub mod Kept
 pub mod Moments
 pub mod Telling
 pub mod Plants
+pub mod Near
+pub mod Changes
+pub mod Creating
+pub mod Planned
+pub mod EditChanges
+pub mod Acted

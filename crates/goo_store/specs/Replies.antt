@@ -1,5 +1,5 @@
 -- The replies that receipts state.
-use Rattle.std.specs.Prelude.{ℕ, ◌==◌, ◌&&◌, cond, if◌then◌else◌, List, Option, Some, None}
+use Rattle.std.specs.Prelude.{ℕ, ◌==◌, ◌&&◌, cond, if◌then◌else◌, Option, Some, None}
 use Rattle.goo_types.specs.Range.{Numbers}
 use Rattle.goo_types.specs.declared.command.Command.{Command}
 use Rattle.goo_types.specs.declared.reply.Reply.{Reply}

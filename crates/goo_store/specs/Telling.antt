@@ -1,10 +1,12 @@
 -- How an error of the database is passed on, and what is told of it.
-use Rattle.std.specs.Prelude.{◌≡◌, ◌≢◌, Bool, true, Result, Ok, Err, IfOk, IsErr}
+use Rattle.std.specs.Prelude.{◌≡◌, ◌≢◌, Bool, true, Result, Ok, Err, IfOk, IsOk, IsErr}
 use Rattle.sqlite.specs.declared.error.Error.{Error}
 use Rattle.sqlite.specs.declared.error.Error.TheVariants.{SqliteFailure}
 use Rattle.sqlite.specs.declared.error.ErrorCode.TheVariants.{OutOfMemory}
 use Rattle.goo_types.specs.declared.fault.Fault.{Fault}
 use Rattle.goo_types.specs.declared.fault.Fault.TheVariants as fault
+use Rattle.goo_store.specs.declared.open_fault.OpenFault.{OpenFault}
+use Rattle.goo_store.specs.declared.open_fault.OpenFault.TheVariants as opening
 use Rattle.goo_store.specs.declared.trouble.Trouble.{Trouble}
 use Rattle.goo_store.specs.declared.trouble.Trouble.TheVariants.{Memory, Refused}
 
@@ -18,8 +20,18 @@ abbrev pub Passes : {T U : Type 0} → Result T Error → Result U Trouble → (
 Passes (Ok x) read R = IfOk read (R x)
 Passes (Err e) read R = IsErr read
 
+-- success is passed on as success, and an error as one
+abbrev pub PassesOn : {T U : Type 0} → Result T Error → Result U Trouble → Type 0
+PassesOn (Ok x) read = IsOk read
+PassesOn (Err e) read = IsErr read
+
 -- what was read is told; want of memory is told and leaves the flag; anything else is told as a store fault and raises it
 abbrev pub Tells : {T : Type 0} → Result T Trouble → Result T Fault → Bool → Bool → Type 0
 Tells (Ok x) told old new = (told ≡ Ok x) × (new ≡ old)
 Tells (Err Memory) told old new = (told ≡ Err fault.Memory) × (new ≡ old)
 Tells (Err Refused) told old new = (told ≡ Err fault.Store) × (new ≡ true)
+
+-- the same, of a database that was to be opened
+abbrev pub open_fault_of : Trouble → OpenFault
+open_fault_of Memory = opening.Memory
+open_fault_of Refused = opening.Store

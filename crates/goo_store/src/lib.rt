@@ -3,15 +3,27 @@
 
 mod accounts;
 mod cancellations;
+mod change;
+mod committing;
+mod creating;
 mod devices;
 mod holders;
 mod lots;
+mod new_devices;
+mod new_pieces;
+mod new_receipts;
+mod new_rows;
 mod notices;
 mod numbers;
+pub mod open_fault;
 mod peers;
+mod pieces;
 mod plants;
 mod receipts;
 mod registry_row;
+mod rows;
 pub mod sql_shelf;
+#[cfg(test)]
+mod tests;
 mod texts;
 mod trouble;

@@ -74,7 +74,13 @@ impl<S: Alter> SqlShelf<S> {
         }
         let origin = u32::from(origin.get());
         let day = day_text(first_day);
-        let found = find_lot(self.alloc, &mut self.conn, origin, device.text(), day.as_str());
+        let found = find_lot(
+            self.alloc,
+            &mut self.conn,
+            origin,
+            device.text(),
+            day.as_str(),
+        );
         told(read_found(found), &mut self.refused)
     }
 }

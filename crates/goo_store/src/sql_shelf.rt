@@ -1,9 +1,21 @@
 //! A shelf over the tables of a database.
 
-ghost use Rattle.std.specs.Prelude.{◌≡◌, false};
+ghost use Rattle.std.specs.Prelude.{◌≡◌, [], false, IsTrue, IfOk, IfErr};
 ghost use Rattle.sqlite.specs.Held.{state as view};
-ghost use Rattle.goo_store.specs.Moments.{IsWell, IsWell-prop, count};
+ghost use Rattle.sqlite.specs.State.{HasCleanDisk, Survives};
+ghost use Rattle.goo_spec.specs.Created.{created};
+ghost use Rattle.goo_columns.specs.Stands.{Holds};
+ghost use Rattle.goo_shelf.specs.Shelf.{IsReady};
+ghost use Rattle.goo_tables.specs.Changes.{begun};
+ghost use Rattle.goo_store.specs.Creating.{meta_of};
+ghost use Rattle.goo_store.specs.Moments.{IsWell, IsWell-prop, count, moment};
+ghost use Rattle.goo_store.specs.declared.open_fault.OpenFault.TheVariants.{AlreadyThere};
 
+use crate::creating::{begin, is_empty};
+use crate::open_fault::OpenFault;
+use goo_types::day::Day;
+use goo_types::registry_code::RegistryCode;
+use goo_types::serial::Serial;
 use sqlite::{Alter, Connection};
 use std::alloc::Global;
 
@@ -18,7 +30,64 @@ pub struct SqlShelf<S: Alter> {
     ghost well: { IsWell (view S.Store conn) } by { IsWell-prop (view S.Store conn) },
 }
 
+impl<S: Alter + Drop> Drop for SqlShelf<S> {
+    fn drop(self) {
+        let SqlShelf {
+            alloc: _,
+            conn: _conn,
+            refused: _,
+        } = self;
+    }
+}
+
 impl<S: Alter> SqlShelf<S> {
+    /// The registry that a database holds by all rules.
+    pub fn over(alloc: Global, conn: Connection<S>) -> SqlShelf<S>
+        requires outside { conn.in_transaction ≡ false }
+        requires well { IsWell (view S.Store conn) }
+        ensures conn { result.conn ≡ conn }
+        ensures ready { result.refused ≡ false }
+    {
+        SqlShelf {
+            alloc,
+            conn,
+            refused: false,
+        }
+    }
+
+    /// A new registry in an empty database: it has this code, this date and this next serial, and
+    /// knows nothing else.
+    ///
+    /// # Errors
+    ///
+    /// The database with `AlreadyThere` where it has a table, an index or a view; with `Store` where a
+    /// call was refused, and `Memory` where memory was. The database is as it was then.
+    pub fn create(
+        alloc: Global,
+        conn: Connection<S>,
+        code: RegistryCode,
+        next_serial: Serial,
+        today: Day,
+    ) -> Result<SqlShelf<S>, (Connection<S>, OpenFault)>
+        requires { conn.in_transaction ≡ false }
+        ensures state { IfOk result (λ shelf. (moment (view S.Store shelf.conn) shelf.refused).doubts ≡ 0 → (moment (view S.Store shelf.conn) shelf.refused).state ≡ created code today next_serial) }
+        ensures rows { IfOk result (λ shelf. (moment (view S.Store shelf.conn) shelf.refused).doubts ≡ 0 → (moment (view S.Store shelf.conn) shelf.refused).rows ≡ []) }
+        ensures ready { IfOk result (λ shelf. IsReady (moment (view S.Store shelf.conn) shelf.refused)) }
+        ensures there { IfErr result (λ e. e.1 ≡ AlreadyThere → e.0 ≡ conn) }
+        ensures kept { IfErr result (λ e. HasCleanDisk (view S.Store e.0) → IsTrue (view S.Store e.0).is_open → ((view S.Store e.0).now ≡ (view S.Store conn).now) × ((view S.Store e.0).committed ≡ (view S.Store conn).committed)) }
+        ensures outside { IfErr result (λ e. e.0.in_transaction ≡ false) }
+        ensures crash { IfErr result (λ e. Survives (view S.Store conn) (view S.Store e.0) (Holds (begun (meta_of code today next_serial)))) }
+    {
+        let mut conn = conn;
+        if !is_empty(&conn) {
+            return Err((conn, OpenFault::AlreadyThere));
+        }
+        match begin(alloc, &mut conn, code, next_serial, today) {
+            Ok(()) => Ok(SqlShelf::over(alloc, conn)),
+            Err(trouble) => Err((conn, OpenFault::from(trouble))),
+        }
+    }
+
     /// How many calls were refused for another cause than memory: 0, and 1 from the first one on.
     pub(crate) fn count_refused(&self) -> u64
         ensures { result ≡ count self.now.refused }
@@ -28,7 +97,9 @@ impl<S: Alter> SqlShelf<S> {
 
     /// The database, with the registry in it.
     pub fn into_connection(self) -> Connection<S>
-        ensures { result ≡ self.conn }
+        ensures conn { result ≡ self.conn }
+        ensures outside { result.in_transaction ≡ false }
+        ensures well { IsWell (view S.Store result) }
     {
         let SqlShelf {
             alloc: _,

@@ -4,8 +4,7 @@ ghost use Rattle.std.specs.Prelude.{◌≡◌, IfOk};
 ghost use Rattle.goo_store.specs.Texts.{day_of, support_of, notice_of};
 
 use crate::trouble::Trouble;
-use goo_notice::NoticeFault;
-use goo_notice::read;
+use goo_notice::{NoticeFault, read};
 use goo_types::country::Country;
 use goo_types::day::Day;
 use goo_types::gsrn::Gsrn;

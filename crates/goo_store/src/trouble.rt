@@ -4,7 +4,7 @@ ghost use Rattle.goo_store.specs.Telling.{IsTroubleOf, Tells};
 
 use goo_types::fault::Fault;
 use sqlite::{Error, ErrorCode};
-use std::alloc::AllocError;
+use std::alloc::{AllocError, AllocFailed};
 
 /// Why a statement failed, or the reading of its rows.
 #[derive(Clone, Copy, Debug, PartialEq, Eq)]
@@ -28,6 +28,12 @@ impl From<Error> for Trouble {
 
 impl From<AllocError> for Trouble {
     fn from(_error: AllocError) -> Trouble {
+        Trouble::Memory
+    }
+}
+
+impl<T: Drop> From<AllocFailed<T>> for Trouble {
+    fn from(_error: AllocFailed<T>) -> Trouble {
         Trouble::Memory
     }
 }

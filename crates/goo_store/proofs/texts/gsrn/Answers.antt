@@ -1,8 +1,7 @@
-use Rattle.std.proofs.Common.{◌≡◌, ℕ, List, Bool, true, false, not, if◌then◌else◌, Result, Ok, Err, length, ◌==◌, ◌%◌, sym, ◌∙◌}
+use Rattle.std.proofs.Common.{◌≡◌, ℕ, List, Bool, true, false, not, if◌then◌else◌, Ok, Err, length, ◌==◌, ◌%◌, sym, ◌∙◌}
 use Rattle.std.specs.List.{list_all}
 use Rattle.std.specs.Char.{is_ascii_digit}
 use Rattle.goo_types.specs.Gsrn.{gsrn_reading, check_sum}
-use Rattle.goo_types.specs.declared.gsrn.GsrnFault.{GsrnFault}
 use Rattle.goo_types.specs.declared.gsrn.GsrnFault.TheVariants.{Length, Digit, Check}
 use Rattle.goo_store.proofs.texts.gsrn.Goals as goal
 

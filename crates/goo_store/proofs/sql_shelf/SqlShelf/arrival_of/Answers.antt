@@ -1,4 +1,4 @@
-use Rattle.std.proofs.Common.{◌≡◌, ◌∙◌, ap, sym, refl, pos}
+use Rattle.std.proofs.Common.{◌∙◌, ap, refl, pos}
 use Rattle.sqlite.specs.Held.{state as view}
 use Rattle.std.proofs.Common.{◌&&◌, option_map}
 use Rattle.std.specs.Ordering.{int_eq}
@@ -25,7 +25,7 @@ returns g c =
     looked (view g.S.Store c.args.self.now.conn) (view g.S.Store c.find_notice_in-found.new.conn) c.args.self.now.well _ _ c.find_notice_in-found.ensures.looks _ _ c.read_arrival.result
     c.args.self.now.refused c.told.new.refused c.told.result (λ live db may. g.met.S.Store.settled c.args.self.now.conn.store db live may) c.if-self.false c.read_arrival.ensures c.told.ensures
     (λ kept row arrival found read.
-      let notice = c.args.notice.now in
-      read ∙ ap (λ known. arrival_of known notice) (known_kept notice_total (λ k. (k.1.sender, k.1.number)) (notice.sender, notice.number) _
-      (λ k. (λ i. int_eq (pos k.1.sender) (pos ((c.from-sender.ensures ∙ c.get.ensures.value ∙ c.sender.ensures) i)) && int_eq (pos k.1.number) (pos ((c.get-2.ensures.value ∙ c.number.ensures) i))) ∙ notice_test k.1.sender k.1.number notice.sender notice.number)
-      (λ k. k.1) arrived_of _ _ (option_map arrived_of (option_map notice_in_in row)) found refl))
+    let notice = c.args.notice.now in
+    read ∙ ap (λ known. arrival_of known notice) (known_kept notice_total (λ k. (k.1.sender, k.1.number)) (notice.sender, notice.number) _
+    (λ k. (λ i. int_eq (pos k.1.sender) (pos ((c.from-sender.ensures ∙ c.get.ensures.value ∙ c.sender.ensures) i)) && int_eq (pos k.1.number) (pos ((c.get-2.ensures.value ∙ c.number.ensures) i))) ∙ notice_test k.1.sender k.1.number notice.sender notice.number)
+    (λ k. k.1) arrived_of _ _ (option_map arrived_of (option_map notice_in_in row)) found refl))

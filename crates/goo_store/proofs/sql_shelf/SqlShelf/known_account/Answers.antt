@@ -1,4 +1,4 @@
-use Rattle.std.proofs.Common.{pos, ◌≡◌, ◌∙◌, ap, sym, refl}
+use Rattle.std.proofs.Common.{pos, ◌∙◌, ap}
 use Rattle.std.specs.Ordering.{int_eq}
 use Rattle.sqlite.specs.Held.{state as view}
 use Rattle.std.specs.Cmp.{nat_cmp_total}

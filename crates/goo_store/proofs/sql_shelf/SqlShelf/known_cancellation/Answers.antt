@@ -1,4 +1,4 @@
-use Rattle.std.proofs.Common.{◌≡◌, ◌∙◌, ap, sym, refl, pos}
+use Rattle.std.proofs.Common.{◌∙◌, ap, pos}
 use Rattle.sqlite.specs.Held.{state as view}
 use Rattle.std.specs.Cmp.{nat_cmp_total}
 use Rattle.std.specs.Ordering.{int_eq}

@@ -1,4 +1,4 @@
-use Rattle.std.proofs.Common.{◌≡◌, ◌∙◌, ap, sym, refl}
+use Rattle.std.proofs.Common.{◌∙◌, ap}
 use Rattle.sqlite.specs.Held.{state as view}
 use Rattle.std.specs.Cmp.Lexicographic.{nat_list_cmp_total}
 use Rattle.sqlite_typed.specs.Tests.{bytes_eq}

@@ -1,6 +1,5 @@
-use Rattle.std.proofs.Common.{◌≡◌, ◌∙◌, ap, sym, rules, option_map}
+use Rattle.std.proofs.Common.{◌∙◌, ap}
 use Rattle.sqlite.specs.Held.{state as view}
-use Rattle.goo_spec.specs.State.{text_cmp}
 use Rattle.std.specs.Cmp.Lexicographic.{nat_list_cmp_total}
 use Rattle.goo_store.specs.States.{state_of}
 use Rattle.sqlite_typed.specs.Tests.{bytes_eq}

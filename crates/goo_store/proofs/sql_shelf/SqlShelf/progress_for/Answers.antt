@@ -1,4 +1,4 @@
-use Rattle.std.proofs.Common.{◌≡◌, ◌∙◌, ap, sym, refl}
+use Rattle.std.proofs.Common.{◌∙◌, ap}
 use Rattle.sqlite.specs.Held.{state as view}
 use Rattle.goo_store.specs.Devices.{progress_in}
 use Rattle.goo_store.specs.States.{state_of}

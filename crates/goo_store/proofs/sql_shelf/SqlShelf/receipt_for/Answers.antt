@@ -1,4 +1,4 @@
-use Rattle.std.proofs.Common.{◌≡◌, ◌∙◌, ap, sym, refl, pos}
+use Rattle.std.proofs.Common.{◌∙◌, ap, refl}
 use Rattle.sqlite.specs.Held.{state as view}
 use Rattle.std.proofs.Common.{◌&&◌, option_map}
 use Rattle.sqlite_typed.specs.Tests.{bytes_eq}
@@ -25,8 +25,8 @@ returns g c =
     looked (view g.S.Store c.args.self.now.conn) (view g.S.Store c.find_receipt-found.new.conn) c.args.self.now.well _ _ c.find_receipt-found.ensures.looks _ _ c.read_receipt.result
     c.args.self.now.refused c.told.new.refused c.told.result (λ live db may. g.met.S.Store.settled c.args.self.now.conn.store db live may) c.if-self.false c.read_receipt.ensures c.told.ensures
     (λ kept row receipt found read.
-      let caller = c.args.caller.now in
-      let key = c.args.key.now in
-      read ∙ ap (λ known. seen_from known c.args.command.now) (known_kept receipt_total (λ k. (k.1.caller, k.1.key)) (caller, key) _
-      (λ k. (λ i. bytes_eq k.1.caller (c.text.ensures.value i) && bytes_eq k.1.key (c.text-2.ensures.value i)) ∙ receipt_test k.1.caller k.1.key caller key)
-      (λ k. k.1) receipt_of _ _ (option_map receipt_of (option_map receipt_in row)) found refl))
+    let caller = c.args.caller.now in
+    let key = c.args.key.now in
+    read ∙ ap (λ known. seen_from known c.args.command.now) (known_kept receipt_total (λ k. (k.1.caller, k.1.key)) (caller, key) _
+    (λ k. (λ i. bytes_eq k.1.caller (c.text.ensures.value i) && bytes_eq k.1.key (c.text-2.ensures.value i)) ∙ receipt_test k.1.caller k.1.key caller key)
+    (λ k. k.1) receipt_of _ _ (option_map receipt_of (option_map receipt_in row)) found refl))

@@ -1,0 +1,64 @@
+-- The rows near a range, from the one before it and those that begin in it.
+use Rattle.std.proofs.Common.{◌≡◌, ℕ, ◌+◌, ◌≤◌, ◌&&◌, List, [], ◌∷◌, ◌++◌, reverse, find, Bool, true, false, cond, nat_le, nat_lt, Option, Some, None, refl, sym, ap, ◌∙◌, arith}
+use Rattle.std.specs.List.{filter}
+use Rattle.std.specs.Option.{option_or}
+use Rattle.std.proofs.lemmas.Bool.{le-ltb, le-leb, lt-leb, ltb-true, ltb-false, leb-true}
+use Rattle.std.proofs.lemmas.List.{reverse-append}
+use Rattle.std.proofs.lemmas.List.Folds.{find-append}
+use Rattle.goo_types.specs.Range.{Numbers}
+use Rattle.goo_types.specs.declared.piece.Piece.{Piece}
+use Rattle.goo_types.specs.Piece.{IsRisingFrom}
+use Rattle.goo_rows.specs.Rows.{meeting}
+use Rattle.goo_store.specs.Near.{reaching}
+
+module _ (range : Numbers) where
+  abbrev begins : Piece → Bool
+  begins p = nat_lt p.first range.first
+
+  abbrev within : Piece → Bool
+  within p = nat_le range.first p.first && nat_le p.first (range.last + 1)
+
+  -- the last row before the range is that of the rest, if it has one
+  before : (p : Piece) (ps : List Piece) → find begins (reverse (p ∷ ps)) ≡ option_or (find begins (reverse ps)) (cond (begins p) (Some p) None)
+  before p ps = ap (find begins) (reverse-append (p ∷ []) ps) ∙ find-append begins (reverse ps) (p ∷ [])
+
+  -- nothing begins below the range from there on
+  none_below : (low : ℕ) (ps : List Piece) → IsRisingFrom low ps → range.first ≤ low → (find begins (reverse ps) ≡ None) × (meeting range ps ≡ filter within ps)
+  none_below low [] rising above = (refl, refl)
+  none_below low (p ∷ ps) rising above =
+      let rest = none_below (p.last + 1) ps rising.2 (omega (arith, above, rising.0, rising.1.0)) in
+      let out : begins p ≡ false = le-ltb p.first range.first (omega (arith, above, rising.0)) in
+      let far : nat_le range.first (p.last + 1) ≡ true = le-leb range.first (p.last + 1) (omega (arith, above, rising.0, rising.1.0)) in
+      let from : nat_le range.first p.first ≡ true = le-leb range.first p.first (omega (arith, above, rising.0)) in (
+        before p ps ∙ (λ i. option_or (rest.0 i) (cond (out i) (Some p) None)),
+        (λ i. cond (far i && nat_le p.first (range.last + 1)) (p ∷ rest.1 i) (rest.1 i)) ∙ sym (λ i. cond (from i && nat_le p.first (range.last + 1)) (p ∷ filter within ps) (filter within ps)),
+      )
+
+  short : (p : Piece) (o : Option Piece) → nat_le range.first (p.last + 1) ≡ false → reaching range (option_or o (Some p)) ≡ reaching range o
+  short p None ends = ap (λ b. cond b (p ∷ []) []) ends
+  short p (Some q) ends = refl
+
+  module _ (wide : range.first ≤ range.last + 1) where
+    pub near_rows : (low : ℕ) (ps : List Piece) → IsRisingFrom low ps → meeting range ps ≡ reaching range (find begins (reverse ps)) ++ filter within ps
+    near_rows low [] rising = refl
+    near_rows low (p ∷ ps) rising = go (near_rows (p.last + 1) ps rising.2) (begins p) refl (nat_le range.first (p.last + 1)) refl
+      where
+        go : meeting range ps ≡ reaching range (find begins (reverse ps)) ++ filter within ps → (b : Bool) → begins p ≡ b → (c : Bool) → nat_le range.first (p.last + 1) ≡ c → meeting range (p ∷ ps) ≡ reaching range (find begins (reverse (p ∷ ps))) ++ filter within (p ∷ ps)
+        go later false out c reaches =
+            let none = none_below p.first (p ∷ ps) (omega arith, rising.1, rising.2) (ltb-false p.first range.first out) in
+            none.1 ∙ sym (ap (λ o. reaching range o ++ filter within (p ∷ ps)) none.0)
+        go later true is true reaches =
+            let none = none_below (p.last + 1) ps rising.2 (leb-true range.first (p.last + 1) reaches) in
+            let low_end : nat_le p.first (range.last + 1) ≡ true = le-leb p.first (range.last + 1) (omega (arith, ltb-true p.first range.first is, wide)) in
+            let out : nat_le range.first p.first ≡ false = lt-leb range.first p.first (ltb-true p.first range.first is) in
+            (λ i. cond (reaches i && low_end i) (p ∷ none.1 i) (none.1 i))
+            ∙ sym ((λ i. reaching range (before p ps i) ++ cond (out i && nat_le p.first (range.last + 1)) (p ∷ filter within ps) (filter within ps))
+            ∙ (λ i. reaching range (option_or (none.0 i) (cond (is i) (Some p) None)) ++ filter within ps)
+            ∙ (λ i. cond (reaches i) (p ∷ []) [] ++ filter within ps))
+        go later true is false ends =
+            let out : nat_le range.first p.first ≡ false = lt-leb range.first p.first (ltb-true p.first range.first is) in
+            (λ i. cond (ends i && nat_le p.first (range.last + 1)) (p ∷ meeting range ps) (meeting range ps))
+            ∙ later
+            ∙ sym ((λ i. reaching range (before p ps i) ++ cond (out i && nat_le p.first (range.last + 1)) (p ∷ filter within ps) (filter within ps))
+            ∙ (λ i. reaching range (option_or (find begins (reverse ps)) (cond (is i) (Some p) None)) ++ filter within ps)
+            ∙ ap (λ rows. rows ++ filter within ps) (short p (find begins (reverse ps)) ends))

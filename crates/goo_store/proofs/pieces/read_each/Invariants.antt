@@ -1,0 +1,7 @@
+use Rattle.std.proofs.Common.{◌≡◌, ◌++◌, map, drop}
+use Rattle.goo_columns.specs.Beside.{joined_in}
+use Rattle.goo_store.specs.Places.{piece_of}
+use Rattle.goo_store.proofs.pieces.read_each.Given as goal
+
+abbrev pub invariant-loop-row : goal.invariant-loop-row
+invariant-loop-row l = l.pieces.items ++ map piece_of (map joined_in (drop l.row-index l.rows)) ≡ map piece_of (map joined_in l.rows)

@@ -1,0 +1,26 @@
+use Rattle.std.proofs.Common.{refl}
+use Rattle.sqlite.specs.Held.{state as view}
+use Rattle.std.proofs.Common.{nat_le, ◌&&◌}
+use Rattle.goo_columns.specs.Beside.{pieces_beside}
+use Rattle.goo_store.specs.Moments.{tables_in}
+use Rattle.goo_store.specs.Places.{rows_of}
+use Rattle.goo_store.proofs.RowsFound.{filtered}
+use Rattle.goo_store.proofs.Looking.{looked, refused_look, well}
+use Rattle.goo_store.proofs.sql_shelf.SqlShelf.rows_beginning.Goals as goal
+
+pub returns-then-self : goal.returns-then-self
+returns-then-self g c = refused_look (view g.S.Store c.args.self.now.conn) c.args.self.now.well c.args.self.now.refused c.if-self.true (λ live db may. g.met.S.Store.settled c.args.self.now.conn.store db live may) _
+
+pub invariant_of-self : goal.invariant_of-self
+invariant_of-self g c = record {
+  outside = c.pieces_beginning-found.ensures.outside c.args.self.now.outside;
+  well = well (view g.S.Store c.args.self.now.conn) (view g.S.Store c.pieces_beginning-found.new.conn) c.args.self.now.well _ _ c.pieces_beginning-found.ensures.looks;
+}
+
+pub returns : goal.returns
+unfolding rows_of
+returns g c =
+    looked (view g.S.Store c.args.self.now.conn) (view g.S.Store c.pieces_beginning-found.new.conn) c.args.self.now.well _ _ c.pieces_beginning-found.ensures.looks _ _ c.read_rising.result
+    c.args.self.now.refused c.told.new.refused c.told.result (λ live db may. g.met.S.Store.settled c.args.self.now.conn.store db live may) c.if-self.false c.read_rising.ensures.value c.told.ensures
+    (λ kept rows pieces found read.
+    filtered (λ a. nat_le c.args.low a.0.first && nat_le a.0.first c.args.high) (λ p. nat_le c.args.low p.first && nat_le p.first c.args.high) (λ a. refl) (pieces_beside (tables_in (view g.S.Store c.args.self.now.conn))) _ _ found read)

@@ -1,0 +1,31 @@
+use Rattle.std.proofs.Common.{◌∙◌, ap, pos}
+use Rattle.sqlite.specs.Held.{state as view}
+use Rattle.std.proofs.Common.{◌&&◌, Some}
+use Rattle.std.specs.List.{filter}
+use Rattle.std.specs.Ordering.{int_eq}
+use Rattle.sqlite_typed.specs.Tests.{bytes_lt, both_and}
+use Rattle.goo_columns.specs.Beside.{pieces_beside}
+use Rattle.goo_store.specs.Moments.{tables_in}
+use Rattle.goo_store.specs.Places.{rows_of}
+use Rattle.goo_store.proofs.Expiring.{expiring_found}
+use Rattle.goo_store.proofs.Looking.{looked, refused_look, well}
+use Rattle.goo_store.proofs.sql_shelf.SqlShelf.rows_expiring.Goals as goal
+
+pub returns-then-self-clause-looks : goal.returns-then-self-clause-looks
+returns-then-self-clause-looks g c = refused_look (view g.S.Store c.args.self.now.conn) c.args.self.now.well c.args.self.now.refused c.if-self.true (λ live db may. g.met.S.Store.settled c.args.self.now.conn.store db live may) _
+
+pub invariant_of-self : goal.invariant_of-self
+invariant_of-self g c = record {
+  outside = c.pieces_expiring-found.ensures.outside c.args.self.now.outside;
+  well = well (view g.S.Store c.args.self.now.conn) (view g.S.Store c.pieces_expiring-found.new.conn) c.args.self.now.well _ _ c.pieces_expiring-found.ensures.looks;
+}
+
+pub returns-clause-looks : goal.returns-clause-looks
+unfolding rows_of
+returns-clause-looks g c =
+    looked (view g.S.Store c.args.self.now.conn) (view g.S.Store c.pieces_expiring-found.new.conn) c.args.self.now.well _ _ c.pieces_expiring-found.ensures.looks _ _ c.read_rising.result
+    c.args.self.now.refused c.told.new.refused c.told.result (λ live db may. g.met.S.Store.settled c.args.self.now.conn.store db live may) c.if-self.false c.read_rising.ensures.value c.told.ensures
+    (λ kept rows pieces found read.
+    let t = tables_in (view g.S.Store c.args.self.now.conn) in
+    expiring_found t kept c.args.day c.day_text-text.ensures.limit _ _
+    (found ∙ ap (λ text. filter (λ a. int_eq (pos a.0.kind) (pos 1) && both_and bytes_lt a.1.expires_on (Some text)) (pieces_beside t)) (c.as_str.ensures.value ∙ c.day_text-text.ensures.text)) read)

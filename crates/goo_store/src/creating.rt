@@ -1,0 +1,114 @@
+//! A new registry in an empty database.
+
+ghost use Rattle.std.specs.Prelude.{◌≡◌, ◌≤◌, ◌∷◌, [], false, IsTrue, IfOk, OnOk, OnErr};
+ghost use Rattle.sqlite.specs.State.{HasCleanDisk, KeepsCommit, Survives};
+ghost use Rattle.sqlite.specs.Held.{state};
+ghost use Rattle.sqlite_trees.specs.View.{doubt};
+ghost use Rattle.goo_types.specs.Number.{IsCode};
+ghost use Rattle.goo_types.specs.Day.{IsDay};
+ghost use Rattle.goo_columns.specs.Columns.{no_schema};
+ghost use Rattle.goo_columns.specs.Rows.{meta_in};
+ghost use Rattle.goo_columns.specs.Stands.{Sees, Settled, Holds};
+ghost use Rattle.goo_tables.specs.Changes.{MetaFits, begun};
+ghost use Rattle.goo_store.specs.Creating.{meta_of, IsFirst};
+
+use crate::trouble::Trouble;
+use goo_columns::meta::MetaRow;
+use goo_notice::texts::day_text;
+use goo_tables::create::create_tables;
+use goo_tables::meta::insert_meta;
+use goo_types::day::Day;
+use goo_types::registry_code::RegistryCode;
+use goo_types::serial::Serial;
+use sqlite::{Alter, Connection, Error, Transaction};
+use std::alloc::{AllocError, Global};
+
+/// Whether a database has neither a table nor an index nor a view.
+pub fn is_empty<S: Alter>(conn: &Connection<S>) -> bool
+    ensures { IsTrue result → (state S.Store conn.now).now.schema ≡ no_schema }
+{
+    let schema = conn.schema();
+    schema.tables.as_slice().is_empty()
+        && schema.indexes.as_slice().is_empty()
+        && schema.views.as_slice().is_empty()
+}
+
+/// The row that a new registry has.
+fn first_row(
+    alloc: Global,
+    code: RegistryCode,
+    next_serial: Serial,
+    today: Day,
+) -> Result<MetaRow, AllocError>
+    ensures row { IfOk result (λ row. meta_in row ≡ meta_of code today next_serial) }
+    ensures limits { IfOk result (λ _. IsFirst code today next_serial) }
+{
+    Ok(MetaRow {
+        version: 1,
+        code: u32::from(code.get()),
+        today: String::from_str(alloc, day_text(today).as_str())?,
+        next_serial: next_serial.get(),
+        next_account: 1,
+        next_cancellation: 1,
+        next_withdrawal: 1,
+        next_notice: 1,
+    })
+}
+
+/// Makes the tables, with the row of the registry.
+fn write_tables<S: Alter>(tx: &mut Transaction<'_, S>, meta: &MetaRow) -> Result<usize, Error>
+    requires { MetaFits meta.now }
+    ensures same_reference { tx.new.conn.ghost_name ≡ tx.old.conn.ghost_name }
+    ensures made { HasCleanDisk (state S.Store tx.new.conn.now) → IsTrue (state S.Store tx.old.conn.now).in_transaction → (state S.Store tx.old.conn.now).now.schema ≡ no_schema
+        → OnOk result (Sees (state S.Store tx.new.conn.now) (begun (meta_in meta.now))) }
+    ensures uncommitted { HasCleanDisk (state S.Store tx.new.conn.now) → KeepsCommit (state S.Store tx.old.conn.now) (state S.Store tx.new.conn.now) }
+    ensures survives { Survives (state S.Store tx.old.conn.now) (state S.Store tx.new.conn.now) (λ _. ⊥) }
+{
+    create_tables(tx)?;
+    insert_meta(tx, meta)
+}
+
+/// Makes the tables with the row of the registry in a database that has none, and commits them, or
+/// does nothing.
+pub fn commit_tables<S: Alter>(conn: &mut Connection<S>, meta: &MetaRow) -> Result<(), Error>
+    requires outside { conn.old.in_transaction ≡ false }
+    requires empty { (state S.Store conn.old).now.schema ≡ no_schema }
+    requires fits { MetaFits meta.now }
+    ensures clean { doubt (state S.Store conn.old).is_clean ≤ doubt (state S.Store conn.new).is_clean }
+    ensures outside { conn.new.in_transaction ≡ false }
+    ensures works { OnOk result (HasCleanDisk (state S.Store conn.new) → IsTrue (state S.Store conn.new).is_open) }
+    ensures done { HasCleanDisk (state S.Store conn.new) → OnOk result (Settled (state S.Store conn.new) (begun (meta_in meta.now))) }
+    ensures kept { HasCleanDisk (state S.Store conn.new) → IsTrue (state S.Store conn.new).is_open
+        → OnErr result (((state S.Store conn.new).now ≡ (state S.Store conn.old).now) × ((state S.Store conn.new).committed ≡ (state S.Store conn.old).committed)) }
+    ensures crash { Survives (state S.Store conn.old) (state S.Store conn.new) (Holds (begun (meta_in meta.now))) }
+{
+    let _settled = conn.is_autocommit();
+    let mut tx = conn.transaction();
+    write_tables(&mut tx, meta)?;
+    tx.commit()?;
+    Ok(())
+}
+
+/// Makes a registry with this code, this next serial and this date in an empty database.
+pub fn begin<S: Alter>(
+    alloc: Global,
+    conn: &mut Connection<S>,
+    code: RegistryCode,
+    next_serial: Serial,
+    today: Day,
+) -> Result<(), Trouble>
+    requires outside { conn.old.in_transaction ≡ false }
+    requires empty { (state S.Store conn.old).now.schema ≡ no_schema }
+    ensures clean { doubt (state S.Store conn.old).is_clean ≤ doubt (state S.Store conn.new).is_clean }
+    ensures outside { conn.new.in_transaction ≡ false }
+    ensures works { OnOk result (HasCleanDisk (state S.Store conn.new) → IsTrue (state S.Store conn.new).is_open) }
+    ensures done { HasCleanDisk (state S.Store conn.new) → OnOk result (Settled (state S.Store conn.new) (begun (meta_of code today next_serial))) }
+    ensures limits { OnOk result (IsFirst code today next_serial) }
+    ensures kept { HasCleanDisk (state S.Store conn.new) → IsTrue (state S.Store conn.new).is_open
+        → OnErr result (((state S.Store conn.new).now ≡ (state S.Store conn.old).now) × ((state S.Store conn.new).committed ≡ (state S.Store conn.old).committed)) }
+    ensures crash { Survives (state S.Store conn.old) (state S.Store conn.new) (Holds (begun (meta_of code today next_serial))) }
+{
+    let row = first_row(alloc, code, next_serial, today)?;
+    commit_tables(conn, &row)?;
+    Ok(())
+}

@@ -1,0 +1,130 @@
+//! Rows of `piece` beside their lots, as pieces.
+
+ghost use Rattle.std.specs.Prelude.{◌≡◌, ◌++◌, [], ◌∷◌, IfOk, OnOk, IsTrue, map, option_map};
+ghost use Rattle.goo_types.specs.Piece.{IsRising};
+ghost use Rattle.goo_columns.specs.Beside.{joined_in};
+ghost use Rattle.goo_store.specs.Places.{place_of, piece_of};
+ghost use Rattle.goo_store.specs.Telling.{Passes};
+ghost use Rattle.goo_store.specs.Near.{reaching};
+
+use crate::lots::read_lot;
+use crate::numbers;
+use crate::trouble::Trouble;
+use goo_columns::joined::JoinedRow;
+use goo_types::piece::Piece;
+use goo_types::place::Place;
+use goo_types::range::Range;
+use sqlite::Error;
+use std::alloc::Global;
+
+/// A place by its kind: 1 held, 2 cancelled, 3 expired, 4 withdrawn, 5 exported.
+fn read_place(kind: u32, account: u32, act: u32) -> Result<Place, Trouble>
+    ensures { IfOk result (λ place. place ≡ place_of kind account act) }
+{
+    let account = numbers::account_no(account)?;
+    match kind {
+        1 => Ok(Place::Held(account)),
+        2 => Ok(Place::Cancelled(account, numbers::act_no(act)?)),
+        3 => Ok(Place::Expired(account)),
+        4 => Ok(Place::Withdrawn(account, numbers::act_no(act)?)),
+        5 => Ok(Place::Exported(account, numbers::act_no(act)?)),
+        _ => Err(Trouble::Refused),
+    }
+}
+
+/// The piece that a row states beside its lot.
+pub fn read_piece(row: &JoinedRow) -> Result<Piece, Trouble>
+    ensures { IfOk result (λ piece. piece ≡ piece_of (joined_in row.now)) }
+{
+    Ok(Piece {
+        first: numbers::number(row.piece.first)?,
+        last: numbers::number(row.piece.last)?,
+        lot: read_lot(&row.lot)?,
+        place: read_place(row.piece.kind, row.piece.account, row.piece.act)?,
+    })
+}
+
+/// The piece, if there is one.
+pub fn read_maybe(found: Result<Option<JoinedRow>, Error>) -> Result<Option<Piece>, Trouble>
+    ensures { Passes found result (λ row piece. piece ≡ option_map piece_of (option_map joined_in row)) }
+{
+    match found? {
+        Some(row) => Ok(Some(read_piece(&row)?)),
+        None => Ok(None),
+    }
+}
+
+/// One row more.
+fn push_read(pieces: &mut Vec<Piece>, row: &JoinedRow) -> Result<(), Trouble>
+    ensures { OnOk result (pieces.new.items ≡ pieces.old.items ++ piece_of (joined_in row.now) ∷ []) }
+{
+    let piece = [read_piece(row)?];
+    pieces.extend_from_slice(&piece)?;
+    Ok(())
+}
+
+/// Each row as a piece.
+fn read_each(alloc: Global, rows: &[JoinedRow]) -> Result<Vec<Piece>, Trouble>
+    ensures { IfOk result (λ pieces. pieces.items ≡ map piece_of (map joined_in rows.now)) }
+{
+    let mut pieces = Vec::new(alloc);
+    for row in rows {
+        push_read(&mut pieces, row)?;
+    }
+    Ok(pieces)
+}
+
+/// Whether the pieces are ranges that rise and have no number in common.
+pub fn are_rising(pieces: &[Piece]) -> bool
+    ensures { IsTrue result → IsRising pieces.now }
+{
+    let mut low = 0;
+    for piece in pieces {
+        if piece.first.get() < low || !piece.is_forward() {
+            return false;
+        }
+        low = piece.last.get() + 1;
+    }
+    true
+}
+
+/// The pieces, which must rise.
+pub fn read_rising(
+    alloc: Global,
+    found: Result<Vec<JoinedRow>, Error>,
+) -> Result<Vec<Piece>, Trouble>
+    ensures value { Passes found result (λ rows pieces. pieces.items ≡ map piece_of (map joined_in rows.items)) }
+    ensures rising { IfOk result (λ pieces. IsRising pieces.items) }
+{
+    let pieces = read_each(alloc, &found?)?;
+    if are_rising(&pieces) {
+        Ok(pieces)
+    } else {
+        Err(Trouble::Refused)
+    }
+}
+
+/// The piece before a range, where it reaches to the range or ends right before it, and then those
+/// that begin in it or right after it.
+pub fn join_near(
+    alloc: Global,
+    range: Range,
+    before: Option<Piece>,
+    later: &[Piece],
+) -> Result<Vec<Piece>, Trouble>
+    ensures value { IfOk result (λ pieces. pieces.items ≡ reaching range before ++ later.now) }
+    ensures rising { IfOk result (λ pieces. IsRising pieces.items) }
+{
+    let mut pieces = Vec::new(alloc);
+    if let Some(piece) = before {
+        if range.first().get() <= piece.last.get() + 1 {
+            pieces.push(piece)?;
+        }
+    }
+    pieces.extend_from_slice(later)?;
+    if are_rising(&pieces) {
+        Ok(pieces)
+    } else {
+        Err(Trouble::Refused)
+    }
+}

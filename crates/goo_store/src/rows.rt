@@ -1,0 +1,90 @@
+//! The rows of a registry's certificates, as they are found.
+
+ghost use Rattle.std.specs.Prelude.{◌≡◌, ◌<◌, ◌^◌, ◌&&◌, IfOk, find, reverse, nat_le, nat_lt};
+ghost use Rattle.std.specs.List.{filter};
+ghost use Rattle.sqlite.specs.Held.{state as view};
+ghost use Rattle.goo_types.specs.Piece.{IsRising};
+ghost use Rattle.goo_rows.specs.Rows.{meeting as near};
+ghost use Rattle.goo_shelf.specs.Rows.{naming_account, expiring_on};
+ghost use Rattle.goo_shelf.specs.Shelf.{Looks};
+ghost use Rattle.goo_store.specs.Moments.{moment};
+
+use crate::pieces::{join_near, read_maybe, read_rising};
+use crate::sql_shelf::SqlShelf;
+use crate::trouble::told;
+use goo_notice::texts::day_text;
+use goo_tables::joined::{piece_before, pieces_beginning, pieces_expiring, pieces_of_account};
+use goo_types::account_no::AccountNo;
+use goo_types::day::Day;
+use goo_types::fault::Fault;
+use goo_types::piece::Piece;
+use goo_types::range::Range;
+use sqlite::Alter;
+use std::alloc::Global;
+
+impl<S: Alter> SqlShelf<S> {
+    /// The last row that begins below a number.
+    fn row_before(&mut self, alloc: Global, low: u64) -> Result<Option<Piece>, Fault>
+        requires { low < 2 ^ 63 }
+        ensures { Looks (moment (view S.Store self.old.conn) self.old.refused) (moment (view S.Store self.new.conn) self.new.refused) result (λ row. row ≡ find (λ p. nat_lt p.first low) (reverse (moment (view S.Store self.old.conn) self.old.refused).rows)) }
+    {
+        if self.refused {
+            return Err(Fault::Store);
+        }
+        let found = piece_before(alloc, &mut self.conn, low);
+        told(read_maybe(found), &mut self.refused)
+    }
+
+    /// The rows that begin between two numbers, both counted.
+    fn rows_beginning(&mut self, alloc: Global, low: u64, high: u64) -> Result<Vec<Piece>, Fault>
+        requires { (low < 2 ^ 63) × (high < 2 ^ 63) }
+        ensures { Looks (moment (view S.Store self.old.conn) self.old.refused) (moment (view S.Store self.new.conn) self.new.refused) result (λ rows. rows.items ≡ filter (λ p. nat_le low p.first && nat_le p.first high) (moment (view S.Store self.old.conn) self.old.refused).rows) }
+    {
+        if self.refused {
+            return Err(Fault::Store);
+        }
+        let found = pieces_beginning(alloc, &mut self.conn, low, high);
+        told(read_rising(alloc, found), &mut self.refused)
+    }
+
+    /// The rows with a number of the range or next to one, rising.
+    pub(crate) fn rows_near(&mut self, alloc: Global, range: Range) -> Result<Vec<Piece>, Fault>
+        ensures looks { Looks (moment (view S.Store self.old.conn) self.old.refused) (moment (view S.Store self.new.conn) self.new.refused) result (λ met. met.items ≡ near range (moment (view S.Store self.old.conn) self.old.refused).rows) }
+        ensures rising { IfOk result (λ met. IsRising met.items) }
+    {
+        let first = range.first().get();
+        let last = range.last().get();
+        let before = self.row_before(alloc, first)?;
+        let later = self.rows_beginning(alloc, first, last + 1)?;
+        told(join_near(alloc, range, before, &later), &mut self.refused)
+    }
+
+    /// The rows whose place names an account, rising.
+    pub(crate) fn rows_naming(
+        &mut self,
+        alloc: Global,
+        account: AccountNo,
+    ) -> Result<Vec<Piece>, Fault>
+        ensures looks { Looks (moment (view S.Store self.old.conn) self.old.refused) (moment (view S.Store self.new.conn) self.new.refused) result (λ met. met.items ≡ naming_account account (moment (view S.Store self.old.conn) self.old.refused).rows) }
+        ensures rising { IfOk result (λ met. IsRising met.items) }
+    {
+        if self.refused {
+            return Err(Fault::Store);
+        }
+        let found = pieces_of_account(alloc, &mut self.conn, account.get());
+        told(read_rising(alloc, found), &mut self.refused)
+    }
+
+    /// The held rows whose lot is over on a day, rising.
+    pub(crate) fn rows_expiring(&mut self, alloc: Global, day: Day) -> Result<Vec<Piece>, Fault>
+        ensures looks { Looks (moment (view S.Store self.old.conn) self.old.refused) (moment (view S.Store self.new.conn) self.new.refused) result (λ met. met.items ≡ expiring_on day (moment (view S.Store self.old.conn) self.old.refused).rows) }
+        ensures rising { IfOk result (λ met. IsRising met.items) }
+    {
+        if self.refused {
+            return Err(Fault::Store);
+        }
+        let text = day_text(day);
+        let found = pieces_expiring(alloc, &mut self.conn, text.as_str());
+        told(read_rising(alloc, found), &mut self.refused)
+    }
+}
