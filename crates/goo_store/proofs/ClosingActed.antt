@@ -1,11 +1,10 @@
 -- What closing an account changes in the tables.
-use Rattle.std.proofs.Common.{◌≡◌, ℕ, ℤ, pos, ◌==◌, ◌&&◌, nat_le, List, [], ◌∷◌, Bool, true, false, cond, map, find, Option, Some, None, option_map, refl, ap, sym, subst, ◌∙◌, true≢false}
-use Rattle.std.specs.FinMap.{FinMap, get, insert, from_entries, get-insert, same_map, nat_cmp-IsAntisymmetric}
+use Rattle.std.proofs.Common.{◌≡◌, ℕ, pos, ◌==◌, ◌&&◌, nat_le, List, [], ◌∷◌, Bool, true, false, cond, map, find, Option, Some, None, option_map, refl, ap, sym, ◌∙◌, true≢false}
+use Rattle.std.specs.FinMap.{FinMap, get, from_entries, get-insert, same_map, nat_cmp-IsAntisymmetric}
 use Rattle.std.specs.Cmp.{nat_cmp_total, unsigned_tied}
 use Rattle.std.specs.Ordering.{int_eq, nat_cmp}
 use Rattle.std.specs.List.{list_all}
 use Rattle.std.proofs.lemmas.Bool.{eqb-true}
-use Rattle.sqlite_keyed.specs.Keyed.{get_by}
 use Rattle.sqlite_keyed.specs.Lists.{update_where}
 use Rattle.sqlite_keyed.proofs.KeyedLemmas.{key-get_by}
 use Rattle.sqlite_keyed.proofs.RuleLemmas.{first_of_both, second_of_both}

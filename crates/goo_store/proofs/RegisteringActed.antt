@@ -1,14 +1,13 @@
 -- What registering a device changes in the tables.
-use Rattle.std.proofs.Common.{◌≡◌, ℕ, ℤ, pos, ◌≤◌, ◌+◌, List, [], ◌∷◌, Bool, true, false, cond, map, find, length, is_some, Option, Some, None, option_map, refl, ap, sym, subst, ◌∙◌, arith, true≢false}
-use Rattle.std.specs.FinMap.{FinMap, get, insert, from_entries, IsAntisymmetric, slice_cmp-IsAntisymmetric, nat_cmp-IsAntisymmetric}
+use Rattle.std.proofs.Common.{◌≡◌, ℕ, ℤ, pos, ◌≤◌, List, [], ◌∷◌, Bool, true, false, cond, map, find, length, Option, Some, None, option_map, refl, ap, sym, subst, ◌∙◌, arith, true≢false}
+use Rattle.std.specs.FinMap.{get, insert, from_entries, IsAntisymmetric, slice_cmp-IsAntisymmetric, nat_cmp-IsAntisymmetric}
 use Rattle.std.specs.Cmp.Lexicographic.{nat_list_cmp_total}
-use Rattle.std.specs.List.{list_all, filter}
+use Rattle.std.specs.List.{filter}
 use Rattle.std.specs.Ordering.{int_eq, int_cmp, is_eq, match_ordering}
 use Rattle.std.specs.declared.cmp.Ordering.{Ordering}
 use Rattle.std.specs.declared.cmp.Ordering.TheVariants.{Less, Equal, Greater}
 use Rattle.sqlite_keyed.specs.Keyed.{IsKeyedBy, next_key, insert_by, has_key}
 use Rattle.sqlite_keyed.proofs.KeyedLemmas.{next_key_is_free}
-use Rattle.sqlite_keyed.proofs.SliceLemmas.{is_some-map}
 use Rattle.sqlite_typed.specs.Tests.{bytes_eq}
 use Rattle.goo_types.specs.declared.command.RegisterDevice.{RegisterDevice}
 use Rattle.goo_spec.specs.RegisterDevice.{device_of, with_device}
@@ -21,7 +20,7 @@ use Rattle.goo_tables.specs.Changes as change
 use Rattle.goo_tables.specs.Changes.{added}
 use Rattle.goo_store.specs.Acted.{IsActed}
 use Rattle.goo_store.specs.Devices.{device_row, progress_in}
-use Rattle.goo_store.specs.Kept.{AreKept, AreReadable}
+use Rattle.goo_store.specs.Kept.{AreKept}
 use Rattle.goo_store.specs.Readable.{is_device}
 use Rattle.goo_store.specs.States.{state_of, known_device}
 use Rattle.goo_store.proofs.CommandsActed.{progress_same}
@@ -131,7 +130,7 @@ module _ (t : Tables) (kept : AreKept t) (x : RegisterDevice) (d : row.Device) (
   unfolding state_of with_device
   registering_acted =
       let put = map_inserted nat_list_cmp_total kept_key known_device placed texts_apart t.devices fresh (ap (λ e. get (from_entries {R = text_cmp} (map known_device t.devices)) e.0) (states (next_key kept_key t.devices)) ∙ none)
-          ∙ ap (λ e. insert (from_entries {R = text_cmp} (map known_device t.devices)) e.0 e.1) (states (next_key kept_key t.devices)) in record {
+      ∙ ap (λ e. insert (from_entries {R = text_cmp} (map known_device t.devices)) e.0 e.1) (states (next_key kept_key t.devices)) in record {
         pieces = refl;
         receipts = refl;
         state = λ at i. record (beside at (state_of t)) { devices = put i };

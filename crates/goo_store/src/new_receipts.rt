@@ -86,11 +86,7 @@ fn reply_columns(reply: Reply) -> Result<ReplyColumns, Trouble>
 }
 
 /// The receipt of a request that is accepted with this reply.
-pub fn receipt_row(
-    alloc: Global,
-    request: &Request,
-    reply: Reply,
-) -> Result<ReceiptRow, Trouble>
+pub fn receipt_row(alloc: Global, request: &Request, reply: Reply) -> Result<ReceiptRow, Trouble>
     ensures receipt { IfOk result (λ row. IsReceiptOf request.now reply (receipt_in row)) }
     ensures fits { IfOk result ReceiptFits }
 {

@@ -1,4 +1,4 @@
-use Rattle.std.proofs.Common.{◌≡◌, ◌∙◌, ap}
+use Rattle.std.proofs.Common.{◌∙◌, ap}
 use Rattle.goo_types.specs.Day.{day_reading}
 use Rattle.goo_types.proofs.DayLemmas.{day_reading-day_text}
 use Rattle.goo_columns.proofs.Results.{if_ok}
