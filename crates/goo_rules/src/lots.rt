@@ -1,6 +1,6 @@
 //! Lots: their days, and the day after which held certificates expire.
 
-ghost use Rattle.std.specs.Prelude.{◌≡◌, ◌↔◌, true, Some, option_map, string_bytes, IsTrue, IsSome, IfSome};
+ghost use Rattle.std.specs.Prelude.{◌≡◌, ◌↔◌, true, Some, All, option_map, string_bytes, IsTrue, IsSome, IfSome};
 ghost use Rattle.goo_types.specs.Day.{months_after};
 ghost use Rattle.goo_types.specs.Lot.{IsLot};
 ghost use Rattle.goo_types.specs.Texts.{day_text as day_written};
@@ -8,8 +8,9 @@ ghost use Rattle.goo_columns.specs.Rows.{lot_in};
 ghost use Rattle.goo_store.specs.Places.{lot_of};
 ghost use Rattle.goo_store.specs.Readable.{is_lot};
 ghost use Rattle.goo_store.specs.Texts.{day_of};
-ghost use Rattle.goo_rules.specs.Lots.{AreDaysOf};
+ghost use Rattle.goo_rules.specs.Lots.{AreDaysOf, IsGoodLot};
 
+use crate::values::accepts_lot;
 use goo_columns::lot::LotRow;
 use goo_notice::texts::day_text;
 use goo_types::day::Day;
@@ -81,4 +82,24 @@ pub fn has_its_expiry(row: &LotRow) -> bool
         Ok(last_day) => is_expiry(&row.expires_on, last_day),
         Err(_) => false,
     }
+}
+
+/// Whether a lot's values are accepted, its days are in order, and its expiry is that of its period.
+pub fn is_good(row: &LotRow) -> bool
+    ensures { IsTrue result ↔ IsGoodLot (lot_in row.now) }
+{
+    accepts_lot(row) && has_days_in_order(row) && has_its_expiry(row)
+}
+
+/// Whether each lot is one.
+pub fn are_good(rows: &[LotRow]) -> bool
+    ensures good { IsTrue result → All (λ row. IsGoodLot (lot_in row)) rows.now }
+    ensures refused { All (λ row. IsGoodLot (lot_in row)) rows.now → IsTrue result }
+{
+    for row in rows {
+        if !is_good(row) {
+            return false;
+        }
+    }
+    true
 }

@@ -3,9 +3,10 @@
 ghost use Rattle.std.specs.Prelude.{◌≡◌, ◌&&◌, map, string_bytes, IfOk};
 ghost use Rattle.std.specs.List.{list_all};
 ghost use Rattle.goo_types.specs.Number.{code_of};
-ghost use Rattle.goo_columns.specs.Rows.{holder_in, account_in, device_in, lot_in, cancellation_in, withdrawal_in, notice_out_in};
-ghost use Rattle.goo_rules.specs.WellKept.{has_holder, has_account, has_device, has_cancellation, has_withdrawal, has_sent, has_lot_of, has_over, has_closed, act_in, is_timely};
+ghost use Rattle.goo_columns.specs.Rows.{holder_in, account_in, device_in, declaration_in, lot_in, cancellation_in, withdrawal_in, notice_out_in};
+ghost use Rattle.goo_rules.specs.WellKept.{has_holder, has_account, has_device, has_cancellation, has_withdrawal, has_sent, has_lot_of, has_over, has_closed, act_in, is_timely, has_declaration, is_declared};
 
+use crate::declared::{declared_periods, own_lots_are_declared};
 use crate::marked::{closed_accounts, lot_origins, lots_over};
 use crate::named::{account_numbers, cancellation_numbers, sent_numbers, withdrawal_numbers};
 use crate::named_texts::{device_gsrns, holder_codes};
@@ -146,4 +147,21 @@ pub fn places_are_in_time(
     let over = lots_over(alloc, today, lots)?;
     let closed = closed_accounts(alloc, accounts)?;
     Ok(pieces_are_in_time(pieces, &over, &closed))
+}
+
+/// Whether each lot of the registry of this code has a declaration of its device with its first day.
+///
+/// # Errors
+///
+/// Where an allocation is refused.
+pub fn own_lots_have_declarations(
+    alloc: Global,
+    own: u32,
+    lots: &[LotRow],
+    declarations: &[DeclarationRow],
+) -> Result<bool, AllocError>
+    ensures { IfOk result (λ yes. yes ≡ list_all (λ row. is_declared (has_declaration (map declaration_in declarations.now)) own (lot_in row)) lots.now) }
+{
+    let periods = declared_periods(alloc, declarations)?;
+    own_lots_are_declared(own, lots, &periods)
 }
