@@ -67,10 +67,17 @@ pub fn are_named(alloc: Global, found: &Found) -> Result<bool, AllocError>
     let production = &found.rows.production;
     let cancellations = &found.rows.acts.cancellations;
     let sent = &found.rows.notices.sent;
-    Ok(holders_are_there(alloc, &members.accounts, &members.holders)?
-        && devices_are_there(alloc, &production.declarations, &production.devices)?
-        && accounts_are_there(alloc, &members.accounts, &production.devices, &production.pieces)?
-        && accounts_of_acts_are_there(alloc, &members.accounts, cancellations, sent)?)
+    Ok(
+        holders_are_there(alloc, &members.accounts, &members.holders)?
+            && devices_are_there(alloc, &production.declarations, &production.devices)?
+            && accounts_are_there(
+                alloc,
+                &members.accounts,
+                &production.devices,
+                &production.pieces,
+            )?
+            && accounts_of_acts_are_there(alloc, &members.accounts, cancellations, sent)?,
+    )
 }
 
 /// Whether the acts and lots that pieces name are there, and their places are in time.
@@ -85,9 +92,22 @@ pub fn are_placed(alloc: Global, found: &Found) -> Result<bool, AllocError>
     let pieces = &rows.production.pieces;
     let lots = &rows.production.lots;
     let acts = &rows.acts;
-    Ok(acts_are_there(alloc, pieces, &acts.cancellations, &acts.withdrawals, &rows.notices.sent)?
-        && lots_are_there(alloc, pieces, lots)?
-        && places_are_in_time(alloc, &found.meta.today, pieces, lots, &rows.members.accounts)?)
+    Ok(
+        acts_are_there(
+            alloc,
+            pieces,
+            &acts.cancellations,
+            &acts.withdrawals,
+            &rows.notices.sent,
+        )? && lots_are_there(alloc, pieces, lots)?
+            && places_are_in_time(
+                alloc,
+                &found.meta.today,
+                pieces,
+                lots,
+                &rows.members.accounts,
+            )?,
+    )
 }
 
 /// Whether notices are kept under their senders and numbers, as their texts.
@@ -99,6 +119,8 @@ pub fn are_notices(alloc: Global, found: &Found) -> Result<bool, AllocError>
     ensures { IfOk result (λ yes. yes ≡ has_its_notices found.now) }
 {
     let notices = &found.rows.notices;
-    Ok(accepts_all_sent(alloc, found.meta.code, &notices.sent)?
-        && accepts_all_arrived(alloc, &notices.came)?)
+    Ok(
+        accepts_all_sent(alloc, found.meta.code, &notices.sent)?
+            && accepts_all_arrived(alloc, &notices.came)?,
+    )
 }

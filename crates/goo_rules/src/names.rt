@@ -89,7 +89,10 @@ pub fn accounts_of_acts_are_there(
     ensures { IfOk result (λ yes. yes ≡ (list_all (λ row. has_account (map account_in accounts.now) row.account) cancellations.now && list_all (λ row. has_account (map account_in accounts.now) row.account) sent.now)) }
 {
     let numbers = account_numbers(alloc, accounts)?;
-    Ok(cancellations_have_accounts(cancellations, &numbers) && notices_have_accounts(sent, &numbers))
+    Ok(
+        cancellations_have_accounts(cancellations, &numbers)
+            && notices_have_accounts(sent, &numbers),
+    )
 }
 
 /// Whether each act that a piece names is there.

@@ -1,4 +1,4 @@
-use Rattle.std.proofs.Common.{rules, ◌<◌, ◌≡◌, All, length, arith, subst, IsTrue}
+use Rattle.std.proofs.Common.{rules, ◌<◌, All, length, arith, subst, IsTrue}
 use Rattle.std.proofs.lemmas.List.{take_all}
 use Rattle.std.proofs.lemmas.List.Elements.{All-more}
 use Rattle.goo_columns.specs.Rows.{lot_in}

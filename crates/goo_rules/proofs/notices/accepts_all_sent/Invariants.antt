@@ -1,4 +1,4 @@
-use Rattle.std.proofs.Common.{◌≡◌, pos, drop}
+use Rattle.std.proofs.Common.{◌≡◌, drop}
 use Rattle.std.specs.List.{list_all}
 use Rattle.goo_columns.specs.Rows.{notice_out_in}
 use Rattle.goo_store.specs.Readable.{is_notice_out}
