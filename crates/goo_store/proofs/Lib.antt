@@ -17,3 +17,4 @@ pub mod Numbering
 pub mod ActsActed
 pub mod ClosingActed
 pub mod RegisteringActed
+pub mod LotsAdded
