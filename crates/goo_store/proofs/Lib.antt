@@ -18,3 +18,4 @@ pub mod ActsActed
 pub mod ClosingActed
 pub mod RegisteringActed
 pub mod LotsAdded
+pub mod DeclaringActed
