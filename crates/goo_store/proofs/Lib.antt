@@ -19,3 +19,4 @@ pub mod ClosingActed
 pub mod RegisteringActed
 pub mod LotsAdded
 pub mod DeclaringActed
+pub mod ImportingActed
