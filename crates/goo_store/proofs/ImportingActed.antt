@@ -1,6 +1,6 @@
 -- What an import changes in the tables.
 use Rattle.std.proofs.Common.{◌≡◌, ℕ, ℤ, suc, ◌+◌, ◌-◌, List, [], ◌∷◌, ◌++◌, Bool, true, false, cond, map, find, fold, is_some, Option, Some, None, refl, ap, sym, subst, ◌∙◌, arith, true≢false, drop, ⊎_elim, inl, inr}
-use Rattle.std.specs.Prelude.{◌⊎◌, slice_index, not, All, AllPairs}
+use Rattle.std.specs.Prelude.{get_or, ◌⊎◌, slice_index, not, All, AllPairs}
 use Rattle.std.specs.FinMap.{FinMap, get, insert, contains_key, from_entries, get-insert, same_map, IsAntisymmetric}
 use Rattle.std.specs.Ordering.{eq_by_cmp}
 use Rattle.std.specs.Cmp.Lexicographic.{nat_list_cmp_total}
@@ -18,7 +18,7 @@ use Rattle.goo_types.specs.declared.part.Part.{Part}
 use Rattle.goo_types.proofs.LotLemmas.{Decides-same_lot}
 use Rattle.goo_spec.specs.Import.{numbered, number_of, least_where, same_notice, is_other, is_arrived, is_other_lot, differs, import_checks, import_refusal, import_reply, arrived_reply, import_repeats, with_lots, with_import}
 use Rattle.goo_spec.specs.Lots.{key_of, same_lot}
-use Rattle.goo_spec.specs.Maps.{numbers_from, count_of}
+use Rattle.goo_spec.specs.Maps.{numbers_from, count_of, each}
 use Rattle.goo_spec.specs.State.{State, text_cmp, notice_cmp}
 use Rattle.goo_spec.proofs.Checking.{none_fail, passes, unfound}
 use Rattle.goo_spec.proofs.Keys.{notices_same}
@@ -94,7 +94,7 @@ firsts_fail test (p ∷ ps) none ranges =
     let forward = (All-head (λ q. IsRange q.range) p ps ranges).rising in
     All-cons (λ q. test (q.range.first, q.lot) ≡ false) p ps
     (first_fails test p.lot p.range.first (count_of p.range) (p.range.last - p.range.first) (omega (arith, forward)) (numbered ps) none)
-    (firsts_fail test ps (rest_none test (map (λ n. (n, p.lot)) (Rattle.goo_spec.specs.Maps.each p.range)) (numbered ps) none) (All-tail (λ q. IsRange q.range) p ps ranges))
+    (firsts_fail test ps (rest_none test (map (λ n. (n, p.lot)) (each p.range)) (numbered ps) none) (All-tail (λ q. IsRange q.range) p ps ranges))
 
 no_number : (o : Option (ℕ × LotFields)) → number_of o ≡ None → o ≡ None
 no_number None h = refl
@@ -162,7 +162,7 @@ module _ (t : Tables) (kept : AreKept t) (caller : List ℕ) (x : Import) (whole
 
   knows : All (KnowsNoOther s.lots) x.notice.parts
   knows k d h l is =
-      let part = Rattle.std.specs.Prelude.get_or x.notice.parts k d in
+      let part = get_or x.notice.parts k d in
       same_known part.lot (get s.lots (key_of part.lot)) l (or_parts _ _ (firsts_fail (differs s) x.notice.parts none_apart whole.ranges k d h)).1 is
 
   absent : get s.arrived (x.notice.sender, x.notice.number) ≡ None
