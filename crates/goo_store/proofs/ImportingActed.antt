@@ -1,7 +1,7 @@
 -- What an import changes in the tables.
 use Rattle.std.proofs.Common.{◌≡◌, ℕ, ℤ, suc, ◌+◌, ◌-◌, List, [], ◌∷◌, ◌++◌, Bool, true, false, cond, map, find, fold, is_some, Option, Some, None, refl, ap, sym, subst, ◌∙◌, arith, true≢false, drop, ⊎_elim, inl, inr}
-use Rattle.std.specs.Prelude.{get_or, ◌⊎◌, slice_index, not, All, AllPairs}
-use Rattle.std.specs.FinMap.{FinMap, get, insert, contains_key, from_entries, get-insert, same_map, IsAntisymmetric}
+use Rattle.std.specs.Prelude.{get_or, slice_index, All, AllPairs}
+use Rattle.std.specs.FinMap.{FinMap, get, insert, from_entries, get-insert, same_map}
 use Rattle.std.specs.Ordering.{eq_by_cmp}
 use Rattle.std.specs.Cmp.Lexicographic.{nat_list_cmp_total}
 use Rattle.std.proofs.lemmas.Bool.{or_parts, not-false}
