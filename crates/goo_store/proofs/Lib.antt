@@ -18,5 +18,6 @@ pub mod ActsActed
 pub mod ClosingActed
 pub mod RegisteringActed
 pub mod LotsAdded
+pub mod ProgressSet
 pub mod DeclaringActed
 pub mod ImportingActed
