@@ -31,7 +31,7 @@ use Rattle.goo_store.specs.States.{state_of, known_holder, known_peer}
 use Rattle.goo_store.proofs.Inserted.{all_inserted, map_inserted}
 use Rattle.goo_store.proofs.ReadableLemmas.{with_holders, with_peers}
 
-texts_apart : IsAntisymmetric text_cmp
+pub texts_apart : IsAntisymmetric text_cmp
 texts_apart = slice_cmp-IsAntisymmetric nat_cmp-IsAntisymmetric
 
 -- a device's progress is read off the declarations

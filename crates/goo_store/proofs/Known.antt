@@ -126,7 +126,7 @@ first_true false b c is = absurd (true≢false (sym is))
 pub text_same : (a b : List ℕ) → bytes_eq a b ≡ true → a ≡ b
 text_same a b is = slice_cmp-IsAntisymmetric nat_cmp-IsAntisymmetric a b (eq_by_cmp_true (text_cmp a b) is)
 
-text_itself : (a b : List ℕ) → a ≡ b → bytes_eq a b ≡ true
+pub text_itself : (a b : List ℕ) → a ≡ b → bytes_eq a b ≡ true
 text_itself a b is = ap (λ x. bytes_eq x b) is ∙ (eq_by_cmp_equiv nat_list_cmp_total).refl b
 
 number_same : (a b : ℕ) → int_eq (pos a) (pos b) ≡ true → a ≡ b

@@ -17,3 +17,7 @@ pub mod Numbering
 pub mod ActsActed
 pub mod ClosingActed
 pub mod RegisteringActed
+pub mod LotsAdded
+pub mod ProgressSet
+pub mod DeclaringActed
+pub mod ImportingActed

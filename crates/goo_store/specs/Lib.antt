@@ -15,3 +15,4 @@ pub mod Creating
 pub mod Planned
 pub mod EditChanges
 pub mod Acted
+pub mod NewLots
