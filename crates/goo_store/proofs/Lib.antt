@@ -2,6 +2,7 @@ pub mod Known
 pub mod Holding
 pub mod Looking
 pub mod RowsFound
+pub mod SumLemmas
 pub mod Merging
 pub mod DayTexts
 pub mod Expiring

@@ -23,6 +23,7 @@ mod receipts;
 mod registry_row;
 mod rows;
 pub mod sql_shelf;
+mod sums;
 #[cfg(test)]
 mod tests;
 mod texts;
