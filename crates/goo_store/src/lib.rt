@@ -6,6 +6,8 @@ mod cancellations;
 mod change;
 mod committing;
 mod creating;
+mod declarations;
+mod device_numbers;
 mod devices;
 mod holders;
 mod lots;
