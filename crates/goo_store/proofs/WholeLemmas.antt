@@ -12,12 +12,14 @@ use Rattle.goo_types.specs.declared.piece.Piece.{Piece}
 use Rattle.goo_spec.specs.State.{State}
 use Rattle.goo_spec.specs.Energy.{total, carry, issued, is_issued_to}
 use Rattle.goo_shelf.specs.Shelf.{totals_for, totals_of}
-use Rattle.goo_columns.specs.Rows.{Lot, lot_key}
+use Rattle.goo_columns.specs.Rows.{Tables, Lot, lot_key}
 use Rattle.goo_columns.specs.Beside.{beside}
 use Rattle.goo_columns.specs.declared.piece.PieceRow.{PieceRow}
 use Rattle.goo_list.specs.Rows.{certificates_of}
 use Rattle.goo_list.proofs.CertificateLemmas.{issued-rows}
 use Rattle.goo_store.specs.Readable.{is_piece, are_ends}
+use Rattle.goo_store.specs.Places.{rows_of}
+use Rattle.goo_store.specs.States.{state_of}
 use Rattle.goo_store.specs.Summing.{summed_for}
 
 abbrev within : PieceRow × Lot → Bool
@@ -63,3 +65,8 @@ module _ (s : State) (rows : List Piece) (at : s.at ≡ certificates_of rows) (r
   -- the sums over the rows are the totals of the state
   pub totals_same : map (summed_for s.own s.declarations rows) (keys s.devices) ≡ totals_of s
   totals_same = each_same (summed_for s.own s.declarations rows) (totals_for s) one_device (entries s.devices)
+
+-- and so those of the state that the tables stand for
+pub state_totals : (t : Tables) → IsRising (rows_of t) → map (summed_for (state_of t).own (state_of t).declarations (rows_of t)) (keys (state_of t).devices) ≡ totals_of (state_of t)
+unfolding state_of
+state_totals t rising = totals_same (state_of t) (rows_of t) refl rising

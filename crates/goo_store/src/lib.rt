@@ -29,4 +29,5 @@ mod sums;
 #[cfg(test)]
 mod tests;
 mod texts;
+mod totals;
 mod trouble;
