@@ -1,4 +1,4 @@
-use Rattle.std.proofs.Common.{◌≡◌, ◌∙◌, ap, sym}
+use Rattle.std.proofs.Common.{◌∙◌, ap, sym}
 use Rattle.std.specs.FinMap.{keys}
 use Rattle.sqlite.specs.Held.{state as view}
 use Rattle.goo_shelf.specs.Shelf.{totals_of}

@@ -1,9 +1,7 @@
-use Rattle.std.proofs.Common.{◌≡◌, ◌∙◌, ap, sym, map, rules, Err, refl}
+use Rattle.std.proofs.Common.{◌≡◌, ◌∙◌, map, rules, Err}
 use Rattle.sqlite.specs.Held.{state as view}
 use Rattle.goo_columns.proofs.Results.{if_ok}
 use Rattle.goo_store.specs.Moments.{tables_in}
-use Rattle.goo_store.specs.Places.{rows_of}
-use Rattle.goo_store.specs.States.{state_of}
 use Rattle.goo_store.specs.Summing.{summed_for}
 use Rattle.goo_store.proofs.Looking.{failed_then, looked_both}
 use Rattle.goo_store.proofs.WholeLemmas.{state_totals}
