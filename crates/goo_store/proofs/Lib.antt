@@ -2,6 +2,9 @@ pub mod Known
 pub mod Holding
 pub mod Looking
 pub mod RowsFound
+pub mod SumLemmas
+pub mod WholeLemmas
+pub mod DeviceLemmas
 pub mod Merging
 pub mod DayTexts
 pub mod Expiring

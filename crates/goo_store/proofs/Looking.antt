@@ -6,6 +6,7 @@ use Rattle.sqlite.specs.declared.error.Error.{Error}
 use Rattle.goo_types.specs.declared.fault.Fault.{Fault}
 use Rattle.goo_types.specs.declared.fault.Fault.TheVariants as fault
 use Rattle.goo_shelf.specs.Shelf as shelf
+use Rattle.goo_columns.proofs.Results.{if_ok}
 use Rattle.goo_columns.specs.Rows.{Tables, tables_of}
 use Rattle.goo_columns.specs.Stands.{Stands, Rests, Looks, doubts}
 use Rattle.goo_store.specs.declared.trouble.Trouble.{Trouble}
@@ -157,3 +158,19 @@ module _ (old mid new : State) (a0 a b c : Bool) {T U V : Type 0} (x : T) (first
       works_told {W = W} (Ok v) d e z tells works = subst (λ (q : Result V Fault). OnOk q W) (sym tells.0) works
       works_told {W = W} (Err Memory) d e z tells works = subst (λ (q : Result V Fault). OnOk q W) (sym tells.0) tt
       works_told {W = W} (Err Refused) d e z tells works = subst (λ (q : Result V Fault). OnOk q W) (sym tells.0) tt
+
+-- one look-up after another, which is the answer
+module _ (old mid new : State) (a0 a b : Bool) {T V : Type 0} (x : T) (first : T → Type 0) (one : shelf.Looks (moment old a0) (moment mid a) (Ok x) first) where
+  pub looked_then : (second P : V → Type 0) (result : Result V Fault) → shelf.Looks (moment mid a) (moment new b) result second
+      → (state_of (tables_in mid) ≡ state_of (tables_in old) → first x → (v : V) → second v → P v) → shelf.Looks (moment old a0) (moment new b) result P
+  looked_then second P result two says = record {
+    found = λ none. if_ok result (two.found none) (says (one.same (two.doubted none)) (one.found (two.doubted none)));
+    same = λ none. two.same none ∙ one.same (two.doubted none);
+    rows_same = λ none. two.rows_same none ∙ one.rows_same (two.doubted none);
+    doubted = λ none. one.doubted (two.doubted none);
+    lied = λ late. one.lied (two.lied late);
+    kept = omega (arith, one.kept, two.kept);
+    told = two.told;
+    works = two.works;
+    crash = λ late none. subst (shelf.IsSafe (moment new b)) (one.same (one.works (two.lied late))) (two.crash late (one.works (two.lied late)));
+  }

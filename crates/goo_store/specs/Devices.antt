@@ -20,6 +20,10 @@ device_of d = record {
   support = support_of d.plant.support;
 }
 
+-- a device under its number
+abbrev pub device_entry : row.Device → List ℕ × Device
+device_entry d = (d.gsrn, device_of d)
+
 abbrev pub declaration_of : row.Declaration → Declare
 declaration_of d = record { device = d.device; first_day = day_of d.first_day; last_day = day_of d.last_day; gross = d.gross; aux = d.aux }
 

@@ -8,6 +8,7 @@ pub mod Readable
 pub mod Kept
 pub mod Moments
 pub mod Telling
+pub mod Summing
 pub mod Plants
 pub mod Near
 pub mod Changes

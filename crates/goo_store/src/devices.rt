@@ -25,14 +25,11 @@ use goo_types::gsrn::Gsrn;
 use sqlite::{Alter, Error};
 
 /// The device in its row.
-fn read_device(found: Result<Option<DeviceRow>, Error>) -> Result<Option<Device>, Trouble>
-    ensures { Passes found result (λ row device. device ≡ option_map device_of (option_map device_in row)) }
+pub fn device_in_row(row: &DeviceRow) -> Result<Device, Trouble>
+    ensures { IfOk result (λ device. device ≡ device_of (device_in row.now)) }
 {
-    let Some(row) = found? else {
-        return Ok(None);
-    };
     let plant = read_plant(&row.plant)?;
-    Ok(Some(Device::of(&RegisterDevice {
+    Ok(Device::of(&RegisterDevice {
         device: texts::gsrn(&row.gsrn)?,
         account: numbers::account_no(row.account)?,
         country: plant.country,
@@ -42,7 +39,17 @@ fn read_device(found: Result<Option<DeviceRow>, Error>) -> Result<Option<Device>
         capacity_w: plant.capacity_w,
         commissioned: plant.commissioned,
         support: plant.support,
-    })))
+    }))
+}
+
+/// The device, if there is one.
+fn read_device(found: Result<Option<DeviceRow>, Error>) -> Result<Option<Device>, Trouble>
+    ensures { Passes found result (λ row device. device ≡ option_map device_of (option_map device_in row)) }
+{
+    match found? {
+        Some(row) => Ok(Some(device_in_row(&row)?)),
+        None => Ok(None),
+    }
 }
 
 /// A day, where there is one.

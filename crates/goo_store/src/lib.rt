@@ -6,6 +6,8 @@ mod cancellations;
 mod change;
 mod committing;
 mod creating;
+mod declarations;
+mod device_numbers;
 mod devices;
 mod holders;
 mod lots;
@@ -23,7 +25,9 @@ mod receipts;
 mod registry_row;
 mod rows;
 pub mod sql_shelf;
+mod sums;
 #[cfg(test)]
 mod tests;
 mod texts;
+mod totals;
 mod trouble;

@@ -1,0 +1,24 @@
+use Rattle.std.proofs.Common.{◌∙◌, ap, map}
+use Rattle.sqlite.specs.Held.{state as view}
+use Rattle.goo_store.specs.Moments.{tables_in}
+use Rattle.goo_store.specs.Places.{rows_of, piece_of}
+use Rattle.goo_store.proofs.Looking.{looked, refused_look, well}
+use Rattle.goo_store.proofs.WholeLemmas.{all_within}
+use Rattle.goo_store.proofs.sql_shelf.SqlShelf.all_rows.Goals as goal
+
+pub returns-then-self-clause-looks : goal.returns-then-self-clause-looks
+returns-then-self-clause-looks g c = refused_look (view g.S.Store c.args.self.now.conn) c.args.self.now.well c.args.self.now.refused c.if-self.true (λ live db may. g.met.S.Store.settled c.args.self.now.conn.store db live may) _
+
+pub invariant_of-self : goal.invariant_of-self
+invariant_of-self g c = record {
+  outside = c.pieces_beginning-found.ensures.outside c.args.self.now.outside;
+  well = well (view g.S.Store c.args.self.now.conn) (view g.S.Store c.pieces_beginning-found.new.conn) c.args.self.now.well _ _ c.pieces_beginning-found.ensures.looks;
+}
+
+pub returns-clause-looks : goal.returns-clause-looks
+unfolding rows_of
+returns-clause-looks g c =
+    looked (view g.S.Store c.args.self.now.conn) (view g.S.Store c.pieces_beginning-found.new.conn) c.args.self.now.well _ _ c.pieces_beginning-found.ensures.looks _ _ c.read_rising.result
+    c.args.self.now.refused c.told.new.refused c.told.result (λ live db may. g.met.S.Store.settled c.args.self.now.conn.store db live may) c.if-self.false c.read_rising.ensures.value c.told.ensures
+    (λ kept rows pieces found read.
+    read ∙ ap (map piece_of) (found ∙ all_within (tables_in (view g.S.Store c.args.self.now.conn)).lots (tables_in (view g.S.Store c.args.self.now.conn)).pieces kept.readable.pieces))

@@ -1,0 +1,22 @@
+use Rattle.std.proofs.Common.{◌∙◌, ap, map}
+use Rattle.goo_store.specs.Devices.{declaration_of}
+use Rattle.sqlite.specs.Held.{state as view}
+use Rattle.goo_store.specs.States.{state_of}
+use Rattle.goo_store.proofs.Looking.{looked, refused_look, well}
+use Rattle.goo_store.proofs.sql_shelf.SqlShelf.declarations.Goals as goal
+
+pub returns-then-self : goal.returns-then-self
+returns-then-self g c = refused_look (view g.S.Store c.args.self.now.conn) c.args.self.now.well c.args.self.now.refused c.if-self.true (λ live db may. g.met.S.Store.settled c.args.self.now.conn.store db live may) _
+
+pub invariant_of-self : goal.invariant_of-self
+invariant_of-self g c = record {
+  outside = c.all_declarations-found.ensures.outside c.args.self.now.outside;
+  well = well (view g.S.Store c.args.self.now.conn) (view g.S.Store c.all_declarations-found.new.conn) c.args.self.now.well _ _ c.all_declarations-found.ensures.looks;
+}
+
+pub returns : goal.returns
+unfolding state_of
+returns g c =
+    looked (view g.S.Store c.args.self.now.conn) (view g.S.Store c.all_declarations-found.new.conn) c.args.self.now.well _ _ c.all_declarations-found.ensures.looks _ _ c.read_all.result
+    c.args.self.now.refused c.told.new.refused c.told.result (λ live db may. g.met.S.Store.settled c.args.self.now.conn.store db live may) c.if-self.false c.read_all.ensures c.told.ensures
+    (λ kept rows declared found read. read ∙ ap (map declaration_of) found)

@@ -1,0 +1,26 @@
+use Rattle.std.proofs.Common.{◌∙◌, ap, map}
+use Rattle.goo_spec.specs.State.{text_cmp}
+use Rattle.std.specs.FinMap.{from_entries, keys}
+use Rattle.goo_store.specs.Devices.{device_entry}
+use Rattle.goo_store.proofs.DeviceLemmas.{entries_same}
+use Rattle.goo_store.specs.Moments.{tables_in}
+use Rattle.sqlite.specs.Held.{state as view}
+use Rattle.goo_store.specs.States.{state_of}
+use Rattle.goo_store.proofs.Looking.{looked, refused_look, well}
+use Rattle.goo_store.proofs.sql_shelf.SqlShelf.device_numbers.Goals as goal
+
+pub returns-then-self : goal.returns-then-self
+returns-then-self g c = refused_look (view g.S.Store c.args.self.now.conn) c.args.self.now.well c.args.self.now.refused c.if-self.true (λ live db may. g.met.S.Store.settled c.args.self.now.conn.store db live may) _
+
+pub invariant_of-self : goal.invariant_of-self
+invariant_of-self g c = record {
+  outside = c.all_devices-found.ensures.outside c.args.self.now.outside;
+  well = well (view g.S.Store c.args.self.now.conn) (view g.S.Store c.all_devices-found.new.conn) c.args.self.now.well _ _ c.all_devices-found.ensures.looks;
+}
+
+pub returns : goal.returns
+unfolding state_of
+returns g c =
+    looked (view g.S.Store c.args.self.now.conn) (view g.S.Store c.all_devices-found.new.conn) c.args.self.now.well _ _ c.all_devices-found.ensures.looks _ _ c.sorted_numbers.result
+    c.args.self.now.refused c.told.new.refused c.told.result (λ live db may. g.met.S.Store.settled c.args.self.now.conn.store db live may) c.if-self.false c.sorted_numbers.ensures c.told.ensures
+    (λ kept rows numbers found read. read ∙ ap (λ ds. keys (from_entries {R = text_cmp} (map device_entry ds))) found ∙ ap (λ es. keys (from_entries {R = text_cmp} es)) (entries_same (tables_in (view g.S.Store c.args.self.now.conn)).devices))

@@ -1,0 +1,75 @@
+//! The declarations, as they are found.
+
+ghost use Rattle.std.specs.Prelude.{◌≡◌, ◌++◌, [], ◌∷◌, IfOk, OnOk, map};
+ghost use Rattle.sqlite.specs.Held.{state as view};
+ghost use Rattle.goo_columns.specs.Rows.{declaration_in};
+ghost use Rattle.goo_shelf.specs.Shelf.{Looks};
+ghost use Rattle.goo_store.specs.Devices.{declaration_of};
+ghost use Rattle.goo_store.specs.Moments.{moment};
+ghost use Rattle.goo_store.specs.Telling.{Passes};
+
+use crate::sql_shelf::SqlShelf;
+use crate::trouble::{Trouble, told};
+use crate::{numbers, texts};
+use goo_columns::declaration::DeclarationRow;
+use goo_tables::declaration::all_declarations;
+use goo_types::command::Declare;
+use goo_types::fault::Fault;
+use sqlite::{Alter, Error};
+use std::alloc::Global;
+
+/// The declaration that a row states.
+fn declaration_in_row(row: &DeclarationRow) -> Result<Declare, Trouble>
+    ensures { IfOk result (λ x. x ≡ declaration_of (declaration_in row.now)) }
+{
+    Ok(Declare {
+        device: texts::gsrn(&row.device)?,
+        first_day: texts::day(&row.first_day)?,
+        last_day: texts::day(&row.last_day)?,
+        gross: numbers::wh(row.gross)?,
+        aux: numbers::wh(row.aux)?,
+    })
+}
+
+/// One declaration more.
+fn push_read(declared: &mut Vec<Declare>, row: &DeclarationRow) -> Result<(), Trouble>
+    ensures { OnOk result (declared.new.items ≡ declared.old.items ++ declaration_of (declaration_in row.now) ∷ []) }
+{
+    let declaration = [declaration_in_row(row)?];
+    declared.extend_from_slice(&declaration)?;
+    Ok(())
+}
+
+/// Each row as a declaration.
+fn read_each(alloc: Global, rows: &[DeclarationRow]) -> Result<Vec<Declare>, Trouble>
+    ensures { IfOk result (λ declared. declared.items ≡ map declaration_of (map declaration_in rows.now)) }
+{
+    let mut declared = Vec::new(alloc);
+    for row in rows {
+        push_read(&mut declared, row)?;
+    }
+    Ok(declared)
+}
+
+/// The declarations, in the order in which they came.
+fn read_all(
+    alloc: Global,
+    found: Result<Vec<DeclarationRow>, Error>,
+) -> Result<Vec<Declare>, Trouble>
+    ensures { Passes found result (λ rows declared. declared.items ≡ map declaration_of (map declaration_in rows.items)) }
+{
+    read_each(alloc, &found?)
+}
+
+impl<S: Alter> SqlShelf<S> {
+    /// The accepted declarations, in the order in which they came.
+    pub(crate) fn declarations(&mut self, alloc: Global) -> Result<Vec<Declare>, Fault>
+        ensures { Looks (moment (view S.Store self.old.conn) self.old.refused) (moment (view S.Store self.new.conn) self.new.refused) result (λ declared. declared.items ≡ (moment (view S.Store self.old.conn) self.old.refused).state.declarations) }
+    {
+        if self.refused {
+            return Err(Fault::Store);
+        }
+        let found = all_declarations(alloc, &mut self.conn);
+        told(read_all(alloc, found), &mut self.refused)
+    }
+}

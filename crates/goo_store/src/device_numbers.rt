@@ -1,0 +1,86 @@
+//! The numbers of all devices, sorted.
+
+ghost use Rattle.std.specs.Prelude.{◌≡◌, ℕ, ◌++◌, [], ◌∷◌, IfOk, OnOk, List, map};
+ghost use Rattle.std.specs.FinMap.{from_entries, keys as keys_of};
+ghost use Rattle.std.specs.BTreeMap.{keys as tree_keys, IsOrdered};
+ghost use Rattle.sqlite.specs.Held.{state as view};
+ghost use Rattle.goo_spec.specs.State.{text_cmp, Device as Known};
+ghost use Rattle.goo_columns.specs.Rows.{device_in};
+ghost use Rattle.goo_list.specs.Maps.{map_of};
+ghost use Rattle.goo_shelf.specs.Shelf.{Looks};
+ghost use Rattle.goo_store.specs.Devices.{device_entry};
+ghost use Rattle.goo_store.specs.Moments.{moment};
+ghost use Rattle.goo_store.specs.Telling.{Passes};
+
+use crate::devices::device_in_row;
+use crate::sql_shelf::SqlShelf;
+use crate::texts;
+use crate::trouble::{Trouble, told};
+use goo_columns::device::DeviceRow;
+use goo_shelf::device::Device;
+use goo_tables::device::all_devices;
+use goo_types::fault::Fault;
+use goo_types::gsrn::Gsrn;
+use sqlite::{Alter, Error};
+use std::alloc::Global;
+use std::collections::BTreeMap;
+
+/// One device more. A number that is there already is refused.
+fn note(known: &mut BTreeMap<Gsrn, Device>, row: &DeviceRow) -> Result<(), Trouble>
+    ensures { OnOk result ((es : List (List ℕ × Known)) → map_of text_cmp known.old ≡ from_entries es → map_of text_cmp known.new ≡ from_entries (es ++ device_entry (device_in row.now) ∷ [])) }
+{
+    let number = texts::gsrn(&row.gsrn)?;
+    let device = device_in_row(row)?;
+    match known.insert(number, device)? {
+        None => Ok(()),
+        Some(_) => Err(Trouble::Refused),
+    }
+}
+
+/// The devices by their numbers.
+fn note_each(alloc: Global, rows: &[DeviceRow]) -> Result<BTreeMap<Gsrn, Device>, Trouble>
+    ensures { IfOk result (λ known. map_of text_cmp known ≡ from_entries (map device_entry (map device_in rows.now))) }
+{
+    let mut known = BTreeMap::new(alloc);
+    for row in rows {
+        note(&mut known, row)?;
+    }
+    Ok(known)
+}
+
+/// The numbers in a tree, sorted.
+fn sorted(alloc: Global, known: &BTreeMap<Gsrn, Device>) -> Result<Vec<Gsrn>, Trouble>
+    ensures keys { IfOk result (λ numbers. numbers.items ≡ tree_keys known.now) }
+    ensures ordered { IsOrdered text_cmp known.now }
+{
+    let numbers = known.keys();
+    Ok(numbers.copied().collect(alloc)?)
+}
+
+/// The numbers of the devices in rows, sorted.
+fn numbers_in(alloc: Global, rows: &[DeviceRow]) -> Result<Vec<Gsrn>, Trouble>
+    ensures { IfOk result (λ numbers. numbers.items ≡ keys_of (from_entries {R = text_cmp} (map device_entry (map device_in rows.now)))) }
+{
+    let known = note_each(alloc, rows)?;
+    sorted(alloc, &known)
+}
+
+/// The numbers of the devices, sorted.
+fn sorted_numbers(alloc: Global, found: Result<Vec<DeviceRow>, Error>) -> Result<Vec<Gsrn>, Trouble>
+    ensures { Passes found result (λ rows numbers. numbers.items ≡ keys_of (from_entries {R = text_cmp} (map device_entry (map device_in rows.items)))) }
+{
+    numbers_in(alloc, &found?)
+}
+
+impl<S: Alter> SqlShelf<S> {
+    /// The numbers of the devices, sorted.
+    pub(crate) fn device_numbers(&mut self, alloc: Global) -> Result<Vec<Gsrn>, Fault>
+        ensures { Looks (moment (view S.Store self.old.conn) self.old.refused) (moment (view S.Store self.new.conn) self.new.refused) result (λ numbers. numbers.items ≡ keys_of (moment (view S.Store self.old.conn) self.old.refused).state.devices) }
+    {
+        if self.refused {
+            return Err(Fault::Store);
+        }
+        let found = all_devices(alloc, &mut self.conn);
+        told(sorted_numbers(alloc, found), &mut self.refused)
+    }
+}
