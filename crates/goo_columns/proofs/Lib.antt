@@ -13,5 +13,6 @@ pub mod Same
 pub mod Updating
 pub mod Joining
 pub mod Unique
+pub mod UniqueLots
 pub mod Ordered
 pub mod Meeting

@@ -1,5 +1,4 @@
 pub mod MapLemmas
-pub mod EditLemmas
 pub mod NearLemmas
 pub mod ProductionLemmas
 pub mod AllowedLemmas
@@ -8,5 +7,3 @@ pub mod ReceiptLemmas
 pub mod LookLemmas
 pub mod OrderLemmas
 pub mod SumLemmas
-pub mod BlockLemmas
-pub mod FoundLemmas

@@ -4,4 +4,3 @@ pub mod Moments
 pub mod States
 pub mod LotKeys
 pub mod Production
-pub mod Blocks

@@ -15,7 +15,6 @@ mod next_numbers;
 mod notices;
 mod opening;
 mod production;
-mod row_blocks;
 mod row_edits;
 mod rows;
 mod shelf;

@@ -1,4 +1,4 @@
-ghost use Rattle.std.specs.Prelude.{◌≡◌, ◌+◌, ◌^◌, ◌<◌, ◌≤◌, [], count_by, IfOk, IfErr, OnOk};
+ghost use Rattle.std.specs.Prelude.{◌≡◌, ◌+◌, ◌^◌, ◌<◌, ◌≤◌, [], ◌++◌, count_by, sum_by, IfOk, IfErr, OnOk};
 ghost use Rattle.std.specs.FinMap.{entries};
 ghost use Rattle.goo_types.specs.declared.fault.Fault.TheVariants.{Memory};
 ghost use Rattle.goo_types.specs.Piece.{IsForward, IsRising};
@@ -9,6 +9,7 @@ ghost use Rattle.goo_spec.specs.Energy.{is_issued_to};
 ghost use Rattle.goo_list.specs.Rows.{certificates_of, inserts, issued_in};
 
 use crate::row_edits::{count_inserts, edit_each};
+use goo_pages::paged::Pages;
 use goo_ranges::Edit;
 use goo_types::account_no::AccountNo;
 use goo_types::day::Day;
@@ -18,7 +19,7 @@ use goo_types::piece::Piece;
 use goo_types::place::Place;
 use goo_types::range::Range;
 use goo_types::registry_code::RegistryCode;
-use std::alloc::Global;
+use std::alloc::{AllocError, Global};
 use std::marker::Model;
 
 /// Whether a row is held, and can't be on a day.
@@ -51,23 +52,57 @@ fn issued_in_row(row: &Piece, own: RegistryCode, device: &Gsrn) -> u64
     }
 }
 
+/// How many of some rows' certificates are a registry's own ones, issued to a device.
+fn issued_in_rows(rows: &[Piece], own: RegistryCode, device: &Gsrn) -> u64
+    requires { IsRising rows.now }
+    ensures { result ≡ sum_by (issued_in own device.now) rows.now }
+{
+    let mut count = 0;
+    for row in rows {
+        count += issued_in_row(row, own, device);
+    }
+    count
+}
+
+/// Adds copies of those rows that are held and whose lot is over on a day.
+fn add_expiring(met: &mut Vec<Piece>, rows: &[Piece], day: Day) -> Result<(), AllocError>
+    ensures { OnOk result (met.new.items ≡ met.old.items ++ expiring_on day rows.now) }
+{
+    for row in rows {
+        if is_expiring(row, day) {
+            met.push(*row)?;
+        }
+    }
+    Ok(())
+}
+
+/// Adds copies of those rows whose place names an account.
+fn add_naming(met: &mut Vec<Piece>, rows: &[Piece], account: AccountNo) -> Result<(), AllocError>
+    ensures { OnOk result (met.new.items ≡ met.old.items ++ naming_account account rows.now) }
+{
+    for row in rows {
+        if row.place.account() == account {
+            met.push(*row)?;
+        }
+    }
+    Ok(())
+}
+
 /// The rows of a registry's certificates: by rising numbers, and no two have a number in common.
 #[derive(Drop)]
 pub struct Rows {
-    pieces: Vec<Piece>,
+    pieces: Pages,
 }
 
 impl Model for Rows {
-    ghost use Rattle.std.specs.Prelude.{◌-◌};
-    ghost use Rattle.std.specs.Vec.{vec_len, vec_capacity};
     ghost use Rattle.goo_types.specs.Piece.{IsRising};
     ghost use Rattle.goo_list.specs.Rows.{KeptRows, kept_rows};
 
     ghost Value = { KeptRows };
 
-    ghost view = { λ r. kept_rows r.pieces.items (vec_capacity r.pieces - vec_len r.pieces) };
+    ghost view = { λ r. kept_rows r.pieces.rows r.pieces.room };
 
-    ghost invariant = { λ r. IsRising r.pieces.items };
+    ghost invariant = { λ r. IsRising r.pieces.rows };
 }
 
 impl Rows {
@@ -76,23 +111,8 @@ impl Rows {
         ensures { result.pieces ≡ [] }
     {
         Rows {
-            pieces: Vec::new(alloc),
+            pieces: Pages::new(alloc),
         }
-    }
-
-    /// The rows with a number of the range or next to one.
-    fn near(&self, range: Range) -> &[Piece]
-        ensures met { result.now ≡ meeting range self.now.pieces }
-        ensures rising { IsRising result.now }
-    {
-        let first = range.first().get();
-        let last = range.last().get();
-        let start = self
-            .pieces
-            .partition_point(|row| row.last.get() + 1 < first);
-        let later = &self.pieces[start..];
-        let count = later.partition_point(|row| row.first.get() <= last + 1);
-        &later[..count]
     }
 
     /// A copy of the rows with a number of the range or next to one. It fails for want of memory alone.
@@ -101,7 +121,7 @@ impl Rows {
         ensures rising { IfOk result (λ met. IsRising met.items) }
         ensures memory { IfErr result (λ fault. fault ≡ Memory) }
     {
-        Ok(Vec::from_slice(alloc, self.near(range))?)
+        Ok(self.pieces.meeting(alloc, range)?)
     }
 
     /// A copy of the held rows whose lot is over on a day. It fails for want of memory alone.
@@ -110,8 +130,11 @@ impl Rows {
         ensures rising { IfOk result (λ met. IsRising met.items) }
         ensures memory { IfErr result (λ fault. fault ≡ Memory) }
     {
-        let rows = self.pieces.iter().copied();
-        Ok(rows.filter(|row| is_expiring(row, day)).collect(alloc)?)
+        let mut met = Vec::new(alloc);
+        for page in self.pieces.pages() {
+            add_expiring(&mut met, page.rows(), day)?;
+        }
+        Ok(met)
     }
 
     /// A copy of the rows whose place names an account. It fails for want of memory alone.
@@ -120,20 +143,21 @@ impl Rows {
         ensures rising { IfOk result (λ met. IsRising met.items) }
         ensures memory { IfErr result (λ fault. fault ≡ Memory) }
     {
-        let rows = self.pieces.iter().copied();
-        Ok(
-            rows.filter(|row| row.place.account() == account)
-                .collect(alloc)?,
-        )
+        let mut met = Vec::new(alloc);
+        for page in self.pieces.pages() {
+            add_naming(&mut met, page.rows(), account)?;
+        }
+        Ok(met)
     }
 
     /// How many of a registry's own certificates were issued to a device.
     pub fn issued(&self, own: RegistryCode, device: &Gsrn) -> u64
         ensures { result ≡ count_by (is_issued_to own device.now) (entries (certificates_of self.now.pieces)) }
     {
+        let _code = own.get();
         let mut count = 0;
-        for row in &self.pieces {
-            count += issued_in_row(row, own, device);
+        for page in self.pieces.pages() {
+            count += issued_in_rows(page.rows(), own, device);
         }
         count
     }
@@ -147,7 +171,7 @@ impl Rows {
         let Some(count) = count_inserts(edits) else {
             return Err(Fault::Memory);
         };
-        self.pieces.reserve(count)?;
+        self.pieces.make_room(count)?;
         Ok(())
     }
 

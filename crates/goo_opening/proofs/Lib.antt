@@ -1,2 +1,4 @@
 pub mod Chaining
 pub mod Earning
+pub mod OnFiles
+pub mod Ours

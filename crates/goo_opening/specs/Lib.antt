@@ -1,3 +1,4 @@
 pub mod Reading
 pub mod Shown
 pub mod Found
+pub mod Forms

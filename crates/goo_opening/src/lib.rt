@@ -1,9 +1,16 @@
 //! Opening the tables of a registry: finding them, and reading them whole.
 #![tactic(auto)]
 
+pub mod connecting;
 pub mod fault;
 pub mod finding;
+pub mod forms;
+pub mod matching;
+pub mod our_schema;
 pub mod reading;
+pub mod registry_form;
 pub mod rows;
+#[cfg(test)]
+mod schema_tests;
 #[cfg(test)]
 mod tests;

@@ -2,7 +2,7 @@
 use Rattle.std.specs.Prelude.{◌&&◌, Bool, None, pos, string_bytes, map}
 use Rattle.std.specs.List.{list_all}
 use Rattle.goo_columns.specs.Rows.{meta_in, holder_in, account_in, device_in, declaration_in, lot_in, receipt_in, cancellation_in, withdrawal_in, notice_out_in, notice_in_in}
-use Rattle.goo_store.specs.Readable.{is_meta, is_holder, is_account, is_device, is_declaration, is_lot, is_piece, is_peer, is_receipt, is_cancellation, is_withdrawal, is_notice_out, is_notice_in}
+use Rattle.goo_kept.specs.Readable.{is_meta, is_holder, is_account, is_device, is_declaration, is_lot, is_piece, is_peer, is_receipt, is_cancellation, is_withdrawal, is_notice_out, is_notice_in}
 use Rattle.goo_types.specs.Number.{code_of}
 use Rattle.goo_rules.specs.WellKept.{is_no_issuer, is_another, covers_aux, account_given, cancellation_given, withdrawal_given, notice_given, is_issued, are_apart, has_holder, has_account, has_device, has_cancellation, has_withdrawal, has_sent, has_lot_of, has_over, has_closed, act_in, is_timely}
 use Rattle.goo_opening.specs.declared.finding.Found.{Found}

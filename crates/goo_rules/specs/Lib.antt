@@ -1,3 +1,6 @@
 pub mod WellKept
 pub mod Lots
 pub mod Keeping
+pub mod Summing
+pub mod Production
+pub mod Rules

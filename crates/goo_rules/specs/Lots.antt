@@ -4,9 +4,9 @@ use Rattle.goo_types.specs.Day.{months_after}
 use Rattle.goo_types.specs.Lot.{IsLot}
 use Rattle.goo_types.specs.Texts.{day_text}
 use Rattle.goo_columns.specs.Rows.{Lot}
-use Rattle.goo_store.specs.Places.{lot_of}
-use Rattle.goo_store.specs.Readable.{is_lot}
-use Rattle.goo_store.specs.Texts.{day_of}
+use Rattle.goo_kept.specs.Places.{lot_of}
+use Rattle.goo_kept.specs.Readable.{is_lot}
+use Rattle.goo_kept.specs.Texts.{day_of}
 use Rattle.goo_types.specs.declared.lot_fields.LotFields.{LotFields}
 use Rattle.goo_rules.specs.declared.lots.LotDays.{LotDays}
 

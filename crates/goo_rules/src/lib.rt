@@ -3,6 +3,9 @@
 
 pub mod apart;
 pub mod declared;
+mod declares;
+mod issued;
+pub mod judging;
 pub mod keeping;
 pub mod keys;
 pub mod lists;
@@ -13,7 +16,11 @@ pub mod named_texts;
 pub mod names;
 pub mod notices;
 mod numbers;
+mod periods;
+pub mod produced;
+mod progress;
 pub mod receipts;
+pub mod sums;
 #[cfg(test)]
 mod tests;
 mod texts;

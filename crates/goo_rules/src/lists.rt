@@ -3,7 +3,7 @@
 ghost use Rattle.std.specs.Prelude.{◌≡◌, pos};
 ghost use Rattle.std.specs.List.{list_all};
 ghost use Rattle.goo_columns.specs.Rows.{holder_in, account_in, device_in, declaration_in, lot_in, receipt_in, cancellation_in, withdrawal_in, notice_out_in};
-ghost use Rattle.goo_store.specs.Readable.{is_holder, is_account, is_device, is_declaration, is_lot, is_piece, is_peer, is_receipt, is_cancellation, is_withdrawal};
+ghost use Rattle.goo_kept.specs.Readable.{is_holder, is_account, is_device, is_declaration, is_lot, is_piece, is_peer, is_receipt, is_cancellation, is_withdrawal};
 ghost use Rattle.goo_rules.specs.WellKept.{is_no_issuer, is_another, covers_aux, account_given, cancellation_given, withdrawal_given, notice_given, is_issued};
 
 use crate::receipts::accepts_receipt;
@@ -119,28 +119,28 @@ pub fn cover_aux(rows: &[DeclarationRow]) -> bool
 pub fn are_given_accounts(next: u32, rows: &[AccountRow]) -> bool
     ensures { result ≡ list_all (λ row. account_given next (account_in row)) rows.now }
 {
-    rows.iter().all(|row| row.number < next)
+    rows.iter().all(|account| account.number < next)
 }
 
 /// The same of the cancellations.
 pub fn are_given_cancellations(next: u32, rows: &[CancellationRow]) -> bool
     ensures { result ≡ list_all (λ row. cancellation_given next (cancellation_in row)) rows.now }
 {
-    rows.iter().all(|row| row.number < next)
+    rows.iter().all(|cancellation| cancellation.number < next)
 }
 
 /// The same of the withdrawals.
 pub fn are_given_withdrawals(next: u32, rows: &[WithdrawalRow]) -> bool
     ensures { result ≡ list_all (λ row. withdrawal_given next (withdrawal_in row)) rows.now }
 {
-    rows.iter().all(|row| row.number < next)
+    rows.iter().all(|withdrawal| withdrawal.number < next)
 }
 
 /// The same of the notices that were sent.
 pub fn are_given_notices(next: u32, rows: &[NoticeOutRow]) -> bool
     ensures { result ≡ list_all (λ row. notice_given next (notice_out_in row)) rows.now }
 {
-    rows.iter().all(|row| row.number < next)
+    rows.iter().all(|notice| notice.number < next)
 }
 
 /// Whether certificates of the own code end below the next serial.

@@ -5,9 +5,9 @@ ghost use Rattle.goo_types.specs.Day.{months_after};
 ghost use Rattle.goo_types.specs.Lot.{IsLot};
 ghost use Rattle.goo_types.specs.Texts.{day_text as day_written};
 ghost use Rattle.goo_columns.specs.Rows.{lot_in};
-ghost use Rattle.goo_store.specs.Places.{lot_of};
-ghost use Rattle.goo_store.specs.Readable.{is_lot};
-ghost use Rattle.goo_store.specs.Texts.{day_of};
+ghost use Rattle.goo_kept.specs.Places.{lot_of};
+ghost use Rattle.goo_kept.specs.Readable.{is_lot};
+ghost use Rattle.goo_kept.specs.Texts.{day_of};
 ghost use Rattle.goo_rules.specs.Lots.{AreDaysOf, IsGoodLot};
 
 use crate::values::accepts_lot;

@@ -22,8 +22,8 @@ pub fn account_numbers(alloc: Global, rows: &[AccountRow]) -> Result<BTreeSet<u3
     ensures { IfOk result (λ set. (n : ℕ) → contains nat_cmp set n ≡ has_account (map account_in rows.now) n) }
 {
     let mut set = BTreeSet::new(alloc);
-    for row in rows {
-        set.insert(row.number)?;
+    for account in rows {
+        set.insert(account.number)?;
     }
     Ok(set)
 }
@@ -40,8 +40,8 @@ pub fn cancellation_numbers(
     ensures { IfOk result (λ set. (n : ℕ) → contains nat_cmp set n ≡ has_cancellation (map cancellation_in rows.now) n) }
 {
     let mut set = BTreeSet::new(alloc);
-    for row in rows {
-        set.insert(row.number)?;
+    for cancellation in rows {
+        set.insert(cancellation.number)?;
     }
     Ok(set)
 }
@@ -58,8 +58,8 @@ pub fn withdrawal_numbers(
     ensures { IfOk result (λ set. (n : ℕ) → contains nat_cmp set n ≡ has_withdrawal (map withdrawal_in rows.now) n) }
 {
     let mut set = BTreeSet::new(alloc);
-    for row in rows {
-        set.insert(row.number)?;
+    for withdrawal in rows {
+        set.insert(withdrawal.number)?;
     }
     Ok(set)
 }
@@ -73,8 +73,8 @@ pub fn sent_numbers(alloc: Global, rows: &[NoticeOutRow]) -> Result<BTreeSet<u32
     ensures { IfOk result (λ set. (n : ℕ) → contains nat_cmp set n ≡ has_sent (map notice_out_in rows.now) n) }
 {
     let mut set = BTreeSet::new(alloc);
-    for row in rows {
-        set.insert(row.number)?;
+    for notice in rows {
+        set.insert(notice.number)?;
     }
     Ok(set)
 }

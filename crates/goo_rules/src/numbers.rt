@@ -2,7 +2,7 @@
 
 ghost use Rattle.std.specs.Prelude.{◌≡◌};
 ghost use Rattle.goo_types.specs.Number.{is_number as is_certificate};
-ghost use Rattle.goo_store.specs.Readable.{is_code, is_act, is_next, is_wh, are_ends, names_act, is_reply};
+ghost use Rattle.goo_kept.specs.Readable.{is_code, is_act, is_next, is_wh, are_ends, names_act, is_reply};
 
 /// How many serials one registry has, with zero.
 const SERIALS: u64 = 1_000_000_000_000;
@@ -11,14 +11,14 @@ const SERIALS: u64 = 1_000_000_000_000;
 pub fn is_registry(n: u32) -> bool
     ensures { result ≡ is_code n }
 {
-    1 <= n && n <= 99
+    n >= 1 && n <= 99
 }
 
 /// The number of an account or of an act.
 pub fn is_given(n: u32) -> bool
     ensures { result ≡ is_act n }
 {
-    1 <= n && n <= 999_999_999
+    is_given_long(u64::from(n))
 }
 
 /// The same of a number of 64 bits.

@@ -2,7 +2,7 @@
 
 ghost use Rattle.std.specs.Prelude.{◌≡◌, ◌==◌, ◌&&◌, ◌||◌, pos};
 ghost use Rattle.goo_columns.specs.Rows.{receipt_in};
-ghost use Rattle.goo_store.specs.Readable.{is_reply, is_receipt, is_act, are_ends};
+ghost use Rattle.goo_kept.specs.Readable.{is_reply, is_receipt, is_act, are_ends};
 
 use crate::numbers::{is_given_long, is_range};
 use crate::texts::{is_code_text, is_key};

@@ -5,7 +5,7 @@ ghost use Rattle.goo_types.specs.Codes.{holder_reading, name_reading, key_readin
 ghost use Rattle.goo_types.specs.Day.{day_reading};
 ghost use Rattle.goo_types.specs.Gsrn.{gsrn_reading};
 ghost use Rattle.goo_types.specs.Support.{support_reading};
-ghost use Rattle.goo_store.specs.Readable.{reads, is_maybe_day};
+ghost use Rattle.goo_kept.specs.Readable.{reads, is_maybe_day};
 
 use goo_types::country::Country;
 use goo_types::day::Day;

@@ -35,7 +35,7 @@ pub fn accounts_are_held(rows: &[AccountRow], holders: &BTreeSet<String>) -> boo
 pub fn devices_have_accounts(rows: &[DeviceRow], accounts: &BTreeSet<u32>) -> bool
     ensures { result ≡ list_all (λ row. contains nat_cmp accounts.now row.account) rows.now }
 {
-    rows.iter().all(|row| has(accounts, &row.account))
+    rows.iter().all(|device| has(accounts, &device.account))
 }
 
 /// Whether each declaration's device is one of these.
@@ -49,21 +49,21 @@ pub fn declarations_have_devices(rows: &[DeclarationRow], devices: &BTreeSet<Str
 pub fn pieces_have_accounts(rows: &[PieceRow], accounts: &BTreeSet<u32>) -> bool
     ensures { result ≡ list_all (λ row. contains nat_cmp accounts.now row.account) rows.now }
 {
-    rows.iter().all(|row| has(accounts, &row.account))
+    rows.iter().all(|piece| has(accounts, &piece.account))
 }
 
 /// Whether each cancellation's account is one of these.
 pub fn cancellations_have_accounts(rows: &[CancellationRow], accounts: &BTreeSet<u32>) -> bool
     ensures { result ≡ list_all (λ row. contains nat_cmp accounts.now row.account) rows.now }
 {
-    rows.iter().all(|row| has(accounts, &row.account))
+    rows.iter().all(|cancellation| has(accounts, &cancellation.account))
 }
 
 /// Whether the account of each notice that was sent is one of these.
 pub fn notices_have_accounts(rows: &[NoticeOutRow], accounts: &BTreeSet<u32>) -> bool
     ensures { result ≡ list_all (λ row. contains nat_cmp accounts.now row.account) rows.now }
 {
-    rows.iter().all(|row| has(accounts, &row.account))
+    rows.iter().all(|notice| has(accounts, &notice.account))
 }
 
 /// Whether the act that a piece names, if it names one, is there.

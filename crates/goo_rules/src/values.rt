@@ -2,7 +2,7 @@
 
 ghost use Rattle.std.specs.Prelude.{◌≡◌, pos};
 ghost use Rattle.goo_columns.specs.Rows.{plant_in, meta_in, holder_in, account_in, device_in, declaration_in, lot_in, receipt_in, cancellation_in, withdrawal_in};
-ghost use Rattle.goo_store.specs.Readable.{is_meta, is_holder, is_account, is_plant, is_device, is_declaration, is_lot, is_piece, is_peer, is_receipt, is_cancellation, is_withdrawal};
+ghost use Rattle.goo_kept.specs.Readable.{is_meta, is_holder, is_account, is_plant, is_device, is_declaration, is_lot, is_piece, is_peer, is_receipt, is_cancellation, is_withdrawal};
 
 use crate::numbers::{has_act, is_energy, is_free, is_given, is_range, is_registry};
 use crate::texts::{
@@ -105,10 +105,10 @@ pub fn accepts_piece(row: &PieceRow) -> bool
 }
 
 /// A peer.
-pub fn accepts_peer(row: &PeerRow) -> bool
-    ensures { result ≡ is_peer (pos 0, row.now) }
+pub fn accepts_peer(peer: &PeerRow) -> bool
+    ensures { result ≡ is_peer (pos 0, peer.now) }
 {
-    is_registry(row.code)
+    is_registry(peer.code)
 }
 
 /// A cancellation.

@@ -22,15 +22,15 @@ use Rattle.goo_columns.specs.Rows as row
 use Rattle.goo_tables.specs.Changes as change
 use Rattle.goo_tables.specs.declared.counters.Counters.{Counters}
 use Rattle.goo_store.specs.Acted.{IsActed}
-use Rattle.goo_store.specs.Kept.{AreKept}
-use Rattle.goo_store.specs.Readable.{is_account, is_cancellation, is_withdrawal, is_notice_out, reads}
-use Rattle.goo_store.specs.States.{state_of, known_account, known_cancellation, known_withdrawal, known_sent, account_of}
-use Rattle.goo_store.specs.Records as record_of
-use Rattle.goo_store.specs.Texts.{day_of}
+use Rattle.goo_kept.specs.Kept.{AreKept}
+use Rattle.goo_kept.specs.Readable.{is_account, is_cancellation, is_withdrawal, is_notice_out, reads}
+use Rattle.goo_kept.specs.States.{state_of, known_account, known_cancellation, known_withdrawal, known_sent, account_of}
+use Rattle.goo_kept.specs.Records as record_of
+use Rattle.goo_kept.specs.Texts.{day_of}
 use Rattle.goo_store.proofs.CommandsActed.{quiet}
-use Rattle.goo_store.proofs.Inserted.{all_inserted}
+use Rattle.goo_kept.proofs.Inserted.{all_inserted}
 use Rattle.goo_store.proofs.Numbering.{next_free, numbered, counters_read, today_read}
-use Rattle.goo_store.proofs.ReadableLemmas.{with_accounts, with_cancellations, with_withdrawals, with_notices_out, with_meta}
+use Rattle.goo_kept.proofs.ReadableLemmas.{with_accounts, with_cancellations, with_withdrawals, with_notices_out, with_meta}
 
 abbrev pub numbers : ℕ → ℕ → ℕ → ℕ → ℕ → Counters
 numbers serial account cancellation withdrawal notice = record { next_serial = serial; next_account = account; next_cancellation = cancellation; next_withdrawal = withdrawal; next_notice = notice }

@@ -15,13 +15,13 @@ use Rattle.goo_list.specs.States.{beside}
 use Rattle.goo_columns.specs.Rows.{Tables, Account, account_key}
 use Rattle.goo_tables.specs.Changes as change
 use Rattle.goo_store.specs.Acted.{IsActed}
-use Rattle.goo_store.specs.Kept.{AreKept}
-use Rattle.goo_store.specs.Readable.{is_account, is_act, reads}
+use Rattle.goo_kept.specs.Kept.{AreKept}
+use Rattle.goo_kept.specs.Readable.{is_account, is_act, reads}
 use Rattle.goo_types.specs.Codes.{holder_reading}
-use Rattle.goo_store.specs.States.{state_of, known_account, account_of}
+use Rattle.goo_kept.specs.States.{state_of, known_account, account_of}
 use Rattle.goo_store.proofs.CommandsActed.{quiet}
-use Rattle.goo_store.proofs.Known.{get-known, number_test, number_is}
-use Rattle.goo_store.proofs.ReadableLemmas.{with_accounts}
+use Rattle.goo_kept.proofs.Known.{get-known, number_test, number_is}
+use Rattle.goo_kept.proofs.ReadableLemmas.{with_accounts}
 
 module _ (n : ℕ) where
   abbrev closes : Account → Bool

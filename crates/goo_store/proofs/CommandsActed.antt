@@ -24,12 +24,12 @@ use Rattle.goo_columns.specs.declared.peer.PeerRow.{PeerRow}
 use Rattle.goo_tables.specs.Changes as change
 use Rattle.goo_tables.specs.Changes.{added}
 use Rattle.goo_store.specs.Acted.{IsActed}
-use Rattle.goo_store.specs.Devices.{progress_in, device_row}
-use Rattle.goo_store.specs.Kept.{AreKept, AreReadable}
-use Rattle.goo_store.specs.Readable.{is_holder, is_peer}
-use Rattle.goo_store.specs.States.{state_of, known_holder, known_peer}
-use Rattle.goo_store.proofs.Inserted.{all_inserted, map_inserted}
-use Rattle.goo_store.proofs.ReadableLemmas.{with_holders, with_peers}
+use Rattle.goo_kept.specs.Devices.{progress_in, device_row}
+use Rattle.goo_kept.specs.Kept.{AreKept, AreReadable}
+use Rattle.goo_kept.specs.Readable.{is_holder, is_peer}
+use Rattle.goo_kept.specs.States.{state_of, known_holder, known_peer}
+use Rattle.goo_kept.proofs.Inserted.{all_inserted, map_inserted}
+use Rattle.goo_kept.proofs.ReadableLemmas.{with_holders, with_peers}
 
 pub texts_apart : IsAntisymmetric text_cmp
 texts_apart = slice_cmp-IsAntisymmetric nat_cmp-IsAntisymmetric
@@ -48,7 +48,7 @@ quiet t after s kept pieces receipts lots devices declarations state readable = 
   state = state;
   readable = readable;
   have = ap (λ ls. Rattle.std.specs.List.list_all (λ p. has_key lot_key ls (pos p.lot)) t.pieces) lots ∙ kept.lots_there;
-  rows = ap (λ ls. map Rattle.goo_store.specs.Places.piece_of (Rattle.goo_columns.specs.Beside.beside ls t.pieces)) lots;
+  rows = ap (λ ls. map Rattle.goo_kept.specs.Places.piece_of (Rattle.goo_columns.specs.Beside.beside ls t.pieces)) lots;
   lots = λ id l is. kept.lots id l (ap (λ ls. Rattle.sqlite_keyed.specs.Keyed.get_by lot_key ls id) (sym lots) ∙ is);
   devices = λ gsrn. subst (λ ds. Rattle.std.specs.Prelude.length (Rattle.std.specs.List.filter (λ k. Rattle.sqlite_typed.specs.Tests.bytes_eq k.1.gsrn gsrn) ds) ≤ 1) (sym devices) (kept.devices gsrn);
   progress = λ gsrn. ap (λ ds. progress_in (device_row ds gsrn)) devices ∙ kept.progress gsrn ∙ progress_same (state_of t) s (sym declarations) gsrn;

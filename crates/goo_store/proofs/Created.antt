@@ -13,13 +13,13 @@ use Rattle.goo_columns.specs.Stands.{Stands, Settled, doubts}
 use Rattle.goo_columns.proofs.Decoded.{decoded}
 use Rattle.goo_tables.specs.Changes.{begun}
 use Rattle.goo_store.specs.Creating.{meta_of, IsFirst}
-use Rattle.goo_store.specs.Kept.{AreKept}
+use Rattle.goo_kept.specs.Kept.{AreKept}
 use Rattle.goo_store.specs.Moments.{IsWell, tables_in}
-use Rattle.goo_store.specs.Places.{rows_of}
-use Rattle.goo_store.specs.Readable.{is_meta, reads}
-use Rattle.goo_store.specs.States.{state_of}
-use Rattle.goo_store.proofs.Holding.{sure}
-use Rattle.goo_store.proofs.Known.{day_back}
+use Rattle.goo_kept.specs.Places.{rows_of}
+use Rattle.goo_kept.specs.Readable.{is_meta, reads}
+use Rattle.goo_kept.specs.States.{state_of}
+use Rattle.goo_store.specs.Holding.{sure}
+use Rattle.goo_kept.proofs.Known.{day_back}
 
 module _ (code : ℕ) (today : CalendarDay) (next_serial : ℕ) (it : IsFirst code today next_serial) where
   -- its tables stand for the state of a new registry

@@ -28,16 +28,16 @@ use Rattle.goo_columns.specs.Rows as row
 use Rattle.goo_tables.specs.Changes as change
 use Rattle.goo_tables.specs.Changes.{progressed}
 use Rattle.goo_store.specs.Acted.{IsActed}
-use Rattle.goo_store.specs.Devices.{declaration_of, device_row, progress_in}
-use Rattle.goo_store.specs.Kept.{AreKept, IsKeptLot}
-use Rattle.goo_store.specs.Places.{lot_of}
-use Rattle.goo_store.specs.Readable.{is_declaration, is_lot, reads}
-use Rattle.goo_store.specs.States.{state_of, known_device, known_lot}
-use Rattle.goo_store.specs.Texts.{day_of}
+use Rattle.goo_kept.specs.Devices.{declaration_of, device_row, progress_in}
+use Rattle.goo_kept.specs.Kept.{AreKept, IsKeptLot}
+use Rattle.goo_kept.specs.Places.{lot_of}
+use Rattle.goo_kept.specs.Readable.{is_declaration, is_lot, reads}
+use Rattle.goo_kept.specs.States.{state_of, known_device, known_lot}
+use Rattle.goo_kept.specs.Texts.{day_of}
 use Rattle.goo_store.proofs.ActsActed.{numbers}
 use Rattle.goo_store.proofs.CommandsActed.{progress_same, texts_apart}
-use Rattle.goo_store.proofs.Inserted.{all_inserted, map_inserted}
-use Rattle.goo_store.proofs.Known.{get-known, text_test, text_same}
+use Rattle.goo_kept.proofs.Inserted.{all_inserted, map_inserted}
+use Rattle.goo_kept.proofs.Known.{get-known, text_test, text_same}
 use Rattle.goo_store.proofs.LotsAdded.{AreLotsOf, lots_before, lot_more}
 use Rattle.goo_store.proofs.Numbering.{counters_read}
 use Rattle.goo_store.proofs.ProgressSet.{is_of, find_passes, moved, all_moved, all_known, found_moved, count_moved, read_moved, told_here, told_there, progress_here, progress_there}

@@ -17,10 +17,10 @@ use Rattle.goo_columns.specs.declared.piece.PieceRow.{PieceRow}
 use Rattle.goo_tables.specs.Changes.{without_piece, with_piece}
 use Rattle.goo_store.specs.Changes.{made_all}
 use Rattle.goo_store.specs.EditChanges.{AreRowsOf, AreForEdit, AreForEdits}
-use Rattle.goo_store.specs.Readable.{is_piece}
+use Rattle.goo_kept.specs.Readable.{is_piece}
 use Rattle.goo_store.specs.declared.change.Change.{Change}
 use Rattle.goo_store.specs.declared.change.Change.TheVariants.{DeletePiece, InsertPiece}
-use Rattle.goo_store.proofs.Inserted.{all_inserted}
+use Rattle.goo_kept.proofs.Inserted.{all_inserted}
 use Rattle.goo_store.proofs.RowChanges.{rows_for, HaveLots, begins_at, new_row, number_free, row_inserted, row_removed}
 
 pub all_filtered : {A : Type 0} (p q : A → Bool) (xs : List A) → list_all p xs ≡ true → list_all p (filter q xs) ≡ true

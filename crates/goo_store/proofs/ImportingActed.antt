@@ -31,14 +31,14 @@ use Rattle.goo_tables.specs.Changes as change
 use Rattle.goo_tables.specs.Changes.{added}
 use Rattle.goo_store.specs.Acted.{IsActed}
 use Rattle.goo_store.specs.Changes.{made_all}
-use Rattle.goo_store.specs.Kept.{AreKept}
+use Rattle.goo_kept.specs.Kept.{AreKept}
 use Rattle.goo_store.specs.NewLots.{known_lots, AreNewLots}
-use Rattle.goo_store.specs.Readable.{is_notice_in}
-use Rattle.goo_store.specs.States.{state_of, known_lot, known_arrival}
+use Rattle.goo_kept.specs.Readable.{is_notice_in}
+use Rattle.goo_kept.specs.States.{state_of, known_lot, known_arrival}
 use Rattle.goo_store.specs.declared.change.Change.TheVariants.{AddLot}
 use Rattle.goo_store.proofs.CommandsActed.{progress_same, texts_apart}
-use Rattle.goo_store.proofs.Inserted.{all_inserted, map_inserted}
-use Rattle.goo_store.proofs.Known.{notice_total, text_same}
+use Rattle.goo_kept.proofs.Inserted.{all_inserted, map_inserted}
+use Rattle.goo_kept.proofs.Known.{notice_total, text_same}
 use Rattle.goo_store.proofs.LotsAdded.{AreLotsOf, lots_before, lot_more}
 
 abbrev Lots : Type 0
@@ -57,7 +57,7 @@ insert_known m k lot is = same_map nat_list_cmp_total texts_apart (insert m k lo
 abbrev KnowsNoOther : Lots → Part → Type 0
 KnowsNoOther m p = (l : LotFields) → get m (key_of p.lot) ≡ Some l → l ≡ p.lot
 
-known_as : (a b : LotFields) → key_of a ≡ key_of b → IsKnownAs a b
+pub known_as : (a b : LotFields) → key_of a ≡ key_of b → IsKnownAs a b
 known_as a b e = record {
   origin = ap (λ k. slice_index k 0) e;
   device = ap (drop 4) e;

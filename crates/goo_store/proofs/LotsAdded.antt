@@ -8,10 +8,10 @@ use Rattle.sqlite_keyed.proofs.RuleLemmas.{first_of_both, second_of_both}
 use Rattle.goo_columns.specs.Beside.{beside}
 use Rattle.goo_columns.specs.Rows.{Tables, Lot, lot_key}
 use Rattle.goo_columns.specs.declared.piece.PieceRow.{PieceRow}
-use Rattle.goo_store.specs.Kept.{AreKept, IsKeptLot}
-use Rattle.goo_store.specs.Places.{piece_of}
-use Rattle.goo_store.specs.Readable.{is_lot}
-use Rattle.goo_store.proofs.Inserted.{all_inserted}
+use Rattle.goo_kept.specs.Kept.{AreKept, IsKeptLot}
+use Rattle.goo_kept.specs.Places.{piece_of}
+use Rattle.goo_kept.specs.Readable.{is_lot}
+use Rattle.goo_kept.proofs.Inserted.{all_inserted}
 use Rattle.goo_store.proofs.RegisteringActed.{find_put}
 
 none_there : {X : Type 0} (o : Option X) → is_some o ≡ false → o ≡ None

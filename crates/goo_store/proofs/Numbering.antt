@@ -10,9 +10,9 @@ use Rattle.sqlite_keyed.proofs.SliceLemmas.{is_some-map}
 use Rattle.goo_types.specs.Day.{day_reading}
 use Rattle.goo_spec.specs.Sound.{AreBelow}
 use Rattle.goo_columns.specs.Rows.{Meta}
-use Rattle.goo_store.specs.Readable.{is_meta, is_code, is_between, reads}
-use Rattle.goo_store.proofs.Inserted.{map_inserted}
-use Rattle.goo_store.proofs.Known.{get-known, number_test}
+use Rattle.goo_kept.specs.Readable.{is_meta, is_code, is_between, reads}
+use Rattle.goo_kept.proofs.Inserted.{map_inserted}
+use Rattle.goo_kept.proofs.Known.{get-known, number_test}
 
 -- the next number isn't given yet
 pub next_free : {X : Type 0} (next : ℕ) (m : FinMap nat_cmp X) → AreBelow next m → get m next ≡ None

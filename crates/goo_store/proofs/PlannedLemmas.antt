@@ -35,16 +35,16 @@ use Rattle.goo_tables.specs.Changes.{added, with_receipt}
 use Rattle.goo_store.specs.Acted.{IsActed, IsReceiptOf}
 use Rattle.goo_store.specs.Changes.{made, made_all, AreFor}
 use Rattle.goo_store.specs.EditChanges.{AreForEdits}
-use Rattle.goo_store.specs.Kept.{AreKept}
-use Rattle.goo_store.specs.Places.{rows_of}
+use Rattle.goo_kept.specs.Kept.{AreKept}
+use Rattle.goo_kept.specs.Places.{rows_of}
 use Rattle.goo_store.specs.Planned.{IsPlanned}
-use Rattle.goo_store.specs.Readable.{is_receipt}
-use Rattle.goo_store.specs.States.{state_of, known_receipt}
+use Rattle.goo_kept.specs.Readable.{is_receipt}
+use Rattle.goo_kept.specs.States.{state_of, known_receipt}
 use Rattle.goo_store.specs.declared.change.Change.{Change}
 use Rattle.goo_store.specs.declared.change.Change.TheVariants.{AddReceipt}
 use Rattle.goo_store.proofs.EditsMade.{AreGood, edits_made}
-use Rattle.goo_store.proofs.Inserted.{all_inserted, map_inserted}
-use Rattle.goo_store.proofs.Known.{receipt_total}
+use Rattle.goo_kept.proofs.Inserted.{all_inserted, map_inserted}
+use Rattle.goo_kept.proofs.Known.{receipt_total}
 use Rattle.goo_store.proofs.RowChanges.{rows_for}
 
 receipts_apart : IsAntisymmetric receipt_cmp

@@ -19,11 +19,11 @@ use Rattle.goo_shelf.specs.Shelf.{progress_of}
 use Rattle.goo_columns.specs.Rows.{Tables, Kept, Lot, lot_key, declaration_key}
 use Rattle.goo_columns.specs.Rows as row
 use Rattle.goo_tables.specs.Changes.{progressed}
-use Rattle.goo_store.specs.Devices.{progress_in}
-use Rattle.goo_store.specs.Readable.{is_device, is_act, is_plant, reads}
-use Rattle.goo_store.specs.States.{known_device}
-use Rattle.goo_store.specs.Texts.{day_of}
-use Rattle.goo_store.proofs.Known.{text_same, text_itself}
+use Rattle.goo_kept.specs.Devices.{progress_in}
+use Rattle.goo_kept.specs.Readable.{is_device, is_act, is_plant, reads}
+use Rattle.goo_kept.specs.States.{known_device}
+use Rattle.goo_kept.specs.Texts.{day_of}
+use Rattle.goo_kept.proofs.Known.{text_same, text_itself}
 
 -- ---- the row of a device, once its progress is set
 

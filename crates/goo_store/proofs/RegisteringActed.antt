@@ -19,13 +19,13 @@ use Rattle.goo_columns.specs.Rows as row
 use Rattle.goo_tables.specs.Changes as change
 use Rattle.goo_tables.specs.Changes.{added}
 use Rattle.goo_store.specs.Acted.{IsActed}
-use Rattle.goo_store.specs.Devices.{device_row, progress_in}
-use Rattle.goo_store.specs.Kept.{AreKept}
-use Rattle.goo_store.specs.Readable.{is_device}
-use Rattle.goo_store.specs.States.{state_of, known_device}
+use Rattle.goo_kept.specs.Devices.{device_row, progress_in}
+use Rattle.goo_kept.specs.Kept.{AreKept}
+use Rattle.goo_kept.specs.Readable.{is_device}
+use Rattle.goo_kept.specs.States.{state_of, known_device}
 use Rattle.goo_store.proofs.CommandsActed.{progress_same}
-use Rattle.goo_store.proofs.Inserted.{here_too, swapped, all_inserted, map_inserted}
-use Rattle.goo_store.proofs.Known.{get-known, text_test, text_same}
+use Rattle.goo_kept.proofs.Inserted.{here_too, swapped, all_inserted, map_inserted}
+use Rattle.goo_kept.proofs.Known.{get-known, text_test, text_same}
 
 module _ {A : Type 0} (key : A → ℤ) (test : A → Bool) (x : A) where
   none_further : (y : A) (ys : List A) → find test (y ∷ ys) ≡ None → (test y ≡ false) × (find test ys ≡ None)

@@ -17,9 +17,9 @@ use Rattle.goo_rows.specs.Rows.{with, with_each, without}
 use Rattle.goo_columns.specs.Beside.{beside}
 use Rattle.goo_columns.specs.Rows.{Lot, lot_key, piece_key}
 use Rattle.goo_columns.specs.declared.piece.PieceRow.{PieceRow}
-use Rattle.goo_store.specs.Places.{piece_of}
-use Rattle.goo_store.proofs.Inserted.{here_too}
-use Rattle.goo_store.proofs.Known.{number_is}
+use Rattle.goo_kept.specs.Places.{piece_of}
+use Rattle.goo_kept.proofs.Inserted.{here_too}
+use Rattle.goo_kept.proofs.Known.{number_is}
 
 -- ---- how many rows begin at a number
 

@@ -17,9 +17,9 @@ use Rattle.goo_columns.specs.Beside.{beside}
 use Rattle.goo_columns.specs.declared.piece.PieceRow.{PieceRow}
 use Rattle.goo_list.specs.Rows.{certificates_of}
 use Rattle.goo_list.proofs.CertificateLemmas.{issued-rows}
-use Rattle.goo_store.specs.Readable.{is_piece, are_ends}
-use Rattle.goo_store.specs.Places.{rows_of}
-use Rattle.goo_store.specs.States.{state_of}
+use Rattle.goo_kept.specs.Readable.{is_piece, are_ends}
+use Rattle.goo_kept.specs.Places.{rows_of}
+use Rattle.goo_kept.specs.States.{state_of}
 use Rattle.goo_store.specs.Summing.{summed_for}
 
 abbrev within : PieceRow × Lot → Bool

@@ -12,11 +12,11 @@ use Rattle.goo_shelf.specs.Shelf.{progress_of}
 use Rattle.goo_columns.specs.Beside as joined
 use Rattle.goo_columns.specs.Rows.{Tables, Lot, lot_key}
 use Rattle.goo_columns.specs.Rows as row
-use Rattle.goo_store.specs.Devices.{progress_in, device_row}
-use Rattle.goo_store.specs.Kept.{AreReadable, IsKeptLot}
-use Rattle.goo_store.specs.Places.{piece_of}
-use Rattle.goo_store.specs.Readable.{is_receipt}
-use Rattle.goo_store.specs.States.{state_of, known_receipt}
+use Rattle.goo_kept.specs.Devices.{progress_in, device_row}
+use Rattle.goo_kept.specs.Kept.{AreReadable, IsKeptLot}
+use Rattle.goo_kept.specs.Places.{piece_of}
+use Rattle.goo_kept.specs.Readable.{is_receipt}
+use Rattle.goo_kept.specs.States.{state_of, known_receipt}
 
 -- the tables before and after it, and the state after it: pieces and receipts are as they were
 pub record IsActed (t after : Tables) (s : State) : Type 0 where

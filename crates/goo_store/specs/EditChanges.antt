@@ -5,8 +5,8 @@ use Rattle.goo_types.specs.declared.piece.Piece.{Piece}
 use Rattle.goo_ranges.specs.declared.edits.Edit.{Edit}
 use Rattle.goo_columns.specs.Rows.{Lot, lot_key}
 use Rattle.goo_columns.specs.declared.piece.PieceRow.{PieceRow}
-use Rattle.goo_store.specs.Places.{piece_of}
-use Rattle.goo_store.specs.Readable.{is_piece}
+use Rattle.goo_kept.specs.Places.{piece_of}
+use Rattle.goo_kept.specs.Readable.{is_piece}
 use Rattle.goo_store.specs.declared.change.Change.{Change}
 use Rattle.goo_store.specs.declared.change.Change.TheVariants.{DeletePiece, InsertPiece}
 

@@ -1,12 +1,5 @@
-pub mod Texts
-pub mod Places
-pub mod Devices
-pub mod Replies
-pub mod Records
-pub mod States
-pub mod Readable
-pub mod Kept
 pub mod Moments
+pub mod Holding
 pub mod Telling
 pub mod Summing
 pub mod Plants
@@ -17,3 +10,13 @@ pub mod Planned
 pub mod EditChanges
 pub mod Acted
 pub mod NewLots
+pub mod Carried
+pub mod LookingUp
+pub mod LotNumbers
+pub mod EditsGathered
+pub mod LotRows
+pub mod GatheredLots
+pub mod Carrying
+pub mod Standing
+pub mod Declaring
+pub mod Opening

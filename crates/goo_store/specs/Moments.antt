@@ -21,10 +21,10 @@ use Rattle.goo_columns.specs.Rows.{Tables, Lot, tables_of, kept_key, holder_row,
 use Rattle.goo_columns.specs.Stands.{Stands, Holds, Keeps, doubts}
 use Rattle.goo_spec.specs.State as registry
 use Rattle.goo_spec.specs.Sound.{IsSound}
-use Rattle.goo_store.specs.Places.{rows_of}
-use Rattle.goo_store.specs.Devices.{progress_in, device_row}
-use Rattle.goo_store.specs.States.{state_of}
-use Rattle.goo_store.specs.Kept.{AreReadable, IsKeptLot, AreKept}
+use Rattle.goo_kept.specs.Places.{rows_of}
+use Rattle.goo_kept.specs.Devices.{progress_in, device_row}
+use Rattle.goo_kept.specs.States.{state_of}
+use Rattle.goo_kept.specs.Kept.{AreReadable, IsKeptLot, AreKept}
 
 -- the tables as the connection sees them
 abbrev pub tables_in : State → Tables

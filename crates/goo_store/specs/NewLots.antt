@@ -7,10 +7,10 @@ use Rattle.goo_types.specs.declared.part.Part.{Part}
 use Rattle.goo_spec.specs.Lots.{key_of}
 use Rattle.goo_spec.specs.State.{text_cmp}
 use Rattle.goo_columns.specs.Rows.{Lot, lot_key}
-use Rattle.goo_store.specs.Kept.{IsKeptLot}
-use Rattle.goo_store.specs.Places.{lot_of}
-use Rattle.goo_store.specs.Readable.{is_lot}
-use Rattle.goo_store.specs.States.{known_lot}
+use Rattle.goo_kept.specs.Kept.{IsKeptLot}
+use Rattle.goo_kept.specs.Places.{lot_of}
+use Rattle.goo_kept.specs.Readable.{is_lot}
+use Rattle.goo_kept.specs.States.{known_lot}
 
 abbrev pub known_lots : List Lot → FinMap text_cmp LotFields
 known_lots lots = from_entries {R = text_cmp} (map known_lot lots)

@@ -5,9 +5,9 @@ use Rattle.goo_rows.specs.Rows.{edited_all}
 use Rattle.goo_shelf.specs.declared.plan.Plan.{Plan}
 use Rattle.goo_columns.specs.Rows.{Tables}
 use Rattle.goo_store.specs.Changes.{made_all, AreFor}
-use Rattle.goo_store.specs.Kept.{AreKept}
-use Rattle.goo_store.specs.Places.{rows_of}
-use Rattle.goo_store.specs.States.{state_of}
+use Rattle.goo_kept.specs.Kept.{AreKept}
+use Rattle.goo_kept.specs.Places.{rows_of}
+use Rattle.goo_kept.specs.States.{state_of}
 use Rattle.goo_store.specs.declared.change.Change.{Change}
 
 -- they can be made in turn, they leave the state after the plan's request and the rows after its edits, and the rules are kept

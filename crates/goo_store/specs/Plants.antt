@@ -3,7 +3,7 @@ use Rattle.std.specs.Prelude.{◌≡◌, ◌≤◌}
 use Rattle.goo_types.specs.declared.command.RegisterDevice.{RegisterDevice}
 use Rattle.goo_columns.specs.Rows as row
 use Rattle.goo_store.specs.declared.plants.Plant.{Plant}
-use Rattle.goo_store.specs.Texts.{day_of, support_of}
+use Rattle.goo_kept.specs.Texts.{day_of, support_of}
 
 -- column by column
 pub record IsPlantOf (p : row.Plant) (x : Plant) : Type 0 where

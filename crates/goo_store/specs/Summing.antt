@@ -1,21 +1,10 @@
--- Sums that are kept by device, and what they come to.
-use Rattle.std.specs.Prelude.{ℕ, ◌%◌, List, sum_by, Option, Some, None}
-use Rattle.std.specs.BTreeMap.{BTreeMap, get}
+-- What sums by device come to.
+use Rattle.std.specs.Prelude.{ℕ, ◌%◌, List, sum_by}
 use Rattle.goo_types.specs.declared.command.Declare.{Declare}
 use Rattle.goo_types.specs.declared.piece.Piece.{Piece}
-use Rattle.goo_spec.specs.State.{text_cmp}
 use Rattle.goo_spec.specs.Energy.{certificate, net_of}
 use Rattle.goo_shelf.specs.declared.found.DeviceTotals.{DeviceTotals}
 use Rattle.goo_list.specs.Rows.{issued_in}
-
--- no sum yet is 0
-abbrev pub amount : Option ℕ → ℕ
-amount None = 0
-amount (Some n) = n
-
--- the sum that stands under a device
-abbrev pub sum_at : BTreeMap (List ℕ) ℕ → List ℕ → ℕ
-sum_at sums device = amount (get text_cmp sums device)
 
 -- a device's energy by these declarations, and its certificates in these rows
 abbrev pub summed_for : ℕ → List Declare → List Piece → List ℕ → DeviceTotals

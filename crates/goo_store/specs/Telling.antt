@@ -5,8 +5,8 @@ use Rattle.sqlite.specs.declared.error.Error.TheVariants.{SqliteFailure}
 use Rattle.sqlite.specs.declared.error.ErrorCode.TheVariants.{OutOfMemory}
 use Rattle.goo_types.specs.declared.fault.Fault.{Fault}
 use Rattle.goo_types.specs.declared.fault.Fault.TheVariants as fault
-use Rattle.goo_store.specs.declared.open_fault.OpenFault.{OpenFault}
-use Rattle.goo_store.specs.declared.open_fault.OpenFault.TheVariants as opening
+use Rattle.goo_opening.specs.declared.fault.OpenFault.{OpenFault}
+use Rattle.goo_opening.specs.declared.fault.OpenFault.TheVariants as opening
 use Rattle.goo_store.specs.declared.trouble.Trouble.{Trouble}
 use Rattle.goo_store.specs.declared.trouble.Trouble.TheVariants.{Memory, Refused}
 

@@ -4,7 +4,7 @@ ghost use Rattle.std.specs.Prelude.{◌≡◌, ◌++◌, [], ◌∷◌, IfOk, On
 ghost use Rattle.sqlite.specs.Held.{state as view};
 ghost use Rattle.goo_columns.specs.Rows.{declaration_in};
 ghost use Rattle.goo_shelf.specs.Shelf.{Looks};
-ghost use Rattle.goo_store.specs.Devices.{declaration_of};
+ghost use Rattle.goo_kept.specs.Devices.{declaration_of};
 ghost use Rattle.goo_store.specs.Moments.{moment};
 ghost use Rattle.goo_store.specs.Telling.{Passes};
 

@@ -5,10 +5,10 @@ ghost use Rattle.std.specs.FinMap.{get};
 ghost use Rattle.sqlite.specs.Held.{state as view};
 ghost use Rattle.goo_columns.specs.Rows.{device_in};
 ghost use Rattle.goo_shelf.specs.Shelf.{Looks, progress_of};
-ghost use Rattle.goo_store.specs.Devices.{device_of, progress_in};
+ghost use Rattle.goo_kept.specs.Devices.{device_of, progress_in};
 ghost use Rattle.goo_store.specs.Moments.{moment};
 ghost use Rattle.goo_store.specs.Telling.{Passes};
-ghost use Rattle.goo_store.specs.Texts.{day_of};
+ghost use Rattle.goo_kept.specs.Texts.{day_of};
 
 use crate::plants::read_plant;
 use crate::sql_shelf::SqlShelf;

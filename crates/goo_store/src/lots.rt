@@ -9,7 +9,7 @@ ghost use Rattle.goo_spec.specs.Lots.{lot_key};
 ghost use Rattle.goo_columns.specs.Rows.{lot_in};
 ghost use Rattle.goo_shelf.specs.Shelf.{Looks};
 ghost use Rattle.goo_store.specs.Moments.{moment};
-ghost use Rattle.goo_store.specs.Places.{lot_of};
+ghost use Rattle.goo_kept.specs.Places.{lot_of};
 ghost use Rattle.goo_store.specs.Telling.{Passes};
 
 use crate::plants::read_plant;

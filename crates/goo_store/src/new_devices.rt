@@ -4,10 +4,10 @@ ghost use Rattle.std.specs.Prelude.{◌≡◌, true, pos, Some, None, IfOk};
 ghost use Rattle.goo_spec.specs.RegisterDevice.{device_of};
 ghost use Rattle.goo_columns.specs.Rows.{device_in, plant_in};
 ghost use Rattle.goo_tables.specs.Changes.{DeviceFits};
-ghost use Rattle.goo_store.specs.Devices.{progress_in};
+ghost use Rattle.goo_kept.specs.Devices.{progress_in};
 ghost use Rattle.goo_store.specs.Plants.{IsRegistered};
-ghost use Rattle.goo_store.specs.Readable.{is_device, is_plant};
-ghost use Rattle.goo_store.specs.States.{known_device};
+ghost use Rattle.goo_kept.specs.Readable.{is_device, is_plant};
+ghost use Rattle.goo_kept.specs.States.{known_device};
 
 use crate::new_rows::day_string;
 use goo_columns::device::DeviceRow;

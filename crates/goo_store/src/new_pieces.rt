@@ -3,8 +3,8 @@
 ghost use Rattle.std.specs.Prelude.{◌≡◌, ◌<◌, ◌^◌, true, IfOk};
 ghost use Rattle.goo_columns.specs.Rows.{Lot as LotOf};
 ghost use Rattle.goo_tables.specs.Changes.{PieceFits};
-ghost use Rattle.goo_store.specs.Places.{lot_of, piece_of, place_of};
-ghost use Rattle.goo_store.specs.Readable.{is_act, is_piece, names_act};
+ghost use Rattle.goo_kept.specs.Places.{lot_of, piece_of, place_of};
+ghost use Rattle.goo_kept.specs.Readable.{is_act, is_piece, names_act};
 
 use crate::trouble::Trouble;
 use goo_columns::piece::PieceRow;

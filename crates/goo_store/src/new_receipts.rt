@@ -4,8 +4,8 @@ ghost use Rattle.std.specs.Prelude.{◌≡◌, ◌<◌, ◌^◌, true, pos, Some
 ghost use Rattle.goo_columns.specs.Rows.{receipt_in};
 ghost use Rattle.goo_tables.specs.Changes.{ReceiptFits};
 ghost use Rattle.goo_store.specs.Acted.{IsReceiptOf};
-ghost use Rattle.goo_store.specs.Readable.{is_reply};
-ghost use Rattle.goo_store.specs.Replies.{reply_of};
+ghost use Rattle.goo_kept.specs.Readable.{is_reply};
+ghost use Rattle.goo_kept.specs.Replies.{reply_of};
 
 use crate::trouble::Trouble;
 use goo_columns::receipt::ReceiptRow;

@@ -4,9 +4,9 @@ ghost use Rattle.std.specs.Prelude.{◌≡◌, true, false, pos, string_bytes, I
 ghost use Rattle.goo_types.specs.Day.{day_reading};
 ghost use Rattle.goo_shelf.specs.Shelf.{cancellation_on};
 ghost use Rattle.goo_columns.specs.Rows.{account_in, cancellation_in, holder_in, withdrawal_in};
-ghost use Rattle.goo_store.specs.Readable.{is_account, is_cancellation, is_holder, is_peer, is_withdrawal, reads};
-ghost use Rattle.goo_store.specs.States.{known_account, known_cancellation, known_holder, known_peer, known_withdrawal};
-ghost use Rattle.goo_store.specs.Texts.{day_of};
+ghost use Rattle.goo_kept.specs.Readable.{is_account, is_cancellation, is_holder, is_peer, is_withdrawal, reads};
+ghost use Rattle.goo_kept.specs.States.{known_account, known_cancellation, known_holder, known_peer, known_withdrawal};
+ghost use Rattle.goo_kept.specs.Texts.{day_of};
 
 use goo_columns::account::AccountRow;
 use goo_columns::cancellation::CancellationRow;

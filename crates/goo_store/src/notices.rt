@@ -6,7 +6,7 @@ ghost use Rattle.sqlite.specs.Held.{state as view};
 ghost use Rattle.goo_columns.specs.Rows.{notice_out_in, notice_in_in};
 ghost use Rattle.goo_shelf.specs.Shelf.{Looks, arrival_of};
 ghost use Rattle.goo_store.specs.Moments.{moment};
-ghost use Rattle.goo_store.specs.Records.{sent_of, arrived_of};
+ghost use Rattle.goo_kept.specs.Records.{sent_of, arrived_of};
 ghost use Rattle.goo_store.specs.Telling.{Passes};
 
 use crate::sql_shelf::SqlShelf;

@@ -3,7 +3,7 @@
 ghost use Rattle.std.specs.Prelude.{◌≡◌, ◌++◌, [], ◌∷◌, IfOk, OnOk, IsTrue, map, option_map};
 ghost use Rattle.goo_types.specs.Piece.{IsRising};
 ghost use Rattle.goo_columns.specs.Beside.{joined_in};
-ghost use Rattle.goo_store.specs.Places.{place_of, piece_of};
+ghost use Rattle.goo_kept.specs.Places.{place_of, piece_of};
 ghost use Rattle.goo_store.specs.Telling.{Passes};
 ghost use Rattle.goo_store.specs.Near.{reaching};
 

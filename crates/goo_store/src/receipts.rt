@@ -8,7 +8,7 @@ ghost use Rattle.goo_spec.specs.Step.{is_kept};
 ghost use Rattle.goo_columns.specs.Rows.{receipt_in};
 ghost use Rattle.goo_shelf.specs.Shelf.{Looks, receipt_of as seen_from};
 ghost use Rattle.goo_store.specs.Moments.{moment};
-ghost use Rattle.goo_store.specs.Replies.{issued_of, reply_of, receipt_of};
+ghost use Rattle.goo_kept.specs.Replies.{issued_of, reply_of, receipt_of};
 ghost use Rattle.goo_store.specs.Telling.{Passes};
 
 use crate::numbers;

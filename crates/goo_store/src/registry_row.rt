@@ -1,13 +1,15 @@
 //! The registry itself, as its row tells of it.
 
-ghost use Rattle.std.specs.Prelude.{◌≡◌, Some, option_map};
+ghost use Rattle.std.specs.Prelude.{◌≡◌, Some, false, option_map, IsTrue, OnOk};
+ghost use Rattle.sqlite.specs.State.{HasCleanDisk};
 ghost use Rattle.sqlite.specs.Held.{state as view};
 ghost use Rattle.goo_columns.specs.Rows.{Meta, meta_in};
 ghost use Rattle.goo_shelf.specs.Counters.{counters_of, next_numbers};
 ghost use Rattle.goo_shelf.specs.Shelf.{Looks};
+ghost use Rattle.goo_store.specs.LookingUp.{LooksUp};
 ghost use Rattle.goo_store.specs.Moments.{moment};
 ghost use Rattle.goo_store.specs.Telling.{Passes};
-ghost use Rattle.goo_store.specs.Texts.{day_of};
+ghost use Rattle.goo_kept.specs.Texts.{day_of};
 
 use crate::sql_shelf::SqlShelf;
 use crate::trouble::{Trouble, told};
@@ -18,13 +20,23 @@ use goo_tables::meta::find_meta;
 use goo_types::day::Day;
 use goo_types::fault::Fault;
 use goo_types::registry_code::RegistryCode;
-use sqlite::{Alter, Error};
+use sqlite::{Alter, Connection, Error};
+use std::alloc::Global;
 
 /// The row, which is there.
 fn row(found: Result<Option<MetaRow>, Error>) -> Result<MetaRow, Trouble>
     ensures { Passes found result (λ found row. found ≡ Some row) }
 {
     found?.ok_or(Trouble::Refused)
+}
+
+/// The registry's own row.
+pub fn own_row<S: Alter>(alloc: Global, conn: &mut Connection<S>) -> Result<MetaRow, Trouble>
+    ensures gathers { LooksUp (view S.Store conn.old) (view S.Store conn.new) result (λ t row. t.meta ≡ meta_in row) }
+    ensures works { OnOk result (HasCleanDisk (view S.Store conn.new) → IsTrue (view S.Store conn.new).is_open) }
+    ensures outside { conn.old.in_transaction ≡ false → conn.new.in_transaction ≡ false }
+{
+    row(find_meta(alloc, conn))
 }
 
 /// The registry's own code.

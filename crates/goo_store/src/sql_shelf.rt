@@ -3,16 +3,18 @@
 ghost use Rattle.std.specs.Prelude.{◌≡◌, [], false, IsTrue, IfOk, IfErr};
 ghost use Rattle.sqlite.specs.Held.{state as view};
 ghost use Rattle.sqlite.specs.State.{HasCleanDisk, Survives};
+ghost use Rattle.goo_rows.specs.Rows.{AreRowsOf};
 ghost use Rattle.goo_spec.specs.Created.{created};
+ghost use Rattle.goo_spec.specs.Sound.{IsSound};
 ghost use Rattle.goo_columns.specs.Stands.{Holds};
 ghost use Rattle.goo_shelf.specs.Shelf.{IsReady};
 ghost use Rattle.goo_tables.specs.Changes.{begun};
 ghost use Rattle.goo_store.specs.Creating.{meta_of};
 ghost use Rattle.goo_store.specs.Moments.{IsWell, IsWell-prop, count, moment};
-ghost use Rattle.goo_store.specs.declared.open_fault.OpenFault.TheVariants.{AlreadyThere};
+ghost use Rattle.goo_opening.specs.declared.fault.OpenFault.TheVariants.{AlreadyThere};
 
 use crate::creating::{begin, is_empty};
-use crate::open_fault::OpenFault;
+use goo_opening::fault::OpenFault;
 use goo_types::day::Day;
 use goo_types::registry_code::RegistryCode;
 use goo_types::serial::Serial;
@@ -72,6 +74,8 @@ impl<S: Alter> SqlShelf<S> {
         requires { conn.in_transaction ≡ false }
         ensures state { IfOk result (λ shelf. (moment (view S.Store shelf.conn) shelf.refused).doubts ≡ 0 → (moment (view S.Store shelf.conn) shelf.refused).state ≡ created code today next_serial) }
         ensures rows { IfOk result (λ shelf. (moment (view S.Store shelf.conn) shelf.refused).doubts ≡ 0 → (moment (view S.Store shelf.conn) shelf.refused).rows ≡ []) }
+        ensures sound { IfOk result (λ shelf. (moment (view S.Store shelf.conn) shelf.refused).doubts ≡ 0 → IsSound (moment (view S.Store shelf.conn) shelf.refused).state) }
+        ensures rows_fit { IfOk result (λ shelf. (moment (view S.Store shelf.conn) shelf.refused).doubts ≡ 0 → AreRowsOf (moment (view S.Store shelf.conn) shelf.refused).state.at (moment (view S.Store shelf.conn) shelf.refused).rows) }
         ensures ready { IfOk result (λ shelf. IsReady (moment (view S.Store shelf.conn) shelf.refused)) }
         ensures there { IfErr result (λ e. e.1 ≡ AlreadyThere → e.0 ≡ conn) }
         ensures kept { IfErr result (λ e. HasCleanDisk (view S.Store e.0) → IsTrue (view S.Store e.0).is_open → ((view S.Store e.0).now ≡ (view S.Store conn).now) × ((view S.Store e.0).committed ≡ (view S.Store conn).committed)) }

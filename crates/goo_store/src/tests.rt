@@ -2,8 +2,8 @@
 
 ghost use Rattle.std.specs.Prelude.{◌≡◌, false};
 
-use crate::open_fault::OpenFault;
 use crate::sql_shelf::SqlShelf;
+use goo_opening::fault::OpenFault;
 use goo_types::account_no::AccountNo;
 use goo_types::act_no::ActNo;
 use goo_types::day::Day;

@@ -1,7 +1,7 @@
 //! Texts that columns keep, as values.
 
 ghost use Rattle.std.specs.Prelude.{◌≡◌, IfOk};
-ghost use Rattle.goo_store.specs.Texts.{day_of, support_of, notice_of};
+ghost use Rattle.goo_kept.specs.Texts.{day_of, support_of, notice_of};
 
 use crate::trouble::Trouble;
 use goo_notice::{NoticeFault, read};

@@ -1,7 +1,9 @@
 //! Why a call of the database, or the reading of what it showed, fails.
 
-ghost use Rattle.goo_store.specs.Telling.{IsTroubleOf, Tells};
+ghost use Rattle.std.specs.Prelude.{◌≡◌};
+ghost use Rattle.goo_store.specs.Telling.{IsTroubleOf, Tells, open_fault_of};
 
+use goo_opening::fault::OpenFault;
 use goo_types::fault::Fault;
 use sqlite::{Error, ErrorCode};
 use std::alloc::{AllocError, AllocFailed};
@@ -35,6 +37,17 @@ impl From<AllocError> for Trouble {
 impl<T: Drop> From<AllocFailed<T>> for Trouble {
     fn from(_error: AllocFailed<T>) -> Trouble {
         Trouble::Memory
+    }
+}
+
+impl From<Trouble> for OpenFault {
+    fn from(trouble: Trouble) -> OpenFault
+        ensures { result ≡ open_fault_of trouble }
+    {
+        match trouble {
+            Trouble::Memory => OpenFault::Memory,
+            Trouble::Refused => OpenFault::Store,
+        }
     }
 }
 

@@ -25,20 +25,6 @@ fn request(caller: &str, key: &[u8], command: Command) -> Result<Request, Fail> 
     })
 }
 
-/// Requests come to these outcomes, one after another.
-fn runs(
-    rt: &impl Abort,
-    desk: &mut Desk,
-    requests: &[Request],
-    wanted: &[Outcome],
-) -> Result<(), Fail> {
-    let Ok(outcomes) = desk.registry.run(desk.alloc, requests) else {
-        return Err(Fail::new("the run stopped"));
-    };
-    assert_eq!(rt; outcomes.as_slice(), wanted);
-    Ok(())
-}
-
 /// A hundred certificates are given, and the date doesn't move.
 fn gives_and_stays(rt: &impl Abort, desk: &mut Desk) -> Result<(), Fail> {
     let given = command_of(&transfer(1, 2, serials(100, 199)))?;
@@ -48,7 +34,7 @@ fn gives_and_stays(rt: &impl Abort, desk: &mut Desk) -> Result<(), Fail> {
         request(ISSUER, b"date", date)?,
     ];
     let wanted = [moved(100), refused(Refusal::DateBackwards)];
-    runs(rt, desk, &requests, &wanted)
+    desk.runs(rt, &requests, &wanted)
 }
 
 #[test]
@@ -56,7 +42,7 @@ fn two_requests_and_none(rt: HostRuntime) -> Result<(), Fail> {
     let mut desk = april(&rt, rt.alloc())?;
     gives_and_stays(&rt, &mut desk)?;
     desk.shows(&rt, 2, &[(100, 199, held(2))])?;
-    runs(&rt, &mut desk, &[], &[])?;
+    desk.runs(&rt, &[], &[])?;
     desk.shows(&rt, 2, &[(100, 199, held(2))])
 }
 

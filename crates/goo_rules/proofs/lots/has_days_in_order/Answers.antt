@@ -1,5 +1,5 @@
 use Rattle.goo_columns.specs.Rows.{lot_in}
-use Rattle.goo_store.specs.Places.{lot_of}
+use Rattle.goo_kept.specs.Places.{lot_of}
 use Rattle.goo_rules.proofs.lots.has_days_in_order.Goals as goal
 
 pub returns-in-Some : goal.returns-in-Some

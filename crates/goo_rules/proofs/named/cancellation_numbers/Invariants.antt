@@ -5,5 +5,5 @@ use Rattle.goo_columns.specs.Rows.{cancellation_in}
 use Rattle.goo_rules.specs.WellKept.{has_cancellation}
 use Rattle.goo_rules.proofs.named.cancellation_numbers.Given as goal
 
-abbrev pub invariant-loop-row : goal.invariant-loop-row
-invariant-loop-row l = (n : ℕ) → contains nat_cmp l.set n ≡ has_cancellation (map cancellation_in (take l.row-index l.rows)) n
+abbrev pub invariant-loop-cancellation : goal.invariant-loop-cancellation
+invariant-loop-cancellation l = (n : ℕ) → contains nat_cmp l.set n ≡ has_cancellation (map cancellation_in (take l.cancellation-index l.rows)) n

@@ -5,5 +5,5 @@ use Rattle.goo_columns.specs.Rows.{notice_out_in}
 use Rattle.goo_rules.specs.WellKept.{has_sent}
 use Rattle.goo_rules.proofs.named.sent_numbers.Given as goal
 
-abbrev pub invariant-loop-row : goal.invariant-loop-row
-invariant-loop-row l = (n : ℕ) → contains nat_cmp l.set n ≡ has_sent (map notice_out_in (take l.row-index l.rows)) n
+abbrev pub invariant-loop-notice : goal.invariant-loop-notice
+invariant-loop-notice l = (n : ℕ) → contains nat_cmp l.set n ≡ has_sent (map notice_out_in (take l.notice-index l.rows)) n

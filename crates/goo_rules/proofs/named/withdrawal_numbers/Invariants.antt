@@ -5,5 +5,5 @@ use Rattle.goo_columns.specs.Rows.{withdrawal_in}
 use Rattle.goo_rules.specs.WellKept.{has_withdrawal}
 use Rattle.goo_rules.proofs.named.withdrawal_numbers.Given as goal
 
-abbrev pub invariant-loop-row : goal.invariant-loop-row
-invariant-loop-row l = (n : ℕ) → contains nat_cmp l.set n ≡ has_withdrawal (map withdrawal_in (take l.row-index l.rows)) n
+abbrev pub invariant-loop-withdrawal : goal.invariant-loop-withdrawal
+invariant-loop-withdrawal l = (n : ℕ) → contains nat_cmp l.set n ≡ has_withdrawal (map withdrawal_in (take l.withdrawal-index l.rows)) n

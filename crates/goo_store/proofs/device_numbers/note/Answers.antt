@@ -1,6 +1,6 @@
 use Rattle.std.proofs.Common.{rules}
 use Rattle.goo_columns.specs.Rows.{device_in}
-use Rattle.goo_store.proofs.DeviceLemmas.{noted_row}
+use Rattle.goo_kept.proofs.DeviceLemmas.{noted_row}
 use Rattle.goo_store.proofs.device_numbers.note.Goals as goal
 
 pub returns-in-None : goal.returns-in-None

@@ -2,9 +2,9 @@ use Rattle.std.proofs.Common.{◌∙◌, ap}
 use Rattle.goo_types.specs.Day.{day_reading}
 use Rattle.goo_types.proofs.DayLemmas.{day_reading-day_text}
 use Rattle.goo_columns.proofs.Results.{if_ok}
-use Rattle.goo_store.specs.Readable.{reads}
-use Rattle.goo_store.specs.Texts.{day_of}
-use Rattle.goo_store.proofs.Known.{day_back}
+use Rattle.goo_kept.specs.Readable.{reads}
+use Rattle.goo_kept.specs.Texts.{day_of}
+use Rattle.goo_kept.proofs.Known.{day_back}
 use Rattle.goo_store.proofs.new_rows.day_string.Goals as goal
 
 pub returns : goal.returns

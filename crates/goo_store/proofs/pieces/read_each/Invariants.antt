@@ -1,6 +1,6 @@
 use Rattle.std.proofs.Common.{◌≡◌, ◌++◌, map, drop}
 use Rattle.goo_columns.specs.Beside.{joined_in}
-use Rattle.goo_store.specs.Places.{piece_of}
+use Rattle.goo_kept.specs.Places.{piece_of}
 use Rattle.goo_store.proofs.pieces.read_each.Given as goal
 
 abbrev pub invariant-loop-row : goal.invariant-loop-row

@@ -1,7 +1,7 @@
 use Rattle.std.proofs.Common.{◌∙◌, ap, map}
 use Rattle.sqlite.specs.Held.{state as view}
 use Rattle.goo_store.specs.Moments.{tables_in}
-use Rattle.goo_store.specs.Places.{rows_of, piece_of}
+use Rattle.goo_kept.specs.Places.{rows_of, piece_of}
 use Rattle.goo_store.proofs.Looking.{looked, refused_look, well}
 use Rattle.goo_store.proofs.WholeLemmas.{all_within}
 use Rattle.goo_store.proofs.sql_shelf.SqlShelf.all_rows.Goals as goal

@@ -4,9 +4,9 @@ use Rattle.std.proofs.Common.{◌&&◌, option_map}
 use Rattle.std.specs.Ordering.{int_eq}
 use Rattle.goo_shelf.specs.Shelf.{arrival_of}
 use Rattle.goo_columns.specs.Rows.{notice_in_in}
-use Rattle.goo_store.specs.Records.{arrived_of}
-use Rattle.goo_store.proofs.Known.{known_kept, notice_test, notice_total}
-use Rattle.goo_store.specs.States.{state_of}
+use Rattle.goo_kept.specs.Records.{arrived_of}
+use Rattle.goo_kept.proofs.Known.{known_kept, notice_test, notice_total}
+use Rattle.goo_kept.specs.States.{state_of}
 use Rattle.goo_store.proofs.Looking.{looked, refused_look, well}
 use Rattle.goo_store.proofs.sql_shelf.SqlShelf.arrival_of.Goals as goal
 

@@ -1,16 +1,17 @@
 use Rattle.std.proofs.Common.{◌≡◌, ◌∙◌, ap, sym, subst}
 use Rattle.sqlite.specs.Held.{state as view}
 use Rattle.goo_spec.specs.Created.{created}
+use Rattle.goo_list.proofs.CertificateLemmas.{certificates-rows}
 use Rattle.goo_columns.specs.Stands.{doubts}
 use Rattle.goo_store.specs.Moments.{count, tables_in}
-use Rattle.goo_store.specs.Places.{rows_of}
-use Rattle.goo_store.specs.States.{state_of}
+use Rattle.goo_kept.specs.Places.{rows_of}
+use Rattle.goo_kept.specs.States.{state_of}
 use Rattle.goo_store.specs.Telling.{open_fault_of}
-use Rattle.goo_store.specs.declared.open_fault.OpenFault.TheVariants.{AlreadyThere}
+use Rattle.goo_opening.specs.declared.fault.OpenFault.TheVariants.{AlreadyThere}
 use Rattle.goo_store.specs.declared.trouble.Trouble.{Trouble}
 use Rattle.goo_store.specs.declared.trouble.Trouble.TheVariants.{Memory, Refused}
 use Rattle.goo_store.proofs.Created.{begun_state, created_tables, created_well}
-use Rattle.goo_store.proofs.Holding.{is_sure, safe}
+use Rattle.goo_store.specs.Holding.{is_sure, safe}
 use Rattle.goo_store.proofs.sql_shelf.SqlShelf.create.Goals as goal
 
 pub over-requires-clause-well : goal.over-requires-clause-well
@@ -28,6 +29,13 @@ unfolding rows_of
 returns-in-Ok-clause-rows g c =
     subst (λ conn. doubts (view g.S.Store conn) ≡ 0 → rows_of (tables_in (view g.S.Store conn)) ≡ Rattle.std.specs.Prelude.[]) (sym c.over.ensures.conn)
     (λ none. ap rows_of (created_tables c.args.code c.args.today c.args.next_serial c.in-Ok.ensures.limits (view g.S.Store c.begin.new.conn) c.in-Ok.ensures.done none))
+
+pub returns-in-Ok-clause-sound : goal.returns-in-Ok-clause-sound
+returns-in-Ok-clause-sound g c none = (c.over.result.well.kept none).sound
+
+pub returns-in-Ok-clause-rows_fit : goal.returns-in-Ok-clause-rows_fit
+unfolding state_of
+returns-in-Ok-clause-rows_fit g c none = certificates-rows (rows_of (tables_in (view g.S.Store c.over.result.conn))) (c.over.result.well.kept none).rising
 
 pub returns-in-Ok-clause-ready : goal.returns-in-Ok-clause-ready
 returns-in-Ok-clause-ready g c = record {

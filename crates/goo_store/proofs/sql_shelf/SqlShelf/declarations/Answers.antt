@@ -1,7 +1,7 @@
 use Rattle.std.proofs.Common.{◌∙◌, ap, map}
-use Rattle.goo_store.specs.Devices.{declaration_of}
+use Rattle.goo_kept.specs.Devices.{declaration_of}
 use Rattle.sqlite.specs.Held.{state as view}
-use Rattle.goo_store.specs.States.{state_of}
+use Rattle.goo_kept.specs.States.{state_of}
 use Rattle.goo_store.proofs.Looking.{looked, refused_look, well}
 use Rattle.goo_store.proofs.sql_shelf.SqlShelf.declarations.Goals as goal
 

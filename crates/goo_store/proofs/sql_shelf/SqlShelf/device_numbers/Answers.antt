@@ -1,11 +1,11 @@
 use Rattle.std.proofs.Common.{◌∙◌, ap, map}
 use Rattle.goo_spec.specs.State.{text_cmp}
 use Rattle.std.specs.FinMap.{from_entries, keys}
-use Rattle.goo_store.specs.Devices.{device_entry}
-use Rattle.goo_store.proofs.DeviceLemmas.{entries_same}
+use Rattle.goo_kept.specs.Devices.{device_entry}
+use Rattle.goo_kept.proofs.DeviceLemmas.{entries_same}
 use Rattle.goo_store.specs.Moments.{tables_in}
 use Rattle.sqlite.specs.Held.{state as view}
-use Rattle.goo_store.specs.States.{state_of}
+use Rattle.goo_kept.specs.States.{state_of}
 use Rattle.goo_store.proofs.Looking.{looked, refused_look, well}
 use Rattle.goo_store.proofs.sql_shelf.SqlShelf.device_numbers.Goals as goal
 

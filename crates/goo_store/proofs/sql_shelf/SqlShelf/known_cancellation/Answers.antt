@@ -2,9 +2,9 @@ use Rattle.std.proofs.Common.{◌∙◌, ap, pos}
 use Rattle.sqlite.specs.Held.{state as view}
 use Rattle.std.specs.Cmp.{nat_cmp_total}
 use Rattle.std.specs.Ordering.{int_eq}
-use Rattle.goo_store.specs.Records.{cancellation_of}
-use Rattle.goo_store.proofs.Known.{known_row, number_test}
-use Rattle.goo_store.specs.States.{state_of}
+use Rattle.goo_kept.specs.Records.{cancellation_of}
+use Rattle.goo_kept.proofs.Known.{known_row, number_test}
+use Rattle.goo_kept.specs.States.{state_of}
 use Rattle.goo_store.proofs.Looking.{looked, refused_look, well}
 use Rattle.goo_store.proofs.sql_shelf.SqlShelf.known_cancellation.Goals as goal
 

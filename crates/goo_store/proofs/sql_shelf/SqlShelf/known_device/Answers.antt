@@ -2,9 +2,9 @@ use Rattle.std.proofs.Common.{◌∙◌, ap}
 use Rattle.sqlite.specs.Held.{state as view}
 use Rattle.std.specs.Cmp.Lexicographic.{nat_list_cmp_total}
 use Rattle.sqlite_typed.specs.Tests.{bytes_eq}
-use Rattle.goo_store.specs.Devices.{device_of}
-use Rattle.goo_store.proofs.Known.{known_kept, text_test}
-use Rattle.goo_store.specs.States.{state_of}
+use Rattle.goo_kept.specs.Devices.{device_of}
+use Rattle.goo_kept.proofs.Known.{known_kept, text_test}
+use Rattle.goo_kept.specs.States.{state_of}
 use Rattle.goo_store.proofs.Looking.{looked, refused_look, well}
 use Rattle.goo_store.proofs.sql_shelf.SqlShelf.known_device.Goals as goal
 

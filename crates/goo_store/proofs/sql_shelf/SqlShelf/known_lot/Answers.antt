@@ -5,9 +5,9 @@ use Rattle.std.specs.Cmp.Lexicographic.{nat_list_cmp_total}
 use Rattle.std.specs.Ordering.{int_eq}
 use Rattle.sqlite_typed.specs.Tests.{bytes_eq}
 use Rattle.goo_spec.specs.Lots.{key_of, lot_key}
-use Rattle.goo_store.specs.Places.{lot_of}
-use Rattle.goo_store.proofs.Known.{known_row, lot_test}
-use Rattle.goo_store.specs.States.{state_of}
+use Rattle.goo_kept.specs.Places.{lot_of}
+use Rattle.goo_kept.proofs.Known.{known_row, lot_test}
+use Rattle.goo_kept.specs.States.{state_of}
 use Rattle.goo_store.proofs.Looking.{looked, refused_look, well}
 use Rattle.goo_store.proofs.sql_shelf.SqlShelf.known_lot.Goals as goal
 

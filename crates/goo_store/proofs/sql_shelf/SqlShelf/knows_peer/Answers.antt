@@ -1,10 +1,10 @@
 use Rattle.std.proofs.Common.{◌∙◌, ap, sym, refl, pos, is_some, option_map}
 use Rattle.sqlite.specs.Held.{state as view}
 use Rattle.std.specs.Cmp.{nat_cmp_total}
-use Rattle.goo_store.proofs.Known.{known_kept, number_test}
+use Rattle.goo_kept.proofs.Known.{known_kept, number_test}
 use Rattle.sqlite_keyed.proofs.SliceLemmas.{is_some-map}
 use Rattle.std.specs.Ordering.{int_eq}
-use Rattle.goo_store.specs.States.{state_of}
+use Rattle.goo_kept.specs.States.{state_of}
 use Rattle.goo_store.proofs.Looking.{looked, refused_look, well}
 use Rattle.goo_store.proofs.sql_shelf.SqlShelf.knows_peer.Goals as goal
 

@@ -1,5 +1,5 @@
 use Rattle.sqlite.specs.Held.{state as view}
-use Rattle.goo_store.specs.States.{state_of}
+use Rattle.goo_kept.specs.States.{state_of}
 use Rattle.goo_store.proofs.Looking.{looked, refused_look, well}
 use Rattle.goo_store.proofs.sql_shelf.SqlShelf.next_numbers.Goals as goal
 

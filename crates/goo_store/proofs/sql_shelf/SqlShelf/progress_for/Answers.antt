@@ -1,7 +1,7 @@
 use Rattle.std.proofs.Common.{◌∙◌, ap}
 use Rattle.sqlite.specs.Held.{state as view}
-use Rattle.goo_store.specs.Devices.{progress_in}
-use Rattle.goo_store.specs.States.{state_of}
+use Rattle.goo_kept.specs.Devices.{progress_in}
+use Rattle.goo_kept.specs.States.{state_of}
 use Rattle.goo_store.proofs.Looking.{looked, refused_look, well}
 use Rattle.goo_store.proofs.sql_shelf.SqlShelf.progress_for.Goals as goal
 

@@ -4,9 +4,9 @@ use Rattle.std.proofs.Common.{◌&&◌, option_map}
 use Rattle.sqlite_typed.specs.Tests.{bytes_eq}
 use Rattle.goo_shelf.specs.Shelf.{receipt_of as seen_from}
 use Rattle.goo_columns.specs.Rows.{receipt_in}
-use Rattle.goo_store.specs.Replies.{receipt_of}
-use Rattle.goo_store.proofs.Known.{known_kept, receipt_test, receipt_total}
-use Rattle.goo_store.specs.States.{state_of}
+use Rattle.goo_kept.specs.Replies.{receipt_of}
+use Rattle.goo_kept.proofs.Known.{known_kept, receipt_test, receipt_total}
+use Rattle.goo_kept.specs.States.{state_of}
 use Rattle.goo_store.proofs.Looking.{looked, refused_look, well}
 use Rattle.goo_store.proofs.sql_shelf.SqlShelf.receipt_for.Goals as goal
 

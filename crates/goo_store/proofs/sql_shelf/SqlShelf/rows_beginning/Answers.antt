@@ -3,8 +3,8 @@ use Rattle.sqlite.specs.Held.{state as view}
 use Rattle.std.proofs.Common.{nat_le, ◌&&◌}
 use Rattle.goo_columns.specs.Beside.{pieces_beside}
 use Rattle.goo_store.specs.Moments.{tables_in}
-use Rattle.goo_store.specs.Places.{rows_of}
-use Rattle.goo_store.proofs.RowsFound.{filtered}
+use Rattle.goo_kept.specs.Places.{rows_of}
+use Rattle.goo_kept.proofs.RowsFound.{filtered}
 use Rattle.goo_store.proofs.Looking.{looked, refused_look, well}
 use Rattle.goo_store.proofs.sql_shelf.SqlShelf.rows_beginning.Goals as goal
 

@@ -6,8 +6,8 @@ use Rattle.std.specs.Ordering.{int_eq}
 use Rattle.sqlite_typed.specs.Tests.{bytes_lt, both_and}
 use Rattle.goo_columns.specs.Beside.{pieces_beside}
 use Rattle.goo_store.specs.Moments.{tables_in}
-use Rattle.goo_store.specs.Places.{rows_of}
-use Rattle.goo_store.proofs.Expiring.{expiring_found}
+use Rattle.goo_kept.specs.Places.{rows_of}
+use Rattle.goo_kept.proofs.Expiring.{expiring_found}
 use Rattle.goo_store.proofs.Looking.{looked, refused_look, well}
 use Rattle.goo_store.proofs.sql_shelf.SqlShelf.rows_expiring.Goals as goal
 

@@ -5,9 +5,9 @@ use Rattle.std.specs.Ordering.{int_eq}
 use Rattle.goo_types.specs.Place.{account_of}
 use Rattle.goo_columns.specs.Beside.{pieces_beside}
 use Rattle.goo_store.specs.Moments.{tables_in}
-use Rattle.goo_store.specs.Places.{rows_of}
-use Rattle.goo_store.proofs.Known.{number_is}
-use Rattle.goo_store.proofs.RowsFound.{filtered, place_account}
+use Rattle.goo_kept.specs.Places.{rows_of}
+use Rattle.goo_kept.proofs.Known.{number_is}
+use Rattle.goo_kept.proofs.RowsFound.{filtered, place_account}
 use Rattle.goo_store.proofs.Looking.{looked, refused_look, well}
 use Rattle.goo_store.proofs.sql_shelf.SqlShelf.rows_naming.Goals as goal
 

@@ -4,7 +4,7 @@ use Rattle.sqlite.specs.Held.{state as view}
 use Rattle.goo_columns.proofs.Results.{if_ok}
 use Rattle.goo_store.specs.Moments.{tables_in}
 use Rattle.goo_store.specs.Near.{reaching}
-use Rattle.goo_store.specs.Places.{rows_of}
+use Rattle.goo_kept.specs.Places.{rows_of}
 use Rattle.goo_store.proofs.Looking.{failed_then, looked_both}
 use Rattle.goo_store.proofs.Merging.{near_rows}
 use Rattle.goo_store.proofs.sql_shelf.SqlShelf.rows_near.Goals as goal

@@ -1,0 +1,7 @@
+pub mod Known
+pub mod Inserted
+pub mod RowsFound
+pub mod DeviceLemmas
+pub mod DayTexts
+pub mod Expiring
+pub mod ReadableLemmas

@@ -1,0 +1,5 @@
+pub mod EditLemmas
+pub mod NearLemmas
+pub mod PageLemmas
+pub mod OrderLemmas
+pub mod CutLemmas

@@ -1,0 +1,64 @@
+-- A commit after a look-up, which is told as one.
+use Rattle.std.proofs.Common.{◌≡◌, Bool, true, false, refl, inl, Result, Ok, Err, IsErrAnd, OnOk, OnErr, sym, subst, arith}
+use Rattle.goo_types.specs.declared.fault.Fault.{Fault}
+use Rattle.goo_types.specs.declared.fault.Fault.TheVariants.{Store, Memory}
+use Rattle.goo_spec.specs.State.{State}
+use Rattle.goo_spec.specs.Step.{accept}
+use Rattle.goo_rows.specs.Rows.{edited_all}
+use Rattle.goo_shelf.specs.Plan.{Fits, Commits, IsEither}
+use Rattle.goo_shelf.specs.Shelf.{Moment, Looks, IsTold}
+use Rattle.goo_shelf.specs.declared.plan.Plan.{Plan}
+use Rattle.goo_store.specs.Moments.{count}
+
+-- the flag of a shelf that answers is down
+pub not_refused : (f : Bool) → count f ≡ 0 → f ≡ false
+not_refused true is = absurd (omega (arith, is))
+not_refused false is = refl
+
+module _ (a b : Moment) (plan : Plan) where
+  -- a look-up that failed: nothing is committed
+  pub not_committed : {T : Type 0} (e : Fault) (right : T → Type 0) → Looks a b (Err e) right → Commits a b (Err e) plan
+  not_committed {T = T} e right look = record {
+    done = λ none. tt;
+    rows_done = λ none. tt;
+    undone = look.same;
+    rows_undone = look.rows_same;
+    doubted = look.doubted;
+    lied = look.lied;
+    kept = look.kept;
+    told = told_as e look.told;
+    works = tt;
+    crash = λ late none o left. inl (look.crash late none o left);
+  }
+    where
+      told_as : (f : Fault) → IsTold {T = T} (Err f) b.refusals → IsTold {T = Unit {0}} (Err f) b.refusals
+      told_as Store told = told
+      told_as Memory told = told
+
+  -- a fact of one fault is one of the result that has it
+  pub as_err : (r : Result (Unit {0}) Fault) (e : Fault) → IsErrAnd r (λ f. f ≡ e) → Commits a b (Err e) plan → Commits a b r plan
+  as_err (Ok x) e is commit = absurd is
+  as_err (Err f) e is commit = subst (λ x. Commits a b (Err x) plan) (sym is) commit
+
+  -- a plan that fits before it fits after it
+  pub fits_still : {T : Type 0} (r : Result T Fault) (right : T → Type 0) → Looks a b r right → (a.doubts ≡ 0 → Fits a.state a.rows plan) → b.doubts ≡ 0 → Fits b.state b.rows plan
+  fits_still r right look fits none =
+      subst (λ rows. Fits b.state rows plan) (sym (look.rows_same none)) (subst (λ (s : State). Fits s a.rows plan) (sym (look.same none)) (fits (look.doubted none)))
+
+  module _ {T : Type 0} (c : Moment) (x : T) (right : T → Type 0) (look : Looks a b (Ok x) right) where
+    done_so : (r : Result (Unit {0}) Fault) (s t : State) → s ≡ t → OnOk r (c.state ≡ accept s plan.request) → OnOk r (c.state ≡ accept t plan.request)
+    done_so r s t same = subst (λ (u : State). OnOk r (c.state ≡ accept u plan.request)) same
+
+    pub commits_after : (r : Result (Unit {0}) Fault) → Commits b c r plan → Commits a c r plan
+    commits_after r commit = record {
+      done = λ none. done_so r b.state a.state (look.same (commit.doubted none)) (commit.done none);
+      rows_done = λ none. subst (λ rows. OnOk r (c.rows ≡ edited_all plan.edits.items rows)) (look.rows_same (commit.doubted none)) (commit.rows_done none);
+      undone = λ none. subst (λ (s : State). OnErr r (c.state ≡ s)) (look.same (commit.doubted none)) (commit.undone none);
+      rows_undone = λ none. subst (λ rows. OnErr r (c.rows ≡ rows)) (look.rows_same (commit.doubted none)) (commit.rows_undone none);
+      doubted = λ none. look.doubted (commit.doubted none);
+      lied = λ late. look.lied (commit.lied late);
+      kept = omega (arith, look.kept, commit.kept);
+      told = commit.told;
+      works = commit.works;
+      crash = λ late none. let mid = look.works (commit.lied late) in subst (λ (s : State). IsEither c s (accept s plan.request)) (look.same mid) (commit.crash late mid);
+    }

@@ -1,0 +1,11 @@
+use Rattle.std.proofs.Common.{pos, ap, ◌∙◌}
+use Rattle.sqlite.specs.Held.{state}
+use Rattle.goo_store.specs.LotRows.{next_lot}
+use Rattle.goo_store.proofs.Gathering.{next_lot_is}
+use Rattle.goo_store.proofs.LookUps.{looked_up}
+use Rattle.goo_store.proofs.gathered_lots.next_lot_number.Goals as goal
+
+pub returns-clause-looks : goal.returns-clause-looks
+returns-clause-looks g c =
+    looked_up (state g.S.Store c.args.conn.now) (state g.S.Store c.last_lot-found.new.conn) _ _ c.last_lot-found.ensures.looks _ _ c.number_after.result c.number_after.ensures
+    (λ t stands found n right read. ap pos (read ∙ ap next_lot right) ∙ next_lot_is t.lots)

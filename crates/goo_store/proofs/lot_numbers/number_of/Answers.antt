@@ -1,0 +1,12 @@
+use Rattle.sqlite.specs.Held.{state}
+use Rattle.std.proofs.Common.{Ok}
+use Rattle.goo_store.proofs.LookUps.{looks_none, looks_so}
+use Rattle.goo_store.proofs.lot_numbers.number_of.Goals as goal
+
+pub returns-in-Some-clause-looks : goal.returns-in-Some-clause-looks
+returns-in-Some-clause-looks g c = looks_none (state g.S.Store c.args.conn.now) (Ok c.in-Some.number) _ (λ t it lots with. c.in-Some.ensures lots with.added_are)
+
+pub returns-in-None-clause-looks : goal.returns-in-None-clause-looks
+returns-in-None-clause-looks g c =
+    looks_so (state g.S.Store c.args.conn.now) (state g.S.Store c.find_number.new.conn) c.find_number.result _ _ c.find_number.ensures.looks
+    (λ t it n is lots with. record { row = is.row; there = with.kept n is.row is.there; states = is.states })

@@ -1,0 +1,20 @@
+-- What opening a registry says.
+use Rattle.std.specs.Prelude.{◌≡◌, None, Result, IfErr, OnOk, IsTrue}
+use Rattle.sqlite.specs.State.{State, HasCleanDisk}
+use Rattle.sqlite.specs.Tree.{Trees}
+use Rattle.goo_columns.specs.Rows.{Tables}
+use Rattle.goo_columns.specs.Stands.{Stands, Rests}
+use Rattle.goo_kept.specs.Kept.{AreKept}
+use Rattle.goo_opening.specs.Found.{IsOutside}
+use Rattle.goo_opening.specs.Reading.{IsMet}
+use Rattle.goo_opening.specs.declared.fault.OpenFault.{OpenFault}
+
+-- Tables are judged, and nothing is changed. `kept`: those that are accepted keep the rules; `right`: tables that keep the
+-- rules are refused for want of memory or a fault of the store alone.
+pub record Judges {T : Type 0} (old new : State) (result : Result T OpenFault) : Type 0 where
+  pub clean : HasCleanDisk new → HasCleanDisk old
+  pub rests : HasCleanDisk new → IsMet old → Rests old new
+  pub works : OnOk result (HasCleanDisk new → IsTrue new.is_open)
+  pub kept : HasCleanDisk new → IsMet old → OnOk result ((t : Tables) × Stands old.now t × AreKept t)
+  pub right : HasCleanDisk new → IsMet old → old.step_limit ≡ None → (t : Tables) → Stands old.now t → AreKept t → IfErr result IsOutside
+  pub crash : HasCleanDisk new → IsMet old → (db : Trees) → new.may_leave db → old.may_leave db

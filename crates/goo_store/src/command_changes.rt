@@ -1,0 +1,47 @@
+//! What a command changes beside the certificates and the lots.
+
+ghost use Rattle.std.specs.Prelude.{◌≡◌, [], All, IfOk};
+ghost use Rattle.goo_shelf.specs.Plan.{notice_sent};
+ghost use Rattle.goo_columns.specs.Rows.{Tables, meta_in};
+ghost use Rattle.goo_kept.specs.States.{state_of};
+ghost use Rattle.goo_store.specs.Carried.{Does};
+ghost use Rattle.goo_store.specs.Changes.{ChangeFits};
+
+use crate::act_changes::{advance, cancel, export, withdraw};
+use crate::change::Change;
+use crate::member_changes::{add_peer, close_account, open_account, open_holder, register_device};
+use crate::trouble::Trouble;
+use goo_columns::meta::MetaRow;
+use goo_shelf::plan::Plan;
+use goo_types::command::Command;
+use std::alloc::Global;
+
+/// What a transfer changes beside the certificates: nothing.
+fn transfer(alloc: Global) -> Vec<Change>
+    ensures { result.items ≡ [] }
+{
+    Vec::new(alloc)
+}
+
+/// The changes of an accepted command that adds no lot; a declaration and an import are refused.
+pub fn act_changes(alloc: Global, meta: &MetaRow, plan: &Plan) -> Result<Vec<Change>, Trouble>
+    ensures does { IfOk result (λ changes. (t : Tables) → t.meta ≡ meta_in meta.now → plan.now.notice ≡ notice_sent (state_of t) plan.now.request.command → Does t plan.now.request.command changes.items) }
+    ensures fits { IfOk result (λ changes. All ChangeFits changes.items) }
+{
+    match &plan.request.command {
+        Command::OpenHolder(command) => open_holder(alloc, command),
+        Command::OpenAccount(command) => open_account(alloc, meta, command),
+        Command::CloseAccount(command) => close_account(alloc, command),
+        Command::RegisterDevice(command) => register_device(alloc, command),
+        Command::Transfer(_) => Ok(transfer(alloc)),
+        Command::Cancel(command) => cancel(alloc, meta, command),
+        Command::Withdraw(command) => withdraw(alloc, meta, command),
+        Command::Advance(command) => advance(alloc, command),
+        Command::AddPeer(command) => add_peer(alloc, command),
+        Command::Export(command) => match &plan.notice {
+            Some(notice) => export(alloc, meta, command, notice),
+            None => Err(Trouble::Refused),
+        },
+        Command::Declare(_) | Command::Import(_) => Err(Trouble::Refused),
+    }
+}

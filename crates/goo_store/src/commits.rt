@@ -1,0 +1,53 @@
+//! Carrying out plans: what a plan changes is gathered first, and then made in one transaction.
+
+ghost use Rattle.std.specs.Prelude.{◌≡◌, All, IfOk};
+ghost use Rattle.sqlite.specs.Held.{state as view};
+ghost use Rattle.goo_shelf.specs.Plan.{Fits, Commits};
+ghost use Rattle.goo_shelf.specs.Shelf.{Looks};
+ghost use Rattle.goo_store.specs.Changes.{ChangeFits};
+ghost use Rattle.goo_store.specs.Moments.{moment, tables_in};
+ghost use Rattle.goo_store.specs.Planned.{IsPlanned};
+ghost use Rattle.goo_store.specs.Telling.{PassesOn};
+
+use crate::change::Change;
+use crate::committing::commit_changes;
+use crate::plan_changes::plan_changes;
+use crate::sql_shelf::SqlShelf;
+use crate::trouble::{Trouble, told};
+use goo_shelf::plan::Plan;
+use goo_types::fault::Fault;
+use sqlite::{Alter, Error};
+use std::alloc::Global;
+
+/// How a commit ended.
+fn ending(made: Result<(), Error>) -> Result<(), Trouble>
+    ensures { PassesOn made result }
+{
+    made?;
+    Ok(())
+}
+
+impl<S: Alter> SqlShelf<S> {
+    /// The changes that carry out a plan. Nothing is changed yet.
+    fn changes_for(&mut self, alloc: Global, plan: &Plan) -> Result<Vec<Change>, Fault>
+        ensures looks { Looks (moment (view S.Store self.old.conn) self.old.refused) (moment (view S.Store self.new.conn) self.new.refused) result (λ _. Unit {0}) }
+        ensures planned { (moment (view S.Store self.new.conn) self.new.refused).doubts ≡ 0 → IfOk result (λ changes. Fits (moment (view S.Store self.new.conn) self.new.refused).state (moment (view S.Store self.new.conn) self.new.refused).rows plan.now → IsPlanned (tables_in (view S.Store self.new.conn)) changes.items plan.now) }
+        ensures fits { IfOk result (λ changes. All ChangeFits changes.items) }
+    {
+        if self.refused {
+            return Err(Fault::Store);
+        }
+        let changes = plan_changes(alloc, &mut self.conn, plan);
+        told(changes, &mut self.refused)
+    }
+
+    /// Carries out the whole change of a plan, or none.
+    pub(crate) fn carry_out(&mut self, alloc: Global, plan: &Plan) -> Result<(), Fault>
+        requires { (moment (view S.Store self.old.conn) self.old.refused).doubts ≡ 0 → Fits (moment (view S.Store self.old.conn) self.old.refused).state (moment (view S.Store self.old.conn) self.old.refused).rows plan.now }
+        ensures { Commits (moment (view S.Store self.old.conn) self.old.refused) (moment (view S.Store self.new.conn) self.new.refused) result plan.now }
+    {
+        let changes = self.changes_for(alloc, plan)?;
+        let made = commit_changes(&mut self.conn, &changes);
+        told(ending(made), &mut self.refused)
+    }
+}

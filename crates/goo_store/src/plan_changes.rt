@@ -1,0 +1,125 @@
+//! The changes that carry out a plan: those of its command, then those of its edits, and the receipt.
+
+ghost use Rattle.std.specs.Prelude.{◌≡◌, ◌++◌, [], ◌∷◌, false, All, IfOk, OnOk, IsTrue};
+ghost use Rattle.sqlite.specs.Held.{state};
+ghost use Rattle.sqlite.specs.State.{HasCleanDisk};
+ghost use Rattle.goo_types.specs.declared.request.Request.{Request};
+ghost use Rattle.goo_store.specs.declared.gathered_lots.Gathered.{Gathered as Given};
+ghost use Rattle.goo_shelf.specs.Plan.{Fits};
+ghost use Rattle.goo_columns.specs.Rows.{Tables, meta_in, receipt_in};
+ghost use Rattle.goo_kept.specs.Kept.{AreKept};
+ghost use Rattle.goo_kept.specs.Places.{rows_of};
+ghost use Rattle.goo_kept.specs.States.{state_of};
+ghost use Rattle.goo_store.specs.Carried.{AreInOrder};
+ghost use Rattle.goo_store.specs.Carrying.{CarriesOut, IsAccepted};
+ghost use Rattle.goo_store.specs.Changes.{made_all, ChangeFits};
+ghost use Rattle.goo_store.specs.EditChanges.{AreForEdits};
+ghost use Rattle.goo_store.specs.LookingUp.{LooksUp};
+ghost use Rattle.goo_store.specs.Planned.{IsPlanned};
+
+use crate::change::Change;
+use crate::command_changes::act_changes;
+use crate::edit_changes::changes_of_edits;
+use crate::gathered_lots::Gathered;
+use crate::importing::import_changes;
+use crate::new_declarations::declare_changes;
+use crate::new_receipts::receipt_row;
+use crate::registry_row::own_row;
+use crate::trouble::Trouble;
+use goo_shelf::plan::Plan;
+use goo_columns::meta::MetaRow;
+use goo_types::command::{Command, Declare};
+use goo_types::reply::Reply;
+use sqlite::{Alter, Connection};
+use std::alloc::Global;
+
+/// The changes of an accepted command that puts no lot in.
+fn act(alloc: Global, meta: &MetaRow, plan: &Plan) -> Result<Gathered, Trouble>
+    ensures does { IfOk result (λ gathered. (t : Tables) → t.meta ≡ meta_in meta.now → AreKept t → AreInOrder t → Fits (state_of t) (rows_of t) plan.now → CarriesOut t plan.now.request.command gathered) }
+    ensures fits { IfOk result (λ gathered. All ChangeFits gathered.changes.items) }
+{
+    let changes = act_changes(alloc, meta, plan)?;
+    let added = Vec::new(alloc);
+    Ok(Gathered {
+        changes,
+        added,
+        next: 0,
+    })
+}
+
+/// The changes of an accepted declaration, by the reply that it gets.
+fn declaration<S: Alter>(
+    alloc: Global,
+    conn: &mut Connection<S>,
+    meta: &MetaRow,
+    declared: &Declare,
+    reply: Reply,
+) -> Result<Gathered, Trouble>
+    ensures looks { LooksUp (state S.Store conn.old) (state S.Store conn.new) result (λ t gathered. (q : Request) → q.command ≡ Command.Declare declared.now → t.meta ≡ meta_in meta.now → IsAccepted t q reply → CarriesOut t q.command gathered) }
+    ensures fits { IfOk result (λ gathered. All ChangeFits gathered.changes.items) }
+    ensures outside { conn.old.in_transaction ≡ false → conn.new.in_transaction ≡ false }
+{
+    match reply {
+        Reply::Declared { carry, issued } => {
+            declare_changes(alloc, conn, meta, declared, carry, issued)
+        }
+        _ => Err(Trouble::Refused),
+    }
+}
+
+/// What the plan's command changes beside the certificates.
+fn command_changes<S: Alter>(
+    alloc: Global,
+    conn: &mut Connection<S>,
+    plan: &Plan,
+) -> Result<Gathered, Trouble>
+    ensures gathers { LooksUp (state S.Store conn.old) (state S.Store conn.new) result (λ t gathered. AreKept t → AreInOrder t → Fits (state_of t) (rows_of t) plan.now → CarriesOut t plan.now.request.command gathered) }
+    ensures works { OnOk result (HasCleanDisk (state S.Store conn.new) → IsTrue (state S.Store conn.new).is_open) }
+    ensures outside { conn.old.in_transaction ≡ false → conn.new.in_transaction ≡ false }
+    ensures fits { IfOk result (λ gathered. All ChangeFits gathered.changes.items) }
+{
+    let meta = own_row(alloc, conn)?;
+    match &plan.request.command {
+        Command::Declare(command) => declaration(alloc, conn, &meta, command, plan.reply),
+        Command::Import(command) => import_changes(alloc, conn, command),
+        _ => act(alloc, &meta, plan),
+    }
+}
+
+/// All changes, of which the receipt comes last.
+fn joined(
+    alloc: Global,
+    act: Vec<Change>,
+    edits: Vec<Change>,
+    plan: &Plan,
+) -> Result<Vec<Change>, Trouble>
+    requires act { All ChangeFits act.items }
+    requires edits { All ChangeFits edits.items }
+    ensures planned { IfOk result (λ changes. (t : Tables) → AreKept t → AreInOrder t → Fits (state_of t) (rows_of t) plan.now → (gathered : Given) → gathered.changes.items ≡ act.items → CarriesOut t plan.now.request.command gathered → AreForEdits (made_all t act.items).lots plan.now.edits.items edits.items → IsPlanned t changes.items plan.now) }
+    ensures fits { IfOk result (λ changes. All ChangeFits changes.items) }
+{
+    // A request in hand has a command within its limits: it comes with that fact.
+    let _ = plan.request.command();
+    let receipt = receipt_row(alloc, &plan.request, plan.reply)?;
+    let mut changes = act;
+    let mut rest = edits;
+    rest.push(Change::AddReceipt(receipt))?;
+    changes.append(&mut rest)?;
+    Ok(changes)
+}
+
+/// The changes of the tables that carry out a plan, of which nothing is done yet.
+pub fn plan_changes<S: Alter>(
+    alloc: Global,
+    conn: &mut Connection<S>,
+    plan: &Plan,
+) -> Result<Vec<Change>, Trouble>
+    ensures gathers { LooksUp (state S.Store conn.old) (state S.Store conn.new) result (λ t changes. AreKept t → AreInOrder t → Fits (state_of t) (rows_of t) plan.now → IsPlanned t changes.items plan.now) }
+    ensures works { OnOk result (HasCleanDisk (state S.Store conn.new) → IsTrue (state S.Store conn.new).is_open) }
+    ensures outside { conn.old.in_transaction ≡ false → conn.new.in_transaction ≡ false }
+    ensures fits { IfOk result (λ changes. All ChangeFits changes.items) }
+{
+    let act = command_changes(alloc, conn, plan)?;
+    let edits = changes_of_edits(alloc, conn, &act.added, &plan.edits)?;
+    joined(alloc, act.changes, edits, plan)
+}

@@ -1,0 +1,107 @@
+//! What the tables hold for a declaration, as it is found.
+
+ghost use Rattle.std.specs.Prelude.{◌≡◌, false, pos, Some, option_map};
+ghost use Rattle.std.specs.FinMap.{get};
+ghost use Rattle.sqlite.specs.Held.{state};
+ghost use Rattle.sqlite_keyed.specs.Keyed.{next_key};
+ghost use Rattle.goo_columns.specs.Rows.{declaration_in, declaration_key, device_in};
+ghost use Rattle.goo_kept.specs.Devices.{device_of};
+ghost use Rattle.goo_kept.specs.States.{state_of};
+ghost use Rattle.goo_store.specs.LookingUp.{LooksUp};
+ghost use Rattle.goo_store.specs.LotRows.{next_declaration};
+ghost use Rattle.goo_store.specs.Standing.{IsStanding};
+ghost use Rattle.goo_store.specs.Telling.{Passes};
+
+use crate::devices::device_in_row;
+use crate::gathered_lots::next_lot_number;
+use crate::trouble::Trouble;
+use goo_columns::declaration::DeclarationRow;
+use goo_columns::device::DeviceRow;
+use goo_shelf::device::Device;
+use goo_tables::declaration::last_declaration;
+use goo_tables::device::find_device;
+use goo_types::gsrn::Gsrn;
+use sqlite::{Alter, Connection, Error};
+use std::alloc::Global;
+
+/// What the tables hold for a declaration.
+#[derive(Clone, Copy)]
+pub struct Standing {
+    /// The device that declares.
+    pub device: Device,
+    /// The number that the declaration gets.
+    pub number: u64,
+    /// The number that a lot gets.
+    pub next_lot: u64,
+}
+
+/// The device in the row that was found.
+fn device_found(found: Result<Option<DeviceRow>, Error>) -> Result<Device, Trouble>
+    ensures { Passes found result (λ row device. option_map device_of (option_map device_in row) ≡ Some device) }
+{
+    let Some(row) = found? else {
+        return Err(Trouble::Refused);
+    };
+    device_in_row(&row)
+}
+
+/// A device that is registered.
+fn find_registered<S: Alter>(
+    alloc: Global,
+    conn: &mut Connection<S>,
+    gsrn: &Gsrn,
+) -> Result<Device, Trouble>
+    ensures looks { LooksUp (state S.Store conn.old) (state S.Store conn.new) result (λ t device. get (state_of t).devices gsrn.now ≡ Some device) }
+    ensures outside { conn.old.in_transaction ≡ false → conn.new.in_transaction ≡ false }
+{
+    let found = find_device(alloc, conn, gsrn.text());
+    device_found(found)
+}
+
+/// The number after that of the last row.
+fn number_after(found: Result<Option<DeclarationRow>, Error>) -> Result<u64, Trouble>
+    ensures { Passes found result (λ row n. n ≡ next_declaration (option_map declaration_in row)) }
+{
+    let Some(row) = found? else {
+        return Ok(1);
+    };
+    match row.id.checked_add(1) {
+        Some(number) => Ok(number),
+        None => Err(Trouble::Refused),
+    }
+}
+
+/// The number that the next declaration gets.
+fn next_declaration_number<S: Alter>(
+    alloc: Global,
+    conn: &mut Connection<S>,
+) -> Result<u64, Trouble>
+    ensures looks { LooksUp (state S.Store conn.old) (state S.Store conn.new) result (λ t n. pos n ≡ next_key declaration_key t.declarations) }
+    ensures outside { conn.old.in_transaction ≡ false → conn.new.in_transaction ≡ false }
+{
+    let found = last_declaration(alloc, conn);
+    number_after(found)
+}
+
+/// What the tables hold for a declaration of a device.
+///
+/// # Errors
+///
+/// `Refused` where the device isn't registered, `Memory`, and the errors of the statements.
+pub fn find_standing<S: Alter>(
+    alloc: Global,
+    conn: &mut Connection<S>,
+    gsrn: &Gsrn,
+) -> Result<Standing, Trouble>
+    ensures looks { LooksUp (state S.Store conn.old) (state S.Store conn.new) result (λ t standing. IsStanding t gsrn.now standing) }
+    ensures outside { conn.old.in_transaction ≡ false → conn.new.in_transaction ≡ false }
+{
+    let device = find_registered(alloc, conn, gsrn)?;
+    let number = next_declaration_number(alloc, conn)?;
+    let next_lot = next_lot_number(alloc, conn)?;
+    Ok(Standing {
+        device,
+        number,
+        next_lot,
+    })
+}
