@@ -32,7 +32,7 @@ module _ (db : _) (t : Tables) (x : Found) (stands : Stands db t) (ours : HasOur
       let parts = judged x keeps.values.numbers keeps.names.names keeps.names.declared in
       let named = kept_by_name db t x ours stands of version (record { values = keeps.values.values; notices = keeps.names.notices; lots = keeps.values.lots; names = parts.0 }) in
       let pieces = kept_by_rules t x of db stands (record { readable = named.readable; kept = λ id l found. named.lots (pos id) l found; certificates = has_its t })
-          (each_found _ t.lots (known_rows named.readable).lots) keeps.values.numbers keeps.names.names keeps.names.places in
+      (each_found _ t.lots (known_rows named.readable).lots) keeps.values.numbers keeps.names.names keeps.names.places in
       record {
         readable = named.readable;
         lots_there = pieces.lots_there;

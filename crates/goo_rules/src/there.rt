@@ -56,7 +56,8 @@ pub fn pieces_have_accounts(rows: &[PieceRow], accounts: &BTreeSet<u32>) -> bool
 pub fn cancellations_have_accounts(rows: &[CancellationRow], accounts: &BTreeSet<u32>) -> bool
     ensures { result ≡ list_all (λ row. contains nat_cmp accounts.now row.account) rows.now }
 {
-    rows.iter().all(|cancellation| has(accounts, &cancellation.account))
+    rows.iter()
+        .all(|cancellation| has(accounts, &cancellation.account))
 }
 
 /// Whether the account of each notice that was sent is one of these.

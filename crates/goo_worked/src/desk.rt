@@ -51,11 +51,7 @@ fn in_tables(
 }
 
 /// These runs are shown: first and last serial, and place.
-fn are_runs(
-    rt: &impl Abort,
-    runs: &[Piece],
-    wanted: &[(u64, u64, Place)],
-) -> Result<(), Fail> {
+fn are_runs(rt: &impl Abort, runs: &[Piece], wanted: &[(u64, u64, Place)]) -> Result<(), Fail> {
     assert_eq!(rt; runs.len(), wanted.len());
     for (run, (first, last, place)) in runs.iter().zip(wanted) {
         assert_eq!(rt; run.first.serial(), *first);
@@ -95,12 +91,7 @@ impl Desk {
     }
 
     /// The same registry over plain lists and over tables in memory: each has to answer as the other does.
-    pub fn over_both(
-        alloc: Global,
-        code: u8,
-        next_serial: u64,
-        today: &str,
-    ) -> Result<Desk, Fail> {
+    pub fn over_both(alloc: Global, code: u8, next_serial: u64, today: &str) -> Result<Desk, Fail> {
         let mut desk = Desk::new(alloc, code, next_serial, today)?;
         desk.tables = Some(in_tables(alloc, code, next_serial, today)?);
         Ok(desk)
