@@ -27,7 +27,7 @@ use Rattle.std.specs.Result.{result_unwrap_or}
 use Rattle.goo_kept.proofs.DayTexts.{earlier_text, later_day}
 use Rattle.goo_kept.proofs.Known.{number_is}
 
-place_held : (kind account act : ℕ) → is_held (place_of kind account act) ≡ (kind == 1)
+pub place_held : (kind account act : ℕ) → is_held (place_of kind account act) ≡ (kind == 1)
 place_held kind account act = go (kind == 1) (kind == 2) (kind == 3) (kind == 4)
   where
     go : (a b c d : Bool) → is_held (cond a (Held account) (cond b (Cancelled account act) (cond c (Expired account) (cond d (Withdrawn account act) (Exported account act))))) ≡ a
@@ -80,7 +80,7 @@ Datable l = IsKeptLot l × IsDay (day_of l.last_day)
 fifth : (a b c d e f : Bool) → a && (b && (c && (d && (e && f)))) ≡ true → e ≡ true
 fifth a b c d e f all = first_of_both e f (second_of_both d (e && f) (second_of_both c (d && (e && f)) (second_of_both b (c && (d && (e && f))) (second_of_both a (b && (c && (d && (e && f)))) all))))
 
-last_day_read : (l : Lot) → is_lot l ≡ true → IsDay (day_of l.last_day)
+pub last_day_read : (l : Lot) → is_lot l ≡ true → IsDay (day_of l.last_day)
 last_day_read l good =
     stated_day l.last_day (day_reading l.last_day) refl
     (fifth (is_code l.origin) (reads (gsrn_reading l.device)) (is_plant l.plant) (reads (day_reading l.first_day)) (reads (day_reading l.last_day)) (reads (day_reading l.issued_on)) good)

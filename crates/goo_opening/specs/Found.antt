@@ -1,14 +1,14 @@
 -- What is found where the tables of a registry are looked for.
-use Rattle.std.specs.Prelude.{◌≡◌, ◌⊎◌, ◌≤◌, List, [], ◌∷◌, map, None, Result, IfOk, IfErr, OnOk, IsTrue}
+use Rattle.std.specs.Prelude.{◌≡◌, ◌⊎◌, ◌≤◌, ◌==◌, if◌then◌else◌, List, [], ◌∷◌, map, None, Result, IfOk, IfErr, OnOk, IsTrue}
 use Rattle.sqlite.specs.State.{State, HasCleanDisk}
 use Rattle.sqlite.specs.Tree.{Trees}
 use Rattle.sqlite.specs.Effect.{Database}
-use Rattle.goo_columns.specs.Rows.{Tables, Kept, meta_row, meta_in, holder_in, account_in, device_in, declaration_in, lot_in, receipt_in, cancellation_in, withdrawal_in, notice_out_in, notice_in_in}
+use Rattle.goo_columns.specs.Rows.{Tables, Kept, Numbered, meta_row, meta_in, holder_in, account_in, device_in, declaration_in, lot_in, receipt_in, cancellation_in, withdrawal_in, notice_out_in, notice_in_in}
 use Rattle.goo_columns.specs.Stands.{Stands, Rests}
 use Rattle.goo_columns.specs.declared.meta.MetaRow.{MetaRow}
 use Rattle.goo_opening.specs.Reading.{CanBeRead, IsMet}
 use Rattle.goo_opening.specs.declared.fault.OpenFault.{OpenFault}
-use Rattle.goo_opening.specs.declared.fault.OpenFault.TheVariants.{Store, Memory}
+use Rattle.goo_opening.specs.declared.fault.OpenFault.TheVariants.{NotARegistry, Version, Store, Memory}
 use Rattle.goo_opening.specs.declared.finding.Found.{Found}
 
 -- the values of rows under rowids of their own
@@ -35,6 +35,12 @@ pub record AreOf (t : Tables) (x : Found) : Type 0 where
 pub record ShowsMeta (db : Database) (m : MetaRow) : Type 0 where
   pub only : db.trees 0 ≡ meta_row (meta_in m) ∷ []
   pub version : m.version ≡ 1
+
+-- why rows of `meta` are not those of a registry that is read here: not one row, or not under the number 1, or of this version
+abbrev pub row_fault : List Numbered → OpenFault
+row_fault [] = NotARegistry
+row_fault (row ∷ []) = if row.id == 1 then Version row.meta.version else NotARegistry
+row_fault (row ∷ other ∷ rows) = NotARegistry
 
 -- the database holds tables of version 1, and they are what was read
 abbrev pub ShowsTables : Database → Found → Type 0

@@ -1,6 +1,7 @@
 //! Connections whose tables are in the order of their rowids, which `HasOurTables` asks for.
 
 ghost use Rattle.std.specs.Prelude.{◌≡◌, ◌⊎◌, true, false, None, IsTrue, IfOk, IfErr, IfSome};
+ghost use Rattle.sqlite_store.specs.FileStore.{view};
 ghost use Rattle.sqlite_wal.specs.Files.{image_at};
 ghost use Rattle.sqlite_std_file.specs.File.{IsFresh};
 ghost use Rattle.sqlite.specs.State.{HasCleanDisk};
@@ -8,7 +9,7 @@ ghost use Rattle.sqlite.specs.Steps.{IsEmpty, over_memory};
 ghost use Rattle.sqlite.specs.Held.{IsNew, state};
 ghost use Rattle.sqlite.specs.Start.{FindsIn};
 ghost use Rattle.sqlite.specs.Opening.{is_open_error};
-ghost use Rattle.sqlite.specs.Files.{file_state, IsOpened, Finds, IsCleanLeft, FailsToOpenFiles, LeavesFiles};
+ghost use Rattle.sqlite.specs.Files.{file_state, image_of, IsOpened, IsBlankAs, Finds, IsCleanLeft, FailsToOpenFiles, LeavesFiles};
 ghost use Rattle.goo_columns.specs.Met.{IsInKeyOrder};
 
 use sqlite::{
@@ -45,6 +46,7 @@ pub fn open_ordered<D: Disk + Drop>(
     ensures ordered { IfOk result (λ c. HasCleanDisk (file_state c) → IsInKeyOrder (file_state c).now) }
     ensures opened { IfOk result (λ c. HasCleanDisk (file_state c) → IsOpened c) }
     ensures found { IfOk result (λ c. HasCleanDisk (file_state c) → Finds files c) }
+    ensures plain { IfOk result (λ c. HasCleanDisk (file_state c) → IsBlankAs false (image_of D.Disk files) → (view c.store).has_sums ≡ false) }
     ensures fresh { IfOk result IsNew }
     ensures guarded { IfOk result (λ c. HasCleanDisk (file_state c) → (file_state c).IsShielded) }
     ensures named { IfErr result (λ e. IsTrue (is_open_error e.0)) }
@@ -67,6 +69,7 @@ pub fn open_ordered_at<S: Start>(
     ensures ordered { IfOk result (λ c. HasCleanDisk (file_state c) → IsInKeyOrder (file_state c).now) }
     ensures opened { IfOk result (λ c. HasCleanDisk (file_state c) → IsOpened c) }
     ensures found { IfOk result (λ c. HasCleanDisk (file_state c) → FindsIn (image_at S.Start) (file_state c)) }
+    ensures plain { IfOk result (λ c. HasCleanDisk (file_state c) → IsBlankAs false (image_at S.Start) → (view c.store).has_sums ≡ false) }
     ensures fresh { IfOk result IsNew }
     ensures guarded { IfOk result (λ c. HasCleanDisk (file_state c) → (file_state c).IsShielded) }
     ensures named { IfErr result (λ e. IsTrue (is_open_error e.0)) }

@@ -1,4 +1,3 @@
-pub mod EditLemmas
 pub mod NearLemmas
 pub mod PageLemmas
 pub mod OrderLemmas

@@ -1,5 +1,5 @@
 //! A page of rows.
-ghost use Rattle.std.specs.Prelude.{◌≡◌, ◌==◌, ◌<◌, ◌≤◌, nat_lt, length, take, drop, [], IfOk, IsTrue, ◌∷◌};
+ghost use Rattle.std.specs.Prelude.{◌≡◌, ◌↔◌, ◌==◌, ◌<◌, ◌≤◌, nat_lt, length, take, drop, [], IfOk, IsTrue, ◌∷◌};
 ghost use Rattle.goo_rows.specs.Rows.{without, with};
 ghost use Rattle.goo_pages.specs.Paging.{InOrder, last_begin, BeginAfter};
 
@@ -71,7 +71,7 @@ impl Page {
 
     /// Whether it has a row and the first one begins after a number.
     pub fn begins_after(&self, number: u64) -> bool
-        ensures { IsTrue result → BeginAfter number self.now }
+        ensures { IsTrue result ↔ BeginAfter number self.now }
     {
         match self.rows.first() {
             Some(row) => number < row.first.get(),

@@ -12,6 +12,7 @@ use Rattle.goo_spec.specs.Sound.{AreLots, AreRecordsThere, AreHeld, AreRegistere
 use Rattle.goo_spec.specs.State.{Account, text_cmp}
 use Rattle.goo_columns.specs.Rows as row
 use Rattle.goo_columns.specs.Rows.{Tables, Kept, holder_in, account_in, device_in, declaration_in, lot_in, cancellation_in, withdrawal_in, notice_out_in}
+use Rattle.sqlite_keyed.proofs.ListLemmas.{all_of}
 use Rattle.goo_opening.specs.Found.{AreOf}
 use Rattle.goo_opening.specs.declared.finding.Found.{Found}
 use Rattle.goo_kept.specs.Kept.{AreReadable}
@@ -20,7 +21,6 @@ use Rattle.goo_kept.specs.Places.{lot_of}
 use Rattle.goo_kept.specs.Records.{cancellation_of, withdrawal_of, sent_of}
 use Rattle.goo_kept.specs.States.{state_of, known_lot, known_holder, known_account, account_of}
 use Rattle.goo_rules.specs.WellKept.{is_no_issuer, is_another, covers_aux, account_given, cancellation_given, withdrawal_given, notice_given, has_holder, has_account, has_device, has_declaration, is_declared}
-use Rattle.goo_rules.proofs.EachRow.{each}
 use Rattle.goo_rules.proofs.RowsKnown.{row_of, of_known, of_rows, of_keys, of_row_keys}
 use Rattle.goo_rules.proofs.KeptKeys.{AreKnownRows}
 use Rattle.goo_rules.proofs.NamesRead as read
@@ -78,7 +78,7 @@ is_own_declared own declarations lot so = go (lot.origin == own) refl
 -- each known lot is known under its key
 known_under_key : (t : Tables) (key : List ℕ) (lot : LotFields) → get (from_entries {R = text_cmp} (map known_lot t.lots)) key ≡ Some lot → key_of lot ≡ key
 known_under_key t key lot is =
-    let it = row_of nat_list_cmp_total (λ l. key_of (lot_of l)) lot_of (λ (_ : row.Lot). Unit {0}) t.lots (each (λ _. tt) t.lots) key lot is in
+    let it = row_of nat_list_cmp_total (λ l. key_of (lot_of l)) lot_of (λ (_ : row.Lot). Unit {0}) t.lots (all_of _ (λ _. tt) t.lots) key lot is in
     ap key_of (sym it.2) ∙ sym (slice_cmp-IsAntisymmetric nat_cmp-IsAntisymmetric key (key_of (lot_of it.0)) ((Equal-is (text_cmp key (key_of (lot_of it.0)))).0 it.1))
 
 module _ (t : Tables) (readable : AreReadable t) (x : Found) (are : AreOf t x) where

@@ -1,48 +1,12 @@
--- What holds of each row of a list, what is found among rows, and rows that are the only ones of their kind.
-use Rattle.std.proofs.Common.{◌≡◌, ◌<ℤ◌, ℤ, Bool, true, false, not, cond, ◌&&◌, ◌||◌, List, [], ◌∷◌, map, filter, find, Some, None, option_map, is_some, inl, inr, int_eq, refl, sym, ap, subst, ◌∙◌, arith}
+-- What is found among rows, and rows that are the only ones of their kind.
+use Rattle.std.proofs.Common.{◌≡◌, ◌<ℤ◌, ℤ, Bool, true, false, not, cond, ◌&&◌, ◌||◌, List, [], ◌∷◌, map, filter, find, Some, None, inl, inr, int_eq, refl, sym, ap, subst, ◌∙◌, arith}
 use Rattle.std.specs.List.{AllByRecursion, list_any, list_all}
-use Rattle.std.proofs.lemmas.Bool.{and_parts, and_from, or_left, or_right}
+use Rattle.std.proofs.lemmas.Bool.{or_left, or_right}
 use Rattle.std.proofs.lemmas.Cmp.{int_eq_equiv}
 use Rattle.std.proofs.lemmas.Int.{ints}
+use Rattle.sqlite_keyed.proofs.ListLemmas.{all_weaker, all_both}
 use Rattle.goo_columns.specs.Once.{IsOnce}
 use Rattle.goo_columns.specs.Stands.{Keeps}
-
-module _ {A : Type 0} {P Q : A → Type 0} where
-  pub each_weaker : ((a : A) → P a → Q a) → (xs : List A) → AllByRecursion P xs → AllByRecursion Q xs
-  each_weaker f [] all = tt
-  each_weaker f (x ∷ xs) all = (f x all.0, each_weaker f xs all.1)
-
-  pub each_both : {R : A → Type 0} → ((a : A) → P a → Q a → R a) → (xs : List A) → AllByRecursion P xs → AllByRecursion Q xs → AllByRecursion R xs
-  each_both f [] all more = tt
-  each_both f (x ∷ xs) all more = (f x all.0 more.0, each_both f xs all.1 more.1)
-
-pub each : {A : Type 0} {P : A → Type 0} → ((a : A) → P a) → (xs : List A) → AllByRecursion P xs
-each f [] = tt
-each f (x ∷ xs) = (f x, each f xs)
-
-pub each_mapped : {A B : Type 0} (P : B → Type 0) (f : A → B) (xs : List A) → AllByRecursion (λ a. P (f a)) xs → AllByRecursion P (map f xs)
-each_mapped P f [] all = tt
-each_mapped P f (x ∷ xs) all = (all.0, each_mapped P f xs all.1)
-
-pub each_unmapped : {A B : Type 0} (P : B → Type 0) (f : A → B) (xs : List A) → AllByRecursion P (map f xs) → AllByRecursion (λ a. P (f a)) xs
-each_unmapped P f [] all = tt
-each_unmapped P f (x ∷ xs) all = (all.0, each_unmapped P f xs all.1)
-
-pub each_passes : {A : Type 0} (p : A → Bool) (xs : List A) → list_all p xs ≡ true → AllByRecursion (λ a. p a ≡ true) xs
-each_passes p [] all = tt
-each_passes p (x ∷ xs) all = let parts = and_parts (p x) (list_all p xs) all in (parts.0, each_passes p xs parts.1)
-
-pub all_pass : {A : Type 0} (p : A → Bool) (xs : List A) → AllByRecursion (λ a. p a ≡ true) xs → list_all p xs ≡ true
-all_pass p [] all = refl
-all_pass p (x ∷ xs) all = and_from (p x) (list_all p xs) all.0 (all_pass p xs all.1)
-
-pub all_alike : {A : Type 0} (p q : A → Bool) (xs : List A) → AllByRecursion (λ a. p a ≡ q a) xs → list_all p xs ≡ list_all q xs
-all_alike p q [] all = refl
-all_alike p q (x ∷ xs) all = λ i. all.0 i && all_alike p q xs all.1 i
-
-pub any_alike : {A : Type 0} (p q : A → Bool) (xs : List A) → AllByRecursion (λ a. p a ≡ q a) xs → list_any p xs ≡ list_any q xs
-any_alike p q [] all = refl
-any_alike p q (x ∷ xs) all = λ i. all.0 i || any_alike p q xs all.1 i
 
 pub list_any-map : {X Y : Type 0} (p : Y → Bool) (f : X → Y) (xs : List X) → list_any p (map f xs) ≡ list_any (λ x. p (f x)) xs
 list_any-map p f [] = refl
@@ -57,14 +21,6 @@ none_all test (x ∷ xs) = ap (λ b. not (test x) && b) (none_all test xs) ∙ n
     neither false b = refl
 
 -- ---- what is found
-
-pub any_found : {A B : Type 0} (f : A → B) (test : A → Bool) (xs : List A) → is_some (option_map f (find test xs)) ≡ list_any test xs
-any_found f test [] = refl
-any_found {A} f test (x ∷ xs) = go (test x) (any_found f test xs)
-  where
-    go : (b : Bool) → is_some (option_map f (find test xs)) ≡ list_any test xs → is_some (option_map f (cond b (Some x) (find test xs))) ≡ (b || list_any test xs)
-    go true rest = refl
-    go false rest = rest
 
 -- what is found passes the test, and has what all have
 pub found_both : {A : Type 0} (test : A → Bool) (P : A → Type 0) (xs : List A) (x : A) → find test xs ≡ Some x → AllByRecursion P xs → (test x ≡ true) × P x
@@ -90,12 +46,12 @@ only_one x xs (inr one) = let is = one.1 in cc
 module _ {A : Type 0} (same : A → A → Bool) (itself : (a : A) → same a a ≡ true) where
   pub any_itself : (xs : List A) → AllByRecursion (λ a. list_any (same a) xs ≡ true) xs
   any_itself [] = tt
-  any_itself (x ∷ xs) = (or_left (same x x) (list_any (same x) xs) (itself x), each_weaker (λ a is. or_right (same a x) (list_any (same a) xs) is) xs (any_itself xs))
+  any_itself (x ∷ xs) = (or_left (same x x) (list_any (same x) xs) (itself x), all_weaker (λ a. list_any (same a) xs ≡ true) _ (λ a is. or_right (same a x) (list_any (same a) xs) is) xs (any_itself xs))
 
   -- rows that are the only ones of their kind are found by it
   pub each_found : (xs : List A) → ((a : A) → IsOnce (filter (same a) xs)) → AllByRecursion (λ a. find (same a) xs ≡ Some a) xs
   each_found [] once = tt
-  each_found (x ∷ xs) once = (ap (λ b. cond b (Some x) (find (same x) xs)) (itself x), each_weaker later xs (each_found xs (λ a. fewer a (same a x) (once a))))
+  each_found (x ∷ xs) once = (ap (λ b. cond b (Some x) (find (same x) xs)) (itself x), all_weaker (λ a. find (same a) xs ≡ Some a) _ later xs (each_found xs (λ a. fewer a (same a x) (once a))))
     where
       fewer : (a : A) (b : Bool) → IsOnce (cond b (x ∷ filter (same a) xs) (filter (same a) xs)) → IsOnce (filter (same a) xs)
       fewer a true is = inl (only_one x (filter (same a) xs) is)
@@ -117,6 +73,6 @@ module _ {A : Type 0} (key : A → ℤ) where
   each_keyed [] keeps = tt
   each_keyed {to_row} {rows} (x ∷ xs) keeps = (
     ap (λ b. cond b (Some x) (find (λ b. int_eq (key b) (key x)) xs)) (int_eq_equiv.refl (key x)),
-    each_both (λ a low is. ap (λ b. cond b (Some x) (find (λ b. int_eq (key b) (key a)) xs)) (apart (key x) (key a) low) ∙ is) xs keeps.rise.0
+    all_both (λ a. key x <ℤ key a) (λ a. find (λ b. int_eq (key b) (key a)) xs ≡ Some a) _ (λ a low is. ap (λ b. cond b (Some x) (find (λ b. int_eq (key b) (key a)) xs)) (apart (key x) (key a) low) ∙ is) xs keeps.rise.0
         (each_keyed {to_row = to_row} {rows = map to_row xs} xs (record { are = refl; rise = keeps.rise.1 })),
   )

@@ -8,6 +8,7 @@ use Rattle.std.specs.Cmp.Lexicographic.{nat_list_cmp_total}
 use Rattle.std.specs.FinMap.{get}
 use Rattle.std.proofs.lemmas.Bool.{and_parts, and_from}
 use Rattle.std.proofs.lemmas.Cmp.{int_eq_equiv}
+use Rattle.sqlite_keyed.proofs.ListLemmas.{all_weaker, all_both, all_from_test}
 use Rattle.goo_types.specs.Day.{CalendarDay, day_reading}
 use Rattle.goo_types.specs.Gsrn.{gsrn_reading}
 use Rattle.goo_types.specs.Texts.{day_text}
@@ -29,7 +30,7 @@ use Rattle.goo_kept.specs.Records.{cancellation_of, sent_of}
 use Rattle.goo_kept.specs.States.{state_of, account_of}
 use Rattle.goo_kept.proofs.Known.{text_test, text_itself, number_test, lot_test}
 use Rattle.goo_kept.proofs.Expiring.{stated_day}
-use Rattle.goo_rules.proofs.EachRow.{each_weaker, each_both, each_passes, each_found, each_keyed}
+use Rattle.goo_rules.proofs.EachRow.{each_found, each_keyed}
 use Rattle.goo_rules.proofs.RowsKnown.{all_known}
 
 -- a text that reads as a day is the text of that day
@@ -80,7 +81,7 @@ pub record AreKnownRows (t : Tables) : Type 0 where
 
 module _ {A : Type 0} (number : A → ℕ) where
   numbered : {to_row : _} {rows : _} (xs : List A) → Keeps rows to_row (λ a. pos (number a)) xs → AllByRecursion (λ a. find (λ b. eq_by_cmp nat_cmp (number a) (number b)) xs ≡ Some a) xs
-  numbered xs keeps = each_weaker (λ a is. (λ i. find (λ b. sym (number_test (number b) (number a)) i) xs) ∙ is) xs (each_keyed (λ a. pos (number a)) xs keeps)
+  numbered xs keeps = all_weaker _ _ (λ a is. (λ i. find (λ b. sym (number_test (number b) (number a)) i) xs) ∙ is) xs (each_keyed (λ a. pos (number a)) xs keeps)
 
 module _ (db : _) (t : Tables) (ours : HasOurTables db) (it : Stands db t) where
   found_devices : AllByRecursion (λ (k : Kept Device). find (λ j. eq_by_cmp text_cmp k.1.gsrn j.1.gsrn) t.devices ≡ Some k) t.devices
@@ -90,7 +91,7 @@ module _ (db : _) (t : Tables) (ours : HasOurTables db) (it : Stands db t) where
 
   found_lots : list_all is_lot t.lots ≡ true → AreOfOwnPeriods t.lots → AllByRecursion (λ l. find (λ m. eq_by_cmp text_cmp (key_of (lot_of l)) (key_of (lot_of m))) t.lots ≡ Some l) t.lots
   found_lots good own =
-      each_both {Q = λ l. find (is_of_period l.origin l.device l.first_day) t.lots ≡ Some l} (λ l is found. (λ i. find (λ m. periods_are_keys l m is i) t.lots) ∙ found) t.lots (each_passes is_lot t.lots good)
+      all_both _ (λ l. find (is_of_period l.origin l.device l.first_day) t.lots ≡ Some l) _ (λ l is found. (λ i. find (λ m. periods_are_keys l m is i) t.lots) ∙ found) t.lots (all_from_test is_lot t.lots good)
       (each_found (λ l. is_of_period l.origin l.device l.first_day) itself t.lots (λ l. own l.origin l.device l.first_day))
     where
       itself : (l : Lot) → is_of_period l.origin l.device l.first_day l ≡ true

@@ -1,23 +1,20 @@
 -- The rows that are held or expired are in time where their certificates are.
-use Rattle.std.proofs.Common.{◌≡◌, ℕ, pos, [], ◌∷◌, ◌==◌, ◌&&◌, not, List, Bool, true, false, cond, map, is_some, Option, Some, None, option_map, Result, Ok, Err, refl, sym, ap, subst, ◌∙◌, arith, true≢false}
+use Rattle.std.proofs.Common.{◌≡◌, ℕ, pos, [], ◌∷◌, ◌==◌, ◌&&◌, not, List, Bool, true, false, cond, map, is_some, Option, Some, None, option_map, refl, sym, ap, subst, ◌∙◌, arith, true≢false}
 use Rattle.std.specs.List.{list_all}
 use Rattle.std.specs.Option.{option_map_or}
 use Rattle.std.specs.Ordering.{nat_cmp, int_eq}
-use Rattle.std.specs.Result.{result_unwrap_or}
 use Rattle.std.specs.Cmp.{nat_cmp_total}
 use Rattle.std.specs.FinMap.{get, from_entries}
 use Rattle.std.proofs.lemmas.Bool.{and_parts, and_from, eqb-true}
-use Rattle.goo_types.specs.Day.{CalendarDay, IsDay, day_reading, months_after}
-use Rattle.goo_types.specs.Gsrn.{gsrn_reading}
+use Rattle.sqlite_typed.specs.Tests.{bytes_lt, both_and}
+use Rattle.goo_types.specs.Day.{IsDay, day_reading}
 use Rattle.goo_types.specs.Piece.{IsRising}
 use Rattle.goo_types.specs.Place.{account_of}
 use Rattle.goo_types.specs.Texts.{day_text}
-use Rattle.goo_types.specs.declared.day.DayFault.{DayFault}
 use Rattle.goo_types.specs.declared.lot_fields.LotFields.{LotFields}
 use Rattle.goo_types.specs.declared.place.Place.{Place}
 use Rattle.goo_types.specs.declared.place.Place.TheVariants.{Held, Cancelled, Expired, Withdrawn, Exported}
-use Rattle.goo_notice.proofs.LimitLemmas.{IsDay-reading}
-use Rattle.goo_spec.specs.Days.{is_over, is_past}
+use Rattle.goo_spec.specs.Days.{is_over}
 use Rattle.goo_spec.specs.Lots.{is_held, is_expired}
 use Rattle.goo_spec.specs.Sound.{is_open}
 use Rattle.goo_columns.specs.Rows.{Tables, Account, Lot, Meta, lot_key, lot_row, account_key, account_row}
@@ -25,11 +22,10 @@ use Rattle.goo_columns.specs.Stands.{Keeps}
 use Rattle.goo_columns.specs.declared.piece.PieceRow.{PieceRow}
 use Rattle.goo_kept.specs.Kept.{IsKeptLot}
 use Rattle.goo_kept.specs.Places.{place_of, lot_of, rows_of}
-use Rattle.goo_kept.specs.Readable.{reads, is_code, is_plant, is_lot, is_meta, is_piece}
+use Rattle.goo_kept.specs.Readable.{reads, is_code, is_lot, is_meta, is_piece}
 use Rattle.goo_kept.specs.States.{state_of, account_of as account_in, known_account}
-use Rattle.goo_kept.specs.Texts.{day_of, no_day}
-use Rattle.goo_kept.proofs.DayTexts.{earlier_text, later_day}
-use Rattle.goo_kept.proofs.Expiring.{found_passes}
+use Rattle.goo_kept.specs.Texts.{day_of}
+use Rattle.goo_kept.proofs.Expiring.{place_held, stated_day, last_day_read, over_text, found_passes}
 use Rattle.goo_kept.proofs.Known.{only_day}
 use Rattle.goo_kept.proofs.RowsFound.{place_account}
 use Rattle.goo_rules.specs.WellKept.{is_over_at, has_account, has_over, has_closed}
@@ -46,16 +42,6 @@ three_first kind one = ap (λ k. k == 3) (eqb-true kind 1 one)
 three_second : (kind : ℕ) → (kind == 2) ≡ true → (kind == 3) ≡ false
 three_second kind two = ap (λ k. k == 3) (eqb-true kind 2 two)
 
-held_kind : (kind account act : ℕ) → is_held (place_of kind account act) ≡ (kind == 1)
-held_kind kind account act = go (kind == 1) (kind == 2) (kind == 3) (kind == 4)
-  where
-    go : (a b c d : Bool) → is_held (cond a (Held account) (cond b (Cancelled account act) (cond c (Expired account) (cond d (Withdrawn account act) (Exported account act))))) ≡ a
-    go true b c d = refl
-    go false true c d = refl
-    go false false true d = refl
-    go false false false true = refl
-    go false false false false = refl
-
 expired_kind : (kind account act : ℕ) → is_expired (place_of kind account act) ≡ (kind == 3)
 expired_kind kind account act = go (kind == 1) (kind == 2) (kind == 3) (kind == 4) (three_first kind) (three_second kind)
   where
@@ -69,35 +55,21 @@ expired_kind kind account act = go (kind == 1) (kind == 2) (kind == 3) (kind == 
 
 -- ---- days
 
-day_stated : (text : List ℕ) (r : Result CalendarDay DayFault) → day_reading text ≡ r → reads r ≡ true → IsDay (day_of text)
-day_stated text (Ok d) is good = subst IsDay (sym (ap (λ q. result_unwrap_or q no_day) is)) (IsDay-reading text d is)
-day_stated text (Err e) is good = absurd (true≢false (sym good))
-
-second : (a b c : Bool) → a && (b && c) ≡ true → b ≡ true
-second a b c all = (and_parts b c (and_parts a (b && c) all).1).0
-
-fifth : (a b c d e f : Bool) → a && (b && (c && (d && (e && f)))) ≡ true → e ≡ true
-fifth a b c d e f all = second d e f (and_parts c (d && (e && f)) (and_parts b (c && (d && (e && f))) (and_parts a (b && (c && (d && (e && f)))) all).1).1).1
-
-last_day_stated : (l : Lot) → is_lot l ≡ true → IsDay (day_of l.last_day)
-last_day_stated l good =
-    day_stated l.last_day (day_reading l.last_day) refl
-    (fifth (is_code l.origin) (reads (gsrn_reading l.device)) (is_plant l.plant) (reads (day_reading l.first_day)) (reads (day_reading l.last_day)) (reads (day_reading l.issued_on)) good)
-
 today_stated : (m : Meta) → is_meta m ≡ true → IsDay (day_of m.today)
-today_stated m good = day_stated m.today (day_reading m.today) refl (second (is_code m.code) (reads (day_reading m.today)) _ good)
+today_stated m good =
+    let rest = and_parts (is_code m.code) _ good in
+    stated_day m.today (day_reading m.today) refl (and_parts (reads (day_reading m.today)) _ rest.1).0
 
--- the texts of days tell which is past, as the days do
-past_text : (o : Option CalendarDay) (day : CalendarDay) → IsDay day → ((e : CalendarDay) → o ≡ Some e → IsDay e) → is_over_at (day_text day) (option_map day_text o) ≡ is_past o day
-past_text None day valid later = refl
-past_text (Some e) day valid later = earlier_text e day (later e refl) valid
+-- the test of days by their texts is that of the statement
+same_test : (today : List ℕ) (o : Option (List ℕ)) → is_over_at today o ≡ both_and bytes_lt o (Some today)
+same_test today None = refl
+same_test today (Some e) = refl
 
 over_same : (l : Lot) (today : List ℕ) → IsKeptLot l → is_lot l ≡ true → IsDay (day_of today) → is_over_at today l.expires_on ≡ is_over (lot_of l) (day_of today)
-unfolding is_over
 over_same l today kept good valid =
-    let last = last_day_stated l good in
-    (λ i. is_over_at (only_day today (day_of today) valid refl i) (kept.expires i))
-    ∙ past_text (months_after (day_of l.last_day) 18) (day_of today) valid (λ e is. later_day (day_of l.last_day) 18 e last is)
+    (λ i. is_over_at (only_day today (day_of today) valid refl i) l.expires_on)
+    ∙ same_test (day_text (day_of today)) l.expires_on
+    ∙ over_text l (day_of today) valid kept (last_day_read l good)
 
 -- ---- accounts
 
@@ -178,14 +150,14 @@ module _ (t : Tables) (lots_good : list_all is_lot t.lots ≡ true) (meta_good :
   row_in_time p l found passes =
       let both = and_parts (has_account t.accounts p.account) (is_in_time t p) passes in
       in_time_same (p.kind == 1) _ (p.kind == 3) _ (not (has_closed t.accounts p.account)) _ (has_over t.meta.today t.lots p.lot) _
-      (sym (held_kind p.kind p.account p.act)) (sym (expired_kind p.kind p.account p.act)) (sym (open_shut _ (has_account t.accounts p.account) (has_closed t.accounts p.account) (open_row p) both.0)) (over_row p l found)
+      (sym (place_held p.kind p.account p.act)) (sym (expired_kind p.kind p.account p.act)) (sym (open_shut _ (has_account t.accounts p.account) (has_closed t.accounts p.account) (open_row p) both.0)) (over_row p l found)
       (timely_so (p.kind == 1) (p.kind == 3) (has_over t.meta.today t.lots p.lot) (has_closed t.accounts p.account) both.1 (three_first p.kind))
 
   row_timely : (p : PieceRow) (l : Lot) → row_under lot_key t.lots p.lot ≡ Some l → InTime 0 (lot_of l) (place_of p.kind p.account p.act) → is_in_time t p ≡ true
   row_timely p l found it =
       timely_back (p.kind == 1) (p.kind == 3) (has_over t.meta.today t.lots p.lot) (has_closed t.accounts p.account)
       (in_time_same _ (p.kind == 1) _ (p.kind == 3) (not (has_closed t.accounts p.account)) _ _ (has_over t.meta.today t.lots p.lot)
-      (held_kind p.kind p.account p.act) (expired_kind p.kind p.account p.act) refl (sym (over_row p l found))
+      (place_held p.kind p.account p.act) (expired_kind p.kind p.account p.act) refl (sym (over_row p l found))
       (shut_open _ _ _ (has_account t.accounts p.account) (has_closed t.accounts p.account) _ (open_row p) it))
 
   module _ (has_its : HasItsCertificates t) (good : list_all is_piece t.pieces ≡ true) (up : IsRising (rows_of t)) where

@@ -6,6 +6,8 @@ use Rattle.std.specs.List.{list_any, list_all}
 use Rattle.std.specs.Ordering.{eq_by_cmp, is_eq, ordering_then}
 use Rattle.std.specs.Bool.{one_answer}
 use Rattle.std.proofs.lemmas.Bool.{and_parts}
+use Rattle.sqlite_keyed.proofs.ListLemmas.{all_weaker, all_from_test}
+use Rattle.sqlite_keyed.proofs.SliceLemmas.{list_all_same, list_any_same}
 use Rattle.goo_types.specs.Day.{day_reading}
 use Rattle.goo_types.specs.Gsrn.{gsrn_reading}
 use Rattle.goo_types.proofs.LotLemmas.{Decides-same_day}
@@ -21,7 +23,7 @@ use Rattle.goo_kept.specs.Readable.{reads, is_lot, is_declaration}
 use Rattle.goo_kept.specs.Texts.{day_of}
 use Rattle.goo_kept.proofs.Known.{text_same, text_itself}
 use Rattle.goo_rules.specs.WellKept.{has_declaration, is_declared, text_pair_cmp}
-use Rattle.goo_rules.proofs.EachRow.{each_weaker, each_passes, all_alike, any_alike, list_any-map}
+use Rattle.goo_rules.proofs.EachRow.{list_any-map}
 use Rattle.goo_rules.proofs.KeptValues.{rows_same}
 use Rattle.goo_rules.proofs.KeptKeys.{one_day, first_day_reads}
 use Rattle.goo_rules.proofs.NamesRead.{str_test}
@@ -48,8 +50,8 @@ declares_test l d one two =
 
 declared_test : (ds : List Declaration) → list_all is_declaration ds ≡ true → (l : Lot) → is_lot l ≡ true → has_declaration ds l.device l.first_day ≡ list_any (declares (lot_of l)) (map declaration_of ds)
 declared_test ds all l is =
-    any_alike (λ d. eq_by_cmp text_pair_cmp (l.device, l.first_day) (d.device, d.first_day)) (λ d. declares (lot_of l) (declaration_of d)) ds
-    (each_weaker (λ d read. declares_test l d is read) ds (each_passes is_declaration ds all))
+    list_any_same (λ d. eq_by_cmp text_pair_cmp (l.device, l.first_day) (d.device, d.first_day)) (λ d. declares (lot_of l) (declaration_of d)) ds
+    (all_weaker _ _ (λ d read. declares_test l d is read) ds (all_from_test is_declaration ds all))
     ∙ sym (list_any-map (declares (lot_of l)) declaration_of ds)
 
 -- each own lot was declared
@@ -59,5 +61,5 @@ pub declared_rule : (t : Tables) (x : Found) → AreOf t x → list_all is_lot t
 declared_rule t x are lots declarations =
     rows_same (is_declared (has_declaration (map declaration_in x.rows.production.declarations.items)) x.meta.code) lot_in x.rows.production.lots.items t.lots are.lots
     ∙ (λ i. list_all (is_declared (has_declaration (are.declarations i)) (are.meta i).code) t.lots)
-    ∙ all_alike (is_declared (has_declaration t.declarations) t.meta.code) (λ l. not (l.origin == t.meta.code) || list_any (declares (lot_of l)) (map declaration_of t.declarations)) t.lots
-    (each_weaker (λ l read. ap (λ b. not (l.origin == t.meta.code) || b) (declared_test t.declarations declarations l read)) t.lots (each_passes is_lot t.lots lots))
+    ∙ list_all_same (is_declared (has_declaration t.declarations) t.meta.code) (λ l. not (l.origin == t.meta.code) || list_any (declares (lot_of l)) (map declaration_of t.declarations)) t.lots
+    (all_weaker _ _ (λ l read. ap (λ b. not (l.origin == t.meta.code) || b) (declared_test t.declarations declarations l read)) t.lots (all_from_test is_lot t.lots lots))

@@ -8,6 +8,7 @@ use Rattle.std.specs.Cmp.{IsTotalOrder, nat_cmp_total, unsigned_tied}
 use Rattle.std.specs.FinMap.{get, contains_key, from_entries}
 use Rattle.std.proofs.lemmas.Bool.{eqb-true, ne_eqb, and_right, or_from}
 use Rattle.std.proofs.lemmas.Int.{ints}
+use Rattle.sqlite_keyed.proofs.SliceLemmas.{any_is_found}
 use Rattle.goo_columns.specs.Rows.{Account, account_key}
 use Rattle.goo_columns.specs.Stands.{Keeps}
 use Rattle.goo_kept.specs.States.{account_of, known_account}
@@ -54,14 +55,6 @@ module _ {X : Type 0} (number : X → ℕ) (test : X → Bool) (n : ℕ) where
       go false true here same rest = absurd cc
       go false false here same rest = skipped (test x) (list_any has xs) ∙ rest
 
-any_found : {X : Type 0} (test : X → Bool) (xs : List X) → list_any test xs ≡ is_some (find test xs)
-any_found test [] = refl
-any_found test (x ∷ xs) = go (test x) (any_found test xs)
-  where
-    go : (b : Bool) → list_any test xs ≡ is_some (find test xs) → b || list_any test xs ≡ is_some (cond b (Some x) (find test xs))
-    go true rest = refl
-    go false rest = rest
-
 pub still_some : {X Y : Type 0} (f : X → Y) (o : Option X) → is_some (option_map f o) ≡ is_some o
 still_some f None = refl
 still_some f (Some x) = refl
@@ -70,7 +63,7 @@ still_some f (Some x) = refl
 module _ {A K X : Type 0} {R : K → K → Ordering} (o : IsTotalOrder R) (entry : A → K × X) (q : K) where
   pub there : (xs : List A) → list_any (λ a. eq_by_cmp R q (entry a).0) xs ≡ contains_key (from_entries {R = R} (map entry xs)) q
   there xs =
-      any_found (λ a. eq_by_cmp R q (entry a).0) xs ∙ sym (still_some (λ a. (entry a).1) (find (λ a. eq_by_cmp R q (entry a).0) xs))
+      any_is_found (λ a. eq_by_cmp R q (entry a).0) xs ∙ sym (still_some (λ a. (entry a).1) (find (λ a. eq_by_cmp R q (entry a).0) xs))
       ∙ sym (ap is_some (get-known o entry q (λ a. eq_by_cmp R q (entry a).0) (λ a. refl) xs))
 
 -- the account of a number is that of the row of this number

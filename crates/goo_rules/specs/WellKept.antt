@@ -93,9 +93,6 @@ is_over_at today (Some expires_on) = is_lt (text_cmp expires_on today)
 abbrev pub has_over : List ℕ → List Lot → ℕ → Bool
 has_over today lots id = list_any (λ l. is_over_at today l.expires_on && eq_by_cmp nat_cmp id l.id) lots
 
-abbrev pub has_lot : List Lot → ℕ → Bool
-has_lot lots id = list_any (λ l. eq_by_cmp nat_cmp id l.id) lots
-
 -- pairs of numbers, by the first and then by the second
 abbrev pub pair_cmp : ℕ × ℕ → ℕ × ℕ → Ordering
 pair_cmp a b = ordering_then (nat_cmp a.0 b.0) (nat_cmp a.1 b.1)
@@ -109,10 +106,6 @@ abbrev pub is_timely : (ℕ → Bool) → (ℕ → Bool) → PieceRow → Bool
 is_timely is_over is_closed p =
     if p.kind == 1 then not (is_over p.lot) && not (is_closed p.account)
     else (if p.kind == 3 then is_over p.lot else true)
-
--- the code of a piece's certificates is the origin of its lot
-abbrev pub is_of_origin : List Lot → PieceRow → Bool
-is_of_origin lots p = has_lot_of (code_of p.first) lots p.lot
 
 -- ---- lots of the registry itself
 

@@ -4,7 +4,7 @@ ghost use Rattle.std.specs.Prelude.{◌≡◌, ℕ, map, option_map, string_byte
 ghost use Rattle.std.specs.Ordering.{nat_cmp};
 ghost use Rattle.std.specs.BTreeSet.{contains};
 ghost use Rattle.goo_columns.specs.Rows.{account_in, lot_in};
-ghost use Rattle.goo_rules.specs.WellKept.{has_closed, has_over, has_lot, has_lot_of, is_over_at, pair_cmp};
+ghost use Rattle.goo_rules.specs.WellKept.{has_closed, has_over, has_lot_of, is_over_at, pair_cmp};
 
 use goo_columns::account::AccountRow;
 use goo_columns::lot::LotRow;
@@ -51,21 +51,6 @@ pub fn lots_over(alloc: Global, today: &str, rows: &[LotRow]) -> Result<BTreeSet
         if is_past(&row.expires_on, today) {
             set.insert(row.id)?;
         }
-    }
-    Ok(set)
-}
-
-/// The numbers of the lots.
-///
-/// # Errors
-///
-/// Where an allocation is refused.
-pub fn lot_numbers(alloc: Global, rows: &[LotRow]) -> Result<BTreeSet<u64>, AllocError>
-    ensures { IfOk result (λ set. (n : ℕ) → contains nat_cmp set n ≡ has_lot (map lot_in rows.now) n) }
-{
-    let mut set = BTreeSet::new(alloc);
-    for row in rows {
-        set.insert(row.id)?;
     }
     Ok(set)
 }

@@ -2,12 +2,11 @@ use crate::apart::are_apart;
 use crate::declared::{declared_periods, own_lots_are_declared};
 use crate::lists::{accepts_accounts, accepts_holders, accepts_lots, accepts_pieces, are_issued};
 use crate::lots::{has_days_in_order, has_its_expiry};
-use crate::marked::{closed_accounts, lot_numbers, lot_origins, lots_over};
+use crate::marked::{closed_accounts, lot_origins, lots_over};
 use crate::named::account_numbers;
 use crate::named_texts::holder_codes;
 use crate::there::{
     accounts_are_held, pieces_are_in_time, pieces_are_of_origins, pieces_have_accounts,
-    pieces_have_lots,
 };
 use goo_columns::account::AccountRow;
 use goo_columns::declaration::DeclarationRow;
@@ -119,11 +118,9 @@ fn lots_are_judged(rt: HostRuntime) -> Result<(), Fail> {
     assert!(rt; !has_its_expiry(&early));
     let lots = [good];
     assert!(rt; accepts_lots(&lots));
-    let numbers = lot_numbers(alloc, &lots)?;
-    assert!(rt; pieces_have_lots(&[HELD], &numbers));
-    assert!(rt; !pieces_have_lots(&[HELD, LATER], &numbers));
     let origins = lot_origins(alloc, &lots)?;
     assert!(rt; pieces_are_of_origins(&[HELD], &origins));
+    assert!(rt; !pieces_are_of_origins(&[HELD, LATER], &origins));
     Ok(())
 }
 

@@ -86,13 +86,6 @@ pub fn pieces_have_acts(rows: &[PieceRow], acts: &ActNumbers) -> bool
     rows.iter().all(|row| has_act(row, acts))
 }
 
-/// Whether each piece's lot is one of these.
-pub fn pieces_have_lots(rows: &[PieceRow], lots: &BTreeSet<u64>) -> bool
-    ensures { result ≡ list_all (λ row. contains nat_cmp lots.now row.lot) rows.now }
-{
-    rows.iter().all(|row| has(lots, &row.lot))
-}
-
 /// Whether a piece may be in its place today.
 fn is_in_time(row: &PieceRow, over: &BTreeSet<u64>, closed: &BTreeSet<u32>) -> bool
     ensures { result ≡ is_timely (contains nat_cmp over.now) (contains nat_cmp closed.now) row.now }

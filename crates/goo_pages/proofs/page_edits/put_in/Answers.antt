@@ -2,7 +2,7 @@ use Rattle.std.proofs.Common.{◌≡◌, leb, true, false, arith, rules, sym}
 use Rattle.std.proofs.lemmas.List.Sorted.{IsPartitionPoint-from_clause, IsPartitionedBy-leb, IsNonDecreasingBy-insert}
 use Rattle.std.proofs.lemmas.Bool.Decides.{nat_tests}
 use Rattle.std.specs.List.Sorted.{IsPartitionPoint}
-use Rattle.goo_pages.proofs.EditLemmas.{with-inserted}
+use Rattle.goo_rows.proofs.EditingRows.{with-inserted}
 use Rattle.goo_pages.proofs.page_edits.put_in.Goals as goal
 use Rattle.goo_pages.proofs.page_edits.put_in.Goals.{After-unwrap}
 

@@ -2,7 +2,7 @@ use Rattle.std.proofs.Common.{ltb, arith, rules, sym}
 use Rattle.std.proofs.lemmas.List.Sorted.{IsPartitionPoint-from_clause, IsPartitionedBy-ltb}
 use Rattle.std.proofs.lemmas.Bool.Decides.{nat_tests}
 use Rattle.std.proofs.lemmas.List.{get_or_read}
-use Rattle.goo_pages.proofs.EditLemmas.{without-found, without-missed, removed-sorted}
+use Rattle.goo_rows.proofs.EditingRows.{without-found, without-missed, removed-sorted}
 use Rattle.goo_pages.proofs.page_edits.take_out.Goals as goal
 use Rattle.goo_pages.proofs.page_edits.take_out.Goals.{else-index-len-via-then-index-len+else-eq, else-index-len-via-else-index-len}
 

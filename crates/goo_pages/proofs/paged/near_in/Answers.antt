@@ -23,7 +23,7 @@ returns c =
       | else-loop-page-test w ↦ c.loop-page.invariant ∙ ap (λ l. meeting c.args.range (joined l)) (take_all c.loop-page.page-index xs (omega arith))
       | then-loop-page-test+then-begins_after w ↦
           let last : c.get-last.result ≡ c.args.range.last = c.get-last.ensures.value ∙ c.last.ensures.value in
-          let said : BeginAfter (c.get-last.result + 1) w.page-item.result = w.begins_after.ensures w.if-begins_after.true in
+          let said : BeginAfter (c.get-last.result + 1) w.page-item.result = w.begins_after.ensures.0 w.if-begins_after.true in
           let here : BeginAfter (c.get-last.result + 1) (get_or xs c.loop-page.page-index w.page-item.result) = subst (BeginAfter (c.get-last.result + 1)) w.page-item.is said in
           let after : BeginAfter (c.args.range.last + 1) (get_or xs c.loop-page.page-index w.page-item.result) = subst (λ (n : ℕ). BeginAfter (n + 1) (get_or xs c.loop-page.page-index w.page-item.result)) last here in
           c.loop-page.invariant ∙ meeting-ended c.args.range xs c.loop-page.page-index w.page-item.result c.requires w.loop-page-test.true after
