@@ -73,7 +73,7 @@ earned db m x ours one all = (
 
 module _ (a b c : State) (m : MetaRow) (one : Finds a b (Ok m) ShowsMeta) where
   first : OnlyReads a b (Ok m) ShowsMeta
-  first = record { clean = one.clean; rests = one.rests; works = one.works; seen = one.seen; crash = one.crash; counts = one.counts; limit = one.limit; faulty = λ _ _ _ _ _ _. tt }
+  first = record { clean = one.clean; outside = one.outside; rests = one.rests; works = one.works; seen = one.seen; crash = one.crash; counts = one.counts; limit = one.limit; faulty = λ _ _ _ _ _ _. tt }
 
   -- all was read
   pub found : (x : AllRows) → OnlyReads b c (Ok x) ShowsAll → Finds a c (Ok (record { meta = m; rows = x })) ShowsTables
@@ -81,6 +81,7 @@ module _ (a b c : State) (m : MetaRow) (one : Finds a b (Ok m) ShowsMeta) where
       let both = reads_then a b c m (Ok x) ShowsMeta ShowsAll first two in
       record {
         clean = both.clean;
+        outside = both.outside;
         rests = both.rests;
         works = both.works;
         seen = λ clean it. let seen = both.seen clean it in earned a.now m x it.0 seen.0 seen.1;
@@ -96,6 +97,7 @@ module _ (a b c : State) (m : MetaRow) (one : Finds a b (Ok m) ShowsMeta) where
       let both = reads_then a b c m (Err e) ShowsMeta ShowsAll first two in
       record {
         clean = both.clean;
+        outside = both.outside;
         rests = both.rests;
         works = tt;
         seen = λ _ _. tt;

@@ -1,5 +1,5 @@
 -- What is found where the tables of a registry are looked for.
-use Rattle.std.specs.Prelude.{◌≡◌, ◌⊎◌, ◌≤◌, List, [], ◌∷◌, map, None, Result, IfOk, IfErr, OnOk, IsTrue}
+use Rattle.std.specs.Prelude.{◌≡◌, ◌⊎◌, ◌≤◌, false, List, [], ◌∷◌, map, None, Result, IfOk, IfErr, OnOk, IsTrue}
 use Rattle.sqlite.specs.State.{State, HasCleanDisk}
 use Rattle.sqlite.specs.Tree.{Trees}
 use Rattle.sqlite.specs.Effect.{Database}
@@ -52,6 +52,7 @@ IsOutside f = (f ≡ Store) ⊎ (f ≡ Memory)
 -- `right`: tables that can be read are refused for want of memory or a fault of the store alone.
 pub record Finds {T : Type 0} (old new : State) (result : Result T OpenFault) (Shows : Database → T → Type 0) : Type 0 where
   pub clean : HasCleanDisk new → HasCleanDisk old
+  pub outside : old.in_transaction ≡ false → new.in_transaction ≡ false
   pub rests : HasCleanDisk new → IsMet old → Rests old new
   pub works : OnOk result (HasCleanDisk new → IsTrue new.is_open)
   pub seen : HasCleanDisk new → IsMet old → IfOk result (Shows old.now)

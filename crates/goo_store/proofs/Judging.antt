@@ -31,6 +31,7 @@ module _ (rules : RulesAreThose) (old new : State) where
     pub judged_right : (y : T) → KeepsRules x → Judges {T = T} old new (Ok y)
     judged_right y keeps = record {
       clean = finds.clean;
+      outside = finds.outside;
       rests = finds.rests;
       works = finds.works;
       kept = λ clean met.
@@ -44,6 +45,7 @@ module _ (rules : RulesAreThose) (old new : State) where
     pub judged_wrong : (KeepsRules x → ⊥) → Judges {T = T} old new (Err Damaged)
     judged_wrong wrong = record {
       clean = finds.clean;
+      outside = finds.outside;
       rests = finds.rests;
       works = tt;
       kept = λ _ _. tt;
@@ -55,12 +57,13 @@ module _ (rules : RulesAreThose) (old new : State) where
 
     -- memory was refused
     pub judged_short : Judges {T = T} old new (Err Memory)
-    judged_short = record { clean = finds.clean; rests = finds.rests; works = tt; kept = λ _ _. tt; right = λ _ _ _ _ _ _. inr refl; crash = finds.crash }
+    judged_short = record { clean = finds.clean; outside = finds.outside; rests = finds.rests; works = tt; kept = λ _ _. tt; right = λ _ _ _ _ _ _. inr refl; crash = finds.crash }
 
   -- the tables weren't found
   pub not_judged : {T : Type 0} (f : OpenFault) → Finds {T = Found} old new (Err f) ShowsTables → Judges {T = T} old new (Err f)
   not_judged f finds = record {
     clean = finds.clean;
+    outside = finds.outside;
     rests = finds.rests;
     works = tt;
     kept = λ _ _. tt;

@@ -1,5 +1,5 @@
 -- What opening a registry says.
-use Rattle.std.specs.Prelude.{◌≡◌, None, Result, IfErr, OnOk, IsTrue}
+use Rattle.std.specs.Prelude.{◌≡◌, false, None, Result, IfErr, OnOk, IsTrue}
 use Rattle.sqlite.specs.State.{State, HasCleanDisk}
 use Rattle.sqlite.specs.Tree.{Trees}
 use Rattle.goo_columns.specs.Rows.{Tables}
@@ -13,6 +13,7 @@ use Rattle.goo_opening.specs.declared.fault.OpenFault.{OpenFault}
 -- rules are refused for want of memory or a fault of the store alone.
 pub record Judges {T : Type 0} (old new : State) (result : Result T OpenFault) : Type 0 where
   pub clean : HasCleanDisk new → HasCleanDisk old
+  pub outside : old.in_transaction ≡ false → new.in_transaction ≡ false
   pub rests : HasCleanDisk new → IsMet old → Rests old new
   pub works : OnOk result (HasCleanDisk new → IsTrue new.is_open)
   pub kept : HasCleanDisk new → IsMet old → OnOk result ((t : Tables) × Stands old.now t × AreKept t)

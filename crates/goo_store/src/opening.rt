@@ -44,7 +44,7 @@ impl<S: Alter> SqlShelf<S> {
     /// # Errors
     ///
     /// The database, unchanged, with `NotARegistry`, `Version` or `Damaged` where it holds no registry whose tables keep the
-    /// rules; with `Store` where a call was refused or left a transaction open, and `Memory` where memory was.
+    /// rules; with `Store` where a call was refused, and `Memory` where memory was. It is outside a transaction.
     pub fn open(
         alloc: Global,
         conn: Connection<S>,
@@ -59,15 +59,12 @@ impl<S: Alter> SqlShelf<S> {
         ensures rests { IfOk result (λ shelf. HasCleanDisk (view S.Store shelf.conn) → Rests (view S.Store conn) (view S.Store shelf.conn)) }
         ensures refused { IfErr result (λ e. HasCleanDisk (view S.Store e.0) → (view S.Store conn).step_limit ≡ None → (t : Tables) → Stands (view S.Store conn).now t → AreKept t → IsOutside e.1) }
         ensures unchanged { IfErr result (λ e. HasCleanDisk (view S.Store e.0) → Rests (view S.Store conn) (view S.Store e.0)) }
+        ensures outside { IfErr result (λ e. e.0.in_transaction ≡ false) }
         ensures crash { IfErr result (λ e. HasCleanDisk (view S.Store e.0) → (db : Trees) → (view S.Store e.0).may_leave db → (view S.Store conn).may_leave db) }
     {
         let mut conn = conn;
         let _settled = conn.is_autocommit();
-        let judged = judge(alloc, &mut conn);
-        if !conn.is_autocommit() {
-            return Err((conn, OpenFault::Store));
-        }
-        match judged {
+        match judge(alloc, &mut conn) {
             Ok(()) => Ok(SqlShelf::over(alloc, conn)),
             Err(fault) => Err((conn, fault)),
         }

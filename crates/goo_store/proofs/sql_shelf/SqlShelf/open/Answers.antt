@@ -14,14 +14,14 @@ pub over-requires-clause-well : goal.over-requires-clause-well
 over-requires-clause-well g c =
     let out : IsTrue c.is_autocommit-settled.result = search rules in
     let met : HasCleanDisk (view g.S.Store c.args.conn) → IsMet (view g.S.Store c.args.conn) = λ clean. (c.requires.ours clean, λ live. c.is_autocommit-settled.ensures.settled out live) in
-    opened_well (view g.S.Store c.args.conn) (view g.S.Store c.judge-judged.new.conn) c.in-Ok.field-0 c.in-Ok.ensures met
+    opened_well (view g.S.Store c.args.conn) (view g.S.Store c.judge.new.conn) c.in-Ok.field-0 c.in-Ok.ensures met
 
 pub returns-in-Ok-clause-state : goal.returns-in-Ok-clause-state
 returns-in-Ok-clause-state g c = λ t stands.
     let out : IsTrue c.is_autocommit-settled.result = search rules in
     let met : HasCleanDisk (view g.S.Store c.args.conn) → IsMet (view g.S.Store c.args.conn) = λ clean. (c.requires.ours clean, λ live. c.is_autocommit-settled.ensures.settled out live) in
     subst (λ conn. doubts (view g.S.Store conn) ≡ 0 → state_of (tables_in (view g.S.Store conn)) ≡ state_of t) (sym c.over.ensures.conn)
-    (opened_state (view g.S.Store c.args.conn) (view g.S.Store c.judge-judged.new.conn) c.in-Ok.field-0 c.in-Ok.ensures met t stands)
+    (opened_state (view g.S.Store c.args.conn) (view g.S.Store c.judge.new.conn) c.in-Ok.field-0 c.in-Ok.ensures met t stands)
 
 pub returns-in-Ok-clause-ready : goal.returns-in-Ok-clause-ready
 returns-in-Ok-clause-ready g c = record {
@@ -35,7 +35,7 @@ returns-in-Ok-clause-kept g c = λ t stands.
     let out : IsTrue c.is_autocommit-settled.result = search rules in
     let met : HasCleanDisk (view g.S.Store c.args.conn) → IsMet (view g.S.Store c.args.conn) = λ clean. (c.requires.ours clean, λ live. c.is_autocommit-settled.ensures.settled out live) in
     subst (λ conn. HasCleanDisk (view g.S.Store conn) → AreKept t) (sym c.over.ensures.conn)
-    (λ clean. opened_kept (view g.S.Store c.args.conn) (view g.S.Store c.judge-judged.new.conn) c.in-Ok.field-0 c.in-Ok.ensures met t stands clean)
+    (λ clean. opened_kept (view g.S.Store c.args.conn) (view g.S.Store c.judge.new.conn) c.in-Ok.field-0 c.in-Ok.ensures met t stands clean)
 
 pub returns-in-Ok-clause-rests : goal.returns-in-Ok-clause-rests
 returns-in-Ok-clause-rests g c =
