@@ -1,6 +1,7 @@
 //! Why tables are not opened as a registry, or not made one.
 
-ghost use Rattle.std.specs.Prelude.{◌≡◌, IsTrue};
+ghost use Rattle.std.specs.Prelude.{◌≡◌, ◌⊎◌, IsTrue};
+ghost use Rattle.goo_columns.specs.Readable.{is_read_error};
 ghost use Rattle.goo_columns.specs.Refused.{is_store_error};
 
 use sqlite::{Error, ErrorCode};
@@ -26,6 +27,8 @@ pub enum OpenFault {
 pub fn fault_of(error: Error, missing: OpenFault) -> OpenFault
     ensures memory { error ≡ Error.SqliteFailure ErrorCode.OutOfMemory → result ≡ OpenFault.Memory }
     ensures store { IsTrue (is_store_error error) → result ≡ OpenFault.Store }
+    ensures unread { IsTrue (is_read_error error) → result ≡ OpenFault.Damaged }
+    ensures words { ((result ≡ OpenFault.Store) ⊎ (result ≡ OpenFault.Memory)) ⊎ ((result ≡ OpenFault.Damaged) ⊎ (result ≡ missing)) }
 {
     match error {
         Error::SqliteFailure(ErrorCode::OutOfMemory) => OpenFault::Memory,
