@@ -1,5 +1,5 @@
 -- Calls that only read, one after another.
-use Rattle.std.proofs.Common.{◌≡◌, ◌≤◌, inl, inr, Ok, Err, Result, IfOk, IfErr, IsTrue, sym, subst, ◌∙◌, arith, true≢false}
+use Rattle.std.proofs.Common.{◌≡◌, ◌≤◌, inl, inr, Ok, Err, Result, false, IfOk, IfErr, IsTrue, sym, subst, ◌∙◌, arith, true≢false}
 use Rattle.sqlite.specs.State.{State, HasCleanDisk, Survives}
 use Rattle.sqlite.specs.Tree.{Trees}
 use Rattle.sqlite.specs.Effect.{Database}
@@ -15,9 +15,10 @@ no_more old new s clean db left = elim (s.crash clean db left) [ inl before ↦ 
 
 -- one statement on a whole table
 pub reads_table : {T : Type 0} (old new : State) (r : Result T Error) (right : Tables → T → Type 0) (Shows : Database → T → Type 0) (P : Tables → Type 0) → Looks old new r right
-    → (HasCleanDisk new → HasOurTables old.now → IfOk r (Shows old.now)) → FailsOnlyByFault old new r P → ((t : Tables) → CanBeRead t → P t) → OnlyReads old new r Shows
-reads_table old new r right Shows P looks met readable can = record {
+    → (old.in_transaction ≡ false → new.in_transaction ≡ false) → (HasCleanDisk new → HasOurTables old.now → IfOk r (Shows old.now)) → FailsOnlyByFault old new r P → ((t : Tables) → CanBeRead t → P t) → OnlyReads old new r Shows
+reads_table old new r right Shows P looks outside met readable can = record {
   clean = λ h. omega (arith, h, looks.clean);
+  outside = outside;
   rests = λ clean it. looks.rests clean it.0.schema it.1;
   works = looks.works;
   seen = λ clean it. met clean it.0;
@@ -63,6 +64,7 @@ module _ {T U : Type 0} (a b c : State) (x : T) (r : Result U Error) (First : Da
   pub reads_then : OnlyReads a c r (λ db y. First db x × Next db y)
   reads_then = record {
     clean = λ h. one.clean (two.clean h);
+    outside = λ h. two.outside (one.outside h);
     rests = rests;
     works = two.works;
     seen = λ clean it. both r (two.seen clean (middle clean it)) (same clean it) (one.seen (two.clean clean) it);
@@ -75,8 +77,8 @@ module _ {T U : Type 0} (a b c : State) (x : T) (r : Result U Error) (First : Da
   }
 
 pub reads_failed : {T U : Type 0} (a b : State) (e : Error) (First : Database → T → Type 0) (Next : Database → U → Type 0) → OnlyReads a b (Err e) First → OnlyReads a b (Err e) Next
-reads_failed a b e First Next h = record { clean = h.clean; rests = h.rests; works = tt; seen = λ clean it. tt; crash = h.crash; counts = h.counts; limit = h.limit; faulty = h.faulty }
+reads_failed a b e First Next h = record { clean = h.clean; outside = h.outside; rests = h.rests; works = tt; seen = λ clean it. tt; crash = h.crash; counts = h.counts; limit = h.limit; faulty = h.faulty }
 
 pub reads_made : {T U : Type 0} (a b : State) (x : T) (y : U) (First : Database → T → Type 0) (Next : Database → U → Type 0) → OnlyReads a b (Ok x) First → ((db : Database) → First db x → Next db y)
     → OnlyReads a b (Ok y) Next
-reads_made a b x y First Next h made = record { clean = h.clean; rests = h.rests; works = h.works; seen = λ clean it. made a.now (h.seen clean it); crash = h.crash; counts = h.counts; limit = h.limit; faulty = λ clean it unlimited t stands reads. tt }
+reads_made a b x y First Next h made = record { clean = h.clean; outside = h.outside; rests = h.rests; works = h.works; seen = λ clean it. made a.now (h.seen clean it); crash = h.crash; counts = h.counts; limit = h.limit; faulty = λ clean it unlimited t stands reads. tt }

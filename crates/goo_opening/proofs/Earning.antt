@@ -1,21 +1,24 @@
 -- From the rows that were read to the tables that hold them.
-use Rattle.std.proofs.Common.{◌≡◌, inl, inr, map, Ok, Err, IsTrue, refl, sym}
+use Rattle.std.proofs.Common.{◌≡◌, ◌⊎◌, ◌∷◌, [], pos, false, All, inl, inr, map, Ok, Err, IsTrue, refl, sym, ◌∙◌}
 use Rattle.sqlite.specs.State.{State}
 use Rattle.sqlite.specs.Effect.{Database}
 use Rattle.sqlite.specs.declared.error.Error.{Error}
 use Rattle.sqlite.specs.declared.error.Error.TheVariants.{SqliteFailure}
 use Rattle.sqlite.specs.declared.error.ErrorCode.TheVariants.{OutOfMemory}
-use Rattle.goo_columns.specs.Rows.{Tables, meta_in, account_in, declaration_in, lot_in, cancellation_in, withdrawal_in, notice_out_in}
+use Rattle.sqlite.specs.declared.types.Value.TheVariants.{Int}
+use Rattle.goo_columns.specs.Readable.{is_read_error, numbered_meta_readable}
+use Rattle.goo_columns.specs.Rows.{Tables, meta_columns, meta_in, account_in, declaration_in, lot_in, cancellation_in, withdrawal_in, notice_out_in}
 use Rattle.goo_columns.specs.Met.{HasOurTables}
-use Rattle.goo_columns.specs.Refused.{IsFault, is_store_error}
+use Rattle.goo_columns.specs.Refused.{IsFault, FailsByFault, FailsOnlyByFault, is_store_error}
+use Rattle.goo_columns.specs.Stands.{Looks}
 use Rattle.goo_columns.specs.declared.meta.MetaRow.{MetaRow}
-use Rattle.goo_opening.specs.Reading.{OnlyReads}
+use Rattle.goo_opening.specs.Reading.{CanBeRead, OnlyReads}
 use Rattle.goo_opening.specs.Shown.{ShowsAll}
-use Rattle.goo_opening.specs.Found.{Finds, ShowsMeta, ShowsTables, IsOutside}
+use Rattle.goo_opening.specs.Found.{Finds, ShowsMeta, ShowsTables, IsOutside, IsWord}
 use Rattle.goo_opening.specs.declared.rows.AllRows.{AllRows}
 use Rattle.goo_opening.specs.declared.fault.OpenFault.{OpenFault}
-use Rattle.goo_opening.specs.declared.fault.OpenFault.TheVariants.{Store, Memory}
-use Rattle.goo_opening.proofs.Chaining.{reads_then}
+use Rattle.goo_opening.specs.declared.fault.OpenFault.TheVariants.{Damaged, Store, Memory}
+use Rattle.goo_opening.proofs.Chaining.{reads_table, reads_then}
 
 abbrev tables : (m : MetaRow) (db : Database) (x : AllRows) → ShowsAll db x → Tables
 tables m db x shows = record {
@@ -71,9 +74,53 @@ earned db m x ours one all = (
   one.version,
 )
 
+-- a fault of memory or of the store is none of the tables'
+not_damaged : (f : OpenFault) → f ≡ Damaged → IsOutside f → ⊥
+not_damaged f is (inl store) = absurd (apart (sym is ∙ store))
+  where
+    apart : Damaged ≡ Store → ⊥
+    apart same = absurd cc
+not_damaged f is (inr memory) = absurd (apart (sym is ∙ memory))
+  where
+    apart : Damaged ≡ Memory → ⊥
+    apart same = absurd cc
+
+-- a word from outside or `Damaged`, where tables that can be read are refused from outside alone
+unread_word : (t : Tables) (f : OpenFault) → IsOutside f ⊎ (f ≡ Damaged) → (CanBeRead t → IsOutside f) → IsWord t f
+unread_word t f (inl outside) readable = inl outside
+unread_word t f (inr damaged) readable = inr (inl (damaged, λ can. not_damaged f damaged (readable can)))
+
+-- the row of `meta` wasn't read
+module _ (a c : State) (e : Error) (f : OpenFault) (memory : e ≡ SqliteFailure OutOfMemory → f ≡ Memory) (store : IsTrue (is_store_error e) → f ≡ Store) where
+  outside_of : IsFault a c e → IsOutside f
+  outside_of (inl want) = inr (memory want)
+  outside_of (inr fault) = inl (store fault.0)
+
+  told_of : (IsTrue (is_read_error e) → f ≡ Damaged) → IsFault a c e ⊎ IsTrue (is_read_error e) → IsOutside f ⊎ (f ≡ Damaged)
+  told_of unread (inl fault) = inl (outside_of fault)
+  told_of unread (inr wrong) = inr (unread wrong)
+
+  pub row_unread : {T : Type 0} (right : Tables → T → Type 0) → Looks a c (Err e) right → (a.in_transaction ≡ false → c.in_transaction ≡ false)
+      → FailsOnlyByFault {T = T} a c (Err e) (λ t. All numbered_meta_readable (map (λ m. Int (pos 1) ∷ meta_columns m) (t.meta ∷ []))) → FailsByFault {T = T} a c (Err e)
+      → (IsTrue (is_read_error e) → f ≡ Damaged) → Finds a c (Err f) ShowsMeta
+  row_unread {T} right looks outside readable refused unread =
+      let base = reads_table {T = T} a c (Err e) right (λ _ _. ⊥) _ looks outside (λ _ _. tt) readable (λ _ can. can.meta) in
+      record {
+        clean = base.clean;
+        outside = base.outside;
+        rests = base.rests;
+        works = tt;
+        seen = λ _ _. tt;
+        crash = base.crash;
+        counts = base.counts;
+        limit = base.limit;
+        right = λ clean it unlimited t stands good. outside_of (base.faulty clean it unlimited t stands good.0);
+        words = λ clean it unlimited t stands. unread_word t f (told_of unread (refused clean it.0.schema unlimited)) (λ can. outside_of (base.faulty clean it unlimited t stands can));
+      }
+
 module _ (a b c : State) (m : MetaRow) (one : Finds a b (Ok m) ShowsMeta) where
   first : OnlyReads a b (Ok m) ShowsMeta
-  first = record { clean = one.clean; rests = one.rests; works = one.works; seen = one.seen; crash = one.crash; counts = one.counts; limit = one.limit; faulty = λ _ _ _ _ _ _. tt }
+  first = record { clean = one.clean; outside = one.outside; rests = one.rests; works = one.works; seen = one.seen; crash = one.crash; counts = one.counts; limit = one.limit; faulty = λ _ _ _ _ _ _. tt }
 
   -- all was read
   pub found : (x : AllRows) → OnlyReads b c (Ok x) ShowsAll → Finds a c (Ok (record { meta = m; rows = x })) ShowsTables
@@ -81,6 +128,7 @@ module _ (a b c : State) (m : MetaRow) (one : Finds a b (Ok m) ShowsMeta) where
       let both = reads_then a b c m (Ok x) ShowsMeta ShowsAll first two in
       record {
         clean = both.clean;
+        outside = both.outside;
         rests = both.rests;
         works = both.works;
         seen = λ clean it. let seen = both.seen clean it in earned a.now m x it.0 seen.0 seen.1;
@@ -88,23 +136,27 @@ module _ (a b c : State) (m : MetaRow) (one : Finds a b (Ok m) ShowsMeta) where
         counts = both.counts;
         limit = both.limit;
         right = λ _ _ _ _ _ _. tt;
+        words = λ _ _ _ _ _. tt;
       }
 
   -- the rows of the tables weren't read
-  pub not_found : (e : Error) (f : OpenFault) → OnlyReads b c (Err e) ShowsAll → (e ≡ SqliteFailure OutOfMemory → f ≡ Memory) → (IsTrue (is_store_error e) → f ≡ Store) → Finds a c (Err f) ShowsTables
-  not_found e f two memory store =
+  pub not_found : (e : Error) (f : OpenFault) → OnlyReads b c (Err e) ShowsAll → (e ≡ SqliteFailure OutOfMemory → f ≡ Memory) → (IsTrue (is_store_error e) → f ≡ Store) → IsOutside f ⊎ ((f ≡ Damaged) ⊎ (f ≡ Damaged)) → Finds a c (Err f) ShowsTables
+  not_found e f two memory store said =
       let both = reads_then a b c m (Err e) ShowsMeta ShowsAll first two in
       record {
         clean = both.clean;
+        outside = both.outside;
         rests = both.rests;
         works = tt;
         seen = λ _ _. tt;
         crash = both.crash;
         counts = both.counts;
         limit = both.limit;
-        right = λ clean it unlimited t stands good. outside (both.faulty clean it unlimited t stands good.0);
+        right = λ clean it unlimited t stands good. outside_of a c e f memory store (both.faulty clean it unlimited t stands good.0);
+        words = λ clean it unlimited t stands. unread_word t f (once said) (λ can. outside_of a c e f memory store (both.faulty clean it unlimited t stands can));
       }
     where
-      outside : IsFault a c e → IsOutside f
-      outside (inl want) = inr (memory want)
-      outside (inr fault) = inl (store fault.0)
+      once : IsOutside f ⊎ ((f ≡ Damaged) ⊎ (f ≡ Damaged)) → IsOutside f ⊎ (f ≡ Damaged)
+      once (inl out) = inl out
+      once (inr (inl is)) = inr is
+      once (inr (inr is)) = inr is

@@ -1,5 +1,5 @@
 -- What is found where the tables of a registry are looked for.
-use Rattle.std.specs.Prelude.{◌≡◌, ◌⊎◌, ◌≤◌, ◌==◌, if◌then◌else◌, List, [], ◌∷◌, map, None, Result, IfOk, IfErr, OnOk, IsTrue}
+use Rattle.std.specs.Prelude.{◌≡◌, ◌⊎◌, ◌≤◌, ◌==◌, if◌then◌else◌, false, List, [], ◌∷◌, map, None, Result, IfOk, IfErr, OnOk, IsTrue}
 use Rattle.sqlite.specs.State.{State, HasCleanDisk}
 use Rattle.sqlite.specs.Tree.{Trees}
 use Rattle.sqlite.specs.Effect.{Database}
@@ -8,7 +8,7 @@ use Rattle.goo_columns.specs.Stands.{Stands, Rests}
 use Rattle.goo_columns.specs.declared.meta.MetaRow.{MetaRow}
 use Rattle.goo_opening.specs.Reading.{CanBeRead, IsMet}
 use Rattle.goo_opening.specs.declared.fault.OpenFault.{OpenFault}
-use Rattle.goo_opening.specs.declared.fault.OpenFault.TheVariants.{NotARegistry, Version, Store, Memory}
+use Rattle.goo_opening.specs.declared.fault.OpenFault.TheVariants.{NotARegistry, Version, Damaged, Store, Memory}
 use Rattle.goo_opening.specs.declared.finding.Found.{Found}
 
 -- the values of rows under rowids of their own
@@ -54,10 +54,15 @@ IsReadable t = CanBeRead t × (t.meta.version ≡ 1)
 abbrev pub IsOutside : OpenFault → Type 0
 IsOutside f = (f ≡ Store) ⊎ (f ≡ Memory)
 
+-- The word for tables that are refused: one from outside, `Damaged` where a value can't be read, or their version, which isn't 1.
+abbrev pub IsWord : Tables → OpenFault → Type 0
+IsWord t f = IsOutside f ⊎ (((f ≡ Damaged) × ¬ CanBeRead t) ⊎ ((f ≡ Version t.meta.version) × ¬ (t.meta.version ≡ 1)))
+
 -- A call that reads and changes nothing, as `OnlyReads`, whose refusals are words on the tables.
 -- `right`: tables that can be read are refused for want of memory or a fault of the store alone.
 pub record Finds {T : Type 0} (old new : State) (result : Result T OpenFault) (Shows : Database → T → Type 0) : Type 0 where
   pub clean : HasCleanDisk new → HasCleanDisk old
+  pub outside : old.in_transaction ≡ false → new.in_transaction ≡ false
   pub rests : HasCleanDisk new → IsMet old → Rests old new
   pub works : OnOk result (HasCleanDisk new → IsTrue new.is_open)
   pub seen : HasCleanDisk new → IsMet old → IfOk result (Shows old.now)
@@ -65,3 +70,4 @@ pub record Finds {T : Type 0} (old new : State) (result : Result T OpenFault) (S
   pub counts : HasCleanDisk new → IsMet old → old.faults ≤ new.faults
   pub limit : HasCleanDisk new → IsMet old → new.step_limit ≡ old.step_limit
   pub right : HasCleanDisk new → IsMet old → old.step_limit ≡ None → (t : Tables) → Stands old.now t → IsReadable t → IfErr result IsOutside
+  pub words : HasCleanDisk new → IsMet old → old.step_limit ≡ None → (t : Tables) → Stands old.now t → IfErr result (IsWord t)

@@ -1,5 +1,5 @@
 -- What a call that only reads the tables says.
-use Rattle.std.specs.Prelude.{◌≡◌, ◌≤◌, pos, [], ◌∷◌, All, map, None, Result, IfOk, IfErr, OnOk, IsTrue}
+use Rattle.std.specs.Prelude.{◌≡◌, ◌≤◌, false, pos, [], ◌∷◌, All, map, None, Result, IfOk, IfErr, OnOk, IsTrue}
 use Rattle.sqlite.specs.State.{State, HasCleanDisk}
 use Rattle.sqlite.specs.Tree.{Trees}
 use Rattle.sqlite.specs.Effect.{Database}
@@ -33,9 +33,10 @@ IsMet s = HasOurTables s.now × IsSettled s
 
 -- Everything is said of a disk that has returned what was written.
 -- `seen` is what was found, in the database as it was and is; `rests` holds after an error too; `crash`: a crash finds nothing new;
--- `faulty`: over tables that can be read, an error is a fault of memory or of the store.
+-- `outside`: no transaction is begun; `faulty`: over tables that can be read, an error is a fault of memory or of the store.
 pub record OnlyReads {T : Type 0} (old new : State) (result : Result T Error) (Shows : Database → T → Type 0) : Type 0 where
   pub clean : HasCleanDisk new → HasCleanDisk old
+  pub outside : old.in_transaction ≡ false → new.in_transaction ≡ false
   pub rests : HasCleanDisk new → IsMet old → Rests old new
   pub works : OnOk result (HasCleanDisk new → IsTrue new.is_open)
   pub seen : HasCleanDisk new → IsMet old → IfOk result (Shows old.now)

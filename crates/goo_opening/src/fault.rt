@@ -1,6 +1,6 @@
 //! Why tables are not opened as a registry, or not made one.
 
-ghost use Rattle.std.specs.Prelude.{◌≡◌, IsTrue};
+ghost use Rattle.std.specs.Prelude.{◌≡◌, ◌⊎◌, IsTrue};
 ghost use Rattle.goo_columns.specs.Readable.{is_read_error};
 ghost use Rattle.goo_columns.specs.Refused.{is_store_error};
 
@@ -29,6 +29,7 @@ pub fn fault_of(error: Error, missing: OpenFault) -> OpenFault
     ensures store { IsTrue (is_store_error error) → result ≡ OpenFault.Store }
     ensures unread { IsTrue (is_read_error error) → result ≡ OpenFault.Damaged }
     ensures missing { (cause : _) → error ≡ Error.SqlInputError cause → result ≡ missing }
+    ensures words { ((result ≡ OpenFault.Store) ⊎ (result ≡ OpenFault.Memory)) ⊎ ((result ≡ OpenFault.Damaged) ⊎ (result ≡ missing)) }
 {
     match error {
         Error::SqliteFailure(ErrorCode::OutOfMemory) => OpenFault::Memory,

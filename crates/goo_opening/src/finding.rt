@@ -2,8 +2,8 @@
 
 ghost use Rattle.std.specs.Prelude.{◌≡◌, [], ◌∷◌, map, IfOk, IfErr};
 ghost use Rattle.sqlite.specs.Held.{state};
-ghost use Rattle.goo_columns.specs.Rows.{Meta, meta_in, numbered_in};
-ghost use Rattle.goo_opening.specs.Found.{Finds, ShowsMeta, ShowsTables, row_fault};
+ghost use Rattle.goo_columns.specs.Rows.{Meta, Tables, meta_in, numbered_in};
+ghost use Rattle.goo_opening.specs.Found.{Finds, IsWord, ShowsMeta, ShowsTables, row_fault};
 
 use crate::fault::{OpenFault, fault_of};
 use crate::reading::read_rows;
@@ -30,6 +30,7 @@ fn the_row(rows: Vec<NumberedMeta>) -> Result<MetaRow, OpenFault>
     ensures version { IfOk result (λ m. m.version ≡ 1) }
     ensures refused { (m : Meta) → map numbered_in rows.items ≡ record { id = 1; meta = m } ∷ [] → m.version ≡ 1 → IfErr result (λ _. ⊥) }
     ensures told { IfErr result (λ fault. fault ≡ row_fault (map numbered_in rows.items)) }
+    ensures words { (t : Tables) → map numbered_in rows.items ≡ record { id = 1; meta = t.meta } ∷ [] → IfErr result (IsWord t) }
 {
     let mut rows = rows;
     let Some(row) = rows.pop() else {

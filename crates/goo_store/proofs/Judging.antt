@@ -1,5 +1,5 @@
 -- From what was found and judged to what opening says.
-use Rattle.std.proofs.Common.{◌≡◌, inr, Ok, Err, refl, sym, ap, subst, ◌∙◌}
+use Rattle.std.proofs.Common.{◌≡◌, inl, inr, Ok, Err, refl, sym, ap, subst, ◌∙◌}
 use Rattle.sqlite.specs.State.{State, HasCleanDisk}
 use Rattle.sqlite.specs.Effect.{Database}
 use Rattle.goo_columns.specs.Rows.{Tables, tables_of}
@@ -10,7 +10,7 @@ use Rattle.goo_rows.specs.Rows.{AreRowsOf}
 use Rattle.goo_kept.specs.Kept.{AreKept}
 use Rattle.goo_kept.specs.Places.{rows_of}
 use Rattle.goo_kept.specs.States.{state_of}
-use Rattle.goo_opening.specs.Found.{Finds, ShowsTables}
+use Rattle.goo_opening.specs.Found.{Finds, IsWord, ShowsTables}
 use Rattle.goo_opening.specs.Reading.{IsMet}
 use Rattle.goo_opening.specs.declared.fault.OpenFault.{OpenFault}
 use Rattle.goo_opening.specs.declared.fault.OpenFault.TheVariants.{Damaged, Memory}
@@ -18,12 +18,18 @@ use Rattle.goo_opening.specs.declared.finding.Found.{Found}
 use Rattle.goo_rules.specs.Rules.{KeepsRules, RulesAreThose}
 use Rattle.goo_rules.proofs.CanBeRead.{kept_can_be_read}
 use Rattle.goo_store.specs.Moments.{IsWell, tables_in}
-use Rattle.goo_store.specs.Opening.{Judges}
+use Rattle.goo_store.specs.Opening.{IsRefusal, Judges}
 use Rattle.goo_store.specs.Holding.{sure}
 
 -- a database holds one set of tables
 one_of : (db : Database) (t u : Tables) → Stands db t → Stands db u → t ≡ u
 one_of db t u a b = sym (decoded db t a) ∙ decoded db u b
+
+-- tables that can't be read don't keep the rules
+refusal_of : (db : Database) (t : Tables) (f : OpenFault) → Stands db t → IsWord t f → IsRefusal t f
+refusal_of db t f stands (inl outside) = inl outside
+refusal_of db t f stands (inr (inl unread)) = inr (inl (unread.0, ((λ kept. unread.1 (kept_can_be_read db t stands kept).0), (λ can. absurd (unread.1 can)))))
+refusal_of db t f stands (inr (inr other)) = inr (inr other)
 
 module _ (rules : RulesAreThose) (old new : State) where
   module _ {T : Type 0} (x : Found) (finds : Finds old new (Ok x) ShowsTables) where
@@ -31,12 +37,14 @@ module _ (rules : RulesAreThose) (old new : State) where
     pub judged_right : (y : T) → KeepsRules x → Judges {T = T} old new (Ok y)
     judged_right y keeps = record {
       clean = finds.clean;
+      outside = finds.outside;
       rests = finds.rests;
       works = finds.works;
       kept = λ clean met.
           let seen = finds.seen clean met in
           (seen.0, seen.1, (rules old.now seen.0 x seen.1 met.0.sound seen.2 seen.3).0 keeps);
       right = λ _ _ _ _ _ _. tt;
+      words = λ _ _ _ _ _. tt;
       crash = finds.crash;
     }
 
@@ -44,27 +52,40 @@ module _ (rules : RulesAreThose) (old new : State) where
     pub judged_wrong : (KeepsRules x → ⊥) → Judges {T = T} old new (Err Damaged)
     judged_wrong wrong = record {
       clean = finds.clean;
+      outside = finds.outside;
       rests = finds.rests;
       works = tt;
       kept = λ _ _. tt;
       right = λ clean met _ t stands kept.
           let seen = finds.seen clean met in
           absurd (wrong ((rules old.now seen.0 x seen.1 met.0.sound seen.2 seen.3).1 (subst AreKept (one_of old.now t seen.0 stands seen.1) kept)));
+      words = λ clean met _ t stands.
+          let seen = finds.seen clean met in
+          let same = one_of old.now t seen.0 stands seen.1 in
+          inr (inl (
+            refl,
+            (
+              (λ kept. wrong ((rules old.now seen.0 x seen.1 met.0.sound seen.2 seen.3).1 (subst AreKept same kept))),
+              (λ can. ap (λ (u : Tables). u.meta.version) same ∙ seen.3),
+            ),
+          ));
       crash = finds.crash;
     }
 
     -- memory was refused
     pub judged_short : Judges {T = T} old new (Err Memory)
-    judged_short = record { clean = finds.clean; rests = finds.rests; works = tt; kept = λ _ _. tt; right = λ _ _ _ _ _ _. inr refl; crash = finds.crash }
+    judged_short = record { clean = finds.clean; outside = finds.outside; rests = finds.rests; works = tt; kept = λ _ _. tt; right = λ _ _ _ _ _ _. inr refl; words = λ _ _ _ _ _. inl (inr refl); crash = finds.crash }
 
   -- the tables weren't found
   pub not_judged : {T : Type 0} (f : OpenFault) → Finds {T = Found} old new (Err f) ShowsTables → Judges {T = T} old new (Err f)
   not_judged f finds = record {
     clean = finds.clean;
+    outside = finds.outside;
     rests = finds.rests;
     works = tt;
     kept = λ _ _. tt;
     right = λ clean met unlimited t stands kept. finds.right clean met unlimited t stands (kept_can_be_read old.now t stands kept);
+    words = λ clean met unlimited t stands. refusal_of old.now t f stands (finds.words clean met unlimited t stands);
     crash = finds.crash;
   }
 

@@ -1,6 +1,8 @@
 //! The changes that carry out the edits of a plan.
 
-ghost use Rattle.std.specs.Prelude.{◌≡◌, ◌++◌, ◌<◌, ◌^◌, false, List, All, IfOk, OnOk, map};
+ghost use Rattle.std.specs.Prelude.{◌≡◌, ◌↔◌, ◌++◌, ◌-◌, ◌<◌, ◌^◌, false, List, All, Some, IfOk, IsTrue, OnOk, length, map, slice_get};
+ghost use Rattle.std.specs.List.{Contains};
+ghost use Rattle.goo_types.specs.declared.lot_fields.LotFields.{LotFields};
 ghost use Rattle.sqlite.specs.Held.{state};
 ghost use Rattle.goo_columns.specs.Rows.{Lot as RowOfLot};
 ghost use Rattle.goo_tables.specs.Changes.{PieceFits};
@@ -23,25 +25,42 @@ use sqlite::{Alter, Connection};
 use std::alloc::Global;
 
 /// Whether a lot is the last of some.
-fn is_last(lots: &[Lot], lot: &Lot) -> bool {
+fn is_last(lots: &[Lot], lot: &Lot) -> bool
+    ensures { IsTrue result ↔ (slice_get lots.now (length lots.now - 1) ≡ Some lot.now) }
+{
     match lots.last() {
         Some(last) => last.is(lot),
         None => false,
     }
 }
 
+/// Adds a lot, unless it is the last.
+fn note_lot(lots: &mut Vec<Lot>, lot: &Lot) -> Result<(), Trouble>
+    ensures kept { OnOk result ((x : LotFields) → Contains lots.old.items x → Contains lots.new.items x) }
+    ensures noted { OnOk result (Contains lots.new.items lot.now) }
+{
+    if is_last(lots, lot) {
+        return Ok(());
+    }
+    lots.extend_from_slice(&[*lot])?;
+    Ok(())
+}
+
 /// Adds the lots of pieces, once for those in a row that have one lot.
-fn note_lots(lots: &mut Vec<Lot>, pieces: &[Piece]) -> Result<(), Trouble> {
+fn note_lots(lots: &mut Vec<Lot>, pieces: &[Piece]) -> Result<(), Trouble>
+    ensures kept { OnOk result ((x : LotFields) → Contains lots.old.items x → Contains lots.new.items x) }
+    ensures noted { OnOk result (All (λ p. Contains lots.new.items p.lot) pieces.now) }
+{
     for piece in pieces {
-        if !is_last(lots, &piece.lot) {
-            lots.extend_from_slice(&[piece.lot])?;
-        }
+        note_lot(lots, &piece.lot)?;
     }
     Ok(())
 }
 
 /// The lots of the pieces that edits insert, once for those in a row that have one lot.
-fn lots_inserted(alloc: Global, edits: &[Edit]) -> Result<Vec<Lot>, Trouble> {
+fn lots_inserted(alloc: Global, edits: &[Edit]) -> Result<Vec<Lot>, Trouble>
+    ensures { IfOk result (λ lots. All (λ e. All (λ p. Contains lots.items p.lot) e.insert.items) edits.now) }
+{
     let mut lots = Vec::new(alloc);
     for edit in edits {
         note_lots(&mut lots, &edit.insert)?;

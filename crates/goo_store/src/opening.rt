@@ -1,9 +1,10 @@
 //! Opening the registry that a database holds.
 
-ghost use Rattle.std.specs.Prelude.{◌≡◌, None, false, IsTrue, IfOk, IfErr};
+ghost use Rattle.std.specs.Prelude.{◌≡◌, None, Err, false, IsTrue, IfOk, IfErr};
 ghost use Rattle.sqlite.specs.Held.{state as view};
 ghost use Rattle.sqlite.specs.State.{HasCleanDisk};
 ghost use Rattle.sqlite.specs.Tree.{Trees};
+ghost use Rattle.goo_columns.specs.Columns.{no_schema};
 ghost use Rattle.goo_columns.specs.Met.{HasOurTables};
 ghost use Rattle.goo_columns.specs.Rows.{Tables};
 ghost use Rattle.goo_columns.specs.Stands.{Stands, Rests};
@@ -14,8 +15,9 @@ ghost use Rattle.goo_rows.specs.Rows.{AreRowsOf};
 ghost use Rattle.goo_spec.specs.Sound.{IsSound};
 ghost use Rattle.goo_shelf.specs.Shelf.{IsReady};
 ghost use Rattle.goo_store.specs.Moments.{moment};
-ghost use Rattle.goo_store.specs.Opening.{Judges};
+ghost use Rattle.goo_store.specs.Opening.{IsRefusal, Judges};
 
+use crate::creating::is_empty;
 use crate::sql_shelf::SqlShelf;
 use goo_opening::fault::OpenFault;
 use goo_opening::finding::find_tables;
@@ -38,19 +40,19 @@ fn judge<S: Alter>(alloc: Global, conn: &mut Connection<S>) -> Result<(), OpenFa
 }
 
 impl<S: Alter> SqlShelf<S> {
-    /// The registry that a database holds. Its tables must be those that `create` makes, in whatever state: no call looks at
-    /// their keys and checks.
+    /// The registry that a database holds. If it isn't empty, its tables must be those that `create` makes, in whatever state: no
+    /// call looks at their keys and checks.
     ///
     /// # Errors
     ///
     /// The database, unchanged, with `NotARegistry`, `Version` or `Damaged` where it holds no registry whose tables keep the
-    /// rules; with `Store` where a call was refused or left a transaction open, and `Memory` where memory was.
+    /// rules; with `Store` where a call was refused, and `Memory` where memory was. It is outside a transaction.
     pub fn open(
         alloc: Global,
         conn: Connection<S>,
     ) -> Result<SqlShelf<S>, (Connection<S>, OpenFault)>
         requires outside { conn.in_transaction ≡ false }
-        requires ours { HasCleanDisk (view S.Store conn) → HasOurTables (view S.Store conn).now }
+        requires ours { HasCleanDisk (view S.Store conn) → ((view S.Store conn).now.schema ≡ no_schema → ⊥) → HasOurTables (view S.Store conn).now }
         ensures state { IfOk result (λ shelf. (t : Tables) → Stands (view S.Store conn).now t → (moment (view S.Store shelf.conn) shelf.refused).doubts ≡ 0 → (moment (view S.Store shelf.conn) shelf.refused).state ≡ state_of t) }
         ensures sound { IfOk result (λ shelf. (moment (view S.Store shelf.conn) shelf.refused).doubts ≡ 0 → IsSound (moment (view S.Store shelf.conn) shelf.refused).state) }
         ensures rows_fit { IfOk result (λ shelf. (moment (view S.Store shelf.conn) shelf.refused).doubts ≡ 0 → AreRowsOf (moment (view S.Store shelf.conn) shelf.refused).state.at (moment (view S.Store shelf.conn) shelf.refused).rows) }
@@ -58,16 +60,18 @@ impl<S: Alter> SqlShelf<S> {
         ensures kept { IfOk result (λ shelf. (t : Tables) → Stands (view S.Store conn).now t → HasCleanDisk (view S.Store shelf.conn) → AreKept t) }
         ensures rests { IfOk result (λ shelf. HasCleanDisk (view S.Store shelf.conn) → Rests (view S.Store conn) (view S.Store shelf.conn)) }
         ensures refused { IfErr result (λ e. HasCleanDisk (view S.Store e.0) → (view S.Store conn).step_limit ≡ None → (t : Tables) → Stands (view S.Store conn).now t → AreKept t → IsOutside e.1) }
+        ensures words { IfErr result (λ e. HasCleanDisk (view S.Store e.0) → (view S.Store conn).step_limit ≡ None → (t : Tables) → Stands (view S.Store conn).now t → IsRefusal t e.1) }
+        ensures empty { (view S.Store conn).now.schema ≡ no_schema → result ≡ Err (conn, OpenFault.NotARegistry) }
         ensures unchanged { IfErr result (λ e. HasCleanDisk (view S.Store e.0) → Rests (view S.Store conn) (view S.Store e.0)) }
+        ensures outside { IfErr result (λ e. e.0.in_transaction ≡ false) }
         ensures crash { IfErr result (λ e. HasCleanDisk (view S.Store e.0) → (db : Trees) → (view S.Store e.0).may_leave db → (view S.Store conn).may_leave db) }
     {
         let mut conn = conn;
-        let _settled = conn.is_autocommit();
-        let judged = judge(alloc, &mut conn);
-        if !conn.is_autocommit() {
-            return Err((conn, OpenFault::Store));
+        if is_empty(&conn) {
+            return Err((conn, OpenFault::NotARegistry));
         }
-        match judged {
+        let _settled = conn.is_autocommit();
+        match judge(alloc, &mut conn) {
             Ok(()) => Ok(SqlShelf::over(alloc, conn)),
             Err(fault) => Err((conn, fault)),
         }

@@ -1,4 +1,4 @@
-use Rattle.std.proofs.Common.{rules, ◌≡◌, ap, sym, subst, IsTrue}
+use Rattle.std.proofs.Common.{rules, ◌≡◌, ◌∙◌, ap, sym, subst, IsTrue, false, true≢false}
 use Rattle.sqlite.specs.Held.{state as view}
 use Rattle.sqlite.specs.State.{HasCleanDisk}
 use Rattle.goo_columns.specs.Stands.{Rests, doubts}
@@ -13,15 +13,17 @@ use Rattle.goo_store.proofs.sql_shelf.SqlShelf.open.Goals as goal
 pub over-requires-clause-well : goal.over-requires-clause-well
 over-requires-clause-well g c =
     let out : IsTrue c.is_autocommit-settled.result = search rules in
-    let met : HasCleanDisk (view g.S.Store c.args.conn) → IsMet (view g.S.Store c.args.conn) = λ clean. (c.requires.ours clean, λ live. c.is_autocommit-settled.ensures.settled out live) in
-    opened_well (view g.S.Store c.args.conn) (view g.S.Store c.judge-judged.new.conn) c.in-Ok.field-0 c.in-Ok.ensures met
+    let not_empty : c.is_empty.result ≡ false = search rules in
+    let met : HasCleanDisk (view g.S.Store c.args.conn) → IsMet (view g.S.Store c.args.conn) = λ clean. (c.requires.ours clean (λ is. true≢false (sym (c.is_empty.ensures.1 is) ∙ not_empty)), λ live. c.is_autocommit-settled.ensures.settled out live) in
+    opened_well (view g.S.Store c.args.conn) (view g.S.Store c.judge.new.conn) c.in-Ok.field-0 c.in-Ok.ensures met
 
 pub returns-in-Ok-clause-state : goal.returns-in-Ok-clause-state
 returns-in-Ok-clause-state g c = λ t stands.
     let out : IsTrue c.is_autocommit-settled.result = search rules in
-    let met : HasCleanDisk (view g.S.Store c.args.conn) → IsMet (view g.S.Store c.args.conn) = λ clean. (c.requires.ours clean, λ live. c.is_autocommit-settled.ensures.settled out live) in
+    let not_empty : c.is_empty.result ≡ false = search rules in
+    let met : HasCleanDisk (view g.S.Store c.args.conn) → IsMet (view g.S.Store c.args.conn) = λ clean. (c.requires.ours clean (λ is. true≢false (sym (c.is_empty.ensures.1 is) ∙ not_empty)), λ live. c.is_autocommit-settled.ensures.settled out live) in
     subst (λ conn. doubts (view g.S.Store conn) ≡ 0 → state_of (tables_in (view g.S.Store conn)) ≡ state_of t) (sym c.over.ensures.conn)
-    (opened_state (view g.S.Store c.args.conn) (view g.S.Store c.judge-judged.new.conn) c.in-Ok.field-0 c.in-Ok.ensures met t stands)
+    (opened_state (view g.S.Store c.args.conn) (view g.S.Store c.judge.new.conn) c.in-Ok.field-0 c.in-Ok.ensures met t stands)
 
 pub returns-in-Ok-clause-ready : goal.returns-in-Ok-clause-ready
 returns-in-Ok-clause-ready g c = record {
@@ -33,22 +35,32 @@ returns-in-Ok-clause-ready g c = record {
 pub returns-in-Ok-clause-kept : goal.returns-in-Ok-clause-kept
 returns-in-Ok-clause-kept g c = λ t stands.
     let out : IsTrue c.is_autocommit-settled.result = search rules in
-    let met : HasCleanDisk (view g.S.Store c.args.conn) → IsMet (view g.S.Store c.args.conn) = λ clean. (c.requires.ours clean, λ live. c.is_autocommit-settled.ensures.settled out live) in
+    let not_empty : c.is_empty.result ≡ false = search rules in
+    let met : HasCleanDisk (view g.S.Store c.args.conn) → IsMet (view g.S.Store c.args.conn) = λ clean. (c.requires.ours clean (λ is. true≢false (sym (c.is_empty.ensures.1 is) ∙ not_empty)), λ live. c.is_autocommit-settled.ensures.settled out live) in
     subst (λ conn. HasCleanDisk (view g.S.Store conn) → AreKept t) (sym c.over.ensures.conn)
-    (λ clean. opened_kept (view g.S.Store c.args.conn) (view g.S.Store c.judge-judged.new.conn) c.in-Ok.field-0 c.in-Ok.ensures met t stands clean)
+    (λ clean. opened_kept (view g.S.Store c.args.conn) (view g.S.Store c.judge.new.conn) c.in-Ok.field-0 c.in-Ok.ensures met t stands clean)
 
 pub returns-in-Ok-clause-rests : goal.returns-in-Ok-clause-rests
 returns-in-Ok-clause-rests g c =
     let out : IsTrue c.is_autocommit-settled.result = search rules in
-    let met : HasCleanDisk (view g.S.Store c.args.conn) → IsMet (view g.S.Store c.args.conn) = λ clean. (c.requires.ours clean, λ live. c.is_autocommit-settled.ensures.settled out live) in
+    let not_empty : c.is_empty.result ≡ false = search rules in
+    let met : HasCleanDisk (view g.S.Store c.args.conn) → IsMet (view g.S.Store c.args.conn) = λ clean. (c.requires.ours clean (λ is. true≢false (sym (c.is_empty.ensures.1 is) ∙ not_empty)), λ live. c.is_autocommit-settled.ensures.settled out live) in
     subst (λ conn. HasCleanDisk (view g.S.Store conn) → Rests (view g.S.Store c.args.conn) (view g.S.Store conn)) (sym c.over.ensures.conn)
     (λ clean. c.in-Ok.ensures.rests clean (met (c.in-Ok.ensures.clean clean)))
 
 pub returns-in-Err-clause-refused : goal.returns-in-Err-clause-refused
 returns-in-Err-clause-refused g c = λ clean unlimited t stands kept.
     let out : IsTrue c.is_autocommit-settled.result = search rules in
-    let met : HasCleanDisk (view g.S.Store c.args.conn) → IsMet (view g.S.Store c.args.conn) = λ early. (c.requires.ours early, λ live. c.is_autocommit-settled.ensures.settled out live) in
+    let not_empty : c.is_empty.result ≡ false = search rules in
+    let met : HasCleanDisk (view g.S.Store c.args.conn) → IsMet (view g.S.Store c.args.conn) = λ early. (c.requires.ours early (λ is. true≢false (sym (c.is_empty.ensures.1 is) ∙ not_empty)), λ live. c.is_autocommit-settled.ensures.settled out live) in
     c.in-Err.ensures.right clean (met (c.in-Err.ensures.clean clean)) unlimited t stands kept
+
+pub returns-in-Err-clause-words : goal.returns-in-Err-clause-words
+returns-in-Err-clause-words g c = λ clean unlimited t stands.
+    let out : IsTrue c.is_autocommit-settled.result = search rules in
+    let not_empty : c.is_empty.result ≡ false = search rules in
+    let met : HasCleanDisk (view g.S.Store c.args.conn) → IsMet (view g.S.Store c.args.conn) = λ early. (c.requires.ours early (λ is. true≢false (sym (c.is_empty.ensures.1 is) ∙ not_empty)), λ live. c.is_autocommit-settled.ensures.settled out live) in
+    c.in-Err.ensures.words clean (met (c.in-Err.ensures.clean clean)) unlimited t stands
 
 pub returns-in-Ok-clause-sound : goal.returns-in-Ok-clause-sound
 returns-in-Ok-clause-sound g c = λ none. (c.over.result.well.kept none).sound
