@@ -16,12 +16,12 @@ LOT = {'capacity_w': 2_000_000, 'commissioned': '2020-06-15', 'country': 'DE', '
 
 
 def before():
-    """Two holders with an account each, a device, its January, twenty accounts that nobody needs, and another registry."""
+    """Two holders with an account each, a device, its June, twenty accounts that nobody needs, and another registry."""
     for code in ('SUN', 'VOLT'):
         yield line(ISSUING_BODY, command='open_holder', holder=code, key=f'h{code}', name=f'Holder {code}')
         yield line(ISSUING_BODY, command='open_account', holder=code, key=f'a{code}')
     yield registration(device_number(1), 'r1', 2_000_000)
-    yield next(months(device_number(1), 1))
+    yield list(months(device_number(1), 1))[5]
     for number in range(MOST):
         yield line(ISSUING_BODY, command='open_account', holder='SUN', key=f'spare{number}')
     yield line(ISSUING_BODY, command='add_peer', key='peer9', peer=9)
@@ -33,8 +33,8 @@ def transfer(at, key, caller='SUN'):
 
 
 def declaration(at):
-    if at < 11:
-        return list(months(device_number(1), 1))[at + 1]
+    if at < 6:
+        return list(months(device_number(1), 1))[at + 6]
     return line(ISSUING_BODY, aux_wh=0, command='declare', device=device_number(1), first_day=f'2025-01-{at:02d}', gross_wh=12_345_678,
                 key=f'd2.{at}', last_day=f'2025-01-{at:02d}')
 
@@ -53,7 +53,7 @@ KINDS = {
     'declare': declaration,
     'transfer': lambda at: transfer(at, f'n{at}'),
     'cancel': lambda at: line('SUN', account=1, beneficiary='Town hall', command='cancel', first=certificate(20 * at + 10), key=f'n{at}',
-                              last=certificate(20 * at + 19), use_first='2024-01-01', use_last='2024-01-31'),
+                              last=certificate(20 * at + 19), use_first='2024-06-01', use_last='2024-06-30'),
     'withdraw': lambda at: line(ISSUING_BODY, command='withdraw', first=certificate(20 * at + 10), key=f'n{at}', last=certificate(20 * at + 19),
                                 reason='meter read twice'),
     'advance': lambda at: line(ISSUING_BODY, command='advance', day=f'2025-03-{at + 2:02d}', key=f'n{at}'),

@@ -4,12 +4,14 @@ usage: python3 bench/tables/measure.py PROGRAM PART..
 
 PROGRAM is what bench/tables/build prints. The parts, of which each prints a table:
   thousand    1,000 requests in memory and on files
-  growth      n, 2n and 4n requests, on disks in memory and on files
+  growth      n, 2n and 4n requests, each once
   opening     opening databases of 25,000, 50,000 and 100,000 pieces
   same        whether both write the same rows
 Seconds are processor seconds, the least of RUNS runs (5 unless the environment says RUNS), of the requests alone: without reading the lines
-and making the tables. Files are made in FOLDER (/tmp unless the environment says FOLDER). No part of the gate.
+and making the tables. Files are made in FOLDER (/tmp unless the environment says FOLDER; /dev/shm is memory), PLACES are those of `memory disks file` to measure.
+No part of the gate.
 """
+import contextlib
 import math
 import os
 import sqlite3
@@ -21,8 +23,9 @@ from pathlib import Path
 HERE = Path(__file__).resolve().parent
 WORKLOADS = HERE.parent / 'workloads.py'
 RUNS = int(os.environ.get('RUNS', '5'))
+PLACES = os.environ.get('PLACES', 'memory disks file').split()
 THOUSAND = {'trades': 817, 'declarations': 1_001}
-GROWTH = {'trades': (5_000, 10_000, 20_000), 'declarations': (5_000, 10_000, 20_000)}
+GROWTH = {'memory': (1_250, 2_500, 5_000), 'disks': (1_250, 2_500, 5_000), 'file': (5_000, 10_000, 20_000)}
 PIECES = (25_000, 50_000, 100_000)
 TABLES = ('meta', 'holder', 'account', 'device', 'declaration', 'lot', 'piece', 'peer', 'receipt', 'cancellation', 'withdrawal', 'notice_out', 'notice_in')
 
@@ -85,7 +88,7 @@ def thousand(program, folder):
     print('| Workload | Requests | Tables | Seconds | µs a request | Peak memory | sqlite3 seconds | Ratio |\n|---|---|---|---|---|---|---|---|')
     for name, size in THOUSAND.items():
         count = write_lines(name, size, folder / 'lines')
-        for place in ('memory', 'disks', 'file'):
+        for place in PLACES:
             ours, theirs, peak = both(program, place, folder / 'lines', folder, RUNS)
             print(f'| {name} | {count:,} | {place} | {ours:.3f} | {ours / count * 1e6:,.0f} | {peak:.0f} MB | {theirs:.3f} | {ours / theirs:.1f} |', flush=True)
 
@@ -96,8 +99,9 @@ def exponent(small, great, factor):
 
 def growth(program, folder):
     print('| Workload | Requests | Tables | Seconds | µs a request | Peak memory | sqlite3 seconds | Ratio |\n|---|---|---|---|---|---|---|---|')
-    for name, sizes in GROWTH.items():
-        for place in ('disks', 'file'):
+    for name in THOUSAND:
+        for place in PLACES:
+            sizes = GROWTH[place]
             seconds, others = [], []
             for size in sizes:
                 count = write_lines(name, size, folder / 'lines')
@@ -109,7 +113,8 @@ def growth(program, folder):
 
 
 def rows(path, table):
-    with sqlite3.connect(path) as database:
+    # A connection that is left open locks the files.
+    with contextlib.closing(sqlite3.connect(path)) as database:
         return database.execute(f'SELECT rowid, * FROM {table} ORDER BY rowid').fetchall()
 
 
@@ -129,7 +134,7 @@ def opening(program, folder):
     for name in ('declarations', 'trades'):
         seconds = []
         for pieces in PIECES:
-            # A declaration in thirteen lines registers a device, and a trade makes nearly two pieces of one.
+            # One line of thirteen registers a device; and a trade leaves 0.65 rows more, so that trades make a third of these pieces.
             size = pieces * 13 // 12 + 13 if name == 'declarations' else pieces * 10 // 19
             write_lines(name, size, folder / 'lines')
             path = fresh(folder / f'{name}-{pieces}.db')

@@ -8,6 +8,7 @@ reading the schema and making the tables is left out. A statement is a call of t
 `Entry::fetch`. No part of the gate.
 """
 import collections
+import json
 import os
 import re
 import subprocess
@@ -32,6 +33,7 @@ class Profile:
         self.own = collections.Counter()
         self.calls = collections.Counter()
         self.whole = collections.Counter()
+        self.callers = collections.defaultdict(collections.Counter)
         names, function, callee = {}, None, None
         for line in text.splitlines():
             if match := re.match(r'(c?)fn=\((\d+)\)(?: (.*))?', line):
@@ -50,6 +52,7 @@ class Profile:
                 if callee is not None and is_call:
                     if callee != function:
                         self.whole[callee] += int(match[1])
+                        self.callers[callee][function] += int(match[1])
                 elif function is not None:
                     self.own[function] += int(match[1])
             is_call = False
@@ -57,6 +60,8 @@ class Profile:
     def minus(self, other):
         for mine, theirs in ((self.own, other.own), (self.calls, other.calls), (self.whole, other.whole)):
             mine.subtract(theirs)
+        for callee, callers in other.callers.items():
+            self.callers[callee].subtract(callers)
         return self
 
 
@@ -71,16 +76,34 @@ def profile(program, place, lines):
         return Profile(out.read_text(encoding='utf-8', errors='replace'))
 
 
+def outcomes(program, lines):
+    """How often each word of an outcome comes."""
+    done = subprocess.run([program, 'memory'], input='\n'.join(lines) + '\n', capture_output=True, text=True, check=True)
+    return collections.Counter(json.loads(line)['outcome'] for line in done.stdout.splitlines())
+
+
 def matching(counter, pattern):
     return sum(count for name, count in counter.items() if pattern.search(name))
 
 
+def asked(found):
+    """How often each function of goo_tables was called, in words."""
+    counts = collections.Counter()
+    for name, count in found.calls.items():
+        if match := re.match(r'goo_tables::\w+::(\w+)', name):
+            counts[match[1]] += count
+    return ', '.join(name if count == 10 else f'{name} {count / 10:.3g}' for name, count in counts.most_common() if count)
+
+
 def statements(program, place):
-    print('| Request | Statements | Compiled anew | Instructions |\n|---|---|---|---|')
+    print('| Request | Statements | Compiled anew | Instructions | By function of goo_tables |\n|---|---|---|---|---|')
     for kind in kinds.KINDS:
+        wanted = {'repeat': 'repeated', 'refuse': 'refused'}.get(kind, 'accepted')
+        if outcomes(program, kinds.lines(kind, 12))[wanted] - outcomes(program, kinds.lines(kind, 2))[wanted] != 10:
+            sys.exit(f'{kind}: not all are {wanted}')
         # The first request of a kind compiles its statements, so the counts are those of the ten after the first two.
         found = profile(program, place, kinds.lines(kind, 12)).minus(profile(program, place, kinds.lines(kind, 2)))
-        print(f'| {kind} | {matching(found.calls, STATEMENT) / 10:.1f} | {matching(found.calls, COMPILED) / 10:.1f} | {sum(found.own.values()) / 10:,.0f} |', flush=True)
+        print(f'| {kind} | {matching(found.calls, STATEMENT) / 10:.1f} | {matching(found.calls, COMPILED) / 10:.1f} | {sum(found.own.values()) / 10:,.0f} | {asked(found)} |', flush=True)
 
 
 def crate_of(name):
@@ -93,12 +116,15 @@ def costly(program, workload, count, place):
     found = profile(program, place, many).minus(profile(program, place, few))
     total = sum(found.own.values())
     print(f'{len(many) - len(few):,} {workload} after {len(few):,}: {total / (len(many) - len(few)):,.0f} instructions each')
-    print('| Function | Own share | With what it calls | Calls a request |\n|---|---|---|---|')
+    print('| Function | Own share | With what it calls | Calls a request | Called most by |\n|---|---|---|---|---|')
     for name, own in found.own.most_common(int(os.environ.get('MOST', '12'))):
-        print(f'| `{name}` | {own / total:.1%} | {found.whole[name] / total:.1%} | {found.calls[name] / (len(many) - len(few)):,.1f} |')
+        callers = ', '.join(f'{caller} {whole / total:.1%}' for caller, whole in found.callers[name].most_common(4))
+        print(f'| `{name}` | {own / total:.1%} | {found.whole[name] / total:.1%} | {found.calls[name] / (len(many) - len(few)):,.1f} | {callers} |')
     crates = collections.Counter()
     for name, own in found.own.items():
         crates[crate_of(name)] += own
+    ours = sum(own for name, own in found.own.items() if crate_of(name).startswith('goo'))
+    print(f'ours (goo_*): {ours / total:.1%}')
     print('| Crate | Share |\n|---|---|')
     for crate, own in crates.most_common(15):
         print(f'| {crate} | {own / total:.1%} |')

@@ -11,6 +11,9 @@ use sqlite::{Connection, FileFrom, FileStore, Files, Options, Unknown};
 use sqlite_disk::{Disk, Memory};
 use std::alloc::Global;
 
+/// How many pages a log has before it is copied into the database file, unless told.
+pub const USUAL_LOG: usize = 1_000;
+
 /// Two empty files in memory.
 pub fn new_disks(alloc: Global) -> Files<Memory> {
     Files {
@@ -19,15 +22,23 @@ pub fn new_disks(alloc: Global) -> Files<Memory> {
     }
 }
 
-/// The database that the files hold.
-pub fn on_files<D: Disk + Drop>(alloc: Global, files: Files<D>) -> Option<Connection<FileStore<D>>>
+/// The database that the files hold. The log is copied into the database file whenever it has so many pages.
+pub fn on_files<D: Disk + Drop>(
+    alloc: Global,
+    files: Files<D>,
+    pages: usize,
+) -> Option<Connection<FileStore<D>>>
     ensures ordered { IfSome result (λ c. HasCleanDisk (file_state c) → IsInKeyOrder (file_state c).now) }
     ensures opened { IfSome result (λ c. HasCleanDisk (file_state c) → IsOpened c) }
 {
     if !files.may_be_used() {
         return None;
     }
-    match open_ordered(alloc, files, Options::new(7)) {
+    let options = Options {
+        checkpoint_frames: pages,
+        ..Options::new(7)
+    };
+    match open_ordered(alloc, files, options) {
         Ok(conn) => Some(conn),
         Err(_) => None,
     }
@@ -48,7 +59,7 @@ pub fn at_path(rt: &HostRuntime, path: &str) -> Option<Connection<FileStore<File
 pub fn tables_on<D: Disk + Drop>(alloc: Global, files: Files<D>) -> Option<Connection<FileStore<D>>>
     ensures { IfSome result (λ c. HasCleanDisk (file_state c) → HasOurTables (file_state c).now) }
 {
-    let conn = on_files(alloc, files)?;
+    let conn = on_files(alloc, files, USUAL_LOG)?;
     if has_our_schema(&conn) {
         Some(conn)
     } else {

@@ -2,7 +2,8 @@
 //!
 //! ```text
 //! goo_measured memory       tables in memory, kept in sorted lists
-//! goo_measured disks        tables in files, on disks in memory; afterwards they are closed and opened again
+//! goo_measured disks PAGES  tables in files, on disks in memory, whose log is copied into the database whenever it has so many pages
+//!                           (1000 unless told); afterwards they are closed and opened again
 //! goo_measured file PATH    tables in new files at the path
 //! goo_measured open PATH    opens the registry in these files, and answers nothing
 //! ```
@@ -15,7 +16,7 @@ mod connecting;
 mod serving;
 mod spent;
 
-use connecting::{at_path, new_disks, on_files, tables_at, tables_on};
+use connecting::{USUAL_LOG, at_path, new_disks, on_files, tables_at, tables_on};
 use goo_streams::read_whole;
 use serving::{open_registry, serve};
 use spent::tell;
@@ -46,10 +47,11 @@ fn perform(rt: &HostRuntime) -> Result<(), &'static str> {
         .ok_or("no room")?;
     match words.as_slice() {
         [_, place] if place.as_str() == "memory" => answer_in_memory(rt),
-        [_, place] if place.as_str() == "disks" => answer_on_disks(rt),
+        [_, place] if place.as_str() == "disks" => answer_on_disks(rt, USUAL_LOG),
+        [_, place, pages] if place.as_str() == "disks" => answer_on_disks(rt, number(pages)),
         [_, place, path] if place.as_str() == "file" => answer_in_files(rt, path),
         [_, place, path] if place.as_str() == "open" => open_files(rt, path),
-        _ => Err("usage: goo_measured memory | disks | file PATH | open PATH"),
+        _ => Err("usage: goo_measured memory | disks [PAGES] | file PATH | open PATH"),
     }
 }
 
@@ -70,10 +72,15 @@ fn answer_in_memory(rt: &HostRuntime) -> Result<(), &'static str> {
     Ok(())
 }
 
-fn answer_on_disks(rt: &HostRuntime) -> Result<(), &'static str> {
+/// The number that a word states, or the usual one.
+fn number(word: &str) -> usize {
+    word.parse::<usize>().unwrap_or(USUAL_LOG)
+}
+
+fn answer_on_disks(rt: &HostRuntime, pages: usize) -> Result<(), &'static str> {
     let input = input(rt)?;
     tell(rt, "start");
-    let conn = on_files(rt.alloc(), new_disks(rt.alloc())).ok_or("not connected")?;
+    let conn = on_files(rt.alloc(), new_disks(rt.alloc()), pages).ok_or("not connected")?;
     tell(rt, "connected");
     let conn = serve(rt, conn, &input)?;
     open_again(rt, conn)
