@@ -8,7 +8,8 @@ PROGRAM is what bench/tables/build prints. The parts, of which each prints a tab
   opening     opening databases of 25,000, 50,000 and 100,000 pieces
   same        whether both write the same rows
 Seconds are processor seconds, the least of RUNS runs (5 unless the environment says RUNS), of the requests alone: without reading the lines
-and making the tables. Files are made in FOLDER (/tmp unless the environment says FOLDER; /dev/shm is memory), PLACES are those of `memory disks file` to measure.
+and making the tables. Files are made in FOLDER (/tmp unless the environment says FOLDER; /dev/shm is memory), PLACES are those of `memory disks file` to measure
+(disks:100 is disks whose log has at most some 100 pages).
 No part of the gate.
 """
 import contextlib
@@ -77,7 +78,7 @@ def both(program, place, lines, folder, runs):
     ours, theirs, peak = [], [], 0
     for _ in range(runs):
         path = fresh(folder / 'ours.db')
-        seconds, memory = answering(program, ['file', str(path)] if place == 'file' else [place], lines)
+        seconds, memory = answering(program, ['file', str(path)] if place == 'file' else place.split(':'), lines)
         ours.append(seconds)
         peak = max(peak, memory)
         theirs.append(plain(lines, str(fresh(folder / 'plain.db')) if place == 'file' else ':memory:'))
@@ -101,7 +102,7 @@ def growth(program, folder):
     print('| Workload | Requests | Tables | Seconds | µs a request | Peak memory | sqlite3 seconds | Ratio |\n|---|---|---|---|---|---|---|---|')
     for name in THOUSAND:
         for place in PLACES:
-            sizes = GROWTH[place]
+            sizes = GROWTH[place.split(':')[0]]
             seconds, others = [], []
             for size in sizes:
                 count = write_lines(name, size, folder / 'lines')
