@@ -1,0 +1,143 @@
+"""Counts statements and instructions of a registry in tables, by callgrind.
+
+usage: python3 bench/tables/profile.py PROGRAM statements [PLACE]          statements a request, by kind of request
+       python3 bench/tables/profile.py PROGRAM costly WORKLOAD N [PLACE]   the costliest functions of N requests more, and the shares of the crates
+
+PLACE is disks unless told (memory: the tables in sorted lists). Each count is the difference of two runs: one with the requests and one without them, so that
+reading the schema and making the tables is left out. A statement is a call of the function by which the library looks a text up among those it has compiled,
+`Entry::fetch`. No part of the gate.
+"""
+import collections
+import json
+import os
+import re
+import subprocess
+import sys
+import tempfile
+from pathlib import Path
+
+HERE = Path(__file__).resolve().parent
+sys.path.insert(0, str(HERE))
+sys.path.insert(0, str(HERE.parent))
+import kinds  # noqa: E402
+import workloads  # noqa: E402
+
+STATEMENT = re.compile(r'Entry.*fetch')
+COMPILED = re.compile(r'listing.*understand')
+
+
+class Profile:
+    """What callgrind found of one run: by function its own instructions, and the calls of it with all that they took."""
+
+    def __init__(self, text):
+        self.own = collections.Counter()
+        self.calls = collections.Counter()
+        self.whole = collections.Counter()
+        self.callers = collections.defaultdict(collections.Counter)
+        names, function, callee = {}, None, None
+        for line in text.splitlines():
+            if match := re.match(r'(c?)fn=\((\d+)\)(?: (.*))?', line):
+                called, number, name = match.groups()
+                if name:
+                    names[number] = name
+                if called:
+                    callee = names[number]
+                else:
+                    function = names[number]
+            elif match := re.match(r'calls=(\d+) ', line):
+                self.calls[callee] += int(match[1])
+                is_call = True
+                continue
+            elif match := re.match(r'[+\-*\d]\S* (\d+)$', line):
+                if callee is not None and is_call:
+                    if callee != function:
+                        self.whole[callee] += int(match[1])
+                        self.callers[callee][function] += int(match[1])
+                elif function is not None:
+                    self.own[function] += int(match[1])
+            is_call = False
+
+    def minus(self, other):
+        for mine, theirs in ((self.own, other.own), (self.calls, other.calls), (self.whole, other.whole)):
+            mine.subtract(theirs)
+        for callee, callers in other.callers.items():
+            self.callers[callee].subtract(callers)
+        return self
+
+
+def profile(program, place, lines):
+    with tempfile.TemporaryDirectory() as folder:
+        out, source = Path(folder) / 'out', Path(folder) / 'lines'
+        source.write_text('\n'.join(lines) + '\n', encoding='utf-8')
+        words = [place] if place != 'file' else [place, str(Path(folder) / 'x.db')]
+        with open(source, 'rb') as given:
+            subprocess.run(['valgrind', '--tool=callgrind', f'--callgrind-out-file={out}', program, *words], stdin=given, stdout=subprocess.DEVNULL,
+                           stderr=subprocess.DEVNULL, check=True)
+        return Profile(out.read_text(encoding='utf-8', errors='replace'))
+
+
+def outcomes(program, lines):
+    """How often each word of an outcome comes."""
+    done = subprocess.run([program, 'memory'], input='\n'.join(lines) + '\n', capture_output=True, text=True, check=True)
+    return collections.Counter(json.loads(line)['outcome'] for line in done.stdout.splitlines())
+
+
+def matching(counter, pattern):
+    return sum(count for name, count in counter.items() if pattern.search(name))
+
+
+def asked(found):
+    """How often each function of goo_tables was called, in words."""
+    counts = collections.Counter()
+    for name, count in found.calls.items():
+        if match := re.match(r'goo_tables::\w+::(\w+)', name):
+            counts[match[1]] += count
+    return ', '.join(name if count == 10 else f'{name} {count / 10:.3g}' for name, count in counts.most_common() if count)
+
+
+def statements(program, place):
+    print('| Request | Statements | Compiled anew | Instructions | By function of goo_tables |\n|---|---|---|---|---|')
+    for kind in kinds.KINDS:
+        wanted = {'repeat': 'repeated', 'refuse': 'refused'}.get(kind, 'accepted')
+        if outcomes(program, kinds.lines(kind, 12))[wanted] - outcomes(program, kinds.lines(kind, 2))[wanted] != 10:
+            sys.exit(f'{kind}: not all are {wanted}')
+        # The first request of a kind compiles its statements, so the counts are those of the ten after the first two.
+        found = profile(program, place, kinds.lines(kind, 12)).minus(profile(program, place, kinds.lines(kind, 2)))
+        print(f'| {kind} | {matching(found.calls, STATEMENT) / 10:.1f} | {matching(found.calls, COMPILED) / 10:.1f} | {sum(found.own.values()) / 10:,.0f} | {asked(found)} |', flush=True)
+
+
+def crate_of(name):
+    match = re.search(r'(?:^|[<\s(&:])((?:goo|sqlite|json|serde|std|core|alloc|arrayvec|jiff)[a-z_]*)::', name)
+    return match[1] if match else 'other'
+
+
+def costly(program, workload, count, place):
+    few, many = (list(workloads.WORKLOADS[workload](n)) for n in (count, 2 * count))
+    found = profile(program, place, many).minus(profile(program, place, few))
+    total = sum(found.own.values())
+    print(f'{len(many) - len(few):,} {workload} after {len(few):,}: {total / (len(many) - len(few)):,.0f} instructions each')
+    print('| Function | Own share | With what it calls | Calls a request | Called most by |\n|---|---|---|---|---|')
+    for name, own in found.own.most_common(int(os.environ.get('MOST', '12'))):
+        callers = ', '.join(f'{caller} {whole / total:.1%}' for caller, whole in found.callers[name].most_common(4))
+        print(f'| `{name}` | {own / total:.1%} | {found.whole[name] / total:.1%} | {found.calls[name] / (len(many) - len(few)):,.1f} | {callers} |')
+    crates = collections.Counter()
+    for name, own in found.own.items():
+        crates[crate_of(name)] += own
+    ours = sum(own for name, own in found.own.items() if crate_of(name).startswith('goo'))
+    print(f'ours (goo_*): {ours / total:.1%}')
+    print('| Crate | Share |\n|---|---|')
+    for crate, own in crates.most_common(15):
+        print(f'| {crate} | {own / total:.1%} |')
+    if os.environ.get('WHOLE'):
+        print('with what they call:')
+        for name, whole in found.whole.most_common(int(os.environ['WHOLE'])):
+            print(f'  {whole / total:7.1%} {found.calls[name] / (len(many) - len(few)):10,.1f}  {name}')
+
+
+if __name__ == '__main__':
+    if len(sys.argv) < 3 or sys.argv[2] not in ('statements', 'costly'):
+        sys.exit(__doc__)
+    if sys.argv[2] == 'statements':
+        statements(sys.argv[1], sys.argv[3] if len(sys.argv) > 3 else 'disks')
+    else:
+        costly(sys.argv[1], sys.argv[3], int(sys.argv[4]), sys.argv[5] if len(sys.argv) > 5 else 'disks')
