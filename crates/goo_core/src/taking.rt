@@ -20,7 +20,6 @@ use std::alloc::Global;
 /// The edit that takes in one part, after those of the parts before it; None where the rows make no
 /// book, which those of a shelf always do.
 fn take_part(
-    alloc: Global,
     arriving: &Arriving,
     edits: &[Edit],
     account: AccountNo,
@@ -29,7 +28,7 @@ fn take_part(
     ensures memory { IfErr result (λ fault. fault ≡ Memory) }
 {
     let range = arriving.part.range;
-    let rows = Vec::from_slice(alloc, arriving.book.pieces())?;
+    let rows = arriving.book.to_pieces()?;
     let near = near_after(rows, edits, &range)?;
     let Ok(mut book) = Book::new(near) else {
         return Ok(None);
@@ -51,7 +50,7 @@ pub fn take_parts(
 {
     let mut edits = Vec::new(alloc);
     for part in arriving {
-        let Some(edit) = take_part(alloc, part, &edits, account)? else {
+        let Some(edit) = take_part(part, &edits, account)? else {
             return Ok(None);
         };
         push_edit(&mut edits, edit)?;
