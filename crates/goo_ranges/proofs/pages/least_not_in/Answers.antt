@@ -25,7 +25,7 @@ loop-page-preserved g c =
     let split = joined-drop items i x (omega arith) c.page-item.is in
     let rising = subst IsRising split inv.0 in (
       rising-weaken 0 _ rest (omega arith) (rising-back 0 x rest rising),
-      λ passes answers. failing-next passes all x rest c.args.first c.args.last rising (rw split at inv.1 passes answers) (c.in_default.ensures),
+      λ passes answers. failing-next passes all x rest c.args.first c.args.last rising (rw split at inv.1 passes answers) (c.in_default.ensures passes (λ lot place answer e. answers lot place answer e.2)),
     )
 
 pub returns-then-not-begins_by : goal.returns-then-not-begins_by
@@ -49,7 +49,7 @@ returns-in-Some g c = λ passes answers.
     let rest = joined (drop (i + 1) items) in
     let inv = c.loop-page.invariant in
     let split = joined-drop items i x (omega arith) c.page-item.is in
-    failing-here passes all x rest c.args.first c.args.last c.in-Some.number c.requires.forward (subst IsRising split inv.0) (rw split at inv.1 passes answers) (sym c.in-Some.is ∙ c.least_not_between.ensures passes answers)
+    failing-here passes all x rest c.args.first c.args.last c.in-Some.number c.requires.forward (subst IsRising split inv.0) (rw split at inv.1 passes answers) (sym c.in-Some.is ∙ c.least_not_between.ensures passes (λ lot place answer e. answers lot place answer e.2))
 
 pub returns : goal.returns
 returns g c = λ passes answers.
