@@ -1,5 +1,6 @@
 //! Two joined pieces that are moved, added to and looked up, the edges of one row of ten numbers,
-//! runs of one account, and lists of pieces that make no book, against results worked out by hand.
+//! runs of one account, a list that is long enough for pages, and lists of pieces that make no book,
+//! against results worked out by hand.
 
 use crate::books::Book;
 use crate::edits::Edit;
@@ -136,5 +137,60 @@ fn rows_moved_and_refused(rt: HostRuntime) -> Result<(), Fail> {
     assert!(rt; matches!(Book::new(overlapping), Err(BookFault::Overlap(1))));
     let backwards = vec![in alloc; piece(5, 4, 1)?]?;
     assert!(rt; matches!(Book::new(backwards), Err(BookFault::Backwards(0))));
+    Ok(())
+}
+
+/// Three hundred rows of five numbers each, ten apart: more than stay in one list.
+fn many_rows(alloc: Global) -> Result<Book, Fail> {
+    let mut rows = Vec::new(alloc);
+    for i in 0..300u64 {
+        rows.push(piece(10 * i + 1, 10 * i + 5, 1)?)?;
+    }
+    Ok(Book::new(rows).map_err(|_| "no book")?)
+}
+
+#[test]
+fn a_long_book(rt: HostRuntime) -> Result<(), Fail> {
+    let first = held(1)?;
+    let second = held(2)?;
+    let mut book = many_rows(rt.alloc())?;
+    let edit = book.reassign(range(1004, 1013)?, second)?;
+    assert!(rt; edit.delete.as_slice() == [number(1001)?, number(1011)?].as_slice());
+    let four = [
+        piece(1001, 1003, 1)?,
+        piece(1004, 1005, 2)?,
+        piece(1011, 1013, 2)?,
+        piece(1014, 1015, 1)?,
+    ];
+    assert!(rt; edit.insert.as_slice() == four.as_slice());
+    assert!(rt; book.to_pieces()?.len() == 302);
+    assert!(rt; book.at(number(1004)?).map(|(_, place)| place) == Some(second));
+    assert!(rt; book.at(number(2995)?).map(|(_, place)| place) == Some(first));
+    assert!(rt; book.at(number(1006)?).is_none());
+    assert!(rt; book.at(number(2996)?).is_none());
+    assert!(rt; book.least_missing(range(1001, 1020)?) == Some(number(1006)?));
+    assert!(rt; book.least_missing(range(2001, 2005)?) == None);
+    assert!(rt; book.least_present(range(1006, 1020)?) == Some(number(1011)?));
+    assert!(rt; book.least_present(range(2996, 5000)?) == None);
+    assert!(rt; book.least_not(range(1, 3000)?, |_, place| place == first) == Some(number(1004)?));
+    assert!(rt; book.least_not(range(1016, 3000)?, |_, place| place == first) == None);
+    Ok(())
+}
+
+#[test]
+fn a_long_book_filled_up(rt: HostRuntime) -> Result<(), Fail> {
+    let first = held(1)?;
+    let mut book = many_rows(rt.alloc())?;
+    book.reassign(range(1, 3000)?, held(2)?)?;
+    for i in 0..300u64 {
+        book.add(range(10 * i + 6, 10 * i + 10)?, lot()?, first)?;
+    }
+    assert!(rt; book.to_pieces()?.len() == 600);
+    assert!(rt; book.account_runs()?.len() == 600);
+    assert!(rt; book.least_missing(range(1, 3001)?) == Some(number(3001)?));
+    let edit = book.reassign(range(1, 3000)?, first)?;
+    assert!(rt; edit.delete.len() == 600);
+    assert!(rt; edit.insert.as_slice() == [piece(1, 3000, 1)?].as_slice());
+    assert!(rt; book.runs()?.as_slice() == [piece(1, 3000, 1)?].as_slice());
     Ok(())
 }
