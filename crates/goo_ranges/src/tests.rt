@@ -140,25 +140,29 @@ fn rows_moved_and_refused(rt: HostRuntime) -> Result<(), Fail> {
     Ok(())
 }
 
-/// Three hundred rows of five numbers each, ten apart: more than stay in one list.
+/// Six hundred rows of five numbers each, of two accounts in turn: more than stay in one list.
 fn many_rows(alloc: Global) -> Result<Book, Fail> {
-    let mut rows = Vec::new(alloc);
+    let pieces = vec![in alloc; piece(1, 3000, 1)?]?;
+    let mut book = Book::new(pieces).map_err(|_| "no book")?;
     for i in 0..300u64 {
-        rows.push(piece(10 * i + 1, 10 * i + 5, 1)?)?;
+        book.reassign(range(10 * i + 6, 10 * i + 10)?, held(2)?)?;
     }
-    Ok(Book::new(rows).map_err(|_| "no book")?)
+    Ok(book)
 }
 
 #[test]
 fn a_long_book_edited(rt: HostRuntime) -> Result<(), Fail> {
     let mut book = many_rows(rt.alloc())?;
-    let edit = book.reassign(range(1004, 1013)?, held(2)?)?;
-    assert!(rt; edit.delete.as_slice() == [number(1001)?, number(1011)?].as_slice());
-    let first = piece(1001, 1003, 1)?;
-    let last = piece(1014, 1015, 1)?;
-    let four = [first, piece(1004, 1005, 2)?, piece(1011, 1013, 2)?, last];
-    assert!(rt; edit.insert.as_slice() == four.as_slice());
-    assert!(rt; book.to_pieces()?.len() == 302);
+    let edit = book.reassign(range(1004, 1013)?, held(3)?)?;
+    let met = [number(1001)?, number(1006)?, number(1011)?];
+    assert!(rt; edit.delete.as_slice() == met.as_slice());
+    let three = [
+        piece(1001, 1003, 1)?,
+        piece(1004, 1013, 3)?,
+        piece(1014, 1015, 1)?,
+    ];
+    assert!(rt; edit.insert.as_slice() == three.as_slice());
+    assert!(rt; book.to_pieces()?.len() == 600);
     Ok(())
 }
 
@@ -166,24 +170,24 @@ fn a_long_book_edited(rt: HostRuntime) -> Result<(), Fail> {
 fn a_long_book_looked_up(rt: HostRuntime) -> Result<(), Fail> {
     let first = held(1)?;
     let mut book = many_rows(rt.alloc())?;
-    book.reassign(range(1004, 1013)?, held(2)?)?;
+    book.reassign(range(1004, 1013)?, held(3)?)?;
     assert!(rt; book.at(number(2995)?).map(|(_, place)| place) == Some(first));
-    assert!(rt; book.least_missing(range(1001, 1020)?) == Some(number(1006)?));
-    assert!(rt; book.least_present(range(1006, 1020)?) == Some(number(1011)?));
-    assert!(rt; book.least_not(range(1, 3000)?, |_, place| place == first) == Some(number(1004)?));
+    assert!(rt; book.least_missing(range(1001, 3005)?) == Some(number(3001)?));
+    assert!(rt; book.least_present(range(2996, 5000)?) == Some(number(2996)?));
+    assert!(rt;
+        book.least_not(range(1001, 3000)?, |_, place| place == first) == Some(number(1004)?)
+    );
     Ok(())
 }
 
 #[test]
-fn a_long_book_filled_up(rt: HostRuntime) -> Result<(), Fail> {
+fn a_long_book_in_one_hand(rt: HostRuntime) -> Result<(), Fail> {
     let mut book = many_rows(rt.alloc())?;
-    book.reassign(range(1, 3000)?, held(2)?)?;
-    for i in 0..300u64 {
-        book.add(range(10 * i + 6, 10 * i + 10)?, lot()?, held(1)?)?;
-    }
+    let edit = book.add(range(3001, 3010)?, lot()?, held(2)?)?;
+    assert!(rt; edit.delete.as_slice() == [number(2996)?].as_slice());
     assert!(rt; book.account_runs()?.len() == 600);
-    let edit = book.reassign(range(1, 3000)?, held(1)?)?;
+    let edit = book.reassign(range(1, 3010)?, held(1)?)?;
     assert!(rt; edit.delete.len() == 600);
-    assert!(rt; book.runs()?.as_slice() == [piece(1, 3000, 1)?].as_slice());
+    assert!(rt; book.runs()?.as_slice() == [piece(1, 3010, 1)?].as_slice());
     Ok(())
 }
