@@ -82,7 +82,8 @@ fn send_certificates(
     if let Some(refusal) = trade_refusal(&book, range, export.giver, meta.today) {
         return Ok(Ruling::Refused(refusal));
     }
-    let parts = parts_in(alloc, book.pieces(), range)?;
+    let pieces = book.to_pieces()?;
+    let parts = parts_in(alloc, &pieces, range)?;
     let notice = match write_notice(meta, export, parts) {
         Ok(notice) => notice,
         Err(refusal) => return Ok(Ruling::Refused(refusal)),

@@ -3,5 +3,7 @@ pub mod BookFault
 pub mod Change
 pub mod Edit
 pub mod Joining
+pub mod Kept
+pub mod Paging
 pub mod Touching
 pub mod Walk

@@ -1,18 +1,18 @@
 //! A book: rising pieces with no number in common, seen as the map that they give.
 
-ghost use Rattle.std.specs.Prelude.{◌≡◌, List, ◌≤◌, length, find, is_some, suc, Bool, IfOk, IfErr};
+ghost use Rattle.std.specs.Prelude.{◌≡◌, ◌≤◌, List, length, find, is_some, Bool, IfOk, IfErr};
 ghost use Rattle.goo_types.specs.declared.lot_fields.LotFields.{LotFields};
 ghost use Rattle.goo_types.specs.declared.piece.Piece.{Piece};
 ghost use Rattle.goo_types.specs.declared.place.Place.{Place};
+ghost use Rattle.goo_ranges.specs.Accounts.{AreAccountRuns};
 ghost use Rattle.goo_ranges.specs.BookFault.{IsLeastFault};
-ghost use Rattle.goo_types.specs.Number.{code_of};
 ghost use Rattle.goo_spec.specs.Maps.{each, least_absent, least_failing};
-ghost use Rattle.goo_ranges.specs.Walk.{span, IsRest};
 ghost use Rattle.goo_types.specs.Piece.{at_of, IsRising};
 ghost use Rattle.goo_spec.specs.Runs.{AreRunsOf, Gives};
 
 use crate::faults::BookFault;
-use crate::joined::push_joined;
+use crate::page::Page;
+use crate::pages::{at_in, joined_page, least_missing_in, least_not_in, least_present_in};
 use goo_types::fault::Fault;
 use goo_types::lot::Lot;
 use goo_types::number::Number;
@@ -21,26 +21,35 @@ use goo_types::place::Place;
 use goo_types::range::Range;
 use std::marker::Model;
 
-mod accounts;
 mod changes;
 
+/// The pieces of a book: in the list that it was handed, or in pages, from the first edit of a long list on.
+#[derive(Drop)]
+enum Kept {
+    /// In one list.
+    Whole(Page),
+    /// In pages of few pieces each.
+    Paged(Vec<Page>),
+}
+
 /// Pieces that rise and have no number in common, seen as the map that they give: from certificate
-/// numbers to lots and places. Look-ups search the pieces by halves.
+/// numbers to lots and places. Look-ups search the pieces by halves; an edit moves the pieces of the pages
+/// that it meets, and the list of pages.
 #[derive(Drop)]
 pub struct Book {
-    pieces: Vec<Piece>,
+    kept: Kept,
 }
 
 impl Model for Book {
     ghost use Rattle.std.specs.Prelude.{List};
     ghost use Rattle.goo_types.specs.declared.piece.Piece.{Piece};
-    ghost use Rattle.goo_types.specs.Piece.{IsRising};
+    ghost use Rattle.goo_ranges.specs.Kept.{pieces_of, IsInOrder};
 
     ghost Value = { List Piece };
 
-    ghost view = { λ b. b.pieces.items };
+    ghost view = { λ b. pieces_of b.kept };
 
-    ghost invariant = { λ b. IsRising b.pieces.items };
+    ghost invariant = { λ b. IsInOrder b.kept };
 }
 
 impl Book {
@@ -52,15 +61,10 @@ impl Book {
         ensures sound { IfOk result IsRising }
         ensures err { IfErr result (IsLeastFault pieces.items) }
     {
-        for (i, piece) in pieces.iter().enumerate() {
-            if !piece.is_forward() {
-                return Err(BookFault::Backwards(i));
-            }
-            if i > 0 && piece.first <= pieces[i - 1].last {
-                return Err(BookFault::Overlap(i));
-            }
-        }
-        Ok(Book { pieces })
+        let page = Page::new(pieces)?;
+        Ok(Book {
+            kept: Kept::Whole(page),
+        })
     }
 
     /// The book of pieces that are known to make one, as the rows of a shelf do.
@@ -68,82 +72,53 @@ impl Book {
         requires { IsRising rows.items }
         ensures { result ≡ rows.items }
     {
-        Book { pieces: rows }
+        Book {
+            kept: Kept::Whole(Page::of_rows(rows)),
+        }
     }
 
-    /// Its pieces, rising.
-    pub fn pieces(&self) -> &[Piece]
-        ensures value { result.now ≡ self.now }
-        ensures rising { IsRising self.now }
+    /// A copy of its pieces, rising. `Memory` where an allocation was refused.
+    pub fn to_pieces(&self) -> Result<Vec<Piece>, Fault>
+        ensures value { IfOk result (λ pieces. pieces.items ≡ self.now) }
+        ensures rising { IfOk result (λ pieces. IsRising self.now) }
+        ensures memory { IfErr result (λ fault. fault ≡ Fault.Memory) }
     {
-        self.pieces.as_slice()
-    }
-
-    /// The pieces from the first one on that ends at the number or after it.
-    fn reaching(&self, number: u64) -> &[Piece]
-        ensures { IsRest self.now result.now number }
-    {
-        let start = self
-            .pieces
-            .partition_point(|piece| piece.last.get() < number);
-        &self.pieces[start..]
+        match &self.kept {
+            Kept::Whole(page) => page.to_pieces(),
+            Kept::Paged(pages) => joined_page(*pages.allocator(), pages)?.to_pieces(),
+        }
     }
 
     /// The lot and the place of a number; None where the book lacks it.
     pub fn at(&self, number: Number) -> Option<(Lot, Place)>
         ensures { result ≡ at_of self.now number }
     {
-        let piece = self.reaching(number.get()).first()?;
-        if number < piece.first {
-            return None;
+        match &self.kept {
+            Kept::Whole(page) => page.at(number),
+            Kept::Paged(pages) => at_in(pages, number),
         }
-        Some((piece.lot, piece.place))
     }
 
     /// The least number of the range that the book lacks; None where it has them all.
     pub fn least_missing(&self, range: Range) -> Option<Number>
         ensures { result ≡ least_absent (at_of self.now) (each range) }
     {
-        self.least_missing_between(range.first(), range.last())
-    }
-
-    /// The least number from `first` to `last` that the book lacks.
-    fn least_missing_between(&self, first: Number, last: Number) -> Option<Number>
-        requires forward { first ≤ last }
-        requires one_code { code_of first ≡ code_of last }
-        ensures { result ≡ least_absent (at_of self.now) (span first (suc last)) }
-    {
-        let mut next = first.get();
-        for piece in self.reaching(next) {
-            if next < piece.first.get() {
-                break;
-            }
-            next = piece.last.get() + 1;
-            if next > last.get() {
-                return None;
-            }
+        let (first, last) = (range.first(), range.last());
+        match &self.kept {
+            Kept::Whole(page) => page.least_missing_between(first, last),
+            Kept::Paged(pages) => least_missing_in(pages, first, last),
         }
-        Some(Number::between(first, last, next))
     }
 
     /// The least number of the range that the book has; None where it has none.
     pub fn least_present(&self, range: Range) -> Option<Number>
         ensures { result ≡ find (λ n. is_some (at_of self.now n)) (each range) }
     {
-        self.least_present_between(range.first(), range.last())
-    }
-
-    /// The least number from `first` to `last` that the book has.
-    fn least_present_between(&self, first: Number, last: Number) -> Option<Number>
-        requires forward { first ≤ last }
-        requires one_code { code_of first ≡ code_of last }
-        ensures { result ≡ find (λ n. is_some (at_of self.now n)) (span first (suc last)) }
-    {
-        let piece = self.reaching(first.get()).first()?;
-        if last < piece.first {
-            return None;
+        let (first, last) = (range.first(), range.last());
+        match &self.kept {
+            Kept::Whole(page) => page.least_present_between(first, last),
+            Kept::Paged(pages) => least_present_in(pages, first, last),
         }
-        Some(first.max(piece.first))
     }
 
     /// The least number of the range whose lot and place fail the test; None where none fails. Numbers
@@ -158,31 +133,11 @@ impl Book {
             → ((lot : LotFields) (place : Place) (answer : Bool) → F.post test lot place answer → answer ≡ passes lot place)
             → result ≡ least_failing passes (at_of self.now) (each range) }
     {
-        self.least_not_between(range.first(), range.last(), test)
-    }
-
-    /// The least number from `first` to `last` whose lot and place fail the test.
-    fn least_not_between<F: Fn(Lot, Place) -> bool + Drop>(
-        &self,
-        first: Number,
-        last: Number,
-        test: F,
-    ) -> Option<Number>
-        requires forward { first ≤ last }
-        requires callable { F.IsAlwaysCallable test }
-        ensures { (passes : LotFields → Place → Bool)
-            → ((lot : LotFields) (place : Place) (answer : Bool) → F.post test lot place answer → answer ≡ passes lot place)
-            → result ≡ least_failing passes (at_of self.now) (span first (suc last)) }
-    {
-        for piece in self.reaching(first.get()) {
-            if last < piece.first {
-                return None;
-            }
-            if !test(piece.lot, piece.place) {
-                return Some(first.max(piece.first));
-            }
+        let (first, last) = (range.first(), range.last());
+        match &self.kept {
+            Kept::Whole(page) => page.least_not_between(first, last, test),
+            Kept::Paged(pages) => least_not_in(pages, first, last, test),
         }
-        None
     }
 
     /// The maximal ranges of consecutive numbers with one lot and one place, rising: no list of ranges
@@ -192,10 +147,22 @@ impl Book {
         ensures fewest { IfOk result (λ runs. (ranges : List Piece) → Gives ranges (at_of self.now) → length runs.items ≤ length ranges) }
         ensures err { IfErr result (λ fault. fault ≡ Fault.Memory) }
     {
-        let mut runs = Vec::new(*self.pieces.allocator());
-        for piece in &self.pieces {
-            push_joined(&mut runs, *piece)?;
+        match &self.kept {
+            Kept::Whole(page) => page.runs(),
+            Kept::Paged(pages) => joined_page(*pages.allocator(), pages)?.runs(),
         }
-        Ok(runs)
+    }
+
+    /// The maximal ranges of consecutive numbers whose places name one account, whatever their lots,
+    /// rising: each as a piece that this account holds. All have one lot, which says nothing.
+    /// `Memory` where an allocation was refused.
+    pub fn account_runs(&self) -> Result<Vec<Piece>, Fault>
+        ensures runs { IfOk result (λ runs. AreAccountRuns self.now runs.items) }
+        ensures memory { IfErr result (λ fault. fault ≡ Fault.Memory) }
+    {
+        match &self.kept {
+            Kept::Whole(page) => page.account_runs(),
+            Kept::Paged(pages) => joined_page(*pages.allocator(), pages)?.account_runs(),
+        }
     }
 }

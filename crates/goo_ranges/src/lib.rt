@@ -5,6 +5,8 @@ mod books;
 mod edits;
 mod faults;
 mod joined;
+mod page;
+mod pages;
 mod parts;
 #[cfg(test)]
 mod tests;

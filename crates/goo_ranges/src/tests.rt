@@ -1,5 +1,6 @@
 //! Two joined pieces that are moved, added to and looked up, the edges of one row of ten numbers,
-//! runs of one account, and lists of pieces that make no book, against results worked out by hand.
+//! runs of one account, a list that is long enough for pages, and lists of pieces that make no book,
+//! against results worked out by hand.
 
 use crate::books::Book;
 use crate::edits::Edit;
@@ -136,5 +137,57 @@ fn rows_moved_and_refused(rt: HostRuntime) -> Result<(), Fail> {
     assert!(rt; matches!(Book::new(overlapping), Err(BookFault::Overlap(1))));
     let backwards = vec![in alloc; piece(5, 4, 1)?]?;
     assert!(rt; matches!(Book::new(backwards), Err(BookFault::Backwards(0))));
+    Ok(())
+}
+
+/// Six hundred rows of five numbers each, of two accounts in turn: more than stay in one list.
+fn many_rows(alloc: Global) -> Result<Book, Fail> {
+    let pieces = vec![in alloc; piece(1, 3000, 1)?]?;
+    let mut book = Book::new(pieces).map_err(|_| "no book")?;
+    for i in 0..300u64 {
+        book.reassign(range(10 * i + 6, 10 * i + 10)?, held(2)?)?;
+    }
+    Ok(book)
+}
+
+#[test]
+fn a_long_book_edited(rt: HostRuntime) -> Result<(), Fail> {
+    let mut book = many_rows(rt.alloc())?;
+    let edit = book.reassign(range(1004, 1013)?, held(3)?)?;
+    let met = [number(1001)?, number(1006)?, number(1011)?];
+    assert!(rt; edit.delete.as_slice() == met.as_slice());
+    let three = [
+        piece(1001, 1003, 1)?,
+        piece(1004, 1013, 3)?,
+        piece(1014, 1015, 1)?,
+    ];
+    assert!(rt; edit.insert.as_slice() == three.as_slice());
+    assert!(rt; book.to_pieces()?.len() == 600);
+    Ok(())
+}
+
+#[test]
+fn a_long_book_looked_up(rt: HostRuntime) -> Result<(), Fail> {
+    let first = held(1)?;
+    let mut book = many_rows(rt.alloc())?;
+    book.reassign(range(1004, 1013)?, held(3)?)?;
+    assert!(rt; book.at(number(2995)?).map(|(_, place)| place) == Some(first));
+    assert!(rt; book.least_missing(range(1001, 3005)?) == Some(number(3001)?));
+    assert!(rt; book.least_present(range(2996, 5000)?) == Some(number(2996)?));
+    assert!(rt;
+        book.least_not(range(1001, 3000)?, |_, place| place == first) == Some(number(1004)?)
+    );
+    Ok(())
+}
+
+#[test]
+fn a_long_book_in_one_hand(rt: HostRuntime) -> Result<(), Fail> {
+    let mut book = many_rows(rt.alloc())?;
+    let edit = book.add(range(3001, 3010)?, lot()?, held(2)?)?;
+    assert!(rt; edit.delete.as_slice() == [number(2996)?].as_slice());
+    assert!(rt; book.account_runs()?.len() == 600);
+    let edit = book.reassign(range(1, 3010)?, held(1)?)?;
+    assert!(rt; edit.delete.len() == 600);
+    assert!(rt; book.runs()?.as_slice() == [piece(1, 3010, 1)?].as_slice());
     Ok(())
 }
