@@ -1,0 +1,67 @@
+//! Requests that are sent, and what they are answered.
+
+use crate::script::Line;
+use goo_body::read_command;
+use goo_outcome::outcome_text;
+use goo_registry::Registry;
+use goo_store::sql_shelf::SqlShelf;
+use goo_types::fault::Fault;
+use goo_types::holder_code::HolderCode;
+use goo_types::outcome::Outcome;
+use sqlite::Alter;
+use std::alloc::Global;
+use std::process::Abort;
+use std::test::Fail;
+
+/// What a request of a caller comes to.
+pub fn asks<S: Alter>(
+    alloc: Global,
+    registry: &mut Registry<SqlShelf<S>>,
+    caller: &str,
+    body: &str,
+) -> Result<Result<Outcome, Fault>, Fail> {
+    let caller = HolderCode::read(caller.as_bytes())?;
+    let request = read_command(alloc, &caller, body.as_bytes())?;
+    Ok(registry.apply(alloc, &request))
+}
+
+/// An outcome is that of a line, in this word.
+pub fn is_outcome(
+    rt: &impl Abort,
+    alloc: Global,
+    outcome: Outcome,
+    word: &str,
+    line: &Line,
+) -> Result<(), Fail> {
+    let text = outcome_text(outcome);
+    let wanted = format!(in alloc; "{{\"outcome\":\"{word}\",\"reply\":{}}}", line.2)?;
+    assert!(rt; text.as_str() == wanted.as_str(), "to {}", line.1);
+    Ok(())
+}
+
+/// The request of a line comes to its reply, in this word.
+pub fn plays_one<S: Alter>(
+    rt: &impl Abort,
+    alloc: Global,
+    registry: &mut Registry<SqlShelf<S>>,
+    line: &Line,
+    word: &str,
+) -> Result<(), Fail> {
+    let outcome = asks(alloc, registry, line.0, line.1)??;
+    is_outcome(rt, alloc, outcome, word, line)
+}
+
+/// The first lines are repeated, as many as are kept, and the others accepted.
+pub fn plays<S: Alter>(
+    rt: &impl Abort,
+    alloc: Global,
+    registry: &mut Registry<SqlShelf<S>>,
+    lines: &[Line],
+    kept: usize,
+) -> Result<(), Fail> {
+    for (at, line) in lines.iter().enumerate() {
+        let word = if at < kept { "repeated" } else { "accepted" };
+        plays_one(rt, alloc, registry, line, word)?;
+    }
+    Ok(())
+}

@@ -1,0 +1,136 @@
+//! Tables that were damaged, one value at a time.
+
+use crate::asking::{plays, plays_one};
+use crate::disks::{blank, edited, files_of, judged};
+use crate::registries::{begun, closed, in_march};
+use crate::script::{APRIL, CANCELLATION, SCRIPT};
+use goo_opening::connecting::open_ordered;
+use goo_opening::fault::OpenFault;
+use sqlite::{Alter, Connection, Files, Options};
+use sqlite_disk::Disk;
+use std::alloc::Global;
+use std::process::Abort;
+use std::test::Fail;
+
+/// What is done to the tables, how it is undone, and why they are not opened in between.
+type Damage = (&'static str, &'static str, OpenFault);
+
+const DAMAGES: [Damage; 12] = [
+    (
+        "UPDATE device SET carry = 1",
+        "UPDATE device SET carry = 0",
+        OpenFault::Damaged,
+    ),
+    (
+        "UPDATE device SET last_day = NULL",
+        "UPDATE device SET last_day = '2025-03-31'",
+        OpenFault::Damaged,
+    ),
+    (
+        "UPDATE meta SET next_serial = 1201",
+        "UPDATE meta SET next_serial = 1202",
+        OpenFault::Damaged,
+    ),
+    (
+        "UPDATE meta SET next_cancellation = 1",
+        "UPDATE meta SET next_cancellation = 2",
+        OpenFault::Damaged,
+    ),
+    (
+        "UPDATE account SET closed = 1 WHERE number = 1",
+        "UPDATE account SET closed = 0 WHERE number = 1",
+        OpenFault::Damaged,
+    ),
+    (
+        "UPDATE lot SET expires_on = '2026-08-01' WHERE first_day = '2025-01-01'",
+        "UPDATE lot SET expires_on = '2026-07-31' WHERE first_day = '2025-01-01'",
+        OpenFault::Damaged,
+    ),
+    (
+        "UPDATE piece SET account = 9 WHERE first = 7000000000011",
+        "UPDATE piece SET account = 1 WHERE first = 7000000000011",
+        OpenFault::Damaged,
+    ),
+    (
+        "UPDATE holder SET name = '' WHERE code = 'SUN'",
+        "UPDATE holder SET name = 'Sun Power' WHERE code = 'SUN'",
+        OpenFault::Damaged,
+    ),
+    (
+        "UPDATE meta SET today = '2026-08-01'",
+        "UPDATE meta SET today = '2025-04-05'",
+        OpenFault::Damaged,
+    ),
+    (
+        "INSERT INTO piece VALUES (7000000000005, 7000000000006, 1, 1, 1, 0)",
+        "DELETE FROM piece WHERE first = 7000000000005",
+        OpenFault::Damaged,
+    ),
+    (
+        "UPDATE meta SET version = 9",
+        "UPDATE meta SET version = 1",
+        OpenFault::Version(9),
+    ),
+    (
+        "DELETE FROM meta",
+        "INSERT INTO meta VALUES (1, 1, 7, '2025-04-05', 1202, 3, 2, 1, 1)",
+        OpenFault::NotARegistry,
+    ),
+];
+
+/// A new registry in a database: that of April, with a cancellation.
+fn cancels<S: Alter + Drop>(
+    rt: &impl Abort,
+    alloc: Global,
+    conn: Connection<S>,
+) -> Result<Connection<S>, Fail> {
+    let Ok(mut registry) = begun(alloc, conn, in_march()?) else {
+        return Err("no registry".into());
+    };
+    let april = SCRIPT.get(..APRIL).ok_or("so many requests")?;
+    plays(rt, alloc, &mut registry, april, 0)?;
+    let cancellation = SCRIPT.get(CANCELLATION).ok_or("no cancellation")?;
+    plays_one(rt, alloc, &mut registry, cancellation, "accepted")?;
+    Ok(closed(registry).0)
+}
+
+/// The same on disks.
+fn cancels_on<D: Disk + Drop>(
+    rt: &impl Abort,
+    alloc: Global,
+    files: Files<D>,
+) -> Result<Files<D>, Fail> {
+    if !files.may_be_used() {
+        return Err("disks that may not be used".into());
+    }
+    let Ok(conn) = open_ordered(alloc, files, Options::new(7)) else {
+        return Err("a database that isn't opened".into());
+    };
+    Ok(files_of(cancels(rt, alloc, conn)?))
+}
+
+/// Tables that are damaged are not opened, for this reason, and are opened once that is undone.
+fn is_refused<D: Disk + Drop>(
+    rt: &impl Abort,
+    alloc: Global,
+    files: Files<D>,
+    damage: &Damage,
+) -> Result<Files<D>, Fail> {
+    let files = edited(alloc, files, damage.0)?;
+    let (word, files) = judged(alloc, files)?;
+    assert_eq!(rt; word, Some(damage.2), "after {}", damage.0);
+    let files = edited(alloc, files, damage.1)?;
+    let (word, files) = judged(alloc, files)?;
+    assert_eq!(rt; word, None, "after {}", damage.1);
+    Ok(files)
+}
+
+#[test]
+fn damages_are_met(rt: HostRuntime) -> Result<(), Fail> {
+    let alloc = rt.alloc();
+    let mut files = cancels_on(&rt, alloc, blank(alloc))?;
+    for damage in &DAMAGES {
+        files = is_refused(&rt, alloc, files, damage)?;
+    }
+    Ok(())
+}

@@ -1,0 +1,91 @@
+//! Disks in memory, and databases on them.
+
+ghost use Rattle.sqlite.specs.Held.{state};
+ghost use Rattle.sqlite.specs.State.{HasCleanDisk};
+ghost use Rattle.goo_columns.specs.Met.{HasOurTables};
+
+use crate::registries::{closed, opened};
+use goo_opening::connecting::open_ordered;
+use goo_opening::fault::OpenFault;
+use goo_opening::our_schema::has_our_schema;
+use sqlite::{Alter, Connection, FileStore, Files, Options};
+use sqlite_disk::{Crash, Disk, Fuse, Memory};
+use std::alloc::Global;
+use std::test::Fail;
+
+/// Two empty disks in memory.
+pub fn blank(alloc: Global) -> Files<Memory> {
+    Files {
+        log: Memory::new(alloc),
+        db: Memory::new(alloc),
+    }
+}
+
+/// Two empty disks in memory, each of which stops after so many calls.
+pub fn stopping(alloc: Global, log_calls: u64, db_calls: u64) -> Files<Fuse<Memory>> {
+    Files {
+        log: Fuse::new(Memory::new(alloc), log_calls),
+        db: Fuse::new(Memory::new(alloc), db_calls),
+    }
+}
+
+/// What a crash leaves of the disks.
+pub fn crashed<D: Crash>(files: Files<D>) -> Files<D> {
+    let Files { mut log, mut db } = files;
+    log.crash();
+    db.crash();
+    Files { log, db }
+}
+
+/// The disks of a database, as they stand.
+pub fn files_of<D: Disk + Drop>(conn: Connection<FileStore<D>>) -> Files<D> {
+    conn.into_store().close()
+}
+
+/// The disks, after a text was run on their database.
+pub fn edited<D: Disk + Drop>(alloc: Global, files: Files<D>, sql: &str) -> Result<Files<D>, Fail> {
+    if !files.may_be_used() {
+        return Err("disks that may not be used".into());
+    }
+    match open_ordered(alloc, files, Options::new(7)) {
+        Ok(conn) => {
+            let mut conn = conn;
+            let done = conn.execute_batch(sql);
+            let files = files_of(conn);
+            done?;
+            Ok(files)
+        }
+        Err(_) => Err("a database that isn't opened".into()),
+    }
+}
+
+/// Why a database is not opened, if so, and the database as that leaves it.
+fn word_of<S: Alter>(alloc: Global, conn: Connection<S>) -> (Option<OpenFault>, Connection<S>)
+    requires ours { HasCleanDisk (state S.Store conn) → HasOurTables (state S.Store conn).now }
+{
+    match opened(alloc, conn) {
+        Ok(registry) => (None, closed(registry).0),
+        Err((conn, fault)) => (Some(fault), conn),
+    }
+}
+
+/// Why no registry is opened on the disks, if none is, and the disks as that leaves them.
+pub fn judged<D: Disk + Drop>(
+    alloc: Global,
+    files: Files<D>,
+) -> Result<(Option<OpenFault>, Files<D>), Fail> {
+    if !files.may_be_used() {
+        return Err("disks that may not be used".into());
+    }
+    match open_ordered(alloc, files, Options::new(7)) {
+        Ok(conn) => {
+            let (word, conn) = if has_our_schema(&conn) {
+                word_of(alloc, conn)
+            } else {
+                (Some(OpenFault::NotARegistry), conn)
+            };
+            Ok((word, files_of(conn)))
+        }
+        Err(_) => Err("a database that isn't opened".into()),
+    }
+}

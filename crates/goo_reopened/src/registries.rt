@@ -1,0 +1,87 @@
+//! Registries that are begun, closed and opened again.
+
+ghost use Rattle.std.specs.Prelude.{◌≡◌, false};
+ghost use Rattle.sqlite.specs.Held.{state};
+ghost use Rattle.sqlite.specs.State.{HasCleanDisk};
+ghost use Rattle.goo_columns.specs.Met.{HasOurTables};
+
+use goo_opening::fault::OpenFault;
+use goo_registry::Registry;
+use goo_shelf::shelf::Shelf;
+use goo_store::sql_shelf::SqlShelf;
+use goo_types::day::Day;
+use goo_types::registry_code::RegistryCode;
+use goo_types::serial::Serial;
+use sqlite::{Alter, Connection};
+use std::alloc::Global;
+use std::test::Fail;
+
+/// What a registry begins with.
+#[derive(Clone, Copy)]
+pub struct Beginning {
+    code: RegistryCode,
+    serial: Serial,
+    today: Day,
+}
+
+/// Registry 7 on 1 March 2025, with the first serial.
+pub fn in_march() -> Result<Beginning, Fail> {
+    Ok(Beginning {
+        code: RegistryCode::new(7).ok_or("no code")?,
+        serial: Serial::new(1).ok_or("no serial")?,
+        today: Day::read(b"2025-03-01")?,
+    })
+}
+
+/// A registry, or the database that holds none, and why.
+pub type Entered<S> = Result<Registry<SqlShelf<S>>, (Connection<S>, OpenFault)>;
+
+/// A new registry in a database.
+pub fn begun<S: Alter>(alloc: Global, conn: Connection<S>, beginning: Beginning) -> Entered<S> {
+    if !conn.is_autocommit() {
+        return Err((conn, OpenFault::Store));
+    }
+    match SqlShelf::create(
+        alloc,
+        conn,
+        beginning.code,
+        beginning.serial,
+        beginning.today,
+    ) {
+        Ok(shelf) => Ok(Registry::new(shelf)),
+        Err(refused) => Err(refused),
+    }
+}
+
+/// The registry that a database holds.
+pub fn opened<S: Alter>(alloc: Global, conn: Connection<S>) -> Entered<S>
+    requires ours { HasCleanDisk (state S.Store conn) → HasOurTables (state S.Store conn).now }
+{
+    if !conn.is_autocommit() {
+        return Err((conn, OpenFault::Store));
+    }
+    match SqlShelf::open(alloc, conn) {
+        Ok(shelf) => Ok(Registry::new(shelf)),
+        Err(refused) => Err(refused),
+    }
+}
+
+/// The database of a registry, and how many of its calls were refused.
+pub fn closed<S: Alter>(registry: Registry<SqlShelf<S>>) -> (Connection<S>, u64) {
+    let shelf = registry.into_shelf();
+    let refused = shelf.refused_calls();
+    (shelf.into_connection(), refused)
+}
+
+/// The registry closed, and opened again over the same connection.
+pub fn opened_again<S: Alter>(alloc: Global, registry: Registry<SqlShelf<S>>) -> Entered<S> {
+    let mut shelf = registry.into_shelf();
+    match shelf.today() {
+        Ok(_) => {
+            let conn = shelf.into_connection();
+            let _live = conn.schema();
+            opened(alloc, conn)
+        }
+        Err(_) => Err((shelf.into_connection(), OpenFault::Store)),
+    }
+}

@@ -1,0 +1,172 @@
+//! What a registry shows to the issuing body, as one text.
+
+use crate::asking::asks;
+use crate::script::PROBES;
+use goo_notice::texts::{day_text, number_text};
+use goo_notice::write;
+use goo_outcome::outcome_text;
+use goo_registry::{ReadFault, Registry};
+use goo_store::sql_shelf::SqlShelf;
+use goo_types::account_no::AccountNo;
+use goo_types::act_no::ActNo;
+use goo_types::holder_code::HolderCode;
+use goo_types::number::Number;
+use goo_types::piece::Piece;
+use goo_types::place::Place;
+use sqlite::Alter;
+use std::alloc::{AllocError, Global};
+use std::test::Fail;
+
+/// The issuing body.
+fn issuer() -> Result<HolderCode, Fail> {
+    Ok(HolderCode::read(b"ISSUER")?)
+}
+
+/// A place in a word.
+fn place_word(alloc: Global, place: Place) -> Result<String, AllocError> {
+    match place {
+        Place::Held(_) => String::from_str(alloc, "held"),
+        Place::Expired(_) => String::from_str(alloc, "expired"),
+        Place::Cancelled(_, act) => format!(in alloc; "cancelled:{}", act.get()),
+        Place::Withdrawn(_, act) => format!(in alloc; "withdrawn:{}", act.get()),
+        Place::Exported(_, act) => format!(in alloc; "exported:{}", act.get()),
+    }
+}
+
+/// A line for each run: its numbers, the period of its lot, and its place.
+fn tell_runs(alloc: Global, runs: &[Piece], text: &mut String) -> Result<(), AllocError> {
+    for run in runs {
+        text.push_str(number_text(run.first).as_str())?;
+        text.push_str(" ")?;
+        text.push_str(number_text(run.last).as_str())?;
+        text.push_str(" ")?;
+        text.push_str(day_text(run.lot.first_day()).as_str())?;
+        text.push_str(" ")?;
+        text.push_str(&place_word(alloc, run.place)?)?;
+        text.push_str("\n")?;
+    }
+    Ok(())
+}
+
+/// Why something isn't shown.
+fn tell_fault(alloc: Global, fault: ReadFault, text: &mut String) -> Result<(), AllocError> {
+    text.push_str(&format!(in alloc; "{fault:?}\n")?)
+}
+
+/// What is answered to requests that are refused in any state.
+fn tell_answers<S: Alter>(
+    alloc: Global,
+    registry: &mut Registry<SqlShelf<S>>,
+    text: &mut String,
+) -> Result<(), Fail> {
+    for (caller, body) in &PROBES {
+        let outcome = asks(alloc, registry, caller, body)??;
+        text.push_str(outcome_text(outcome).as_str())?;
+        text.push_str("\n")?;
+    }
+    Ok(())
+}
+
+/// Whether a holder is known, by what he is shown of a certificate that isn't there.
+fn tell_holder<S: Alter>(
+    alloc: Global,
+    registry: &mut Registry<SqlShelf<S>>,
+    holder: &str,
+    text: &mut String,
+) -> Result<(), Fail> {
+    let holder = HolderCode::read(holder.as_bytes())?;
+    let absent = Number::new(7, 1202).ok_or("no number")?;
+    match registry.place_of(alloc, &holder, absent) {
+        Ok(_) => Ok(text.push_str("there\n")?),
+        Err(fault) => Ok(tell_fault(alloc, fault, text)?),
+    }
+}
+
+/// The certificates of an account.
+fn tell_holdings<S: Alter>(
+    alloc: Global,
+    registry: &mut Registry<SqlShelf<S>>,
+    account: u32,
+    text: &mut String,
+) -> Result<(), Fail> {
+    let account = AccountNo::new(account).ok_or("no account")?;
+    match registry.holdings(alloc, &issuer()?, account) {
+        Ok(runs) => Ok(tell_runs(alloc, &runs, text)?),
+        Err(fault) => Ok(tell_fault(alloc, fault, text)?),
+    }
+}
+
+/// The energy and the certificates of each device.
+fn tell_audit<S: Alter>(
+    alloc: Global,
+    registry: &mut Registry<SqlShelf<S>>,
+    text: &mut String,
+) -> Result<(), Fail> {
+    let totals = registry.audit(alloc, &issuer()?)?;
+    for device in &totals {
+        let line = format!(in alloc;
+            "{} {} {} {}\n",
+            device.device.text(),
+            device.declared,
+            device.issued,
+            device.carry
+        )?;
+        text.push_str(&line)?;
+    }
+    Ok(())
+}
+
+/// The first cancellation.
+fn tell_cancellation<S: Alter>(
+    alloc: Global,
+    registry: &mut Registry<SqlShelf<S>>,
+    text: &mut String,
+) -> Result<(), Fail> {
+    let first = ActNo::new(1).ok_or("no act")?;
+    match registry.cancellation(alloc, &issuer()?, first) {
+        Ok(statement) => {
+            text.push_str(statement.holder.text())?;
+            text.push_str(" ")?;
+            text.push_str(day_text(statement.record.day()).as_str())?;
+            text.push_str(" ")?;
+            text.push_str(statement.record.beneficiary().text())?;
+            text.push_str("\n")?;
+            Ok(tell_runs(alloc, &statement.runs, text)?)
+        }
+        Err(fault) => Ok(tell_fault(alloc, fault, text)?),
+    }
+}
+
+/// The first notice.
+fn tell_notice<S: Alter>(
+    alloc: Global,
+    registry: &mut Registry<SqlShelf<S>>,
+    text: &mut String,
+) -> Result<(), Fail> {
+    let first = ActNo::new(1).ok_or("no act")?;
+    match registry.notice(alloc, &issuer()?, first) {
+        Ok(notice) => {
+            let bytes = write(alloc, &notice)?;
+            text.push_str(str::from_utf8(&bytes)?)?;
+            Ok(text.push_str("\n")?)
+        }
+        Err(fault) => Ok(tell_fault(alloc, fault, text)?),
+    }
+}
+
+/// All that a registry shows.
+pub fn sight<S: Alter>(
+    alloc: Global,
+    registry: &mut Registry<SqlShelf<S>>,
+) -> Result<String, Fail> {
+    let mut text = String::new(alloc);
+    tell_answers(alloc, registry, &mut text)?;
+    tell_holder(alloc, registry, "SUN", &mut text)?;
+    tell_holder(alloc, registry, "VOLT", &mut text)?;
+    tell_holdings(alloc, registry, 1, &mut text)?;
+    tell_holdings(alloc, registry, 2, &mut text)?;
+    tell_audit(alloc, registry, &mut text)?;
+    tell_cancellation(alloc, registry, &mut text)?;
+    tell_notice(alloc, registry, &mut text)?;
+    Ok(text)
+}

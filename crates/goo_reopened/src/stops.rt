@@ -1,0 +1,267 @@
+//! Disks in memory that stop at one call, at each in turn: what a crash leaves is opened again, and all requests are sent
+//! again.
+
+ghost use Rattle.sqlite.specs.Held.{state};
+ghost use Rattle.sqlite.specs.State.{HasCleanDisk};
+ghost use Rattle.goo_columns.specs.Met.{HasOurTables};
+
+use crate::asking::{asks, is_outcome, plays, plays_one};
+use crate::disks::{crashed, files_of, stopping};
+use crate::registries::{begun, closed, in_march, opened};
+use crate::reopened::{END_SHOWN, shows};
+use crate::script::SCRIPT;
+use crate::sight::sight;
+use goo_opening::connecting::open_ordered;
+use goo_opening::fault::OpenFault;
+use goo_opening::our_schema::has_our_schema;
+use goo_registry::{ReadFault, Registry};
+use goo_store::sql_shelf::SqlShelf;
+use goo_types::fault::Fault;
+use goo_types::holder_code::HolderCode;
+use sqlite::{Alter, Connection, Files, Options};
+use sqlite_disk::{Crash, Disk};
+use std::alloc::Global;
+use std::process::Abort;
+use std::test::Fail;
+
+/// What a new registry in a database shows before the first request, and after each.
+fn sights<S: Alter + Drop>(
+    rt: &impl Abort,
+    alloc: Global,
+    conn: Connection<S>,
+) -> Result<Vec<String>, Fail> {
+    let Ok(mut registry) = begun(alloc, conn, in_march()?) else {
+        return Err("no registry".into());
+    };
+    let mut shown = Vec::new(alloc);
+    shown.push(sight(alloc, &mut registry)?)?;
+    for line in &SCRIPT {
+        plays_one(rt, alloc, &mut registry, line, "accepted")?;
+        shown.push(sight(alloc, &mut registry)?)?;
+    }
+    Ok(shown)
+}
+
+/// How many requests are answered: all, or those up to the first `Store`, and then each is answered so.
+fn answered_by<S: Alter>(
+    rt: &impl Abort,
+    alloc: Global,
+    registry: &mut Registry<SqlShelf<S>>,
+) -> Result<usize, Fail> {
+    let mut answered = 0usize;
+    for (at, line) in SCRIPT.iter().enumerate() {
+        match asks(alloc, registry, line.0, line.1)? {
+            Ok(outcome) => {
+                assert_eq!(rt; answered, at);
+                is_outcome(rt, alloc, outcome, "accepted", line)?;
+                answered = at.saturating_add(1);
+            }
+            Err(fault) => assert_eq!(rt; fault, Fault::Store),
+        }
+    }
+    Ok(answered)
+}
+
+/// Nothing is shown any more.
+fn is_silent<S: Alter>(
+    rt: &impl Abort,
+    alloc: Global,
+    registry: &mut Registry<SqlShelf<S>>,
+) -> Result<(), Fail> {
+    let issuer = HolderCode::read(b"ISSUER")?;
+    let read = registry.audit(alloc, &issuer).err();
+    assert_eq!(rt; read, Some(ReadFault::Store));
+    Ok(())
+}
+
+/// How many requests a new registry in a database answers, and the database.
+fn runs<S: Alter + Drop>(
+    rt: &impl Abort,
+    alloc: Global,
+    conn: Connection<S>,
+) -> Result<(usize, Connection<S>), Fail> {
+    match begun(alloc, conn, in_march()?) {
+        Ok(registry) => {
+            let mut registry = registry;
+            let answered = answered_by(rt, alloc, &mut registry)?;
+            let is_stopped = answered < SCRIPT.len();
+            if is_stopped {
+                is_silent(rt, alloc, &mut registry)?;
+            }
+            let (conn, refused) = closed(registry);
+            assert_eq!(rt; refused, u64::from(is_stopped));
+            Ok((answered, conn))
+        }
+        Err((conn, fault)) => {
+            assert_eq!(rt; fault, OpenFault::Store);
+            Ok((0, conn))
+        }
+    }
+}
+
+/// How many requests a new registry on disks answers, and the disks as they stand then.
+fn runs_on<D: Disk + Drop>(
+    rt: &impl Abort,
+    alloc: Global,
+    files: Files<D>,
+) -> Result<(usize, Files<D>), Fail> {
+    if !files.may_be_used() {
+        return Err("disks that may not be used".into());
+    }
+    match open_ordered(alloc, files, Options::new(7)) {
+        Ok(conn) => {
+            let (answered, conn) = runs(rt, alloc, conn)?;
+            Ok((answered, files_of(conn)))
+        }
+        Err((_, left)) => Ok((0, left.into_files())),
+    }
+}
+
+/// All requests are sent again: those that were kept are repeated, and the end is that of a run without a stop.
+fn ends<S: Alter>(
+    rt: &impl Abort,
+    alloc: Global,
+    registry: &mut Registry<SqlShelf<S>>,
+    kept: usize,
+) -> Result<(), Fail> {
+    plays(rt, alloc, registry, &SCRIPT, kept)?;
+    shows(rt, alloc, registry, END_SHOWN)
+}
+
+/// How many requests the registry has kept that shows this: those answered, or one more.
+fn kept_of(rt: &impl Abort, shown: &str, answered: usize, wanted: &[String]) -> usize {
+    if wanted
+        .get(answered)
+        .is_some_and(|text| text.as_str() == shown)
+    {
+        return answered;
+    }
+    let more = answered.saturating_add(1);
+    assert!(rt;
+        wanted.get(more).is_some_and(|text| text.as_str() == shown),
+        "{answered} answered, and then {shown}"
+    );
+    more
+}
+
+/// The registry that a database holds after a stop has kept the requests answered, or one more.
+fn returns<S: Alter + Drop>(
+    rt: &impl Abort,
+    alloc: Global,
+    conn: Connection<S>,
+    answered: usize,
+    wanted: &[String],
+) -> Result<(), Fail>
+    requires ours { HasCleanDisk (state S.Store conn) → HasOurTables (state S.Store conn).now }
+{
+    let Ok(mut registry) = opened(alloc, conn) else {
+        return Err("not opened after a stop".into());
+    };
+    let shown = sight(alloc, &mut registry)?;
+    let kept = kept_of(rt, &shown, answered, wanted);
+    ends(rt, alloc, &mut registry, kept)
+}
+
+/// A database that holds no registry after a stop gets one: no request was answered.
+fn starts_over<S: Alter + Drop>(
+    rt: &impl Abort,
+    alloc: Global,
+    conn: Connection<S>,
+    answered: usize,
+) -> Result<(), Fail> {
+    assert_eq!(rt; answered, 0);
+    let Ok(mut registry) = begun(alloc, conn, in_march()?) else {
+        return Err("no registry after a stop".into());
+    };
+    ends(rt, alloc, &mut registry, 0)
+}
+
+/// What a crash left on disks is opened again.
+fn goes_on<D: Disk + Drop>(
+    rt: &impl Abort,
+    alloc: Global,
+    files: Files<D>,
+    answered: usize,
+    wanted: &[String],
+) -> Result<(), Fail> {
+    if !files.may_be_used() {
+        return Err("disks that may not be used".into());
+    }
+    let Ok(conn) = open_ordered(alloc, files, Options::new(7)) else {
+        return Err("a database that isn't opened".into());
+    };
+    if has_our_schema(&conn) {
+        returns(rt, alloc, conn, answered, wanted)
+    } else {
+        starts_over(rt, alloc, conn, answered)
+    }
+}
+
+/// Whether disks stop before all requests are answered; what a crash leaves goes on.
+fn stops_on<D: Crash + Drop>(
+    rt: &impl Abort,
+    alloc: Global,
+    files: Files<D>,
+    wanted: &[String],
+) -> Result<bool, Fail> {
+    let (answered, files) = runs_on(rt, alloc, files)?;
+    goes_on(rt, alloc, crashed(files), answered, wanted)?;
+    Ok(answered < SCRIPT.len())
+}
+
+/// What the registry shows without a stop, request by request: no two neighbours are alike.
+fn wanted_sights(rt: &impl Abort, alloc: Global) -> Result<Vec<String>, Fail> {
+    let conn = Connection::open_in_memory(alloc)?;
+    let shown = sights(rt, alloc, conn)?;
+    for (text, next) in shown.iter().zip(shown.iter().skip(1)) {
+        assert!(rt; text.as_str() != next.as_str());
+    }
+    Ok(shown)
+}
+
+/// More rounds than any of the loops below needs.
+const ROUNDS: u64 = 1000;
+
+/// The log stops at every fourth call from this one on.
+fn log_stops(rt: &impl Abort, alloc: Global, from: u64) -> Result<(), Fail> {
+    let wanted = wanted_sights(rt, alloc)?;
+    for round in 0..ROUNDS {
+        let calls = from.saturating_add(4 * round);
+        if !stops_on(rt, alloc, stopping(alloc, calls, u64::MAX), &wanted)? {
+            return Ok(());
+        }
+    }
+    Err("a stop at each call".into())
+}
+
+#[test]
+fn the_log_stops_at_the_first_call(rt: HostRuntime) -> Result<(), Fail> {
+    log_stops(&rt, rt.alloc(), 0)
+}
+
+#[test]
+fn the_log_stops_at_the_second_call(rt: HostRuntime) -> Result<(), Fail> {
+    log_stops(&rt, rt.alloc(), 1)
+}
+
+#[test]
+fn the_log_stops_at_the_third_call(rt: HostRuntime) -> Result<(), Fail> {
+    log_stops(&rt, rt.alloc(), 2)
+}
+
+#[test]
+fn the_log_stops_at_the_fourth_call(rt: HostRuntime) -> Result<(), Fail> {
+    log_stops(&rt, rt.alloc(), 3)
+}
+
+#[test]
+fn the_database_file_stops(rt: HostRuntime) -> Result<(), Fail> {
+    let alloc = rt.alloc();
+    let wanted = wanted_sights(&rt, alloc)?;
+    for calls in 0..ROUNDS {
+        if !stops_on(&rt, alloc, stopping(alloc, u64::MAX, calls), &wanted)? {
+            return Ok(());
+        }
+    }
+    Err("a stop at each call".into())
+}
