@@ -1,5 +1,5 @@
 -- What a request to a registry over tables in memory does, as a desk's.
-use Rattle.std.proofs.Common.{◌≡◌, ℕ, true, false, cond, ap, refl, Bool, Result, Ok, Err, IfOk, OnOk, OnErr}
+use Rattle.std.proofs.Common.{◌≡◌, ℕ, true, false, cond, ap, refl, Bool, Result, Ok, Err}
 use Rattle.sqlite.specs.State.{State}
 use Rattle.sqlite_trees.specs.View.{doubt}
 use Rattle.goo_types.specs.declared.fault.Fault.{Fault}
