@@ -1,1 +1,2 @@
+mod DeskLemmas
 mod EndingLemmas

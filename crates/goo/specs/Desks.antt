@@ -1,7 +1,9 @@
--- A desk over a shelf in memory, at one moment.
-use Rattle.goo_list.specs.Moments.{seen_in}
-use Rattle.goo_list.specs.declared.list_shelf.ListShelf.{ListShelf}
+-- A desk over tables in memory, at one moment.
+use Rattle.std.specs.Prelude.{Bool}
+use Rattle.sqlite.specs.State.{State}
+use Rattle.goo_store.specs.Moments.{moment}
 use Rattle.goo_lines.specs.Desk.{Seen}
 
-abbrev pub seen_at : ListShelf → Seen
-seen_at shelf = record { state = (seen_in shelf).state; lies = (seen_in shelf).lies; doubts = (seen_in shelf).doubts }
+-- memory tells no lie, so what a desk does holds without that premise
+abbrev pub seen_at : State → Bool → Seen
+seen_at tables refused = record { state = (moment tables refused).state; lies = 0; doubts = (moment tables refused).doubts }

@@ -2,6 +2,8 @@
 use Rattle.std.specs.Prelude.{◌≡◌, ℕ, Bool, true, false, ◌==◌, List, [], codes, Result, Ok, Err, if◌then◌else◌}
 use Rattle.goo_lines.specs.declared.lines_fault.LinesFault.{LinesFault}
 use Rattle.goo_lines.specs.declared.lines_fault.LinesFault.TheVariants as fault
+use Rattle.goo_types.specs.declared.fault.Fault.{Fault}
+use Rattle.goo_types.specs.declared.fault.Fault.TheVariants as desk
 use Rattle.goo_lines.specs.declared.tally.Tally.{Tally}
 use Rattle.goo_command_line.specs.declared.line_fault.LineFault.{LineFault}
 use Rattle.goo_command_line.specs.declared.line_fault.LineFault.TheVariants as line
@@ -29,6 +31,11 @@ failure_of fault.Store = failure.Store
 failure_of fault.Memory = failure.Memory
 failure_of fault.Read = failure.Read
 failure_of fault.Write = failure.Write
+
+-- the same of a registry that could not be made
+abbrev pub failure_of_desk : Fault → Failure
+failure_of_desk desk.Store = failure.Store
+failure_of_desk desk.Memory = failure.Memory
 
 -- all lines were carried out, or some were not
 abbrev pub ending_of_bad : ℕ → Ending

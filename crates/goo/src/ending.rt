@@ -1,10 +1,11 @@
 //! How the program ends: its exit status, and what it says on standard error.
 ghost use Rattle.std.specs.Prelude.{◌≡◌};
-ghost use Rattle.goo.specs.Endings.{status_of, failure_text, failure_of, ending_of, TellsLine};
+ghost use Rattle.goo.specs.Endings.{status_of, failure_text, failure_of, failure_of_desk, ending_of, TellsLine};
 
 use clap::Error;
 use goo_command_line::LineFault;
 use goo_lines::{LinesFault, Tally};
+use goo_types::fault::Fault;
 
 /// What kept the program from doing all that it was asked.
 #[derive(Debug, Clone, Copy, PartialEq, Eq)]
@@ -29,6 +30,17 @@ impl Failure {
             Failure::Memory => "goo: out of memory",
             Failure::Read => "goo: read fault",
             Failure::Write => "goo: write fault",
+        }
+    }
+}
+
+impl From<Fault> for Failure {
+    ghost from_gives = { λ of failure. failure ≡ failure_of_desk of };
+
+    fn from(fault: Fault) -> Self {
+        match fault {
+            Fault::Store => Failure::Store,
+            Fault::Memory => Failure::Memory,
         }
     }
 }

@@ -6,7 +6,7 @@ ghost use Rattle.std.specs.Io.KnownBytes.{Appends};
 ghost use Rattle.goo.specs.Endings.{status_of};
 
 use crate::desk::MemoryDesk;
-use crate::ending::Ending;
+use crate::ending::{Ending, Failure};
 use goo_command_line::Opening;
 use goo_lines::run_lines;
 use std::alloc::Global;
@@ -29,7 +29,10 @@ pub fn run_in_memory<R: Read, W: Write>(
     ensures written { status_of result < 2 → IfSome (R.remaining reader.old) (λ input. Appends (W.contents writer.old) (W.contents writer.new) (lines (created opening.code opening.today opening.next_serial) input).text) }
     ensures no_words { status_of result ≢ 2 }
 {
-    let mut desk = MemoryDesk::new(alloc, opening);
+    let mut desk = match MemoryDesk::new(alloc, opening) {
+        Ok(desk) => desk,
+        Err(fault) => return Ending::Failed(Failure::from(fault)),
+    };
     let answered = run_lines(alloc, &mut desk, reader, writer);
     desk.close();
     let flushed = writer.flush().is_ok();

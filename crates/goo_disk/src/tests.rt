@@ -1,0 +1,37 @@
+use crate::MemoryFile;
+use sqlite_disk::Disk;
+use std::io::ErrorKind;
+use std::test::Fail;
+
+#[test]
+fn what_is_written_is_read(rt: HostRuntime) -> Result<(), Fail> {
+    let mut file = MemoryFile::new(rt.alloc());
+    file.write_at(0, b"registry")?;
+    file.write_at(10, b"more")?;
+    file.sync()?;
+    assert_eq!(rt; file.len()?, 14);
+    let mut read = [7; 6];
+    file.read_at(6, &mut read)?;
+    assert_eq!(rt; &read, b"ry\0\0mo");
+    file.set_len(3)?;
+    file.write_at(1, b"ows")?;
+    let mut read = [7; 4];
+    file.read_at(0, &mut read)?;
+    assert_eq!(rt; &read, b"rows");
+    Ok(())
+}
+
+#[test]
+fn beyond_the_end_nothing_is_read(rt: HostRuntime) -> Result<(), Fail> {
+    let mut file = MemoryFile::new(rt.alloc());
+    file.write_at(0, b"rows")?;
+    let mut read = [7; 2];
+    for at in [3, 4, 5, usize::MAX] {
+        let Err(error) = file.read_at(at, &mut read) else {
+            return Err(Fail::new("read beyond the end"));
+        };
+        assert!(rt; error.kind() == ErrorKind::UnexpectedEof);
+        assert_eq!(rt; &read, &[7, 7]);
+    }
+    Ok(())
+}
