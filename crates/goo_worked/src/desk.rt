@@ -1,14 +1,23 @@
-//! A registry that is sent requests.
+//! A registry that is sent requests: over plain lists, and over tables too where there are some.
+//!
+//! A proof about a desk sees how many requests it was sent, and nothing of what keeps its records: that is behind the
+//! methods of this file, so a test's proof costs the same over any shelf.
 
-use crate::asking::Ask;
-use crate::commands::{account_of, code_of, command_of, day_of, holder_of};
+ghost use Rattle.std.specs.Prelude.{ℕ};
+
+use crate::commands::{code_of, day_of};
 use goo_list::list_shelf::ListShelf;
-use goo_registry::Registry;
+use goo_registry::{CancellationStatement, ReadFault, Registry, RunFault};
 use goo_shelf::found::DeviceTotals;
 use goo_store::sql_shelf::SqlShelf;
-use goo_types::command::{Command, Import};
+use goo_types::account_no::AccountNo;
+use goo_types::act_no::ActNo;
+use goo_types::fault::Fault;
+use goo_types::holder_code::HolderCode;
 use goo_types::key::Key;
+use goo_types::lot::Lot;
 use goo_types::notice::Notice;
+use goo_types::number::Number;
 use goo_types::outcome::Outcome;
 use goo_types::piece::Piece;
 use goo_types::place::Place;
@@ -18,61 +27,49 @@ use goo_types::serial::Serial;
 use itoa::Buffer;
 use sqlite::{Connection, MemStore};
 use std::alloc::Global;
-use std::process::Abort;
+use std::marker::Model;
 use std::test::Fail;
-
-/// Who asks what, and what that is answered.
-pub type Step = (&'static str, Ask, Outcome);
 
 /// A registry over plain lists, the same one over tables where there is one, and how many requests they were sent under a key
 /// of their own.
 #[derive(Drop)]
 pub struct Desk {
-    pub registry: Registry<ListShelf>,
+    registry: Registry<ListShelf>,
     tables: Option<Registry<SqlShelf<MemStore>>>,
-    pub alloc: Global,
-    pub code: RegistryCode,
+    alloc: Global,
+    code: RegistryCode,
     sent: u32,
+}
+
+impl Model for Desk {
+    ghost Value = { ℕ };
+
+    ghost view = { λ desk. desk.sent };
+}
+
+/// A new registry over plain lists.
+fn in_lists(
+    alloc: Global,
+    code: RegistryCode,
+    next_serial: Serial,
+    today: &str,
+) -> Result<Registry<ListShelf>, Fail> {
+    let shelf = ListShelf::new(alloc, code, next_serial, day_of(today)?);
+    Ok(Registry::new(shelf))
 }
 
 /// A new registry over tables in memory.
 fn in_tables(
     alloc: Global,
-    code: u8,
-    next_serial: u64,
+    code: RegistryCode,
+    next_serial: Serial,
     today: &str,
 ) -> Result<Registry<SqlShelf<MemStore>>, Fail> {
     let conn = Connection::open_in_memory(alloc)?;
-    let serial = Serial::new(next_serial).ok_or("no serial")?;
-    match SqlShelf::create(alloc, conn, code_of(code)?, serial, day_of(today)?) {
+    match SqlShelf::create(alloc, conn, code, next_serial, day_of(today)?) {
         Ok(shelf) => Ok(Registry::new(shelf)),
         Err(_) => Err("no registry in tables".into()),
     }
-}
-
-/// These runs are shown: first and last serial, and place.
-fn are_runs(rt: &impl Abort, runs: &[Piece], wanted: &[(u64, u64, Place)]) -> Result<(), Fail> {
-    assert_eq!(rt; runs.len(), wanted.len());
-    for (run, (first, last, place)) in runs.iter().zip(wanted) {
-        assert_eq!(rt; run.first.serial(), *first);
-        assert_eq!(rt; run.last.serial(), *last);
-        assert_eq!(rt; run.place, *place);
-    }
-    Ok(())
-}
-
-/// This energy in Wh, these certificates and this carry of the only device.
-fn are_totals(
-    rt: &impl Abort,
-    totals: &[DeviceTotals],
-    wanted: (u64, u64, u64),
-) -> Result<(), Fail> {
-    assert_eq!(rt; totals.len(), 1);
-    let (declared, issued, carry) = wanted;
-    assert_eq!(rt; totals[0].declared, declared);
-    assert_eq!(rt; totals[0].issued, issued);
-    assert_eq!(rt; totals[0].carry, carry);
-    Ok(())
 }
 
 impl Desk {
@@ -80,9 +77,8 @@ impl Desk {
     pub fn new(alloc: Global, code: u8, next_serial: u64, today: &str) -> Result<Desk, Fail> {
         let code = code_of(code)?;
         let serial = Serial::new(next_serial).ok_or("no serial")?;
-        let shelf = ListShelf::new(alloc, code, serial, day_of(today)?);
         Ok(Desk {
-            registry: Registry::new(shelf),
+            registry: in_lists(alloc, code, serial, today)?,
             tables: None,
             alloc,
             code,
@@ -92,152 +88,140 @@ impl Desk {
 
     /// The same registry over plain lists and over tables in memory: each has to answer as the other does.
     pub fn over_both(alloc: Global, code: u8, next_serial: u64, today: &str) -> Result<Desk, Fail> {
-        let mut desk = Desk::new(alloc, code, next_serial, today)?;
-        desk.tables = Some(in_tables(alloc, code, next_serial, today)?);
-        Ok(desk)
+        let code = code_of(code)?;
+        let serial = Serial::new(next_serial).ok_or("no serial")?;
+        Ok(Desk {
+            registry: in_lists(alloc, code, serial, today)?,
+            tables: Some(in_tables(alloc, code, serial, today)?),
+            alloc,
+            code,
+            sent: 0,
+        })
+    }
+
+    /// The memory that it takes from.
+    pub fn alloc(&self) -> Global {
+        self.alloc
+    }
+
+    /// The code of the registry.
+    pub fn code(&self) -> RegistryCode {
+        self.code
+    }
+
+    /// How many requests it was sent under a key of their own.
+    pub fn sent(&self) -> u32 {
+        self.sent
+    }
+
+    /// What keeps the records in lists.
+    pub fn into_lists(self) -> ListShelf {
+        let Desk { registry, .. } = self;
+        registry.into_shelf()
     }
 
     /// A key that no request had yet: the first is 1.
-    fn next_key(&mut self) -> Result<Key, Fail> {
+    pub fn next_key(&mut self) -> Result<Key, Fail> {
         self.sent = self.sent.checked_add(1).ok_or("too many requests")?;
         let mut digits = Buffer::new();
         Ok(Key::read(digits.format(self.sent).as_bytes())?)
     }
 
-    /// Requests in a list come to these outcomes, one after another.
-    pub fn runs(
-        &mut self,
-        rt: &impl Abort,
-        requests: &[Request],
-        wanted: &[Outcome],
-    ) -> Result<(), Fail> {
-        let Ok(outcomes) = self.registry.run(self.alloc, requests) else {
-            return Err("the run stopped".into());
-        };
-        assert_eq!(rt; outcomes.as_slice(), wanted);
-        if let Some(tables) = &mut self.tables {
-            let Ok(outcomes) = tables.run(self.alloc, requests) else {
-                return Err("the run over tables stopped".into());
-            };
-            assert_eq!(rt; outcomes.as_slice(), wanted);
-        }
-        Ok(())
+    /// What a request comes to over the lists.
+    pub fn apply(&mut self, request: &Request) -> Result<Outcome, Fault> {
+        self.registry.apply(self.alloc, request)
     }
 
-    /// What a command comes to that is sent under this key.
-    fn sends_under(&mut self, key: Key, caller: &str, command: Command) -> Result<Outcome, Fail> {
-        let caller = holder_of(caller)?;
-        let request = Request {
-            caller,
-            key,
-            command,
-        };
-        self.both_answer(&request)
+    /// What a request comes to over the tables, if there are any.
+    fn apply_in_tables(&mut self, request: &Request) -> Result<Option<Outcome>, Fault> {
+        match &mut self.tables {
+            Some(tables) => Ok(Some(tables.apply(self.alloc, request)?)),
+            None => Ok(None),
+        }
     }
 
     /// What a request comes to, over the lists and over the tables alike.
-    fn both_answer(&mut self, request: &Request) -> Result<Outcome, Fail> {
-        let outcome = self.registry.apply(self.alloc, request)?;
-        if let Some(tables) = &mut self.tables {
-            if tables.apply(self.alloc, request)? != outcome {
-                return Err("the tables answer otherwise".into());
-            }
+    pub fn answer(&mut self, request: &Request) -> Result<Outcome, Fail> {
+        let outcome = self.apply(request)?;
+        match self.apply_in_tables(request)? {
+            Some(other) if other != outcome => Err("the tables answer otherwise".into()),
+            _ => Ok(outcome),
         }
-        Ok(outcome)
     }
 
-    /// What a command comes to that is sent under a key of its own.
-    fn sends(&mut self, caller: &str, command: Command) -> Result<Outcome, Fail> {
-        let key = self.next_key()?;
-        self.sends_under(key, caller, command)
+    /// What requests in a list come to over the lists.
+    pub fn run(&mut self, requests: &[Request]) -> Result<Vec<Outcome>, RunFault> {
+        self.registry.run(self.alloc, requests)
     }
 
-    /// What is answered to what is asked under a key of its own.
-    pub fn asks(&mut self, caller: &str, ask: &Ask) -> Result<Outcome, Fail> {
-        let command = command_of(ask)?;
-        self.sends(caller, command)
-    }
-
-    /// What is answered to what is asked under this key.
-    fn asks_under(&mut self, key: &str, caller: &str, ask: &Ask) -> Result<Outcome, Fail> {
-        let key = Key::read(key.as_bytes())?;
-        let command = command_of(ask)?;
-        self.sends_under(key, caller, command)
-    }
-
-    /// What is asked under this key comes to this.
-    pub fn answers(
+    /// What requests in a list come to over the tables, if there are any.
+    pub fn run_in_tables(
         &mut self,
-        rt: &impl Abort,
-        key: &str,
-        caller: &str,
-        ask: &Ask,
-        wanted: Outcome,
-    ) -> Result<(), Fail> {
-        let outcome = self.asks_under(key, caller, ask)?;
-        assert_eq!(rt; outcome, wanted, "under {key}");
-        Ok(())
+        requests: &[Request],
+    ) -> Result<Option<Vec<Outcome>>, RunFault> {
+        match &mut self.tables {
+            Some(tables) => Ok(Some(tables.run(self.alloc, requests)?)),
+            None => Ok(None),
+        }
     }
 
-    /// A command under a key of its own comes to this.
-    pub fn does(
+    /// The lot and the place of a certificate, as a caller is shown them.
+    pub fn place_of(
         &mut self,
-        rt: &impl Abort,
-        caller: &str,
-        command: Command,
-        wanted: Outcome,
-    ) -> Result<(), Fail> {
-        let outcome = self.sends(caller, command)?;
-        assert_eq!(rt; outcome, wanted);
-        Ok(())
+        caller: &HolderCode,
+        number: Number,
+    ) -> Result<(Lot, Place), ReadFault> {
+        self.registry.place_of(self.alloc, caller, number)
     }
 
-    /// A notice comes to this.
-    pub fn takes(&mut self, rt: &impl Abort, notice: Notice, wanted: Outcome) -> Result<(), Fail> {
-        self.does(rt, "ISSUER", Command::Import(Import { notice }), wanted)
-    }
-
-    /// What the issuing body is answered to a notice, under a key of its own.
-    pub fn imports(&mut self, notice: Notice) -> Result<Outcome, Fail> {
-        self.sends("ISSUER", Command::Import(Import { notice }))
-    }
-
-    /// Each step in order, under a key of its own.
-    pub fn plays(&mut self, rt: &impl Abort, steps: &[Step]) -> Result<(), Fail> {
-        for (caller, ask, wanted) in steps {
-            let outcome = self.asks(caller, ask)?;
-            assert_eq!(rt; outcome, *wanted, "request {}", self.sent);
-        }
-        Ok(())
-    }
-
-    /// The issuing body is shown these runs of an account: first and last serial, and place.
-    pub fn shows(
+    /// The runs of an account, as a caller is shown them.
+    pub fn holdings(
         &mut self,
-        rt: &impl Abort,
-        account: u32,
-        wanted: &[(u64, u64, Place)],
-    ) -> Result<(), Fail> {
-        let issuer = holder_of("ISSUER")?;
-        let account = account_of(account)?;
-        let runs = self.registry.holdings(self.alloc, &issuer, account)?;
-        are_runs(rt, &runs, wanted)?;
-        if let Some(tables) = &mut self.tables {
-            let runs = tables.holdings(self.alloc, &issuer, account)?;
-            are_runs(rt, &runs, wanted)?;
-        }
-        Ok(())
+        caller: &HolderCode,
+        account: AccountNo,
+    ) -> Result<Vec<Piece>, ReadFault> {
+        self.registry.holdings(self.alloc, caller, account)
     }
 
-    /// The issuing body is shown this energy in Wh, these certificates and this carry of the only device.
-    pub fn counts(&mut self, rt: &impl Abort, wanted: (u64, u64, u64)) -> Result<(), Fail> {
-        let issuer = holder_of("ISSUER")?;
-        let totals = self.registry.audit(self.alloc, &issuer)?;
-        are_totals(rt, &totals, wanted)?;
-        if let Some(tables) = &mut self.tables {
-            let totals = tables.audit(self.alloc, &issuer)?;
-            are_totals(rt, &totals, wanted)?;
+    /// The same over the tables, if there are any.
+    pub fn holdings_in_tables(
+        &mut self,
+        caller: &HolderCode,
+        account: AccountNo,
+    ) -> Result<Option<Vec<Piece>>, ReadFault> {
+        match &mut self.tables {
+            Some(tables) => Ok(Some(tables.holdings(self.alloc, caller, account)?)),
+            None => Ok(None),
         }
-        Ok(())
+    }
+
+    /// A cancellation, as a caller is shown it.
+    pub fn cancellation(
+        &mut self,
+        caller: &HolderCode,
+        act: ActNo,
+    ) -> Result<CancellationStatement, ReadFault> {
+        self.registry.cancellation(self.alloc, caller, act)
+    }
+
+    /// A notice that was sent, as a caller is shown it.
+    pub fn notice(&mut self, caller: &HolderCode, act: ActNo) -> Result<Notice, ReadFault> {
+        self.registry.notice(self.alloc, caller, act)
+    }
+
+    /// The energy and the certificates of each device, as a caller is shown them.
+    pub fn audit(&mut self, caller: &HolderCode) -> Result<Vec<DeviceTotals>, ReadFault> {
+        self.registry.audit(self.alloc, caller)
+    }
+
+    /// The same over the tables, if there are any.
+    pub fn audit_in_tables(
+        &mut self,
+        caller: &HolderCode,
+    ) -> Result<Option<Vec<DeviceTotals>>, ReadFault> {
+        match &mut self.tables {
+            Some(tables) => Ok(Some(tables.audit(self.alloc, caller)?)),
+            None => Ok(None),
+        }
     }
 }

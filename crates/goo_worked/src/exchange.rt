@@ -43,7 +43,7 @@ fn brings(
     batch: &Batch,
     wanted: Outcome,
 ) -> Result<(), Fail> {
-    let notice = notice_to(desk.alloc, 7, number, range, batch)?;
+    let notice = notice_to(desk.alloc(), 7, number, range, batch)?;
     desk.takes(rt, notice, wanted)
 }
 
@@ -119,7 +119,7 @@ fn declares_days(
     before: u64,
 ) -> Result<(), Fail> {
     for day in 1..=days {
-        let text = format!(in desk.alloc; "{month}-{day:02}")?;
+        let text = format!(in desk.alloc(); "{month}-{day:02}")?;
         let serial = before.wrapping_add(u64::from(day));
         let wanted = issued(range_of(7, serial, serial)?);
         desk.does(rt, ISSUER, one_day(text.as_str())?, wanted)?;

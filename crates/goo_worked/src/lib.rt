@@ -44,6 +44,8 @@ mod running;
 #[cfg(test)]
 mod schedules;
 #[cfg(test)]
+mod sending;
+#[cfg(test)]
 mod stages;
 #[cfg(test)]
 mod trading;

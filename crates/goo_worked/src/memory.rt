@@ -28,19 +28,19 @@ use std::test::Fail;
 fn runs_of(desk: &mut Desk, account: u32) -> Result<Vec<Piece>, Fail> {
     let issuer = holder_of(ISSUER)?;
     let account = account_of(account)?;
-    match desk.registry.holdings(desk.alloc, &issuer, account) {
+    match desk.holdings(&issuer, account) {
         Ok(runs) => Ok(runs),
-        Err(ReadFault::Unknown) => Ok(Vec::new(desk.alloc)),
-        Err(_) => Ok(desk.registry.holdings(desk.alloc, &issuer, account)?),
+        Err(ReadFault::Unknown) => Ok(Vec::new(desk.alloc())),
+        Err(_) => Ok(desk.holdings(&issuer, account)?),
     }
 }
 
 /// The certificates issued for all devices; asked twice where memory was refused.
 fn issued_in_all(desk: &mut Desk) -> Result<u64, Fail> {
     let issuer = holder_of(ISSUER)?;
-    let totals = match desk.registry.audit(desk.alloc, &issuer) {
+    let totals = match desk.audit(&issuer) {
         Ok(totals) => totals,
-        Err(_) => desk.registry.audit(desk.alloc, &issuer)?,
+        Err(_) => desk.audit(&issuer)?,
     };
     Ok(totals.first().map_or(0, |device| device.issued))
 }
@@ -80,12 +80,12 @@ fn carries_out(
     wanted: Outcome,
 ) -> Result<(), Fail> {
     let before = Sight::of(desk)?;
-    match desk.registry.apply(desk.alloc, request) {
+    match desk.apply(request) {
         Ok(outcome) => assert_eq!(rt; outcome, wanted),
         Err(fault) => {
             assert_eq!(rt; fault, Fault::Memory);
             assert!(rt; Sight::of(desk)?.is(&before));
-            let outcome = desk.registry.apply(desk.alloc, request)?;
+            let outcome = desk.apply(request)?;
             assert_eq!(rt; outcome, wanted);
         }
     }
@@ -187,7 +187,7 @@ fn one_part(alloc: Global, part: Part) -> Result<Vec<Part>, Fail> {
 fn takes_back(rt: &impl Abort, desk: &mut Desk) -> Result<(), Fail> {
     let lot = lot_of(&JANUARY)?;
     let range = serials(20, 29);
-    let parts = one_part(desk.alloc, Part { range, lot })?;
+    let parts = one_part(desk.alloc(), Part { range, lot })?;
     let notice = notice_with(parts, 7, 1)?;
     let import = request(ISSUER, "h", Command::Import(Import { notice }))?;
     carries_out(rt, desk, &import, imported(10))
@@ -211,7 +211,7 @@ fn runs_again(
     wanted: &[Outcome],
     stand: usize,
 ) -> Result<(), Fail> {
-    let Ok(outcomes) = desk.registry.run(desk.alloc, requests) else {
+    let Ok(outcomes) = desk.run(requests) else {
         return Err(Fail::new("the run stopped twice"));
     };
     assert_eq!(rt; outcomes.len(), wanted.len());
@@ -228,7 +228,7 @@ fn runs(
     requests: &[Request],
     wanted: &[Outcome],
 ) -> Result<(), Fail> {
-    match desk.registry.run(desk.alloc, requests) {
+    match desk.run(requests) {
         Ok(outcomes) => {
             assert_eq!(rt; outcomes.as_slice(), wanted);
             Ok(())

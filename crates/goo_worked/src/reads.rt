@@ -21,10 +21,8 @@ type Shown<T> = Result<Result<T, ReadFault>, Fail>;
 
 /// The place of a certificate, as a caller is shown it.
 fn place(desk: &mut Desk, caller: &str, number: Number) -> Shown<(Lot, Place)> {
-    Ok(
-        desk.registry
-            .place_of(desk.alloc, &holder_of(caller)?, number),
-    )
+    let caller = holder_of(caller)?;
+    Ok(desk.place_of(&caller, number))
 }
 
 /// Why a caller isn't shown the place of a certificate.
@@ -53,7 +51,7 @@ fn places(rt: HostRuntime) -> Result<(), Fail> {
 fn no_holdings(desk: &mut Desk, caller: &str, account: u32) -> Result<Option<ReadFault>, Fail> {
     let account = account_of(account)?;
     let caller = holder_of(caller)?;
-    Ok(desk.registry.holdings(desk.alloc, &caller, account).err())
+    Ok(desk.holdings(&caller, account).err())
 }
 
 #[test]
@@ -80,7 +78,7 @@ fn holdings(rt: HostRuntime) -> Result<(), Fail> {
 fn cancellation(desk: &mut Desk, caller: &str, number: u32) -> Shown<CancellationStatement> {
     let number = act_of(number)?;
     let caller = holder_of(caller)?;
-    Ok(desk.registry.cancellation(desk.alloc, &caller, number))
+    Ok(desk.cancellation(&caller, number))
 }
 
 /// The statement of ten certificates that account 1 used up in April 2025.
@@ -120,7 +118,7 @@ fn cancellations(rt: HostRuntime) -> Result<(), Fail> {
 fn notice(desk: &mut Desk, caller: &str, number: u32) -> Shown<Notice> {
     let number = act_of(number)?;
     let caller = holder_of(caller)?;
-    Ok(desk.registry.notice(desk.alloc, &caller, number))
+    Ok(desk.notice(&caller, number))
 }
 
 #[test]
@@ -155,7 +153,7 @@ fn notices_that_are_not_shown(rt: HostRuntime) -> Result<(), Fail> {
 /// The audit, as a caller is shown it.
 fn audit(desk: &mut Desk, caller: &str) -> Shown<Vec<DeviceTotals>> {
     let caller = holder_of(caller)?;
-    Ok(desk.registry.audit(desk.alloc, &caller))
+    Ok(desk.audit(&caller))
 }
 
 #[test]

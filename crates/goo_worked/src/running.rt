@@ -48,8 +48,7 @@ fn two_requests_and_none(rt: HostRuntime) -> Result<(), Fail> {
 
 #[test]
 fn what_keeps_the_records_is_handed_back(rt: HostRuntime) -> Result<(), Fail> {
-    let Desk { registry, .. } = april(&rt, rt.alloc())?;
-    let mut shelf = registry.into_shelf();
+    let mut shelf = april(&rt, rt.alloc())?.into_lists();
     assert!(rt; shelf.code()?.get() == 7);
     assert!(rt; shelf.today()? == day_of("2025-04-05")?);
     assert!(rt; shelf.counters()?.serial() == 1202);

@@ -59,7 +59,7 @@ fn next_notice(letters: &[Letter], sender: RegistryCode) -> Result<ActNo, Fail> 
 /// A notice that a registry sent, as it shows it to the issuing body.
 fn notice_of(desk: &mut Desk, act: ActNo) -> Result<Option<Notice>, Fail> {
     let issuer = holder_of(ISSUER)?;
-    match desk.registry.notice(desk.alloc, &issuer, act) {
+    match desk.notice(&issuer, act) {
         Ok(notice) => Ok(Some(notice)),
         Err(ReadFault::Unknown) => Ok(None),
         Err(fault) => Err(fault.into()),
@@ -78,7 +78,7 @@ fn keep(letters: &mut Vec<Letter>, notice: Notice) -> Result<(), AllocError> {
 /// What a registry shows the issuing body of a certificate, if it knows it.
 fn known(desk: &mut Desk, number: Number) -> Result<Option<(Lot, Place)>, Fail> {
     let issuer = holder_of(ISSUER)?;
-    match desk.registry.place_of(desk.alloc, &issuer, number) {
+    match desk.place_of(&issuer, number) {
         Ok(shown) => Ok(Some(shown)),
         Err(ReadFault::Unknown) => Ok(None),
         Err(fault) => Err(fault.into()),
@@ -110,7 +110,7 @@ impl World {
     /// Collects the next notice of each registry, where it has sent one.
     pub fn collects(&mut self) -> Result<(), Fail> {
         for desk in &mut self.desks {
-            let number = next_notice(&self.letters, desk.code)?;
+            let number = next_notice(&self.letters, desk.code())?;
             if let Some(notice) = notice_of(desk, number)? {
                 keep(&mut self.letters, notice)?;
             }
@@ -126,9 +126,9 @@ impl World {
         let Some(desk) = self.desks.get_mut(to) else {
             return Err(Fail::new("no such registry"));
         };
-        let notice = letter.notice.copy(desk.alloc)?;
+        let notice = letter.notice.copy(desk.alloc())?;
         let outcome = desk.imports(notice)?;
-        if matches!(outcome, Outcome::Accepted(_)) && desk.code.get() == letter.addressee() {
+        if matches!(outcome, Outcome::Accepted(_)) && desk.code().get() == letter.addressee() {
             letter.is_accepted = true;
         }
         Ok(outcome)
@@ -156,7 +156,7 @@ impl World {
     /// Where the addressee of a notice stands.
     pub fn addressee(&self, which: usize) -> Result<usize, Fail> {
         let code = self.letters.get(which).ok_or("no such notice")?.addressee();
-        let place = self.desks.iter().position(|desk| desk.code.get() == code);
+        let place = self.desks.iter().position(|desk| desk.code().get() == code);
         Ok(place.ok_or("no such registry")?)
     }
 
@@ -183,7 +183,7 @@ impl World {
                 if home.is_some() {
                     return Err(Fail::new("two homes"));
                 }
-                home = Some(desk.code.get());
+                home = Some(desk.code().get());
             }
         }
         Ok(home)
