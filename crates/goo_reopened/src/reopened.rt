@@ -181,3 +181,21 @@ fn on_disks(rt: HostRuntime) -> Result<(), Fail> {
     let files = stays_on(&rt, alloc, blank(alloc), april, APRIL_SHOWN)?;
     shows_on(&rt, alloc, files, APRIL_SHOWN)
 }
+
+#[test]
+fn an_empty_database_holds_none(rt: HostRuntime) -> Result<(), Fail> {
+    let alloc = rt.alloc();
+    let conn = Connection::open_in_memory(alloc)?;
+    if !conn.is_autocommit() {
+        return Err("a transaction".into());
+    }
+    match SqlShelf::open(alloc, conn) {
+        Ok(_) => Err("a registry".into()),
+        Err((conn, fault)) => {
+            assert_eq!(rt; fault, OpenFault::NotARegistry);
+            let april = SCRIPT.get(..APRIL).ok_or("so many requests")?;
+            let _conn = stays(&rt, alloc, conn, april, APRIL_SHOWN)?;
+            Ok(())
+        }
+    }
+}
