@@ -1,4 +1,8 @@
 pub mod Columns
+pub mod Cells
+pub mod MemberRows
+pub mod PlantRows
+pub mod ActRows
 pub mod Rows
 pub mod Reads
 pub mod Readable
