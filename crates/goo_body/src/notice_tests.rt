@@ -39,51 +39,58 @@ fn fault_with(alloc: Global, old: &str, new: &str) -> Result<Option<NoticeFault>
     Ok(read(alloc, text.as_bytes()).err())
 }
 
+/// A piece of the notice's text, what stands in its place, and what is told of that.
+const CHANGES: [(&str, &str, NoticeFault); 18] = [
+    ("\"account\":5", "\"account\": 5", NoticeFault::Canonical),
+    (
+        "\"account\":5",
+        "\"account\":4,\"account\":5",
+        NoticeFault::Canonical,
+    ),
+    (
+        "{\"account\":5,\"addressee\":9",
+        "{\"addressee\":9,\"account\":5",
+        NoticeFault::Canonical,
+    ),
+    ("North field", "North\\u0020field", NoticeFault::Canonical),
+    ("\"sender\":7,", "", NoticeFault::Shape),
+    ("\"version\":1", "\"version\":\"1\"", NoticeFault::Shape),
+    ("\"version\":1", "\"version\":1.0", NoticeFault::Shape),
+    (
+        "\"version\":1",
+        "\"extra\":0,\"version\":1",
+        NoticeFault::Shape,
+    ),
+    ("\"lot\":", "\"extra\":0,\"lot\":", NoticeFault::Shape),
+    (
+        "\"capacity_w\":2000000",
+        "\"capacity_w\":0,\"carrier\":\"gas\"",
+        NoticeFault::Shape,
+    ),
+    (
+        "\"sender\":7",
+        "\"sender\":0,\"Sender\":7",
+        NoticeFault::Shape,
+    ),
+    ("2000000", "0", NoticeFault::Field),
+    ("\"version\":1", "\"version\":2", NoticeFault::Field),
+    ("\"sender\":7", "\"sender\":9", NoticeFault::Field),
+    ("\"origin\":7", "\"origin\":8", NoticeFault::Field),
+    ("07000000000029", "07000000000019", NoticeFault::Field),
+    ("2025-01-31", "2025-02-28", NoticeFault::Field),
+    ("2025-03-01", "2025-01-31", NoticeFault::Field),
+];
+
 #[test]
 fn changed(rt: HostRuntime) -> Result<(), Fail> {
-    let changes = [
-        ("\"account\":5", "\"account\": 5", NoticeFault::Canonical),
-        (
-            "\"account\":5",
-            "\"account\":4,\"account\":5",
-            NoticeFault::Canonical,
-        ),
-        (
-            "{\"account\":5,\"addressee\":9",
-            "{\"addressee\":9,\"account\":5",
-            NoticeFault::Canonical,
-        ),
-        ("North field", "North\\u0020field", NoticeFault::Canonical),
-        ("\"sender\":7,", "", NoticeFault::Shape),
-        ("\"version\":1", "\"version\":\"1\"", NoticeFault::Shape),
-        ("\"version\":1", "\"version\":1.0", NoticeFault::Shape),
-        (
-            "\"version\":1",
-            "\"extra\":0,\"version\":1",
-            NoticeFault::Shape,
-        ),
-        ("\"lot\":", "\"extra\":0,\"lot\":", NoticeFault::Shape),
-        (
-            "\"capacity_w\":2000000",
-            "\"capacity_w\":0,\"carrier\":\"gas\"",
-            NoticeFault::Shape,
-        ),
-        (
-            "\"sender\":7",
-            "\"sender\":0,\"Sender\":7",
-            NoticeFault::Shape,
-        ),
-        ("2000000", "0", NoticeFault::Field),
-        ("\"version\":1", "\"version\":2", NoticeFault::Field),
-        ("\"sender\":7", "\"sender\":9", NoticeFault::Field),
-        ("\"origin\":7", "\"origin\":8", NoticeFault::Field),
-        ("07000000000029", "07000000000019", NoticeFault::Field),
-        ("2025-01-31", "2025-02-28", NoticeFault::Field),
-        ("2025-03-01", "2025-01-31", NoticeFault::Field),
-    ];
-    for (old, new, wanted) in changes {
+    for (old, new, wanted) in CHANGES {
         assert!(rt; fault_with(rt.alloc(), old, new)? == Some(wanted));
     }
+    Ok(())
+}
+
+#[test]
+fn no_parts_and_no_object(rt: HostRuntime) -> Result<(), Fail> {
     let none =
         "{\"account\":5,\"addressee\":9,\"number\":1,\"parts\":[],\"sender\":7,\"version\":1}";
     assert!(rt; read(rt.alloc(), none.as_bytes()).err() == Some(NoticeFault::Field));
