@@ -8,9 +8,9 @@ use Rattle.std.proofs.lemmas.List.{take_more, map-append}
 use Rattle.goo_spec.specs.State.{text_cmp, Device}
 use Rattle.goo_columns.specs.Rows as row
 use Rattle.goo_columns.specs.Rows.{Kept}
-use Rattle.goo_list.specs.Maps.{map_of}
-use Rattle.goo_list.proofs.MapLemmas.{get-map_of, map_of-insert}
-use Rattle.goo_list.proofs.OrderLemmas.{entries-map_of}
+use Rattle.goo_shelf.specs.Maps.{map_of}
+use Rattle.goo_shelf.proofs.MapLemmas.{get-map_of, map_of-insert}
+use Rattle.goo_shelf.proofs.OrderLemmas.{entries-map_of}
 use Rattle.goo_kept.specs.Devices.{device_entry, device_of}
 use Rattle.goo_kept.specs.States.{known_device}
 

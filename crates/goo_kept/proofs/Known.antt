@@ -22,7 +22,7 @@ use Rattle.goo_types.proofs.DayLemmas.{only_day_text, day_reading-day_text}
 use Rattle.goo_spec.specs.Lots.{lot_key}
 use Rattle.std.proofs.Common.{drop, true≢false}
 use Rattle.std.specs.FinMap.{slice_cmp-IsAntisymmetric, nat_cmp-IsAntisymmetric}
-use Rattle.goo_list.specs.LotKeys.{item}
+use Rattle.goo_shelf.specs.LotKeys.{item}
 use Rattle.goo_kept.specs.Texts.{no_day, day_of}
 use Rattle.goo_spec.specs.State.{text_cmp, receipt_cmp, notice_cmp}
 

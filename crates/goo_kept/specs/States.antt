@@ -7,7 +7,7 @@ use Rattle.goo_types.specs.declared.lot_fields.LotFields.{LotFields}
 use Rattle.goo_types.specs.declared.reply.Reply.{Reply}
 use Rattle.goo_spec.specs.Lots.{key_of}
 use Rattle.goo_spec.specs.State.{State, Account, Device, Sent, Cancellation, Withdrawal}
-use Rattle.goo_list.specs.Rows.{certificates_of}
+use Rattle.goo_rows.specs.Certificates.{certificates_of}
 use Rattle.goo_columns.specs.Rows as row
 use Rattle.goo_columns.specs.Rows.{Tables, Kept}
 use Rattle.goo_columns.specs.declared.peer.PeerRow.{PeerRow}

@@ -1,9 +1,6 @@
-pub mod MapLemmas
 pub mod NearLemmas
 pub mod ProductionLemmas
 pub mod AllowedLemmas
-pub mod CertificateLemmas
 pub mod ReceiptLemmas
 pub mod LookLemmas
-pub mod OrderLemmas
 pub mod SumLemmas

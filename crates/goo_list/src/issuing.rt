@@ -6,7 +6,8 @@ ghost use Rattle.goo_spec.specs.State.{Device as Known, serials};
 ghost use Rattle.goo_spec.specs.Declare.{earned as due_for, lot_of as lot_stated, with_issue};
 ghost use Rattle.goo_spec.specs.Energy.{total};
 ghost use Rattle.goo_list.specs.Production.{beyond_all};
-ghost use Rattle.goo_list.specs.States.{state_of, beside, Changes};
+ghost use Rattle.goo_list.specs.States.{state_of, Changes};
+ghost use Rattle.goo_rows.specs.Certificates.{beside};
 
 use crate::list_shelf::ListShelf;
 use crate::lots::key_of_lot;

@@ -6,7 +6,8 @@ ghost use Rattle.goo_spec.specs.Advance.{expires};
 ghost use Rattle.goo_rows.specs.Rows.{meeting, edited_all};
 ghost use Rattle.goo_shelf.specs.Rows.{expiring_on, naming_account};
 ghost use Rattle.goo_spec.specs.Energy.{is_issued_to};
-ghost use Rattle.goo_list.specs.Rows.{certificates_of, inserts, issued_in};
+ghost use Rattle.goo_rows.specs.Certificates.{certificates_of, issued_in};
+ghost use Rattle.goo_list.specs.Rows.{inserts};
 
 use crate::row_edits::{count_inserts, edit_each};
 use goo_pages::paged::Pages;

@@ -1,6 +1,6 @@
 -- The rules that are judged over what was read are those of the tables.
 use Rattle.std.proofs.Common.{◌≡◌, pos}
-use Rattle.goo_list.proofs.CertificateLemmas.{certificates-rows}
+use Rattle.goo_rows.proofs.CertificateLemmas.{certificates-rows}
 use Rattle.goo_columns.specs.Met.{HasOurTables}
 use Rattle.goo_columns.specs.Rows.{Tables}
 use Rattle.goo_columns.specs.Stands.{Stands}

@@ -13,7 +13,7 @@ use Rattle.sqlite_keyed.proofs.RuleLemmas.{first_of_both, second_of_both}
 use Rattle.goo_types.specs.Number.{code_of}
 use Rattle.goo_types.specs.declared.command.Declare.{Declare}
 use Rattle.goo_spec.specs.Energy.{certificate, net_of}
-use Rattle.goo_list.specs.Rows.{issued_in}
+use Rattle.goo_rows.specs.Certificates.{issued_in}
 use Rattle.goo_columns.specs.Beside.{beside}
 use Rattle.goo_columns.specs.Rows.{Lot, lot_key}
 use Rattle.goo_columns.specs.declared.piece.PieceRow.{PieceRow}

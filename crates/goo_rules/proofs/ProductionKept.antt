@@ -9,7 +9,7 @@ use Rattle.goo_spec.specs.Declare.{declared_by}
 use Rattle.goo_spec.specs.Energy.{issued, due, total, carry}
 use Rattle.goo_spec.specs.Sound.{do_rise}
 use Rattle.goo_shelf.specs.Shelf.{progress_of}
-use Rattle.goo_list.proofs.CertificateLemmas.{issued-rows}
+use Rattle.goo_rows.proofs.CertificateLemmas.{issued-rows}
 use Rattle.goo_columns.specs.Beside.{beside}
 use Rattle.goo_columns.specs.Rows.{Tables, device_in, declaration_in}
 use Rattle.goo_kept.specs.Devices.{declaration_of, progress_in, device_row}

@@ -11,7 +11,7 @@ use Rattle.goo_spec.specs.Days.{is_before}
 use Rattle.goo_spec.specs.Declare.{declared_by, last_end, begins_too_early}
 use Rattle.goo_spec.specs.Energy.{certificate, net_of}
 use Rattle.goo_spec.specs.Sound.{do_rise}
-use Rattle.goo_list.specs.Rows.{issued_in}
+use Rattle.goo_rows.specs.Certificates.{issued_in}
 use Rattle.goo_columns.specs.Beside.{beside}
 use Rattle.goo_columns.specs.Rows.{Device, Lot, lot_key, device_in, declaration_in, lot_in}
 use Rattle.goo_columns.specs.declared.piece.PieceRow.{PieceRow}

@@ -16,7 +16,7 @@ use Rattle.goo_spec.specs.OpenAccount.{with_account}
 use Rattle.goo_spec.specs.Sound.{IsSound}
 use Rattle.goo_spec.specs.State.{State, last_act}
 use Rattle.goo_spec.specs.Withdraw.{with_withdrawal, withdrawal_of}
-use Rattle.goo_list.specs.States.{beside}
+use Rattle.goo_rows.specs.Certificates.{beside}
 use Rattle.goo_columns.specs.Rows.{Tables, account_key, cancellation_key, withdrawal_key, notice_out_key}
 use Rattle.goo_columns.specs.Rows as row
 use Rattle.goo_tables.specs.Changes as change

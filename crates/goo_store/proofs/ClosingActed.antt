@@ -11,7 +11,7 @@ use Rattle.sqlite_keyed.proofs.RuleLemmas.{first_of_both, second_of_both}
 use Rattle.goo_types.specs.declared.command.CloseAccount.{CloseAccount}
 use Rattle.goo_spec.specs.CloseAccount.{shut, with_closed}
 use Rattle.goo_spec.specs.State as registry
-use Rattle.goo_list.specs.States.{beside}
+use Rattle.goo_rows.specs.Certificates.{beside}
 use Rattle.goo_columns.specs.Rows.{Tables, Account, account_key}
 use Rattle.goo_tables.specs.Changes as change
 use Rattle.goo_store.specs.Acted.{IsActed}

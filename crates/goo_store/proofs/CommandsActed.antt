@@ -17,7 +17,7 @@ use Rattle.goo_spec.specs.OpenHolder.{with_holder}
 use Rattle.goo_spec.specs.State.{State, text_cmp}
 use Rattle.goo_spec.specs.Transfer.{with_transfer}
 use Rattle.goo_shelf.specs.Shelf.{progress_of}
-use Rattle.goo_list.specs.States.{beside}
+use Rattle.goo_rows.specs.Certificates.{beside}
 use Rattle.goo_columns.specs.Rows.{Tables, Kept, kept_key, lot_key}
 use Rattle.goo_columns.specs.Rows as row
 use Rattle.goo_columns.specs.declared.peer.PeerRow.{PeerRow}

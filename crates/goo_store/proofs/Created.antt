@@ -8,7 +8,7 @@ use Rattle.goo_spec.specs.Created.{created}
 use Rattle.goo_spec.specs.Energy.{carry, total}
 use Rattle.goo_spec.specs.Sound.{IsSound}
 use Rattle.goo_spec.proofs.Creating.{created_is_sound}
-use Rattle.goo_list.specs.Rows.{certificates_of}
+use Rattle.goo_rows.specs.Certificates.{certificates_of}
 use Rattle.goo_columns.specs.Stands.{Stands, Settled, doubts}
 use Rattle.goo_columns.proofs.Decoded.{decoded}
 use Rattle.goo_tables.specs.Changes.{begun}

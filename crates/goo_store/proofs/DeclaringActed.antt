@@ -22,7 +22,7 @@ use Rattle.goo_spec.specs.State.{State, Device, serials, text_cmp}
 use Rattle.goo_spec.proofs.Checking.{none_fail, passes}
 use Rattle.goo_spec.proofs.Rising.{list_any-filter, none_begins}
 use Rattle.goo_shelf.specs.Shelf.{progress_of}
-use Rattle.goo_list.specs.States.{beside}
+use Rattle.goo_rows.specs.Certificates.{beside}
 use Rattle.goo_columns.specs.Rows.{Tables, Kept, Lot, lot_key, declaration_key}
 use Rattle.goo_columns.specs.Rows as row
 use Rattle.goo_tables.specs.Changes as change

@@ -23,7 +23,7 @@ use Rattle.goo_spec.specs.State.{State, text_cmp, notice_cmp}
 use Rattle.goo_spec.proofs.Checking.{none_fail, passes, unfound}
 use Rattle.goo_spec.proofs.Keys.{notices_same}
 use Rattle.goo_spec.proofs.Mapping.{inside, get_inserted}
-use Rattle.goo_list.specs.States.{beside}
+use Rattle.goo_rows.specs.Certificates.{beside}
 use Rattle.goo_columns.specs.Rows.{Tables, Lot, lot_key, lot_in, kept_key}
 use Rattle.goo_columns.specs.Rows as row
 use Rattle.goo_columns.specs.declared.lot.LotRow.{LotRow}

@@ -5,7 +5,7 @@ use Rattle.sqlite.specs.Effect.{Database}
 use Rattle.goo_columns.specs.Rows.{Tables, tables_of}
 use Rattle.goo_columns.specs.Stands.{Stands, doubts}
 use Rattle.goo_columns.proofs.Decoded.{decoded}
-use Rattle.goo_list.proofs.CertificateLemmas.{certificates-rows}
+use Rattle.goo_rows.proofs.CertificateLemmas.{certificates-rows}
 use Rattle.goo_rows.specs.Rows.{AreRowsOf}
 use Rattle.goo_kept.specs.Kept.{AreKept}
 use Rattle.goo_kept.specs.Places.{rows_of}

@@ -24,9 +24,9 @@ use Rattle.goo_rows.specs.Rows.{edited_all}
 use Rattle.goo_shelf.specs.Plan.{Fits, StayRising}
 use Rattle.goo_shelf.specs.Shelf.{progress_of}
 use Rattle.goo_shelf.specs.declared.plan.Plan.{Plan}
-use Rattle.goo_list.specs.Maps.{pair-IsAntisymmetric}
-use Rattle.goo_list.specs.Rows.{certificates_of}
-use Rattle.goo_list.proofs.CertificateLemmas.{certificates-same}
+use Rattle.goo_shelf.specs.Maps.{pair-IsAntisymmetric}
+use Rattle.goo_rows.specs.Certificates.{certificates_of}
+use Rattle.goo_rows.proofs.CertificateLemmas.{certificates-same}
 use Rattle.goo_columns.specs.Rows.{Tables, Kept, kept_key, piece_key}
 use Rattle.goo_columns.specs.Rows as row
 use Rattle.goo_columns.specs.Rows.{receipt_in}

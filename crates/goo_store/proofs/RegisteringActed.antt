@@ -13,7 +13,7 @@ use Rattle.goo_types.specs.declared.command.RegisterDevice.{RegisterDevice}
 use Rattle.goo_spec.specs.RegisterDevice.{device_of, with_device}
 use Rattle.goo_spec.specs.State.{text_cmp}
 use Rattle.goo_shelf.specs.Shelf.{progress_of}
-use Rattle.goo_list.specs.States.{beside}
+use Rattle.goo_rows.specs.Certificates.{beside}
 use Rattle.goo_columns.specs.Rows.{Tables, Kept, kept_key}
 use Rattle.goo_columns.specs.Rows as row
 use Rattle.goo_tables.specs.Changes as change

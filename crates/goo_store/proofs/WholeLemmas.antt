@@ -15,8 +15,8 @@ use Rattle.goo_shelf.specs.Shelf.{totals_for, totals_of}
 use Rattle.goo_columns.specs.Rows.{Tables, Lot, lot_key}
 use Rattle.goo_columns.specs.Beside.{beside}
 use Rattle.goo_columns.specs.declared.piece.PieceRow.{PieceRow}
-use Rattle.goo_list.specs.Rows.{certificates_of}
-use Rattle.goo_list.proofs.CertificateLemmas.{issued-rows}
+use Rattle.goo_rows.specs.Certificates.{certificates_of}
+use Rattle.goo_rows.proofs.CertificateLemmas.{issued-rows}
 use Rattle.goo_kept.specs.Readable.{is_piece, are_ends}
 use Rattle.goo_kept.specs.Places.{rows_of}
 use Rattle.goo_kept.specs.States.{state_of}

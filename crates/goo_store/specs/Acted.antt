@@ -7,7 +7,7 @@ use Rattle.goo_types.specs.declared.reply.Reply.{Reply}
 use Rattle.goo_types.specs.declared.request.Request.{Request}
 use Rattle.goo_spec.specs.Lots.{Certificates}
 use Rattle.goo_spec.specs.State.{State}
-use Rattle.goo_list.specs.States.{beside}
+use Rattle.goo_rows.specs.Certificates.{beside}
 use Rattle.goo_shelf.specs.Shelf.{progress_of}
 use Rattle.goo_columns.specs.Beside as joined
 use Rattle.goo_columns.specs.Rows.{Tables, Lot, lot_key}

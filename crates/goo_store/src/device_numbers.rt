@@ -6,7 +6,7 @@ ghost use Rattle.std.specs.BTreeMap.{keys as tree_keys, IsOrdered};
 ghost use Rattle.sqlite.specs.Held.{state as view};
 ghost use Rattle.goo_spec.specs.State.{text_cmp, Device as Known};
 ghost use Rattle.goo_columns.specs.Rows.{device_in};
-ghost use Rattle.goo_list.specs.Maps.{map_of};
+ghost use Rattle.goo_shelf.specs.Maps.{map_of};
 ghost use Rattle.goo_shelf.specs.Shelf.{Looks};
 ghost use Rattle.goo_kept.specs.Devices.{device_entry};
 ghost use Rattle.goo_store.specs.Moments.{moment};

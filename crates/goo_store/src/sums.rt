@@ -2,7 +2,7 @@
 
 ghost use Rattle.std.specs.Prelude.{◌≡◌, ℕ, ◌+◌, ◌-◌, ◌==◌, List, cond, map, sum_by, IfOk};
 ghost use Rattle.goo_types.specs.Number.{code_of};
-ghost use Rattle.goo_list.specs.Rows.{issued_in};
+ghost use Rattle.goo_rows.specs.Certificates.{issued_in};
 ghost use Rattle.goo_rules.specs.Summing.{sum_at};
 ghost use Rattle.goo_store.specs.Summing.{summed_for};
 

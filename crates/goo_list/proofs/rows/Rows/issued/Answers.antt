@@ -6,8 +6,8 @@ use Rattle.goo_types.specs.Piece.{IsRising}
 use Rattle.goo_ranges.proofs.Rising.{rising-front}
 use Rattle.goo_pages.specs.Paging.{joined}
 use Rattle.goo_pages.proofs.NearLemmas.{joined-next, joined-split, rising-page}
-use Rattle.goo_list.specs.Rows.{issued_in}
-use Rattle.goo_list.proofs.CertificateLemmas.{own-block, issued-rows}
+use Rattle.goo_rows.specs.Certificates.{issued_in}
+use Rattle.goo_rows.proofs.CertificateLemmas.{own-block, issued-rows}
 use Rattle.goo_list.proofs.rows.Rows.issued.Goals as goal
 use Rattle.goo_list.proofs.rows.Rows.issued.Goals.{After-issued_in_rows-count}
 

@@ -1,7 +1,7 @@
 use Rattle.std.proofs.Common.{◌≡◌, ◌∙◌, ap, sym, subst}
 use Rattle.sqlite.specs.Held.{state as view}
 use Rattle.goo_spec.specs.Created.{created}
-use Rattle.goo_list.proofs.CertificateLemmas.{certificates-rows}
+use Rattle.goo_rows.proofs.CertificateLemmas.{certificates-rows}
 use Rattle.goo_columns.specs.Stands.{doubts}
 use Rattle.goo_store.specs.Moments.{count, tables_in}
 use Rattle.goo_kept.specs.Places.{rows_of}

@@ -20,7 +20,7 @@ use Rattle.goo_spec.proofs.Giving.{count-give_each}
 use Rattle.goo_ranges.proofs.Rising.{at_of-below}
 use Rattle.goo_rows.specs.Rows.{AreRowsOf}
 use Rattle.goo_rows.proofs.Mapping.{one_of-each}
-use Rattle.goo_list.specs.Rows.{numbers_of, issued_in, certificates_of}
+use Rattle.goo_rows.specs.Certificates.{numbers_of, issued_in, certificates_of}
 
 no_entries : {X : Type 0} (xs : List X) → length xs ≡ 0 → xs ≡ []
 no_entries [] e = refl
