@@ -6,10 +6,7 @@ FILE has request lines of bench/workloads.py, each accepted. Each is one transac
 a DATABASE is given: the row of `meta`, the act's own row, the rows of certificates that it cuts, and the receipt. It checks nothing that
 the registry checks. Prints the processor seconds of these transactions, without those of reading the lines.
 """
-import json
-import sqlite3
-import sys
-import time
+from records import MWH, Records, arguments, read, spent
 
 SCHEMA = """
 CREATE TABLE meta (id INTEGER PRIMARY KEY, next_serial INTEGER, next_account INTEGER, next_cancellation INTEGER);
@@ -24,25 +21,17 @@ CREATE INDEX piece_by_kind ON piece (kind, first);
 CREATE TABLE receipt (caller TEXT, key TEXT, command BLOB, PRIMARY KEY (caller, key));
 CREATE TABLE cancellation (number INTEGER PRIMARY KEY, account INTEGER, first INTEGER, last INTEGER, beneficiary TEXT);
 """
-MWH = 1_000_000
 
 
-class Plain:
-    """A registry without checks."""
+class Baseline(Records):
+    """Whose receipts keep no reply."""
+
+    RECEIPT = 'INSERT INTO receipt VALUES (?, ?, ?)'
 
     def __init__(self, path):
-        self.database = sqlite3.connect(path, isolation_level=None)
+        super().__init__(path)
         self.database.executescript(SCHEMA)
         self.ask('INSERT INTO meta VALUES (1, 7000000000001, 1, 1)')
-
-    def ask(self, text, *values):
-        return self.database.execute(text, values)
-
-    def take(self, column, count):
-        """The next number of a kind, which moves on."""
-        (number,) = self.ask(f'SELECT {column} FROM meta WHERE id = 1').fetchone()
-        self.ask(f'UPDATE meta SET {column} = ? WHERE id = 1', number + count)
-        return number
 
     def open_holder(self, of):
         self.ask('INSERT INTO holder VALUES (?, ?)', of['holder'], of['name'])
@@ -79,29 +68,12 @@ class Plain:
         self.ask('INSERT INTO cancellation VALUES (?, ?, ?, ?, ?)', number, of['account'], int(of['first']), int(of['last']), of['beneficiary'])
         self.move(of, 2, of['account'], number)
 
-    def apply(self, caller, of, text):
-        self.ask('BEGIN')
-        kept = self.ask('SELECT command FROM receipt WHERE caller = ? AND key = ?', caller, of['key']).fetchone()
-        if kept is None:
-            getattr(self, of['command'])(of)
-            self.ask('INSERT INTO receipt VALUES (?, ?, ?)', caller, of['key'], text)
-        self.ask('COMMIT')
-
 
 def main(file, path):
-    requests = []
-    with open(file, encoding='utf-8') as lines:
-        for line in lines:
-            caller, text = line.rstrip('\n').split(' ', 1)
-            requests.append((caller, json.loads(text), text))
-    registry = Plain(path)
-    start = time.process_time()
-    for caller, of, text in requests:
-        registry.apply(caller, of, text)
-    print(time.process_time() - start)
+    requests = list(read(file))
+    processor, _ = spent(Baseline(path), requests)
+    print(processor)
 
 
 if __name__ == '__main__':
-    if len(sys.argv) not in (2, 3):
-        sys.exit(__doc__)
-    main(sys.argv[1], sys.argv[2] if len(sys.argv) == 3 else ':memory:')
+    main(*arguments(__doc__))

@@ -10,15 +10,16 @@ checks nothing that the registry checks. Prints the processor seconds and the se
 import calendar
 import json
 import re
-import sqlite3
 import sys
-import time
 from pathlib import Path
 
-CREATE = Path(__file__).resolve().parent.parent.parent / 'crates' / 'goo_tables' / 'src' / 'create.rt'
+HERE = Path(__file__).resolve().parent
+sys.path.insert(0, str(HERE.parent))
+from records import MWH, Records, arguments, read, spent  # noqa: E402
+
+CREATE = HERE.parent.parent / 'crates' / 'goo_tables' / 'src' / 'create.rt'
 TODAY = '2025-03-01'
 CODE = 7
-MWH = 1_000_000
 PLANT = ('country', 'site', 'tech', 'source', 'capacity_w', 'commissioned', 'support')
 
 
@@ -33,26 +34,19 @@ def number(serial):
     return CODE * 10**12 + serial
 
 
-class Plain:
-    """A registry without checks. Each command answers the kind and the numbers of its reply, as a receipt keeps them."""
+class Plain(Records):
+    """Over the registry's own tables. Each command answers the kind and the numbers of its reply."""
+
+    RECEIPT = 'INSERT INTO receipt VALUES (?, ?, ?, ?, ?, ?, ?)'
 
     def __init__(self, path):
-        self.database = sqlite3.connect(path, isolation_level=None)
+        super().__init__(path)
         if path != ':memory:':
             self.ask('PRAGMA journal_mode=WAL')
             self.ask('PRAGMA synchronous=FULL')
         for text in re.findall(r'"(CREATE [^"]*)"', CREATE.read_text(encoding='utf-8')):
             self.ask(text)
         self.ask('INSERT INTO meta VALUES (1, 1, ?, ?, 1, 1, 1, 1, 1)', CODE, TODAY)
-
-    def ask(self, text, *values):
-        return self.database.execute(text, values)
-
-    def take(self, column, count):
-        """The next number of a kind, which moves on."""
-        (taken,) = self.ask(f'SELECT {column} FROM meta WHERE id = 1').fetchone()
-        self.ask(f'UPDATE meta SET {column} = ? WHERE id = 1', taken + count)
-        return taken
 
     def open_holder(self, of):
         self.ask('INSERT INTO holder VALUES (?, ?)', of['holder'], of['name'])
@@ -115,35 +109,17 @@ class Plain:
                  of['use_first'], of['use_last'], TODAY)
         return 5, act, self.place(of, (2, of['account'], act)), 0
 
-    def apply(self, caller, of, text):
-        self.ask('BEGIN')
-        kept = self.ask('SELECT command FROM receipt WHERE caller = ? AND key = ?', caller, of['key']).fetchone()
-        if kept is None:
-            reply = getattr(self, of['command'])(of)
-            self.ask('INSERT INTO receipt VALUES (?, ?, ?, ?, ?, ?, ?)', caller, of['key'], text, *reply)
-        self.ask('COMMIT')
 
-
-def read(file):
-    """Each line's caller, its members, and the one text of its command."""
-    with open(file, encoding='utf-8') as lines:
-        for line in lines:
-            caller, body = line.rstrip('\n').split(' ', 1)
-            of = json.loads(body)
-            text = json.dumps({name: value for name, value in of.items() if name != 'key'}, sort_keys=True, separators=(',', ':'), ensure_ascii=False)
-            yield caller, of, text.encode()
+def command_text(of):
+    """The one text of a command."""
+    command = {name: value for name, value in of.items() if name != 'key'}
+    return json.dumps(command, sort_keys=True, separators=(',', ':'), ensure_ascii=False).encode()
 
 
 def main(file, path):
-    requests = list(read(file))
-    registry = Plain(path)
-    start, clock = time.process_time(), time.monotonic()
-    for caller, of, text in requests:
-        registry.apply(caller, of, text)
-    print(time.process_time() - start, time.monotonic() - clock)
+    requests = [(caller, of, command_text(of)) for caller, of, _ in read(file)]
+    print(*spent(Plain(path), requests))
 
 
 if __name__ == '__main__':
-    if len(sys.argv) not in (2, 3):
-        sys.exit(__doc__)
-    main(sys.argv[1], sys.argv[2] if len(sys.argv) == 3 else ':memory:')
+    main(*arguments(__doc__))

@@ -3,7 +3,6 @@
 
 mod near;
 pub mod page;
-mod page_edits;
 pub mod paged;
 #[cfg(test)]
 mod tests;

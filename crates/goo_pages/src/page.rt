@@ -3,7 +3,7 @@ ghost use Rattle.std.specs.Prelude.{◌≡◌, ◌↔◌, ◌==◌, ◌<◌, ◌
 ghost use Rattle.goo_rows.specs.Rows.{without, with};
 ghost use Rattle.goo_pages.specs.Paging.{InOrder, last_begin, BeginAfter};
 
-use crate::page_edits::{put_in, take_out};
+use goo_rows::row_edits::{put_in, take_out};
 use goo_types::number::Number;
 use goo_types::piece::Piece;
 use std::alloc::{AllocError, Global};
@@ -93,7 +93,8 @@ impl Page {
         requires room { length self.old < 64 }
         ensures { self.new ≡ with row self.old }
     {
-        put_in(&mut self.rows, row);
+        let put: Result<(), _> = put_in(&mut self.rows, row);
+        put.unwrap();
     }
 
     /// Leaves the lower half of its rows, where it is full, and puts the upper one into another page, in the

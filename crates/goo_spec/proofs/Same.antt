@@ -23,7 +23,8 @@ use Rattle.goo_types.specs.declared.command.Command.{Command}
 use Rattle.goo_types.specs.declared.command.Command.TheVariants.{OpenHolder, OpenAccount, CloseAccount, RegisterDevice, Declare, Transfer, Cancel, Withdraw, Advance, AddPeer, Export, Import}
 use Rattle.goo_spec.specs.Lots.{same_day}
 use Rattle.goo_spec.specs.Import.{same_part, same_parts, same_notice}
-use Rattle.goo_spec.specs.Same.{same_range, same_open_holder, same_register_device, same_declare, same_transfer, same_cancel, same_withdraw, same_export, same_command}
+use Rattle.goo_types.specs.Equality.{same_range}
+use Rattle.goo_spec.specs.Same.{same_open_holder, same_register_device, same_declare, same_transfer, same_cancel, same_withdraw, same_export, same_command}
 use Rattle.goo_spec.proofs.Again.{same_itself}
 
 -- what each part of a test says

@@ -1,4 +1,8 @@
 pub mod Queries
+pub mod Adding
+pub mod AnyTable
+pub mod Asking
+pub mod Values
 pub mod Holders
 pub mod Accounts
 pub mod Devices

@@ -1,48 +1,64 @@
 -- What the statements on `meta` do and show.
-use Rattle.std.proofs.Common.{arith, map, ◌≡◌, ℕ, ℤ, pos, inr, List, [], ◌∷◌, codes, true, false, Some, Option, option_map, Ok, Err, Result, OnOk, refl, sym, ap, subst, ◌∙◌, map-id}
+use Rattle.std.proofs.Common.{map, ◌≡◌, ℕ, ℤ, pos, inr, List, [], ◌∷◌, codes, true, false, Some, Option, option_map, Ok, Err, Result, OnOk, refl, ◌∙◌}
 use Rattle.std.specs.List.{AllZip}
 use Rattle.sqlite_tied.specs.Compute.{everything}
-use Rattle.sqlite.specs.declared.types.Value.TheVariants.{Null, Int, Real, Text, Blob}
+use Rattle.sqlite.specs.declared.types.Value.TheVariants.{Null, Int, Text}
 use Rattle.sqlite.specs.declared.error.Error.{Error}
 use Rattle.sqlite.specs.Collation.TheVariants.{Binary}
-use Rattle.sqlite.specs.Order.{Row, column}
+use Rattle.sqlite.specs.Order.{Row}
 use Rattle.sqlite.specs.Term.{Term, lit, col, op2}
 use Rattle.sqlite.specs.Query.{Query, IsAnswer}
 use Rattle.sqlite.specs.Program.{overlay}
 use Rattle.sqlite.specs.Source.TheVariants.{Values}
-use Rattle.sqlite.specs.Command.TheVariants.{Insert, Select, Update}
-use Rattle.sqlite.specs.Listing.{understood, reads_listing}
+use Rattle.sqlite.specs.Command.TheVariants.{Insert, Update}
+use Rattle.sqlite.specs.Listing.{understood}
 use Rattle.sqlite.specs.State.{State, Executes}
 use Rattle.sqlite.proofs.Callers.{IsPlain, command_of}
 use Rattle.sqlite_sql.specs.declared.ops.BinaryOp.TheVariants.{Compare}
 use Rattle.sqlite_sql.specs.declared.ops.CompareOp.TheVariants.{Eq}
-use Rattle.sqlite_value.proofs.OrderLemmas.{value_cmp-Int}
-use Rattle.sqlite_typed.proofs.AnswerLemmas.{at_end, last_table, answer_by_keys, unfiltered}
-use Rattle.sqlite_typed.proofs.TestLemmas.{at_ints, last_term, last_key, then_value}
+use Rattle.sqlite_typed.proofs.AnswerLemmas.{at_end, last_table}
+use Rattle.sqlite_typed.proofs.TestLemmas.{at_ints, last_term, then_value}
 use Rattle.goo_columns.specs.Columns.{registry_schema, meta}
 use Rattle.goo_columns.specs.Rows.{Tables, Meta, meta_columns, meta_row, meta_in, Numbered, numbered_in, numbered_key, numbered_row}
 use Rattle.goo_columns.specs.declared.numbered_meta.NumberedMeta.{NumberedMeta}
 use Rattle.goo_columns.specs.declared.meta.MetaRow.{MetaRow}
 use Rattle.goo_columns.specs.Reads.{meta_reads, numbered_meta_reads}
-use Rattle.goo_columns.specs.Refused.{is_suited}
 use Rattle.goo_columns.specs.Stands.{Stands, IsBare, Keeps}
-use Rattle.goo_columns.specs.Met.{HasOurTables, Keyed, whole, all_keyed}
-use Rattle.goo_columns.proofs.Ordered.{keyed_rows}
-use Rattle.goo_columns.proofs.Meeting.{IsTyped, typed_rows, type_rules, shape_rules, typed_length, listed_met, no_number, int_same}
+use Rattle.goo_columns.specs.Met.{HasOurTables}
+use Rattle.goo_columns.proofs.Meeting.{type_rules, shape_rules, no_number, int_same}
 use Rattle.goo_columns.specs.Asked.{FirstZip}
 use Rattle.goo_columns.proofs.Writing.{inserts, updates}
 use Rattle.goo_columns.proofs.Typed.{cast_int, cast_null, puts}
 use Rattle.goo_columns.proofs.Updating.{updated}
 use Rattle.goo_columns.proofs.Alone.{with_meta_stands, begun_stands}
 use Rattle.goo_columns.proofs.One.{answer_of_one}
-use Rattle.goo_columns.proofs.Read.{first_listed, all_read}
 use Rattle.goo_columns.proofs.Same.{meta_same}
 use Rattle.goo_tables.specs.Changes.{begun, at_day, with_counters}
 use Rattle.goo_tables.specs.declared.counters.Counters.{Counters}
 use Rattle.goo_tables.proofs.Queries.{in_order, unordered}
+use Rattle.std.specs.Prelude.{⊤}
+use Rattle.goo_tables.proofs.AnyTable.{TableOf, finds_one, shown, shows_each, IsListed, meets_listed}
+use Rattle.goo_tables.proofs.Asking.{Asks, Says, Tells}
+use Rattle.goo_tables.proofs.Values.{whole_is, null_at_key}
 
 abbrev meta_key : Meta → ℤ
 meta_key m = pos 1
+
+abbrev the_meta : TableOf MetaRow Meta Meta
+the_meta = record {
+  table = meta;
+  row = meta_row;
+  key = meta_key;
+  keyed = λ _. refl;
+  plain = λ _. refl;
+  columns = col 1 2 ∷ col 1 3 ∷ col 1 4 ∷ col 1 5 ∷ col 1 6 ∷ col 1 7 ∷ col 1 8 ∷ col 1 9 ∷ [];
+  show = meta_columns;
+  shows = λ _ _. refl;
+  reads = meta_reads;
+  value = meta_in;
+  of = λ m. m;
+  same = meta_same;
+}
 
 -- ---- the row is added
 
@@ -76,29 +92,16 @@ abbrev at_one : List Term
 at_one = op2 (Compare Eq Binary) (col 1 0) (lit (Int (pos 1))) ∷ []
 
 abbrev pub find_query : Query
-find_query = in_order 0 at_one (col 1 2 ∷ col 1 3 ∷ col 1 4 ∷ col 1 5 ∷ col 1 6 ∷ col 1 7 ∷ col 1 8 ∷ col 1 9 ∷ [])
+find_query = in_order 0 at_one the_meta.columns
 
-pub find_is : (command_of (understood registry_schema find_text)
-    ≡ Select (record { lets = []; body = find_query }) (codes "version" ∷ codes "code" ∷ codes "today" ∷ codes "next_serial" ∷ codes "next_account" ∷ codes "next_cancellation" ∷ codes "next_withdrawal" ∷ codes "next_notice" ∷ []))
-    × (reads_listing registry_schema find_text ≡ false)
+pub find_asks : Asks find_text find_query (λ (_ : ⊤). [])
 unfolding understood everything
-find_is = (refl, refl)
+find_asks = record { names = _; is = refl; plain = (refl, refl); unlisted = refl; suits = λ _. refl }
 
-pub find_plain : IsPlain (understood registry_schema find_text)
-unfolding understood everything
-find_plain = (refl, refl)
-
-pub find_suits : is_suited registry_schema find_text find_query [] ≡ true
-unfolding understood everything
-find_suits = refl
-
-pub finds : (old : State) (t : Tables) → Stands old.now t → (x : Option MetaRow) (rows : List Row) → IsAnswer find_query (overlay old.now.trees []) [] rows → FirstZip meta_reads rows x
-    → option_map meta_in x ≡ Some t.meta
+pub finds : (old : State) → Says old find_query [] (λ (x : Option MetaRow) rows. FirstZip meta_reads rows x) (λ t x. option_map meta_in x ≡ Some t.meta)
 finds old t it x rows answer read =
-    let db = overlay old.now.trees [] in
-    let source = last_table db 0 meta_row meta_key (t.meta ∷ []) it.meta (tt, tt) (at_end db) in
-    let shown = answer_by_keys find_query db [] source (λ _. true) (λ _. last_term (at_ints false Eq (pos 1) (pos 1))) (λ r. r) meta_columns (λ _. refl) refl refl (λ a b. last_key (value_cmp-Int (pos 1) (pos 1))) rows answer in
-    first_listed meta_reads meta_columns meta_in meta_same (λ _. true) (t.meta ∷ []) x (subst (λ l. FirstZip meta_reads l x) (sym (map-id rows) ∙ shown) read)
+    let keeps : Keeps (old.now.trees 0) meta_row meta_key (t.meta ∷ []) = record { are = it.meta; rise = (tt, tt) } in
+    finds_one the_meta old keeps at_one [] (λ (m : Meta). true) (λ _. last_term (at_ints false Eq (pos 1) (pos 1))) x rows answer read
 
 -- ---- the row is changed
 
@@ -179,75 +182,53 @@ sets_counters old new t c r it = changes counters_text (counters_params c) count
 
 -- ---- all rows
 
+abbrev numbered : Meta → Numbered
+numbered m = record { id = 1; meta = m }
+
+pub numbered_same : (n : Numbered) (x : NumberedMeta) → numbered_meta_reads (Int (pos n.id) ∷ meta_columns n.meta) x → numbered_in x ≡ n
+numbered_same n x reads =
+    let id : x.id ≡ n.id = let h = reads.0 in cc in
+    let rest = meta_same n.meta x.meta (reads.1, reads.2, reads.3, reads.4, reads.5, reads.6, reads.7, reads.8) in
+    λ i. record { id = id i; meta = rest i }
+
+abbrev numbered_metas : TableOf NumberedMeta Numbered Numbered
+numbered_metas = record {
+  table = meta;
+  row = numbered_row;
+  key = numbered_key;
+  keyed = λ _. refl;
+  plain = λ _. refl;
+  columns = col 1 0 ∷ the_meta.columns;
+  show = λ n. Int (pos n.id) ∷ meta_columns n.meta;
+  shows = λ _ _. refl;
+  reads = numbered_meta_reads;
+  value = numbered_in;
+  of = λ n. n;
+  same = numbered_same;
+}
+
+kept_numbered : (old : State) (t : Tables) → Stands old.now t → Keeps (old.now.trees 0) numbered_row numbered_key (numbered t.meta ∷ [])
+kept_numbered old t it = record { are = it.meta; rise = (tt, tt) }
+
 abbrev pub all_text : List ℕ
 all_text = codes "SELECT id, version, code, today, next_serial, next_account, next_cancellation, next_withdrawal, next_notice FROM meta ORDER BY id"
 
 abbrev pub all_query : Query
-all_query = in_order 0 [] (col 1 0 ∷ col 1 2 ∷ col 1 3 ∷ col 1 4 ∷ col 1 5 ∷ col 1 6 ∷ col 1 7 ∷ col 1 8 ∷ col 1 9 ∷ [])
+all_query = in_order 0 [] numbered_metas.columns
 
-pub all_is : (command_of (understood registry_schema all_text)
-    ≡ Select (record { lets = []; body = all_query }) (codes "id" ∷ codes "version" ∷ codes "code" ∷ codes "today" ∷ codes "next_serial" ∷ codes "next_account" ∷ codes "next_cancellation" ∷ codes "next_withdrawal" ∷ codes "next_notice" ∷ []))
-    × (reads_listing registry_schema all_text ≡ false)
+pub all_asks : Asks all_text all_query (λ (_ : ⊤). [])
 unfolding understood everything
-all_is = (refl, refl)
-
-pub all_plain : IsPlain (understood registry_schema all_text)
-unfolding understood everything
-all_plain = (refl, refl)
-
-pub all_suits : is_suited registry_schema all_text all_query [] ≡ true
-unfolding understood everything
-all_suits = refl
-
-abbrev numbered : Meta → Numbered
-numbered m = record { id = 1; meta = m }
-
-numbered_same : (m : Meta) (x : NumberedMeta) → numbered_meta_reads (Int (pos 1) ∷ meta_columns m) x → numbered_in x ≡ numbered m
-numbered_same m x reads =
-    let id : x.id ≡ 1 = cc in
-    let rest = meta_same m x.meta (reads.1, reads.2, reads.3, reads.4, reads.5, reads.6, reads.7, reads.8) in
-    λ i. record { id = id i; meta = rest i }
+all_asks = record { names = _; is = refl; plain = (refl, refl); unlisted = refl; suits = λ _. refl }
 
 pub shown_all : (old : State) (t : Tables) → Stands old.now t → (rows : List Row) → IsAnswer all_query (overlay old.now.trees []) [] rows → rows ≡ map (λ (m : Meta). Int (pos 1) ∷ meta_columns m) (t.meta ∷ [])
-shown_all old t it rows answer =
-    let db = overlay old.now.trees [] in
-    let source = last_table db 0 meta_row meta_key (t.meta ∷ []) it.meta (tt, tt) (at_end db) in
-    let shown = answer_by_keys all_query db [] source (λ _. true) (λ _. refl) (λ r. r) (λ m. Int (pos 1) ∷ meta_columns m) (λ _. refl) refl refl (λ a b. last_key (value_cmp-Int (pos 1) (pos 1))) rows answer in
-    sym (map-id rows) ∙ shown
+shown_all old t it = shown numbered_metas old (kept_numbered old t it)
 
-pub shows_all : (old : State) (t : Tables) → Stands old.now t → (xs : List NumberedMeta) (rows : List Row) → IsAnswer all_query (overlay old.now.trees []) [] rows → AllZip numbered_meta_reads rows xs
-    → map numbered_in xs ≡ numbered t.meta ∷ []
-shows_all old t it xs rows answer read =
-    all_read numbered_meta_reads (λ m. Int (pos 1) ∷ meta_columns m) numbered_in numbered numbered_same (t.meta ∷ []) xs (subst (λ l. AllZip numbered_meta_reads l xs) (shown_all old t it rows answer) read)
+pub shows_all : (old : State) → Says old all_query [] (λ (xs : List NumberedMeta) rows. AllZip numbered_meta_reads rows xs) (λ t xs. map numbered_in xs ≡ numbered t.meta ∷ [])
+shows_all old t it = shows_each numbered_metas old (kept_numbered old t it)
 
-abbrev meta_shown : Keyed → Row
-meta_shown k = Int k.0 ∷ column (whole k) 2 ∷ column (whole k) 3 ∷ column (whole k) 4 ∷ column (whole k) 5 ∷ column (whole k) 6 ∷ column (whole k) 7 ∷ column (whole k) 8 ∷ column (whole k) 9 ∷ []
+meta_is : IsListed numbered_metas
+meta_is k x fits reads =
+    (whole_is meta 8 refl k fits (λ none. no_number (none ∙ reads.8)) ∙ then_value reads.0 (then_value (null_at_key meta.columns k.1 fits) (then_value reads.1 (then_value reads.2 (then_value reads.3 (then_value reads.4 (then_value reads.5 (then_value reads.6 (then_value reads.7 (then_value reads.8 refl))))))))), int_same reads.0)
 
-meta_is : (k : Keyed) (x : NumberedMeta) → IsTyped meta.key meta.columns k → numbered_meta_reads (meta_shown k) x → (whole k ≡ numbered_row (numbered_in x)) × (k.0 ≡ numbered_key (numbered_in x))
-meta_is (id, []) x fits reads = absurd (no_number reads.8)
-meta_is (id, a ∷ []) x fits reads = absurd (no_number reads.8)
-meta_is (id, a ∷ b ∷ []) x fits reads = absurd (no_number reads.8)
-meta_is (id, a ∷ b ∷ c ∷ []) x fits reads = absurd (no_number reads.8)
-meta_is (id, a ∷ b ∷ c ∷ d ∷ []) x fits reads = absurd (no_number reads.8)
-meta_is (id, a ∷ b ∷ c ∷ d ∷ e ∷ []) x fits reads = absurd (no_number reads.8)
-meta_is (id, a ∷ b ∷ c ∷ d ∷ e ∷ f ∷ []) x fits reads = absurd (no_number reads.8)
-meta_is (id, a ∷ b ∷ c ∷ d ∷ e ∷ f ∷ g ∷ []) x fits reads = absurd (no_number reads.8)
-meta_is (id, a ∷ b ∷ c ∷ d ∷ e ∷ f ∷ g ∷ h ∷ []) x fits reads = absurd (no_number reads.8)
-meta_is (id, Null ∷ b ∷ c ∷ d ∷ e ∷ f ∷ g ∷ h ∷ i ∷ []) x fits reads = (then_value reads.0 (then_value refl (then_value reads.1 (then_value reads.2 (then_value reads.3 (then_value reads.4 (then_value reads.5 (then_value reads.6 (then_value reads.7 (then_value reads.8 refl))))))))), int_same reads.0)
-meta_is (id, Int v ∷ b ∷ c ∷ d ∷ e ∷ f ∷ g ∷ h ∷ i ∷ []) x fits reads = absurd (let h = fits in cc)
-meta_is (id, Real v ∷ b ∷ c ∷ d ∷ e ∷ f ∷ g ∷ h ∷ i ∷ []) x fits reads = absurd (let h = fits in cc)
-meta_is (id, Text v ∷ b ∷ c ∷ d ∷ e ∷ f ∷ g ∷ h ∷ i ∷ []) x fits reads = absurd (let h = fits in cc)
-meta_is (id, Blob v ∷ b ∷ c ∷ d ∷ e ∷ f ∷ g ∷ h ∷ i ∷ []) x fits reads = absurd (let h = fits in cc)
-meta_is (id, a ∷ b ∷ c ∷ d ∷ e ∷ f ∷ g ∷ h ∷ i ∷ j ∷ more) x fits reads = absurd (omega (arith, typed_length meta.key 0 meta.columns (a ∷ b ∷ c ∷ d ∷ e ∷ f ∷ g ∷ h ∷ i ∷ j ∷ more) fits))
-
-pub meets_all : (old : State) → HasOurTables old.now → (xs : List NumberedMeta) (rows : List Row) → IsAnswer all_query (overlay old.now.trees []) [] rows → AllZip numbered_meta_reads rows xs
-    → Keeps (old.now.trees 0) numbered_row numbered_key (map numbered_in xs)
-meets_all old it xs rows answer read =
-    let db = overlay old.now.trees [] in
-    let stored = keyed_rows (old.now.trees 0) (shape_rules old.now it).0 in
-    let source = last_table db 0 whole (λ k. k.0) (all_keyed old.now 0) stored.0 stored.1 (at_end db) in
-    let shown = answer_by_keys all_query db [] source (λ _. true) (λ _. refl) (λ r. r) meta_shown (λ _. refl) refl refl (λ a b. last_key (value_cmp-Int a.0 b.0)) rows answer in
-    let all = sym (map-id rows) ∙ shown ∙ ap (map meta_shown) (unfiltered (all_keyed old.now 0) refl) in
-    let met = subst (λ l. AllZip numbered_meta_reads l xs) all read in
-    let fits = typed_rows meta old.now (type_rules old.now it).0 in
-    listed_met numbered_in numbered_meta_reads meta_shown (IsTyped meta.key meta.columns) (old.now.trees 0) (all_keyed old.now 0) xs stored.0 stored.1 fits met numbered_key numbered_row meta_is
+pub meets_all : (old : State) → HasOurTables old.now → Tells old all_query [] (λ (xs : List NumberedMeta) rows. AllZip numbered_meta_reads rows xs) (λ xs. Keeps (old.now.trees 0) numbered_row numbered_key (map numbered_in xs))
+meets_all old it = meets_listed numbered_metas old (shape_rules old.now it).0 (type_rules old.now it).0 meta_is

@@ -1,50 +1,57 @@
 -- What the statements on `notice_out` do and show.
-use Rattle.std.proofs.Common.{◌≡◌, ℕ, pos, List, [], ◌∷◌, map, find, codes, true, false, Option, option_map, Ok, Err, Result, OnOk, refl, sym, ap, subst, ◌∙◌, map-id, int_eq}
+use Rattle.std.proofs.Common.{◌≡◌, ℕ, pos, List, [], ◌∷◌, map, find, codes, false, Option, option_map, Result, OnOk, refl, sym, subst, ◌∙◌, map-id, int_eq}
 use Rattle.std.specs.List.{AllZip}
 use Rattle.sqlite_tied.specs.Compute.{everything}
 use Rattle.sqlite.specs.declared.types.Value.TheVariants.{Null, Int}
 use Rattle.sqlite.specs.declared.error.Error.{Error}
 use Rattle.sqlite.specs.Collation.TheVariants.{Binary}
-use Rattle.sqlite.specs.Order.{Row}
+use Rattle.sqlite.specs.Order.{Row, column}
 use Rattle.sqlite.specs.Term.{Term, lit, col, op2}
 use Rattle.sqlite.specs.Query.{Query, IsAnswer}
 use Rattle.sqlite.specs.Program.{overlay}
-use Rattle.sqlite.specs.Source.TheVariants.{Values}
-use Rattle.sqlite.specs.Command.TheVariants.{Insert, Select}
-use Rattle.sqlite.specs.Listing.{understood, reads_listing}
+use Rattle.sqlite.specs.Listing.{understood}
 use Rattle.sqlite.specs.State.{State, Executes}
-use Rattle.sqlite.proofs.Callers.{IsPlain, command_of}
 use Rattle.sqlite_sql.specs.declared.ops.BinaryOp.TheVariants.{Compare}
 use Rattle.sqlite_sql.specs.declared.ops.CompareOp.TheVariants.{Eq}
-use Rattle.sqlite_value.proofs.OrderLemmas.{value_cmp-Int}
-use Rattle.sqlite_typed.proofs.AnswerLemmas.{at_end, last_table, answer_by_keys, unfiltered}
-use Rattle.sqlite_typed.proofs.TestLemmas.{at_ints, last_term, last_key}
-use Rattle.sqlite_keyed.specs.Keyed.{insert_by}
-use Rattle.sqlite_keyed.proofs.KeyedLemmas.{IsKeyedBy-insert_by}
-use Rattle.goo_columns.specs.Columns.{registry_schema}
+use Rattle.sqlite_typed.proofs.TestLemmas.{at_ints, last_term, then_value}
+use Rattle.goo_columns.specs.Columns.{notice_out}
 use Rattle.goo_columns.specs.Rows.{Tables, NoticeOut, notice_out_in, notice_out_columns, notice_out_row, notice_out_key}
 use Rattle.goo_columns.specs.declared.notice_out.NoticeOutRow.{NoticeOutRow}
-use Rattle.goo_columns.specs.Reads.{notice_out_reads}
-use Rattle.goo_columns.specs.Refused.{is_suited}
-use Rattle.goo_columns.specs.Stands.{Stands}
+use Rattle.goo_columns.specs.Reads.{notice_out_reads, IsOctets}
+use Rattle.goo_columns.specs.Stands.{Stands, Keeps}
 use Rattle.goo_columns.specs.Asked.{FirstZip}
-use Rattle.goo_columns.proofs.Writing.{inserts}
-use Rattle.goo_columns.proofs.Typed.{cast_int, cast_null, puts}
+use Rattle.goo_columns.proofs.Typed.{cast_int, cast_null}
 use Rattle.goo_columns.proofs.Alone.{notices_out_stand}
-use Rattle.goo_columns.proofs.Read.{all_listed, first_listed}
 use Rattle.goo_columns.proofs.Same.{notice_out_same}
 use Rattle.goo_tables.specs.Changes.{with_notice_out}
 use Rattle.goo_tables.proofs.Queries.{in_order}
-use Rattle.sqlite.specs.Order.{column}
-use Rattle.sqlite.specs.declared.types.Value.TheVariants.{Real, Text, Blob}
-use Rattle.std.proofs.Common.{arith}
-use Rattle.goo_columns.specs.Columns.{notice_out}
-use Rattle.goo_columns.specs.Stands.{Keeps}
-use Rattle.goo_columns.specs.Met.{HasOurTables, Keyed, whole, all_keyed}
-use Rattle.goo_columns.proofs.Ordered.{keyed_rows}
-use Rattle.goo_columns.proofs.Meeting.{IsTyped, typed_rows, type_rules, shape_rules, typed_length, listed_met, no_octets, int_same, text_octets}
-use Rattle.sqlite_typed.proofs.TestLemmas.{then_value}
+use Rattle.goo_columns.specs.Met.{HasOurTables, whole}
+use Rattle.goo_columns.proofs.Meeting.{type_rules, shape_rules, no_octets, int_same, text_octets}
 use Rattle.std.proofs.lemmas.Bool.{and_parts}
+use Rattle.std.specs.Prelude.{⊤}
+use Rattle.std.proofs.lemmas.Iterator.Adapters.{option_map_id}
+use Rattle.goo_tables.proofs.Adding.{Adds, adds_row}
+use Rattle.goo_tables.proofs.AnyTable.{TableOf, shown, shows_each, finds_one, IsListed, meets_listed}
+use Rattle.goo_tables.proofs.Asking.{Asks, Tells, Says}
+use Rattle.goo_tables.proofs.Values.{whole_is, values_typed, null_at_key}
+
+-- ---- notice_out: the table
+
+abbrev notices_out : TableOf NoticeOutRow NoticeOut NoticeOut
+notices_out = record {
+  table = notice_out;
+  row = notice_out_row;
+  key = notice_out_key;
+  keyed = λ _. refl;
+  plain = λ _. refl;
+  columns = col 1 0 ∷ col 1 2 ∷ col 1 3 ∷ [];
+  show = notice_out_columns;
+  shows = λ _ _. refl;
+  reads = notice_out_reads;
+  value = notice_out_in;
+  of = λ x. x;
+  same = notice_out_same;
+}
 
 -- ---- notice_out: a row is added
 
@@ -54,22 +61,14 @@ insert_text = codes "INSERT INTO notice_out (number, account, body) VALUES (?1, 
 abbrev insert_terms : List Term
 insert_terms = col 0 0 ∷ lit Null ∷ col 0 1 ∷ col 0 2 ∷ []
 
-insert_is : command_of (understood registry_schema insert_text) ≡ Insert 11 (Values insert_terms 4)
+insert_adds : Adds insert_text 11 insert_terms 4
 unfolding understood everything
-insert_is = refl
-
-insert_plain : IsPlain (understood registry_schema insert_text)
-unfolding understood everything
-insert_plain = (refl, refl)
+insert_adds = record { is = refl; plain = (refl, refl) }
 
 pub inserts_row : (old new : State) (t : Tables) (x : NoticeOut) (r : Result ℕ Error) → Stands old.now t → Executes insert_text (notice_out_columns x) old new r → OnOk r (Stands new.now (with_notice_out t x))
-inserts_row old new t x (Err e) it ran = tt
-inserts_row old new t x (Ok count) it ran =
-    let made = inserts registry_schema 11 _ 17 _ _ _ _ _ refl (λ _ _. refl) insert_text (notice_out_columns x) old new it.schema insert_plain insert_terms 4 insert_is count ran in
-    notices_out_stand old.now new.now t it made.schema_is made.applied.tables (insert_by notice_out_key t.notices_out x) (record {
-      are = made.applied.rows ∙ simp (cast_null, cast_int) (puts notice_out_key notice_out_row (λ _. refl) (old.now.trees 17) t.notices_out x it.notices_out.are);
-      rise = IsKeyedBy-insert_by notice_out_key t.notices_out x it.notices_out.rise;
-    })
+inserts_row old new t x r it =
+    adds_row insert_adds refl (λ _ _. refl) (notice_out_columns x) old new notice_out_row notice_out_key (λ _. refl) t.notices_out x it.notices_out it.schema (simp (cast_null, cast_int) refl) (with_notice_out t x)
+    (λ schema others. notices_out_stand old.now new.now t it schema others _) r
 
 -- ---- notice_out: the row with a key
 
@@ -77,28 +76,15 @@ abbrev pub find_text : List ℕ
 find_text = codes "SELECT number, account, body FROM notice_out WHERE number = ?1 ORDER BY number"
 
 abbrev pub find_query : Query
-find_query = in_order 17 (op2 (Compare Eq Binary) (col 1 0) (col 0 0) ∷ []) (col 1 0 ∷ col 1 2 ∷ col 1 3 ∷ [])
+find_query = in_order 17 (op2 (Compare Eq Binary) (col 1 0) (col 0 0) ∷ []) notices_out.columns
 
-pub find_is : (command_of (understood registry_schema find_text) ≡ Select (record { lets = []; body = find_query }) (codes "number" ∷ codes "account" ∷ codes "body" ∷ [])) × (reads_listing registry_schema find_text ≡ false)
+pub find_asks : Asks find_text find_query (λ (number : ℕ). Int (pos number) ∷ [])
 unfolding understood everything
-find_is = (refl, refl)
+find_asks = record { names = _; is = refl; plain = (refl, refl); unlisted = refl; suits = λ _. refl }
 
-pub find_plain : IsPlain (understood registry_schema find_text)
-unfolding understood everything
-find_plain = (refl, refl)
-
-pub find_suits : (a : ℕ) → is_suited registry_schema find_text find_query (Int (pos a) ∷ []) ≡ true
-unfolding understood everything
-find_suits a = refl
-
-pub finds : (old : State) (number : ℕ) (t : Tables) → Stands old.now t → (x : Option NoticeOutRow) (rows : List Row) → IsAnswer find_query (overlay old.now.trees []) (Int (pos number) ∷ []) rows → FirstZip notice_out_reads rows x
-    → option_map notice_out_in x ≡ find (λ (x : NoticeOut). int_eq (pos x.number) (pos number)) t.notices_out
-finds old number t it x rows answer read =
-    let db = overlay old.now.trees [] in
-    let source = last_table db 17 notice_out_row notice_out_key t.notices_out it.notices_out.are it.notices_out.rise (at_end db) in
-    let shown = answer_by_keys find_query db (Int (pos number) ∷ []) source (λ x. int_eq (pos x.number) (pos number)) (λ x. last_term (at_ints false Eq (pos x.number) (pos number))) (λ r. r) notice_out_columns (λ _. refl) refl refl
-    (λ a b. last_key (value_cmp-Int (notice_out_key a) (notice_out_key b))) rows answer in
-    first_listed notice_out_reads notice_out_columns notice_out_in notice_out_same _ t.notices_out x (subst (λ l. FirstZip notice_out_reads l x) (sym (map-id rows) ∙ shown) read)
+pub finds : (old : State) (number : ℕ) → Says old find_query (Int (pos number) ∷ []) (λ (x : Option NoticeOutRow) rows. FirstZip notice_out_reads rows x)
+    (λ t x. option_map notice_out_in x ≡ find (λ (x : NoticeOut). int_eq (pos x.number) (pos number)) t.notices_out)
+finds old number t it x rows answer read = finds_one notices_out old it.notices_out _ (Int (pos number) ∷ []) _ (λ x. last_term (at_ints false Eq (pos x.number) (pos number))) x rows answer read ∙ option_map_id _
 
 -- ---- notice_out: the whole table
 
@@ -106,55 +92,24 @@ abbrev pub all_text : List ℕ
 all_text = codes "SELECT number, account, body FROM notice_out ORDER BY number"
 
 abbrev pub all_query : Query
-all_query = in_order 17 [] (col 1 0 ∷ col 1 2 ∷ col 1 3 ∷ [])
+all_query = in_order 17 [] notices_out.columns
 
-pub all_is : (command_of (understood registry_schema all_text) ≡ Select (record { lets = []; body = all_query }) (codes "number" ∷ codes "account" ∷ codes "body" ∷ [])) × (reads_listing registry_schema all_text ≡ false)
+pub all_asks : Asks all_text all_query (λ (_ : ⊤). [])
 unfolding understood everything
-all_is = (refl, refl)
-
-pub all_plain : IsPlain (understood registry_schema all_text)
-unfolding understood everything
-all_plain = (refl, refl)
-
-pub all_suits : is_suited registry_schema all_text all_query [] ≡ true
-unfolding understood everything
-all_suits = refl
+all_asks = record { names = _; is = refl; plain = (refl, refl); unlisted = refl; suits = λ _. refl }
 
 pub shown_all : (old : State) (t : Tables) → Stands old.now t → (rows : List Row) → IsAnswer all_query (overlay old.now.trees []) [] rows → rows ≡ map (λ (x : NoticeOut). notice_out_columns x) t.notices_out
-shown_all old t it rows answer =
-    let db = overlay old.now.trees [] in
-    let source = last_table db 17 notice_out_row notice_out_key t.notices_out it.notices_out.are it.notices_out.rise (at_end db) in
-    let shown = answer_by_keys all_query db [] source (λ _. true) (λ _. refl) (λ r. r) notice_out_columns (λ _. refl) refl refl (λ a b. last_key (value_cmp-Int (notice_out_key a) (notice_out_key b))) rows answer in
-    sym (map-id rows) ∙ shown ∙ ap (map (λ (x : NoticeOut). notice_out_columns x)) (unfiltered t.notices_out refl)
+shown_all old t it = shown notices_out old it.notices_out
 
-pub shows_all : (old : State) (t : Tables) → Stands old.now t → (xs : List NoticeOutRow) (rows : List Row) → IsAnswer all_query (overlay old.now.trees []) [] rows → AllZip notice_out_reads rows xs
-    → map notice_out_in xs ≡ t.notices_out
-shows_all old t it xs rows answer read =
-    all_listed notice_out_reads notice_out_columns notice_out_in notice_out_same t.notices_out xs (subst (λ l. AllZip notice_out_reads l xs) (shown_all old t it rows answer) read)
+pub shows_all : (old : State) → Says old all_query [] (λ (xs : List NoticeOutRow) rows. AllZip notice_out_reads rows xs) (λ t xs. map notice_out_in xs ≡ t.notices_out)
+shows_all old t it xs rows answer read = shows_each notices_out old it.notices_out xs rows answer read ∙ map-id _
 
 -- ---- notice_out: the whole table, met as it is
 
-abbrev notice_out_shown : Keyed → Row
-notice_out_shown k = Int k.0 ∷ column (whole k) 2 ∷ column (whole k) 3 ∷ []
+notice_out_is : IsListed notices_out
+notice_out_is k x fits reads =
+    let some : ¬ (Null ≡ column k.1 2) = λ none. no_octets (subst (λ v. IsOctets v x.body.items) (sym none) reads.2) in
+    (whole_is notice_out 2 refl k fits some ∙ then_value reads.0 (then_value (null_at_key notice_out.columns k.1 fits) (then_value reads.1 (then_value (text_octets (codes "body") (column k.1 2) (and_parts _ _ (and_parts _ _ (and_parts _ _ (values_typed notice_out 2 refl k fits some)).1).1).0 reads.2) refl))), int_same reads.0)
 
-notice_out_is : (k : Keyed) (x : NoticeOutRow) → IsTyped notice_out.key notice_out.columns k → notice_out_reads (notice_out_shown k) x → (whole k ≡ notice_out_row (notice_out_in x)) × (k.0 ≡ notice_out_key (notice_out_in x))
-notice_out_is (id, []) x fits reads = absurd (no_octets reads.2)
-notice_out_is (id, a ∷ []) x fits reads = absurd (no_octets reads.2)
-notice_out_is (id, a ∷ b ∷ []) x fits reads = absurd (no_octets reads.2)
-notice_out_is (id, Null ∷ b ∷ c ∷ []) x fits reads = (then_value reads.0 (then_value refl (then_value reads.1 (then_value (text_octets (codes "body") c (and_parts _ _ (and_parts _ _ fits).1).0 reads.2) refl))), int_same reads.0)
-notice_out_is (id, Int v ∷ b ∷ c ∷ []) x fits reads = absurd (let h = fits in cc)
-notice_out_is (id, Real v ∷ b ∷ c ∷ []) x fits reads = absurd (let h = fits in cc)
-notice_out_is (id, Text v ∷ b ∷ c ∷ []) x fits reads = absurd (let h = fits in cc)
-notice_out_is (id, Blob v ∷ b ∷ c ∷ []) x fits reads = absurd (let h = fits in cc)
-notice_out_is (id, a ∷ b ∷ c ∷ d ∷ more) x fits reads = absurd (omega (arith, typed_length notice_out.key 0 notice_out.columns (a ∷ b ∷ c ∷ d ∷ more) fits))
-
-pub meets_all : (old : State) → HasOurTables old.now → (xs : List NoticeOutRow) (rows : List Row) → IsAnswer all_query (overlay old.now.trees []) [] rows → AllZip notice_out_reads rows xs → Keeps (old.now.trees 17) notice_out_row notice_out_key (map notice_out_in xs)
-meets_all old it xs rows answer read =
-    let db = overlay old.now.trees [] in
-    let stored = keyed_rows (old.now.trees 17) (shape_rules old.now it).1.1.1.1.1.1.1.1.1.1.1.0 in
-    let source = last_table db 17 whole (λ k. k.0) (all_keyed old.now 17) stored.0 stored.1 (at_end db) in
-    let shown = answer_by_keys all_query db [] source (λ _. true) (λ _. refl) (λ r. r) notice_out_shown (λ _. refl) refl refl (λ a b. last_key (value_cmp-Int a.0 b.0)) rows answer in
-    let all = sym (map-id rows) ∙ shown ∙ ap (map notice_out_shown) (unfiltered (all_keyed old.now 17) refl) in
-    let met = subst (λ l. AllZip notice_out_reads l xs) all read in
-    let fits = typed_rows notice_out old.now (type_rules old.now it).1.1.1.1.1.1.1.1.1.1.1.0 in
-    listed_met notice_out_in notice_out_reads notice_out_shown (IsTyped notice_out.key notice_out.columns) (old.now.trees 17) (all_keyed old.now 17) xs stored.0 stored.1 fits met notice_out_key notice_out_row notice_out_is
+pub meets_all : (old : State) → HasOurTables old.now → Tells old all_query [] (λ (xs : List NoticeOutRow) rows. AllZip notice_out_reads rows xs) (λ xs. Keeps (old.now.trees 17) notice_out_row notice_out_key (map notice_out_in xs))
+meets_all old it = meets_listed notices_out old (shape_rules old.now it).1.1.1.1.1.1.1.1.1.1.1.0 (type_rules old.now it).1.1.1.1.1.1.1.1.1.1.1.0 notice_out_is

@@ -1,5 +1,5 @@
 -- What the statements on `piece` joined with `lot` show.
-use Rattle.std.proofs.Common.{◌≡◌, ℕ, ℤ, Bool, pos, negsuc, ◌&&◌, List, [], ◌∷◌, map, filter, find, reverse, codes, false, None, Some, Option, option_map, refl, subst, ◌∙◌, take, int_eq, nat_le, nat_lt, true}
+use Rattle.std.proofs.Common.{◌≡◌, ℕ, ℤ, Bool, pos, negsuc, ◌&&◌, List, [], ◌∷◌, map, filter, find, reverse, codes, false, None, Some, Option, option_map, refl, subst, ◌∙◌, take, int_eq, nat_le, nat_lt}
 use Rattle.std.specs.List.{AllZip, list_all}
 use Rattle.sqlite_tied.specs.Compute.{everything}
 use Rattle.sqlite.specs.declared.types.Value.TheVariants.{Int, Text}
@@ -8,11 +8,9 @@ use Rattle.sqlite.specs.Order.{Row}
 use Rattle.sqlite.specs.Term.{Term, lit, col, op2, holds}
 use Rattle.sqlite.specs.Query.{Query, IsAnswer, inner, end}
 use Rattle.sqlite.specs.Program.{overlay}
-use Rattle.sqlite.specs.Command.TheVariants.{Select}
-use Rattle.sqlite.specs.Listing.{understood, reads_listing}
+use Rattle.sqlite.specs.Listing.{understood}
 use Rattle.sqlite.specs.State.{State}
 use Rattle.sqlite.specs.Tree.{Trees}
-use Rattle.sqlite.proofs.Callers.{IsPlain, command_of}
 use Rattle.sqlite_sql.specs.declared.ops.BinaryOp.TheVariants.{Compare}
 use Rattle.sqlite_sql.specs.declared.ops.CompareOp.TheVariants.{Gt, Eq, Lt, Le, Ge}
 use Rattle.sqlite_value.specs.declared.keys.Key.{Key}
@@ -22,19 +20,18 @@ use Rattle.sqlite_keyed.proofs.ListLemmas.{ascending_weaker, IsPermutation-same}
 use Rattle.sqlite_typed.specs.Tests.{bytes_lt, both_and}
 use Rattle.sqlite_typed.proofs.AnswerLemmas.{Source, at_end, last_table, next_table}
 use Rattle.sqlite_typed.proofs.TestLemmas.{at_ints, at_texts, at_nullable, then_term, last_term, last_key}
-use Rattle.goo_columns.specs.Columns.{registry_schema}
 use Rattle.goo_columns.specs.Rows.{Tables, Lot, lot_row, lot_key, piece_row, piece_key}
 use Rattle.goo_columns.specs.Beside.{pieces_beside, joined_in, joined_columns}
 use Rattle.goo_columns.specs.declared.piece.PieceRow.{PieceRow}
 use Rattle.goo_columns.specs.declared.joined.JoinedRow.{JoinedRow}
 use Rattle.goo_columns.specs.Reads.{joined_reads}
-use Rattle.goo_columns.specs.Refused.{is_suited}
 use Rattle.goo_columns.specs.Stands.{Stands}
 use Rattle.goo_columns.specs.Asked.{FirstZip}
 use Rattle.goo_columns.proofs.Read.{all_listed, first_listed}
 use Rattle.goo_columns.proofs.Same.{joined_same}
 use Rattle.goo_columns.proofs.Joining.{answer_listed, is_of_lot, passing_pairs, rising_passing, falling_passing, falling_pairs, first_left}
 use Rattle.goo_tables.proofs.Queries.{rising, falling}
+use Rattle.goo_tables.proofs.Asking.{Asks, Says}
 
 abbrev joined_terms : List Term
 joined_terms =
@@ -99,20 +96,12 @@ in_range_where = op2 (Compare Ge Binary) (col 1 0) (col 0 0) ∷ op2 (Compare Le
 abbrev pub in_range_query : Query
 in_range_query = joined_query in_range_where rising (negsuc 0)
 
-pub in_range_is : (command_of (understood registry_schema in_range_text) ≡ Select (record { lets = []; body = in_range_query }) joined_names) × (reads_listing registry_schema in_range_text ≡ false)
+pub in_range_asks : Asks in_range_text in_range_query (λ (a : ℕ × ℕ). Int (pos a.0) ∷ Int (pos a.1) ∷ [])
 unfolding understood everything
-in_range_is = (refl, refl)
+in_range_asks = record { names = _; is = refl; plain = (refl, refl); unlisted = refl; suits = λ _. refl }
 
-pub in_range_plain : IsPlain (understood registry_schema in_range_text)
-unfolding understood everything
-in_range_plain = (refl, refl)
-
-pub in_range_suits : (a : ℕ) (b : ℕ) → is_suited registry_schema in_range_text in_range_query (Int (pos a) ∷ Int (pos b) ∷ []) ≡ true
-unfolding understood everything
-in_range_suits a b = refl
-
-pub in_range_shows : (old : State) (low : ℕ) (high : ℕ) (t : Tables) → Stands old.now t → (xs : List JoinedRow) (rows : List Row) → IsAnswer in_range_query (overlay old.now.trees []) (Int (pos low) ∷ Int (pos high) ∷ []) rows → AllZip joined_reads rows xs
-    → map joined_in xs ≡ filter (λ (a : PieceRow × Lot). nat_le low a.0.first && nat_le a.0.first high) (pieces_beside t)
+pub in_range_shows : (old : State) (low : ℕ) (high : ℕ) → Says old in_range_query (Int (pos low) ∷ Int (pos high) ∷ []) (λ (xs : List JoinedRow) rows. AllZip joined_reads rows xs)
+    (λ t xs. map joined_in xs ≡ filter (λ (a : PieceRow × Lot). nat_le low a.0.first && nat_le a.0.first high) (pieces_beside t))
 in_range_shows old low high t it xs rows answer read =
     let q = λ (a : PieceRow × Lot). nat_le low a.0.first && nat_le a.0.first high in
     let shown = shows_rising in_range_where (Int (pos low) ∷ Int (pos high) ∷ []) old t it q (λ a. then_term (at_ints false Ge (pos a.0.first) (pos low)) (last_term (at_ints false Le (pos a.0.first) (pos high)))) rows answer in
@@ -129,20 +118,12 @@ before_where = op2 (Compare Lt Binary) (col 1 0) (col 0 0) ∷ []
 abbrev pub before_query : Query
 before_query = joined_query before_where falling (pos 1)
 
-pub before_is : (command_of (understood registry_schema before_text) ≡ Select (record { lets = []; body = before_query }) joined_names) × (reads_listing registry_schema before_text ≡ false)
+pub before_asks : Asks before_text before_query (λ (a : ℕ). Int (pos a) ∷ [])
 unfolding understood everything
-before_is = (refl, refl)
+before_asks = record { names = _; is = refl; plain = (refl, refl); unlisted = refl; suits = λ _. refl }
 
-pub before_plain : IsPlain (understood registry_schema before_text)
-unfolding understood everything
-before_plain = (refl, refl)
-
-pub before_suits : (a : ℕ) → is_suited registry_schema before_text before_query (Int (pos a) ∷ []) ≡ true
-unfolding understood everything
-before_suits a = refl
-
-pub before_shows : (old : State) (low : ℕ) (t : Tables) → Stands old.now t → (x : Option JoinedRow) (rows : List Row) → IsAnswer before_query (overlay old.now.trees []) (Int (pos low) ∷ []) rows → FirstZip joined_reads rows x
-    → option_map joined_in x ≡ find (λ (a : PieceRow × Lot). nat_lt a.0.first low) (reverse (pieces_beside t))
+pub before_shows : (old : State) (low : ℕ) → Says old before_query (Int (pos low) ∷ []) (λ (x : Option JoinedRow) rows. FirstZip joined_reads rows x)
+    (λ t x. option_map joined_in x ≡ find (λ (a : PieceRow × Lot). nat_lt a.0.first low) (reverse (pieces_beside t)))
 before_shows old low t it x rows answer read =
     let q = λ (a : PieceRow × Lot). nat_lt a.0.first low in
     let shown = shows_last before_where (Int (pos low) ∷ []) old t it q (λ a. last_term (at_ints false Lt (pos a.0.first) (pos low))) rows answer in
@@ -159,20 +140,12 @@ of_account_where = op2 (Compare Eq Binary) (col 1 5) (col 0 0) ∷ []
 abbrev pub of_account_query : Query
 of_account_query = joined_query of_account_where rising (negsuc 0)
 
-pub of_account_is : (command_of (understood registry_schema of_account_text) ≡ Select (record { lets = []; body = of_account_query }) joined_names) × (reads_listing registry_schema of_account_text ≡ false)
+pub of_account_asks : Asks of_account_text of_account_query (λ (a : ℕ). Int (pos a) ∷ [])
 unfolding understood everything
-of_account_is = (refl, refl)
+of_account_asks = record { names = _; is = refl; plain = (refl, refl); unlisted = refl; suits = λ _. refl }
 
-pub of_account_plain : IsPlain (understood registry_schema of_account_text)
-unfolding understood everything
-of_account_plain = (refl, refl)
-
-pub of_account_suits : (a : ℕ) → is_suited registry_schema of_account_text of_account_query (Int (pos a) ∷ []) ≡ true
-unfolding understood everything
-of_account_suits a = refl
-
-pub of_account_shows : (old : State) (account : ℕ) (t : Tables) → Stands old.now t → (xs : List JoinedRow) (rows : List Row) → IsAnswer of_account_query (overlay old.now.trees []) (Int (pos account) ∷ []) rows → AllZip joined_reads rows xs
-    → map joined_in xs ≡ filter (λ (a : PieceRow × Lot). int_eq (pos a.0.account) (pos account)) (pieces_beside t)
+pub of_account_shows : (old : State) (account : ℕ) → Says old of_account_query (Int (pos account) ∷ []) (λ (xs : List JoinedRow) rows. AllZip joined_reads rows xs)
+    (λ t xs. map joined_in xs ≡ filter (λ (a : PieceRow × Lot). int_eq (pos a.0.account) (pos account)) (pieces_beside t))
 of_account_shows old account t it xs rows answer read =
     let q = λ (a : PieceRow × Lot). int_eq (pos a.0.account) (pos account) in
     let shown = shows_rising of_account_where (Int (pos account) ∷ []) old t it q (λ a. last_term (at_ints false Eq (pos a.0.account) (pos account))) rows answer in
@@ -189,20 +162,12 @@ expiring_where = op2 (Compare Eq Binary) (col 1 4) (lit (Int (pos 1))) ∷ op2 (
 abbrev pub expiring_query : Query
 expiring_query = joined_query expiring_where rising (negsuc 0)
 
-pub expiring_is : (command_of (understood registry_schema expiring_text) ≡ Select (record { lets = []; body = expiring_query }) joined_names) × (reads_listing registry_schema expiring_text ≡ false)
+pub expiring_asks : Asks expiring_text expiring_query (λ (a : List ℕ). Text a ∷ [])
 unfolding understood everything
-expiring_is = (refl, refl)
+expiring_asks = record { names = _; is = refl; plain = (refl, refl); unlisted = refl; suits = λ _. refl }
 
-pub expiring_plain : IsPlain (understood registry_schema expiring_text)
-unfolding understood everything
-expiring_plain = (refl, refl)
-
-pub expiring_suits : (a : List ℕ) → is_suited registry_schema expiring_text expiring_query (Text a ∷ []) ≡ true
-unfolding understood everything
-expiring_suits a = refl
-
-pub expiring_shows : (old : State) (day : List ℕ) (t : Tables) → Stands old.now t → (xs : List JoinedRow) (rows : List Row) → IsAnswer expiring_query (overlay old.now.trees []) (Text day ∷ []) rows → AllZip joined_reads rows xs
-    → map joined_in xs ≡ filter (λ (a : PieceRow × Lot). int_eq (pos a.0.kind) (pos 1) && both_and bytes_lt a.1.expires_on (Some day)) (pieces_beside t)
+pub expiring_shows : (old : State) (day : List ℕ) → Says old expiring_query (Text day ∷ []) (λ (xs : List JoinedRow) rows. AllZip joined_reads rows xs)
+    (λ t xs. map joined_in xs ≡ filter (λ (a : PieceRow × Lot). int_eq (pos a.0.kind) (pos 1) && both_and bytes_lt a.1.expires_on (Some day)) (pieces_beside t))
 expiring_shows old day t it xs rows answer read =
     let q = λ (a : PieceRow × Lot). int_eq (pos a.0.kind) (pos 1) && both_and bytes_lt a.1.expires_on (Some day) in
     let shown = shows_rising expiring_where (Text day ∷ []) old t it q (λ a. then_term (at_ints false Eq (pos a.0.kind) (pos 1)) (last_term (at_nullable Text false Lt bytes_lt (at_texts false Lt) a.1.expires_on (Some day)))) rows answer in
@@ -219,20 +184,12 @@ next_of_where = op2 (Compare Eq Binary) (col 1 5) (col 0 0) ∷ op2 (Compare Gt 
 abbrev pub next_of_query : Query
 next_of_query = joined_query next_of_where rising (pos 1)
 
-pub next_of_is : (command_of (understood registry_schema next_of_text) ≡ Select (record { lets = []; body = next_of_query }) joined_names) × (reads_listing registry_schema next_of_text ≡ false)
+pub next_of_asks : Asks next_of_text next_of_query (λ (a : ℕ × ℕ). Int (pos a.0) ∷ Int (pos a.1) ∷ [])
 unfolding understood everything
-next_of_is = (refl, refl)
+next_of_asks = record { names = _; is = refl; plain = (refl, refl); unlisted = refl; suits = λ _. refl }
 
-pub next_of_plain : IsPlain (understood registry_schema next_of_text)
-unfolding understood everything
-next_of_plain = (refl, refl)
-
-pub next_of_suits : (a : ℕ) (b : ℕ) → is_suited registry_schema next_of_text next_of_query (Int (pos a) ∷ Int (pos b) ∷ []) ≡ true
-unfolding understood everything
-next_of_suits a b = refl
-
-pub next_of_shows : (old : State) (account : ℕ) (after : ℕ) (t : Tables) → Stands old.now t → (x : Option JoinedRow) (rows : List Row) → IsAnswer next_of_query (overlay old.now.trees []) (Int (pos account) ∷ Int (pos after) ∷ []) rows → FirstZip joined_reads rows x
-    → option_map joined_in x ≡ find (λ (a : PieceRow × Lot). int_eq (pos a.0.account) (pos account) && nat_lt after a.0.first) (pieces_beside t)
+pub next_of_shows : (old : State) (account : ℕ) (after : ℕ) → Says old next_of_query (Int (pos account) ∷ Int (pos after) ∷ []) (λ (x : Option JoinedRow) rows. FirstZip joined_reads rows x)
+    (λ t x. option_map joined_in x ≡ find (λ (a : PieceRow × Lot). int_eq (pos a.0.account) (pos account) && nat_lt after a.0.first) (pieces_beside t))
 next_of_shows old account after t it x rows answer read =
     let q = λ (a : PieceRow × Lot). int_eq (pos a.0.account) (pos account) && nat_lt after a.0.first in
     let shown = shows_first next_of_where (Int (pos account) ∷ Int (pos after) ∷ []) old t it q (λ a. then_term (at_ints false Eq (pos a.0.account) (pos account)) (last_term (at_ints false Gt (pos a.0.first) (pos after)))) rows answer in
@@ -249,20 +206,12 @@ next_due_where = op2 (Compare Eq Binary) (col 1 4) (lit (Int (pos 1))) ∷ op2 (
 abbrev pub next_due_query : Query
 next_due_query = joined_query next_due_where rising (pos 1)
 
-pub next_due_is : (command_of (understood registry_schema next_due_text) ≡ Select (record { lets = []; body = next_due_query }) joined_names) × (reads_listing registry_schema next_due_text ≡ false)
+pub next_due_asks : Asks next_due_text next_due_query (λ (a : List ℕ × ℕ). Text a.0 ∷ Int (pos a.1) ∷ [])
 unfolding understood everything
-next_due_is = (refl, refl)
+next_due_asks = record { names = _; is = refl; plain = (refl, refl); unlisted = refl; suits = λ _. refl }
 
-pub next_due_plain : IsPlain (understood registry_schema next_due_text)
-unfolding understood everything
-next_due_plain = (refl, refl)
-
-pub next_due_suits : (a : List ℕ) (b : ℕ) → is_suited registry_schema next_due_text next_due_query (Text a ∷ Int (pos b) ∷ []) ≡ true
-unfolding understood everything
-next_due_suits a b = refl
-
-pub next_due_shows : (old : State) (day : List ℕ) (after : ℕ) (t : Tables) → Stands old.now t → (x : Option JoinedRow) (rows : List Row) → IsAnswer next_due_query (overlay old.now.trees []) (Text day ∷ Int (pos after) ∷ []) rows → FirstZip joined_reads rows x
-    → option_map joined_in x ≡ find (λ (a : PieceRow × Lot). int_eq (pos a.0.kind) (pos 1) && (nat_lt after a.0.first && both_and bytes_lt a.1.expires_on (Some day))) (pieces_beside t)
+pub next_due_shows : (old : State) (day : List ℕ) (after : ℕ) → Says old next_due_query (Text day ∷ Int (pos after) ∷ []) (λ (x : Option JoinedRow) rows. FirstZip joined_reads rows x)
+    (λ t x. option_map joined_in x ≡ find (λ (a : PieceRow × Lot). int_eq (pos a.0.kind) (pos 1) && (nat_lt after a.0.first && both_and bytes_lt a.1.expires_on (Some day))) (pieces_beside t))
 next_due_shows old day after t it x rows answer read =
     let q = λ (a : PieceRow × Lot). int_eq (pos a.0.kind) (pos 1) && (nat_lt after a.0.first && both_and bytes_lt a.1.expires_on (Some day)) in
     let shown = shows_first next_due_where (Text day ∷ Int (pos after) ∷ []) old t it q (λ a. then_term (at_ints false Eq (pos a.0.kind) (pos 1)) (then_term (at_ints false Gt (pos a.0.first) (pos after)) (last_term (at_nullable Text false Lt bytes_lt (at_texts false Lt) a.1.expires_on (Some day))))) rows answer in

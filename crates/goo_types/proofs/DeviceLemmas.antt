@@ -7,7 +7,8 @@ use Rattle.std.specs.Str.{bytes_eq}
 use Rattle.goo_types.specs.declared.command.RegisterDevice.{RegisterDevice}
 use Rattle.goo_types.specs.contracts.support.Support.{the_type}
 use Rattle.goo_types.proofs.BoolLemmas.{Decides-and}
-use Rattle.goo_types.proofs.LotLemmas.{same_day, Decides-same_day, Decides-support}
+use Rattle.goo_types.specs.Equality.{same_day}
+use Rattle.goo_types.proofs.LotLemmas.{Decides-same_day, Decides-support}
 use denote.Enum.Bare.{sameb}
 
 -- what the derived comparison of registrations computes

@@ -11,6 +11,7 @@ pub mod Support
 pub mod Lot
 pub mod Place
 pub mod Range
+pub mod Equality
 pub mod Part
 pub mod Piece
 pub mod Notice

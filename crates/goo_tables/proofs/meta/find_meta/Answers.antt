@@ -1,19 +1,14 @@
-use Rattle.std.proofs.Common.{[]}
 use Rattle.sqlite.specs.Held.{state}
 use Rattle.goo_columns.specs.Readable.{meta_readable}
-use Rattle.goo_columns.proofs.Refusing.{fails_by}
-use Rattle.goo_columns.proofs.Reading.{looks}
-use Rattle.goo_tables.proofs.MetaTable.{find_text, find_query, find_is, find_plain, finds, find_suits}
+use Rattle.goo_tables.proofs.MetaTable.{finds, find_asks}
 use Rattle.goo_tables.proofs.meta.find_meta.Goals as goal
+use Rattle.goo_tables.proofs.Asking.{looks_up, refused}
 
 pub returns-clause-looks : goal.returns-clause-looks
 returns-clause-looks g c =
     let old = state g.S.Store c.args.conn.now in
-    let new = state g.S.Store c.ask_first.new.conn in
-    looks find_text find_query _ find_is.0 find_plain find_is.1 [] old new _ _ (finds old) c.ask_first.result c.ask_first.ensures.read c.ask_first.ensures.ran c.ask_first.ensures.survives
+    looks_up find_asks tt old (state g.S.Store c.ask_first.new.conn) c.ask_first.result _ _ (finds old) c.ask_first.ensures.read c.ask_first.ensures.ran c.ask_first.ensures.survives
 
 pub returns-clause-refused : goal.returns-clause-refused
 returns-clause-refused g c clean has unlimited =
-    let old = state g.S.Store c.args.conn.now in
-    let new = state g.S.Store c.ask_first.new.conn in
-    fails_by find_text find_query _ find_is.0 find_plain find_is.1 [] find_suits old new has unlimited meta_readable c.ask_first.result (c.ask_first.ensures.refused clean)
+    refused find_asks tt (state g.S.Store c.args.conn.now) (state g.S.Store c.ask_first.new.conn) c.ask_first.result meta_readable has unlimited (c.ask_first.ensures.refused clean)
