@@ -1,4 +1,4 @@
-use Rattle.std.proofs.Common.{◌≡◌, ◌∙◌, ap, sym}
+use Rattle.std.proofs.Common.{◌∙◌, ap, sym}
 use Rattle.goo_columns.specs.Rows.{Meta}
 use Rattle.goo_kept.specs.States.{state_of}
 use Rattle.goo_kept.specs.Texts.{day_of}
