@@ -16,7 +16,7 @@ use Rattle.goo_spec.specs.State.{State, Device, serials}
 use Rattle.goo_spec.specs.Declare.{device_checks, with_declaration, range_of, next_number, earned, lot_of, begins_too_early, last_end, declared_by, most_energy}
 use Rattle.goo_spec.specs.Energy.{carry}
 use Rattle.goo_shelf.specs.Shelf.{progress_of}
-use Rattle.goo_core.specs.Meta.{meta_of}
+use Rattle.goo_shelf.specs.Meta.{meta_of}
 use Rattle.goo_core.specs.declared.declare.Standing.{Standing}
 use Rattle.goo_core.specs.declared.issue.Issue.{Issue}
 use Rattle.goo_core.specs.declared.issue.Terms.{Terms}

@@ -1,6 +1,5 @@
 pub mod AccountRuns
 pub mod Edits
-pub mod Meta
 pub mod Verdict
 pub mod Issue
 pub mod Ruling

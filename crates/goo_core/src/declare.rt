@@ -15,11 +15,11 @@ ghost use Rattle.goo_core.specs.Issue.{IsStandingIf, IsStanding, appraisal_of, a
 use crate::callers::is_issuer;
 use crate::days::{is_before, is_over};
 use crate::issue::{Appraisal, Terms, issue_edits, issue_of, issued_range, numbers_from};
-use crate::own::{Meta, read_meta};
 use crate::ruling::{Change, Ruling};
 use goo_shelf::account::Account;
 use goo_shelf::device::Device;
 use goo_shelf::found::Progress;
+use goo_shelf::own::Meta;
 use goo_shelf::shelf::Shelf;
 use goo_types::command::Declare;
 use goo_types::day::Day;
@@ -118,16 +118,15 @@ fn most_energy(device: &Device, declaration: &Declare) -> u128
 fn read_standing<S: Shelf>(shelf: &mut S, device: &Gsrn) -> Result<Option<Standing>, Fault>
     ensures { Looks (S.seen shelf.old) (S.seen shelf.new) result (λ standing. IsStandingIf (S.seen shelf.old).state device.now standing) }
 {
-    let Some(found) = shelf.device(device)? else {
+    let Some(found) = shelf.device_record(device)? else {
         return Ok(None);
     };
-    let account = shelf.account(found.account())?;
-    let progress = shelf.progress(device)?;
-    let meta = read_meta(shelf)?;
+    let account = shelf.account(found.device.account())?;
+    let meta = shelf.registry()?;
     Ok(Some(Standing {
-        device: found,
+        device: found.device,
         account,
-        progress,
+        progress: found.progress,
         meta,
     }))
 }

@@ -11,11 +11,11 @@ ghost use Rattle.goo_core.specs.Ruling.{IsRuling};
 
 use crate::callers::is_holder;
 use crate::change::move_met;
-use crate::own::{Meta, read_meta};
 use crate::parts::parts_in;
 use crate::range_checks::trade_refusal;
 use crate::ruling::{Change, Ruling};
 use goo_ranges::Book;
+use goo_shelf::own::Meta;
 use goo_shelf::shelf::Shelf;
 use goo_types::act_no::ActNo;
 use goo_types::command::Export;
@@ -117,7 +117,7 @@ pub fn judge_export<S: Shelf>(
     }
     let range = export.range;
     let _first = range.first();
-    let meta = read_meta(shelf)?;
+    let meta = shelf.registry()?;
     let met = shelf.meeting(alloc, range)?;
     send_certificates(alloc, met, export, &meta)
 }

@@ -4,11 +4,11 @@ ghost use Rattle.goo_types.specs.Notice.{IsWhole};
 ghost use Rattle.goo_types.specs.declared.fault.Fault.TheVariants.{Memory};
 ghost use Rattle.goo_types.specs.declared.piece.Piece.{Piece as Row};
 ghost use Rattle.goo_spec.specs.Checks.{first_refusal};
-ghost use Rattle.goo_spec.specs.Import.{entry_checks};
 ghost use Rattle.goo_spec.specs.Maps.{count_of};
 ghost use Rattle.goo_rows.specs.Rows.{AreRowsOf};
+ghost use Rattle.goo_shelf.specs.Meta.{meta_of};
 ghost use Rattle.goo_shelf.specs.Shelf.{Looks, IsReady};
-ghost use Rattle.goo_core.specs.Import.{IsArriving, AreArriving, standing_checks, fresh_meaning, import_meaning};
+ghost use Rattle.goo_core.specs.Import.{IsEntry, IsArriving, AreArriving, standing_checks, fresh_meaning, import_meaning};
 ghost use Rattle.goo_core.specs.Taking.{IsTakeRuling, AreMet};
 ghost use Rattle.goo_core.specs.Ruling.{IsRuling};
 
@@ -18,9 +18,11 @@ use crate::ruling::{Change, Ruling};
 use crate::taking::take_parts;
 use goo_ranges::Book;
 use goo_shelf::found::Arrival;
+use goo_shelf::own::Meta;
 use goo_shelf::shelf::Shelf;
 use goo_types::account_no::AccountNo;
 use goo_types::command::Import;
+use goo_types::day::Day;
 use goo_types::fault::Fault;
 use goo_types::holder_code::HolderCode;
 use goo_types::part::Part;
@@ -29,30 +31,35 @@ use goo_types::registry_code::RegistryCode;
 use goo_types::reply::Reply;
 use std::alloc::{AllocError, Global};
 
-/// The checks of an import before that for the same notice.
-fn entry_refusal<S: Shelf>(
+/// What the registry knows of itself, or the first check before that for the same notice that fails.
+fn enter<S: Shelf>(
     shelf: &mut S,
     caller: &HolderCode,
     import: &Import,
-) -> Result<Option<Refusal>, Fault>
+) -> Result<Result<Meta, Refusal>, Fault>
     requires { IsReady (S.seen shelf.old) }
-    ensures { Looks (S.seen shelf.old) (S.seen shelf.new) result (λ refusal. refusal ≡ first_refusal (entry_checks (S.seen shelf.old).state caller.now import.now)) }
+    ensures { Looks (S.seen shelf.old) (S.seen shelf.new) result (IsEntry (S.seen shelf.old).state caller.now import.now) }
 {
     if !is_issuer(caller) {
-        return Ok(Some(Refusal::NotAllowed));
+        return Ok(Err(Refusal::NotAllowed));
     }
-    if import.notice.addressee() != shelf.code()? {
-        return Ok(Some(Refusal::WrongRegistry));
+    let meta = shelf.registry()?;
+    if import.notice.addressee() != meta.code {
+        return Ok(Err(Refusal::WrongRegistry));
     }
     if !shelf.peer(import.notice.sender())? {
-        return Ok(Some(Refusal::UnknownPeer));
+        return Ok(Err(Refusal::UnknownPeer));
     }
-    Ok(None)
+    Ok(Ok(meta))
 }
 
-/// The checks of the account that is to hold the certificates, and of their age.
-fn standing_refusal<S: Shelf>(shelf: &mut S, import: &Import) -> Result<Option<Refusal>, Fault>
-    ensures { Looks (S.seen shelf.old) (S.seen shelf.new) result (λ refusal. refusal ≡ first_refusal (standing_checks (S.seen shelf.old).state import.now)) }
+/// The checks of the account that is to hold the certificates, and of their age on a day.
+fn standing_refusal<S: Shelf>(
+    shelf: &mut S,
+    import: &Import,
+    today: Day,
+) -> Result<Option<Refusal>, Fault>
+    ensures { Looks (S.seen shelf.old) (S.seen shelf.new) result (λ refusal. today ≡ (S.seen shelf.old).state.today → refusal ≡ first_refusal (standing_checks (S.seen shelf.old).state import.now)) }
 {
     let Some(account) = shelf.account(import.notice.account())? else {
         return Ok(Some(Refusal::UnknownAccount));
@@ -60,7 +67,6 @@ fn standing_refusal<S: Shelf>(shelf: &mut S, import: &Import) -> Result<Option<R
     if account.is_closed() {
         return Ok(Some(Refusal::AccountClosed));
     }
-    let today = shelf.today()?;
     if is_stale(import.notice.parts(), today) {
         return Ok(Some(Refusal::Stale));
     }
@@ -153,34 +159,39 @@ fn take_in(
     }
 }
 
-/// What an import comes to whose notice is new, once its account may hold.
+/// What an import comes to whose notice is new, once its account may hold, in the registry of a code.
 fn import_certificates<S: Shelf>(
     alloc: Global,
     shelf: &mut S,
     import: &Import,
+    own: RegistryCode,
 ) -> Result<Ruling, Fault>
     requires ready { IsReady (S.seen shelf.old) }
     requires rows { (S.seen shelf.old).doubts ≡ 0 → AreRowsOf (S.seen shelf.old).state.at (S.seen shelf.old).rows }
-    ensures { Looks (S.seen shelf.old) (S.seen shelf.new) result (λ ruling. first_refusal (standing_checks (S.seen shelf.old).state import.now) ≡ None → IsRuling (fresh_meaning (S.seen shelf.old).state import.now) (S.seen shelf.old).rows ruling) }
+    ensures { Looks (S.seen shelf.old) (S.seen shelf.new) result (λ ruling. own ≡ (S.seen shelf.old).state.own → first_refusal (standing_checks (S.seen shelf.old).state import.now) ≡ None → IsRuling (fresh_meaning (S.seen shelf.old).state import.now) (S.seen shelf.old).rows ruling) }
 {
     let notice = &import.notice;
     let parts = notice.parts();
     let count = count_in_all(parts);
     let account = notice.account();
     let arriving = arrive_all(alloc, shelf, parts)?;
-    let own = shelf.code()?;
     take_in(alloc, &arriving, own, account, count)
 }
 
-/// What an import comes to whose notice is new.
-fn judge_fresh<S: Shelf>(alloc: Global, shelf: &mut S, import: &Import) -> Result<Ruling, Fault>
+/// What an import comes to whose notice is new, in a registry that knows this of itself.
+fn judge_fresh<S: Shelf>(
+    alloc: Global,
+    shelf: &mut S,
+    import: &Import,
+    meta: &Meta,
+) -> Result<Ruling, Fault>
     requires { (S.seen shelf.old).doubts ≡ 0 → AreRowsOf (S.seen shelf.old).state.at (S.seen shelf.old).rows }
-    ensures { Looks (S.seen shelf.old) (S.seen shelf.new) result (IsRuling (fresh_meaning (S.seen shelf.old).state import.now) (S.seen shelf.old).rows) }
+    ensures { Looks (S.seen shelf.old) (S.seen shelf.new) result (λ ruling. meta.now ≡ meta_of (S.seen shelf.old).state → IsRuling (fresh_meaning (S.seen shelf.old).state import.now) (S.seen shelf.old).rows ruling) }
 {
-    if let Some(refusal) = standing_refusal(shelf, import)? {
+    if let Some(refusal) = standing_refusal(shelf, import, meta.today)? {
         return Ok(Ruling::Refused(refusal));
     }
-    import_certificates(alloc, shelf, import)
+    import_certificates(alloc, shelf, import, meta.code)
 }
 
 /// What an import comes to.
@@ -194,14 +205,15 @@ pub fn judge_import<S: Shelf>(
     requires rows { (S.seen shelf.old).doubts ≡ 0 → AreRowsOf (S.seen shelf.old).state.at (S.seen shelf.old).rows }
     ensures { Looks (S.seen shelf.old) (S.seen shelf.new) result (IsRuling (import_meaning (S.seen shelf.old).state caller.now import.now) (S.seen shelf.old).rows) }
 {
-    if let Some(refusal) = entry_refusal(shelf, caller, import)? {
-        return Ok(Ruling::Refused(refusal));
-    }
+    let meta = match enter(shelf, caller, import)? {
+        Ok(meta) => meta,
+        Err(refusal) => return Ok(Ruling::Refused(refusal)),
+    };
     match shelf.arrived(alloc, &import.notice)? {
         Arrival::Same => Ok(Ruling::Repeated(Reply::Imported {
             count: count_in_all(import.notice.parts()),
         })),
         Arrival::Other => Ok(Ruling::Refused(Refusal::NoticeConflict)),
-        Arrival::Absent => judge_fresh(alloc, shelf, import),
+        Arrival::Absent => judge_fresh(alloc, shelf, import, &meta),
     }
 }

@@ -16,7 +16,6 @@ mod import;
 mod issue;
 mod open_account;
 mod open_holder;
-mod own;
 mod parts;
 mod range_checks;
 mod register_device;

@@ -3,19 +3,17 @@ ghost use Rattle.std.specs.Prelude.{◌≡◌, [], refl, is_ok, length, OnOk, tr
 ghost use Rattle.sqlite_disk.specs.Disk.{Holds, Torn, Cut, CountsFault};
 ghost use Rattle.sqlite_disk.specs.Refusal.{finds_no_room};
 
-use sqlite_disk::{Disk, Tally, digest_of};
+use sqlite_disk::{Disk, Tally};
 use std::alloc::{AllocError, Global};
 use std::io;
 
 /// A file in memory. What is written is there at once, so a crash of what is above it leaves what it holds; it never
-/// answers with other bytes than were written, so nothing has to be supposed of it.
+/// answers with other bytes than were written, so nothing has to be supposed of it, and a read need not judge digests.
 #[derive(Drop)]
 pub struct MemoryFile {
     bytes: Vec<u8>,
     /// How many calls have failed.
     faults: u64,
-    /// How many of them were reads of other bytes than the reader knew of.
-    caught: u64,
 }
 
 impl MemoryFile {
@@ -28,7 +26,6 @@ impl MemoryFile {
         MemoryFile {
             bytes: Vec::new(alloc),
             faults: 0,
-            caught: 0,
         }
     }
 }
@@ -44,7 +41,7 @@ impl Disk for MemoryFile {
 
     ghost is_clean = { λ _. true };
 
-    ghost tally_of = { λ m. record { caught = m.caught; refused = 0 } };
+    ghost tally_of = { λ _. record { caught = 0; refused = 0 } };
 
     ghost key_of = { λ _. 0 };
 
@@ -65,7 +62,7 @@ impl Disk for MemoryFile {
 
     fn tally(&self) -> Tally {
         Tally {
-            caught: self.caught,
+            caught: 0,
             refused: 0,
         }
     }
@@ -86,14 +83,9 @@ impl Disk for MemoryFile {
         Ok(())
     }
 
-    fn read_checked(&mut self, key: u64, want: u64, at: usize, buf: &mut [u8]) -> io::Result<()> {
-        self.read_at(at, buf)?;
-        if digest_of(key, buf) != want {
-            self.faults = self.faults.saturating_add(1);
-            self.caught = self.caught.saturating_add(1);
-            return Err(io::ErrorKind::InvalidData.into());
-        }
-        Ok(())
+    // What the reader knows of the bytes is right, and they are those that were written: there is nothing to judge.
+    fn read_checked(&mut self, _key: u64, _want: u64, at: usize, buf: &mut [u8]) -> io::Result<()> {
+        self.read_at(at, buf)
     }
 
     fn write_at(&mut self, at: usize, bytes: &[u8]) -> io::Result<()> {

@@ -3,6 +3,7 @@ use Rattle.std.specs.Prelude.{ℕ, List, find, Option, Some, None, option_map}
 use Rattle.sqlite_typed.specs.Tests.{bytes_eq}
 use Rattle.goo_types.specs.declared.command.Declare.{Declare}
 use Rattle.goo_spec.specs.State.{Device}
+use Rattle.goo_shelf.specs.declared.found.DeviceRecord.{DeviceRecord}
 use Rattle.goo_shelf.specs.declared.found.Progress.{Progress}
 use Rattle.goo_columns.specs.Rows as row
 use Rattle.goo_columns.specs.Rows.{Kept}
@@ -31,6 +32,10 @@ declaration_of d = record { device = d.device; first_day = day_of d.first_day; l
 abbrev pub progress_in : Option row.Device → Progress
 progress_in None = record { last_day = None; carry = 0 }
 progress_in (Some d) = record { last_day = option_map day_of d.last_day; carry = d.carry }
+
+-- what the row of a device tells of it
+abbrev pub record_in : Option row.Device → Option DeviceRecord
+record_in found = option_map (λ d. record { device = device_of d; progress = progress_in (Some d) }) found
 
 -- the row of a device
 abbrev pub device_row : List (Kept row.Device) → List ℕ → Option row.Device

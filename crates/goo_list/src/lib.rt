@@ -20,5 +20,6 @@ mod rows;
 mod shelf;
 #[cfg(test)]
 mod tests;
+mod together;
 mod totals;
 mod withdraw_record;

@@ -8,7 +8,8 @@ use goo_shelf::account::Account;
 use goo_shelf::cancel_record::CancelRecord;
 use goo_shelf::counters::Counters;
 use goo_shelf::device::Device;
-use goo_shelf::found::{Arrival, DeviceTotals, Progress, Receipt};
+use goo_shelf::found::{Arrival, DeviceRecord, DeviceTotals, Progress, Receipt};
+use goo_shelf::own::Meta;
 use goo_shelf::plan::Plan;
 use goo_shelf::sent::Sent;
 use goo_shelf::shelf::Shelf;
@@ -37,6 +38,10 @@ impl Shelf for ListShelf {
         0
     }
 
+    fn registry(&mut self) -> Result<Meta, Fault> {
+        Ok(self.own_meta())
+    }
+
     fn code(&mut self) -> Result<RegistryCode, Fault> {
         Ok(self.own)
     }
@@ -62,7 +67,11 @@ impl Shelf for ListShelf {
     }
 
     fn progress(&mut self, device: &Gsrn) -> Result<Progress, Fault> {
-        Ok(self.production.progress(device))
+        Ok(self.progress_for(device))
+    }
+
+    fn device_record(&mut self, device: &Gsrn) -> Result<Option<DeviceRecord>, Fault> {
+        Ok(self.record_of(device))
     }
 
     fn receipt(

@@ -2,7 +2,8 @@ use crate::account::Account;
 use crate::cancel_record::CancelRecord;
 use crate::counters::Counters;
 use crate::device::Device;
-use crate::found::{Arrival, DeviceTotals, Progress, Receipt};
+use crate::found::{Arrival, DeviceRecord, DeviceTotals, Progress, Receipt};
+use crate::own::Meta;
 use crate::plan::Plan;
 use crate::sent::Sent;
 use goo_types::account_no::AccountNo;
@@ -34,8 +35,9 @@ pub trait Shelf {
     ghost use Rattle.goo_spec.specs.Lots.{lot_key};
     ghost use Rattle.goo_rows.specs.Rows.{meeting as near};
     ghost use Rattle.goo_shelf.specs.Counters.{counters_of};
+    ghost use Rattle.goo_shelf.specs.Meta.{meta_of};
     ghost use Rattle.goo_shelf.specs.Rows.{expiring_on, naming_account};
-    ghost use Rattle.goo_shelf.specs.Shelf.{Moment, Looks, IsSafe, progress_of, receipt_of, arrival_of, totals_of};
+    ghost use Rattle.goo_shelf.specs.Shelf.{Moment, Looks, IsSafe, progress_of, IsRecordOf, receipt_of, arrival_of, totals_of};
     ghost use Rattle.goo_shelf.specs.Plan.{Fits, Commits};
 
     /// What it keeps, and how well, at this moment.
@@ -45,6 +47,10 @@ pub trait Shelf {
     /// shelf, and 1 from the first one on.
     fn refused_calls(&self) -> u64
         ensures { result ≡ (seen self.now).refusals };
+
+    /// What the registry knows of itself, in one look-up.
+    fn registry(&mut self) -> Result<Meta, Fault>
+        ensures { Looks (seen self.old) (seen self.new) result (λ meta. meta ≡ meta_of (seen self.old).state) };
 
     /// The registry's own code.
     fn code(&mut self) -> Result<RegistryCode, Fault>
@@ -73,6 +79,10 @@ pub trait Shelf {
     /// A device's last accepted period and its carry.
     fn progress(&mut self, device: &Gsrn) -> Result<Progress, Fault>
         ensures { Looks (seen self.old) (seen self.new) result (λ progress. progress ≡ progress_of (seen self.old).state device.now) };
+
+    /// A device with its last accepted period and its carry, in one look-up.
+    fn device_record(&mut self, device: &Gsrn) -> Result<Option<DeviceRecord>, Fault>
+        ensures { Looks (seen self.old) (seen self.new) result (IsRecordOf (seen self.old).state device.now) };
 
     /// What is kept for a caller's key, seen from a command.
     fn receipt(

@@ -1,11 +1,11 @@
 //! Devices, as they are found.
 
-ghost use Rattle.std.specs.Prelude.{◌≡◌, IfOk, option_map, string_bytes};
+ghost use Rattle.std.specs.Prelude.{◌≡◌, Some, IfOk, option_map, string_bytes};
 ghost use Rattle.std.specs.FinMap.{get};
 ghost use Rattle.sqlite.specs.Held.{state as view};
 ghost use Rattle.goo_columns.specs.Rows.{device_in};
-ghost use Rattle.goo_shelf.specs.Shelf.{Looks, progress_of};
-ghost use Rattle.goo_kept.specs.Devices.{device_of, progress_in};
+ghost use Rattle.goo_shelf.specs.Shelf.{Looks, progress_of, IsRecordOf};
+ghost use Rattle.goo_kept.specs.Devices.{device_of, progress_in, record_in};
 ghost use Rattle.goo_store.specs.Moments.{moment};
 ghost use Rattle.goo_store.specs.Telling.{Passes};
 ghost use Rattle.goo_kept.specs.Texts.{day_of};
@@ -16,7 +16,7 @@ use crate::trouble::{Trouble, told};
 use crate::{numbers, texts};
 use goo_columns::device::DeviceRow;
 use goo_shelf::device::Device;
-use goo_shelf::found::Progress;
+use goo_shelf::found::{DeviceRecord, Progress};
 use goo_tables::device::find_device;
 use goo_types::command::RegisterDevice;
 use goo_types::day::Day;
@@ -62,6 +62,16 @@ fn maybe_day(text: &Option<String>) -> Result<Option<Day>, Trouble>
     }
 }
 
+/// The last accepted period's end and the carry in the row of a device.
+fn progress_in_row(row: &DeviceRow) -> Result<Progress, Trouble>
+    ensures { IfOk result (λ progress. progress ≡ progress_in (Some (device_in row.now))) }
+{
+    Ok(Progress {
+        last_day: maybe_day(&row.last_day)?,
+        carry: numbers::wh(row.carry)?,
+    })
+}
+
 /// The last accepted period's end and the carry in the row of a device; neither is there without a row.
 fn read_progress(found: Result<Option<DeviceRow>, Error>) -> Result<Progress, Trouble>
     ensures { Passes found result (λ row progress. progress ≡ progress_in (option_map device_in row)) }
@@ -72,10 +82,19 @@ fn read_progress(found: Result<Option<DeviceRow>, Error>) -> Result<Progress, Tr
             carry: numbers::wh(0)?,
         });
     };
-    Ok(Progress {
-        last_day: maybe_day(&row.last_day)?,
-        carry: numbers::wh(row.carry)?,
-    })
+    progress_in_row(&row)
+}
+
+/// The device with its progress, if there is one.
+fn read_record(found: Result<Option<DeviceRow>, Error>) -> Result<Option<DeviceRecord>, Trouble>
+    ensures { Passes found result (λ row found. found ≡ record_in (option_map device_in row)) }
+{
+    let Some(row) = found? else {
+        return Ok(None);
+    };
+    let device = device_in_row(&row)?;
+    let progress = progress_in_row(&row)?;
+    Ok(Some(DeviceRecord { device, progress }))
 }
 
 impl<S: Alter> SqlShelf<S> {
@@ -99,5 +118,16 @@ impl<S: Alter> SqlShelf<S> {
         }
         let found = find_device(self.alloc, &mut self.conn, device.text());
         told(read_progress(found), &mut self.refused)
+    }
+
+    /// A device with its last accepted period and its carry.
+    pub(crate) fn record_for(&mut self, device: &Gsrn) -> Result<Option<DeviceRecord>, Fault>
+        ensures { Looks (moment (view S.Store self.old.conn) self.old.refused) (moment (view S.Store self.new.conn) self.new.refused) result (IsRecordOf (moment (view S.Store self.old.conn) self.old.refused).state device.now) }
+    {
+        if self.refused {
+            return Err(Fault::Store);
+        }
+        let found = find_device(self.alloc, &mut self.conn, device.text());
+        told(read_record(found), &mut self.refused)
     }
 }

@@ -5,7 +5,8 @@ use goo_shelf::account::Account;
 use goo_shelf::cancel_record::CancelRecord;
 use goo_shelf::counters::Counters;
 use goo_shelf::device::Device;
-use goo_shelf::found::{Arrival, DeviceTotals, Progress, Receipt};
+use goo_shelf::found::{Arrival, DeviceRecord, DeviceTotals, Progress, Receipt};
+use goo_shelf::own::Meta;
 use goo_shelf::plan::Plan;
 use goo_shelf::sent::Sent;
 use goo_shelf::shelf::Shelf;
@@ -37,6 +38,10 @@ impl<S: Alter> Shelf for SqlShelf<S> {
         self.count_refused()
     }
 
+    fn registry(&mut self) -> Result<Meta, Fault> {
+        self.own_meta()
+    }
+
     fn code(&mut self) -> Result<RegistryCode, Fault> {
         self.own_code()
     }
@@ -63,6 +68,10 @@ impl<S: Alter> Shelf for SqlShelf<S> {
 
     fn progress(&mut self, device: &Gsrn) -> Result<Progress, Fault> {
         self.progress_for(device)
+    }
+
+    fn device_record(&mut self, device: &Gsrn) -> Result<Option<DeviceRecord>, Fault> {
+        self.record_for(device)
     }
 
     fn receipt(

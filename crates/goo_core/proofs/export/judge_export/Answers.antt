@@ -1,8 +1,8 @@
 use Rattle.std.proofs.Common.{◌≡◌, ◌∙◌, refl, sym, subst}
 use Rattle.goo_rows.specs.Rows.{meeting}
-use Rattle.goo_core.specs.Meta.{meta_of}
+use Rattle.goo_shelf.specs.Meta.{meta_of}
 use Rattle.goo_core.specs.Export.{IsExportRuling}
-use Rattle.goo_core.specs.declared.own.Meta.{Meta}
+use Rattle.goo_shelf.specs.declared.own.Meta.{Meta}
 use Rattle.goo_core.proofs.Looking.{looked, looked_or_full, looked_then}
 use Rattle.goo_core.proofs.Exporting.{entry-fails, ruled_export}
 use Rattle.goo_core.proofs.export.judge_export.Goals as goal

@@ -1,41 +1,47 @@
-use Rattle.std.proofs.Common.{◌≡◌, ◌∙◌, List, sym, ap}
+use Rattle.std.proofs.Common.{◌≡◌, ◌∙◌, List, sym, ap, subst}
 use Rattle.std.specs.Prelude.{sum_by}
 use Rattle.std.specs.FinMap.{get}
 use Rattle.goo_types.specs.declared.part.Part.{Part}
 use Rattle.goo_spec.specs.Maps.{count_of}
+use Rattle.goo_shelf.specs.Meta.{meta_of}
 use Rattle.goo_shelf.specs.Shelf.{arrival_of}
-use Rattle.goo_core.specs.Import.{fresh_meaning}
+use Rattle.goo_core.specs.Import.{IsEntry, fresh_meaning}
 use Rattle.goo_core.specs.Ruling.{IsRuling}
 use Rattle.goo_core.proofs.Importing.{ruled_early, ruled_same, ruled_other, ruled_absent}
 use Rattle.goo_core.proofs.Looking.{looked, looked_then, looked_as}
 use Rattle.goo_core.proofs.import.judge_import.Goals as goal
 
-pub returns-in-Some : goal.returns-in-Some
-returns-in-Some g c =
+pub returns-in-Err : goal.returns-in-Err
+returns-in-Err g c =
     let old = g.S.Shelf.seen c.args.shelf.now in
-    looked _ _ _ _ _ _ c.in_ok-refusal.ensures (λ none is. ruled_early old.state old.rows c.args.caller.now c.args.import.now c.in-Some.refusal (sym is ∙ c.in-Some.is))
+    looked _ _ _ _ _ _ c.in_ok-meta.ensures (λ none entry. ruled_early old.state old.rows c.args.caller.now c.args.import.now c.in-Err.refusal (subst (IsEntry old.state c.args.caller.now c.args.import.now) c.in-Err.is entry))
 
 pub returns-in-Same : goal.returns-in-Same
 returns-in-Same g c =
     let old = g.S.Shelf.seen c.args.shelf.now in
     let x = c.args.import.now in
-    let both = looked_then _ _ _ c.in_ok-refusal.field-0 _ _ (λ s rows arrival. arrival ≡ arrival_of (get s.arrived (x.notice.sender, x.notice.number)) x.notice) c.in_ok-refusal.ensures c.in_ok-arrived.ensures in
+    let both = looked_then _ _ _ c.in_ok-meta.field-0 _ _ (λ s rows arrival. arrival ≡ arrival_of (get s.arrived (x.notice.sender, x.notice.number)) x.notice) c.in_ok-meta.ensures c.in_ok-arrived.ensures in
     looked _ _ _ _ _ _ both (λ none found.
-    ruled_same old.state old.rows c.args.caller.now x c.count_in_all.result (sym found.0 ∙ c.in_default.is) (sym c.in-Same.is ∙ found.1)
+    let entry = subst (IsEntry old.state c.args.caller.now x) c.in-Ok.is found.0 in
+    ruled_same old.state old.rows c.args.caller.now x c.count_in_all.result entry.0 (sym c.in-Same.is ∙ found.1)
     (c.count_in_all.ensures ∙ ap (λ (ps : List Part). sum_by (λ p. count_of p.range) ps) c.parts.ensures.value))
 
 pub returns-in-Other : goal.returns-in-Other
 returns-in-Other g c =
     let old = g.S.Shelf.seen c.args.shelf.now in
     let x = c.args.import.now in
-    let both = looked_then _ _ _ c.in_ok-refusal.field-0 _ _ (λ s rows arrival. arrival ≡ arrival_of (get s.arrived (x.notice.sender, x.notice.number)) x.notice) c.in_ok-refusal.ensures c.in_ok-arrived.ensures in
-    looked _ _ _ _ _ _ both (λ none found. ruled_other old.state old.rows c.args.caller.now x (sym found.0 ∙ c.in_default.is) (sym c.in-Other.is ∙ found.1))
+    let both = looked_then _ _ _ c.in_ok-meta.field-0 _ _ (λ s rows arrival. arrival ≡ arrival_of (get s.arrived (x.notice.sender, x.notice.number)) x.notice) c.in_ok-meta.ensures c.in_ok-arrived.ensures in
+    looked _ _ _ _ _ _ both (λ none found.
+    let entry = subst (IsEntry old.state c.args.caller.now x) c.in-Ok.is found.0 in
+    ruled_other old.state old.rows c.args.caller.now x entry.0 (sym c.in-Other.is ∙ found.1))
 
 pub returns-in-Absent : goal.returns-in-Absent
 returns-in-Absent g c =
     let old = g.S.Shelf.seen c.args.shelf.now in
     let x = c.args.import.now in
-    let both = looked_then _ _ _ c.in_ok-refusal.field-0 _ _ (λ s rows arrival. arrival ≡ arrival_of (get s.arrived (x.notice.sender, x.notice.number)) x.notice) c.in_ok-refusal.ensures c.in_ok-arrived.ensures in
-    let all = looked_then _ _ _ c.in_ok-arrived.field-0 _ _ (λ s rows ruling. IsRuling (fresh_meaning s x) rows ruling) both c.judge_fresh.ensures in
+    let meta = c.in-Ok.meta in
+    let both = looked_then _ _ _ c.in_ok-meta.field-0 _ _ (λ s rows arrival. arrival ≡ arrival_of (get s.arrived (x.notice.sender, x.notice.number)) x.notice) c.in_ok-meta.ensures c.in_ok-arrived.ensures in
+    let all = looked_then _ _ _ c.in_ok-arrived.field-0 _ _ (λ s rows ruling. meta ≡ meta_of s → IsRuling (fresh_meaning s x) rows ruling) both c.judge_fresh.ensures in
     looked_as old _ c.judge_fresh.result _ _ all (λ none ruling found.
-    ruled_absent old.state old.rows c.args.caller.now x ruling (sym found.0.0 ∙ c.in_default.is) (sym c.in-Absent.is ∙ found.0.1) found.1)
+    let entry = subst (IsEntry old.state c.args.caller.now x) c.in-Ok.is found.0.0 in
+    ruled_absent old.state old.rows c.args.caller.now x ruling entry.0 (sym c.in-Absent.is ∙ found.0.1) (found.1 entry.1))

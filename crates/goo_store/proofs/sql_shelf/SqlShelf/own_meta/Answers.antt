@@ -1,7 +1,7 @@
 use Rattle.sqlite.specs.Held.{state as view}
-use Rattle.goo_kept.specs.States.{state_of}
+use Rattle.goo_store.specs.Moments.{tables_in}
 use Rattle.goo_store.proofs.Looking.{looked, refused_look, well}
-use Rattle.goo_store.proofs.sql_shelf.SqlShelf.own_code.Goals as goal
+use Rattle.goo_store.proofs.sql_shelf.SqlShelf.own_meta.Goals as goal
 
 pub returns-then-self : goal.returns-then-self
 returns-then-self g c = refused_look (view g.S.Store c.args.self.now.conn) c.args.self.now.well c.args.self.now.refused c.if-self.true (λ live db may. g.met.S.Store.settled c.args.self.now.conn.store db live may) _
@@ -13,8 +13,7 @@ invariant_of-self g c = record {
 }
 
 pub returns : goal.returns
-unfolding state_of
 returns g c =
-    looked (view g.S.Store c.args.self.now.conn) (view g.S.Store c.find_meta-found.new.conn) c.args.self.now.well _ _ c.find_meta-found.ensures.looks _ _ c.read_code.result
-    c.args.self.now.refused c.told.new.refused c.told.result (λ live db may. g.met.S.Store.settled c.args.self.now.conn.store db live may) c.if-self.false c.read_code.ensures c.told.ensures
-    (λ kept row x found read. read _ found)
+    looked (view g.S.Store c.args.self.now.conn) (view g.S.Store c.find_meta-found.new.conn) c.args.self.now.well _ _ c.find_meta-found.ensures.looks _ _ c.read_meta.result
+    c.args.self.now.refused c.told.new.refused c.told.result (λ live db may. g.met.S.Store.settled c.args.self.now.conn.store db live may) c.if-self.false c.read_meta.ensures c.told.ensures
+    (λ kept row meta found read. read (tables_in (view g.S.Store c.args.self.now.conn)) found)

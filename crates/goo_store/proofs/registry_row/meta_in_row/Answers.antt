@@ -1,0 +1,13 @@
+use Rattle.std.proofs.Common.{◌∙◌, ap, sym}
+use Rattle.goo_columns.specs.Rows.{Meta}
+use Rattle.goo_kept.specs.States.{state_of}
+use Rattle.goo_kept.specs.Texts.{day_of}
+use Rattle.goo_store.proofs.registry_row.meta_in_row.Goals as goal
+
+pub returns : goal.returns
+unfolding state_of
+returns c t same i = record {
+  code = (c.in_ok-code.ensures ∙ ap (λ (m : Meta). m.code) (sym same)) i;
+  today = (c.in_ok-today.ensures ∙ ap day_of c.deref.ensures ∙ ap (λ (m : Meta). day_of m.today) (sym same)) i;
+  counters = c.in_ok-counters.ensures t same i;
+}
