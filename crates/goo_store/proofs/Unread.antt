@@ -1,5 +1,5 @@
 -- A row that is refused though memory is there can't be read.
-use Rattle.std.proofs.Common.{◌≡◌, ◌≤◌, arith, true, Bool, ◌&&◌, nat_le, Ok, Some, Option, Result, sym, subst}
+use Rattle.std.proofs.Common.{◌≡◌, ◌≤◌, arith, true, ◌&&◌, nat_le, Ok, Some, Option, Result, sym, subst}
 use Rattle.std.proofs.lemmas.Bool.{leb-true, le-leb}
 use Rattle.sqlite.specs.declared.error.Error.{Error}
 use Rattle.sqlite_keyed.proofs.RuleLemmas.{second_of_both}
