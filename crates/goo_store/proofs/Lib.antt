@@ -26,3 +26,4 @@ pub mod PutIn
 pub mod ImportCarried
 pub mod DeclareCarried
 pub mod Judging
+pub mod Unread

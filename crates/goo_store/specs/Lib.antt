@@ -1,6 +1,7 @@
 pub mod Moments
 pub mod Holding
 pub mod Telling
+pub mod Reading
 pub mod Summing
 pub mod Plants
 pub mod Near

@@ -1,5 +1,5 @@
 -- What sums by device come to.
-use Rattle.std.specs.Prelude.{ℕ, ◌%◌, List, sum_by}
+use Rattle.std.specs.Prelude.{ℕ, ◌%◌, ◌<◌, ◌^◌, List, sum_by}
 use Rattle.goo_types.specs.declared.command.Declare.{Declare}
 use Rattle.goo_types.specs.declared.piece.Piece.{Piece}
 use Rattle.goo_spec.specs.Energy.{certificate, net_of}
@@ -14,3 +14,7 @@ summed_for own declared rows device = record {
   issued = sum_by (issued_in own device) rows;
   carry = sum_by (net_of device) declared % certificate;
 }
+
+-- no sum of a device needs more than 64 bits
+abbrev pub HaveSmallSums : ℕ → List Declare → List Piece → Type 0
+HaveSmallSums own declared rows = (device : List ℕ) → (sum_by (net_of device) declared < 2 ^ 64) × (sum_by (issued_in own device) rows < 2 ^ 64)

@@ -1,5 +1,5 @@
 -- How an error of the database is passed on, and what is told of it.
-use Rattle.std.specs.Prelude.{◌≡◌, ◌≢◌, Bool, true, Result, Ok, Err, IfOk, IsOk, IsErr}
+use Rattle.std.specs.Prelude.{◌≡◌, ◌≢◌, Bool, true, Result, Ok, Err, IfOk, IfErr, IsOk, IsErr, IsOkUnless}
 use Rattle.sqlite.specs.declared.error.Error.{Error}
 use Rattle.sqlite.specs.declared.error.Error.TheVariants.{SqliteFailure}
 use Rattle.sqlite.specs.declared.error.ErrorCode.TheVariants.{OutOfMemory}
@@ -19,6 +19,11 @@ IsTroubleOf error Refused = error ≢ SqliteFailure OutOfMemory
 abbrev pub Passes : {T U : Type 0} → Result T Error → Result U Trouble → (T → U → Type 0) → Type 0
 Passes (Ok x) read R = IfOk read (R x)
 Passes (Err e) read R = IsErr read
+
+-- what was found is refused for want of memory alone, where it can be read
+abbrev pub Accepts : {T U : Type 0} → Result T Error → Result U Trouble → (T → Type 0) → Type 0
+Accepts (Ok x) read IsReadable = IsReadable x → IsOkUnless read Memory
+Accepts (Err e) read IsReadable = IfErr read (IsTroubleOf e)
 
 -- success is passed on as success, and an error as one
 abbrev pub PassesOn : {T U : Type 0} → Result T Error → Result U Trouble → Type 0

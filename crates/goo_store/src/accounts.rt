@@ -1,13 +1,14 @@
 //! Accounts, as they are found.
 
-ghost use Rattle.std.specs.Prelude.{◌≡◌, option_map};
+ghost use Rattle.std.specs.Prelude.{◌≡◌, IfSome, IsTrue, option_map};
 ghost use Rattle.std.specs.FinMap.{get};
 ghost use Rattle.sqlite.specs.Held.{state as view};
 ghost use Rattle.goo_columns.specs.Rows.{account_in};
 ghost use Rattle.goo_shelf.specs.Shelf.{Looks};
 ghost use Rattle.goo_store.specs.Moments.{moment};
 ghost use Rattle.goo_kept.specs.States.{account_of};
-ghost use Rattle.goo_store.specs.Telling.{Passes};
+ghost use Rattle.goo_kept.specs.Readable.{is_account};
+ghost use Rattle.goo_store.specs.Telling.{Accepts, Passes};
 
 use crate::sql_shelf::SqlShelf;
 use crate::texts;
@@ -21,7 +22,8 @@ use sqlite::{Alter, Error};
 
 /// The account in its row.
 fn read_account(found: Result<Option<AccountRow>, Error>) -> Result<Option<Account>, Trouble>
-    ensures { Passes found result (λ row account. account ≡ option_map account_of (option_map account_in row)) }
+    ensures value { Passes found result (λ row account. account ≡ option_map account_of (option_map account_in row)) }
+    ensures accepts { Accepts found result (λ row. IfSome row (λ r. IsTrue (is_account (account_in r)))) }
 {
     let Some(row) = found? else {
         return Ok(None);

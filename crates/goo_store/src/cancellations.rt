@@ -1,13 +1,14 @@
 //! Records of cancellations, as they are found.
 
-ghost use Rattle.std.specs.Prelude.{◌≡◌, option_map};
+ghost use Rattle.std.specs.Prelude.{◌≡◌, IfSome, IsTrue, option_map};
 ghost use Rattle.std.specs.FinMap.{get};
 ghost use Rattle.sqlite.specs.Held.{state as view};
 ghost use Rattle.goo_columns.specs.Rows.{cancellation_in};
 ghost use Rattle.goo_shelf.specs.Shelf.{Looks};
 ghost use Rattle.goo_store.specs.Moments.{moment};
 ghost use Rattle.goo_kept.specs.Records.{cancellation_of};
-ghost use Rattle.goo_store.specs.Telling.{Passes};
+ghost use Rattle.goo_kept.specs.Readable.{is_cancellation};
+ghost use Rattle.goo_store.specs.Telling.{Accepts, Passes};
 
 use crate::sql_shelf::SqlShelf;
 use crate::trouble::{Trouble, told};
@@ -24,7 +25,8 @@ use sqlite::{Alter, Error};
 fn read_record(
     found: Result<Option<CancellationRow>, Error>,
 ) -> Result<Option<CancelRecord>, Trouble>
-    ensures { Passes found result (λ row kept. kept ≡ option_map cancellation_of (option_map cancellation_in row)) }
+    ensures value { Passes found result (λ row kept. kept ≡ option_map cancellation_of (option_map cancellation_in row)) }
+    ensures accepts { Accepts found result (λ row. IfSome row (λ r. IsTrue (is_cancellation (cancellation_in r)))) }
 {
     let Some(row) = found? else {
         return Ok(None);

@@ -1,12 +1,15 @@
 //! The declarations, as they are found.
 
-ghost use Rattle.std.specs.Prelude.{◌≡◌, ◌++◌, [], ◌∷◌, IfOk, OnOk, map};
+ghost use Rattle.std.specs.Prelude.{◌≡◌, ◌++◌, [], ◌∷◌, true, is_ok, IfOk, IsOkUnless, IsTrue, OnOk, map};
+ghost use Rattle.std.specs.List.{list_all};
 ghost use Rattle.sqlite.specs.Held.{state as view};
 ghost use Rattle.goo_columns.specs.Rows.{declaration_in};
 ghost use Rattle.goo_shelf.specs.Shelf.{Looks};
 ghost use Rattle.goo_kept.specs.Devices.{declaration_of};
 ghost use Rattle.goo_store.specs.Moments.{moment};
-ghost use Rattle.goo_store.specs.Telling.{Passes};
+ghost use Rattle.goo_kept.specs.Readable.{is_declaration};
+ghost use Rattle.goo_store.specs.Telling.{Accepts, Passes};
+ghost use Rattle.goo_store.specs.declared.trouble.Trouble.TheVariants.{Memory};
 
 use crate::sql_shelf::SqlShelf;
 use crate::trouble::{Trouble, told};
@@ -20,7 +23,8 @@ use std::alloc::Global;
 
 /// The declaration that a row states.
 fn declaration_in_row(row: &DeclarationRow) -> Result<Declare, Trouble>
-    ensures { IfOk result (λ x. x ≡ declaration_of (declaration_in row.now)) }
+    ensures value { IfOk result (λ x. x ≡ declaration_of (declaration_in row.now)) }
+    ensures accepts { is_ok result ≡ is_declaration (declaration_in row.now) }
 {
     Ok(Declare {
         device: texts::gsrn(&row.device)?,
@@ -33,7 +37,8 @@ fn declaration_in_row(row: &DeclarationRow) -> Result<Declare, Trouble>
 
 /// One declaration more.
 fn push_read(declared: &mut Vec<Declare>, row: &DeclarationRow) -> Result<(), Trouble>
-    ensures { OnOk result (declared.new.items ≡ declared.old.items ++ declaration_of (declaration_in row.now) ∷ []) }
+    ensures pushed { OnOk result (declared.new.items ≡ declared.old.items ++ declaration_of (declaration_in row.now) ∷ []) }
+    ensures accepts { IsTrue (is_declaration (declaration_in row.now)) → IsOkUnless result Memory }
 {
     let declaration = [declaration_in_row(row)?];
     declared.extend_from_slice(&declaration)?;
@@ -42,7 +47,8 @@ fn push_read(declared: &mut Vec<Declare>, row: &DeclarationRow) -> Result<(), Tr
 
 /// Each row as a declaration.
 fn read_each(alloc: Global, rows: &[DeclarationRow]) -> Result<Vec<Declare>, Trouble>
-    ensures { IfOk result (λ declared. declared.items ≡ map declaration_of (map declaration_in rows.now)) }
+    ensures value { IfOk result (λ declared. declared.items ≡ map declaration_of (map declaration_in rows.now)) }
+    ensures accepts { list_all (λ row. is_declaration (declaration_in row)) rows.now ≡ true → IsOkUnless result Memory }
 {
     let mut declared = Vec::new(alloc);
     for row in rows {
@@ -56,7 +62,8 @@ fn read_all(
     alloc: Global,
     found: Result<Vec<DeclarationRow>, Error>,
 ) -> Result<Vec<Declare>, Trouble>
-    ensures { Passes found result (λ rows declared. declared.items ≡ map declaration_of (map declaration_in rows.items)) }
+    ensures value { Passes found result (λ rows declared. declared.items ≡ map declaration_of (map declaration_in rows.items)) }
+    ensures accepts { Accepts found result (λ rows. list_all (λ row. is_declaration (declaration_in row)) rows.items ≡ true) }
 {
     read_each(alloc, &found?)
 }

@@ -1,13 +1,14 @@
 //! Devices, as they are found.
 
-ghost use Rattle.std.specs.Prelude.{◌≡◌, Some, IfOk, option_map, string_bytes};
+ghost use Rattle.std.specs.Prelude.{◌≡◌, pos, is_ok, Some, IfOk, IfSome, IsOk, IsTrue, option_map, string_bytes};
 ghost use Rattle.std.specs.FinMap.{get};
 ghost use Rattle.sqlite.specs.Held.{state as view};
 ghost use Rattle.goo_columns.specs.Rows.{device_in};
 ghost use Rattle.goo_shelf.specs.Shelf.{Looks, progress_of, IsRecordOf};
 ghost use Rattle.goo_kept.specs.Devices.{device_of, progress_in, record_in};
 ghost use Rattle.goo_store.specs.Moments.{moment};
-ghost use Rattle.goo_store.specs.Telling.{Passes};
+ghost use Rattle.goo_kept.specs.Readable.{is_device, is_maybe_day};
+ghost use Rattle.goo_store.specs.Telling.{Accepts, Passes};
 ghost use Rattle.goo_kept.specs.Texts.{day_of};
 
 use crate::plants::read_plant;
@@ -26,7 +27,8 @@ use sqlite::{Alter, Error};
 
 /// The device in its row.
 pub fn device_in_row(row: &DeviceRow) -> Result<Device, Trouble>
-    ensures { IfOk result (λ device. device ≡ device_of (device_in row.now)) }
+    ensures value { IfOk result (λ device. device ≡ device_of (device_in row.now)) }
+    ensures accepts { IsTrue (is_device (pos 0, device_in row.now)) → IsOk result }
 {
     let plant = read_plant(&row.plant)?;
     Ok(Device::of(&RegisterDevice {
@@ -44,7 +46,8 @@ pub fn device_in_row(row: &DeviceRow) -> Result<Device, Trouble>
 
 /// The device, if there is one.
 fn read_device(found: Result<Option<DeviceRow>, Error>) -> Result<Option<Device>, Trouble>
-    ensures { Passes found result (λ row device. device ≡ option_map device_of (option_map device_in row)) }
+    ensures value { Passes found result (λ row device. device ≡ option_map device_of (option_map device_in row)) }
+    ensures accepts { Accepts found result (λ row. IfSome row (λ r. IsTrue (is_device (pos 0, device_in r)))) }
 {
     match found? {
         Some(row) => Ok(Some(device_in_row(&row)?)),
@@ -54,7 +57,8 @@ fn read_device(found: Result<Option<DeviceRow>, Error>) -> Result<Option<Device>
 
 /// A day, where there is one.
 fn maybe_day(text: &Option<String>) -> Result<Option<Day>, Trouble>
-    ensures { IfOk result (λ day. day ≡ option_map day_of (option_map string_bytes text.now)) }
+    ensures value { IfOk result (λ day. day ≡ option_map day_of (option_map string_bytes text.now)) }
+    ensures accepts { is_ok result ≡ is_maybe_day (option_map string_bytes text.now) }
 {
     match text {
         Some(text) => Ok(Some(texts::day(text)?)),
@@ -64,7 +68,8 @@ fn maybe_day(text: &Option<String>) -> Result<Option<Day>, Trouble>
 
 /// The last accepted period's end and the carry in the row of a device.
 fn progress_in_row(row: &DeviceRow) -> Result<Progress, Trouble>
-    ensures { IfOk result (λ progress. progress ≡ progress_in (Some (device_in row.now))) }
+    ensures value { IfOk result (λ progress. progress ≡ progress_in (Some (device_in row.now))) }
+    ensures accepts { IsTrue (is_device (pos 0, device_in row.now)) → IsOk result }
 {
     Ok(Progress {
         last_day: maybe_day(&row.last_day)?,
@@ -74,7 +79,8 @@ fn progress_in_row(row: &DeviceRow) -> Result<Progress, Trouble>
 
 /// The last accepted period's end and the carry in the row of a device; neither is there without a row.
 fn read_progress(found: Result<Option<DeviceRow>, Error>) -> Result<Progress, Trouble>
-    ensures { Passes found result (λ row progress. progress ≡ progress_in (option_map device_in row)) }
+    ensures value { Passes found result (λ row progress. progress ≡ progress_in (option_map device_in row)) }
+    ensures accepts { Accepts found result (λ row. IfSome row (λ r. IsTrue (is_device (pos 0, device_in r)))) }
 {
     let Some(row) = found? else {
         return Ok(Progress {
@@ -87,7 +93,8 @@ fn read_progress(found: Result<Option<DeviceRow>, Error>) -> Result<Progress, Tr
 
 /// The device with its progress, if there is one.
 fn read_record(found: Result<Option<DeviceRow>, Error>) -> Result<Option<DeviceRecord>, Trouble>
-    ensures { Passes found result (λ row found. found ≡ record_in (option_map device_in row)) }
+    ensures value { Passes found result (λ row found. found ≡ record_in (option_map device_in row)) }
+    ensures accepts { Accepts found result (λ row. IfSome row (λ r. IsTrue (is_device (pos 0, device_in r)))) }
 {
     let Some(row) = found? else {
         return Ok(None);

@@ -1,6 +1,6 @@
 //! The lots that the parts of a notice make known.
 
-ghost use Rattle.std.specs.Prelude.{◌≡◌, [], false, pos, All, IfOk, OnOk, is_some, option_map};
+ghost use Rattle.std.specs.Prelude.{◌≡◌, ◌<◌, ◌^◌, [], false, pos, All, IfOk, IfSome, OnOk, is_some, option_map, ⊤};
 ghost use Rattle.std.specs.FinMap.{contains_key};
 ghost use Rattle.std.specs.Ordering.{eq_by_cmp};
 ghost use Rattle.sqlite.specs.Held.{state};
@@ -13,7 +13,7 @@ ghost use Rattle.goo_store.specs.GatheredLots.{AddsLot, ArePutIn, Gathers};
 ghost use Rattle.goo_store.specs.LookingUp.{LooksUp};
 ghost use Rattle.goo_store.specs.LotRows.{is_among, next_lot};
 ghost use Rattle.goo_store.specs.NewLots.{known_lots};
-ghost use Rattle.goo_store.specs.Telling.{Passes};
+ghost use Rattle.goo_store.specs.Telling.{Accepts, Passes};
 
 use crate::change::Change;
 use crate::lot_numbers::NumberedLot;
@@ -40,7 +40,8 @@ pub struct Gathered {
 
 /// The number after that of the last row.
 fn number_after(found: Result<Option<LotRow>, Error>) -> Result<u64, Trouble>
-    ensures { Passes found result (λ row n. n ≡ next_lot (option_map lot_in row)) }
+    ensures value { Passes found result (λ row n. n ≡ next_lot (option_map lot_in row)) }
+    ensures accepts { Accepts found result (λ row. IfSome row (λ r. r.id < 2 ^ 63)) }
 {
     let Some(row) = found? else {
         return Ok(1);
@@ -62,7 +63,8 @@ pub fn next_lot_number<S: Alter>(alloc: Global, conn: &mut Connection<S>) -> Res
 
 /// Whether there is a row.
 fn is_there(found: Result<Option<LotRow>, Error>) -> Result<bool, Trouble>
-    ensures { Passes found result (λ row there. there ≡ is_some row) }
+    ensures value { Passes found result (λ row there. there ≡ is_some row) }
+    ensures accepts { Accepts found result (λ _. ⊤) }
 {
     Ok(found?.is_some())
 }

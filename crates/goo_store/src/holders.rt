@@ -1,12 +1,13 @@
 //! Holders, as they are found.
 
-ghost use Rattle.std.specs.Prelude.{◌≡◌, option_map};
+ghost use Rattle.std.specs.Prelude.{◌≡◌, pos, IfSome, IsTrue, option_map};
 ghost use Rattle.std.specs.FinMap.{get};
 ghost use Rattle.sqlite.specs.Held.{state as view};
 ghost use Rattle.goo_columns.specs.Rows.{holder_in};
 ghost use Rattle.goo_shelf.specs.Shelf.{Looks};
 ghost use Rattle.goo_store.specs.Moments.{moment};
-ghost use Rattle.goo_store.specs.Telling.{Passes};
+ghost use Rattle.goo_kept.specs.Readable.{is_holder};
+ghost use Rattle.goo_store.specs.Telling.{Accepts, Passes};
 
 use crate::sql_shelf::SqlShelf;
 use crate::texts;
@@ -20,7 +21,8 @@ use sqlite::{Alter, Error};
 
 /// The name in the row of a holder.
 fn name_in(found: Result<Option<HolderRow>, Error>) -> Result<Option<Name>, Trouble>
-    ensures { Passes found result (λ row name. name ≡ option_map (λ h. h.name) (option_map holder_in row)) }
+    ensures value { Passes found result (λ row name. name ≡ option_map (λ h. h.name) (option_map holder_in row)) }
+    ensures accepts { Accepts found result (λ row. IfSome row (λ r. IsTrue (is_holder (pos 0, holder_in r)))) }
 {
     let Some(row) = found? else {
         return Ok(None);

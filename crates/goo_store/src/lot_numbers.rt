@@ -1,11 +1,13 @@
 //! The numbers of lots in the table.
 
-ghost use Rattle.std.specs.Prelude.{◌≡◌, false, List, IfOk, IfSome, option_map};
+ghost use Rattle.std.specs.Prelude.{◌≡◌, false, List, IfOk, IfSome, IsSomeAnd, option_map};
 ghost use Rattle.sqlite.specs.Held.{state};
 ghost use Rattle.goo_columns.specs.Rows.{Lot as RowOfLot, lot_in};
 ghost use Rattle.goo_store.specs.LookingUp.{LooksUp};
 ghost use Rattle.goo_store.specs.LotNumbers.{AreNumbered, AreWith, IsNumberOf, IsRowOfLot};
-ghost use Rattle.goo_store.specs.Telling.{Passes};
+ghost use Rattle.goo_kept.specs.Places.{lot_of};
+ghost use Rattle.goo_store.specs.Reading.{IsReadableLot};
+ghost use Rattle.goo_store.specs.Telling.{Accepts, Passes};
 
 use crate::lots::read_lot;
 use crate::trouble::Trouble;
@@ -27,7 +29,8 @@ pub struct NumberedLot {
 
 /// The number in the row that was found for a lot, which must state what the lot does.
 fn number_found(found: Result<Option<LotRow>, Error>, lot: &Lot) -> Result<u64, Trouble>
-    ensures { Passes found result (λ row n. IsRowOfLot (option_map lot_in row) n lot.now) }
+    ensures value { Passes found result (λ row n. IsRowOfLot (option_map lot_in row) n lot.now) }
+    ensures accepts { Accepts found result (λ row. IsSomeAnd row (λ r. IsReadableLot (lot_in r) × (lot_of (lot_in r) ≡ lot.now))) }
 {
     let Some(row) = found? else {
         return Err(Trouble::Refused);

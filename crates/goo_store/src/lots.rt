@@ -1,6 +1,6 @@
 //! Lots, as they are found.
 
-ghost use Rattle.std.specs.Prelude.{◌≡◌, IfOk, option_map};
+ghost use Rattle.std.specs.Prelude.{◌≡◌, IfOk, IfSome, IsOk, option_map};
 ghost use Rattle.std.specs.FinMap.{get};
 ghost use Rattle.sqlite.specs.Held.{state as view};
 ghost use Rattle.goo_types.specs.Day.{IsDay};
@@ -10,7 +10,8 @@ ghost use Rattle.goo_columns.specs.Rows.{lot_in};
 ghost use Rattle.goo_shelf.specs.Shelf.{Looks};
 ghost use Rattle.goo_store.specs.Moments.{moment};
 ghost use Rattle.goo_kept.specs.Places.{lot_of};
-ghost use Rattle.goo_store.specs.Telling.{Passes};
+ghost use Rattle.goo_store.specs.Reading.{IsReadableLot};
+ghost use Rattle.goo_store.specs.Telling.{Accepts, Passes};
 
 use crate::plants::read_plant;
 use crate::sql_shelf::SqlShelf;
@@ -29,7 +30,8 @@ use sqlite::{Alter, Error};
 
 /// The lot that a row states.
 pub fn read_lot(row: &LotRow) -> Result<Lot, Trouble>
-    ensures { IfOk result (λ lot. lot ≡ lot_of (lot_in row.now)) }
+    ensures value { IfOk result (λ lot. lot ≡ lot_of (lot_in row.now)) }
+    ensures accepts { IsReadableLot (lot_in row.now) → IsOk result }
 {
     let plant = read_plant(&row.plant)?;
     let fields = LotFields {
@@ -51,7 +53,8 @@ pub fn read_lot(row: &LotRow) -> Result<Lot, Trouble>
 
 /// The lot, if there is one.
 fn read_found(found: Result<Option<LotRow>, Error>) -> Result<Option<Lot>, Trouble>
-    ensures { Passes found result (λ row lot. lot ≡ option_map lot_of (option_map lot_in row)) }
+    ensures value { Passes found result (λ row lot. lot ≡ option_map lot_of (option_map lot_in row)) }
+    ensures accepts { Accepts found result (λ row. IfSome row (λ r. IsReadableLot (lot_in r))) }
 {
     match found? {
         Some(row) => Ok(Some(read_lot(&row)?)),

@@ -1,13 +1,15 @@
 //! Notices that were sent and that came in, as they are found.
 
-ghost use Rattle.std.specs.Prelude.{◌≡◌, Some, option_map};
+ghost use Rattle.std.specs.Prelude.{◌≡◌, pos, Some, IfSome, IsTrue, option_map};
 ghost use Rattle.std.specs.FinMap.{get};
 ghost use Rattle.sqlite.specs.Held.{state as view};
 ghost use Rattle.goo_columns.specs.Rows.{notice_out_in, notice_in_in};
 ghost use Rattle.goo_shelf.specs.Shelf.{Looks, arrival_of};
 ghost use Rattle.goo_store.specs.Moments.{moment};
 ghost use Rattle.goo_kept.specs.Records.{sent_of, arrived_of};
-ghost use Rattle.goo_store.specs.Telling.{Passes};
+ghost use Rattle.goo_kept.specs.Readable.{is_notice_in};
+ghost use Rattle.goo_store.specs.Reading.{IsReadableSent};
+ghost use Rattle.goo_store.specs.Telling.{Accepts, Passes};
 
 use crate::sql_shelf::SqlShelf;
 use crate::trouble::{Trouble, told};
@@ -29,7 +31,8 @@ fn read_sent(
     alloc: Global,
     found: Result<Option<NoticeOutRow>, Error>,
 ) -> Result<Option<Sent>, Trouble>
-    ensures { Passes found result (λ row sent. sent ≡ option_map sent_of (option_map notice_out_in row)) }
+    ensures value { Passes found result (λ row sent. sent ≡ option_map sent_of (option_map notice_out_in row)) }
+    ensures accepts { Accepts found result (λ row. IfSome row (λ r. IsReadableSent (notice_out_in r))) }
 {
     let Some(row) = found? else {
         return Ok(None);
@@ -55,7 +58,8 @@ fn read_arrival(
     found: Result<Option<NoticeInRow>, Error>,
     notice: &Notice,
 ) -> Result<Arrival, Trouble>
-    ensures { Passes found result (λ row arrival. arrival ≡ arrival_of (option_map arrived_of (option_map notice_in_in row)) notice.now) }
+    ensures value { Passes found result (λ row arrival. arrival ≡ arrival_of (option_map arrived_of (option_map notice_in_in row)) notice.now) }
+    ensures accepts { Accepts found result (λ row. IfSome row (λ r. IsTrue (is_notice_in (pos 0, notice_in_in r)))) }
 {
     let Some(row) = found? else {
         return Ok(Arrival::Absent);

@@ -1,7 +1,9 @@
 //! Numbers that columns keep, as values.
 
-ghost use Rattle.std.specs.Prelude.{◌≡◌, IfOk};
+ghost use Rattle.std.specs.Prelude.{◌≡◌, is_ok, nat_le, IfOk};
+ghost use Rattle.goo_types.specs.Number.{is_number};
 ghost use Rattle.goo_types.specs.Range.{Numbers};
+ghost use Rattle.goo_kept.specs.Readable.{is_code, is_act, is_between, is_wh, are_ends};
 
 use crate::trouble::Trouble;
 use goo_types::account_no::AccountNo;
@@ -17,7 +19,8 @@ const SERIALS: u64 = 1_000_000_000_000;
 
 /// The code of a registry.
 pub fn registry_code(code: u32) -> Result<RegistryCode, Trouble>
-    ensures { IfOk result (λ c. c ≡ code) }
+    ensures value { IfOk result (λ c. c ≡ code) }
+    ensures accepts { is_ok result ≡ is_code code }
 {
     if code > 99 {
         return Err(Trouble::Refused);
@@ -30,7 +33,8 @@ pub fn registry_code(code: u32) -> Result<RegistryCode, Trouble>
 
 /// The number of an account.
 pub fn account_no(number: u32) -> Result<AccountNo, Trouble>
-    ensures { IfOk result (λ n. n ≡ number) }
+    ensures value { IfOk result (λ n. n ≡ number) }
+    ensures accepts { is_ok result ≡ is_act number }
 {
     match AccountNo::new(number) {
         Some(number) => Ok(number),
@@ -40,7 +44,8 @@ pub fn account_no(number: u32) -> Result<AccountNo, Trouble>
 
 /// The number of an act.
 pub fn act_no(number: u32) -> Result<ActNo, Trouble>
-    ensures { IfOk result (λ n. n ≡ number) }
+    ensures value { IfOk result (λ n. n ≡ number) }
+    ensures accepts { is_ok result ≡ is_act number }
 {
     match ActNo::new(number) {
         Some(number) => Ok(number),
@@ -50,7 +55,8 @@ pub fn act_no(number: u32) -> Result<ActNo, Trouble>
 
 /// A capacity in W.
 pub fn watts(value: u64) -> Result<Watts, Trouble>
-    ensures { IfOk result (λ w. w ≡ value) }
+    ensures value { IfOk result (λ w. w ≡ value) }
+    ensures accepts { is_ok result ≡ is_between 1 100_000_000_000 value }
 {
     match Watts::new(value) {
         Some(watts) => Ok(watts),
@@ -60,7 +66,8 @@ pub fn watts(value: u64) -> Result<Watts, Trouble>
 
 /// An amount of energy in Wh.
 pub fn wh(value: u64) -> Result<Wh, Trouble>
-    ensures { IfOk result (λ w. w ≡ value) }
+    ensures value { IfOk result (λ w. w ≡ value) }
+    ensures accepts { is_ok result ≡ is_wh value }
 {
     match Wh::new(value) {
         Some(wh) => Ok(wh),
@@ -70,7 +77,8 @@ pub fn wh(value: u64) -> Result<Wh, Trouble>
 
 /// The number of a certificate.
 pub fn number(value: u64) -> Result<Number, Trouble>
-    ensures { IfOk result (λ n. n ≡ value) }
+    ensures value { IfOk result (λ n. n ≡ value) }
+    ensures accepts { is_ok result ≡ is_number value }
 {
     if value / SERIALS > 99 {
         return Err(Trouble::Refused);
@@ -83,7 +91,8 @@ pub fn number(value: u64) -> Result<Number, Trouble>
 
 /// The range between two numbers of certificates, both counted.
 pub fn range(first: u64, last: u64) -> Result<Range, Trouble>
-    ensures { IfOk result (λ r. r ≡ record { first = first; last = last }) }
+    ensures value { IfOk result (λ r. r ≡ record { first = first; last = last }) }
+    ensures accepts { is_ok result ≡ are_ends first last }
 {
     match Range::new(number(first)?, number(last)?) {
         Some(range) => Ok(range),
@@ -93,7 +102,8 @@ pub fn range(first: u64, last: u64) -> Result<Range, Trouble>
 
 /// A number of an account or an act, as short as those are.
 pub fn small(value: u64) -> Result<u32, Trouble>
-    ensures { IfOk result (λ n. n ≡ value) }
+    ensures value { IfOk result (λ n. n ≡ value) }
+    ensures accepts { is_ok result ≡ nat_le value 999_999_999 }
 {
     if value > 999_999_999 {
         return Err(Trouble::Refused);

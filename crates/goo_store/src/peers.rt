@@ -1,11 +1,11 @@
 //! Other registries, as they are found.
 
-ghost use Rattle.std.specs.Prelude.{◌≡◌, is_some, option_map};
+ghost use Rattle.std.specs.Prelude.{◌≡◌, is_some, option_map, ⊤};
 ghost use Rattle.std.specs.FinMap.{contains_key};
 ghost use Rattle.sqlite.specs.Held.{state as view};
 ghost use Rattle.goo_shelf.specs.Shelf.{Looks};
 ghost use Rattle.goo_store.specs.Moments.{moment};
-ghost use Rattle.goo_store.specs.Telling.{Passes};
+ghost use Rattle.goo_store.specs.Telling.{Accepts, Passes};
 
 use crate::sql_shelf::SqlShelf;
 use crate::trouble::{Trouble, told};
@@ -17,7 +17,8 @@ use sqlite::{Alter, Error};
 
 /// Whether there is a row.
 fn is_there(found: Result<Option<PeerRow>, Error>) -> Result<bool, Trouble>
-    ensures { Passes found result (λ row there. there ≡ is_some row) }
+    ensures value { Passes found result (λ row there. there ≡ is_some row) }
+    ensures accepts { Accepts found result (λ _. ⊤) }
 {
     Ok(found?.is_some())
 }

@@ -1,11 +1,14 @@
 //! Rows of `piece` beside their lots, as pieces.
 
-ghost use Rattle.std.specs.Prelude.{◌≡◌, ◌++◌, [], ◌∷◌, IfOk, OnOk, IsTrue, map, option_map};
+ghost use Rattle.std.specs.Prelude.{◌≡◌, ◌++◌, ◌↔◌, [], ◌∷◌, All, IfOk, IfSome, IsOk, IsOkUnless, OnOk, IsTrue, map, option_map};
 ghost use Rattle.goo_types.specs.Piece.{IsRising};
 ghost use Rattle.goo_columns.specs.Beside.{joined_in};
 ghost use Rattle.goo_kept.specs.Places.{place_of, piece_of};
-ghost use Rattle.goo_store.specs.Telling.{Passes};
+ghost use Rattle.goo_kept.specs.Readable.{is_act, names_act};
 ghost use Rattle.goo_store.specs.Near.{reaching};
+ghost use Rattle.goo_store.specs.Reading.{IsReadablePiece, AreReadablePieces};
+ghost use Rattle.goo_store.specs.Telling.{Accepts, Passes};
+ghost use Rattle.goo_store.specs.declared.trouble.Trouble.TheVariants.{Memory};
 
 use crate::lots::read_lot;
 use crate::numbers;
@@ -19,7 +22,8 @@ use std::alloc::Global;
 
 /// A place by its kind: 1 held, 2 cancelled, 3 expired, 4 withdrawn, 5 exported.
 fn read_place(kind: u32, account: u32, act: u32) -> Result<Place, Trouble>
-    ensures { IfOk result (λ place. place ≡ place_of kind account act) }
+    ensures value { IfOk result (λ place. place ≡ place_of kind account act) }
+    ensures accepts { IsTrue (is_act account) → IsTrue (names_act kind act) → IsOk result }
 {
     let account = numbers::account_no(account)?;
     match kind {
@@ -34,7 +38,8 @@ fn read_place(kind: u32, account: u32, act: u32) -> Result<Place, Trouble>
 
 /// The piece that a row states beside its lot.
 pub fn read_piece(row: &JoinedRow) -> Result<Piece, Trouble>
-    ensures { IfOk result (λ piece. piece ≡ piece_of (joined_in row.now)) }
+    ensures value { IfOk result (λ piece. piece ≡ piece_of (joined_in row.now)) }
+    ensures accepts { IsReadablePiece (joined_in row.now) → IsOk result }
 {
     Ok(Piece {
         first: numbers::number(row.piece.first)?,
@@ -46,7 +51,8 @@ pub fn read_piece(row: &JoinedRow) -> Result<Piece, Trouble>
 
 /// The piece, if there is one.
 pub fn read_maybe(found: Result<Option<JoinedRow>, Error>) -> Result<Option<Piece>, Trouble>
-    ensures { Passes found result (λ row piece. piece ≡ option_map piece_of (option_map joined_in row)) }
+    ensures value { Passes found result (λ row piece. piece ≡ option_map piece_of (option_map joined_in row)) }
+    ensures accepts { Accepts found result (λ row. IfSome row (λ r. IsReadablePiece (joined_in r))) }
 {
     match found? {
         Some(row) => Ok(Some(read_piece(&row)?)),
@@ -56,7 +62,8 @@ pub fn read_maybe(found: Result<Option<JoinedRow>, Error>) -> Result<Option<Piec
 
 /// One row more.
 fn push_read(pieces: &mut Vec<Piece>, row: &JoinedRow) -> Result<(), Trouble>
-    ensures { OnOk result (pieces.new.items ≡ pieces.old.items ++ piece_of (joined_in row.now) ∷ []) }
+    ensures pushed { OnOk result (pieces.new.items ≡ pieces.old.items ++ piece_of (joined_in row.now) ∷ []) }
+    ensures accepts { IsReadablePiece (joined_in row.now) → IsOkUnless result Memory }
 {
     let piece = [read_piece(row)?];
     pieces.extend_from_slice(&piece)?;
@@ -65,7 +72,8 @@ fn push_read(pieces: &mut Vec<Piece>, row: &JoinedRow) -> Result<(), Trouble>
 
 /// Each row as a piece.
 fn read_each(alloc: Global, rows: &[JoinedRow]) -> Result<Vec<Piece>, Trouble>
-    ensures { IfOk result (λ pieces. pieces.items ≡ map piece_of (map joined_in rows.now)) }
+    ensures value { IfOk result (λ pieces. pieces.items ≡ map piece_of (map joined_in rows.now)) }
+    ensures accepts { All (λ row. IsReadablePiece (joined_in row)) rows.now → IsOkUnless result Memory }
 {
     let mut pieces = Vec::new(alloc);
     for row in rows {
@@ -76,7 +84,7 @@ fn read_each(alloc: Global, rows: &[JoinedRow]) -> Result<Vec<Piece>, Trouble>
 
 /// Whether the pieces are ranges that rise and have no number in common.
 pub fn are_rising(pieces: &[Piece]) -> bool
-    ensures { IsTrue result → IsRising pieces.now }
+    ensures { IsTrue result ↔ IsRising pieces.now }
 {
     let mut low = 0;
     for piece in pieces {
@@ -94,6 +102,7 @@ pub fn read_rising(
     found: Result<Vec<JoinedRow>, Error>,
 ) -> Result<Vec<Piece>, Trouble>
     ensures value { Passes found result (λ rows pieces. pieces.items ≡ map piece_of (map joined_in rows.items)) }
+    ensures accepts { Accepts found result (λ rows. AreReadablePieces rows.items) }
     ensures rising { IfOk result (λ pieces. IsRising pieces.items) }
 {
     let pieces = read_each(alloc, &found?)?;
@@ -113,6 +122,7 @@ pub fn join_near(
     later: &[Piece],
 ) -> Result<Vec<Piece>, Trouble>
     ensures value { IfOk result (λ pieces. pieces.items ≡ reaching range before ++ later.now) }
+    ensures accepts { IsRising (reaching range before ++ later.now) → IsOkUnless result Memory }
     ensures rising { IfOk result (λ pieces. IsRising pieces.items) }
 {
     let mut pieces = Vec::new(alloc);

@@ -1,7 +1,8 @@
 //! What devices and lots state of a plant.
 
-ghost use Rattle.std.specs.Prelude.{IfOk};
+ghost use Rattle.std.specs.Prelude.{◌≡◌, is_ok, IfOk};
 ghost use Rattle.goo_columns.specs.Rows.{plant_in};
+ghost use Rattle.goo_kept.specs.Readable.{is_plant};
 ghost use Rattle.goo_store.specs.Plants.{IsPlantOf};
 
 use crate::trouble::Trouble;
@@ -36,7 +37,8 @@ pub struct Plant {
 
 /// The plant in a row.
 pub fn read_plant(row: &PlantRow) -> Result<Plant, Trouble>
-    ensures { IfOk result (IsPlantOf (plant_in row.now)) }
+    ensures value { IfOk result (IsPlantOf (plant_in row.now)) }
+    ensures accepts { is_ok result ≡ is_plant (plant_in row.now) }
 {
     Ok(Plant {
         country: texts::country(&row.country)?,

@@ -1,6 +1,6 @@
 //! Receipts, as they are found.
 
-ghost use Rattle.std.specs.Prelude.{◌≡◌, IfOk, option_map};
+ghost use Rattle.std.specs.Prelude.{◌≡◌, ◌==◌, ◌&&◌, ◌||◌, pos, is_ok, IfOk, IfSome, IsOk, IsOkUnless, IsTrue, option_map};
 ghost use Rattle.std.specs.FinMap.{get};
 ghost use Rattle.sqlite.specs.Held.{state as view};
 ghost use Rattle.goo_notice.specs.Law.{command_in};
@@ -9,7 +9,9 @@ ghost use Rattle.goo_columns.specs.Rows.{receipt_in};
 ghost use Rattle.goo_shelf.specs.Shelf.{Looks, receipt_of as seen_from};
 ghost use Rattle.goo_store.specs.Moments.{moment};
 ghost use Rattle.goo_kept.specs.Replies.{issued_of, reply_of, receipt_of};
-ghost use Rattle.goo_store.specs.Telling.{Passes};
+ghost use Rattle.goo_kept.specs.Readable.{are_ends, is_receipt, is_reply};
+ghost use Rattle.goo_store.specs.Telling.{Accepts, Passes};
+ghost use Rattle.goo_store.specs.declared.trouble.Trouble.TheVariants.{Memory};
 
 use crate::numbers;
 use crate::sql_shelf::SqlShelf;
@@ -29,7 +31,8 @@ use std::alloc::Global;
 
 /// The numbers issued, if any were.
 fn read_issued(first: u64, last: u64) -> Result<Option<Range>, Trouble>
-    ensures { IfOk result (λ issued. issued ≡ issued_of first last) }
+    ensures value { IfOk result (λ issued. issued ≡ issued_of first last) }
+    ensures accepts { is_ok result ≡ (((first == 0) && (last == 0)) || are_ends first last) }
 {
     if first == 0 && last == 0 {
         return Ok(None);
@@ -39,7 +42,8 @@ fn read_issued(first: u64, last: u64) -> Result<Option<Range>, Trouble>
 
 /// The reply of a kind with its numbers.
 fn read_reply(kind: u32, n1: u64, n2: u64, n3: u64) -> Result<Reply, Trouble>
-    ensures { IfOk result (λ reply. reply ≡ reply_of kind n1 n2 n3) }
+    ensures value { IfOk result (λ reply. reply ≡ reply_of kind n1 n2 n3) }
+    ensures accepts { IsTrue (is_reply kind n1 n2 n3) → IsOk result }
 {
     match kind {
         1 => Ok(Reply::Done),
@@ -71,7 +75,8 @@ fn read_reply(kind: u32, n1: u64, n2: u64, n3: u64) -> Result<Reply, Trouble>
 
 /// Whether bytes are the text of a command.
 fn is_text_of(alloc: Global, bytes: &[u8], command: &Command) -> Result<bool, Trouble>
-    ensures { IfOk result (λ same. same ≡ is_kept (command_in bytes.now) command.now) }
+    ensures value { IfOk result (λ same. same ≡ is_kept (command_in bytes.now) command.now) }
+    ensures memory { IsOkUnless result Memory }
 {
     one_text();
     match command_text(alloc, command) {
@@ -86,7 +91,8 @@ fn read_receipt(
     found: Result<Option<ReceiptRow>, Error>,
     command: &Command,
 ) -> Result<Receipt, Trouble>
-    ensures { Passes found result (λ row receipt. receipt ≡ seen_from (option_map receipt_of (option_map receipt_in row)) command.now) }
+    ensures value { Passes found result (λ row receipt. receipt ≡ seen_from (option_map receipt_of (option_map receipt_in row)) command.now) }
+    ensures accepts { Accepts found result (λ row. IfSome row (λ r. IsTrue (is_receipt (pos 0, receipt_in r)))) }
 {
     let Some(row) = found? else {
         return Ok(Receipt::Absent);

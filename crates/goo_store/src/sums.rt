@@ -1,10 +1,11 @@
 //! What each device declared and was issued, in one pass over the declarations and one over the rows.
 
-ghost use Rattle.std.specs.Prelude.{◌≡◌, ℕ, ◌+◌, ◌-◌, ◌==◌, List, cond, map, sum_by, IfOk};
+ghost use Rattle.std.specs.Prelude.{◌≡◌, ℕ, ◌+◌, ◌-◌, ◌^◌, ◌==◌, nat_lt, List, cond, map, sum_by, is_ok, IfOk, IsOkUnless};
 ghost use Rattle.goo_types.specs.Number.{code_of};
 ghost use Rattle.goo_rows.specs.Certificates.{issued_in};
 ghost use Rattle.goo_rules.specs.Summing.{sum_at};
-ghost use Rattle.goo_store.specs.Summing.{summed_for};
+ghost use Rattle.goo_store.specs.Summing.{summed_for, HaveSmallSums};
+ghost use Rattle.goo_store.specs.declared.trouble.Trouble.TheVariants.{Memory};
 
 use crate::trouble::Trouble;
 use goo_rules::sums::{add_to, sum_declared, sum_for};
@@ -36,7 +37,8 @@ fn count_issued(
     own: RegistryCode,
     rows: &[Piece],
 ) -> Result<BTreeMap<Gsrn, u128>, Trouble>
-    ensures { IfOk result (λ counts. (q : List ℕ) → sum_at counts q ≡ sum_by (issued_in own q) rows.now) }
+    ensures value { IfOk result (λ counts. (q : List ℕ) → sum_at counts q ≡ sum_by (issued_in own q) rows.now) }
+    ensures memory { IsOkUnless result Memory }
 {
     let mut counts = BTreeMap::new(alloc);
     for row in rows {
@@ -51,7 +53,8 @@ fn count_issued(
 
 /// A sum in 64 bits. One that they don't hold is refused.
 fn narrow(sum: u128) -> Result<u64, Trouble>
-    ensures { IfOk result (λ n. n ≡ sum) }
+    ensures value { IfOk result (λ n. n ≡ sum) }
+    ensures accepts { is_ok result ≡ nat_lt sum (2 ^ 64) }
 {
     match u64::try_from(sum) {
         Ok(sum) => Ok(sum),
@@ -67,7 +70,8 @@ pub fn totals_over(
     declared: &[Declare],
     rows: &[Piece],
 ) -> Result<Vec<DeviceTotals>, Trouble>
-    ensures { IfOk result (λ totals. totals.items ≡ map (summed_for own declared.now rows.now) devices.now) }
+    ensures value { IfOk result (λ totals. totals.items ≡ map (summed_for own declared.now rows.now) devices.now) }
+    ensures accepts { HaveSmallSums own declared.now rows.now → IsOkUnless result Memory }
 {
     let sums = sum_declared(alloc, declared)?;
     let counts = count_issued(alloc, own, rows)?;

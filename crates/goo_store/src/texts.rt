@@ -1,7 +1,14 @@
 //! Texts that columns keep, as values.
 
-ghost use Rattle.std.specs.Prelude.{◌≡◌, IfOk};
+ghost use Rattle.std.specs.Prelude.{◌≡◌, is_ok, IfOk, IsOkUnless, IsTrue};
+ghost use Rattle.goo_types.specs.Codes.{holder_reading, name_reading, country_reading, tech_reading, source_reading};
+ghost use Rattle.goo_types.specs.Day.{day_reading};
+ghost use Rattle.goo_types.specs.Gsrn.{gsrn_reading};
+ghost use Rattle.goo_types.specs.Support.{support_reading};
+ghost use Rattle.goo_notice.specs.NoticeText.{notice_in};
+ghost use Rattle.goo_kept.specs.Readable.{reads};
 ghost use Rattle.goo_kept.specs.Texts.{day_of, support_of, notice_of};
+ghost use Rattle.goo_store.specs.declared.trouble.Trouble.TheVariants.{Memory};
 
 use crate::trouble::Trouble;
 use goo_notice::{NoticeFault, read};
@@ -19,7 +26,8 @@ use std::alloc::Global;
 /// The code of a holder.
 #[tactic(auto, unfolding(goo_types::specs::TextReading::text_reading))]
 pub fn holder_code(text: &str) -> Result<HolderCode, Trouble>
-    ensures { IfOk result (λ code. code ≡ text.now) }
+    ensures value { IfOk result (λ code. code ≡ text.now) }
+    ensures accepts { is_ok result ≡ reads (holder_reading text.now) }
 {
     match HolderCode::read(text.as_bytes()) {
         Ok(code) => Ok(code),
@@ -30,7 +38,8 @@ pub fn holder_code(text: &str) -> Result<HolderCode, Trouble>
 /// A name.
 #[tactic(auto, unfolding(goo_types::specs::TextReading::text_reading))]
 pub fn name(text: &str) -> Result<Name, Trouble>
-    ensures { IfOk result (λ name. name ≡ text.now) }
+    ensures value { IfOk result (λ name. name ≡ text.now) }
+    ensures accepts { is_ok result ≡ reads (name_reading text.now) }
 {
     match Name::read(text.as_bytes()) {
         Ok(name) => Ok(name),
@@ -41,7 +50,8 @@ pub fn name(text: &str) -> Result<Name, Trouble>
 /// A country.
 #[tactic(auto, unfolding(goo_types::specs::TextReading::text_reading))]
 pub fn country(text: &str) -> Result<Country, Trouble>
-    ensures { IfOk result (λ country. country ≡ text.now) }
+    ensures value { IfOk result (λ country. country ≡ text.now) }
+    ensures accepts { is_ok result ≡ reads (country_reading text.now) }
 {
     match Country::read(text.as_bytes()) {
         Ok(country) => Ok(country),
@@ -52,7 +62,8 @@ pub fn country(text: &str) -> Result<Country, Trouble>
 /// A technology.
 #[tactic(auto, unfolding(goo_types::specs::TextReading::text_reading))]
 pub fn tech_code(text: &str) -> Result<TechCode, Trouble>
-    ensures { IfOk result (λ code. code ≡ text.now) }
+    ensures value { IfOk result (λ code. code ≡ text.now) }
+    ensures accepts { is_ok result ≡ reads (tech_reading text.now) }
 {
     match TechCode::read(text.as_bytes()) {
         Ok(code) => Ok(code),
@@ -63,7 +74,8 @@ pub fn tech_code(text: &str) -> Result<TechCode, Trouble>
 /// An energy source.
 #[tactic(auto, unfolding(goo_types::specs::TextReading::text_reading))]
 pub fn source_code(text: &str) -> Result<SourceCode, Trouble>
-    ensures { IfOk result (λ code. code ≡ text.now) }
+    ensures value { IfOk result (λ code. code ≡ text.now) }
+    ensures accepts { is_ok result ≡ reads (source_reading text.now) }
 {
     match SourceCode::read(text.as_bytes()) {
         Ok(code) => Ok(code),
@@ -74,7 +86,8 @@ pub fn source_code(text: &str) -> Result<SourceCode, Trouble>
 /// The number of a device (GS1 GSRN).
 #[tactic(auto, unfolding(goo_types::specs::Gsrn::gsrn_reading))]
 pub fn gsrn(text: &str) -> Result<Gsrn, Trouble>
-    ensures { IfOk result (λ gsrn. gsrn ≡ text.now) }
+    ensures value { IfOk result (λ gsrn. gsrn ≡ text.now) }
+    ensures accepts { is_ok result ≡ reads (gsrn_reading text.now) }
 {
     match Gsrn::read(text.as_bytes()) {
         Ok(gsrn) => Ok(gsrn),
@@ -84,7 +97,8 @@ pub fn gsrn(text: &str) -> Result<Gsrn, Trouble>
 
 /// A day.
 pub fn day(text: &str) -> Result<Day, Trouble>
-    ensures { IfOk result (λ day. day ≡ day_of text.now) }
+    ensures value { IfOk result (λ day. day ≡ day_of text.now) }
+    ensures accepts { is_ok result ≡ reads (day_reading text.now) }
 {
     match Day::read(text.as_bytes()) {
         Ok(day) => Ok(day),
@@ -94,7 +108,8 @@ pub fn day(text: &str) -> Result<Day, Trouble>
 
 /// The support that a device had.
 pub fn support(text: &str) -> Result<Support, Trouble>
-    ensures { IfOk result (λ support. support ≡ support_of text.now) }
+    ensures value { IfOk result (λ support. support ≡ support_of text.now) }
+    ensures accepts { is_ok result ≡ reads (support_reading text.now) }
 {
     match Support::read(text.as_bytes()) {
         Ok(support) => Ok(support),
@@ -104,7 +119,8 @@ pub fn support(text: &str) -> Result<Support, Trouble>
 
 /// A notice, by its text.
 pub fn notice(alloc: Global, body: &[u8]) -> Result<Notice, Trouble>
-    ensures { IfOk result (λ notice. notice ≡ notice_of body.now) }
+    ensures value { IfOk result (λ notice. notice ≡ notice_of body.now) }
+    ensures accepts { IsTrue (reads (notice_in body.now)) → IsOkUnless result Memory }
 {
     match read(alloc, body) {
         Ok(notice) => Ok(notice),

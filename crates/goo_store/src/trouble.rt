@@ -2,6 +2,7 @@
 
 ghost use Rattle.std.specs.Prelude.{◌≡◌};
 ghost use Rattle.goo_store.specs.Telling.{IsTroubleOf, Tells, open_fault_of};
+ghost use Rattle.goo_store.specs.declared.trouble.Trouble.TheVariants.{Memory};
 
 use goo_opening::fault::OpenFault;
 use goo_types::fault::Fault;
@@ -18,6 +19,8 @@ pub enum Trouble {
 }
 
 impl From<Error> for Trouble {
+    ghost from_gives = { IsTroubleOf };
+
     fn from(error: Error) -> Trouble
         ensures { IsTroubleOf error result }
     {
@@ -29,12 +32,16 @@ impl From<Error> for Trouble {
 }
 
 impl From<AllocError> for Trouble {
+    ghost from_gives = { λ _ trouble. trouble ≡ Memory };
+
     fn from(_error: AllocError) -> Trouble {
         Trouble::Memory
     }
 }
 
 impl<T: Drop> From<AllocFailed<T>> for Trouble {
+    ghost from_gives = { λ _ trouble. trouble ≡ Memory };
+
     fn from(_error: AllocFailed<T>) -> Trouble {
         Trouble::Memory
     }

@@ -4,4 +4,7 @@ use Rattle.goo_store.proofs.pieces.are_rising.Given as goal
 
 -- what is left decides
 abbrev pub invariant-loop-piece : goal.invariant-loop-piece
-invariant-loop-piece l = IsRisingFrom l.low (drop l.piece-index l.pieces) → IsRising l.pieces
+invariant-loop-piece l = record {
+  there : IsRisingFrom l.low (drop l.piece-index l.pieces) → IsRising l.pieces;
+  back : IsRising l.pieces → IsRisingFrom l.low (drop l.piece-index l.pieces);
+}

@@ -20,8 +20,8 @@ kept_is (Some kept) command b there back =
     some_is : {A : Type 0} {x y : A} → Some x ≡ Some y → x ≡ y
     some_is e = cc
 
-pub returns-in-Ok : goal.returns-in-Ok
-returns-in-Ok c =
+pub returns-in-Ok-clause-value : goal.returns-in-Ok-clause-value
+returns-in-Ok-clause-value c =
     let bytes = c.args.bytes.now in
     let command = c.args.command.now in
     let law = c.one_text.ensures.commands bytes command in

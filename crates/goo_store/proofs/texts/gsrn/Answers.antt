@@ -11,8 +11,8 @@ same true true false text n is = absurd cc
 same true false c text n is = absurd cc
 same false b c text n is = absurd cc
 
-pub returns-in-Ok : goal.returns-in-Ok
+pub returns-in-Ok-clause-value : goal.returns-in-Ok-clause-value
 unfolding gsrn_reading
-returns-in-Ok c =
+returns-in-Ok-clause-value c =
     let bytes = c.as_bytes.result.now in
     same (length bytes == 18) (list_all is_ascii_digit bytes) (check_sum bytes % 10 == 0) bytes c.in-Ok.gsrn (sym c.in-Ok.ensures) ∙ c.as_bytes.ensures.value

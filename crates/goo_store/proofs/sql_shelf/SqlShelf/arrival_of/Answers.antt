@@ -23,7 +23,7 @@ pub returns : goal.returns
 unfolding state_of
 returns g c =
     looked (view g.S.Store c.args.self.now.conn) (view g.S.Store c.find_notice_in-found.new.conn) c.args.self.now.well _ _ c.find_notice_in-found.ensures.looks _ _ c.read_arrival.result
-    c.args.self.now.refused c.told.new.refused c.told.result (λ live db may. g.met.S.Store.settled c.args.self.now.conn.store db live may) c.if-self.false c.read_arrival.ensures c.told.ensures
+    c.args.self.now.refused c.told.new.refused c.told.result (λ live db may. g.met.S.Store.settled c.args.self.now.conn.store db live may) c.if-self.false c.read_arrival.ensures.value c.told.ensures
     (λ kept row arrival found read.
     let notice = c.args.notice.now in
     read ∙ ap (λ known. arrival_of known notice) (known_kept notice_total (λ k. (k.1.sender, k.1.number)) (notice.sender, notice.number) _

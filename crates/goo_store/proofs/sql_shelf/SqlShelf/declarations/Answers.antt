@@ -18,5 +18,5 @@ pub returns : goal.returns
 unfolding state_of
 returns g c =
     looked (view g.S.Store c.args.self.now.conn) (view g.S.Store c.all_declarations-found.new.conn) c.args.self.now.well _ _ c.all_declarations-found.ensures.looks _ _ c.read_all.result
-    c.args.self.now.refused c.told.new.refused c.told.result (λ live db may. g.met.S.Store.settled c.args.self.now.conn.store db live may) c.if-self.false c.read_all.ensures c.told.ensures
+    c.args.self.now.refused c.told.new.refused c.told.result (λ live db may. g.met.S.Store.settled c.args.self.now.conn.store db live may) c.if-self.false c.read_all.ensures.value c.told.ensures
     (λ kept rows declared found read. read ∙ ap (map declaration_of) found)

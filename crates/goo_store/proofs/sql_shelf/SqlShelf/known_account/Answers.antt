@@ -21,5 +21,5 @@ pub returns : goal.returns
 unfolding state_of
 returns g c =
     looked (view g.S.Store c.args.self.now.conn) (view g.S.Store c.find_account-found.new.conn) c.args.self.now.well _ _ c.find_account-found.ensures.looks _ _ c.read_account.result
-    c.args.self.now.refused c.told.new.refused c.told.result (λ live db may. g.met.S.Store.settled c.args.self.now.conn.store db live may) c.if-self.false c.read_account.ensures c.told.ensures
+    c.args.self.now.refused c.told.new.refused c.told.result (λ live db may. g.met.S.Store.settled c.args.self.now.conn.store db live may) c.if-self.false c.read_account.ensures.value c.told.ensures
     (λ kept row account found read. known_row nat_cmp_total (λ a. a.number) c.args.account _ (λ a. ap (λ n. int_eq (pos a.number) (pos n)) c.get.ensures.value ∙ number_test a.number c.args.account) account_of _ _ account found read)

@@ -21,5 +21,5 @@ pub returns : goal.returns
 unfolding state_of
 returns g c =
     looked (view g.S.Store c.args.self.now.conn) (view g.S.Store c.find_cancellation-found.new.conn) c.args.self.now.well _ _ c.find_cancellation-found.ensures.looks _ _ c.read_record.result
-    c.args.self.now.refused c.told.new.refused c.told.result (λ live db may. g.met.S.Store.settled c.args.self.now.conn.store db live may) c.if-self.false c.read_record.ensures c.told.ensures
+    c.args.self.now.refused c.told.new.refused c.told.result (λ live db may. g.met.S.Store.settled c.args.self.now.conn.store db live may) c.if-self.false c.read_record.ensures.value c.told.ensures
     (λ kept row found_as found read. known_row nat_cmp_total (λ a. a.number) c.args.cancellation _ (λ a. ap (λ n. int_eq (pos a.number) (pos n)) c.get.ensures.value ∙ number_test a.number c.args.cancellation) cancellation_of _ _ found_as found read)

@@ -21,5 +21,5 @@ pub returns : goal.returns
 unfolding state_of
 returns g c =
     looked (view g.S.Store c.args.self.now.conn) (view g.S.Store c.find_device-found.new.conn) c.args.self.now.well _ _ c.find_device-found.ensures.looks _ _ c.read_device.result
-    c.args.self.now.refused c.told.new.refused c.told.result (λ live db may. g.met.S.Store.settled c.args.self.now.conn.store db live may) c.if-self.false c.read_device.ensures c.told.ensures
+    c.args.self.now.refused c.told.new.refused c.told.result (λ live db may. g.met.S.Store.settled c.args.self.now.conn.store db live may) c.if-self.false c.read_device.ensures.value c.told.ensures
     (λ kept row device found read. known_kept nat_list_cmp_total (λ k. k.1.gsrn) c.args.device.now _ (λ k. ap (bytes_eq k.1.gsrn) c.text.ensures.value ∙ text_test k.1.gsrn c.args.device.now) (λ k. k.1) device_of _ _ device found read)

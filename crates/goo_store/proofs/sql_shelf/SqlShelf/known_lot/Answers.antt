@@ -24,7 +24,7 @@ pub returns : goal.returns
 unfolding state_of
 returns g c =
     looked (view g.S.Store c.args.self.now.conn) (view g.S.Store c.find_lot-found.new.conn) c.args.self.now.well _ _ c.find_lot-found.ensures.looks _ _ c.read_found.result
-    c.args.self.now.refused c.told.new.refused c.told.result (λ live db may. g.met.S.Store.settled c.args.self.now.conn.store db live may) c.if-self.false c.read_found.ensures c.told.ensures
+    c.args.self.now.refused c.told.new.refused c.told.result (λ live db may. g.met.S.Store.settled c.args.self.now.conn.store db live may) c.if-self.false c.read_found.ensures.value c.told.ensures
     (λ kept row lot found read.
     known_row nat_list_cmp_total (λ l. key_of (lot_of l)) (lot_key c.args.origin c.args.device.now c.args.first_day) _
     (λ l. (λ i. int_eq (pos l.origin) (pos ((c.from-origin.ensures ∙ c.get.ensures.value) i)) && (bytes_eq l.device (c.text.ensures.value i) && bytes_eq l.first_day ((c.as_str.ensures.value ∙ c.day_text-day.ensures.text) i)))

@@ -21,5 +21,5 @@ pub returns : goal.returns
 unfolding state_of
 returns g c =
     looked (view g.S.Store c.args.self.now.conn) (view g.S.Store c.find_notice_out-found.new.conn) c.args.self.now.well _ _ c.find_notice_out-found.ensures.looks _ _ c.read_sent.result
-    c.args.self.now.refused c.told.new.refused c.told.result (λ live db may. g.met.S.Store.settled c.args.self.now.conn.store db live may) c.if-self.false c.read_sent.ensures c.told.ensures
+    c.args.self.now.refused c.told.new.refused c.told.result (λ live db may. g.met.S.Store.settled c.args.self.now.conn.store db live may) c.if-self.false c.read_sent.ensures.value c.told.ensures
     (λ kept row sent found read. known_row nat_cmp_total (λ a. a.number) c.args.notice _ (λ a. ap (λ n. int_eq (pos a.number) (pos n)) c.get.ensures.value ∙ number_test a.number c.args.notice) sent_of _ _ sent found read)

@@ -21,7 +21,7 @@ pub returns : goal.returns
 unfolding state_of
 returns g c =
     looked (view g.S.Store c.args.self.now.conn) (view g.S.Store c.find_peer-found.new.conn) c.args.self.now.well _ _ c.find_peer-found.ensures.looks _ _ c.is_there.result
-    c.args.self.now.refused c.told.new.refused c.told.result (λ live db may. g.met.S.Store.settled c.args.self.now.conn.store db live may) c.if-self.false c.is_there.ensures c.told.ensures
+    c.args.self.now.refused c.told.new.refused c.told.result (λ live db may. g.met.S.Store.settled c.args.self.now.conn.store db live may) c.if-self.false c.is_there.ensures.value c.told.ensures
     (λ kept row there found read.
     read ∙ sym (is_some-map (λ _. tt) row)
     ∙ ap is_some (known_kept nat_cmp_total (λ k. k.1.code) c.args.code _ (λ k. ap (λ n. int_eq (pos k.1.code) (pos n)) (c.from.ensures ∙ c.get.ensures.value) ∙ number_test k.1.code c.args.code) (λ k. k.1) (λ _. tt) _ row (option_map (λ _. tt) row) found refl)

@@ -20,5 +20,5 @@ pub returns : goal.returns
 unfolding state_of
 returns g c =
     looked (view g.S.Store c.args.self.now.conn) (view g.S.Store c.find_holder-found.new.conn) c.args.self.now.well _ _ c.find_holder-found.ensures.looks _ _ c.name_in.result
-    c.args.self.now.refused c.told.new.refused c.told.result (λ live db may. g.met.S.Store.settled c.args.self.now.conn.store db live may) c.if-self.false c.name_in.ensures c.told.ensures
+    c.args.self.now.refused c.told.new.refused c.told.result (λ live db may. g.met.S.Store.settled c.args.self.now.conn.store db live may) c.if-self.false c.name_in.ensures.value c.told.ensures
     (λ kept row name found read. known_kept nat_list_cmp_total (λ k. k.1.code) c.args.code.now _ (λ k. ap (bytes_eq k.1.code) c.text.ensures.value ∙ text_test k.1.code c.args.code.now) (λ k. k.1) (λ h. h.name) _ _ name found read)

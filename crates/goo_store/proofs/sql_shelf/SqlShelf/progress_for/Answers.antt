@@ -18,5 +18,5 @@ pub returns : goal.returns
 unfolding state_of
 returns g c =
     looked (view g.S.Store c.args.self.now.conn) (view g.S.Store c.find_device-found.new.conn) c.args.self.now.well _ _ c.find_device-found.ensures.looks _ _ c.read_progress.result
-    c.args.self.now.refused c.told.new.refused c.told.result (λ live db may. g.met.S.Store.settled c.args.self.now.conn.store db live may) c.if-self.false c.read_progress.ensures c.told.ensures
+    c.args.self.now.refused c.told.new.refused c.told.result (λ live db may. g.met.S.Store.settled c.args.self.now.conn.store db live may) c.if-self.false c.read_progress.ensures.value c.told.ensures
     (λ kept row progress found read. read ∙ ap progress_in (rw c.text.ensures.value at found) ∙ kept.progress c.args.device.now)

@@ -23,7 +23,7 @@ pub returns : goal.returns
 unfolding state_of
 returns g c =
     looked (view g.S.Store c.args.self.now.conn) (view g.S.Store c.find_receipt-found.new.conn) c.args.self.now.well _ _ c.find_receipt-found.ensures.looks _ _ c.read_receipt.result
-    c.args.self.now.refused c.told.new.refused c.told.result (λ live db may. g.met.S.Store.settled c.args.self.now.conn.store db live may) c.if-self.false c.read_receipt.ensures c.told.ensures
+    c.args.self.now.refused c.told.new.refused c.told.result (λ live db may. g.met.S.Store.settled c.args.self.now.conn.store db live may) c.if-self.false c.read_receipt.ensures.value c.told.ensures
     (λ kept row receipt found read.
     let caller = c.args.caller.now in
     let key = c.args.key.now in

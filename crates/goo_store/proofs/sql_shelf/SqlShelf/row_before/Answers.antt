@@ -21,6 +21,6 @@ pub returns : goal.returns
 unfolding rows_of
 returns g c =
     looked (view g.S.Store c.args.self.now.conn) (view g.S.Store c.piece_before-found.new.conn) c.args.self.now.well _ _ c.piece_before-found.ensures.looks _ _ c.read_maybe.result
-    c.args.self.now.refused c.told.new.refused c.told.result (λ live db may. g.met.S.Store.settled c.args.self.now.conn.store db live may) c.if-self.false c.read_maybe.ensures c.told.ensures
+    c.args.self.now.refused c.told.new.refused c.told.result (λ live db may. g.met.S.Store.settled c.args.self.now.conn.store db live may) c.if-self.false c.read_maybe.ensures.value c.told.ensures
     (λ kept row piece found read.
     last_found (λ a. nat_lt a.0.first c.args.low) (λ p. nat_lt p.first c.args.low) (λ a. refl) (pieces_beside (tables_in (view g.S.Store c.args.self.now.conn))) _ piece found read)

@@ -23,6 +23,6 @@ returns g c =
     looked_both old (view g.S.Store mid.conn) (view g.S.Store new.conn) c.args.self.now.refused mid.refused new.refused c.told.new.refused
     c.in_ok-declared.declared _ c.in_ok-declared.ensures c.in_ok-rows.rows _ _ c.totals_over-totals.result c.told.result c.in_ok-rows.ensures.looks c.told.ensures
     (λ fine same declared rows.
-    if_ok c.totals_over-totals.result c.totals_over-totals.ensures (λ totals is own devices.
+    if_ok c.totals_over-totals.result c.totals_over-totals.ensures.value (λ totals is own devices.
     is ∙ (λ i. map (summed_for (own i) ((c.deref.ensures.value ∙ declared) i) ((c.deref-2.ensures.value ∙ rows ∙ same) i)) (devices i))
     ∙ state_totals (tables_in old) (c.args.self.now.well.kept fine).rising))

@@ -1,0 +1,29 @@
+-- Rows that can be read, where their own values are not all that is asked of them.
+use Rattle.std.specs.Prelude.{ℕ, IsTrue, List, map, All}
+use Rattle.goo_types.specs.Lot.{IsLot}
+use Rattle.goo_types.specs.Piece.{IsRising}
+use Rattle.goo_columns.specs.Beside.{joined_in}
+use Rattle.goo_columns.specs.Rows.{Lot, NoticeOut}
+use Rattle.goo_columns.specs.declared.joined.JoinedRow.{JoinedRow}
+use Rattle.goo_columns.specs.declared.piece.PieceRow.{PieceRow}
+use Rattle.goo_kept.specs.Places.{lot_of, piece_of}
+use Rattle.goo_kept.specs.Readable.{is_lot, is_piece, is_notice_out}
+
+-- a lot, by its values and by the rules on its days
+pub record IsReadableLot (l : Lot) : Type 0 where
+  pub values : IsTrue (is_lot l)
+  pub days : IsLot (lot_of l)
+
+-- a notice that a registry sent, by its code
+abbrev pub IsReadableSent : NoticeOut → Type 0
+IsReadableSent n = (own : ℕ) × IsTrue (is_notice_out own n)
+
+-- a piece beside its lot
+pub record IsReadablePiece (a : PieceRow × Lot) : Type 0 where
+  pub values : IsTrue (is_piece a.0)
+  pub lot : IsReadableLot a.1
+
+-- rows of pieces beside their lots, which rise
+pub record AreReadablePieces (rows : List JoinedRow) : Type 0 where
+  pub each : All (λ row. IsReadablePiece (joined_in row)) rows
+  pub rising : IsRising (map piece_of (map joined_in rows))
