@@ -31,7 +31,7 @@ pub returns : goal.returns
 unfolding state_of
 returns g c =
     looked (view g.S.Store c.args.self.now.conn) (view g.S.Store c.find_device-found.new.conn) c.args.self.now.well _ _ c.find_device-found.ensures.looks _ _ c.read_record.result
-    c.args.self.now.refused c.told.new.refused c.told.result (λ live db may. g.met.S.Store.settled c.args.self.now.conn.store db live may) c.if-self.false c.read_record.ensures c.told.ensures
+    c.args.self.now.refused c.told.new.refused c.told.result (λ live db may. g.met.S.Store.settled c.args.self.now.conn.store db live may) c.if-self.false c.read_record.ensures.value c.told.ensures
     (λ kept found_row found_record found read.
     record_is _ c.args.device.now _ found_record read
     (known_kept nat_list_cmp_total (λ k. k.1.gsrn) c.args.device.now _ (λ k. ap (bytes_eq k.1.gsrn) c.text.ensures.value ∙ text_test k.1.gsrn c.args.device.now) (λ k. k.1) device_of _ _ _ found refl)
