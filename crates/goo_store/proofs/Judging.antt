@@ -37,10 +37,10 @@ refusal_of db t f stands (inr (inl unread)) = inr (inl (unread.0, ((λ kept. unr
 refusal_of db t f stands (inr (inr other)) = inr (inr other)
 
 module _ (rules : RulesAreThose) (old new : State) where
-  module _ {T : Type 0} (x : Found) (finds : Finds old new (Ok x) ShowsTables) where
-    was_ours : HasCleanDisk new → IsMet old → HasOurTables old.now
-    was_ours clean met = met.ours ((finds.rests clean met).was_open (finds.works clean))
+  was_ours : (x : Found) → Finds old new (Ok x) ShowsTables → HasCleanDisk new → IsMet old → HasOurTables old.now
+  was_ours x finds clean met = met.ours ((finds.rests clean met).was_open (finds.works clean))
 
+  module _ {T : Type 0} (x : Found) (finds : Finds old new (Ok x) ShowsTables) where
     -- what was read keeps the rules
     pub judged_right : (y : T) → KeepsRules x → Judges {T = T} old new (Ok y)
     judged_right y keeps = record {
@@ -50,7 +50,7 @@ module _ (rules : RulesAreThose) (old new : State) where
       works = finds.works;
       kept = λ clean met.
           let seen = finds.seen clean met in
-          (seen.0, seen.1, (rules old.now seen.0 x seen.1 (was_ours clean met).sound seen.2 seen.3).0 keeps);
+          (seen.0, seen.1, (rules old.now seen.0 x seen.1 (was_ours x finds clean met).sound seen.2 seen.3).0 keeps);
       right = λ _ _ _ _ _ _. tt;
       words = λ _ _ _ _ _. tt;
       crash = finds.crash;
@@ -66,14 +66,14 @@ module _ (rules : RulesAreThose) (old new : State) where
       kept = λ _ _. tt;
       right = λ clean met _ t stands kept.
           let seen = finds.seen clean met in
-          absurd (wrong ((rules old.now seen.0 x seen.1 (was_ours clean met).sound seen.2 seen.3).1 (subst AreKept (one_of old.now t seen.0 stands seen.1) kept)));
+          absurd (wrong ((rules old.now seen.0 x seen.1 (was_ours x finds clean met).sound seen.2 seen.3).1 (subst AreKept (one_of old.now t seen.0 stands seen.1) kept)));
       words = λ clean met _ t stands.
           let seen = finds.seen clean met in
           let same = one_of old.now t seen.0 stands seen.1 in
           inr (inl (
             refl,
             (
-              (λ kept. wrong ((rules old.now seen.0 x seen.1 (was_ours clean met).sound seen.2 seen.3).1 (subst AreKept same kept))),
+              (λ kept. wrong ((rules old.now seen.0 x seen.1 (was_ours x finds clean met).sound seen.2 seen.3).1 (subst AreKept same kept))),
               (λ can. ap (λ (u : Tables). u.meta.version) same ∙ seen.3),
             ),
           ));
