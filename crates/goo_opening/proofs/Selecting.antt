@@ -1,5 +1,5 @@
 -- That a SELECT changes nothing, whatever the schema.
-use Rattle.std.proofs.Common.{◌≡◌, ℕ, Bool, true, false, if◌then◌else◌, length, ◌+◌, List, Option, Some, None, Result, Ok, Err, IsSome, IsTrue, refl, sym, subst}
+use Rattle.std.proofs.Common.{◌≡◌, ℕ, Bool, true, false, if◌then◌else◌, ◌+◌, List, Option, None, Ok, Err, refl, sym, subst}
 use Rattle.std.specs.Prelude.{⊤}
 use Rattle.sqlite_ast.specs.declared.Statement.{Statement}
 use Rattle.sqlite_ast.specs.declared.Statement.TheVariants as written
@@ -16,7 +16,7 @@ use Rattle.sqlite.specs.Schema.{Schema}
 use Rattle.sqlite.specs.Tree.{Trees}
 use Rattle.sqlite.specs.Clock.{timed}
 use Rattle.sqlite.specs.Listing.{understood, reads_listing, if_select, is_select, listing_schema}
-use Rattle.sqlite.specs.State.{State, ShowsRows, Shown, CommitsShowing, MayWrite, Survives, text_of}
+use Rattle.sqlite.specs.State.{State, ShowsRows, Shown, CommitsShowing, Survives}
 use Rattle.sqlite.proofs.StateLemmas.{survives_weaker}
 use Rattle.goo_columns.specs.Stands.{Rests}
 use Rattle.goo_columns.proofs.Reading.{rests_unchanged}
