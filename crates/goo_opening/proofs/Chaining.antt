@@ -1,5 +1,5 @@
 -- Calls that only read, one after another.
-use Rattle.std.proofs.Common.{◌≡◌, ◌≤◌, inl, inr, Ok, Err, Result, false, IfOk, IfErr, IsTrue, sym, subst, ◌∙◌, arith, true≢false}
+use Rattle.std.proofs.Common.{◌≡◌, ◌≤◌, inl, inr, Ok, Err, Result, false, IfOk, IfErr, OnOk, IsTrue, sym, ap, subst, ◌∙◌, arith, true≢false}
 use Rattle.sqlite.specs.State.{State, HasCleanDisk, Survives}
 use Rattle.sqlite.specs.Tree.{Trees}
 use Rattle.sqlite.specs.Effect.{Database}
@@ -10,8 +10,13 @@ use Rattle.goo_columns.specs.Met.{HasOurTables}
 use Rattle.goo_columns.specs.Refused.{IsFault, FailsOnlyByFault}
 use Rattle.goo_opening.specs.Reading.{CanBeRead, IsMet, OnlyReads}
 
-no_more : (old new : State) → Survives old new (λ _. ⊥) → HasCleanDisk new → (db : Trees) → new.may_leave db → old.may_leave db
+pub no_more : (old new : State) → Survives old new (λ _. ⊥) → HasCleanDisk new → (db : Trees) → new.may_leave db → old.may_leave db
 no_more old new s clean db left = elim (s.crash clean db left) [ inl before ↦ before | inr none ↦ absurd none ]
+
+-- what a call showed while it left the connection open
+once_open : {T : Type 0} {A : Type 0} (P : T → Type 0) (r : Result T Error) → OnOk r A → (A → IfOk r P) → IfOk r P
+once_open P (Ok x) opens shows = shows opens
+once_open P (Err e) opens shows = tt
 
 -- one statement on a whole table
 pub reads_table : {T : Type 0} (old new : State) (r : Result T Error) (right : Tables → T → Type 0) (Shows : Database → T → Type 0) (P : Tables → Type 0) → Looks old new r right
@@ -19,21 +24,22 @@ pub reads_table : {T : Type 0} (old new : State) (r : Result T Error) (right : T
 reads_table old new r right Shows P looks outside met readable can = record {
   clean = λ h. omega (arith, h, looks.clean);
   outside = outside;
-  rests = λ clean it. looks.rests clean it.0.schema it.1;
+  rests = λ clean it. looks.rests clean it.schema it.settled;
   works = looks.works;
-  seen = λ clean it. met clean it.0;
-  crash = λ clean it. no_more old new (looks.crash it.0.schema) clean;
-  counts = λ clean it. (looks.crash it.0.schema).counts;
-  limit = λ clean it. (looks.crash it.0.schema).limit;
+  seen = λ clean it. once_open (Shows old.now) r looks.works (λ opens. met clean (it.ours (looks.was_open clean (opens clean))));
+  crash = λ clean it. no_more old new (looks.crash it.schema) clean;
+  counts = λ clean it. (looks.crash it.schema).counts;
+  limit = λ clean it. (looks.crash it.schema).limit;
   faulty = λ clean it unlimited t stands reads. readable clean unlimited t stands (can t reads);
 }
 
 -- the tables are met again
 met_again : (a b : State) → IsTrue b.is_open → Rests a b → IsMet a → IsMet b
-met_again a b live h it = (
-  subst HasOurTables (sym (h.now live)) it.0,
-  λ _. h.now live ∙ it.1 (h.was_open live) ∙ sym (h.committed live),
-)
+met_again a b live h it = record {
+  schema = ap (λ (d : Database). d.schema) (h.now live) ∙ it.schema;
+  ours = λ _. subst HasOurTables (sym (h.now live)) (it.ours (h.was_open live));
+  settled = λ _. h.now live ∙ it.settled (h.was_open live) ∙ sym (h.committed live);
+}
 
 module _ {T U : Type 0} (a b c : State) (x : T) (r : Result U Error) (First : Database → T → Type 0) (Next : Database → U → Type 0) (one : OnlyReads a b (Ok x) First) (two : OnlyReads b c r Next) where
   middle : HasCleanDisk c → IsMet a → IsMet b

@@ -85,6 +85,12 @@ not_damaged f is (inr memory) = absurd (apart (sym is ∙ memory))
     apart : Damaged ≡ Memory → ⊥
     apart same = absurd cc
 
+-- the word where a value can't be read and where a table is missing is the same
+pub once : (f : OpenFault) → IsOutside f ⊎ ((f ≡ Damaged) ⊎ (f ≡ Damaged)) → IsOutside f ⊎ (f ≡ Damaged)
+once f (inl out) = inl out
+once f (inr (inl is)) = inr is
+once f (inr (inr is)) = inr is
+
 -- a word from outside or `Damaged`, where tables that can be read are refused from outside alone
 unread_word : (t : Tables) (f : OpenFault) → IsOutside f ⊎ (f ≡ Damaged) → (CanBeRead t → IsOutside f) → IsWord t f
 unread_word t f (inl outside) readable = inl outside
@@ -115,7 +121,7 @@ module _ (a c : State) (e : Error) (f : OpenFault) (memory : e ≡ SqliteFailure
         counts = base.counts;
         limit = base.limit;
         right = λ clean it unlimited t stands good. outside_of (base.faulty clean it unlimited t stands good.0);
-        words = λ clean it unlimited t stands. unread_word t f (told_of unread (refused clean it.0.schema unlimited)) (λ can. outside_of (base.faulty clean it unlimited t stands can));
+        words = λ clean it unlimited t stands. unread_word t f (told_of unread (refused clean it.schema unlimited)) (λ can. outside_of (base.faulty clean it unlimited t stands can));
       }
 
 module _ (a b c : State) (m : MetaRow) (one : Finds a b (Ok m) ShowsMeta) where
@@ -131,7 +137,9 @@ module _ (a b c : State) (m : MetaRow) (one : Finds a b (Ok m) ShowsMeta) where
         outside = both.outside;
         rests = both.rests;
         works = both.works;
-        seen = λ clean it. let seen = both.seen clean it in earned a.now m x it.0 seen.0 seen.1;
+        seen = λ clean it.
+            let seen = both.seen clean it in
+            earned a.now m x (it.ours ((both.rests clean it).was_open (both.works clean))) seen.0 seen.1;
         crash = both.crash;
         counts = both.counts;
         limit = both.limit;
@@ -153,10 +161,5 @@ module _ (a b c : State) (m : MetaRow) (one : Finds a b (Ok m) ShowsMeta) where
         counts = both.counts;
         limit = both.limit;
         right = λ clean it unlimited t stands good. outside_of a c e f memory store (both.faulty clean it unlimited t stands good.0);
-        words = λ clean it unlimited t stands. unread_word t f (once said) (λ can. outside_of a c e f memory store (both.faulty clean it unlimited t stands can));
+        words = λ clean it unlimited t stands. unread_word t f (once f said) (λ can. outside_of a c e f memory store (both.faulty clean it unlimited t stands can));
       }
-    where
-      once : IsOutside f ⊎ ((f ≡ Damaged) ⊎ (f ≡ Damaged)) → IsOutside f ⊎ (f ≡ Damaged)
-      once (inl out) = inl out
-      once (inr (inl is)) = inr is
-      once (inr (inr is)) = inr is

@@ -2,3 +2,4 @@ pub mod Chaining
 pub mod Earning
 pub mod OnFiles
 pub mod Ours
+pub mod Selecting

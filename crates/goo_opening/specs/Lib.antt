@@ -2,3 +2,4 @@ pub mod Reading
 pub mod Shown
 pub mod Found
 pub mod Forms
+pub mod Foreign

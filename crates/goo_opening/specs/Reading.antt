@@ -8,6 +8,7 @@ use Rattle.sqlite.specs.declared.error.Error.{Error}
 use Rattle.goo_columns.specs.Rows.{Tables, meta_columns, holder_columns, account_columns, device_columns, declaration_columns, lot_columns, piece_columns, peer_columns, receipt_columns, cancellation_columns, withdrawal_columns, notice_out_columns, notice_in_columns}
 use Rattle.goo_columns.specs.Stands.{Stands, Rests, IsSettled}
 use Rattle.goo_columns.specs.Met.{HasOurTables}
+use Rattle.goo_columns.specs.Columns.{registry_schema}
 use Rattle.goo_columns.specs.Refused.{IsFault}
 use Rattle.goo_columns.specs.Readable.{numbered_meta_readable, holder_readable, account_readable, device_readable, declaration_readable, lot_readable, piece_readable, peer_readable, receipt_readable, cancellation_readable, withdrawal_readable, notice_out_readable, notice_in_readable}
 
@@ -27,9 +28,11 @@ pub record CanBeRead (t : Tables) : Type 0 where
   pub notices_out : All notice_out_readable (map notice_out_columns t.notices_out)
   pub notices_in : All notice_in_readable (map (λ k. notice_in_columns k.1) t.notices_in)
 
--- our tables with whatever rows, and nothing that waits for a commit
-abbrev pub IsMet : State → Type 0
-IsMet s = HasOurTables s.now × IsSettled s
+-- our tables with whatever rows, which an open connection keeps to their keys and checks, and nothing that waits for a commit
+pub record IsMet (s : State) : Type 0 where
+  pub schema : s.now.schema ≡ registry_schema
+  pub ours : IsTrue s.is_open → HasOurTables s.now
+  pub settled : IsSettled s
 
 -- Everything is said of a disk that has returned what was written.
 -- `seen` is what was found, in the database as it was and is; `rests` holds after an error too; `crash`: a crash finds nothing new;

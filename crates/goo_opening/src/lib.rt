@@ -4,6 +4,7 @@
 pub mod connecting;
 pub mod fault;
 pub mod finding;
+pub mod foreign;
 pub mod forms;
 pub mod matching;
 pub mod our_schema;

@@ -95,7 +95,7 @@ fn has_none(stamps: &Stamps) -> bool
 }
 
 /// Whether it is a STRICT table of this form, with neither CHECK, REFERENCES nor AUTOINCREMENT.
-fn is_table(table: &Table, form: &TableForm) -> bool
+pub fn is_table(table: &Table, form: &TableForm) -> bool
     ensures { IsTrue result ↔ (table.now ≡ table_meant form.now) }
 {
     table.name.as_slice() == form.name

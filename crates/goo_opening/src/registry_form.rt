@@ -3,7 +3,8 @@
 use crate::forms::ColumnForm::{Bytes, MaybeText, Number, NumberKey, Text};
 use crate::forms::{IndexForm, TableForm};
 
-const META: TableForm = TableForm {
+/// The table that tells a registry from other databases.
+pub const META: TableForm = TableForm {
     name: b"meta",
     tree: 0,
     key: Some(0),

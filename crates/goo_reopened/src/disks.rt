@@ -2,12 +2,11 @@
 
 ghost use Rattle.sqlite.specs.Held.{state};
 ghost use Rattle.sqlite.specs.State.{HasCleanDisk};
-ghost use Rattle.goo_columns.specs.Met.{HasOurTables};
+ghost use Rattle.goo_columns.specs.Met.{IsInKeyOrder};
 
 use crate::registries::{closed, opened};
 use goo_opening::connecting::open_ordered;
 use goo_opening::fault::OpenFault;
-use goo_opening::our_schema::has_our_schema;
 use sqlite::{Alter, Connection, FileStore, Files, Options};
 use sqlite_disk::{Crash, Disk, Fuse, Memory};
 use std::alloc::Global;
@@ -61,7 +60,7 @@ pub fn edited<D: Disk + Drop>(alloc: Global, files: Files<D>, sql: &str) -> Resu
 
 /// Why a database is not opened, if so, and the database as that leaves it.
 fn word_of<S: Alter>(alloc: Global, conn: Connection<S>) -> (Option<OpenFault>, Connection<S>)
-    requires ours { HasCleanDisk (state S.Store conn) → HasOurTables (state S.Store conn).now }
+    requires ordered { HasCleanDisk (state S.Store conn) → IsInKeyOrder (state S.Store conn).now }
 {
     match opened(alloc, conn) {
         Ok(registry) => (None, closed(registry).0),
@@ -79,11 +78,7 @@ pub fn judged<D: Disk + Drop>(
     }
     match open_ordered(alloc, files, Options::new(7)) {
         Ok(conn) => {
-            let (word, conn) = if has_our_schema(&conn) {
-                word_of(alloc, conn)
-            } else {
-                (Some(OpenFault::NotARegistry), conn)
-            };
+            let (word, conn) = word_of(alloc, conn);
             Ok((word, files_of(conn)))
         }
         Err(_) => Err("a database that isn't opened".into()),

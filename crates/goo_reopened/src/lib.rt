@@ -1,7 +1,9 @@
-//! A registry in tables that is closed and opened again, on damaged tables too, and after its disk stopped at any one call.
+//! A registry in tables that is closed and opened again, on damaged tables and foreign ones too, and after its disk failed at any
+//! one call, for good or once.
 //!
 //! It has tests alone. `script` has the requests and what they come to, `asking` sends them, `sight` tells what a registry
-//! shows, `registries` begins and opens them, `disks` has the files that they are kept in.
+//! shows, `registries` begins and opens them, `disks` has the files that they are kept in, and `lapses` the disk
+//! that fails once.
 #![tactic(auto)]
 
 #[cfg(test)]
@@ -10,6 +12,12 @@ mod asking;
 mod damages;
 #[cfg(test)]
 mod disks;
+#[cfg(test)]
+mod foreign;
+#[cfg(test)]
+mod lapses;
+#[cfg(test)]
+mod recovered;
 #[cfg(test)]
 mod registries;
 #[cfg(test)]

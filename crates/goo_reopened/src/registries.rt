@@ -3,7 +3,7 @@
 ghost use Rattle.std.specs.Prelude.{◌≡◌, false};
 ghost use Rattle.sqlite.specs.Held.{state};
 ghost use Rattle.sqlite.specs.State.{HasCleanDisk};
-ghost use Rattle.goo_columns.specs.Met.{HasOurTables};
+ghost use Rattle.goo_columns.specs.Met.{IsInKeyOrder};
 
 use goo_opening::fault::OpenFault;
 use goo_registry::Registry;
@@ -55,7 +55,7 @@ pub fn begun<S: Alter>(alloc: Global, conn: Connection<S>, beginning: Beginning)
 
 /// The registry that a database holds.
 pub fn opened<S: Alter>(alloc: Global, conn: Connection<S>) -> Entered<S>
-    requires ours { HasCleanDisk (state S.Store conn) → HasOurTables (state S.Store conn).now }
+    requires ordered { HasCleanDisk (state S.Store conn) → IsInKeyOrder (state S.Store conn).now }
 {
     if !conn.is_autocommit() {
         return Err((conn, OpenFault::Store));
@@ -79,7 +79,6 @@ pub fn opened_again<S: Alter>(alloc: Global, registry: Registry<SqlShelf<S>>) ->
     match shelf.today() {
         Ok(_) => {
             let conn = shelf.into_connection();
-            let _live = conn.schema();
             opened(alloc, conn)
         }
         Err(_) => Err((shelf.into_connection(), OpenFault::Store)),

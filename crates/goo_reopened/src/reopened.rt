@@ -2,16 +2,15 @@
 
 ghost use Rattle.sqlite.specs.Held.{state};
 ghost use Rattle.sqlite.specs.State.{HasCleanDisk};
-ghost use Rattle.goo_columns.specs.Met.{HasOurTables};
+ghost use Rattle.goo_columns.specs.Met.{IsInKeyOrder};
 
 use crate::asking::plays;
 use crate::disks::{blank, files_of};
 use crate::registries::{begun, closed, in_march, opened, opened_again};
 use crate::script::{APRIL, Line, SCRIPT};
 use crate::sight::sight;
-use goo_opening::connecting::open_ordered;
+use goo_opening::connecting::{open_ordered, open_ordered_in_memory};
 use goo_opening::fault::OpenFault;
-use goo_opening::our_schema::has_our_schema;
 use goo_registry::Registry;
 use goo_store::sql_shelf::SqlShelf;
 use sqlite::{Alter, Connection, Files, Options};
@@ -69,7 +68,7 @@ pub fn shows_there<S: Alter + Drop>(
     conn: Connection<S>,
     wanted: &str,
 ) -> Result<(), Fail>
-    requires ours { HasCleanDisk (state S.Store conn) → HasOurTables (state S.Store conn).now }
+    requires ordered { HasCleanDisk (state S.Store conn) → IsInKeyOrder (state S.Store conn).now }
 {
     let Ok(mut registry) = opened(alloc, conn) else {
         return Err("not opened".into());
@@ -159,9 +158,6 @@ fn shows_on<D: Disk + Drop>(
     let Ok(conn) = open_ordered(alloc, files, Options::new(7)) else {
         return Err("a database that isn't opened".into());
     };
-    if !has_our_schema(&conn) {
-        return Err("other tables".into());
-    }
     shows_there(rt, alloc, conn, wanted)
 }
 
@@ -185,7 +181,7 @@ fn on_disks(rt: HostRuntime) -> Result<(), Fail> {
 #[test]
 fn an_empty_database_holds_none(rt: HostRuntime) -> Result<(), Fail> {
     let alloc = rt.alloc();
-    let conn = Connection::open_in_memory(alloc)?;
+    let conn = open_ordered_in_memory(alloc)?;
     if !conn.is_autocommit() {
         return Err("a transaction".into());
     }

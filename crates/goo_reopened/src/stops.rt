@@ -3,7 +3,7 @@
 
 ghost use Rattle.sqlite.specs.Held.{state};
 ghost use Rattle.sqlite.specs.State.{HasCleanDisk};
-ghost use Rattle.goo_columns.specs.Met.{HasOurTables};
+ghost use Rattle.goo_columns.specs.Met.{IsInKeyOrder};
 
 use crate::asking::{asks, is_outcome, plays, plays_one};
 use crate::disks::{crashed, files_of, stopping};
@@ -13,7 +13,6 @@ use crate::script::SCRIPT;
 use crate::sight::sight;
 use goo_opening::connecting::open_ordered;
 use goo_opening::fault::OpenFault;
-use goo_opening::our_schema::has_our_schema;
 use goo_registry::{ReadFault, Registry};
 use goo_store::sql_shelf::SqlShelf;
 use goo_types::fault::Fault;
@@ -144,7 +143,7 @@ fn kept_of(rt: &impl Abort, shown: &str, answered: usize, wanted: &[String]) -> 
     more
 }
 
-/// The registry that a database holds after a stop has kept the requests answered, or one more.
+/// The registry that a database holds after a stop has kept the requests answered, or one more. One is begun where there is none.
 fn returns<S: Alter + Drop>(
     rt: &impl Abort,
     alloc: Global,
@@ -152,14 +151,20 @@ fn returns<S: Alter + Drop>(
     answered: usize,
     wanted: &[String],
 ) -> Result<(), Fail>
-    requires ours { HasCleanDisk (state S.Store conn) → HasOurTables (state S.Store conn).now }
+    requires ordered { HasCleanDisk (state S.Store conn) → IsInKeyOrder (state S.Store conn).now }
 {
-    let Ok(mut registry) = opened(alloc, conn) else {
-        return Err("not opened after a stop".into());
-    };
-    let shown = sight(alloc, &mut registry)?;
-    let kept = kept_of(rt, &shown, answered, wanted);
-    ends(rt, alloc, &mut registry, kept)
+    match opened(alloc, conn) {
+        Ok(registry) => {
+            let mut registry = registry;
+            let shown = sight(alloc, &mut registry)?;
+            let kept = kept_of(rt, &shown, answered, wanted);
+            ends(rt, alloc, &mut registry, kept)
+        }
+        Err((conn, fault)) => {
+            assert_eq!(rt; fault, OpenFault::NotARegistry);
+            starts_over(rt, alloc, conn, answered)
+        }
+    }
 }
 
 /// A database that holds no registry after a stop gets one: no request was answered.
@@ -177,7 +182,7 @@ fn starts_over<S: Alter + Drop>(
 }
 
 /// What a crash left on disks is opened again.
-fn goes_on<D: Disk + Drop>(
+pub fn goes_on<D: Disk + Drop>(
     rt: &impl Abort,
     alloc: Global,
     files: Files<D>,
@@ -190,11 +195,7 @@ fn goes_on<D: Disk + Drop>(
     let Ok(conn) = open_ordered(alloc, files, Options::new(7)) else {
         return Err("a database that isn't opened".into());
     };
-    if has_our_schema(&conn) {
-        returns(rt, alloc, conn, answered, wanted)
-    } else {
-        starts_over(rt, alloc, conn, answered)
-    }
+    returns(rt, alloc, conn, answered, wanted)
 }
 
 /// Whether disks stop before all requests are answered; what a crash leaves goes on.
@@ -210,7 +211,7 @@ fn stops_on<D: Crash + Drop>(
 }
 
 /// What the registry shows without a stop, request by request: no two neighbours are alike.
-fn wanted_sights(rt: &impl Abort, alloc: Global) -> Result<Vec<String>, Fail> {
+pub fn wanted_sights(rt: &impl Abort, alloc: Global) -> Result<Vec<String>, Fail> {
     let conn = Connection::open_in_memory(alloc)?;
     let shown = sights(rt, alloc, conn)?;
     for (text, next) in shown.iter().zip(shown.iter().skip(1)) {
@@ -220,7 +221,7 @@ fn wanted_sights(rt: &impl Abort, alloc: Global) -> Result<Vec<String>, Fail> {
 }
 
 /// More rounds than any of the loops below needs.
-const ROUNDS: u64 = 1000;
+pub const ROUNDS: u64 = 1000;
 
 /// The log stops at every fourth call from this one on.
 fn log_stops(rt: &impl Abort, alloc: Global, from: u64) -> Result<(), Fail> {

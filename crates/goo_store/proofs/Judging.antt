@@ -1,9 +1,11 @@
 -- From what was found and judged to what opening says.
-use Rattle.std.proofs.Common.{◌≡◌, inl, inr, Ok, Err, refl, sym, ap, subst, ◌∙◌}
+use Rattle.std.proofs.Common.{◌≡◌, inl, inr, Ok, Err, IsTrue, refl, sym, ap, subst, ◌∙◌}
 use Rattle.sqlite.specs.State.{State, HasCleanDisk}
 use Rattle.sqlite.specs.Effect.{Database}
 use Rattle.goo_columns.specs.Rows.{Tables, tables_of}
-use Rattle.goo_columns.specs.Stands.{Stands, doubts}
+use Rattle.goo_columns.specs.Met.{HasOurTables}
+use Rattle.goo_columns.specs.Columns.{registry_schema}
+use Rattle.goo_columns.specs.Stands.{Stands, IsSettled, doubts}
 use Rattle.goo_columns.proofs.Decoded.{decoded}
 use Rattle.goo_rows.proofs.CertificateLemmas.{certificates-rows}
 use Rattle.goo_rows.specs.Rows.{AreRowsOf}
@@ -21,6 +23,9 @@ use Rattle.goo_store.specs.Moments.{IsWell, tables_in}
 use Rattle.goo_store.specs.Opening.{IsRefusal, Judges}
 use Rattle.goo_store.specs.Holding.{sure}
 
+pub met_ours : (s : State) → s.now.schema ≡ registry_schema → (IsTrue s.is_open → HasOurTables s.now) → IsSettled s → IsMet s
+met_ours s schema ours settled = record { schema = schema; ours = ours; settled = settled }
+
 -- a database holds one set of tables
 one_of : (db : Database) (t u : Tables) → Stands db t → Stands db u → t ≡ u
 one_of db t u a b = sym (decoded db t a) ∙ decoded db u b
@@ -32,6 +37,9 @@ refusal_of db t f stands (inr (inl unread)) = inr (inl (unread.0, ((λ kept. unr
 refusal_of db t f stands (inr (inr other)) = inr (inr other)
 
 module _ (rules : RulesAreThose) (old new : State) where
+  was_ours : (x : Found) → Finds old new (Ok x) ShowsTables → HasCleanDisk new → IsMet old → HasOurTables old.now
+  was_ours x finds clean met = met.ours ((finds.rests clean met).was_open (finds.works clean))
+
   module _ {T : Type 0} (x : Found) (finds : Finds old new (Ok x) ShowsTables) where
     -- what was read keeps the rules
     pub judged_right : (y : T) → KeepsRules x → Judges {T = T} old new (Ok y)
@@ -42,7 +50,7 @@ module _ (rules : RulesAreThose) (old new : State) where
       works = finds.works;
       kept = λ clean met.
           let seen = finds.seen clean met in
-          (seen.0, seen.1, (rules old.now seen.0 x seen.1 met.0.sound seen.2 seen.3).0 keeps);
+          (seen.0, seen.1, (rules old.now seen.0 x seen.1 (was_ours x finds clean met).sound seen.2 seen.3).0 keeps);
       right = λ _ _ _ _ _ _. tt;
       words = λ _ _ _ _ _. tt;
       crash = finds.crash;
@@ -58,14 +66,14 @@ module _ (rules : RulesAreThose) (old new : State) where
       kept = λ _ _. tt;
       right = λ clean met _ t stands kept.
           let seen = finds.seen clean met in
-          absurd (wrong ((rules old.now seen.0 x seen.1 met.0.sound seen.2 seen.3).1 (subst AreKept (one_of old.now t seen.0 stands seen.1) kept)));
+          absurd (wrong ((rules old.now seen.0 x seen.1 (was_ours x finds clean met).sound seen.2 seen.3).1 (subst AreKept (one_of old.now t seen.0 stands seen.1) kept)));
       words = λ clean met _ t stands.
           let seen = finds.seen clean met in
           let same = one_of old.now t seen.0 stands seen.1 in
           inr (inl (
             refl,
             (
-              (λ kept. wrong ((rules old.now seen.0 x seen.1 met.0.sound seen.2 seen.3).1 (subst AreKept same kept))),
+              (λ kept. wrong ((rules old.now seen.0 x seen.1 (was_ours x finds clean met).sound seen.2 seen.3).1 (subst AreKept same kept))),
               (λ can. ap (λ (u : Tables). u.meta.version) same ∙ seen.3),
             ),
           ));
@@ -110,7 +118,7 @@ module _ {T : Type 0} (old new : State) (y : T) (judges : Judges {T = T} old new
     settled = λ none.
         let rests = judges.rests (sure new none).0 (before none) in
         let live = (sure new none).1 in
-        now_same none ∙ (before none).1 (rests.was_open live) ∙ sym (rests.committed live);
+        now_same none ∙ (before none).settled (rests.was_open live) ∙ sym (rests.committed live);
   }
 
   -- the state is that of the tables that were there

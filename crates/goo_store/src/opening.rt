@@ -1,26 +1,28 @@
 //! Opening the registry that a database holds.
 
-ghost use Rattle.std.specs.Prelude.{◌≡◌, None, Err, false, IsTrue, IfOk, IfErr};
+ghost use Rattle.std.specs.Prelude.{◌≡◌, None, Err, false, IsTrue, IfOk, IfErr, IsErrAnd};
 ghost use Rattle.sqlite.specs.Held.{state as view};
 ghost use Rattle.sqlite.specs.State.{HasCleanDisk};
 ghost use Rattle.sqlite.specs.Tree.{Trees};
-ghost use Rattle.goo_columns.specs.Columns.{no_schema};
-ghost use Rattle.goo_columns.specs.Met.{HasOurTables};
+ghost use Rattle.goo_columns.specs.Columns.{no_schema, registry_schema};
+ghost use Rattle.goo_columns.specs.Met.{IsInKeyOrder};
 ghost use Rattle.goo_columns.specs.Rows.{Tables};
 ghost use Rattle.goo_columns.specs.Stands.{Stands, Rests};
 ghost use Rattle.goo_kept.specs.Kept.{AreKept};
 ghost use Rattle.goo_kept.specs.States.{state_of};
 ghost use Rattle.goo_opening.specs.Found.{IsOutside};
+ghost use Rattle.goo_opening.specs.Foreign.{LacksMeta, TellsVersion, IsForeignWord};
 ghost use Rattle.goo_rows.specs.Rows.{AreRowsOf};
 ghost use Rattle.goo_spec.specs.Sound.{IsSound};
 ghost use Rattle.goo_shelf.specs.Shelf.{IsReady};
 ghost use Rattle.goo_store.specs.Moments.{moment};
 ghost use Rattle.goo_store.specs.Opening.{IsRefusal, Judges};
 
-use crate::creating::is_empty;
 use crate::sql_shelf::SqlShelf;
 use goo_opening::fault::OpenFault;
 use goo_opening::finding::find_tables;
+use goo_opening::foreign::foreign_fault;
+use goo_opening::our_schema::has_our_schema;
 use goo_rules::judging::keeps_rules;
 use sqlite::{Alter, Connection};
 use std::alloc::Global;
@@ -40,19 +42,19 @@ fn judge<S: Alter>(alloc: Global, conn: &mut Connection<S>) -> Result<(), OpenFa
 }
 
 impl<S: Alter> SqlShelf<S> {
-    /// The registry that a database holds. If it isn't empty, its tables must be those that `create` makes, in whatever state: no
-    /// call looks at their keys and checks.
+    /// The registry that a database holds, whatever its tables are.
     ///
     /// # Errors
     ///
-    /// The database, unchanged, with `NotARegistry`, `Version` or `Damaged` where it holds no registry whose tables keep the
-    /// rules; with `Store` where a call was refused, and `Memory` where memory was. It is outside a transaction.
+    /// The database, unchanged, with `NotARegistry`, `Version` or `Damaged` where it holds no registry whose tables are those
+    /// that `create` makes and keep the rules; with `Store` where a call was refused, and `Memory` where memory was. It is
+    /// outside a transaction.
     pub fn open(
         alloc: Global,
         conn: Connection<S>,
     ) -> Result<SqlShelf<S>, (Connection<S>, OpenFault)>
         requires outside { conn.in_transaction ≡ false }
-        requires ours { HasCleanDisk (view S.Store conn) → ((view S.Store conn).now.schema ≡ no_schema → ⊥) → HasOurTables (view S.Store conn).now }
+        requires ordered { HasCleanDisk (view S.Store conn) → IsInKeyOrder (view S.Store conn).now }
         ensures state { IfOk result (λ shelf. (t : Tables) → Stands (view S.Store conn).now t → (moment (view S.Store shelf.conn) shelf.refused).doubts ≡ 0 → (moment (view S.Store shelf.conn) shelf.refused).state ≡ state_of t) }
         ensures sound { IfOk result (λ shelf. (moment (view S.Store shelf.conn) shelf.refused).doubts ≡ 0 → IsSound (moment (view S.Store shelf.conn) shelf.refused).state) }
         ensures rows_fit { IfOk result (λ shelf. (moment (view S.Store shelf.conn) shelf.refused).doubts ≡ 0 → AreRowsOf (moment (view S.Store shelf.conn) shelf.refused).state.at (moment (view S.Store shelf.conn) shelf.refused).rows) }
@@ -61,16 +63,21 @@ impl<S: Alter> SqlShelf<S> {
         ensures rests { IfOk result (λ shelf. HasCleanDisk (view S.Store shelf.conn) → Rests (view S.Store conn) (view S.Store shelf.conn)) }
         ensures refused { IfErr result (λ e. HasCleanDisk (view S.Store e.0) → (view S.Store conn).step_limit ≡ None → (t : Tables) → Stands (view S.Store conn).now t → AreKept t → IsOutside e.1) }
         ensures words { IfErr result (λ e. HasCleanDisk (view S.Store e.0) → (view S.Store conn).step_limit ≡ None → (t : Tables) → Stands (view S.Store conn).now t → IsRefusal t e.1) }
+        ensures foreign { ((view S.Store conn).now.schema ≡ registry_schema → ⊥) → IsErrAnd result (λ e. IsForeignWord e.1) }
+        ensures version { ((view S.Store conn).now.schema ≡ registry_schema → ⊥) → (LacksMeta (view S.Store conn).now.schema → ⊥)
+            → IfErr result (λ e. HasCleanDisk (view S.Store e.0) → TellsVersion (view S.Store conn) (view S.Store e.0) e.1) }
+        ensures lacking { LacksMeta (view S.Store conn).now.schema → result ≡ Err (conn, OpenFault.NotARegistry) }
         ensures empty { (view S.Store conn).now.schema ≡ no_schema → result ≡ Err (conn, OpenFault.NotARegistry) }
         ensures unchanged { IfErr result (λ e. HasCleanDisk (view S.Store e.0) → Rests (view S.Store conn) (view S.Store e.0)) }
         ensures outside { IfErr result (λ e. e.0.in_transaction ≡ false) }
         ensures crash { IfErr result (λ e. HasCleanDisk (view S.Store e.0) → (db : Trees) → (view S.Store e.0).may_leave db → (view S.Store conn).may_leave db) }
     {
         let mut conn = conn;
-        if is_empty(&conn) {
-            return Err((conn, OpenFault::NotARegistry));
-        }
         let _settled = conn.is_autocommit();
+        if !has_our_schema(&conn) {
+            let fault = foreign_fault(&mut conn);
+            return Err((conn, fault));
+        }
         match judge(alloc, &mut conn) {
             Ok(()) => Ok(SqlShelf::over(alloc, conn)),
             Err(fault) => Err((conn, fault)),

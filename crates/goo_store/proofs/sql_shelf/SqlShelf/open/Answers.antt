@@ -7,21 +7,21 @@ use Rattle.goo_kept.specs.States.{state_of}
 use Rattle.goo_opening.specs.Reading.{IsMet}
 use Rattle.goo_store.specs.Moments.{count, tables_in}
 use Rattle.goo_store.specs.Holding.{is_sure, safe}
-use Rattle.goo_store.proofs.Judging.{opened_well, opened_state, opened_kept, rows_fit}
+use Rattle.goo_store.proofs.Judging.{met_ours, opened_well, opened_state, opened_kept, rows_fit}
 use Rattle.goo_store.proofs.sql_shelf.SqlShelf.open.Goals as goal
 
 pub over-requires-clause-well : goal.over-requires-clause-well
 over-requires-clause-well g c =
     let out : IsTrue c.is_autocommit-settled.result = search rules in
-    let not_empty : c.is_empty.result ≡ false = search rules in
-    let met : HasCleanDisk (view g.S.Store c.args.conn) → IsMet (view g.S.Store c.args.conn) = λ clean. (c.requires.ours clean (λ is. true≢false (sym (c.is_empty.ensures.1 is) ∙ not_empty)), λ live. c.is_autocommit-settled.ensures.settled out live) in
+    let is_ours : IsTrue c.has_our_schema.result = search rules in
+    let met : HasCleanDisk (view g.S.Store c.args.conn) → IsMet (view g.S.Store c.args.conn) = λ clean. met_ours (view g.S.Store c.args.conn) (c.has_our_schema.ensures.schema.0 is_ours) (λ live. c.has_our_schema.ensures.ours is_ours live (c.requires.ordered clean)) (c.is_autocommit-settled.ensures.settled out) in
     opened_well (view g.S.Store c.args.conn) (view g.S.Store c.judge.new.conn) c.in-Ok.field-0 c.in-Ok.ensures met
 
 pub returns-in-Ok-clause-state : goal.returns-in-Ok-clause-state
 returns-in-Ok-clause-state g c = λ t stands.
     let out : IsTrue c.is_autocommit-settled.result = search rules in
-    let not_empty : c.is_empty.result ≡ false = search rules in
-    let met : HasCleanDisk (view g.S.Store c.args.conn) → IsMet (view g.S.Store c.args.conn) = λ clean. (c.requires.ours clean (λ is. true≢false (sym (c.is_empty.ensures.1 is) ∙ not_empty)), λ live. c.is_autocommit-settled.ensures.settled out live) in
+    let is_ours : IsTrue c.has_our_schema.result = search rules in
+    let met : HasCleanDisk (view g.S.Store c.args.conn) → IsMet (view g.S.Store c.args.conn) = λ clean. met_ours (view g.S.Store c.args.conn) (c.has_our_schema.ensures.schema.0 is_ours) (λ live. c.has_our_schema.ensures.ours is_ours live (c.requires.ordered clean)) (c.is_autocommit-settled.ensures.settled out) in
     subst (λ conn. doubts (view g.S.Store conn) ≡ 0 → state_of (tables_in (view g.S.Store conn)) ≡ state_of t) (sym c.over.ensures.conn)
     (opened_state (view g.S.Store c.args.conn) (view g.S.Store c.judge.new.conn) c.in-Ok.field-0 c.in-Ok.ensures met t stands)
 
@@ -35,31 +35,31 @@ returns-in-Ok-clause-ready g c = record {
 pub returns-in-Ok-clause-kept : goal.returns-in-Ok-clause-kept
 returns-in-Ok-clause-kept g c = λ t stands.
     let out : IsTrue c.is_autocommit-settled.result = search rules in
-    let not_empty : c.is_empty.result ≡ false = search rules in
-    let met : HasCleanDisk (view g.S.Store c.args.conn) → IsMet (view g.S.Store c.args.conn) = λ clean. (c.requires.ours clean (λ is. true≢false (sym (c.is_empty.ensures.1 is) ∙ not_empty)), λ live. c.is_autocommit-settled.ensures.settled out live) in
+    let is_ours : IsTrue c.has_our_schema.result = search rules in
+    let met : HasCleanDisk (view g.S.Store c.args.conn) → IsMet (view g.S.Store c.args.conn) = λ clean. met_ours (view g.S.Store c.args.conn) (c.has_our_schema.ensures.schema.0 is_ours) (λ live. c.has_our_schema.ensures.ours is_ours live (c.requires.ordered clean)) (c.is_autocommit-settled.ensures.settled out) in
     subst (λ conn. HasCleanDisk (view g.S.Store conn) → AreKept t) (sym c.over.ensures.conn)
     (λ clean. opened_kept (view g.S.Store c.args.conn) (view g.S.Store c.judge.new.conn) c.in-Ok.field-0 c.in-Ok.ensures met t stands clean)
 
 pub returns-in-Ok-clause-rests : goal.returns-in-Ok-clause-rests
 returns-in-Ok-clause-rests g c =
     let out : IsTrue c.is_autocommit-settled.result = search rules in
-    let not_empty : c.is_empty.result ≡ false = search rules in
-    let met : HasCleanDisk (view g.S.Store c.args.conn) → IsMet (view g.S.Store c.args.conn) = λ clean. (c.requires.ours clean (λ is. true≢false (sym (c.is_empty.ensures.1 is) ∙ not_empty)), λ live. c.is_autocommit-settled.ensures.settled out live) in
+    let is_ours : IsTrue c.has_our_schema.result = search rules in
+    let met : HasCleanDisk (view g.S.Store c.args.conn) → IsMet (view g.S.Store c.args.conn) = λ clean. met_ours (view g.S.Store c.args.conn) (c.has_our_schema.ensures.schema.0 is_ours) (λ live. c.has_our_schema.ensures.ours is_ours live (c.requires.ordered clean)) (c.is_autocommit-settled.ensures.settled out) in
     subst (λ conn. HasCleanDisk (view g.S.Store conn) → Rests (view g.S.Store c.args.conn) (view g.S.Store conn)) (sym c.over.ensures.conn)
     (λ clean. c.in-Ok.ensures.rests clean (met (c.in-Ok.ensures.clean clean)))
 
 pub returns-in-Err-clause-refused : goal.returns-in-Err-clause-refused
 returns-in-Err-clause-refused g c = λ clean unlimited t stands kept.
     let out : IsTrue c.is_autocommit-settled.result = search rules in
-    let not_empty : c.is_empty.result ≡ false = search rules in
-    let met : HasCleanDisk (view g.S.Store c.args.conn) → IsMet (view g.S.Store c.args.conn) = λ early. (c.requires.ours early (λ is. true≢false (sym (c.is_empty.ensures.1 is) ∙ not_empty)), λ live. c.is_autocommit-settled.ensures.settled out live) in
+    let is_ours : IsTrue c.has_our_schema.result = search rules in
+    let met : HasCleanDisk (view g.S.Store c.args.conn) → IsMet (view g.S.Store c.args.conn) = λ clean. met_ours (view g.S.Store c.args.conn) (c.has_our_schema.ensures.schema.0 is_ours) (λ live. c.has_our_schema.ensures.ours is_ours live (c.requires.ordered clean)) (c.is_autocommit-settled.ensures.settled out) in
     c.in-Err.ensures.right clean (met (c.in-Err.ensures.clean clean)) unlimited t stands kept
 
 pub returns-in-Err-clause-words : goal.returns-in-Err-clause-words
 returns-in-Err-clause-words g c = λ clean unlimited t stands.
     let out : IsTrue c.is_autocommit-settled.result = search rules in
-    let not_empty : c.is_empty.result ≡ false = search rules in
-    let met : HasCleanDisk (view g.S.Store c.args.conn) → IsMet (view g.S.Store c.args.conn) = λ early. (c.requires.ours early (λ is. true≢false (sym (c.is_empty.ensures.1 is) ∙ not_empty)), λ live. c.is_autocommit-settled.ensures.settled out live) in
+    let is_ours : IsTrue c.has_our_schema.result = search rules in
+    let met : HasCleanDisk (view g.S.Store c.args.conn) → IsMet (view g.S.Store c.args.conn) = λ clean. met_ours (view g.S.Store c.args.conn) (c.has_our_schema.ensures.schema.0 is_ours) (λ live. c.has_our_schema.ensures.ours is_ours live (c.requires.ordered clean)) (c.is_autocommit-settled.ensures.settled out) in
     c.in-Err.ensures.words clean (met (c.in-Err.ensures.clean clean)) unlimited t stands
 
 pub returns-in-Ok-clause-sound : goal.returns-in-Ok-clause-sound

@@ -1,0 +1,133 @@
+//! A disk that fails once: it passes all calls on but one.
+ghost use Rattle.std.specs.Prelude.{◌≡◌, ◌+◌, ◌&&◌, not, false};
+ghost use Rattle.sqlite_disk.specs.Disk.{CountsFault};
+ghost use Rattle.sqlite_disk.specs.Refusal.{finds_no_room};
+
+use sqlite_disk::{Crash, Disk, Tally};
+use std::io;
+
+/// A disk that fails one call, and works again.
+#[derive(Drop)]
+pub struct Lapse<D: Disk> {
+    inner: D,
+    /// How many calls were made.
+    calls: u64,
+    /// The call that fails, counted from 0.
+    fails_at: u64,
+    refused: u64,
+    sync_refused: bool,
+}
+
+impl<D: Disk> Lapse<D> {
+    /// The disk, whose call of this number fails, counted from 0.
+    pub fn new(inner: D, fails_at: u64) -> Lapse<D> {
+        Lapse {
+            inner,
+            calls: 0,
+            fails_at,
+            refused: 0,
+            sync_refused: false,
+        }
+    }
+
+    /// How many calls were made.
+    pub fn calls(&self) -> u64 {
+        self.calls
+    }
+}
+
+/// Counts a call, which fails if it is the one.
+fn count(calls: &mut u64, fails_at: u64, refused: &mut u64) -> io::Result<()>
+    ensures faults { CountsFault result refused.old refused.new }
+    ensures kind { finds_no_room result ≡ false }
+{
+    let call = *calls;
+    *calls = calls.saturating_add(1);
+    if call == fails_at {
+        *refused = refused.saturating_add(1);
+        return Err(io::Error::other("a lapse"));
+    }
+    Ok(())
+}
+
+impl<D: Disk> Disk for Lapse<D> {
+    ghost seen = { λ f. D.Disk.seen f.inner };
+
+    ghost may_leave = { λ f. D.Disk.may_leave f.inner };
+
+    ghost is_usable = { λ f. D.Disk.is_usable f.inner && not f.sync_refused };
+
+    ghost faults = { λ f. D.Disk.faults f.inner + f.refused };
+
+    ghost tally_of = { λ f. D.Disk.tally_of f.inner };
+
+    ghost key_of = { λ f. D.Disk.key_of f.inner };
+
+    ghost is_clean = { λ f. D.Disk.is_clean f.inner };
+
+    ghost is_fair = { λ f. D.Disk.is_fair f.inner };
+
+    ghost fair_if_clean = { λ f. D.Disk.fair_if_clean f.inner };
+
+    ghost seen_may_stay = { λ f. D.Disk.seen_may_stay f.inner };
+
+    ghost is_mixing = { λ f. D.Disk.is_mixing f.inner };
+
+    fn mixes(&self) -> bool {
+        self.inner.mixes()
+    }
+
+    fn key(&self) -> u64 {
+        self.inner.key()
+    }
+
+    fn tally(&self) -> Tally {
+        self.inner.tally()
+    }
+
+    fn may_be_used(&self) -> bool {
+        self.inner.may_be_used() && !self.sync_refused
+    }
+
+    fn len(&mut self) -> io::Result<usize> {
+        count(&mut self.calls, self.fails_at, &mut self.refused)?;
+        self.inner.len()
+    }
+
+    fn read_at(&mut self, at: usize, buf: &mut [u8]) -> io::Result<()> {
+        count(&mut self.calls, self.fails_at, &mut self.refused)?;
+        self.inner.read_at(at, buf)
+    }
+
+    fn read_checked(&mut self, key: u64, want: u64, at: usize, buf: &mut [u8]) -> io::Result<()> {
+        count(&mut self.calls, self.fails_at, &mut self.refused)?;
+        self.inner.read_checked(key, want, at, buf)
+    }
+
+    fn write_at(&mut self, at: usize, bytes: &[u8]) -> io::Result<()> {
+        count(&mut self.calls, self.fails_at, &mut self.refused)?;
+        self.inner.write_at(at, bytes)
+    }
+
+    fn set_len(&mut self, len: usize) -> io::Result<()> {
+        count(&mut self.calls, self.fails_at, &mut self.refused)?;
+        self.inner.set_len(len)
+    }
+
+    fn sync(&mut self) -> io::Result<()> {
+        if let Err(error) = count(&mut self.calls, self.fails_at, &mut self.refused) {
+            self.sync_refused = true;
+            return Err(error);
+        }
+        self.inner.sync()
+    }
+}
+
+/// The machine comes back, and no call fails any more.
+impl<D: Crash> Crash for Lapse<D> {
+    fn crash(&mut self) {
+        self.inner.crash();
+        self.fails_at = u64::MAX;
+        self.sync_refused = false;
+    }
+}
