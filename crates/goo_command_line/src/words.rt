@@ -1,12 +1,8 @@
 //! The words, by `clap`.
 ghost use Rattle.std.specs.Prelude.{◌≡◌, Some, None, false, codes, map, IfOk, IfErr, OnErr};
-ghost use Rattle.std.specs.Option.{option_and_then};
-ghost use Rattle.std.specs.Result.{result_ok};
 ghost use Rattle.clap.specs.Words.{app_of, first_value, found_of, subcommand_rows_of, with_rule};
 ghost use Rattle.clap.specs.declared.builder.command.Command.TheViews.{out-Command as fields_of};
-ghost use Rattle.goo_types.specs.Day.{day_reading};
-ghost use Rattle.goo_command_line.specs.Values.{code_in};
-ghost use Rattle.goo_command_line.specs.Line.{option_rule, flag_rule, run_app, goo_app, serial_given, opening_given, place_given, task_named, task_in, NoTask};
+ghost use Rattle.goo_command_line.specs.Line.{option_rule, flag_rule, run_app, goo_app, code_reading, today_reading, serial_reading, opening_given, place_given, task_named, task_in, NoTask, FaultIn};
 
 use crate::line_fault::LineFault;
 use crate::task::{Opening, Place, Task};
@@ -64,7 +60,7 @@ fn program_command<'a>(alloc: Global) -> Result<Command<'a>, AllocError>
 
 /// The value of `--code`.
 fn code_given(under: &ArgMatches<'_>) -> Result<RegistryCode, LineFault>
-    ensures { result_ok result ≡ option_and_then code_in (first_value (found_of under.now) (codes "code")) }
+    ensures { result ≡ code_reading (first_value (found_of under.now) (codes "code")) }
 {
     match under.get_str("code") {
         Some(text) => code_in(text).ok_or(LineFault::Code),
@@ -74,7 +70,7 @@ fn code_given(under: &ArgMatches<'_>) -> Result<RegistryCode, LineFault>
 
 /// The value of `--today`.
 fn day_given(under: &ArgMatches<'_>) -> Result<Day, LineFault>
-    ensures { result_ok result ≡ option_and_then (λ text. result_ok (day_reading text)) (first_value (found_of under.now) (codes "today")) }
+    ensures { result ≡ today_reading (first_value (found_of under.now) (codes "today")) }
 {
     match under.get_str("today") {
         Some(text) => day_in(text).ok_or(LineFault::Today),
@@ -84,7 +80,7 @@ fn day_given(under: &ArgMatches<'_>) -> Result<Day, LineFault>
 
 /// The value of `--next-serial`, which is 1 where it isn't given.
 fn serial_given(under: &ArgMatches<'_>) -> Result<Serial, LineFault>
-    ensures { result_ok result ≡ serial_given (first_value (found_of under.now) (codes "next-serial")) }
+    ensures { result ≡ serial_reading (first_value (found_of under.now) (codes "next-serial")) }
 {
     match under.get_str("next-serial") {
         Some(text) => serial_in(text).ok_or(LineFault::NextSerial),
@@ -94,7 +90,7 @@ fn serial_given(under: &ArgMatches<'_>) -> Result<Serial, LineFault>
 
 /// What a new registry begins with.
 fn opening_given(under: &ArgMatches<'_>) -> Result<Opening, LineFault>
-    ensures { result_ok result ≡ opening_given (first_value (found_of under.now) (codes "code")) (first_value (found_of under.now) (codes "today")) (first_value (found_of under.now) (codes "next-serial")) }
+    ensures { result ≡ opening_given (first_value (found_of under.now) (codes "code")) (first_value (found_of under.now) (codes "today")) (first_value (found_of under.now) (codes "next-serial")) }
 {
     Ok(Opening {
         code: code_given(under)?,
@@ -105,7 +101,7 @@ fn opening_given(under: &ArgMatches<'_>) -> Result<Opening, LineFault>
 
 /// Where the records are.
 fn place_given(under: &ArgMatches<'_>) -> Result<Place, LineFault>
-    ensures { result_ok result ≡ place_given (first_value (found_of under.now) (codes "memory")) (opening_given (first_value (found_of under.now) (codes "code")) (first_value (found_of under.now) (codes "today")) (first_value (found_of under.now) (codes "next-serial"))) }
+    ensures { result ≡ place_given (first_value (found_of under.now) (codes "memory")) (opening_given (first_value (found_of under.now) (codes "code")) (first_value (found_of under.now) (codes "today")) (first_value (found_of under.now) (codes "next-serial"))) }
 {
     match under.get_str("memory") {
         Some("true") => Ok(Place::Memory(opening_given(under)?)),
@@ -115,7 +111,7 @@ fn place_given(under: &ArgMatches<'_>) -> Result<Place, LineFault>
 
 /// The task of the command that the words name.
 fn task_named(matches: &ArgMatches<'_>) -> Result<Task, LineFault>
-    ensures { result_ok result ≡ task_named (subcommand_rows_of matches.now) }
+    ensures { result ≡ task_named (subcommand_rows_of matches.now) }
 {
     match matches.subcommand() {
         Some(("run", under)) => Ok(Task::Run(place_given(under)?)),
@@ -133,6 +129,7 @@ fn task_named(matches: &ArgMatches<'_>) -> Result<Task, LineFault>
 pub fn read_task<'a, S: AsStr>(alloc: Global, words: &'a [S]) -> Result<Task, LineFault>
     ensures task { IfOk result (λ task. task_in (map S.text words.now) ≡ Some task) }
     ensures none { IfErr result (NoTask (task_in (map S.text words.now))) }
+    ensures told { IfErr result (FaultIn (map S.text words.now)) }
 {
     let matches = program_command(alloc)?.try_get_matches_from(words)?;
     task_named(&matches)

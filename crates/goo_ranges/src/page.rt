@@ -1,5 +1,6 @@
 //! A page: rising pieces with no number in common in one list, seen as the map that they give.
 
+ghost use Rattle.std.specs.declared.alloc.Global.{Global as Memory};
 ghost use Rattle.std.specs.Prelude.{◌≡◌, List, ◌≤◌, length, nat_le, nat_lt, find, is_some, suc, Bool, IfOk, IfErr};
 ghost use Rattle.goo_types.specs.declared.lot_fields.LotFields.{LotFields};
 ghost use Rattle.goo_types.specs.declared.piece.Piece.{Piece};
@@ -90,8 +91,10 @@ impl Page {
         Ok(pieces)
     }
 
-    /// What its memory comes from.
-    pub fn allocator(&self) -> Global {
+    /// What its memory comes from: there is one such thing only.
+    pub fn allocator(&self) -> Global
+        ensures { (other : Memory) → result ≡ other }
+    {
         *self.pieces.allocator()
     }
 

@@ -1,11 +1,12 @@
 //! A shelf over the tables of a database.
 
-ghost use Rattle.std.specs.Prelude.{◌≡◌, [], false, IsTrue, IfOk, IfErr};
+ghost use Rattle.std.specs.Prelude.{◌≡◌, ◌≢◌, [], false, IsTrue, IfOk, IfErr, IsErrAnd};
 ghost use Rattle.sqlite.specs.Held.{state as view};
 ghost use Rattle.sqlite.specs.State.{HasCleanDisk, Survives};
 ghost use Rattle.goo_rows.specs.Rows.{AreRowsOf};
 ghost use Rattle.goo_spec.specs.Created.{created};
 ghost use Rattle.goo_spec.specs.Sound.{IsSound};
+ghost use Rattle.goo_columns.specs.Columns.{no_schema};
 ghost use Rattle.goo_columns.specs.Stands.{Holds};
 ghost use Rattle.goo_shelf.specs.Shelf.{IsReady};
 ghost use Rattle.goo_tables.specs.Changes.{begun};
@@ -78,6 +79,8 @@ impl<S: Alter> SqlShelf<S> {
         ensures rows_fit { IfOk result (λ shelf. (moment (view S.Store shelf.conn) shelf.refused).doubts ≡ 0 → AreRowsOf (moment (view S.Store shelf.conn) shelf.refused).state.at (moment (view S.Store shelf.conn) shelf.refused).rows) }
         ensures ready { IfOk result (λ shelf. IsReady (moment (view S.Store shelf.conn) shelf.refused)) }
         ensures there { IfErr result (λ e. e.1 ≡ AlreadyThere → e.0 ≡ conn) }
+        ensures taken { (view S.Store conn).now.schema ≢ no_schema → IsErrAnd result (λ e. e.1 ≡ AlreadyThere) }
+        ensures untaken { (view S.Store conn).now.schema ≡ no_schema → IfErr result (λ e. e.1 ≢ AlreadyThere) }
         ensures kept { IfErr result (λ e. HasCleanDisk (view S.Store e.0) → IsTrue (view S.Store e.0).is_open → ((view S.Store e.0).now ≡ (view S.Store conn).now) × ((view S.Store e.0).committed ≡ (view S.Store conn).committed)) }
         ensures outside { IfErr result (λ e. e.0.in_transaction ≡ false) }
         ensures crash { IfErr result (λ e. Survives (view S.Store conn) (view S.Store e.0) (Holds (begun (meta_of code today next_serial)))) }

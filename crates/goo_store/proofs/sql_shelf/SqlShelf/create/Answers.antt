@@ -50,3 +50,6 @@ told_apart Refused is = absurd cc
 
 pub returns-in-Err-clause-there : goal.returns-in-Err-clause-there
 returns-in-Err-clause-there g c is = absurd (told_apart c.in-Err.trouble (sym c.from.ensures ∙ is))
+
+pub returns-in-Err-clause-untaken : goal.returns-in-Err-clause-untaken
+returns-in-Err-clause-untaken g c empty is = told_apart c.in-Err.trouble (sym c.from.ensures ∙ is)
