@@ -1,22 +1,31 @@
-//! A registry in tables that is closed and opened again, on damaged tables too, and after its disk stopped at any one call.
+//! A registry in tables: worked requests, each answered as plain lists answer it; closed and opened again, on damaged tables
+//! too, and after its disk stopped at any one call.
 //!
-//! It has tests alone. `script` has the requests and what they come to, `asking` sends them, `sight` tells what a registry
-//! shows, `registries` begins and opens them, `disks` has the files that they are kept in.
+//! It has tests alone. `script` and `cases` have the requests and what they come to, `asking` sends them, `sight` tells what a
+//! registry shows, `registries` begins and opens them, `disks` has the files that they are kept in.
 #![tactic(auto)]
 
 #[cfg(test)]
 mod asking;
 #[cfg(test)]
+mod cases;
+#[cfg(test)]
 mod damages;
 #[cfg(test)]
 mod disks;
 #[cfg(test)]
+mod found;
+#[cfg(test)]
 mod registries;
 #[cfg(test)]
 mod reopened;
+#[cfg(test)]
+mod schemas;
 #[cfg(test)]
 mod script;
 #[cfg(test)]
 mod sight;
 #[cfg(test)]
 mod stops;
+#[cfg(test)]
+mod worked;
