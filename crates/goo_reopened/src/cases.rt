@@ -930,13 +930,11 @@ pub const CASES: [Case; 26] = [
         name: "just_the_capacity",
         serial: 1,
         begun: 5,
-        asked: &[
-            (
-                "ISSUER",
-                r#"{"command":"declare","device":"500000000000000012","first_day":"2025-01-01","last_day":"2025-01-31","gross_wh":1490000000,"aux_wh":0,"key":"k135"}"#,
-                r#"{"outcome":"accepted","reply":{"carry":0,"count":1490,"first":"07000000000001","last":"07000000001490"}}"#,
-            ),
-        ],
+        asked: &[(
+            "ISSUER",
+            r#"{"command":"declare","device":"500000000000000012","first_day":"2025-01-01","last_day":"2025-01-31","gross_wh":1490000000,"aux_wh":0,"key":"k135"}"#,
+            r#"{"outcome":"accepted","reply":{"carry":0,"count":1490,"first":"07000000000001","last":"07000000001490"}}"#,
+        )],
     },
     Case {
         name: "more_auxiliaries_than_gross",
@@ -976,13 +974,11 @@ pub const CASES: [Case; 26] = [
         name: "one_watt-hour_above_the_capacity",
         serial: 1,
         begun: 5,
-        asked: &[
-            (
-                "ISSUER",
-                r#"{"command":"declare","device":"500000000000000012","first_day":"2025-01-01","last_day":"2025-01-31","gross_wh":1490000001,"aux_wh":0,"key":"k141"}"#,
-                r#"{"code":14,"name":"OverCapacity","outcome":"refused"}"#,
-            ),
-        ],
+        asked: &[(
+            "ISSUER",
+            r#"{"command":"declare","device":"500000000000000012","first_day":"2025-01-01","last_day":"2025-01-31","gross_wh":1490000001,"aux_wh":0,"key":"k141"}"#,
+            r#"{"code":14,"name":"OverCapacity","outcome":"refused"}"#,
+        )],
     },
     Case {
         name: "out_back_and_out_again",
@@ -1287,12 +1283,10 @@ pub const CASES: [Case; 26] = [
         name: "two_lots_in_one_range",
         serial: 1,
         begun: 9,
-        asked: &[
-            (
-                "SUN",
-                r#"{"command":"transfer","giver":1,"taker":2,"first":"07000000001200","last":"07000000001201","key":"k46"}"#,
-                r#"{"outcome":"accepted","reply":{"count":2}}"#,
-            ),
-        ],
+        asked: &[(
+            "SUN",
+            r#"{"command":"transfer","giver":1,"taker":2,"first":"07000000001200","last":"07000000001201","key":"k46"}"#,
+            r#"{"outcome":"accepted","reply":{"count":2}}"#,
+        )],
     },
 ];
