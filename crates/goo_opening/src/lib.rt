@@ -11,7 +11,3 @@ pub mod our_schema;
 pub mod reading;
 pub mod registry_form;
 pub mod rows;
-#[cfg(test)]
-mod schema_tests;
-#[cfg(test)]
-mod tests;

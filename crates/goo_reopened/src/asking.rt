@@ -4,19 +4,18 @@ use crate::script::Line;
 use goo_body::read_command;
 use goo_outcome::outcome_text;
 use goo_registry::Registry;
-use goo_store::sql_shelf::SqlShelf;
+use goo_shelf::shelf::Shelf;
 use goo_types::fault::Fault;
 use goo_types::holder_code::HolderCode;
 use goo_types::outcome::Outcome;
-use sqlite::Alter;
 use std::alloc::Global;
 use std::process::Abort;
 use std::test::Fail;
 
 /// What a request of a caller comes to.
-pub fn asks<S: Alter>(
+pub fn asks<S: Shelf>(
     alloc: Global,
-    registry: &mut Registry<SqlShelf<S>>,
+    registry: &mut Registry<S>,
     caller: &str,
     body: &str,
 ) -> Result<Result<Outcome, Fault>, Fail> {
@@ -40,10 +39,10 @@ pub fn is_outcome(
 }
 
 /// The request of a line comes to its reply, in this word.
-pub fn plays_one<S: Alter>(
+pub fn plays_one<S: Shelf>(
     rt: &impl Abort,
     alloc: Global,
-    registry: &mut Registry<SqlShelf<S>>,
+    registry: &mut Registry<S>,
     line: &Line,
     word: &str,
 ) -> Result<(), Fail> {
@@ -52,10 +51,10 @@ pub fn plays_one<S: Alter>(
 }
 
 /// The first lines are repeated, as many as are kept, and the others accepted.
-pub fn plays<S: Alter>(
+pub fn plays<S: Shelf>(
     rt: &impl Abort,
     alloc: Global,
-    registry: &mut Registry<SqlShelf<S>>,
+    registry: &mut Registry<S>,
     lines: &[Line],
     kept: usize,
 ) -> Result<(), Fail> {

@@ -15,7 +15,7 @@ use std::test::Fail;
 /// What is done to the tables, how it is undone, and why they are not opened in between.
 type Damage = (&'static str, &'static str, OpenFault);
 
-const DAMAGES: [Damage; 12] = [
+const DAMAGES: [Damage; 18] = [
     (
         "UPDATE device SET carry = 1",
         "UPDATE device SET carry = 0",
@@ -64,6 +64,36 @@ const DAMAGES: [Damage; 12] = [
     (
         "INSERT INTO piece VALUES (7000000000005, 7000000000006, 1, 1, 1, 0)",
         "DELETE FROM piece WHERE first = 7000000000005",
+        OpenFault::Damaged,
+    ),
+    (
+        "UPDATE piece SET act = 1 WHERE first = 7000000000011",
+        "UPDATE piece SET act = 0 WHERE first = 7000000000011",
+        OpenFault::Damaged,
+    ),
+    (
+        "UPDATE piece SET lot = 9 WHERE first = 7000000000011",
+        "UPDATE piece SET lot = 1 WHERE first = 7000000000011",
+        OpenFault::Damaged,
+    ),
+    (
+        "UPDATE piece SET kind = 3 WHERE first = 7000000000011",
+        "UPDATE piece SET kind = 1 WHERE first = 7000000000011",
+        OpenFault::Damaged,
+    ),
+    (
+        "UPDATE account SET holder = 'NOBODY' WHERE number = 2",
+        "UPDATE account SET holder = 'VOLT' WHERE number = 2",
+        OpenFault::Damaged,
+    ),
+    (
+        "UPDATE declaration SET first_day = '2025-01-02' WHERE first_day = '2025-01-01'",
+        "UPDATE declaration SET first_day = '2025-01-01' WHERE first_day = '2025-01-02'",
+        OpenFault::Damaged,
+    ),
+    (
+        "INSERT INTO peer VALUES (-9)",
+        "DELETE FROM peer WHERE code = -9",
         OpenFault::Damaged,
     ),
     (

@@ -1,19 +1,23 @@
-//! A registry in tables that is closed and opened again, on damaged tables and foreign ones too, and after its disk failed at any
-//! one call, for good or once.
+//! A registry in tables: worked requests, each answered as plain lists answer it; closed and opened again, on damaged tables
+//! and foreign ones too, and after its disk failed at any one call, for good or once.
 //!
-//! It has tests alone. `script` has the requests and what they come to, `asking` sends them, `sight` tells what a registry
-//! shows, `registries` begins and opens them, `disks` has the files that they are kept in, and `lapses` the disk
+//! It has tests alone. `script` and `cases` have the requests and what they come to, `asking` sends them, `sight` tells what a
+//! registry shows, `registries` begins and opens them, `disks` has the files that they are kept in, and `lapses` the disk
 //! that fails once.
 #![tactic(auto)]
 
 #[cfg(test)]
 mod asking;
 #[cfg(test)]
+mod cases;
+#[cfg(test)]
 mod damages;
 #[cfg(test)]
 mod disks;
 #[cfg(test)]
 mod foreign;
+#[cfg(test)]
+mod found;
 #[cfg(test)]
 mod lapses;
 #[cfg(test)]
@@ -23,8 +27,12 @@ mod registries;
 #[cfg(test)]
 mod reopened;
 #[cfg(test)]
+mod schemas;
+#[cfg(test)]
 mod script;
 #[cfg(test)]
 mod sight;
 #[cfg(test)]
 mod stops;
+#[cfg(test)]
+mod worked;

@@ -5,6 +5,7 @@ ghost use Rattle.sqlite.specs.Held.{state};
 ghost use Rattle.sqlite.specs.State.{HasCleanDisk};
 ghost use Rattle.goo_columns.specs.Met.{IsInKeyOrder};
 
+use goo_list::list_shelf::ListShelf;
 use goo_opening::fault::OpenFault;
 use goo_registry::Registry;
 use goo_shelf::shelf::Shelf;
@@ -26,9 +27,14 @@ pub struct Beginning {
 
 /// Registry 7 on 1 March 2025, with the first serial.
 pub fn in_march() -> Result<Beginning, Fail> {
+    in_march_from(1)
+}
+
+/// Registry 7 on 1 March 2025, with this next serial.
+pub fn in_march_from(serial: u64) -> Result<Beginning, Fail> {
     Ok(Beginning {
         code: RegistryCode::new(7).ok_or("no code")?,
-        serial: Serial::new(1).ok_or("no serial")?,
+        serial: Serial::new(serial).ok_or("no serial")?,
         today: Day::read(b"2025-03-01")?,
     })
 }
@@ -51,6 +57,11 @@ pub fn begun<S: Alter>(alloc: Global, conn: Connection<S>, beginning: Beginning)
         Ok(shelf) => Ok(Registry::new(shelf)),
         Err(refused) => Err(refused),
     }
+}
+
+/// A new registry in plain lists.
+pub fn begun_in_lists(alloc: Global, beginning: Beginning) -> Registry<ListShelf> {
+    Registry::new(ListShelf::new(alloc, beginning.code, beginning.serial, beginning.today))
 }
 
 /// The registry that a database holds.

@@ -6,14 +6,13 @@ use goo_notice::texts::{day_text, number_text};
 use goo_notice::write;
 use goo_outcome::outcome_text;
 use goo_registry::{ReadFault, Registry};
-use goo_store::sql_shelf::SqlShelf;
+use goo_shelf::shelf::Shelf;
 use goo_types::account_no::AccountNo;
 use goo_types::act_no::ActNo;
 use goo_types::holder_code::HolderCode;
 use goo_types::number::Number;
 use goo_types::piece::Piece;
 use goo_types::place::Place;
-use sqlite::Alter;
 use std::alloc::{AllocError, Global};
 use std::test::Fail;
 
@@ -54,9 +53,9 @@ fn tell_fault(alloc: Global, fault: ReadFault, text: &mut String) -> Result<(), 
 }
 
 /// What is answered to requests that are refused in any state.
-fn tell_answers<S: Alter>(
+fn tell_answers<S: Shelf>(
     alloc: Global,
-    registry: &mut Registry<SqlShelf<S>>,
+    registry: &mut Registry<S>,
     text: &mut String,
 ) -> Result<(), Fail> {
     for (caller, body) in &PROBES {
@@ -68,9 +67,9 @@ fn tell_answers<S: Alter>(
 }
 
 /// Whether a holder is known, by what he is shown of a certificate that isn't there.
-fn tell_holder<S: Alter>(
+fn tell_holder<S: Shelf>(
     alloc: Global,
-    registry: &mut Registry<SqlShelf<S>>,
+    registry: &mut Registry<S>,
     holder: &str,
     text: &mut String,
 ) -> Result<(), Fail> {
@@ -83,9 +82,9 @@ fn tell_holder<S: Alter>(
 }
 
 /// The certificates of an account.
-fn tell_holdings<S: Alter>(
+fn tell_holdings<S: Shelf>(
     alloc: Global,
-    registry: &mut Registry<SqlShelf<S>>,
+    registry: &mut Registry<S>,
     account: u32,
     text: &mut String,
 ) -> Result<(), Fail> {
@@ -97,9 +96,9 @@ fn tell_holdings<S: Alter>(
 }
 
 /// The energy and the certificates of each device.
-fn tell_audit<S: Alter>(
+fn tell_audit<S: Shelf>(
     alloc: Global,
-    registry: &mut Registry<SqlShelf<S>>,
+    registry: &mut Registry<S>,
     text: &mut String,
 ) -> Result<(), Fail> {
     let totals = registry.audit(alloc, &issuer()?)?;
@@ -117,9 +116,9 @@ fn tell_audit<S: Alter>(
 }
 
 /// The first cancellation.
-fn tell_cancellation<S: Alter>(
+fn tell_cancellation<S: Shelf>(
     alloc: Global,
-    registry: &mut Registry<SqlShelf<S>>,
+    registry: &mut Registry<S>,
     text: &mut String,
 ) -> Result<(), Fail> {
     let first = ActNo::new(1).ok_or("no act")?;
@@ -138,9 +137,9 @@ fn tell_cancellation<S: Alter>(
 }
 
 /// The first notice.
-fn tell_notice<S: Alter>(
+fn tell_notice<S: Shelf>(
     alloc: Global,
-    registry: &mut Registry<SqlShelf<S>>,
+    registry: &mut Registry<S>,
     text: &mut String,
 ) -> Result<(), Fail> {
     let first = ActNo::new(1).ok_or("no act")?;
@@ -155,10 +154,7 @@ fn tell_notice<S: Alter>(
 }
 
 /// All that a registry shows.
-pub fn sight<S: Alter>(
-    alloc: Global,
-    registry: &mut Registry<SqlShelf<S>>,
-) -> Result<String, Fail> {
+pub fn sight<S: Shelf>(alloc: Global, registry: &mut Registry<S>) -> Result<String, Fail> {
     let mut text = String::new(alloc);
     tell_answers(alloc, registry, &mut text)?;
     tell_holder(alloc, registry, "SUN", &mut text)?;

@@ -21,8 +21,6 @@ pub mod produced;
 mod progress;
 pub mod receipts;
 pub mod sums;
-#[cfg(test)]
-mod tests;
 mod texts;
 pub mod there;
 pub mod values;

@@ -6,8 +6,6 @@ mod act_changes;
 mod cancellations;
 mod change;
 mod command_changes;
-#[cfg(test)]
-mod commit_tests;
 mod commits;
 mod committing;
 mod creating;
@@ -43,8 +41,6 @@ mod shelf;
 pub mod sql_shelf;
 mod standing;
 mod sums;
-#[cfg(test)]
-mod tests;
 mod texts;
 mod totals;
 mod trouble;

@@ -3,12 +3,10 @@
 use crate::asking::Ask;
 use crate::commands::{account_of, command_of, holder_of};
 use crate::desk::Desk;
-use goo_shelf::found::DeviceTotals;
 use goo_types::command::{Command, Import};
 use goo_types::key::Key;
 use goo_types::notice::Notice;
 use goo_types::outcome::Outcome;
-use goo_types::piece::Piece;
 use goo_types::place::Place;
 use goo_types::request::Request;
 use std::process::Abort;
@@ -16,31 +14,6 @@ use std::test::Fail;
 
 /// Who asks what, and what that is answered.
 pub type Step = (&'static str, Ask, Outcome);
-
-/// These runs are shown: first and last serial, and place.
-fn are_runs(rt: &impl Abort, runs: &[Piece], wanted: &[(u64, u64, Place)]) -> Result<(), Fail> {
-    assert_eq!(rt; runs.len(), wanted.len());
-    for (run, (first, last, place)) in runs.iter().zip(wanted) {
-        assert_eq!(rt; run.first.serial(), *first);
-        assert_eq!(rt; run.last.serial(), *last);
-        assert_eq!(rt; run.place, *place);
-    }
-    Ok(())
-}
-
-/// This energy in Wh, these certificates and this carry of the only device.
-fn are_totals(
-    rt: &impl Abort,
-    totals: &[DeviceTotals],
-    wanted: (u64, u64, u64),
-) -> Result<(), Fail> {
-    assert_eq!(rt; totals.len(), 1);
-    let (declared, issued, carry) = wanted;
-    assert_eq!(rt; totals[0].declared, declared);
-    assert_eq!(rt; totals[0].issued, issued);
-    assert_eq!(rt; totals[0].carry, carry);
-    Ok(())
-}
 
 impl Desk {
     /// Requests in a list come to these outcomes, one after another.
@@ -54,12 +27,6 @@ impl Desk {
             return Err("the run stopped".into());
         };
         assert_eq!(rt; outcomes.as_slice(), wanted);
-        let Ok(outcomes) = self.run_in_tables(requests) else {
-            return Err("the run over tables stopped".into());
-        };
-        if let Some(outcomes) = outcomes {
-            assert_eq!(rt; outcomes.as_slice(), wanted);
-        }
         Ok(())
     }
 
@@ -71,7 +38,7 @@ impl Desk {
             key,
             command,
         };
-        self.answer(&request)
+        Ok(self.apply(&request)?)
     }
 
     /// What a command comes to that is sent under a key of its own.
@@ -149,9 +116,11 @@ impl Desk {
         let issuer = holder_of("ISSUER")?;
         let account = account_of(account)?;
         let runs = self.holdings(&issuer, account)?;
-        are_runs(rt, &runs, wanted)?;
-        if let Some(runs) = self.holdings_in_tables(&issuer, account)? {
-            are_runs(rt, &runs, wanted)?;
+        assert_eq!(rt; runs.len(), wanted.len());
+        for (run, (first, last, place)) in runs.iter().zip(wanted) {
+            assert_eq!(rt; run.first.serial(), *first);
+            assert_eq!(rt; run.last.serial(), *last);
+            assert_eq!(rt; run.place, *place);
         }
         Ok(())
     }
@@ -160,10 +129,11 @@ impl Desk {
     pub fn counts(&mut self, rt: &impl Abort, wanted: (u64, u64, u64)) -> Result<(), Fail> {
         let issuer = holder_of("ISSUER")?;
         let totals = self.audit(&issuer)?;
-        are_totals(rt, &totals, wanted)?;
-        if let Some(totals) = self.audit_in_tables(&issuer)? {
-            are_totals(rt, &totals, wanted)?;
-        }
+        assert_eq!(rt; totals.len(), 1);
+        let (declared, issued, carry) = wanted;
+        assert_eq!(rt; totals[0].declared, declared);
+        assert_eq!(rt; totals[0].issued, issued);
+        assert_eq!(rt; totals[0].carry, carry);
         Ok(())
     }
 }

@@ -15,7 +15,7 @@ pub const JANUARY_KEY: &str = "6";
 
 /// Registry 7 on the first of March 2025 with two holders, who have an account each, and a device of the first.
 pub fn base(rt: &impl Abort, alloc: Global, next_serial: u64) -> Result<Desk, Fail> {
-    let mut desk = Desk::over_both(alloc, 7, next_serial, "2025-03-01")?;
+    let mut desk = Desk::new(alloc, 7, next_serial, "2025-03-01")?;
     let first = Outcome::Accepted(Reply::Account {
         account: account(1),
     });

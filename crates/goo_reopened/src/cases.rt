@@ -1,0 +1,1292 @@
+//! Worked cases, written by tools/cases-as-tests from cases/: change them there.
+
+use crate::worked::Case;
+
+/// All cases whose lines can be read.
+pub const CASES: [Case; 26] = [
+    Case {
+        name: "a_hundred_parts_and_one_more",
+        serial: 1,
+        begun: 5,
+        asked: &[
+            (
+                "ISSUER",
+                r#"{"command":"add_peer","peer":9,"key":"k323"}"#,
+                r#"{"outcome":"accepted","reply":{}}"#,
+            ),
+            (
+                "ISSUER",
+                r#"{"command":"declare","device":"500000000000000012","first_day":"2024-10-01","last_day":"2024-10-01","gross_wh":1000000,"aux_wh":0,"key":"k217"}"#,
+                r#"{"outcome":"accepted","reply":{"carry":0,"count":1,"first":"07000000000001","last":"07000000000001"}}"#,
+            ),
+            (
+                "ISSUER",
+                r#"{"command":"declare","device":"500000000000000012","first_day":"2024-10-02","last_day":"2024-10-02","gross_wh":1000000,"aux_wh":0,"key":"k218"}"#,
+                r#"{"outcome":"accepted","reply":{"carry":0,"count":1,"first":"07000000000002","last":"07000000000002"}}"#,
+            ),
+            (
+                "ISSUER",
+                r#"{"command":"declare","device":"500000000000000012","first_day":"2024-10-03","last_day":"2024-10-03","gross_wh":1000000,"aux_wh":0,"key":"k219"}"#,
+                r#"{"outcome":"accepted","reply":{"carry":0,"count":1,"first":"07000000000003","last":"07000000000003"}}"#,
+            ),
+            (
+                "ISSUER",
+                r#"{"command":"declare","device":"500000000000000012","first_day":"2024-10-04","last_day":"2024-10-04","gross_wh":1000000,"aux_wh":0,"key":"k220"}"#,
+                r#"{"outcome":"accepted","reply":{"carry":0,"count":1,"first":"07000000000004","last":"07000000000004"}}"#,
+            ),
+            (
+                "ISSUER",
+                r#"{"command":"declare","device":"500000000000000012","first_day":"2024-10-05","last_day":"2024-10-05","gross_wh":1000000,"aux_wh":0,"key":"k221"}"#,
+                r#"{"outcome":"accepted","reply":{"carry":0,"count":1,"first":"07000000000005","last":"07000000000005"}}"#,
+            ),
+            (
+                "ISSUER",
+                r#"{"command":"declare","device":"500000000000000012","first_day":"2024-10-06","last_day":"2024-10-06","gross_wh":1000000,"aux_wh":0,"key":"k222"}"#,
+                r#"{"outcome":"accepted","reply":{"carry":0,"count":1,"first":"07000000000006","last":"07000000000006"}}"#,
+            ),
+            (
+                "ISSUER",
+                r#"{"command":"declare","device":"500000000000000012","first_day":"2024-10-07","last_day":"2024-10-07","gross_wh":1000000,"aux_wh":0,"key":"k223"}"#,
+                r#"{"outcome":"accepted","reply":{"carry":0,"count":1,"first":"07000000000007","last":"07000000000007"}}"#,
+            ),
+            (
+                "ISSUER",
+                r#"{"command":"declare","device":"500000000000000012","first_day":"2024-10-08","last_day":"2024-10-08","gross_wh":1000000,"aux_wh":0,"key":"k224"}"#,
+                r#"{"outcome":"accepted","reply":{"carry":0,"count":1,"first":"07000000000008","last":"07000000000008"}}"#,
+            ),
+            (
+                "ISSUER",
+                r#"{"command":"declare","device":"500000000000000012","first_day":"2024-10-09","last_day":"2024-10-09","gross_wh":1000000,"aux_wh":0,"key":"k225"}"#,
+                r#"{"outcome":"accepted","reply":{"carry":0,"count":1,"first":"07000000000009","last":"07000000000009"}}"#,
+            ),
+            (
+                "ISSUER",
+                r#"{"command":"declare","device":"500000000000000012","first_day":"2024-10-10","last_day":"2024-10-10","gross_wh":1000000,"aux_wh":0,"key":"k226"}"#,
+                r#"{"outcome":"accepted","reply":{"carry":0,"count":1,"first":"07000000000010","last":"07000000000010"}}"#,
+            ),
+            (
+                "ISSUER",
+                r#"{"command":"declare","device":"500000000000000012","first_day":"2024-10-11","last_day":"2024-10-11","gross_wh":1000000,"aux_wh":0,"key":"k227"}"#,
+                r#"{"outcome":"accepted","reply":{"carry":0,"count":1,"first":"07000000000011","last":"07000000000011"}}"#,
+            ),
+            (
+                "ISSUER",
+                r#"{"command":"declare","device":"500000000000000012","first_day":"2024-10-12","last_day":"2024-10-12","gross_wh":1000000,"aux_wh":0,"key":"k228"}"#,
+                r#"{"outcome":"accepted","reply":{"carry":0,"count":1,"first":"07000000000012","last":"07000000000012"}}"#,
+            ),
+            (
+                "ISSUER",
+                r#"{"command":"declare","device":"500000000000000012","first_day":"2024-10-13","last_day":"2024-10-13","gross_wh":1000000,"aux_wh":0,"key":"k229"}"#,
+                r#"{"outcome":"accepted","reply":{"carry":0,"count":1,"first":"07000000000013","last":"07000000000013"}}"#,
+            ),
+            (
+                "ISSUER",
+                r#"{"command":"declare","device":"500000000000000012","first_day":"2024-10-14","last_day":"2024-10-14","gross_wh":1000000,"aux_wh":0,"key":"k230"}"#,
+                r#"{"outcome":"accepted","reply":{"carry":0,"count":1,"first":"07000000000014","last":"07000000000014"}}"#,
+            ),
+            (
+                "ISSUER",
+                r#"{"command":"declare","device":"500000000000000012","first_day":"2024-10-15","last_day":"2024-10-15","gross_wh":1000000,"aux_wh":0,"key":"k231"}"#,
+                r#"{"outcome":"accepted","reply":{"carry":0,"count":1,"first":"07000000000015","last":"07000000000015"}}"#,
+            ),
+            (
+                "ISSUER",
+                r#"{"command":"declare","device":"500000000000000012","first_day":"2024-10-16","last_day":"2024-10-16","gross_wh":1000000,"aux_wh":0,"key":"k232"}"#,
+                r#"{"outcome":"accepted","reply":{"carry":0,"count":1,"first":"07000000000016","last":"07000000000016"}}"#,
+            ),
+            (
+                "ISSUER",
+                r#"{"command":"declare","device":"500000000000000012","first_day":"2024-10-17","last_day":"2024-10-17","gross_wh":1000000,"aux_wh":0,"key":"k233"}"#,
+                r#"{"outcome":"accepted","reply":{"carry":0,"count":1,"first":"07000000000017","last":"07000000000017"}}"#,
+            ),
+            (
+                "ISSUER",
+                r#"{"command":"declare","device":"500000000000000012","first_day":"2024-10-18","last_day":"2024-10-18","gross_wh":1000000,"aux_wh":0,"key":"k234"}"#,
+                r#"{"outcome":"accepted","reply":{"carry":0,"count":1,"first":"07000000000018","last":"07000000000018"}}"#,
+            ),
+            (
+                "ISSUER",
+                r#"{"command":"declare","device":"500000000000000012","first_day":"2024-10-19","last_day":"2024-10-19","gross_wh":1000000,"aux_wh":0,"key":"k235"}"#,
+                r#"{"outcome":"accepted","reply":{"carry":0,"count":1,"first":"07000000000019","last":"07000000000019"}}"#,
+            ),
+            (
+                "ISSUER",
+                r#"{"command":"declare","device":"500000000000000012","first_day":"2024-10-20","last_day":"2024-10-20","gross_wh":1000000,"aux_wh":0,"key":"k236"}"#,
+                r#"{"outcome":"accepted","reply":{"carry":0,"count":1,"first":"07000000000020","last":"07000000000020"}}"#,
+            ),
+            (
+                "ISSUER",
+                r#"{"command":"declare","device":"500000000000000012","first_day":"2024-10-21","last_day":"2024-10-21","gross_wh":1000000,"aux_wh":0,"key":"k237"}"#,
+                r#"{"outcome":"accepted","reply":{"carry":0,"count":1,"first":"07000000000021","last":"07000000000021"}}"#,
+            ),
+            (
+                "ISSUER",
+                r#"{"command":"declare","device":"500000000000000012","first_day":"2024-10-22","last_day":"2024-10-22","gross_wh":1000000,"aux_wh":0,"key":"k238"}"#,
+                r#"{"outcome":"accepted","reply":{"carry":0,"count":1,"first":"07000000000022","last":"07000000000022"}}"#,
+            ),
+            (
+                "ISSUER",
+                r#"{"command":"declare","device":"500000000000000012","first_day":"2024-10-23","last_day":"2024-10-23","gross_wh":1000000,"aux_wh":0,"key":"k239"}"#,
+                r#"{"outcome":"accepted","reply":{"carry":0,"count":1,"first":"07000000000023","last":"07000000000023"}}"#,
+            ),
+            (
+                "ISSUER",
+                r#"{"command":"declare","device":"500000000000000012","first_day":"2024-10-24","last_day":"2024-10-24","gross_wh":1000000,"aux_wh":0,"key":"k240"}"#,
+                r#"{"outcome":"accepted","reply":{"carry":0,"count":1,"first":"07000000000024","last":"07000000000024"}}"#,
+            ),
+            (
+                "ISSUER",
+                r#"{"command":"declare","device":"500000000000000012","first_day":"2024-10-25","last_day":"2024-10-25","gross_wh":1000000,"aux_wh":0,"key":"k241"}"#,
+                r#"{"outcome":"accepted","reply":{"carry":0,"count":1,"first":"07000000000025","last":"07000000000025"}}"#,
+            ),
+            (
+                "ISSUER",
+                r#"{"command":"declare","device":"500000000000000012","first_day":"2024-10-26","last_day":"2024-10-26","gross_wh":1000000,"aux_wh":0,"key":"k242"}"#,
+                r#"{"outcome":"accepted","reply":{"carry":0,"count":1,"first":"07000000000026","last":"07000000000026"}}"#,
+            ),
+            (
+                "ISSUER",
+                r#"{"command":"declare","device":"500000000000000012","first_day":"2024-10-27","last_day":"2024-10-27","gross_wh":1000000,"aux_wh":0,"key":"k243"}"#,
+                r#"{"outcome":"accepted","reply":{"carry":0,"count":1,"first":"07000000000027","last":"07000000000027"}}"#,
+            ),
+            (
+                "ISSUER",
+                r#"{"command":"declare","device":"500000000000000012","first_day":"2024-10-28","last_day":"2024-10-28","gross_wh":1000000,"aux_wh":0,"key":"k244"}"#,
+                r#"{"outcome":"accepted","reply":{"carry":0,"count":1,"first":"07000000000028","last":"07000000000028"}}"#,
+            ),
+            (
+                "ISSUER",
+                r#"{"command":"declare","device":"500000000000000012","first_day":"2024-10-29","last_day":"2024-10-29","gross_wh":1000000,"aux_wh":0,"key":"k245"}"#,
+                r#"{"outcome":"accepted","reply":{"carry":0,"count":1,"first":"07000000000029","last":"07000000000029"}}"#,
+            ),
+            (
+                "ISSUER",
+                r#"{"command":"declare","device":"500000000000000012","first_day":"2024-10-30","last_day":"2024-10-30","gross_wh":1000000,"aux_wh":0,"key":"k246"}"#,
+                r#"{"outcome":"accepted","reply":{"carry":0,"count":1,"first":"07000000000030","last":"07000000000030"}}"#,
+            ),
+            (
+                "ISSUER",
+                r#"{"command":"declare","device":"500000000000000012","first_day":"2024-10-31","last_day":"2024-10-31","gross_wh":1000000,"aux_wh":0,"key":"k247"}"#,
+                r#"{"outcome":"accepted","reply":{"carry":0,"count":1,"first":"07000000000031","last":"07000000000031"}}"#,
+            ),
+            (
+                "ISSUER",
+                r#"{"command":"declare","device":"500000000000000012","first_day":"2024-11-01","last_day":"2024-11-01","gross_wh":1000000,"aux_wh":0,"key":"k248"}"#,
+                r#"{"outcome":"accepted","reply":{"carry":0,"count":1,"first":"07000000000032","last":"07000000000032"}}"#,
+            ),
+            (
+                "ISSUER",
+                r#"{"command":"declare","device":"500000000000000012","first_day":"2024-11-02","last_day":"2024-11-02","gross_wh":1000000,"aux_wh":0,"key":"k249"}"#,
+                r#"{"outcome":"accepted","reply":{"carry":0,"count":1,"first":"07000000000033","last":"07000000000033"}}"#,
+            ),
+            (
+                "ISSUER",
+                r#"{"command":"declare","device":"500000000000000012","first_day":"2024-11-03","last_day":"2024-11-03","gross_wh":1000000,"aux_wh":0,"key":"k250"}"#,
+                r#"{"outcome":"accepted","reply":{"carry":0,"count":1,"first":"07000000000034","last":"07000000000034"}}"#,
+            ),
+            (
+                "ISSUER",
+                r#"{"command":"declare","device":"500000000000000012","first_day":"2024-11-04","last_day":"2024-11-04","gross_wh":1000000,"aux_wh":0,"key":"k251"}"#,
+                r#"{"outcome":"accepted","reply":{"carry":0,"count":1,"first":"07000000000035","last":"07000000000035"}}"#,
+            ),
+            (
+                "ISSUER",
+                r#"{"command":"declare","device":"500000000000000012","first_day":"2024-11-05","last_day":"2024-11-05","gross_wh":1000000,"aux_wh":0,"key":"k252"}"#,
+                r#"{"outcome":"accepted","reply":{"carry":0,"count":1,"first":"07000000000036","last":"07000000000036"}}"#,
+            ),
+            (
+                "ISSUER",
+                r#"{"command":"declare","device":"500000000000000012","first_day":"2024-11-06","last_day":"2024-11-06","gross_wh":1000000,"aux_wh":0,"key":"k253"}"#,
+                r#"{"outcome":"accepted","reply":{"carry":0,"count":1,"first":"07000000000037","last":"07000000000037"}}"#,
+            ),
+            (
+                "ISSUER",
+                r#"{"command":"declare","device":"500000000000000012","first_day":"2024-11-07","last_day":"2024-11-07","gross_wh":1000000,"aux_wh":0,"key":"k254"}"#,
+                r#"{"outcome":"accepted","reply":{"carry":0,"count":1,"first":"07000000000038","last":"07000000000038"}}"#,
+            ),
+            (
+                "ISSUER",
+                r#"{"command":"declare","device":"500000000000000012","first_day":"2024-11-08","last_day":"2024-11-08","gross_wh":1000000,"aux_wh":0,"key":"k255"}"#,
+                r#"{"outcome":"accepted","reply":{"carry":0,"count":1,"first":"07000000000039","last":"07000000000039"}}"#,
+            ),
+            (
+                "ISSUER",
+                r#"{"command":"declare","device":"500000000000000012","first_day":"2024-11-09","last_day":"2024-11-09","gross_wh":1000000,"aux_wh":0,"key":"k256"}"#,
+                r#"{"outcome":"accepted","reply":{"carry":0,"count":1,"first":"07000000000040","last":"07000000000040"}}"#,
+            ),
+            (
+                "ISSUER",
+                r#"{"command":"declare","device":"500000000000000012","first_day":"2024-11-10","last_day":"2024-11-10","gross_wh":1000000,"aux_wh":0,"key":"k257"}"#,
+                r#"{"outcome":"accepted","reply":{"carry":0,"count":1,"first":"07000000000041","last":"07000000000041"}}"#,
+            ),
+            (
+                "ISSUER",
+                r#"{"command":"declare","device":"500000000000000012","first_day":"2024-11-11","last_day":"2024-11-11","gross_wh":1000000,"aux_wh":0,"key":"k258"}"#,
+                r#"{"outcome":"accepted","reply":{"carry":0,"count":1,"first":"07000000000042","last":"07000000000042"}}"#,
+            ),
+            (
+                "ISSUER",
+                r#"{"command":"declare","device":"500000000000000012","first_day":"2024-11-12","last_day":"2024-11-12","gross_wh":1000000,"aux_wh":0,"key":"k259"}"#,
+                r#"{"outcome":"accepted","reply":{"carry":0,"count":1,"first":"07000000000043","last":"07000000000043"}}"#,
+            ),
+            (
+                "ISSUER",
+                r#"{"command":"declare","device":"500000000000000012","first_day":"2024-11-13","last_day":"2024-11-13","gross_wh":1000000,"aux_wh":0,"key":"k260"}"#,
+                r#"{"outcome":"accepted","reply":{"carry":0,"count":1,"first":"07000000000044","last":"07000000000044"}}"#,
+            ),
+            (
+                "ISSUER",
+                r#"{"command":"declare","device":"500000000000000012","first_day":"2024-11-14","last_day":"2024-11-14","gross_wh":1000000,"aux_wh":0,"key":"k261"}"#,
+                r#"{"outcome":"accepted","reply":{"carry":0,"count":1,"first":"07000000000045","last":"07000000000045"}}"#,
+            ),
+            (
+                "ISSUER",
+                r#"{"command":"declare","device":"500000000000000012","first_day":"2024-11-15","last_day":"2024-11-15","gross_wh":1000000,"aux_wh":0,"key":"k262"}"#,
+                r#"{"outcome":"accepted","reply":{"carry":0,"count":1,"first":"07000000000046","last":"07000000000046"}}"#,
+            ),
+            (
+                "ISSUER",
+                r#"{"command":"declare","device":"500000000000000012","first_day":"2024-11-16","last_day":"2024-11-16","gross_wh":1000000,"aux_wh":0,"key":"k263"}"#,
+                r#"{"outcome":"accepted","reply":{"carry":0,"count":1,"first":"07000000000047","last":"07000000000047"}}"#,
+            ),
+            (
+                "ISSUER",
+                r#"{"command":"declare","device":"500000000000000012","first_day":"2024-11-17","last_day":"2024-11-17","gross_wh":1000000,"aux_wh":0,"key":"k264"}"#,
+                r#"{"outcome":"accepted","reply":{"carry":0,"count":1,"first":"07000000000048","last":"07000000000048"}}"#,
+            ),
+            (
+                "ISSUER",
+                r#"{"command":"declare","device":"500000000000000012","first_day":"2024-11-18","last_day":"2024-11-18","gross_wh":1000000,"aux_wh":0,"key":"k265"}"#,
+                r#"{"outcome":"accepted","reply":{"carry":0,"count":1,"first":"07000000000049","last":"07000000000049"}}"#,
+            ),
+            (
+                "ISSUER",
+                r#"{"command":"declare","device":"500000000000000012","first_day":"2024-11-19","last_day":"2024-11-19","gross_wh":1000000,"aux_wh":0,"key":"k266"}"#,
+                r#"{"outcome":"accepted","reply":{"carry":0,"count":1,"first":"07000000000050","last":"07000000000050"}}"#,
+            ),
+            (
+                "ISSUER",
+                r#"{"command":"declare","device":"500000000000000012","first_day":"2024-11-20","last_day":"2024-11-20","gross_wh":1000000,"aux_wh":0,"key":"k267"}"#,
+                r#"{"outcome":"accepted","reply":{"carry":0,"count":1,"first":"07000000000051","last":"07000000000051"}}"#,
+            ),
+            (
+                "ISSUER",
+                r#"{"command":"declare","device":"500000000000000012","first_day":"2024-11-21","last_day":"2024-11-21","gross_wh":1000000,"aux_wh":0,"key":"k268"}"#,
+                r#"{"outcome":"accepted","reply":{"carry":0,"count":1,"first":"07000000000052","last":"07000000000052"}}"#,
+            ),
+            (
+                "ISSUER",
+                r#"{"command":"declare","device":"500000000000000012","first_day":"2024-11-22","last_day":"2024-11-22","gross_wh":1000000,"aux_wh":0,"key":"k269"}"#,
+                r#"{"outcome":"accepted","reply":{"carry":0,"count":1,"first":"07000000000053","last":"07000000000053"}}"#,
+            ),
+            (
+                "ISSUER",
+                r#"{"command":"declare","device":"500000000000000012","first_day":"2024-11-23","last_day":"2024-11-23","gross_wh":1000000,"aux_wh":0,"key":"k270"}"#,
+                r#"{"outcome":"accepted","reply":{"carry":0,"count":1,"first":"07000000000054","last":"07000000000054"}}"#,
+            ),
+            (
+                "ISSUER",
+                r#"{"command":"declare","device":"500000000000000012","first_day":"2024-11-24","last_day":"2024-11-24","gross_wh":1000000,"aux_wh":0,"key":"k271"}"#,
+                r#"{"outcome":"accepted","reply":{"carry":0,"count":1,"first":"07000000000055","last":"07000000000055"}}"#,
+            ),
+            (
+                "ISSUER",
+                r#"{"command":"declare","device":"500000000000000012","first_day":"2024-11-25","last_day":"2024-11-25","gross_wh":1000000,"aux_wh":0,"key":"k272"}"#,
+                r#"{"outcome":"accepted","reply":{"carry":0,"count":1,"first":"07000000000056","last":"07000000000056"}}"#,
+            ),
+            (
+                "ISSUER",
+                r#"{"command":"declare","device":"500000000000000012","first_day":"2024-11-26","last_day":"2024-11-26","gross_wh":1000000,"aux_wh":0,"key":"k273"}"#,
+                r#"{"outcome":"accepted","reply":{"carry":0,"count":1,"first":"07000000000057","last":"07000000000057"}}"#,
+            ),
+            (
+                "ISSUER",
+                r#"{"command":"declare","device":"500000000000000012","first_day":"2024-11-27","last_day":"2024-11-27","gross_wh":1000000,"aux_wh":0,"key":"k274"}"#,
+                r#"{"outcome":"accepted","reply":{"carry":0,"count":1,"first":"07000000000058","last":"07000000000058"}}"#,
+            ),
+            (
+                "ISSUER",
+                r#"{"command":"declare","device":"500000000000000012","first_day":"2024-11-28","last_day":"2024-11-28","gross_wh":1000000,"aux_wh":0,"key":"k275"}"#,
+                r#"{"outcome":"accepted","reply":{"carry":0,"count":1,"first":"07000000000059","last":"07000000000059"}}"#,
+            ),
+            (
+                "ISSUER",
+                r#"{"command":"declare","device":"500000000000000012","first_day":"2024-11-29","last_day":"2024-11-29","gross_wh":1000000,"aux_wh":0,"key":"k276"}"#,
+                r#"{"outcome":"accepted","reply":{"carry":0,"count":1,"first":"07000000000060","last":"07000000000060"}}"#,
+            ),
+            (
+                "ISSUER",
+                r#"{"command":"declare","device":"500000000000000012","first_day":"2024-11-30","last_day":"2024-11-30","gross_wh":1000000,"aux_wh":0,"key":"k277"}"#,
+                r#"{"outcome":"accepted","reply":{"carry":0,"count":1,"first":"07000000000061","last":"07000000000061"}}"#,
+            ),
+            (
+                "ISSUER",
+                r#"{"command":"declare","device":"500000000000000012","first_day":"2024-12-01","last_day":"2024-12-01","gross_wh":1000000,"aux_wh":0,"key":"k278"}"#,
+                r#"{"outcome":"accepted","reply":{"carry":0,"count":1,"first":"07000000000062","last":"07000000000062"}}"#,
+            ),
+            (
+                "ISSUER",
+                r#"{"command":"declare","device":"500000000000000012","first_day":"2024-12-02","last_day":"2024-12-02","gross_wh":1000000,"aux_wh":0,"key":"k279"}"#,
+                r#"{"outcome":"accepted","reply":{"carry":0,"count":1,"first":"07000000000063","last":"07000000000063"}}"#,
+            ),
+            (
+                "ISSUER",
+                r#"{"command":"declare","device":"500000000000000012","first_day":"2024-12-03","last_day":"2024-12-03","gross_wh":1000000,"aux_wh":0,"key":"k280"}"#,
+                r#"{"outcome":"accepted","reply":{"carry":0,"count":1,"first":"07000000000064","last":"07000000000064"}}"#,
+            ),
+            (
+                "ISSUER",
+                r#"{"command":"declare","device":"500000000000000012","first_day":"2024-12-04","last_day":"2024-12-04","gross_wh":1000000,"aux_wh":0,"key":"k281"}"#,
+                r#"{"outcome":"accepted","reply":{"carry":0,"count":1,"first":"07000000000065","last":"07000000000065"}}"#,
+            ),
+            (
+                "ISSUER",
+                r#"{"command":"declare","device":"500000000000000012","first_day":"2024-12-05","last_day":"2024-12-05","gross_wh":1000000,"aux_wh":0,"key":"k282"}"#,
+                r#"{"outcome":"accepted","reply":{"carry":0,"count":1,"first":"07000000000066","last":"07000000000066"}}"#,
+            ),
+            (
+                "ISSUER",
+                r#"{"command":"declare","device":"500000000000000012","first_day":"2024-12-06","last_day":"2024-12-06","gross_wh":1000000,"aux_wh":0,"key":"k283"}"#,
+                r#"{"outcome":"accepted","reply":{"carry":0,"count":1,"first":"07000000000067","last":"07000000000067"}}"#,
+            ),
+            (
+                "ISSUER",
+                r#"{"command":"declare","device":"500000000000000012","first_day":"2024-12-07","last_day":"2024-12-07","gross_wh":1000000,"aux_wh":0,"key":"k284"}"#,
+                r#"{"outcome":"accepted","reply":{"carry":0,"count":1,"first":"07000000000068","last":"07000000000068"}}"#,
+            ),
+            (
+                "ISSUER",
+                r#"{"command":"declare","device":"500000000000000012","first_day":"2024-12-08","last_day":"2024-12-08","gross_wh":1000000,"aux_wh":0,"key":"k285"}"#,
+                r#"{"outcome":"accepted","reply":{"carry":0,"count":1,"first":"07000000000069","last":"07000000000069"}}"#,
+            ),
+            (
+                "ISSUER",
+                r#"{"command":"declare","device":"500000000000000012","first_day":"2024-12-09","last_day":"2024-12-09","gross_wh":1000000,"aux_wh":0,"key":"k286"}"#,
+                r#"{"outcome":"accepted","reply":{"carry":0,"count":1,"first":"07000000000070","last":"07000000000070"}}"#,
+            ),
+            (
+                "ISSUER",
+                r#"{"command":"declare","device":"500000000000000012","first_day":"2024-12-10","last_day":"2024-12-10","gross_wh":1000000,"aux_wh":0,"key":"k287"}"#,
+                r#"{"outcome":"accepted","reply":{"carry":0,"count":1,"first":"07000000000071","last":"07000000000071"}}"#,
+            ),
+            (
+                "ISSUER",
+                r#"{"command":"declare","device":"500000000000000012","first_day":"2024-12-11","last_day":"2024-12-11","gross_wh":1000000,"aux_wh":0,"key":"k288"}"#,
+                r#"{"outcome":"accepted","reply":{"carry":0,"count":1,"first":"07000000000072","last":"07000000000072"}}"#,
+            ),
+            (
+                "ISSUER",
+                r#"{"command":"declare","device":"500000000000000012","first_day":"2024-12-12","last_day":"2024-12-12","gross_wh":1000000,"aux_wh":0,"key":"k289"}"#,
+                r#"{"outcome":"accepted","reply":{"carry":0,"count":1,"first":"07000000000073","last":"07000000000073"}}"#,
+            ),
+            (
+                "ISSUER",
+                r#"{"command":"declare","device":"500000000000000012","first_day":"2024-12-13","last_day":"2024-12-13","gross_wh":1000000,"aux_wh":0,"key":"k290"}"#,
+                r#"{"outcome":"accepted","reply":{"carry":0,"count":1,"first":"07000000000074","last":"07000000000074"}}"#,
+            ),
+            (
+                "ISSUER",
+                r#"{"command":"declare","device":"500000000000000012","first_day":"2024-12-14","last_day":"2024-12-14","gross_wh":1000000,"aux_wh":0,"key":"k291"}"#,
+                r#"{"outcome":"accepted","reply":{"carry":0,"count":1,"first":"07000000000075","last":"07000000000075"}}"#,
+            ),
+            (
+                "ISSUER",
+                r#"{"command":"declare","device":"500000000000000012","first_day":"2024-12-15","last_day":"2024-12-15","gross_wh":1000000,"aux_wh":0,"key":"k292"}"#,
+                r#"{"outcome":"accepted","reply":{"carry":0,"count":1,"first":"07000000000076","last":"07000000000076"}}"#,
+            ),
+            (
+                "ISSUER",
+                r#"{"command":"declare","device":"500000000000000012","first_day":"2024-12-16","last_day":"2024-12-16","gross_wh":1000000,"aux_wh":0,"key":"k293"}"#,
+                r#"{"outcome":"accepted","reply":{"carry":0,"count":1,"first":"07000000000077","last":"07000000000077"}}"#,
+            ),
+            (
+                "ISSUER",
+                r#"{"command":"declare","device":"500000000000000012","first_day":"2024-12-17","last_day":"2024-12-17","gross_wh":1000000,"aux_wh":0,"key":"k294"}"#,
+                r#"{"outcome":"accepted","reply":{"carry":0,"count":1,"first":"07000000000078","last":"07000000000078"}}"#,
+            ),
+            (
+                "ISSUER",
+                r#"{"command":"declare","device":"500000000000000012","first_day":"2024-12-18","last_day":"2024-12-18","gross_wh":1000000,"aux_wh":0,"key":"k295"}"#,
+                r#"{"outcome":"accepted","reply":{"carry":0,"count":1,"first":"07000000000079","last":"07000000000079"}}"#,
+            ),
+            (
+                "ISSUER",
+                r#"{"command":"declare","device":"500000000000000012","first_day":"2024-12-19","last_day":"2024-12-19","gross_wh":1000000,"aux_wh":0,"key":"k296"}"#,
+                r#"{"outcome":"accepted","reply":{"carry":0,"count":1,"first":"07000000000080","last":"07000000000080"}}"#,
+            ),
+            (
+                "ISSUER",
+                r#"{"command":"declare","device":"500000000000000012","first_day":"2024-12-20","last_day":"2024-12-20","gross_wh":1000000,"aux_wh":0,"key":"k297"}"#,
+                r#"{"outcome":"accepted","reply":{"carry":0,"count":1,"first":"07000000000081","last":"07000000000081"}}"#,
+            ),
+            (
+                "ISSUER",
+                r#"{"command":"declare","device":"500000000000000012","first_day":"2024-12-21","last_day":"2024-12-21","gross_wh":1000000,"aux_wh":0,"key":"k298"}"#,
+                r#"{"outcome":"accepted","reply":{"carry":0,"count":1,"first":"07000000000082","last":"07000000000082"}}"#,
+            ),
+            (
+                "ISSUER",
+                r#"{"command":"declare","device":"500000000000000012","first_day":"2024-12-22","last_day":"2024-12-22","gross_wh":1000000,"aux_wh":0,"key":"k299"}"#,
+                r#"{"outcome":"accepted","reply":{"carry":0,"count":1,"first":"07000000000083","last":"07000000000083"}}"#,
+            ),
+            (
+                "ISSUER",
+                r#"{"command":"declare","device":"500000000000000012","first_day":"2024-12-23","last_day":"2024-12-23","gross_wh":1000000,"aux_wh":0,"key":"k300"}"#,
+                r#"{"outcome":"accepted","reply":{"carry":0,"count":1,"first":"07000000000084","last":"07000000000084"}}"#,
+            ),
+            (
+                "ISSUER",
+                r#"{"command":"declare","device":"500000000000000012","first_day":"2024-12-24","last_day":"2024-12-24","gross_wh":1000000,"aux_wh":0,"key":"k301"}"#,
+                r#"{"outcome":"accepted","reply":{"carry":0,"count":1,"first":"07000000000085","last":"07000000000085"}}"#,
+            ),
+            (
+                "ISSUER",
+                r#"{"command":"declare","device":"500000000000000012","first_day":"2024-12-25","last_day":"2024-12-25","gross_wh":1000000,"aux_wh":0,"key":"k302"}"#,
+                r#"{"outcome":"accepted","reply":{"carry":0,"count":1,"first":"07000000000086","last":"07000000000086"}}"#,
+            ),
+            (
+                "ISSUER",
+                r#"{"command":"declare","device":"500000000000000012","first_day":"2024-12-26","last_day":"2024-12-26","gross_wh":1000000,"aux_wh":0,"key":"k303"}"#,
+                r#"{"outcome":"accepted","reply":{"carry":0,"count":1,"first":"07000000000087","last":"07000000000087"}}"#,
+            ),
+            (
+                "ISSUER",
+                r#"{"command":"declare","device":"500000000000000012","first_day":"2024-12-27","last_day":"2024-12-27","gross_wh":1000000,"aux_wh":0,"key":"k304"}"#,
+                r#"{"outcome":"accepted","reply":{"carry":0,"count":1,"first":"07000000000088","last":"07000000000088"}}"#,
+            ),
+            (
+                "ISSUER",
+                r#"{"command":"declare","device":"500000000000000012","first_day":"2024-12-28","last_day":"2024-12-28","gross_wh":1000000,"aux_wh":0,"key":"k305"}"#,
+                r#"{"outcome":"accepted","reply":{"carry":0,"count":1,"first":"07000000000089","last":"07000000000089"}}"#,
+            ),
+            (
+                "ISSUER",
+                r#"{"command":"declare","device":"500000000000000012","first_day":"2024-12-29","last_day":"2024-12-29","gross_wh":1000000,"aux_wh":0,"key":"k306"}"#,
+                r#"{"outcome":"accepted","reply":{"carry":0,"count":1,"first":"07000000000090","last":"07000000000090"}}"#,
+            ),
+            (
+                "ISSUER",
+                r#"{"command":"declare","device":"500000000000000012","first_day":"2024-12-30","last_day":"2024-12-30","gross_wh":1000000,"aux_wh":0,"key":"k307"}"#,
+                r#"{"outcome":"accepted","reply":{"carry":0,"count":1,"first":"07000000000091","last":"07000000000091"}}"#,
+            ),
+            (
+                "ISSUER",
+                r#"{"command":"declare","device":"500000000000000012","first_day":"2024-12-31","last_day":"2024-12-31","gross_wh":1000000,"aux_wh":0,"key":"k308"}"#,
+                r#"{"outcome":"accepted","reply":{"carry":0,"count":1,"first":"07000000000092","last":"07000000000092"}}"#,
+            ),
+            (
+                "ISSUER",
+                r#"{"command":"declare","device":"500000000000000012","first_day":"2025-01-01","last_day":"2025-01-01","gross_wh":1000000,"aux_wh":0,"key":"k309"}"#,
+                r#"{"outcome":"accepted","reply":{"carry":0,"count":1,"first":"07000000000093","last":"07000000000093"}}"#,
+            ),
+            (
+                "ISSUER",
+                r#"{"command":"declare","device":"500000000000000012","first_day":"2025-01-02","last_day":"2025-01-02","gross_wh":1000000,"aux_wh":0,"key":"k310"}"#,
+                r#"{"outcome":"accepted","reply":{"carry":0,"count":1,"first":"07000000000094","last":"07000000000094"}}"#,
+            ),
+            (
+                "ISSUER",
+                r#"{"command":"declare","device":"500000000000000012","first_day":"2025-01-03","last_day":"2025-01-03","gross_wh":1000000,"aux_wh":0,"key":"k311"}"#,
+                r#"{"outcome":"accepted","reply":{"carry":0,"count":1,"first":"07000000000095","last":"07000000000095"}}"#,
+            ),
+            (
+                "ISSUER",
+                r#"{"command":"declare","device":"500000000000000012","first_day":"2025-01-04","last_day":"2025-01-04","gross_wh":1000000,"aux_wh":0,"key":"k312"}"#,
+                r#"{"outcome":"accepted","reply":{"carry":0,"count":1,"first":"07000000000096","last":"07000000000096"}}"#,
+            ),
+            (
+                "ISSUER",
+                r#"{"command":"declare","device":"500000000000000012","first_day":"2025-01-05","last_day":"2025-01-05","gross_wh":1000000,"aux_wh":0,"key":"k313"}"#,
+                r#"{"outcome":"accepted","reply":{"carry":0,"count":1,"first":"07000000000097","last":"07000000000097"}}"#,
+            ),
+            (
+                "ISSUER",
+                r#"{"command":"declare","device":"500000000000000012","first_day":"2025-01-06","last_day":"2025-01-06","gross_wh":1000000,"aux_wh":0,"key":"k314"}"#,
+                r#"{"outcome":"accepted","reply":{"carry":0,"count":1,"first":"07000000000098","last":"07000000000098"}}"#,
+            ),
+            (
+                "ISSUER",
+                r#"{"command":"declare","device":"500000000000000012","first_day":"2025-01-07","last_day":"2025-01-07","gross_wh":1000000,"aux_wh":0,"key":"k315"}"#,
+                r#"{"outcome":"accepted","reply":{"carry":0,"count":1,"first":"07000000000099","last":"07000000000099"}}"#,
+            ),
+            (
+                "ISSUER",
+                r#"{"command":"declare","device":"500000000000000012","first_day":"2025-01-08","last_day":"2025-01-08","gross_wh":1000000,"aux_wh":0,"key":"k316"}"#,
+                r#"{"outcome":"accepted","reply":{"carry":0,"count":1,"first":"07000000000100","last":"07000000000100"}}"#,
+            ),
+            (
+                "ISSUER",
+                r#"{"command":"declare","device":"500000000000000012","first_day":"2025-01-09","last_day":"2025-01-09","gross_wh":1000000,"aux_wh":0,"key":"k317"}"#,
+                r#"{"outcome":"accepted","reply":{"carry":0,"count":1,"first":"07000000000101","last":"07000000000101"}}"#,
+            ),
+            (
+                "SUN",
+                r#"{"command":"export","giver":1,"peer":9,"account":5,"first":"07000000000001","last":"07000000000101","key":"k324"}"#,
+                r#"{"code":30,"name":"TooManyParts","outcome":"refused"}"#,
+            ),
+            (
+                "SUN",
+                r#"{"command":"export","giver":1,"peer":9,"account":5,"first":"07000000000001","last":"07000000000100","key":"k325"}"#,
+                r#"{"outcome":"accepted","reply":{"count":100,"notice":1}}"#,
+            ),
+        ],
+    },
+    Case {
+        name: "a_key_after_the_date_moved",
+        serial: 1,
+        begun: 5,
+        asked: &[
+            (
+                "ISSUER",
+                r#"{"command":"declare","device":"500000000000000012","first_day":"2025-01-01","last_day":"2025-01-31","gross_wh":1234567890,"aux_wh":34567890,"key":"x"}"#,
+                r#"{"outcome":"accepted","reply":{"carry":0,"count":1200,"first":"07000000000001","last":"07000000001200"}}"#,
+            ),
+            (
+                "ISSUER",
+                r#"{"command":"declare","device":"500000000000000012","first_day":"2025-02-01","last_day":"2025-02-28","gross_wh":999999,"aux_wh":0,"key":"k436"}"#,
+                r#"{"outcome":"accepted","reply":{"carry":999999,"count":0}}"#,
+            ),
+            (
+                "ISSUER",
+                r#"{"command":"advance","day":"2025-04-05","key":"k437"}"#,
+                r#"{"outcome":"accepted","reply":{"expired":0}}"#,
+            ),
+            (
+                "ISSUER",
+                r#"{"command":"declare","device":"500000000000000012","first_day":"2025-03-01","last_day":"2025-03-31","gross_wh":1,"aux_wh":0,"key":"k438"}"#,
+                r#"{"outcome":"accepted","reply":{"carry":0,"count":1,"first":"07000000001201","last":"07000000001201"}}"#,
+            ),
+            (
+                "ISSUER",
+                r#"{"command":"declare","device":"500000000000000012","first_day":"2025-01-01","last_day":"2025-01-31","gross_wh":1234567890,"aux_wh":34567890,"key":"x"}"#,
+                r#"{"outcome":"repeated","reply":{"carry":0,"count":1200,"first":"07000000000001","last":"07000000001200"}}"#,
+            ),
+            (
+                "ISSUER",
+                r#"{"command":"declare","device":"500000000000000012","first_day":"2025-01-01","last_day":"2025-01-31","gross_wh":1234567891,"aux_wh":34567890,"key":"x"}"#,
+                r#"{"code":2,"name":"KeyReused","outcome":"refused"}"#,
+            ),
+            (
+                "SUN",
+                r#"{"command":"declare","device":"500000000000000012","first_day":"2025-01-01","last_day":"2025-01-31","gross_wh":1234567890,"aux_wh":34567890,"key":"x"}"#,
+                r#"{"code":1,"name":"NotAllowed","outcome":"refused"}"#,
+            ),
+        ],
+    },
+    Case {
+        name: "a_number_that_another_account_holds",
+        serial: 1,
+        begun: 9,
+        asked: &[
+            (
+                "SUN",
+                r#"{"command":"transfer","giver":1,"taker":2,"first":"07000000000007","last":"07000000000007","key":"k56"}"#,
+                r#"{"outcome":"accepted","reply":{"count":1}}"#,
+            ),
+            (
+                "SUN",
+                r#"{"command":"cancel","account":1,"first":"07000000000001","last":"07000000000010","beneficiary":"X","use_first":"2025-01-01","use_last":"2025-03-31","key":"k57"}"#,
+                r#"{"code":17,"name":"NotHeld","number":"07000000000007","outcome":"refused"}"#,
+            ),
+        ],
+    },
+    Case {
+        name: "a_withdrawal",
+        serial: 1,
+        begun: 9,
+        asked: &[
+            (
+                "ISSUER",
+                r#"{"command":"withdraw","first":"07000000000005","last":"07000000000005","reason":"meter read twice","key":"k201"}"#,
+                r#"{"outcome":"accepted","reply":{"count":1,"withdrawal":1}}"#,
+            ),
+            (
+                "ISSUER",
+                r#"{"command":"withdraw","first":"07000000000005","last":"07000000000005","reason":"meter read twice","key":"k202"}"#,
+                r#"{"code":17,"name":"NotHeld","number":"07000000000005","outcome":"refused"}"#,
+            ),
+            (
+                "SUN",
+                r#"{"command":"withdraw","first":"07000000000006","last":"07000000000006","reason":"x","key":"k203"}"#,
+                r#"{"code":1,"name":"NotAllowed","outcome":"refused"}"#,
+            ),
+        ],
+    },
+    Case {
+        name: "an_account_closed_after_its_certificates_expired",
+        serial: 1,
+        begun: 5,
+        asked: &[
+            (
+                "ISSUER",
+                r#"{"command":"declare","device":"500000000000000012","first_day":"2025-01-01","last_day":"2025-01-31","gross_wh":1000000,"aux_wh":0,"key":"k444"}"#,
+                r#"{"outcome":"accepted","reply":{"carry":0,"count":1,"first":"07000000000001","last":"07000000000001"}}"#,
+            ),
+            (
+                "ISSUER",
+                r#"{"command":"advance","day":"2026-07-31","key":"k445"}"#,
+                r#"{"outcome":"accepted","reply":{"expired":0}}"#,
+            ),
+            (
+                "ISSUER",
+                r#"{"command":"close_account","account":1,"key":"k446"}"#,
+                r#"{"code":7,"name":"AccountNotEmpty","outcome":"refused"}"#,
+            ),
+            (
+                "ISSUER",
+                r#"{"command":"advance","day":"2026-08-01","key":"k447"}"#,
+                r#"{"outcome":"accepted","reply":{"expired":1}}"#,
+            ),
+            (
+                "ISSUER",
+                r#"{"command":"close_account","account":1,"key":"k448"}"#,
+                r#"{"outcome":"accepted","reply":{}}"#,
+            ),
+            (
+                "ISSUER",
+                r#"{"command":"open_account","holder":"SUN","key":"k449"}"#,
+                r#"{"outcome":"accepted","reply":{"account":3}}"#,
+            ),
+            (
+                "ISSUER",
+                r#"{"command":"close_account","account":1,"key":"k450"}"#,
+                r#"{"code":6,"name":"AccountClosed","outcome":"refused"}"#,
+            ),
+        ],
+    },
+    Case {
+        name: "an_old_period",
+        serial: 1,
+        begun: 9,
+        asked: &[
+            (
+                "ISSUER",
+                r#"{"command":"register_device","account":1,"capacity_w":2000000,"commissioned":"2020-06-15","country":"DE","device":"500000000000000029","site":"North field","source":"F01010100","support":"none","tech":"T010000","key":"k164"}"#,
+                r#"{"outcome":"accepted","reply":{}}"#,
+            ),
+            (
+                "ISSUER",
+                r#"{"command":"declare","device":"500000000000000029","first_day":"2023-09-01","last_day":"2023-09-30","gross_wh":1,"aux_wh":0,"key":"k165"}"#,
+                r#"{"code":27,"name":"Stale","outcome":"refused"}"#,
+            ),
+            (
+                "ISSUER",
+                r#"{"command":"declare","device":"500000000000000029","first_day":"2023-10-01","last_day":"2023-10-31","gross_wh":1000000,"aux_wh":0,"key":"k166"}"#,
+                r#"{"outcome":"accepted","reply":{"carry":0,"count":1,"first":"07000000001202","last":"07000000001202"}}"#,
+            ),
+            (
+                "SUN",
+                r#"{"command":"transfer","giver":1,"taker":2,"first":"07000000001202","last":"07000000001202","key":"k167"}"#,
+                r#"{"code":18,"name":"TradeClosed","number":"07000000001202","outcome":"refused"}"#,
+            ),
+            (
+                "SUN",
+                r#"{"command":"cancel","account":1,"first":"07000000001202","last":"07000000001202","beneficiary":"X","use_first":"2025-01-01","use_last":"2025-03-31","key":"k168"}"#,
+                r#"{"outcome":"accepted","reply":{"cancellation":1,"count":1}}"#,
+            ),
+        ],
+    },
+    Case {
+        name: "another_lot_and_a_stale_one",
+        serial: 1,
+        begun: 10,
+        asked: &[
+            (
+                "SUN",
+                r#"{"command":"export","giver":1,"peer":9,"account":5,"first":"07000000000020","last":"07000000000029","key":"k214"}"#,
+                r#"{"outcome":"accepted","reply":{"count":10,"notice":1}}"#,
+            ),
+            (
+                "ISSUER",
+                r#"{"command":"import","notice":{"sender":9,"addressee":7,"number":1,"account":1,"version":1,"parts":[{"first":"07000000000020","last":"07000000000029","lot":{"capacity_w":2000000,"commissioned":"2020-06-15","country":"DE","device":"500000000000000012","first_day":"2025-01-01","issued_on":"2025-03-01","last_day":"2025-01-31","origin":7,"site":"South field","source":"F01010100","support":"none","tech":"T010000"}}]},"key":"k215"}"#,
+                r#"{"code":26,"name":"LotDiffers","number":"07000000000020","outcome":"refused"}"#,
+            ),
+            (
+                "ISSUER",
+                r#"{"command":"import","notice":{"sender":9,"addressee":7,"number":2,"account":1,"version":1,"parts":[{"first":"09000000000001","last":"09000000000001","lot":{"capacity_w":2000000,"commissioned":"2020-06-15","country":"DE","device":"500000000000000012","first_day":"2023-01-01","issued_on":"2023-03-01","last_day":"2023-01-31","origin":9,"site":"North field","source":"F01010100","support":"none","tech":"T010000"}}]},"key":"k216"}"#,
+                r#"{"code":27,"name":"Stale","outcome":"refused"}"#,
+            ),
+        ],
+    },
+    Case {
+        name: "before_the_date_moves",
+        serial: 1,
+        begun: 7,
+        asked: &[
+            (
+                "ISSUER",
+                r#"{"command":"withdraw","first":"07000000000005","last":"07000000000005","reason":"meter read twice","key":"k415"}"#,
+                r#"{"outcome":"accepted","reply":{"count":1,"withdrawal":1}}"#,
+            ),
+            (
+                "ISSUER",
+                r#"{"command":"withdraw","first":"07000000000005","last":"07000000000005","reason":"meter read twice","key":"k416"}"#,
+                r#"{"code":17,"name":"NotHeld","number":"07000000000005","outcome":"refused"}"#,
+            ),
+            (
+                "SUN",
+                r#"{"command":"withdraw","first":"07000000000006","last":"07000000000006","reason":"meter read twice","key":"k417"}"#,
+                r#"{"code":1,"name":"NotAllowed","outcome":"refused"}"#,
+            ),
+            (
+                "SUN",
+                r#"{"command":"transfer","giver":1,"taker":2,"first":"07000000000100","last":"07000000000199","key":"k418"}"#,
+                r#"{"outcome":"accepted","reply":{"count":100}}"#,
+            ),
+            (
+                "SUN",
+                r#"{"command":"transfer","giver":1,"taker":2,"first":"07000000000007","last":"07000000000007","key":"k419"}"#,
+                r#"{"outcome":"accepted","reply":{"count":1}}"#,
+            ),
+            (
+                "SUN",
+                r#"{"command":"cancel","account":1,"first":"07000000000006","last":"07000000000010","beneficiary":"X","use_first":"2025-01-01","use_last":"2025-03-31","key":"k420"}"#,
+                r#"{"code":17,"name":"NotHeld","number":"07000000000007","outcome":"refused"}"#,
+            ),
+            (
+                "ISSUER",
+                r#"{"command":"open_holder","holder":"SUN","name":"x","key":"k421"}"#,
+                r#"{"code":4,"name":"HolderExists","outcome":"refused"}"#,
+            ),
+            (
+                "ISSUER",
+                r#"{"command":"open_holder","holder":"ISSUER","name":"x","key":"k422"}"#,
+                r#"{"code":4,"name":"HolderExists","outcome":"refused"}"#,
+            ),
+            (
+                "ISSUER",
+                r#"{"command":"open_account","holder":"NOBODY","key":"k423"}"#,
+                r#"{"code":3,"name":"UnknownHolder","outcome":"refused"}"#,
+            ),
+            (
+                "ISSUER",
+                r#"{"command":"register_device","account":1,"capacity_w":2000000,"commissioned":"2020-06-15","country":"DE","device":"500000000000000012","site":"North field","source":"F01010100","support":"none","tech":"T010000","key":"k424"}"#,
+                r#"{"code":8,"name":"DeviceExists","outcome":"refused"}"#,
+            ),
+            (
+                "ISSUER",
+                r#"{"command":"declare","device":"500000000000000029","first_day":"2025-01-01","last_day":"2025-01-31","gross_wh":5,"aux_wh":0,"key":"k425"}"#,
+                r#"{"code":9,"name":"UnknownDevice","outcome":"refused"}"#,
+            ),
+            (
+                "SUN",
+                r#"{"command":"transfer","giver":1,"taker":1,"first":"07000000000001","last":"07000000000001","key":"k426"}"#,
+                r#"{"code":19,"name":"SameAccount","outcome":"refused"}"#,
+            ),
+            (
+                "SUN",
+                r#"{"command":"transfer","giver":1,"taker":3,"first":"07000000000001","last":"07000000000001","key":"k427"}"#,
+                r#"{"code":5,"name":"UnknownAccount","outcome":"refused"}"#,
+            ),
+            (
+                "SUN",
+                r#"{"command":"transfer","giver":1,"taker":2,"first":"07000000001202","last":"07000000001202","key":"k428"}"#,
+                r#"{"code":16,"name":"UnknownNumber","number":"07000000001202","outcome":"refused"}"#,
+            ),
+            (
+                "VOLT",
+                r#"{"command":"transfer","giver":1,"taker":2,"first":"07000000000001","last":"07000000000001","key":"k429"}"#,
+                r#"{"code":1,"name":"NotAllowed","outcome":"refused"}"#,
+            ),
+            (
+                "SUN",
+                r#"{"command":"cancel","account":1,"first":"07000000000001","last":"07000000000001","beneficiary":"X","use_first":"2025-03-31","use_last":"2025-01-01","key":"k430"}"#,
+                r#"{"code":29,"name":"UsePeriod","outcome":"refused"}"#,
+            ),
+        ],
+    },
+    Case {
+        name: "certificates_of_another_registry",
+        serial: 1,
+        begun: 10,
+        asked: &[
+            (
+                "ISSUER",
+                r#"{"command":"import","notice":{"sender":8,"addressee":7,"number":1,"account":1,"version":1,"parts":[{"first":"09000000000001","last":"09000000000010","lot":{"capacity_w":2000000,"commissioned":"2020-06-15","country":"DE","device":"500000000000000012","first_day":"2025-01-01","issued_on":"2025-03-01","last_day":"2025-01-31","origin":9,"site":"North field","source":"F01010100","support":"none","tech":"T010000"}}]},"key":"k510"}"#,
+                r#"{"code":21,"name":"UnknownPeer","outcome":"refused"}"#,
+            ),
+            (
+                "ISSUER",
+                r#"{"command":"import","notice":{"sender":9,"addressee":7,"number":1,"account":3,"version":1,"parts":[{"first":"09000000000001","last":"09000000000010","lot":{"capacity_w":2000000,"commissioned":"2020-06-15","country":"DE","device":"500000000000000012","first_day":"2025-01-01","issued_on":"2025-03-01","last_day":"2025-01-31","origin":9,"site":"North field","source":"F01010100","support":"none","tech":"T010000"}}]},"key":"k511"}"#,
+                r#"{"code":5,"name":"UnknownAccount","outcome":"refused"}"#,
+            ),
+            (
+                "ISSUER",
+                r#"{"command":"import","notice":{"sender":9,"addressee":7,"number":1,"account":1,"version":1,"parts":[{"first":"09000000000001","last":"09000000000010","lot":{"capacity_w":2000000,"commissioned":"2020-06-15","country":"DE","device":"500000000000000012","first_day":"2025-01-01","issued_on":"2025-03-01","last_day":"2025-01-31","origin":9,"site":"North field","source":"F01010100","support":"none","tech":"T010000"}}]},"key":"k512"}"#,
+                r#"{"outcome":"accepted","reply":{"count":10}}"#,
+            ),
+            (
+                "SUN",
+                r#"{"command":"transfer","giver":1,"taker":2,"first":"09000000000003","last":"09000000000004","key":"k513"}"#,
+                r#"{"outcome":"accepted","reply":{"count":2}}"#,
+            ),
+            (
+                "SUN",
+                r#"{"command":"cancel","account":1,"first":"09000000000001","last":"09000000000001","beneficiary":"X","use_first":"2025-01-01","use_last":"2025-03-31","key":"k514"}"#,
+                r#"{"outcome":"accepted","reply":{"cancellation":1,"count":1}}"#,
+            ),
+            (
+                "SUN",
+                r#"{"command":"export","giver":1,"peer":9,"account":5,"first":"09000000000005","last":"09000000000006","key":"k515"}"#,
+                r#"{"outcome":"accepted","reply":{"count":2,"notice":1}}"#,
+            ),
+            (
+                "ISSUER",
+                r#"{"command":"import","notice":{"sender":9,"addressee":7,"number":2,"account":1,"version":1,"parts":[{"first":"09000000000006","last":"09000000000007","lot":{"capacity_w":2000000,"commissioned":"2020-06-15","country":"DE","device":"500000000000000012","first_day":"2025-01-01","issued_on":"2025-03-01","last_day":"2025-01-31","origin":9,"site":"North field","source":"F01010100","support":"none","tech":"T010000"}}]},"key":"k516"}"#,
+                r#"{"code":25,"name":"NumberTaken","number":"09000000000007","outcome":"refused"}"#,
+            ),
+            (
+                "ISSUER",
+                r#"{"command":"advance","day":"2026-07-31","key":"k517"}"#,
+                r#"{"outcome":"accepted","reply":{"expired":0}}"#,
+            ),
+            (
+                "ISSUER",
+                r#"{"command":"advance","day":"2026-08-01","key":"k518"}"#,
+                r#"{"outcome":"accepted","reply":{"expired":1207}}"#,
+            ),
+        ],
+    },
+    Case {
+        name: "closing_an_account",
+        serial: 1,
+        begun: 5,
+        asked: &[
+            (
+                "ISSUER",
+                r#"{"command":"declare","device":"500000000000000012","first_day":"2025-01-01","last_day":"2025-01-31","gross_wh":1000000,"aux_wh":0,"key":"k125"}"#,
+                r#"{"outcome":"accepted","reply":{"carry":0,"count":1,"first":"07000000000001","last":"07000000000001"}}"#,
+            ),
+            (
+                "ISSUER",
+                r#"{"command":"close_account","account":1,"key":"k126"}"#,
+                r#"{"code":7,"name":"AccountNotEmpty","outcome":"refused"}"#,
+            ),
+            (
+                "SUN",
+                r#"{"command":"cancel","account":1,"first":"07000000000001","last":"07000000000001","beneficiary":"X","use_first":"2025-01-01","use_last":"2025-03-31","key":"k127"}"#,
+                r#"{"outcome":"accepted","reply":{"cancellation":1,"count":1}}"#,
+            ),
+            (
+                "ISSUER",
+                r#"{"command":"close_account","account":1,"key":"k128"}"#,
+                r#"{"outcome":"accepted","reply":{}}"#,
+            ),
+            (
+                "ISSUER",
+                r#"{"command":"close_account","account":1,"key":"k129"}"#,
+                r#"{"code":6,"name":"AccountClosed","outcome":"refused"}"#,
+            ),
+        ],
+    },
+    Case {
+        name: "declarations_that_are_refused",
+        serial: 1,
+        begun: 5,
+        asked: &[
+            (
+                "ISSUER",
+                r#"{"command":"declare","device":"500000000000000029","first_day":"2025-01-01","last_day":"2025-01-31","gross_wh":1,"aux_wh":0,"key":"k331"}"#,
+                r#"{"code":9,"name":"UnknownDevice","outcome":"refused"}"#,
+            ),
+            (
+                "ISSUER",
+                r#"{"command":"declare","device":"500000000000000012","first_day":"2025-01-31","last_day":"2025-02-01","gross_wh":1,"aux_wh":0,"key":"k332"}"#,
+                r#"{"code":12,"name":"PeriodSpan","outcome":"refused"}"#,
+            ),
+            (
+                "ISSUER",
+                r#"{"command":"declare","device":"500000000000000012","first_day":"2025-03-01","last_day":"2025-03-01","gross_wh":1,"aux_wh":0,"key":"k333"}"#,
+                r#"{"code":28,"name":"FuturePeriod","outcome":"refused"}"#,
+            ),
+            (
+                "ISSUER",
+                r#"{"command":"declare","device":"500000000000000012","first_day":"2020-06-14","last_day":"2020-06-30","gross_wh":1,"aux_wh":0,"key":"k334"}"#,
+                r#"{"code":10,"name":"BeforeCommissioning","outcome":"refused"}"#,
+            ),
+            (
+                "ISSUER",
+                r#"{"command":"declare","device":"500000000000000012","first_day":"2023-08-01","last_day":"2023-08-31","gross_wh":1,"aux_wh":0,"key":"k335"}"#,
+                r#"{"code":27,"name":"Stale","outcome":"refused"}"#,
+            ),
+            (
+                "ISSUER",
+                r#"{"command":"declare","device":"500000000000000012","first_day":"2025-01-01","last_day":"2025-01-31","gross_wh":1234567890,"aux_wh":34567890,"key":"k336"}"#,
+                r#"{"outcome":"accepted","reply":{"carry":0,"count":1200,"first":"07000000000001","last":"07000000001200"}}"#,
+            ),
+            (
+                "ISSUER",
+                r#"{"command":"declare","device":"500000000000000012","first_day":"2025-01-31","last_day":"2025-01-31","gross_wh":1,"aux_wh":0,"key":"k337"}"#,
+                r#"{"code":11,"name":"PeriodOrder","outcome":"refused"}"#,
+            ),
+            (
+                "ISSUER",
+                r#"{"command":"declare","device":"500000000000000012","first_day":"2025-02-01","last_day":"2025-02-28","gross_wh":5,"aux_wh":6,"key":"k338"}"#,
+                r#"{"code":13,"name":"AuxExceedsGross","outcome":"refused"}"#,
+            ),
+        ],
+    },
+    Case {
+        name: "just_the_capacity",
+        serial: 1,
+        begun: 5,
+        asked: &[(
+            "ISSUER",
+            r#"{"command":"declare","device":"500000000000000012","first_day":"2025-01-01","last_day":"2025-01-31","gross_wh":1490000000,"aux_wh":0,"key":"k135"}"#,
+            r#"{"outcome":"accepted","reply":{"carry":0,"count":1490,"first":"07000000000001","last":"07000000001490"}}"#,
+        )],
+    },
+    Case {
+        name: "more_auxiliaries_than_gross",
+        serial: 1,
+        begun: 9,
+        asked: &[
+            (
+                "ISSUER",
+                r#"{"command":"declare","device":"500000000000000012","first_day":"2025-04-01","last_day":"2025-04-03","gross_wh":500,"aux_wh":500,"key":"k24"}"#,
+                r#"{"outcome":"accepted","reply":{"carry":0,"count":0}}"#,
+            ),
+            (
+                "ISSUER",
+                r#"{"command":"declare","device":"500000000000000012","first_day":"2025-04-04","last_day":"2025-04-04","gross_wh":500,"aux_wh":501,"key":"k25"}"#,
+                r#"{"code":13,"name":"AuxExceedsGross","outcome":"refused"}"#,
+            ),
+        ],
+    },
+    Case {
+        name: "notices_that_are_refused",
+        serial: 1,
+        begun: 10,
+        asked: &[
+            (
+                "ISSUER",
+                r#"{"command":"import","notice":{"sender":9,"addressee":7,"number":2,"account":1,"version":1,"parts":[{"first":"07000000001202","last":"07000000001202","lot":{"capacity_w":2000000,"commissioned":"2020-06-15","country":"DE","device":"500000000000000012","first_day":"2025-01-01","issued_on":"2025-03-01","last_day":"2025-01-31","origin":7,"site":"North field","source":"F01010100","support":"none","tech":"T010000"}}]},"key":"k118"}"#,
+                r#"{"code":16,"name":"UnknownNumber","number":"07000000001202","outcome":"refused"}"#,
+            ),
+            (
+                "ISSUER",
+                r#"{"command":"import","notice":{"sender":9,"addressee":7,"number":2,"account":1,"version":1,"parts":[{"first":"07000000000001","last":"07000000000001","lot":{"capacity_w":2000000,"commissioned":"2020-06-15","country":"DE","device":"500000000000000012","first_day":"2025-01-01","issued_on":"2025-03-01","last_day":"2025-01-31","origin":7,"site":"North field","source":"F01010100","support":"none","tech":"T010000"}}]},"key":"k119"}"#,
+                r#"{"code":25,"name":"NumberTaken","number":"07000000000001","outcome":"refused"}"#,
+            ),
+        ],
+    },
+    Case {
+        name: "one_watt-hour_above_the_capacity",
+        serial: 1,
+        begun: 5,
+        asked: &[(
+            "ISSUER",
+            r#"{"command":"declare","device":"500000000000000012","first_day":"2025-01-01","last_day":"2025-01-31","gross_wh":1490000001,"aux_wh":0,"key":"k141"}"#,
+            r#"{"code":14,"name":"OverCapacity","outcome":"refused"}"#,
+        )],
+    },
+    Case {
+        name: "out_back_and_out_again",
+        serial: 1,
+        begun: 10,
+        asked: &[
+            (
+                "SUN",
+                r#"{"command":"export","giver":1,"peer":9,"account":5,"first":"07000000000020","last":"07000000000029","key":"k101"}"#,
+                r#"{"outcome":"accepted","reply":{"count":10,"notice":1}}"#,
+            ),
+            (
+                "ISSUER",
+                r#"{"command":"import","notice":{"sender":9,"addressee":7,"number":1,"account":1,"version":1,"parts":[{"first":"07000000000020","last":"07000000000029","lot":{"capacity_w":2000000,"commissioned":"2020-06-15","country":"DE","device":"500000000000000012","first_day":"2025-01-01","issued_on":"2025-03-01","last_day":"2025-01-31","origin":7,"site":"North field","source":"F01010100","support":"none","tech":"T010000"}}]},"key":"k102"}"#,
+                r#"{"outcome":"accepted","reply":{"count":10}}"#,
+            ),
+            (
+                "ISSUER",
+                r#"{"command":"import","notice":{"sender":9,"addressee":7,"number":1,"account":1,"version":1,"parts":[{"first":"07000000000020","last":"07000000000029","lot":{"capacity_w":2000000,"commissioned":"2020-06-15","country":"DE","device":"500000000000000012","first_day":"2025-01-01","issued_on":"2025-03-01","last_day":"2025-01-31","origin":7,"site":"North field","source":"F01010100","support":"none","tech":"T010000"}}]},"key":"k103"}"#,
+                r#"{"outcome":"repeated","reply":{"count":10}}"#,
+            ),
+            (
+                "ISSUER",
+                r#"{"command":"import","notice":{"sender":9,"addressee":7,"number":1,"account":1,"version":1,"parts":[{"first":"07000000000020","last":"07000000000028","lot":{"capacity_w":2000000,"commissioned":"2020-06-15","country":"DE","device":"500000000000000012","first_day":"2025-01-01","issued_on":"2025-03-01","last_day":"2025-01-31","origin":7,"site":"North field","source":"F01010100","support":"none","tech":"T010000"}}]},"key":"k104"}"#,
+                r#"{"code":24,"name":"NoticeConflict","outcome":"refused"}"#,
+            ),
+            (
+                "SUN",
+                r#"{"command":"export","giver":1,"peer":9,"account":5,"first":"07000000000020","last":"07000000000029","key":"k105"}"#,
+                r#"{"outcome":"accepted","reply":{"count":10,"notice":2}}"#,
+            ),
+            (
+                "ISSUER",
+                r#"{"command":"import","notice":{"sender":9,"addressee":7,"number":1,"account":1,"version":1,"parts":[{"first":"07000000000020","last":"07000000000029","lot":{"capacity_w":2000000,"commissioned":"2020-06-15","country":"DE","device":"500000000000000012","first_day":"2025-01-01","issued_on":"2025-03-01","last_day":"2025-01-31","origin":7,"site":"North field","source":"F01010100","support":"none","tech":"T010000"}}]},"key":"k106"}"#,
+                r#"{"outcome":"repeated","reply":{"count":10}}"#,
+            ),
+            (
+                "ISSUER",
+                r#"{"command":"import","notice":{"sender":9,"addressee":7,"number":2,"account":1,"version":1,"parts":[{"first":"07000000000020","last":"07000000000029","lot":{"capacity_w":2000000,"commissioned":"2020-06-15","country":"DE","device":"500000000000000012","first_day":"2025-01-01","issued_on":"2025-03-01","last_day":"2025-01-31","origin":7,"site":"North field","source":"F01010100","support":"none","tech":"T010000"}}]},"key":"k107"}"#,
+                r#"{"outcome":"accepted","reply":{"count":10}}"#,
+            ),
+        ],
+    },
+    Case {
+        name: "periods_that_are_refused",
+        serial: 1,
+        begun: 9,
+        asked: &[
+            (
+                "ISSUER",
+                r#"{"command":"declare","device":"500000000000000012","first_day":"2025-03-31","last_day":"2025-04-01","gross_wh":1,"aux_wh":0,"key":"k151"}"#,
+                r#"{"code":12,"name":"PeriodSpan","outcome":"refused"}"#,
+            ),
+            (
+                "ISSUER",
+                r#"{"command":"declare","device":"500000000000000012","first_day":"2025-04-01","last_day":"2025-04-05","gross_wh":1,"aux_wh":0,"key":"k152"}"#,
+                r#"{"code":28,"name":"FuturePeriod","outcome":"refused"}"#,
+            ),
+            (
+                "ISSUER",
+                r#"{"command":"declare","device":"500000000000000012","first_day":"2020-06-14","last_day":"2020-06-30","gross_wh":1,"aux_wh":0,"key":"k153"}"#,
+                r#"{"code":10,"name":"BeforeCommissioning","outcome":"refused"}"#,
+            ),
+            (
+                "ISSUER",
+                r#"{"command":"declare","device":"500000000000000012","first_day":"2025-03-31","last_day":"2025-03-31","gross_wh":1,"aux_wh":0,"key":"k154"}"#,
+                r#"{"code":11,"name":"PeriodOrder","outcome":"refused"}"#,
+            ),
+        ],
+    },
+    Case {
+        name: "refusals_of_the_other_commands",
+        serial: 1,
+        begun: 9,
+        asked: &[
+            (
+                "ISSUER",
+                r#"{"command":"open_holder","holder":"SUN","name":"x","key":"k178"}"#,
+                r#"{"code":4,"name":"HolderExists","outcome":"refused"}"#,
+            ),
+            (
+                "ISSUER",
+                r#"{"command":"open_holder","holder":"ISSUER","name":"x","key":"k179"}"#,
+                r#"{"code":4,"name":"HolderExists","outcome":"refused"}"#,
+            ),
+            (
+                "ISSUER",
+                r#"{"command":"open_account","holder":"NOBODY","key":"k180"}"#,
+                r#"{"code":3,"name":"UnknownHolder","outcome":"refused"}"#,
+            ),
+            (
+                "ISSUER",
+                r#"{"command":"register_device","account":1,"capacity_w":2000000,"commissioned":"2020-06-15","country":"DE","device":"500000000000000012","site":"North field","source":"F01010100","support":"none","tech":"T010000","key":"k181"}"#,
+                r#"{"code":8,"name":"DeviceExists","outcome":"refused"}"#,
+            ),
+            (
+                "ISSUER",
+                r#"{"command":"declare","device":"500000000000000029","first_day":"2025-04-01","last_day":"2025-04-01","gross_wh":1,"aux_wh":0,"key":"k182"}"#,
+                r#"{"code":9,"name":"UnknownDevice","outcome":"refused"}"#,
+            ),
+            (
+                "SUN",
+                r#"{"command":"transfer","giver":1,"taker":1,"first":"07000000000001","last":"07000000000001","key":"k183"}"#,
+                r#"{"code":19,"name":"SameAccount","outcome":"refused"}"#,
+            ),
+            (
+                "SUN",
+                r#"{"command":"transfer","giver":1,"taker":3,"first":"07000000000001","last":"07000000000001","key":"k184"}"#,
+                r#"{"code":5,"name":"UnknownAccount","outcome":"refused"}"#,
+            ),
+            (
+                "SUN",
+                r#"{"command":"transfer","giver":1,"taker":2,"first":"07000000001202","last":"07000000001202","key":"k185"}"#,
+                r#"{"code":16,"name":"UnknownNumber","number":"07000000001202","outcome":"refused"}"#,
+            ),
+            (
+                "VOLT",
+                r#"{"command":"transfer","giver":1,"taker":2,"first":"07000000000001","last":"07000000000001","key":"k186"}"#,
+                r#"{"code":1,"name":"NotAllowed","outcome":"refused"}"#,
+            ),
+            (
+                "ISSUER",
+                r#"{"command":"advance","day":"2025-04-05","key":"k187"}"#,
+                r#"{"code":20,"name":"DateBackwards","outcome":"refused"}"#,
+            ),
+            (
+                "SUN",
+                r#"{"command":"export","giver":1,"peer":9,"account":5,"first":"07000000000001","last":"07000000000001","key":"k188"}"#,
+                r#"{"code":21,"name":"UnknownPeer","outcome":"refused"}"#,
+            ),
+            (
+                "ISSUER",
+                r#"{"command":"add_peer","peer":7,"key":"k189"}"#,
+                r#"{"code":22,"name":"PeerExists","outcome":"refused"}"#,
+            ),
+            (
+                "ISSUER",
+                r#"{"command":"import","notice":{"sender":9,"addressee":8,"number":1,"account":1,"version":1,"parts":[{"first":"07000000000001","last":"07000000000001","lot":{"capacity_w":2000000,"commissioned":"2020-06-15","country":"DE","device":"500000000000000012","first_day":"2025-01-01","issued_on":"2025-03-01","last_day":"2025-01-31","origin":7,"site":"North field","source":"F01010100","support":"none","tech":"T010000"}}]},"key":"k190"}"#,
+                r#"{"code":23,"name":"WrongRegistry","outcome":"refused"}"#,
+            ),
+            (
+                "SUN",
+                r#"{"command":"cancel","account":1,"first":"07000000000001","last":"07000000000001","beneficiary":"X","use_first":"2025-03-31","use_last":"2025-01-01","key":"k191"}"#,
+                r#"{"code":29,"name":"UsePeriod","outcome":"refused"}"#,
+            ),
+        ],
+    },
+    Case {
+        name: "the_last_day_and_the_day_after",
+        serial: 1,
+        begun: 9,
+        asked: &[
+            (
+                "ISSUER",
+                r#"{"command":"advance","day":"2026-07-31","key":"k81"}"#,
+                r#"{"outcome":"accepted","reply":{"expired":0}}"#,
+            ),
+            (
+                "ISSUER",
+                r#"{"command":"advance","day":"2026-08-01","key":"k82"}"#,
+                r#"{"outcome":"accepted","reply":{"expired":1200}}"#,
+            ),
+            (
+                "SUN",
+                r#"{"command":"cancel","account":1,"first":"07000000001201","last":"07000000001201","beneficiary":"X","use_first":"2025-01-01","use_last":"2025-03-31","key":"k83"}"#,
+                r#"{"outcome":"accepted","reply":{"cancellation":1,"count":1}}"#,
+            ),
+            (
+                "SUN",
+                r#"{"command":"cancel","account":1,"first":"07000000001200","last":"07000000001200","beneficiary":"X","use_first":"2025-01-01","use_last":"2025-03-31","key":"k84"}"#,
+                r#"{"code":17,"name":"NotHeld","number":"07000000001200","outcome":"refused"}"#,
+            ),
+        ],
+    },
+    Case {
+        name: "the_last_serial_of_all",
+        serial: 999_999_999_999,
+        begun: 5,
+        asked: &[
+            (
+                "ISSUER",
+                r#"{"command":"declare","device":"500000000000000012","first_day":"2025-01-01","last_day":"2025-01-31","gross_wh":2000000,"aux_wh":0,"key":"z"}"#,
+                r#"{"code":15,"name":"NumbersExhausted","outcome":"refused"}"#,
+            ),
+            (
+                "ISSUER",
+                r#"{"command":"declare","device":"500000000000000012","first_day":"2025-01-01","last_day":"2025-01-31","gross_wh":1000000,"aux_wh":0,"key":"z"}"#,
+                r#"{"outcome":"accepted","reply":{"carry":0,"count":1,"first":"07999999999999","last":"07999999999999"}}"#,
+            ),
+            (
+                "ISSUER",
+                r#"{"command":"declare","device":"500000000000000012","first_day":"2025-02-01","last_day":"2025-02-28","gross_wh":999999,"aux_wh":0,"key":"k90"}"#,
+                r#"{"outcome":"accepted","reply":{"carry":999999,"count":0}}"#,
+            ),
+        ],
+    },
+    Case {
+        name: "the_same_key_again",
+        serial: 1,
+        begun: 5,
+        asked: &[
+            (
+                "ISSUER",
+                r#"{"command":"declare","device":"500000000000000012","first_day":"2025-01-01","last_day":"2025-01-31","gross_wh":1234567890,"aux_wh":34567890,"key":"x"}"#,
+                r#"{"outcome":"accepted","reply":{"carry":0,"count":1200,"first":"07000000000001","last":"07000000001200"}}"#,
+            ),
+            (
+                "ISSUER",
+                r#"{"command":"declare","device":"500000000000000012","first_day":"2025-02-01","last_day":"2025-02-28","gross_wh":999999,"aux_wh":0,"key":"k14"}"#,
+                r#"{"outcome":"accepted","reply":{"carry":999999,"count":0}}"#,
+            ),
+            (
+                "ISSUER",
+                r#"{"command":"declare","device":"500000000000000012","first_day":"2025-01-01","last_day":"2025-01-31","gross_wh":1234567890,"aux_wh":34567890,"key":"x"}"#,
+                r#"{"outcome":"repeated","reply":{"carry":0,"count":1200,"first":"07000000000001","last":"07000000001200"}}"#,
+            ),
+            (
+                "ISSUER",
+                r#"{"command":"declare","device":"500000000000000012","first_day":"2025-01-01","last_day":"2025-01-31","gross_wh":1234567891,"aux_wh":34567890,"key":"x"}"#,
+                r#"{"code":2,"name":"KeyReused","outcome":"refused"}"#,
+            ),
+        ],
+    },
+    Case {
+        name: "there_and_back",
+        serial: 1,
+        begun: 9,
+        asked: &[
+            (
+                "SUN",
+                r#"{"command":"transfer","giver":1,"taker":2,"first":"07000000000100","last":"07000000000199","key":"k35"}"#,
+                r#"{"outcome":"accepted","reply":{"count":100}}"#,
+            ),
+            (
+                "VOLT",
+                r#"{"command":"transfer","giver":2,"taker":1,"first":"07000000000100","last":"07000000000199","key":"k36"}"#,
+                r#"{"outcome":"accepted","reply":{"count":100}}"#,
+            ),
+        ],
+    },
+    Case {
+        name: "three_declarations",
+        serial: 1,
+        begun: 9,
+        asked: &[],
+    },
+    Case {
+        name: "trade_closes",
+        serial: 1,
+        begun: 9,
+        asked: &[
+            (
+                "ISSUER",
+                r#"{"command":"advance","day":"2026-01-31","key":"k67"}"#,
+                r#"{"outcome":"accepted","reply":{"expired":0}}"#,
+            ),
+            (
+                "SUN",
+                r#"{"command":"transfer","giver":1,"taker":2,"first":"07000000000001","last":"07000000000001","key":"k68"}"#,
+                r#"{"outcome":"accepted","reply":{"count":1}}"#,
+            ),
+            (
+                "ISSUER",
+                r#"{"command":"advance","day":"2026-02-01","key":"k69"}"#,
+                r#"{"outcome":"accepted","reply":{"expired":0}}"#,
+            ),
+            (
+                "SUN",
+                r#"{"command":"transfer","giver":1,"taker":2,"first":"07000000000002","last":"07000000000002","key":"k70"}"#,
+                r#"{"code":18,"name":"TradeClosed","number":"07000000000002","outcome":"refused"}"#,
+            ),
+            (
+                "SUN",
+                r#"{"command":"cancel","account":1,"first":"07000000000002","last":"07000000000002","beneficiary":"X","use_first":"2025-01-01","use_last":"2025-03-31","key":"k71"}"#,
+                r#"{"outcome":"accepted","reply":{"cancellation":1,"count":1}}"#,
+            ),
+        ],
+    },
+    Case {
+        name: "two_halves_of_a_month",
+        serial: 1,
+        begun: 5,
+        asked: &[
+            (
+                "ISSUER",
+                r#"{"command":"declare","device":"500000000000000012","first_day":"2025-01-01","last_day":"2025-01-15","gross_wh":1000000,"aux_wh":0,"key":"k405"}"#,
+                r#"{"outcome":"accepted","reply":{"carry":0,"count":1,"first":"07000000000001","last":"07000000000001"}}"#,
+            ),
+            (
+                "ISSUER",
+                r#"{"command":"declare","device":"500000000000000012","first_day":"2025-01-16","last_day":"2025-01-31","gross_wh":1000000,"aux_wh":0,"key":"k406"}"#,
+                r#"{"outcome":"accepted","reply":{"carry":0,"count":1,"first":"07000000000002","last":"07000000000002"}}"#,
+            ),
+            (
+                "SUN",
+                r#"{"command":"transfer","giver":1,"taker":2,"first":"07000000000001","last":"07000000000002","key":"k407"}"#,
+                r#"{"outcome":"accepted","reply":{"count":2}}"#,
+            ),
+        ],
+    },
+    Case {
+        name: "two_lots_in_one_range",
+        serial: 1,
+        begun: 9,
+        asked: &[(
+            "SUN",
+            r#"{"command":"transfer","giver":1,"taker":2,"first":"07000000001200","last":"07000000001201","key":"k46"}"#,
+            r#"{"outcome":"accepted","reply":{"count":2}}"#,
+        )],
+    },
+];

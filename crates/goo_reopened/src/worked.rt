@@ -1,0 +1,133 @@
+//! Worked cases over tables and over lists: each answer is the one written down, and in the end both show the same.
+
+use crate::asking::{asks, plays};
+use crate::cases::CASES;
+use crate::registries::{begun, begun_in_lists, closed, in_march_from, opened_again};
+use crate::script::{Line, SCRIPT};
+use crate::sight::sight;
+use goo_body::read_command;
+use goo_outcome::outcome_text;
+use goo_registry::Registry;
+use goo_shelf::shelf::Shelf;
+use goo_types::holder_code::HolderCode;
+use goo_types::request::Request;
+use sqlite::{Alter, Connection};
+use std::alloc::Global;
+use std::process::Abort;
+use std::test::Fail;
+
+/// Who asks what, and what that is answered.
+pub type Exchange = (&'static str, &'static str, &'static str);
+
+/// A worked case for a new registry.
+#[derive(Clone, Copy)]
+pub struct Case {
+    /// Its name among the files of cases/.
+    pub name: &'static str,
+    /// The first serial of its registry.
+    pub serial: u64,
+    /// How many requests of the script come first.
+    pub begun: usize,
+    /// What is asked then.
+    pub asked: &'static [Exchange],
+}
+
+/// The requests that come first in a case.
+fn first_of(case: &Case) -> Result<&'static [Line], Fail> {
+    Ok(SCRIPT.get(..case.begun).ok_or("so many requests")?)
+}
+
+/// A case, one request at a time, and what the registry shows then.
+pub fn answers<S: Shelf>(
+    rt: &impl Abort,
+    alloc: Global,
+    registry: &mut Registry<S>,
+    case: &Case,
+) -> Result<String, Fail> {
+    plays(rt, alloc, registry, first_of(case)?, 0)?;
+    for (caller, body, wanted) in case.asked {
+        let outcome = asks(alloc, registry, caller, body)??;
+        let text = outcome_text(outcome);
+        assert!(rt; text.as_str() == *wanted, "{}: {body}", case.name);
+    }
+    sight(alloc, registry)
+}
+
+/// The requests of a case in a list.
+fn requests_of(alloc: Global, case: &Case) -> Result<Vec<Request>, Fail> {
+    let mut requests = Vec::new(alloc);
+    for (caller, body, _) in case.asked {
+        let caller = HolderCode::read(caller.as_bytes())?;
+        requests.push(read_command(alloc, &caller, body.as_bytes())?)?;
+    }
+    Ok(requests)
+}
+
+/// A case, its requests in one list, and what the registry shows then.
+pub fn runs<S: Shelf>(
+    rt: &impl Abort,
+    alloc: Global,
+    registry: &mut Registry<S>,
+    case: &Case,
+) -> Result<String, Fail> {
+    plays(rt, alloc, registry, first_of(case)?, 0)?;
+    let requests = requests_of(alloc, case)?;
+    let Ok(outcomes) = registry.run(alloc, &requests) else {
+        return Err("the run stopped".into());
+    };
+    assert_eq!(rt; outcomes.len(), case.asked.len());
+    for (outcome, (_, body, wanted)) in outcomes.iter().zip(case.asked) {
+        let text = outcome_text(*outcome);
+        assert!(rt; text.as_str() == *wanted, "{}: {body}", case.name);
+    }
+    sight(alloc, registry)
+}
+
+/// What a registry in a database shows after a case, in a list or one request at a time, and again once it is opened again.
+fn shown_by<S: Alter + Drop>(
+    rt: &impl Abort,
+    alloc: Global,
+    conn: Connection<S>,
+    case: &Case,
+    is_list: bool,
+) -> Result<(String, Connection<S>), Fail> {
+    let Ok(mut registry) = begun(alloc, conn, in_march_from(case.serial)?) else {
+        return Err("no registry".into());
+    };
+    let shown = if is_list {
+        runs(rt, alloc, &mut registry, case)?
+    } else {
+        answers(rt, alloc, &mut registry, case)?
+    };
+    let Ok(mut registry) = opened_again(alloc, registry) else {
+        return Err("not opened again".into());
+    };
+    let again = sight(alloc, &mut registry)?;
+    assert_eq!(rt;
+        again.as_str(),
+        shown.as_str(),
+        "{} opened again",
+        case.name
+    );
+    Ok((shown, closed(registry).0))
+}
+
+/// A case over lists, over tables, and over tables in a list: all show the same.
+fn is_alike(rt: &impl Abort, alloc: Global, case: &Case) -> Result<(), Fail> {
+    let mut lists = begun_in_lists(alloc, in_march_from(case.serial)?);
+    let wanted = answers(rt, alloc, &mut lists, case)?;
+    for is_list in [false, true] {
+        let conn = Connection::open_in_memory(alloc)?;
+        let (shown, _conn) = shown_by(rt, alloc, conn, case, is_list)?;
+        assert_eq!(rt; shown.as_str(), wanted.as_str(), "{}", case.name);
+    }
+    Ok(())
+}
+
+#[test]
+fn cases_over_tables_and_lists(rt: HostRuntime) -> Result<(), Fail> {
+    for case in &CASES {
+        is_alike(&rt, rt.alloc(), case)?;
+    }
+    Ok(())
+}
