@@ -1,5 +1,5 @@
 -- The rows near a range are one block.
-use Rattle.std.proofs.Common.{◌≡◌, ℕ, zero, suc, ◌+◌, ◌<◌, ◌≤◌, List, [], ◌∷◌, ◌++◌, ◌-◌, append_assoc, Bool, true, false, ltb, leb, length, length-drop, get_or, take, drop, refl, ap, sym, ◌∙◌, arith}
+use Rattle.std.proofs.Common.{◌≡◌, ℕ, zero, suc, ◌+◌, ◌<◌, ◌≤◌, List, [], ◌∷◌, ◌++◌, ◌-◌, Bool, true, false, ltb, leb, length, length-drop, get_or, take, drop, refl, ap, sym, ◌∙◌, arith}
 use Rattle.std.specs.List.{AllWithin, filter}
 use Rattle.std.specs.List.Sorted.{IsPartitionPoint}
 use Rattle.std.proofs.lemmas.Bool.Decides.{nat_tests}
@@ -9,6 +9,7 @@ use Rattle.goo_types.specs.Range.{Numbers}
 use Rattle.goo_types.specs.declared.piece.Piece.{Piece}
 use Rattle.goo_types.specs.Piece.{IsRising, IsRisingFrom}
 use Rattle.goo_ranges.specs.Walk.{end_of}
+use Rattle.goo_ranges.proofs.JoinedPages.{joined-next, joined-split}
 use Rattle.goo_ranges.proofs.Rising.{rising-weaken, rising-front, rising-back}
 use Rattle.goo_pages.specs.Paging.{joined, AreFit, BeginAfter, Below}
 use Rattle.goo_pages.proofs.CutLemmas.{fit-at}
@@ -46,22 +47,10 @@ near-block range ps start count within within_too one two =
     (λ k d a b. let high = two.1 k d a b in grind (arith, nat_tests))
     within_too)
 
-pub joined-split : (xs : List (List Piece)) (i : ℕ) → joined xs ≡ joined (take i xs) ++ joined (drop i xs)
-joined-split xs zero = refl
-joined-split [] (suc i) = refl
-joined-split (x ∷ xs) (suc i) = ap (λ l. x ++ l) (joined-split xs i) ∙ sym (append_assoc x (joined (take i xs)) (joined (drop i xs)))
-
-joined-more : (xs : List (List Piece)) (i : ℕ) (d : List Piece) → i < length xs → joined (take (suc i) xs) ≡ joined (take i xs) ++ get_or xs i d
-joined-more [] i d lt = absurd (omega arith)
-joined-more (x ∷ xs) zero d lt = append-nil x
-joined-more (x ∷ xs) (suc i) d lt = ap (λ l. x ++ l) (joined-more xs i d (omega arith)) ∙ sym (append_assoc x (joined (take i xs)) (get_or xs i d))
-
 -- one page more
 pub meeting-more : (range : Numbers) (xs : List (List Piece)) (i : ℕ) (d : List Piece) → i < length xs → meeting range (joined (take i xs)) ++ meeting range (get_or xs i d) ≡ meeting range (joined (take (i + 1) xs))
 meeting-more range xs i d lt =
-    let more : suc i ≡ i + 1 = omega arith in
-    sym (filter-append (is_near range) (joined (take i xs)) (get_or xs i d))
-    ∙ ap (meeting range) (sym (joined-more xs i d lt) ∙ ap (λ n. joined (take n xs)) more)
+    sym (filter-append (is_near range) (joined (take i xs)) (get_or xs i d)) ∙ ap (meeting range) (joined-next xs i d lt)
 
 none-far : (range : Numbers) (low : ℕ) (ps : List Piece) → IsRisingFrom low ps → range.last + 1 < low → meeting range ps ≡ []
 none-far range low [] rising far = refl
@@ -101,7 +90,7 @@ meeting-ended range xs i d rising lt after =
     let rest : joined (drop i xs) ≡ get_or xs i d ++ joined (drop (i + 1) xs) = at_drop_more joined xs i d lt in
     let later : IsRising (get_or xs i d ++ joined (drop (i + 1) xs)) = rw rest at (rising-from xs i rising) in
     let none = none-after range (get_or xs i d) (joined (drop (i + 1) xs)) later after in
-    sym (ap (meeting range) (joined-split xs i)
+    sym (ap (meeting range) (sym (joined-split i xs))
     ∙ filter-append (is_near range) (joined (take i xs)) (joined (drop i xs))
     ∙ ap (λ l. meeting range (joined (take i xs)) ++ l) (ap (meeting range) rest ∙ none)
     ∙ append-nil (meeting range (joined (take i xs))))
@@ -136,16 +125,10 @@ meeting-begun range xs zero rising fit le below = refl
 meeting-begun range xs (suc i) rising fit le below =
     let less : suc i - 1 ≡ i = omega arith in
     let lt : i < length xs = omega (arith, le) in
-    let split = joined-split xs i in
+    let split = sym (joined-split i xs) in
     let rest : joined (drop i xs) ≡ get_or xs i [] ++ joined (drop (i + 1) xs) = at_drop_more joined xs i [] lt in
     let whole : joined xs ≡ joined (take i xs) ++ (get_or xs i [] ++ joined (drop (i + 1) xs)) = split ∙ ap (λ l. joined (take i xs) ++ l) rest in
     let far : IsRising (joined (take i xs) ++ (get_or xs i [] ++ joined (drop (i + 1) xs))) = rw whole at rising in
     let none = skipped range 0 (joined (take i xs)) (get_or xs i []) (joined (drop (i + 1) xs)) far (fit-at xs i fit lt).0 (below-last range.first xs i lt below) in
     ap (λ n. meeting range (joined (drop n xs))) less
     ∙ sym (ap (meeting range) split ∙ filter-append (is_near range) (joined (take i xs)) (joined (drop i xs)) ∙ ap (λ l. l ++ meeting range (joined (drop i xs))) none)
-
--- the rows of one page more
-pub joined-next : (xs : List (List Piece)) (i : ℕ) (d : List Piece) → i < length xs → joined (take i xs) ++ get_or xs i d ≡ joined (take (i + 1) xs)
-joined-next xs i d lt =
-    let more : suc i ≡ i + 1 = omega arith in
-    sym (joined-more xs i d lt) ∙ ap (λ n. joined (take n xs)) more

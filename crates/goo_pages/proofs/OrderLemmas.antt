@@ -7,6 +7,8 @@ use Rattle.std.proofs.lemmas.Bool.Decides.{nat_tests}
 use Rattle.std.proofs.lemmas.List.{append-nil, take_all}
 use Rattle.goo_types.specs.declared.piece.Piece.{Piece}
 use Rattle.goo_types.specs.Piece.{IsRisingFrom}
+use Rattle.goo_ranges.specs.Paging.{AreFilled}
+use Rattle.goo_ranges.proofs.JoinedPages.{sorted-ends}
 use Rattle.goo_rows.specs.Rows.{without, with}
 use Rattle.goo_pages.specs.Paging.{joined, AreFit, Below, InOrder, IsHome, last_begin}
 
@@ -44,27 +46,13 @@ same-end : (a b : ℕ) (ps : List Piece) → 1 ≤ length ps → last_begin a ps
 same-end a b [] some = absurd (omega arith)
 same-end a b (p ∷ ps) some = refl
 
-ends-above : (low : ℕ) (xs : List (List Piece)) (j : ℕ) (d : List Piece) → AreFit xs → InOrder low (joined xs) → j < length xs → low ≤ last_begin 0 (get_or xs j d)
-ends-above low [] j d fit r lt = absurd (omega arith)
-ends-above low (x ∷ xs) zero d fit r lt =
-    let up = order-up low x (order-front low x (joined xs) r) in
-    let same = same-end 0 low x fit.0 in
-    omega (arith, up, same)
-ends-above low (x ∷ xs) (suc j) d fit r lt =
-    let up = order-up low x (order-front low x (joined xs) r) in
-    let far = ends-above (last_begin low x) xs j d fit.2 (order-back low x (joined xs) r) (omega arith) in
-    omega (arith, up, far)
+filled-fit : (xs : List (List Piece)) → AreFit xs → AreFilled xs
+filled-fit [] fit = tt
+filled-fit (x ∷ xs) fit = (fit.0, filled-fit xs fit.2)
 
 -- the pages' last rows are in order
 pub ends-sorted : (low : ℕ) (xs : List (List Piece)) → AreFit xs → InOrder low (joined xs) → IsNonDecreasingBy (last_begin 0) xs
-ends-sorted low [] fit r i j d le lt = absurd (omega arith)
-ends-sorted low (x ∷ xs) fit r zero zero d le lt = omega arith
-ends-sorted low (x ∷ xs) fit r zero (suc j) d le lt =
-    let far = ends-above (last_begin low x) xs j d fit.2 (order-back low x (joined xs) r) (omega arith) in
-    let same = same-end 0 low x fit.0 in
-    omega (arith, far, same)
-ends-sorted low (x ∷ xs) fit r (suc i) zero d le lt = absurd (omega arith)
-ends-sorted low (x ∷ xs) fit r (suc i) (suc j) d le lt = ends-sorted (last_begin low x) xs fit.2 (order-back low x (joined xs) r) i j d (omega arith) (omega arith)
+ends-sorted low xs fit = sorted-ends last_begin InOrder same-end (λ from x ys r. order-up from x (order-front from x ys r)) order-back low xs (filled-fit xs fit)
 
 below-page : (low n : ℕ) (ps : List Piece) → InOrder low ps → last_begin low ps < n → Below n ps
 below-page low n [] r lt = tt

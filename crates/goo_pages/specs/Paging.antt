@@ -1,6 +1,7 @@
 -- Rows in pages.
-use Rattle.std.specs.Prelude.{◌≡◌, ℕ, zero, suc, ◌+◌, ◌-◌, ◌*◌, ◌<◌, ◌≤◌, ◌⊎◌, List, [], ◌∷◌, ◌++◌, length, take, drop, get_or, max}
+use Rattle.std.specs.Prelude.{◌≡◌, ℕ, zero, suc, ◌+◌, ◌-◌, ◌*◌, ◌<◌, ◌≤◌, ◌⊎◌, List, [], ◌∷◌, length, take, drop, get_or, max}
 use Rattle.goo_types.specs.declared.piece.Piece.{Piece}
+pub use Rattle.goo_ranges.specs.Paging.{joined}
 
 -- rows, and how many more may be put in without memory, wherever they go
 pub record PagedRows : Type 0 where
@@ -9,11 +10,6 @@ pub record PagedRows : Type 0 where
 
 abbrev pub paged_rows : List Piece → ℕ → PagedRows
 paged_rows rows room = record { rows = rows; room = room }
-
--- the rows of pages, one page after another
-abbrev pub joined : List (List Piece) → List Piece
-joined [] = []
-joined (page ∷ pages) = page ++ joined pages
 
 -- the rows begin in order, none before the number
 abbrev pub InOrder : ℕ → List Piece → Type 0

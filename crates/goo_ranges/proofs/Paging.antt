@@ -11,17 +11,9 @@ use Rattle.goo_types.specs.Piece.{Label, at_of, IsRising, IsRisingFrom}
 use Rattle.goo_ranges.specs.Walk.{end_of}
 use Rattle.goo_ranges.specs.Paging.{joined, between, begin_of, AreFilled, IsLeft}
 use Rattle.goo_ranges.proofs.Changing.{or_else-none}
+use Rattle.goo_ranges.proofs.JoinedPages.{joined-append, joined-split, joined-drop, sorted-ends}
 use Rattle.goo_ranges.proofs.Covers.{or_else, at_of-append}
 use Rattle.goo_ranges.proofs.Rising.{end_of-append, end_of-low, rising-weaken, rising-front, rising-back, at_of-below, at_of-above}
-
-pub joined-append : (xs ys : List (List Piece)) → joined (xs ++ ys) ≡ joined xs ++ joined ys
-joined-append [] ys = refl
-joined-append (x ∷ xs) ys = ap (λ l. x ++ l) (joined-append xs ys) ∙ sym (append_assoc x (joined xs) (joined ys))
-
-pub joined-split : (i : ℕ) (xs : List (List Piece)) → joined (take i xs) ++ joined (drop i xs) ≡ joined xs
-joined-split zero xs = refl
-joined-split (suc i) [] = refl
-joined-split (suc i) (x ∷ xs) = append_assoc x (joined (take i xs)) (joined (drop i xs)) ∙ ap (λ l. x ++ l) (joined-split i xs)
 
 -- the pages before two indices, between them and behind them
 pub joined-three : (xs : List (List Piece)) (from to : ℕ) → from ≤ to → joined (take from xs) ++ (between xs from to ++ joined (drop to xs)) ≡ joined xs
@@ -62,20 +54,6 @@ between-rises xs from to up r =
     let back = rising-back 0 (joined (take from xs)) (between xs from to ++ joined (drop to xs)) three in
     rising-weaken 0 (end_of 0 (joined (take from xs))) (between xs from to) (omega arith) (rising-front (end_of 0 (joined (take from xs))) (between xs from to) (joined (drop to xs)) back)
 
--- one more page, at its end
-pub joined-more : (xs : List (List Piece)) (x : List Piece) → joined (xs ++ x ∷ []) ≡ joined xs ++ x
-joined-more [] [] = refl
-joined-more [] (p ∷ x) = ap (λ l. p ∷ l) (joined-more [] x)
-joined-more (y ∷ xs) x = ap (λ l. y ++ l) (joined-more xs x) ∙ sym (append_assoc y (joined xs) x)
-
--- the page at an index
-pub joined-page : (xs : List (List Piece)) (i : ℕ) (x : List Piece) → i < length xs → x ≡ get_or xs i x → joined (take i xs) ++ x ≡ joined (take (i + 1) xs)
-joined-page xs i x lt is =
-    ap (λ y. joined (take i xs) ++ y) is ∙ sym (joined-more (take i xs) (get_or xs i x)) ∙ ap joined (sym (take_more xs i x lt))
-
-pub joined-drop : (xs : List (List Piece)) (i : ℕ) (x : List Piece) → i < length xs → x ≡ get_or xs i x → joined (drop i xs) ≡ x ++ joined (drop (i + 1) xs)
-joined-drop xs i x lt is = ap joined (drop_more xs i x lt) ∙ ap (λ y. y ++ joined (drop (i + 1) xs)) (sym is)
-
 pub begin-found : (ps : List Piece) (p : Piece) → slice_get ps 0 ≡ Some p → begin_of ps ≡ p.first
 begin-found [] p e = absurd (cc)
 begin-found (q ∷ ps) p e = let same : q ≡ p = cc in rw same refl
@@ -94,27 +72,9 @@ pub same-end : (a b : ℕ) (ps : List Piece) → 1 ≤ length ps → end_of a ps
 same-end a b [] some = absurd (omega arith)
 same-end a b (p ∷ ps) some = refl
 
-ends-above : (low : ℕ) (xs : List (List Piece)) (j : ℕ) (d : List Piece) → AreFilled xs → IsRisingFrom low (joined xs) → j < length xs → low ≤ end_of 0 (get_or xs j d)
-ends-above low [] j d fit r lt = absurd (omega arith)
-ends-above low (x ∷ xs) zero d fit r lt =
-    let up = end_of-low low x (rising-front low x (joined xs) r) in
-    let same = same-end 0 low x fit.0 in
-    omega (arith, up, same)
-ends-above low (x ∷ xs) (suc j) d fit r lt =
-    let up = end_of-low low x (rising-front low x (joined xs) r) in
-    let far = ends-above (end_of low x) xs j d fit.1 (rising-back low x (joined xs) r) (omega arith) in
-    omega (arith, up, far)
-
 -- the pages' ends rise
 pub ends-sorted : (low : ℕ) (xs : List (List Piece)) → AreFilled xs → IsRisingFrom low (joined xs) → IsNonDecreasingBy (end_of 0) xs
-ends-sorted low [] fit r i j d le lt = absurd (omega arith)
-ends-sorted low (x ∷ xs) fit r zero zero d le lt = omega arith
-ends-sorted low (x ∷ xs) fit r zero (suc j) d le lt =
-    let far = ends-above (end_of low x) xs j d fit.1 (rising-back low x (joined xs) r) (omega arith) in
-    let same = same-end 0 low x fit.0 in
-    omega (arith, far, same)
-ends-sorted low (x ∷ xs) fit r (suc i) zero d le lt = absurd (omega arith)
-ends-sorted low (x ∷ xs) fit r (suc i) (suc j) d le lt = ends-sorted (end_of low x) xs fit.1 (rising-back low x (joined xs) r) i j d (omega arith) (omega arith)
+ends-sorted = sorted-ends end_of IsRisingFrom same-end (λ low x ys r. end_of-low low x (rising-front low x ys r)) rising-back
 
 begin-low : (low : ℕ) (x ys : List Piece) → 1 ≤ length x → IsRisingFrom low (x ++ ys) → low ≤ begin_of x
 begin-low low [] ys some r = absurd (omega arith)

@@ -32,7 +32,7 @@ use Rattle.goo_columns.proofs.Alone.{accounts_stand}
 use Rattle.goo_columns.proofs.Same.{account_same}
 use Rattle.goo_tables.specs.Changes.{with_account, with_closed}
 use Rattle.goo_tables.proofs.Queries.{in_order, unordered}
-use Rattle.goo_columns.specs.Met.{HasOurTables, whole}
+use Rattle.goo_columns.specs.Met.{HasOurTables}
 use Rattle.goo_columns.proofs.Meeting.{type_rules, shape_rules, no_number, int_same}
 use Rattle.std.specs.Prelude.{⊤}
 use Rattle.std.proofs.lemmas.Iterator.Adapters.{option_map_id}

@@ -32,9 +32,9 @@ use Rattle.sqlite_keyed.specs.Lists.{update_where}
 use Rattle.goo_columns.proofs.Typed.{cast_int, cast_null, cast_maybe}
 use Rattle.goo_columns.proofs.Alone.{devices_stand}
 use Rattle.goo_columns.proofs.Same.{device_same}
-use Rattle.goo_tables.specs.Changes.{added, with_device, with_progress, progressed}
+use Rattle.goo_tables.specs.Changes.{with_device, with_progress, progressed}
 use Rattle.goo_tables.proofs.Queries.{in_order, unordered}
-use Rattle.goo_columns.specs.Met.{HasOurTables, whole, KeepsSome}
+use Rattle.goo_columns.specs.Met.{HasOurTables, KeepsSome}
 use Rattle.goo_columns.proofs.Meeting.{type_rules, shape_rules, no_number}
 use Rattle.std.specs.Prelude.{⊤}
 use Rattle.goo_tables.proofs.Adding.{Adds, adds_kept}

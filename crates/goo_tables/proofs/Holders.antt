@@ -24,9 +24,9 @@ use Rattle.goo_columns.specs.Asked.{FirstZip}
 use Rattle.goo_columns.proofs.Typed.{cast_null}
 use Rattle.goo_columns.proofs.Alone.{holders_stand}
 use Rattle.goo_columns.proofs.Same.{holder_same}
-use Rattle.goo_tables.specs.Changes.{added, with_holder}
+use Rattle.goo_tables.specs.Changes.{with_holder}
 use Rattle.goo_tables.proofs.Queries.{in_order}
-use Rattle.goo_columns.specs.Met.{HasOurTables, whole, KeepsSome}
+use Rattle.goo_columns.specs.Met.{HasOurTables, KeepsSome}
 use Rattle.goo_columns.proofs.Meeting.{type_rules, shape_rules, no_text}
 use Rattle.std.specs.Prelude.{⊤}
 use Rattle.goo_tables.proofs.Adding.{Adds, adds_kept}

@@ -26,7 +26,7 @@ use Rattle.goo_columns.proofs.Alone.{lots_stand}
 use Rattle.goo_columns.proofs.Same.{lot_same}
 use Rattle.goo_tables.specs.Changes.{with_lot}
 use Rattle.goo_tables.proofs.Queries.{in_order, last_of}
-use Rattle.goo_columns.specs.Met.{HasOurTables, whole}
+use Rattle.goo_columns.specs.Met.{HasOurTables}
 use Rattle.goo_columns.proofs.Meeting.{type_rules, shape_rules, no_text, int_same}
 use Rattle.std.specs.Prelude.{⊤}
 use Rattle.std.proofs.lemmas.Iterator.Adapters.{option_map_id}

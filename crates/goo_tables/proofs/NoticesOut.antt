@@ -25,7 +25,7 @@ use Rattle.goo_columns.proofs.Alone.{notices_out_stand}
 use Rattle.goo_columns.proofs.Same.{notice_out_same}
 use Rattle.goo_tables.specs.Changes.{with_notice_out}
 use Rattle.goo_tables.proofs.Queries.{in_order}
-use Rattle.goo_columns.specs.Met.{HasOurTables, whole}
+use Rattle.goo_columns.specs.Met.{HasOurTables}
 use Rattle.goo_columns.proofs.Meeting.{type_rules, shape_rules, no_octets, int_same, text_octets}
 use Rattle.std.proofs.lemmas.Bool.{and_parts}
 use Rattle.std.specs.Prelude.{⊤}

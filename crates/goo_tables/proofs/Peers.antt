@@ -24,9 +24,9 @@ use Rattle.goo_columns.proofs.Typed.{cast_int, cast_null}
 use Rattle.goo_columns.proofs.Alone.{peers_stand}
 use Rattle.std.proofs.lemmas.Iterator.Adapters.{option_map_id}
 use Rattle.goo_columns.proofs.Same.{peer_same}
-use Rattle.goo_tables.specs.Changes.{added, with_peer}
+use Rattle.goo_tables.specs.Changes.{with_peer}
 use Rattle.goo_tables.proofs.Queries.{in_order}
-use Rattle.goo_columns.specs.Met.{HasOurTables, whole, KeepsSome}
+use Rattle.goo_columns.specs.Met.{HasOurTables, KeepsSome}
 use Rattle.goo_columns.proofs.Meeting.{type_rules, shape_rules, no_number}
 use Rattle.std.specs.Prelude.{⊤}
 use Rattle.goo_tables.proofs.Adding.{Adds, adds_kept}

@@ -37,7 +37,7 @@ use Rattle.goo_columns.proofs.One.{answer_of_one, one_keyed}
 use Rattle.goo_columns.proofs.Alone.{pieces_stand}
 use Rattle.goo_tables.specs.Changes.{with_piece, without_piece}
 use Rattle.goo_tables.proofs.Queries.{in_order, unordered}
-use Rattle.goo_columns.specs.Met.{HasOurTables, whole}
+use Rattle.goo_columns.specs.Met.{HasOurTables}
 use Rattle.goo_columns.proofs.Meeting.{type_rules, shape_rules, no_number, int_same}
 use Rattle.std.specs.Prelude.{⊤}
 use Rattle.goo_tables.proofs.Adding.{Adds, adds_row}

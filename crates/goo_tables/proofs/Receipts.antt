@@ -24,9 +24,9 @@ use Rattle.goo_columns.specs.Asked.{FirstZip}
 use Rattle.goo_columns.proofs.Typed.{cast_int, cast_null}
 use Rattle.goo_columns.proofs.Alone.{receipts_stand}
 use Rattle.goo_columns.proofs.Same.{receipt_same}
-use Rattle.goo_tables.specs.Changes.{added, with_receipt}
+use Rattle.goo_tables.specs.Changes.{with_receipt}
 use Rattle.goo_tables.proofs.Queries.{in_order}
-use Rattle.goo_columns.specs.Met.{HasOurTables, whole, KeepsSome}
+use Rattle.goo_columns.specs.Met.{HasOurTables, KeepsSome}
 use Rattle.goo_columns.proofs.Meeting.{type_rules, shape_rules, no_number, blob_octets}
 use Rattle.std.proofs.lemmas.Bool.{and_parts}
 use Rattle.std.specs.Prelude.{⊤}

@@ -1,7 +1,7 @@
 use Rattle.std.proofs.Common.{◌≡◌, ◌++◌, ◌∙◌, get_or, ap, arith}
 use Rattle.std.proofs.lemmas.List.{take_all}
 use Rattle.goo_ranges.specs.Paging.{joined}
-use Rattle.goo_ranges.proofs.Paging.{joined-page}
+use Rattle.goo_ranges.proofs.JoinedPages.{joined-page}
 use Rattle.goo_ranges.proofs.pages.joined_page.Goals as goal
 
 pub loop-page-preserved : goal.loop-page-preserved

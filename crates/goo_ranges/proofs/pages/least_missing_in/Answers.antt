@@ -6,7 +6,8 @@ use Rattle.goo_ranges.specs.Walk.{end_of}
 use Rattle.goo_ranges.proofs.Find.{least-of_span}
 use Rattle.goo_ranges.proofs.Leafing.{known-more, missing-none, missing-here, missing-last}
 use Rattle.goo_ranges.specs.Paging.{joined, IsLeft}
-use Rattle.goo_ranges.proofs.Paging.{joined-drop, left-next}
+use Rattle.goo_ranges.proofs.JoinedPages.{joined-drop}
+use Rattle.goo_ranges.proofs.Paging.{left-next}
 use Rattle.goo_ranges.proofs.pages.least_missing_in.Goals as goal
 
 pub least_missing_between-requires-clause-one_code : goal.least_missing_between-requires-clause-one_code

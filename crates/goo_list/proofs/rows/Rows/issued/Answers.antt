@@ -5,7 +5,8 @@ use Rattle.std.proofs.lemmas.List.Sums.{sum_by-append}
 use Rattle.goo_types.specs.Piece.{IsRising}
 use Rattle.goo_ranges.proofs.Rising.{rising-front}
 use Rattle.goo_pages.specs.Paging.{joined}
-use Rattle.goo_pages.proofs.NearLemmas.{joined-next, joined-split, rising-page}
+use Rattle.goo_ranges.proofs.JoinedPages.{joined-next, joined-split}
+use Rattle.goo_pages.proofs.NearLemmas.{rising-page}
 use Rattle.goo_rows.specs.Certificates.{issued_in}
 use Rattle.goo_rows.proofs.CertificateLemmas.{own-block, issued-rows}
 use Rattle.goo_list.proofs.rows.Rows.issued.Goals as goal
@@ -32,7 +33,7 @@ pub overflow_add-count : goal.overflow_add-count
 overflow_add-count c =
     let pages = c.pages-page-items.result.now in
     let all : IsRising (joined pages) = rw c.pages-page-items.ensures c.self.invariant in
-    let front = rising-front 0 (joined (take (c.loop-page.page-index + 1) pages)) _ (subst IsRising (joined-split pages (c.loop-page.page-index + 1)) all) in
+    let front = rising-front 0 (joined (take (c.loop-page.page-index + 1) pages)) _ (subst IsRising (sym (joined-split (c.loop-page.page-index + 1) pages)) all) in
     let limit = own-block c.args.own c.args.device.now 0 (joined (take (c.loop-page.page-index + 1) pages)) front in
     let code = c.get-code.ensures.limit in
     let same = more c in
