@@ -27,3 +27,4 @@ pub mod ImportCarried
 pub mod DeclareCarried
 pub mod Judging
 pub mod Unread
+pub mod DevicesApart

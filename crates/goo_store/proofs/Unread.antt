@@ -1,5 +1,6 @@
 -- A row that is refused though memory is there can't be read.
-use Rattle.std.proofs.Common.{◌≡◌, ◌≤◌, arith, true, ◌&&◌, nat_le, Ok, Some, Option, Result, sym, subst}
+use Rattle.std.proofs.Common.{◌≡◌, ◌≤◌, arith, true, ◌&&◌, nat_le, Ok, Err, Some, Option, Result, IsErrAnd, sym, subst, ◌∙◌}
+use Rattle.std.specs.Result.{IsOkUnless}
 use Rattle.std.proofs.lemmas.Bool.{leb-true, le-leb}
 use Rattle.sqlite.specs.declared.error.Error.{Error}
 use Rattle.sqlite_keyed.proofs.RuleLemmas.{second_of_both}
@@ -9,9 +10,15 @@ use Rattle.goo_columns.specs.Rows.{Kept, Device, Receipt}
 use Rattle.goo_kept.specs.Readable.{reads, is_act, is_wh, is_plant, is_maybe_day, is_device, is_receipt, is_reply}
 use Rattle.goo_store.specs.Telling.{Accepts}
 use Rattle.goo_store.specs.declared.trouble.Trouble.{Trouble}
+use Rattle.goo_store.specs.declared.trouble.Trouble.TheVariants.{Memory}
 
 pub unread : {X U : Type 0} (found : Result (Option X) Error) (row : X) (read : Result U Trouble) (IsReadable : Option X → Type 0) → found ≡ Ok (Some row) → (IsReadable (Some row) → ⊥) → Accepts found read IsReadable
 unread {X} found row read IsReadable is bad = subst (λ (f : Result (Option X) Error). Accepts f read IsReadable) (sym is) (λ fits. absurd (bad fits))
+
+-- an error that is handed on
+pub same_trouble : {U : Type 0} (read : Result U Trouble) (e : Trouble) → IsErrAnd read (λ f. f ≡ e) → e ≡ Memory → IsOkUnless read Memory
+same_trouble (Ok x) e is memory = tt
+same_trouble (Err f) e is memory = is ∙ memory
 
 carry_low : (k : Kept Device) → is_device k ≡ true → k.1.carry ≤ 999999
 carry_low k h =

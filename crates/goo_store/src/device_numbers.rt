@@ -1,7 +1,7 @@
 //! The numbers of all devices, sorted.
 
-ghost use Rattle.std.specs.Prelude.{◌≡◌, ℕ, ◌++◌, [], ◌∷◌, IfOk, OnOk, List, map};
-ghost use Rattle.std.specs.FinMap.{from_entries, keys as keys_of};
+ghost use Rattle.std.specs.Prelude.{◌≡◌, ℕ, ◌++◌, [], ◌∷◌, None, pos, IfOk, IsOkUnless, IsTrue, OnOk, List, map};
+ghost use Rattle.std.specs.FinMap.{get, from_entries, keys as keys_of};
 ghost use Rattle.std.specs.BTreeMap.{keys as tree_keys, IsOrdered};
 ghost use Rattle.sqlite.specs.Held.{state as view};
 ghost use Rattle.goo_spec.specs.State.{text_cmp, Device as Known};
@@ -10,7 +10,10 @@ ghost use Rattle.goo_shelf.specs.Maps.{map_of};
 ghost use Rattle.goo_shelf.specs.Shelf.{Looks};
 ghost use Rattle.goo_kept.specs.Devices.{device_entry};
 ghost use Rattle.goo_store.specs.Moments.{moment};
-ghost use Rattle.goo_store.specs.Telling.{Passes};
+ghost use Rattle.goo_kept.specs.Readable.{is_device};
+ghost use Rattle.goo_store.specs.Reading.{AreReadableDevices};
+ghost use Rattle.goo_store.specs.Telling.{Accepts, Passes};
+ghost use Rattle.goo_store.specs.declared.trouble.Trouble.TheVariants.{Memory};
 
 use crate::devices::device_in_row;
 use crate::sql_shelf::SqlShelf;
@@ -27,7 +30,8 @@ use std::collections::BTreeMap;
 
 /// One device more. A number that is there already is refused.
 fn note(known: &mut BTreeMap<Gsrn, Device>, row: &DeviceRow) -> Result<(), Trouble>
-    ensures { OnOk result ((es : List (List ℕ × Known)) → map_of text_cmp known.old ≡ from_entries es → map_of text_cmp known.new ≡ from_entries (es ++ device_entry (device_in row.now) ∷ [])) }
+    ensures noted { OnOk result ((es : List (List ℕ × Known)) → map_of text_cmp known.old ≡ from_entries es → map_of text_cmp known.new ≡ from_entries (es ++ device_entry (device_in row.now) ∷ [])) }
+    ensures accepts { IsTrue (is_device (pos 0, device_in row.now)) → get (map_of text_cmp known.old) (device_in row.now).gsrn ≡ None → IsOkUnless result Memory }
 {
     let number = texts::gsrn(&row.gsrn)?;
     let device = device_in_row(row)?;
@@ -39,7 +43,8 @@ fn note(known: &mut BTreeMap<Gsrn, Device>, row: &DeviceRow) -> Result<(), Troub
 
 /// The devices by their numbers.
 fn note_each(alloc: Global, rows: &[DeviceRow]) -> Result<BTreeMap<Gsrn, Device>, Trouble>
-    ensures { IfOk result (λ known. map_of text_cmp known ≡ from_entries (map device_entry (map device_in rows.now))) }
+    ensures noted { IfOk result (λ known. map_of text_cmp known ≡ from_entries (map device_entry (map device_in rows.now))) }
+    ensures accepts { AreReadableDevices rows.now → IsOkUnless result Memory }
 {
     let mut known = BTreeMap::new(alloc);
     for row in rows {
@@ -52,6 +57,7 @@ fn note_each(alloc: Global, rows: &[DeviceRow]) -> Result<BTreeMap<Gsrn, Device>
 fn sorted(alloc: Global, known: &BTreeMap<Gsrn, Device>) -> Result<Vec<Gsrn>, Trouble>
     ensures keys { IfOk result (λ numbers. numbers.items ≡ tree_keys known.now) }
     ensures ordered { IsOrdered text_cmp known.now }
+    ensures memory { IsOkUnless result Memory }
 {
     let numbers = known.keys();
     Ok(numbers.copied().collect(alloc)?)
@@ -59,7 +65,8 @@ fn sorted(alloc: Global, known: &BTreeMap<Gsrn, Device>) -> Result<Vec<Gsrn>, Tr
 
 /// The numbers of the devices in rows, sorted.
 fn numbers_in(alloc: Global, rows: &[DeviceRow]) -> Result<Vec<Gsrn>, Trouble>
-    ensures { IfOk result (λ numbers. numbers.items ≡ keys_of (from_entries {R = text_cmp} (map device_entry (map device_in rows.now)))) }
+    ensures value { IfOk result (λ numbers. numbers.items ≡ keys_of (from_entries {R = text_cmp} (map device_entry (map device_in rows.now)))) }
+    ensures accepts { AreReadableDevices rows.now → IsOkUnless result Memory }
 {
     let known = note_each(alloc, rows)?;
     sorted(alloc, &known)
@@ -67,7 +74,8 @@ fn numbers_in(alloc: Global, rows: &[DeviceRow]) -> Result<Vec<Gsrn>, Trouble>
 
 /// The numbers of the devices, sorted.
 fn sorted_numbers(alloc: Global, found: Result<Vec<DeviceRow>, Error>) -> Result<Vec<Gsrn>, Trouble>
-    ensures { Passes found result (λ rows numbers. numbers.items ≡ keys_of (from_entries {R = text_cmp} (map device_entry (map device_in rows.items)))) }
+    ensures value { Passes found result (λ rows numbers. numbers.items ≡ keys_of (from_entries {R = text_cmp} (map device_entry (map device_in rows.items)))) }
+    ensures accepts { Accepts found result (λ rows. AreReadableDevices rows.items) }
 {
     numbers_in(alloc, &found?)
 }

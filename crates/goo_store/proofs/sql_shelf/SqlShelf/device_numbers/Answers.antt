@@ -22,5 +22,5 @@ pub returns : goal.returns
 unfolding state_of
 returns g c =
     looked (view g.S.Store c.args.self.now.conn) (view g.S.Store c.all_devices-found.new.conn) c.args.self.now.well _ _ c.all_devices-found.ensures.looks _ _ c.sorted_numbers.result
-    c.args.self.now.refused c.told.new.refused c.told.result (λ live db may. g.met.S.Store.settled c.args.self.now.conn.store db live may) c.if-self.false c.sorted_numbers.ensures c.told.ensures
+    c.args.self.now.refused c.told.new.refused c.told.result (λ live db may. g.met.S.Store.settled c.args.self.now.conn.store db live may) c.if-self.false c.sorted_numbers.ensures.value c.told.ensures
     (λ kept rows numbers found read. read ∙ ap (λ ds. keys (from_entries {R = text_cmp} (map device_entry ds))) found ∙ ap (λ es. keys (from_entries {R = text_cmp} es)) (entries_same (tables_in (view g.S.Store c.args.self.now.conn)).devices))
