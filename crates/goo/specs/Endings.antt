@@ -1,5 +1,5 @@
 -- How the program ends.
-use Rattle.std.specs.Prelude.{◌≡◌, ℕ, Bool, true, false, ◌==◌, List, [], codes, Result, Ok, Err, if◌then◌else◌}
+use Rattle.std.specs.Prelude.{◌≡◌, ℕ, Bool, true, false, ◌==◌, List, [], codes, Option, Some, None, Result, Ok, Err, if◌then◌else◌}
 use Rattle.goo_lines.specs.declared.lines_fault.LinesFault.{LinesFault}
 use Rattle.goo_lines.specs.declared.lines_fault.LinesFault.TheVariants as fault
 use Rattle.goo_types.specs.declared.fault.Fault.{Fault}
@@ -7,6 +7,8 @@ use Rattle.goo_types.specs.declared.fault.Fault.TheVariants as desk
 use Rattle.goo_lines.specs.declared.tally.Tally.{Tally}
 use Rattle.goo_command_line.specs.declared.line_fault.LineFault.{LineFault}
 use Rattle.goo_command_line.specs.declared.line_fault.LineFault.TheVariants as line
+use Rattle.goo_opening.specs.declared.fault.OpenFault.{OpenFault}
+use Rattle.goo_opening.specs.declared.fault.OpenFault.TheVariants as opening
 use Rattle.goo.specs.declared.ending.Ending.{Ending}
 use Rattle.goo.specs.declared.ending.Ending.TheVariants as ending
 use Rattle.goo.specs.declared.ending.Failure.{Failure}
@@ -37,6 +39,14 @@ abbrev pub failure_of_desk : Fault → Failure
 failure_of_desk desk.Store = failure.Store
 failure_of_desk desk.Memory = failure.Memory
 
+abbrev pub fault_of_opening : OpenFault → Fault
+fault_of_opening opening.Memory = desk.Memory
+fault_of_opening opening.AlreadyThere = desk.Store
+fault_of_opening opening.NotARegistry = desk.Store
+fault_of_opening (opening.Version version) = desk.Store
+fault_of_opening opening.Damaged = desk.Store
+fault_of_opening opening.Store = desk.Store
+
 -- all lines were carried out, or some were not
 abbrev pub ending_of_bad : ℕ → Ending
 ending_of_bad bad = if bad == 0 then ending.Done else ending.PartlyDone
@@ -46,6 +56,14 @@ abbrev pub ending_of : Result Tally LinesFault → Bool → Ending
 ending_of (Err reason) flushed = ending.Failed (failure_of reason)
 ending_of (Ok tally) false = ending.Failed failure.Write
 ending_of (Ok tally) true = ending_of_bad tally.bad
+
+-- the program's own line for it, beside the parser's words
+abbrev pub line_told : Ending → Option (List ℕ)
+line_told ending.Done = None
+line_told ending.PartlyDone = None
+line_told (ending.Words error) = None
+line_told (ending.Misused reason) = Some reason.now
+line_told (ending.Failed reason) = Some (failure_text reason)
 
 -- a command line that asks for nothing has status 2, and no room to read it is a fault
 abbrev pub status_of_line : LineFault → ℕ

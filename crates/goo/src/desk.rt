@@ -4,6 +4,7 @@ ghost use Rattle.goo_spec.specs.Created.{created};
 ghost use Rattle.sqlite.specs.Files.{file_state};
 ghost use Rattle.sqlite.specs.Held.{IsNew};
 ghost use Rattle.goo.specs.Desks.{seen_at};
+ghost use Rattle.goo.specs.Endings.{fault_of_opening};
 
 use goo_command_line::Opening;
 use goo_disk::MemoryFile;
@@ -44,7 +45,9 @@ fn open_database<D: Disk + Drop>(
 }
 
 /// The fault of a registry that could not be made.
-fn fault_of(fault: OpenFault) -> Fault {
+fn fault_of(fault: OpenFault) -> Fault
+    ensures { result ≡ fault_of_opening fault }
+{
     match fault {
         OpenFault::Memory => Fault::Memory,
         OpenFault::AlreadyThere

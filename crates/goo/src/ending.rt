@@ -1,6 +1,6 @@
 //! How the program ends: its exit status, and what it says on standard error.
-ghost use Rattle.std.specs.Prelude.{◌≡◌};
-ghost use Rattle.goo.specs.Endings.{status_of, failure_text, failure_of, failure_of_desk, ending_of, TellsLine};
+ghost use Rattle.std.specs.Prelude.{◌≡◌, option_map};
+ghost use Rattle.goo.specs.Endings.{status_of, failure_text, failure_of, failure_of_desk, ending_of, line_told, TellsLine};
 
 use clap::Error;
 use goo_command_line::LineFault;
@@ -116,13 +116,24 @@ impl Ending {
         }
     }
 
+    /// The program's own line that tells what isn't all right; none where the parser's words do.
+    fn line(&self) -> Option<&'static str>
+        ensures { option_map (λ line. line.now) result ≡ line_told self.now }
+    {
+        match self {
+            Ending::Done | Ending::PartlyDone | Ending::Words(_) => None,
+            Ending::Misused(reason) => Some(reason),
+            Ending::Failed(failure) => Some(failure.text()),
+        }
+    }
+
     /// Says on standard error what isn't all right. Where that fails too, the exit status alone tells it.
     pub fn tell(&self, rt: &HostRuntime) {
-        let _ = match self {
-            Ending::Done | Ending::PartlyDone => Ok(()),
-            Ending::Words(error) => rt.eprint(error),
-            Ending::Misused(reason) => rt.eprintln(reason),
-            Ending::Failed(failure) => rt.eprintln(failure.text()),
-        };
+        if let Ending::Words(error) = self {
+            let _ = rt.eprint(error);
+        }
+        if let Some(line) = self.line() {
+            let _ = rt.eprintln(line);
+        }
     }
 }

@@ -1,7 +1,7 @@
 //! A file in memory.
 ghost use Rattle.std.specs.Prelude.{◌≡◌, [], refl, is_ok, length, IfErr, OnOk, true, false};
 ghost use Rattle.std.specs.IoError.{error_kind};
-ghost use Rattle.std.specs.declared.io.ErrorKind.TheVariants as ErrorKind;
+ghost use Rattle.std.specs.declared.io.ErrorKind.TheVariants.{OutOfMemory};
 ghost use Rattle.sqlite_disk.specs.Disk.{Holds, Torn, Cut, CountsFault};
 ghost use Rattle.sqlite_disk.specs.Refusal.{finds_no_room};
 
@@ -108,7 +108,7 @@ impl Disk for MemoryFile {
 fn count(outcome: Result<(), AllocError>, faults: &mut u64) -> io::Result<()>
     ensures variant { is_ok result ≡ is_ok outcome }
     ensures kind { finds_no_room result ≡ false }
-    ensures memory { IfErr result (λ error. error_kind error ≡ ErrorKind.OutOfMemory) }
+    ensures memory { IfErr result (λ error. error_kind error ≡ OutOfMemory) }
     ensures faults { CountsFault result faults.old faults.new }
 {
     if outcome.is_err() {

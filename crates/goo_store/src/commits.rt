@@ -1,13 +1,13 @@
 //! Carrying out plans: what a plan changes is gathered first, and then made in one transaction.
 
-ghost use Rattle.std.specs.Prelude.{◌≡◌, All, IfOk};
+ghost use Rattle.std.specs.Prelude.{◌≡◌, All, IfErr, IfOk};
 ghost use Rattle.sqlite.specs.Held.{state as view};
 ghost use Rattle.goo_shelf.specs.Plan.{Fits, Commits};
 ghost use Rattle.goo_shelf.specs.Shelf.{Looks};
 ghost use Rattle.goo_store.specs.Changes.{ChangeFits};
 ghost use Rattle.goo_store.specs.Moments.{moment, tables_in};
 ghost use Rattle.goo_store.specs.Planned.{IsPlanned};
-ghost use Rattle.goo_store.specs.Telling.{PassesOn};
+ghost use Rattle.goo_store.specs.Telling.{IsTroubleOf, PassesOn};
 
 use crate::change::Change;
 use crate::committing::commit_changes;
@@ -21,10 +21,13 @@ use std::alloc::Global;
 
 /// How a commit ended.
 fn ending(made: Result<(), Error>) -> Result<(), Trouble>
-    ensures { PassesOn made result }
+    ensures passes { PassesOn made result }
+    ensures cause { IfErr made (λ error. IfErr result (IsTroubleOf error)) }
 {
-    made?;
-    Ok(())
+    match made {
+        Ok(()) => Ok(()),
+        Err(error) => Err(Trouble::from(error)),
+    }
 }
 
 impl<S: Alter> SqlShelf<S> {

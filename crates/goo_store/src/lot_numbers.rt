@@ -1,6 +1,6 @@
 //! The numbers of lots in the table.
 
-ghost use Rattle.std.specs.Prelude.{◌≡◌, false, List, IfOk, IfSome, IsSomeAnd, option_map};
+ghost use Rattle.std.specs.Prelude.{◌≡◌, ◌≢◌, false, All, List, IfOk, IfSome, IsNone, IsSomeAnd, option_map};
 ghost use Rattle.sqlite.specs.Held.{state};
 ghost use Rattle.goo_columns.specs.Rows.{Lot as RowOfLot, lot_in};
 ghost use Rattle.goo_store.specs.LookingUp.{LooksUp};
@@ -60,7 +60,8 @@ fn find_number<S: Alter>(alloc: Global, conn: &mut Connection<S>, lot: &Lot) -> 
 
 /// The number of a lot among some.
 fn number_among(numbered: &[NumberedLot], lot: &Lot) -> Option<u64>
-    ensures { IfSome result (λ n. (lots : List RowOfLot) → AreNumbered lots numbered.now → IsNumberOf lots n lot.now) }
+    ensures value { IfSome result (λ n. (lots : List RowOfLot) → AreNumbered lots numbered.now → IsNumberOf lots n lot.now) }
+    ensures none { IsNone result → All (λ known. known.lot ≢ lot.now) numbered.now }
 {
     for known in numbered {
         if known.lot.is(lot) {

@@ -4,7 +4,7 @@ use Rattle.goo_store.proofs.LookUps.{looks_none, looks_so}
 use Rattle.goo_store.proofs.lot_numbers.number_of.Goals as goal
 
 pub returns-in-Some-clause-looks : goal.returns-in-Some-clause-looks
-returns-in-Some-clause-looks g c = looks_none (state g.S.Store c.args.conn.now) (Ok c.in-Some.number) _ (λ t it lots with. c.in-Some.ensures lots with.added_are)
+returns-in-Some-clause-looks g c = looks_none (state g.S.Store c.args.conn.now) (Ok c.in-Some.number) _ (λ t it lots with. c.in-Some.ensures.value lots with.added_are)
 
 pub returns-in-None-clause-looks : goal.returns-in-None-clause-looks
 returns-in-None-clause-looks g c =

@@ -39,4 +39,4 @@ returns g c =
     λ none. subst (λ xs. IsPlanned (tables_in mid) xs plan) (sym c.deref.ensures.value) (c.in_ok-changes.ensures.planned none (fits_still old (moment mid shelf.refused) plan _ _ looks c.requires none)) in
     commits_after old (moment mid shelf.refused) plan (moment new c.told.new.refused) c.in_ok-changes.changes _ looks c.told.result
     (committed mid new shelf.well c.deref.result.now plan planned c.commit_changes-made.result it.clean it.was_open it.works it.done it.kept it.crash c.ending.result shelf.refused c.told.new.refused c.told.result
-    (λ live db may. g.met.S.Store.settled shelf.conn.store db live may) (not_refused shelf.refused looks.told) c.ending.ensures c.told.ensures)
+    (λ live db may. g.met.S.Store.settled shelf.conn.store db live may) (not_refused shelf.refused looks.told) c.ending.ensures.passes c.told.ensures)
