@@ -16,6 +16,8 @@ mod disks;
 #[cfg(test)]
 mod found;
 #[cfg(test)]
+mod parts;
+#[cfg(test)]
 mod registries;
 #[cfg(test)]
 mod reopened;
