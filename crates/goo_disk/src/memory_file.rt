@@ -24,7 +24,7 @@ impl MemoryFile {
     /// An empty file.
     pub fn new(alloc: Global) -> MemoryFile
         ensures empty { bytes_of result ≡ [] }
-        ensures unfailed { (result.faults ≡ 0) × (result.caught ≡ 0) }
+        ensures unfailed { result.faults ≡ 0 }
     {
         MemoryFile {
             bytes: Vec::new(alloc),

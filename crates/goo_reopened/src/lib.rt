@@ -21,6 +21,8 @@ mod found;
 #[cfg(test)]
 mod lapses;
 #[cfg(test)]
+mod parts;
+#[cfg(test)]
 mod recovered;
 #[cfg(test)]
 mod registries;

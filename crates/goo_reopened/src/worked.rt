@@ -1,7 +1,7 @@
 //! Worked cases over tables and over lists: each answer is the one written down, and in the end both show the same.
 
 use crate::asking::{asks, plays};
-use crate::cases::CASES;
+use crate::cases::{FIFTH, FIRST, FOURTH, SECOND, SIXTH, THIRD};
 use crate::registries::{begun, begun_in_lists, closed, in_march_from, opened_again};
 use crate::script::{Line, SCRIPT};
 use crate::sight::sight;
@@ -124,10 +124,40 @@ fn is_alike(rt: &impl Abort, alloc: Global, case: &Case) -> Result<(), Fail> {
     Ok(())
 }
 
-#[test]
-fn cases_over_tables_and_lists(rt: HostRuntime) -> Result<(), Fail> {
-    for case in &CASES {
-        is_alike(&rt, rt.alloc(), case)?;
+/// All of these cases.
+fn are_alike(rt: &impl Abort, alloc: Global, cases: &[Case]) -> Result<(), Fail> {
+    for case in cases {
+        is_alike(rt, alloc, case)?;
     }
     Ok(())
+}
+
+#[test]
+fn the_first_cases(rt: HostRuntime) -> Result<(), Fail> {
+    are_alike(&rt, rt.alloc(), &FIRST)
+}
+
+#[test]
+fn the_second_cases(rt: HostRuntime) -> Result<(), Fail> {
+    are_alike(&rt, rt.alloc(), &SECOND)
+}
+
+#[test]
+fn the_third_cases(rt: HostRuntime) -> Result<(), Fail> {
+    are_alike(&rt, rt.alloc(), &THIRD)
+}
+
+#[test]
+fn the_fourth_cases(rt: HostRuntime) -> Result<(), Fail> {
+    are_alike(&rt, rt.alloc(), &FOURTH)
+}
+
+#[test]
+fn the_fifth_cases(rt: HostRuntime) -> Result<(), Fail> {
+    are_alike(&rt, rt.alloc(), &FIFTH)
+}
+
+#[test]
+fn the_sixth_cases(rt: HostRuntime) -> Result<(), Fail> {
+    are_alike(&rt, rt.alloc(), &SIXTH)
 }

@@ -1,0 +1,95 @@
+//! A certificate of each of a hundred and one lots, over tables and over lists: no notice names them all.
+
+use crate::asking::{asks, plays};
+use crate::registries::{begun, begun_in_lists, in_march};
+use crate::script::SCRIPT;
+use crate::sight::sight;
+use crate::worked::Exchange;
+use goo_outcome::outcome_text;
+use goo_registry::Registry;
+use goo_shelf::shelf::Shelf;
+use sqlite::Connection;
+use std::alloc::Global;
+use std::process::Abort;
+use std::test::Fail;
+
+/// How many of the script's requests come first.
+const DEVICE: usize = 5;
+
+/// Another registry, which is sent a hundred and one parts, and then a hundred.
+const EXPORTS: [Exchange; 3] = [
+    (
+        "ISSUER",
+        r#"{"command":"add_peer","key":"peer","peer":9}"#,
+        r#"{"outcome":"accepted","reply":{}}"#,
+    ),
+    (
+        "SUN",
+        r#"{"account":5,"command":"export","first":"07000000000001","giver":1,"key":"all","last":"07000000000101","peer":9}"#,
+        r#"{"code":30,"name":"TooManyParts","outcome":"refused"}"#,
+    ),
+    (
+        "SUN",
+        r#"{"account":5,"command":"export","first":"07000000000001","giver":1,"key":"fewer","last":"07000000000100","peer":9}"#,
+        r#"{"outcome":"accepted","reply":{"count":100,"notice":1}}"#,
+    ),
+];
+
+/// A certificate is issued for each of the first days of a month, after so many others.
+fn declares_days<S: Shelf>(
+    rt: &impl Abort,
+    alloc: Global,
+    registry: &mut Registry<S>,
+    month: &str,
+    days: u32,
+    before: u64,
+) -> Result<(), Fail> {
+    for number in 1..=days {
+        let day = format!(in alloc; "{month}-{number:02}")?;
+        let body = format!(in alloc;
+            "{{\"aux_wh\":0,\"command\":\"declare\",\"device\":\"500000000000000012\",\"first_day\":\"{day}\",\"gross_wh\":1000000,\"key\":\"{day}\",\"last_day\":\"{day}\"}}"
+        )?;
+        let serial = before.wrapping_add(u64::from(number));
+        let wanted = format!(in alloc;
+            "{{\"outcome\":\"accepted\",\"reply\":{{\"carry\":0,\"count\":1,\"first\":\"07{serial:012}\",\"last\":\"07{serial:012}\"}}}}"
+        )?;
+        let outcome = asks(alloc, registry, "ISSUER", &body)??;
+        let text = outcome_text(outcome);
+        assert!(rt; text.as_str() == wanted.as_str(), "on {day}");
+    }
+    Ok(())
+}
+
+/// What a new registry shows once a hundred parts were sent.
+fn shown_by<S: Shelf + Drop>(
+    rt: &impl Abort,
+    alloc: Global,
+    registry: Registry<S>,
+) -> Result<String, Fail> {
+    let mut registry = registry;
+    let first = SCRIPT.get(..DEVICE).ok_or("so many requests")?;
+    plays(rt, alloc, &mut registry, first, 0)?;
+    declares_days(rt, alloc, &mut registry, "2024-10", 31, 0)?;
+    declares_days(rt, alloc, &mut registry, "2024-11", 30, 31)?;
+    declares_days(rt, alloc, &mut registry, "2024-12", 31, 61)?;
+    declares_days(rt, alloc, &mut registry, "2025-01", 9, 92)?;
+    for (caller, body, wanted) in &EXPORTS {
+        let outcome = asks(alloc, &mut registry, caller, body)??;
+        let text = outcome_text(outcome);
+        assert!(rt; text.as_str() == *wanted, "to {body}");
+    }
+    sight(alloc, &mut registry)
+}
+
+#[test]
+fn a_notice_has_a_hundred_parts_at_most(rt: HostRuntime) -> Result<(), Fail> {
+    let alloc = rt.alloc();
+    let conn = Connection::open_in_memory(alloc)?;
+    let Ok(tables) = begun(alloc, conn, in_march()?) else {
+        return Err("no registry".into());
+    };
+    let shown = shown_by(&rt, alloc, tables)?;
+    let wanted = shown_by(&rt, alloc, begun_in_lists(alloc, in_march()?))?;
+    assert!(rt; shown.as_str() == wanted.as_str());
+    Ok(())
+}
