@@ -1,9 +1,8 @@
-//! A registry in tables that is closed and opened again, on damaged tables and foreign ones too, and after its disk failed at any
-//! one call, for good or once.
+//! A registry in tables that is closed and opened again, on damaged tables and foreign ones too, and after its disk stopped at any
+//! one call.
 //!
 //! It has tests alone. `script` has the requests and what they come to, `asking` sends them, `sight` tells what a registry
-//! shows, `registries` begins and opens them, `disks` has the files that they are kept in, and `lapses` the disk
-//! that fails once.
+//! shows, `registries` begins and opens them, `disks` has the files that they are kept in.
 #![tactic(auto)]
 
 #[cfg(test)]
@@ -14,10 +13,6 @@ mod damages;
 mod disks;
 #[cfg(test)]
 mod foreign;
-#[cfg(test)]
-mod lapses;
-#[cfg(test)]
-mod recovered;
 #[cfg(test)]
 mod registries;
 #[cfg(test)]
