@@ -1,9 +1,8 @@
 //! A registry in tables: worked requests, each answered as plain lists answer it; closed and opened again, on damaged tables
-//! and foreign ones too, and after its disk failed at any one call, for good or once.
+//! and foreign ones too, and after its disk stopped at any one call.
 //!
 //! It has tests alone. `script` and `cases` have the requests and what they come to, `asking` sends them, `sight` tells what a
-//! registry shows, `registries` begins and opens them, `disks` has the files that they are kept in, and `lapses` the disk
-//! that fails once.
+//! registry shows, `registries` begins and opens them, `disks` has the files that they are kept in.
 #![tactic(auto)]
 
 #[cfg(test)]
@@ -19,11 +18,7 @@ mod foreign;
 #[cfg(test)]
 mod found;
 #[cfg(test)]
-mod lapses;
-#[cfg(test)]
 mod parts;
-#[cfg(test)]
-mod recovered;
 #[cfg(test)]
 mod registries;
 #[cfg(test)]

@@ -182,7 +182,7 @@ fn starts_over<S: Alter + Drop>(
 }
 
 /// What a crash left on disks is opened again.
-pub fn goes_on<D: Disk + Drop>(
+fn goes_on<D: Disk + Drop>(
     rt: &impl Abort,
     alloc: Global,
     files: Files<D>,
@@ -211,7 +211,7 @@ fn stops_on<D: Crash + Drop>(
 }
 
 /// What the registry shows without a stop, request by request: no two neighbours are alike.
-pub fn wanted_sights(rt: &impl Abort, alloc: Global) -> Result<Vec<String>, Fail> {
+fn wanted_sights(rt: &impl Abort, alloc: Global) -> Result<Vec<String>, Fail> {
     let conn = Connection::open_in_memory(alloc)?;
     let shown = sights(rt, alloc, conn)?;
     for (text, next) in shown.iter().zip(shown.iter().skip(1)) {
@@ -221,7 +221,7 @@ pub fn wanted_sights(rt: &impl Abort, alloc: Global) -> Result<Vec<String>, Fail
 }
 
 /// More rounds than any of the loops below needs.
-pub const ROUNDS: u64 = 1000;
+const ROUNDS: u64 = 1000;
 
 /// The log stops at every fourth call from this one on.
 fn log_stops(rt: &impl Abort, alloc: Global, from: u64) -> Result<(), Fail> {
