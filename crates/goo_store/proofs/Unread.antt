@@ -1,5 +1,5 @@
 -- A row that is refused though memory is there can't be read.
-use Rattle.std.proofs.Common.{◌≡◌, ◌≤◌, arith, true, true≢false, ◌&&◌, nat_le, Ok, Err, Some, Option, Result, IsOk, IsErrAnd, sym, subst, ◌∙◌}
+use Rattle.std.proofs.Common.{◌≡◌, ◌≤◌, arith, true, ◌&&◌, nat_le, Ok, Err, Some, Option, Result, IsErrAnd, IsOk, sym, subst, ◌∙◌, true≢false}
 use Rattle.std.specs.Result.{IsOkUnless}
 use Rattle.std.proofs.lemmas.Bool.{leb-true, le-leb}
 use Rattle.sqlite.specs.declared.error.Error.{Error}
@@ -15,13 +15,13 @@ use Rattle.goo_store.specs.declared.trouble.Trouble.TheVariants.{Memory}
 pub unread : {X U : Type 0} (found : Result (Option X) Error) (row : X) (read : Result U Trouble) (IsReadable : Option X → Type 0) → found ≡ Ok (Some row) → (IsReadable (Some row) → ⊥) → Accepts found read IsReadable
 unread {X} found row read IsReadable is bad = subst (λ (f : Result (Option X) Error). Accepts f read IsReadable) (sym is) (λ fits. absurd (bad fits))
 
-not_refused : {U : Type 0} (read : Result U Trouble) → IsOk read → IsOkUnless read Memory
-not_refused (Ok x) is = tt
-not_refused (Err e) is = absurd (true≢false (sym is))
+no_error : {U : Type 0} (read : Result U Trouble) → IsOk read → IsOkUnless read Memory
+no_error (Ok x) is = tt
+no_error (Err e) is = absurd (true≢false (sym is))
 
--- what is read wherever it can be
-pub accepted : {X U : Type 0} (found : Result (Option X) Error) (row : X) (read : Result U Trouble) (IsReadable : Option X → Type 0) → found ≡ Ok (Some row) → (IsReadable (Some row) → IsOk read) → Accepts found read IsReadable
-accepted {X} found row read IsReadable is good = subst (λ (f : Result (Option X) Error). Accepts f read IsReadable) (sym is) (λ fits. not_refused read (good fits))
+-- a row that is read where it can be
+pub is_read : {X U : Type 0} (found : Result (Option X) Error) (row : X) (read : Result U Trouble) (IsReadable : Option X → Type 0) → found ≡ Ok (Some row) → (IsReadable (Some row) → IsOk read) → Accepts found read IsReadable
+is_read {X} found row read IsReadable is can = subst (λ (f : Result (Option X) Error). Accepts f read IsReadable) (sym is) (λ fits. no_error read (can fits))
 
 -- an error that is handed on
 pub same_trouble : {U : Type 0} (read : Result U Trouble) (e : Trouble) → IsErrAnd read (λ f. f ≡ e) → e ≡ Memory → IsOkUnless read Memory
