@@ -28,4 +28,3 @@ pub mod DeclareCarried
 pub mod Judging
 pub mod Unread
 pub mod DevicesApart
-pub mod MetaRead
