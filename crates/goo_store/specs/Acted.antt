@@ -1,9 +1,10 @@
 -- What an accepted command changes beside the certificates, in the tables.
-use Rattle.std.specs.Prelude.{◌≡◌, ◌≤◌, ℕ, ℤ, pos, true, List, map, filter, length, Some}
+use Rattle.std.specs.Prelude.{◌≡◌, ◌≤◌, ◌<◌, ◌^◌, ℕ, ℤ, pos, true, List, map, filter, length, Some}
 use Rattle.std.specs.List.{list_all}
 use Rattle.sqlite_typed.specs.Tests.{bytes_eq}
 use Rattle.sqlite_keyed.specs.Keyed.{get_by, has_key}
 use Rattle.goo_types.specs.declared.reply.Reply.{Reply}
+use Rattle.goo_types.specs.declared.reply.Reply.TheVariants.{Declared, Moved, Cancelled, Withdrawn, Advanced, Exported, Imported}
 use Rattle.goo_types.specs.declared.request.Request.{Request}
 use Rattle.goo_spec.specs.Lots.{Certificates}
 use Rattle.goo_spec.specs.State.{State}
@@ -35,3 +36,14 @@ pub record IsActed (t after : Tables) (s : State) : Type 0 where
 pub record IsReceiptOf (q : Request) (reply : Reply) (r : row.Receipt) : Type 0 where
   pub states : known_receipt (pos 0, r) ≡ ((q.caller, q.key), (Some q.command, reply))
   pub reads : is_receipt (pos 0, r) ≡ true
+
+-- a receipt can keep the reply's numbers
+abbrev pub HasKeptNumbers : Reply → Type 0
+HasKeptNumbers (Declared carry issued) = carry ≤ 999999
+HasKeptNumbers (Moved count) = count < 2 ^ 63
+HasKeptNumbers (Cancelled cancellation count) = count < 2 ^ 63
+HasKeptNumbers (Withdrawn withdrawal count) = count < 2 ^ 63
+HasKeptNumbers (Advanced expired) = expired < 2 ^ 63
+HasKeptNumbers (Exported notice count) = count < 2 ^ 63
+HasKeptNumbers (Imported count) = count < 2 ^ 63
+HasKeptNumbers _ = Unit {0}

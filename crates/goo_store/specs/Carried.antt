@@ -1,12 +1,15 @@
 -- Changes that carry out a command.
-use Rattle.std.specs.Prelude.{◌≡◌, ℕ, List, None}
+use Rattle.std.specs.Prelude.{◌≡◌, ℕ, List, Option, None, IsSome, IsTrue}
 use Rattle.sqlite_keyed.specs.Keyed.{IsKeyedBy}
+use Rattle.goo_types.specs.Notice.{NoticeContents}
 use Rattle.goo_types.specs.declared.command.Command.{Command}
+use Rattle.goo_types.specs.declared.command.Command.TheVariants.{OpenAccount, Declare, Cancel, Withdraw, Export, Import}
 use Rattle.goo_spec.specs.Step.{refusal, changed}
 use Rattle.goo_columns.specs.Rows.{Tables, kept_key, account_key, declaration_key, lot_key, piece_key, cancellation_key, withdrawal_key, notice_out_key}
 use Rattle.goo_columns.specs.declared.meta.MetaRow.{MetaRow}
 use Rattle.goo_tables.specs.declared.counters.Counters.{Counters}
 use Rattle.goo_kept.specs.Kept.{AreKept}
+use Rattle.goo_kept.specs.Readable.{is_act}
 use Rattle.goo_kept.specs.States.{state_of}
 use Rattle.goo_store.specs.Acted.{IsActed}
 use Rattle.goo_store.specs.Changes.{made_all, AreFor}
@@ -46,3 +49,13 @@ counters_in m = record {
   next_withdrawal = m.next_withdrawal;
   next_notice = m.next_notice;
 }
+
+-- the command adds no lot, the number that it gives isn't used up, and the notice that it sends is there
+abbrev pub CanAct : MetaRow → Command → Option NoticeContents → Type 0
+CanAct m (OpenAccount x) notice = IsTrue (is_act m.next_account)
+CanAct m (Cancel x) notice = IsTrue (is_act m.next_cancellation)
+CanAct m (Withdraw x) notice = IsTrue (is_act m.next_withdrawal)
+CanAct m (Export x) notice = IsTrue (is_act m.next_notice) × IsSome notice
+CanAct m (Declare x) notice = ⊥
+CanAct m (Import x) notice = ⊥
+CanAct m _ notice = Unit {0}

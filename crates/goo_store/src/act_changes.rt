@@ -1,12 +1,14 @@
 //! What commands change that leave records of acts, and the one that sets the date.
 
-ghost use Rattle.std.specs.Prelude.{◌≡◌, All, IfOk};
+ghost use Rattle.std.specs.Prelude.{◌≡◌, All, IfOk, IsOkUnless, IsTrue};
 ghost use Rattle.goo_spec.specs.Export.{notice_of};
 ghost use Rattle.goo_types.specs.declared.command.Command.TheVariants as command;
 ghost use Rattle.goo_columns.specs.Rows.{Tables, meta_in};
+ghost use Rattle.goo_kept.specs.Readable.{is_act, is_meta};
 ghost use Rattle.goo_kept.specs.States.{state_of};
 ghost use Rattle.goo_store.specs.Carried.{Does};
 ghost use Rattle.goo_store.specs.Changes.{ChangeFits};
+ghost use Rattle.goo_store.specs.declared.trouble.Trouble.TheVariants.{Memory};
 
 use crate::change::Change;
 use crate::new_notices::notice_out_row;
@@ -24,6 +26,7 @@ use std::alloc::Global;
 pub fn cancel(alloc: Global, meta: &MetaRow, accepted: &Cancel) -> Result<Vec<Change>, Trouble>
     ensures does { IfOk result (λ changes. (t : Tables) → t.meta ≡ meta_in meta.now → Does t (command.Cancel accepted.now) changes.items) }
     ensures fits { IfOk result (λ changes. All ChangeFits changes.items) }
+    ensures memory { IsTrue (is_meta (meta_in meta.now)) → IsTrue (is_act meta.now.next_cancellation) → IsOkUnless result Memory }
 {
     let number = numbers::act_no(meta.next_cancellation)?;
     let day = texts::day(&meta.today)?;
@@ -42,6 +45,7 @@ pub fn cancel(alloc: Global, meta: &MetaRow, accepted: &Cancel) -> Result<Vec<Ch
 pub fn withdraw(alloc: Global, meta: &MetaRow, accepted: &Withdraw) -> Result<Vec<Change>, Trouble>
     ensures does { IfOk result (λ changes. (t : Tables) → t.meta ≡ meta_in meta.now → Does t (command.Withdraw accepted.now) changes.items) }
     ensures fits { IfOk result (λ changes. All ChangeFits changes.items) }
+    ensures memory { IsTrue (is_meta (meta_in meta.now)) → IsTrue (is_act meta.now.next_withdrawal) → IsOkUnless result Memory }
 {
     let number = numbers::act_no(meta.next_withdrawal)?;
     let day = texts::day(&meta.today)?;
@@ -65,6 +69,7 @@ pub fn export(
 ) -> Result<Vec<Change>, Trouble>
     ensures does { IfOk result (λ changes. (t : Tables) → t.meta ≡ meta_in meta.now → notice.now ≡ notice_of (state_of t) accepted.now → Does t (command.Export accepted.now) changes.items) }
     ensures fits { IfOk result (λ changes. All ChangeFits changes.items) }
+    ensures memory { IsTrue (is_meta (meta_in meta.now)) → IsTrue (is_act meta.now.next_notice) → IsOkUnless result Memory }
 {
     let number = numbers::act_no(meta.next_notice)?;
     let sent = notice_out_row(alloc, number, accepted.giver, notice)?;
@@ -79,6 +84,7 @@ pub fn export(
 pub fn advance(alloc: Global, accepted: &Advance) -> Result<Vec<Change>, Trouble>
     ensures does { IfOk result (λ changes. (t : Tables) → Does t (command.Advance accepted.now) changes.items) }
     ensures fits { IfOk result (λ changes. All ChangeFits changes.items) }
+    ensures memory { IsOkUnless result Memory }
 {
     let today = day_string(alloc, accepted.day)?;
     Ok(vec![in alloc; Change::SetToday(today)]?)

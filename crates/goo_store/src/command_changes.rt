@@ -1,11 +1,13 @@
 //! What a command changes beside the certificates and the lots.
 
-ghost use Rattle.std.specs.Prelude.{◌≡◌, [], All, IfOk};
+ghost use Rattle.std.specs.Prelude.{◌≡◌, [], All, IfOk, IsOkUnless, IsTrue};
 ghost use Rattle.goo_shelf.specs.Plan.{notice_sent};
 ghost use Rattle.goo_columns.specs.Rows.{Tables, meta_in};
+ghost use Rattle.goo_kept.specs.Readable.{is_meta};
 ghost use Rattle.goo_kept.specs.States.{state_of};
-ghost use Rattle.goo_store.specs.Carried.{Does};
+ghost use Rattle.goo_store.specs.Carried.{CanAct, Does};
 ghost use Rattle.goo_store.specs.Changes.{ChangeFits};
+ghost use Rattle.goo_store.specs.declared.trouble.Trouble.TheVariants.{Memory};
 
 use crate::act_changes::{advance, cancel, export, withdraw};
 use crate::change::Change;
@@ -27,6 +29,7 @@ fn transfer(alloc: Global) -> Vec<Change>
 pub fn act_changes(alloc: Global, meta: &MetaRow, plan: &Plan) -> Result<Vec<Change>, Trouble>
     ensures does { IfOk result (λ changes. (t : Tables) → t.meta ≡ meta_in meta.now → plan.now.notice ≡ notice_sent (state_of t) plan.now.request.command → Does t plan.now.request.command changes.items) }
     ensures fits { IfOk result (λ changes. All ChangeFits changes.items) }
+    ensures memory { IsTrue (is_meta (meta_in meta.now)) → CanAct meta.now plan.now.request.command plan.now.notice → IsOkUnless result Memory }
 {
     match &plan.request.command {
         Command::OpenHolder(command) => open_holder(alloc, command),

@@ -1,6 +1,6 @@
 //! The changes that carry out the edits of a plan.
 
-ghost use Rattle.std.specs.Prelude.{◌≡◌, ◌↔◌, ◌++◌, ◌-◌, ◌<◌, ◌^◌, false, List, All, Some, IfOk, IsTrue, OnOk, length, map, slice_get};
+ghost use Rattle.std.specs.Prelude.{◌≡◌, ◌↔◌, ◌++◌, ◌-◌, ◌<◌, ◌^◌, false, List, All, Some, IfOk, IsOkUnless, IsTrue, OnOk, length, map, slice_get};
 ghost use Rattle.std.specs.List.{Contains};
 ghost use Rattle.goo_types.specs.declared.lot_fields.LotFields.{LotFields};
 ghost use Rattle.sqlite.specs.Held.{state};
@@ -11,6 +11,7 @@ ghost use Rattle.goo_store.specs.EditChanges.{AreForEdits, AreRowsOf};
 ghost use Rattle.goo_store.specs.EditsGathered.{AddsEdit};
 ghost use Rattle.goo_store.specs.LookingUp.{LooksUp};
 ghost use Rattle.goo_store.specs.LotNumbers.{AreNumbered, AreWith, IsNumberOf};
+ghost use Rattle.goo_store.specs.declared.trouble.Trouble.TheVariants.{Memory};
 
 use crate::change::Change;
 use crate::lot_numbers::{NumberedLot, numbers_of};
@@ -38,6 +39,7 @@ fn is_last(lots: &[Lot], lot: &Lot) -> bool
 fn note_lot(lots: &mut Vec<Lot>, lot: &Lot) -> Result<(), Trouble>
     ensures kept { OnOk result ((x : LotFields) → Contains lots.old.items x → Contains lots.new.items x) }
     ensures noted { OnOk result (Contains lots.new.items lot.now) }
+    ensures memory { IsOkUnless result Memory }
 {
     if is_last(lots, lot) {
         return Ok(());
@@ -50,6 +52,7 @@ fn note_lot(lots: &mut Vec<Lot>, lot: &Lot) -> Result<(), Trouble>
 fn note_lots(lots: &mut Vec<Lot>, pieces: &[Piece]) -> Result<(), Trouble>
     ensures kept { OnOk result ((x : LotFields) → Contains lots.old.items x → Contains lots.new.items x) }
     ensures noted { OnOk result (All (λ p. Contains lots.new.items p.lot) pieces.now) }
+    ensures memory { IsOkUnless result Memory }
 {
     for piece in pieces {
         note_lot(lots, &piece.lot)?;
@@ -59,7 +62,8 @@ fn note_lots(lots: &mut Vec<Lot>, pieces: &[Piece]) -> Result<(), Trouble>
 
 /// The lots of the pieces that edits insert, once for those in a row that have one lot.
 fn lots_inserted(alloc: Global, edits: &[Edit]) -> Result<Vec<Lot>, Trouble>
-    ensures { IfOk result (λ lots. All (λ e. All (λ p. Contains lots.items p.lot) e.insert.items) edits.now) }
+    ensures noted { IfOk result (λ lots. All (λ e. All (λ p. Contains lots.items p.lot) e.insert.items) edits.now) }
+    ensures memory { IsOkUnless result Memory }
 {
     let mut lots = Vec::new(alloc);
     for edit in edits {
@@ -114,6 +118,7 @@ fn piece_rows(
 fn push_deletes(changes: &mut Vec<Change>, firsts: &[Number]) -> Result<(), Trouble>
     ensures items { OnOk result (changes.new.items ≡ changes.old.items ++ map (λ k. Change.DeletePiece k) firsts.now) }
     ensures fits { All ChangeFits changes.old.items → OnOk result (All ChangeFits changes.new.items) }
+    ensures memory { IsOkUnless result Memory }
 {
     for first in firsts {
         changes.push(Change::DeletePiece(first.get()))?;
@@ -126,6 +131,7 @@ fn push_inserts(changes: &mut Vec<Change>, rows: &[PieceRow]) -> Result<(), Trou
     requires { All PieceFits rows.now }
     ensures items { OnOk result (changes.new.items ≡ changes.old.items ++ map (λ x. Change.InsertPiece x) rows.now) }
     ensures fits { All ChangeFits changes.old.items → OnOk result (All ChangeFits changes.new.items) }
+    ensures memory { IsOkUnless result Memory }
 {
     for row in rows {
         changes.push(Change::InsertPiece(*row))?;

@@ -1,10 +1,12 @@
 //! What commands change that make holders, accounts, devices and other registries known.
 
-ghost use Rattle.std.specs.Prelude.{◌≡◌, All, IfOk};
+ghost use Rattle.std.specs.Prelude.{◌≡◌, All, IfOk, IsOkUnless, IsTrue};
 ghost use Rattle.goo_types.specs.declared.command.Command.TheVariants as command;
 ghost use Rattle.goo_columns.specs.Rows.{Tables, meta_in};
+ghost use Rattle.goo_kept.specs.Readable.{is_act, is_meta};
 ghost use Rattle.goo_store.specs.Carried.{Does};
 ghost use Rattle.goo_store.specs.Changes.{ChangeFits};
+ghost use Rattle.goo_store.specs.declared.trouble.Trouble.TheVariants.{Memory};
 
 use crate::change::Change;
 use crate::new_devices::device_row;
@@ -21,6 +23,7 @@ use std::alloc::Global;
 pub fn open_holder(alloc: Global, opened: &OpenHolder) -> Result<Vec<Change>, Trouble>
     ensures does { IfOk result (λ changes. (t : Tables) → Does t (command.OpenHolder opened.now) changes.items) }
     ensures fits { IfOk result (λ changes. All ChangeFits changes.items) }
+    ensures memory { IsOkUnless result Memory }
 {
     let holder = holder_row(alloc, opened)?;
     Ok(vec![in alloc; Change::AddHolder(holder)]?)
@@ -34,6 +37,7 @@ pub fn open_account(
 ) -> Result<Vec<Change>, Trouble>
     ensures does { IfOk result (λ changes. (t : Tables) → t.meta ≡ meta_in meta.now → Does t (command.OpenAccount opened.now) changes.items) }
     ensures fits { IfOk result (λ changes. All ChangeFits changes.items) }
+    ensures memory { IsTrue (is_meta (meta_in meta.now)) → IsTrue (is_act meta.now.next_account) → IsOkUnless result Memory }
 {
     let number = numbers::account_no(meta.next_account)?;
     let account = account_row(alloc, number, opened)?;
@@ -48,6 +52,7 @@ pub fn open_account(
 pub fn close_account(alloc: Global, closed: &CloseAccount) -> Result<Vec<Change>, Trouble>
     ensures does { IfOk result (λ changes. (t : Tables) → Does t (command.CloseAccount closed.now) changes.items) }
     ensures fits { IfOk result (λ changes. All ChangeFits changes.items) }
+    ensures memory { IsOkUnless result Memory }
 {
     let account = closed.account.get();
     Ok(vec![in alloc; Change::CloseAccount(account)]?)
@@ -57,6 +62,7 @@ pub fn close_account(alloc: Global, closed: &CloseAccount) -> Result<Vec<Change>
 pub fn register_device(alloc: Global, registered: &RegisterDevice) -> Result<Vec<Change>, Trouble>
     ensures does { IfOk result (λ changes. (t : Tables) → Does t (command.RegisterDevice registered.now) changes.items) }
     ensures fits { IfOk result (λ changes. All ChangeFits changes.items) }
+    ensures memory { IsOkUnless result Memory }
 {
     let device = device_row(alloc, registered)?;
     Ok(vec![in alloc; Change::AddDevice(device)]?)
@@ -66,6 +72,7 @@ pub fn register_device(alloc: Global, registered: &RegisterDevice) -> Result<Vec
 pub fn add_peer(alloc: Global, added: &AddPeer) -> Result<Vec<Change>, Trouble>
     ensures does { IfOk result (λ changes. (t : Tables) → Does t (command.AddPeer added.now) changes.items) }
     ensures fits { IfOk result (λ changes. All ChangeFits changes.items) }
+    ensures memory { IsOkUnless result Memory }
 {
     let peer = peer_row(added.peer);
     Ok(vec![in alloc; Change::AddPeer(peer)]?)

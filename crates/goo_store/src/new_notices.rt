@@ -1,9 +1,10 @@
 //! The rows of notices that are sent.
 
-ghost use Rattle.std.specs.Prelude.{◌≡◌, true, IfOk};
+ghost use Rattle.std.specs.Prelude.{◌≡◌, true, IfOk, IsOkUnless};
 ghost use Rattle.goo_columns.specs.Rows.{notice_out_in};
 ghost use Rattle.goo_kept.specs.Readable.{is_notice_out};
 ghost use Rattle.goo_kept.specs.States.{known_sent};
+ghost use Rattle.goo_store.specs.declared.trouble.Trouble.TheVariants.{Memory};
 
 use crate::trouble::Trouble;
 use goo_columns::notice_out::NoticeOutRow;
@@ -22,6 +23,7 @@ pub fn notice_out_row(
 ) -> Result<NoticeOutRow, Trouble>
     ensures states { IfOk result (λ row. known_sent (notice_out_in row) ≡ (number, record { account = giver; notice = notice.now })) }
     ensures reads { IfOk result (λ row. notice.now.number ≡ number → is_notice_out notice.now.sender (notice_out_in row) ≡ true) }
+    ensures memory { IsOkUnless result Memory }
 {
     let Ok(body) = write(alloc, notice) else {
         return Err(Trouble::Memory);

@@ -1,9 +1,10 @@
 //! The receipts that accepted requests leave.
 
-ghost use Rattle.std.specs.Prelude.{◌≡◌, ◌<◌, ◌^◌, true, pos, Some, IfOk};
+ghost use Rattle.std.specs.Prelude.{◌≡◌, ◌<◌, ◌^◌, true, nat_lt, pos, Some, is_ok, IfOk, IsOk, IsOkUnless};
 ghost use Rattle.goo_columns.specs.Rows.{receipt_in};
 ghost use Rattle.goo_tables.specs.Changes.{ReceiptFits};
-ghost use Rattle.goo_store.specs.Acted.{IsReceiptOf};
+ghost use Rattle.goo_store.specs.Acted.{HasKeptNumbers, IsReceiptOf};
+ghost use Rattle.goo_store.specs.declared.trouble.Trouble.TheVariants.{Memory};
 ghost use Rattle.goo_kept.specs.Readable.{is_reply};
 ghost use Rattle.goo_kept.specs.Replies.{reply_of};
 
@@ -27,6 +28,7 @@ struct ReplyColumns {
 fn kept(number: u64) -> Result<u64, Trouble>
     ensures value { IfOk result (λ n. n ≡ number) }
     ensures fits { IfOk result (λ n. n < 2 ^ 63) }
+    ensures accepts { is_ok result ≡ nat_lt number (2 ^ 63) }
 {
     if number < 1 << 63 {
         Ok(number)
@@ -52,6 +54,7 @@ fn reply_columns(reply: Reply) -> Result<ReplyColumns, Trouble>
     ensures states { IfOk result (λ c. reply_of c.kind c.n1 c.n2 c.n3 ≡ reply) }
     ensures reads { IfOk result (λ c. is_reply c.kind c.n1 c.n2 c.n3 ≡ true) }
     ensures fits { IfOk result (λ c. (c.n1 < 2 ^ 63) × (c.n2 < 2 ^ 63) × (c.n3 < 2 ^ 63)) }
+    ensures accepts { HasKeptNumbers reply → IsOk result }
 {
     match reply {
         Reply::Done => Ok(columns(1, 0, 0)),
@@ -89,6 +92,7 @@ fn reply_columns(reply: Reply) -> Result<ReplyColumns, Trouble>
 pub fn receipt_row(alloc: Global, request: &Request, reply: Reply) -> Result<ReceiptRow, Trouble>
     ensures receipt { IfOk result (λ row. IsReceiptOf request.now reply (receipt_in row)) }
     ensures fits { IfOk result ReceiptFits }
+    ensures memory { HasKeptNumbers reply → IsOkUnless result Memory }
 {
     let columns = reply_columns(reply)?;
     let Ok(command) = command_text(alloc, &request.command) else {

@@ -1,7 +1,9 @@
 //! The numbers that are given next.
 
-ghost use Rattle.std.specs.Prelude.{◌≡◌, IfOk};
+ghost use Rattle.std.specs.Prelude.{◌≡◌, IfOk, IsOk, IsTrue};
+ghost use Rattle.goo_columns.specs.Rows.{meta_in};
 ghost use Rattle.goo_tables.specs.Changes.{CountersFit};
+ghost use Rattle.goo_kept.specs.Readable.{is_meta};
 ghost use Rattle.goo_store.specs.Carried.{counters_in};
 
 use crate::trouble::Trouble;
@@ -15,6 +17,7 @@ const COLUMN_END: u64 = 1 << 63;
 pub fn next_numbers(meta: &MetaRow) -> Result<Counters, Trouble>
     ensures numbers { IfOk result (λ c. c ≡ counters_in meta.now) }
     ensures fits { IfOk result CountersFit }
+    ensures accepts { IsTrue (is_meta (meta_in meta.now)) → IsOk result }
 {
     if meta.next_serial >= COLUMN_END {
         return Err(Trouble::Refused);

@@ -1,6 +1,6 @@
 //! The registry itself, as its row tells of it.
 
-ghost use Rattle.std.specs.Prelude.{◌≡◌, Some, false, option_map, IfOk, IsTrue, OnOk};
+ghost use Rattle.std.specs.Prelude.{◌≡◌, Some, false, option_map, IfOk, IsOk, IsSome, IsSomeAnd, IsTrue, OnOk};
 ghost use Rattle.sqlite.specs.State.{HasCleanDisk};
 ghost use Rattle.sqlite.specs.Held.{state as view};
 ghost use Rattle.goo_columns.specs.Rows.{Tables, meta_in};
@@ -9,7 +9,8 @@ ghost use Rattle.goo_shelf.specs.Meta.{meta_of};
 ghost use Rattle.goo_shelf.specs.Shelf.{Looks};
 ghost use Rattle.goo_store.specs.LookingUp.{LooksUp};
 ghost use Rattle.goo_store.specs.Moments.{moment};
-ghost use Rattle.goo_store.specs.Telling.{Passes};
+ghost use Rattle.goo_store.specs.Telling.{Accepts, Passes};
+ghost use Rattle.goo_kept.specs.Readable.{is_meta};
 ghost use Rattle.goo_kept.specs.States.{state_of};
 
 use crate::sql_shelf::SqlShelf;
@@ -27,7 +28,8 @@ use std::alloc::Global;
 
 /// The row, which is there.
 fn row(found: Result<Option<MetaRow>, Error>) -> Result<MetaRow, Trouble>
-    ensures { Passes found result (λ found row. found ≡ Some row) }
+    ensures value { Passes found result (λ found row. found ≡ Some row) }
+    ensures accepts { Accepts found result (λ row. IsSome row) }
 {
     found?.ok_or(Trouble::Refused)
 }
@@ -44,7 +46,8 @@ pub fn own_row<S: Alter>(alloc: Global, conn: &mut Connection<S>) -> Result<Meta
 /// The next number of each kind.
 #[tactic(auto, unfolding(goo_kept::specs::States::state_of))]
 fn counters_in_row(row: &MetaRow) -> Result<Counters, Trouble>
-    ensures { IfOk result (λ counters. (t : Tables) → t.meta ≡ meta_in row.now → counters ≡ counters_of (state_of t)) }
+    ensures value { IfOk result (λ counters. (t : Tables) → t.meta ≡ meta_in row.now → counters ≡ counters_of (state_of t)) }
+    ensures accepts { IsTrue (is_meta (meta_in row.now)) → IsOk result }
 {
     let counters = Counters::new(
         row.next_serial,
@@ -59,7 +62,8 @@ fn counters_in_row(row: &MetaRow) -> Result<Counters, Trouble>
 /// What the registry knows of itself, as its row tells.
 #[tactic(auto, unfolding(goo_kept::specs::States::state_of))]
 fn meta_in_row(row: &MetaRow) -> Result<Meta, Trouble>
-    ensures { IfOk result (λ meta. (t : Tables) → t.meta ≡ meta_in row.now → meta ≡ meta_of (state_of t)) }
+    ensures value { IfOk result (λ meta. (t : Tables) → t.meta ≡ meta_in row.now → meta ≡ meta_of (state_of t)) }
+    ensures accepts { IsTrue (is_meta (meta_in row.now)) → IsOk result }
 {
     let code = numbers::registry_code(row.code)?;
     let today = texts::day(&row.today)?;
@@ -73,7 +77,8 @@ fn meta_in_row(row: &MetaRow) -> Result<Meta, Trouble>
 
 /// What the registry knows of itself, where its row was found.
 fn read_meta(found: Result<Option<MetaRow>, Error>) -> Result<Meta, Trouble>
-    ensures { Passes found result (λ row meta. (t : Tables) → option_map meta_in row ≡ Some t.meta → meta ≡ meta_of (state_of t)) }
+    ensures value { Passes found result (λ row meta. (t : Tables) → option_map meta_in row ≡ Some t.meta → meta ≡ meta_of (state_of t)) }
+    ensures accepts { Accepts found result (λ row. IsSomeAnd row (λ m. IsTrue (is_meta (meta_in m)))) }
 {
     let row = row(found)?;
     meta_in_row(&row)

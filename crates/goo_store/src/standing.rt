@@ -1,16 +1,17 @@
 //! What the tables hold for a declaration, as it is found.
 
-ghost use Rattle.std.specs.Prelude.{◌≡◌, false, pos, Some, option_map};
+ghost use Rattle.std.specs.Prelude.{◌≡◌, ◌<◌, ◌^◌, false, pos, Some, option_map, IfSome, IsSomeAnd, IsTrue};
 ghost use Rattle.std.specs.FinMap.{get};
 ghost use Rattle.sqlite.specs.Held.{state};
 ghost use Rattle.sqlite_keyed.specs.Keyed.{next_key};
 ghost use Rattle.goo_columns.specs.Rows.{declaration_in, declaration_key, device_in};
 ghost use Rattle.goo_kept.specs.Devices.{device_of};
+ghost use Rattle.goo_kept.specs.Readable.{is_device};
 ghost use Rattle.goo_kept.specs.States.{state_of};
 ghost use Rattle.goo_store.specs.LookingUp.{LooksUp};
 ghost use Rattle.goo_store.specs.LotRows.{next_declaration};
 ghost use Rattle.goo_store.specs.Standing.{IsStanding};
-ghost use Rattle.goo_store.specs.Telling.{Passes};
+ghost use Rattle.goo_store.specs.Telling.{Accepts, Passes};
 
 use crate::devices::device_in_row;
 use crate::gathered_lots::next_lot_number;
@@ -37,7 +38,8 @@ pub struct Standing {
 
 /// The device in the row that was found.
 fn device_found(found: Result<Option<DeviceRow>, Error>) -> Result<Device, Trouble>
-    ensures { Passes found result (λ row device. option_map device_of (option_map device_in row) ≡ Some device) }
+    ensures value { Passes found result (λ row device. option_map device_of (option_map device_in row) ≡ Some device) }
+    ensures accepts { Accepts found result (λ row. IsSomeAnd row (λ r. IsTrue (is_device (pos 0, device_in r)))) }
 {
     let Some(row) = found? else {
         return Err(Trouble::Refused);
@@ -60,7 +62,8 @@ fn find_registered<S: Alter>(
 
 /// The number after that of the last row.
 fn number_after(found: Result<Option<DeclarationRow>, Error>) -> Result<u64, Trouble>
-    ensures { Passes found result (λ row n. n ≡ next_declaration (option_map declaration_in row)) }
+    ensures value { Passes found result (λ row n. n ≡ next_declaration (option_map declaration_in row)) }
+    ensures accepts { Accepts found result (λ row. IfSome row (λ r. r.id < 2 ^ 63)) }
 {
     let Some(row) = found? else {
         return Ok(1);

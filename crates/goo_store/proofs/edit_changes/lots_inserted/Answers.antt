@@ -14,5 +14,5 @@ loop-edit-preserved c =
     (All-weaker (λ e. All (λ p. Contains before p.lot) e.insert.items) (λ e. All (λ p. Contains after p.lot) e.insert.items) (λ e. All-weaker (λ p. Contains before p.lot) (λ p. Contains after p.lot) (λ p. c.in_ok-note_lots.ensures.kept p.lot) e.insert.items) (take i edits) c.loop-edit.invariant)
     (subst (λ e. All (λ p. Contains after p.lot) e.insert.items) c.edit-item.is (subst (All (λ p. Contains after p.lot)) c.deref.ensures.value c.in_ok-note_lots.ensures.noted))
 
-pub returns : goal.returns
-returns c = subst (All (λ e. All (λ p. Contains c.loop-edit.lots.items p.lot) e.insert.items)) (take_all c.loop-edit.edit-index c.args.edits.now c.loop-edit-test.false) c.loop-edit.invariant
+pub returns-clause-noted : goal.returns-clause-noted
+returns-clause-noted c = subst (All (λ e. All (λ p. Contains c.loop-edit.lots.items p.lot) e.insert.items)) (take_all c.loop-edit.edit-index c.args.edits.now c.loop-edit-test.false) c.loop-edit.invariant

@@ -4,10 +4,10 @@ use Rattle.goo_kept.specs.States.{state_of}
 use Rattle.goo_kept.specs.Texts.{day_of}
 use Rattle.goo_store.proofs.registry_row.meta_in_row.Goals as goal
 
-pub returns : goal.returns
+pub returns-clause-value : goal.returns-clause-value
 unfolding state_of
-returns c t same i = record {
+returns-clause-value c t same i = record {
   code = (c.in_ok-code.ensures.value ∙ ap (λ (m : Meta). m.code) (sym same)) i;
   today = (c.in_ok-today.ensures.value ∙ ap day_of c.deref.ensures ∙ ap (λ (m : Meta). day_of m.today) (sym same)) i;
-  counters = c.in_ok-counters.ensures t same i;
+  counters = c.in_ok-counters.ensures.value t same i;
 }

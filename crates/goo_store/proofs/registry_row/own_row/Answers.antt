@@ -7,8 +7,8 @@ use Rattle.goo_store.proofs.registry_row.own_row.Goals as goal
 
 pub returns-clause-gathers : goal.returns-clause-gathers
 returns-clause-gathers g c =
-    gathers_looked (view g.S.Store c.args.conn.now) (view g.S.Store c.find_meta.new.conn) c.find_meta.result _ _ c.row.result _ c.find_meta.ensures.looks c.row.ensures
+    gathers_looked (view g.S.Store c.args.conn.now) (view g.S.Store c.find_meta.new.conn) c.find_meta.result _ _ c.row.result _ c.find_meta.ensures.looks c.row.ensures.value
     (λ t x y is same. sym (inside _ _ (ap (option_map meta_in) (sym same) ∙ is)))
 
 pub returns-clause-works : goal.returns-clause-works
-returns-clause-works g c = works_passed _ _ c.find_meta.result c.row.result c.row.ensures c.find_meta.ensures.looks.works
+returns-clause-works g c = works_passed _ _ c.find_meta.result c.row.result c.row.ensures.value c.find_meta.ensures.looks.works

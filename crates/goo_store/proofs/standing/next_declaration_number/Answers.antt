@@ -7,5 +7,5 @@ use Rattle.goo_store.proofs.standing.next_declaration_number.Goals as goal
 
 pub returns-clause-looks : goal.returns-clause-looks
 returns-clause-looks g c =
-    looked_up (state g.S.Store c.args.conn.now) (state g.S.Store c.last_declaration-found.new.conn) _ _ c.last_declaration-found.ensures.looks _ _ c.number_after.result c.number_after.ensures
+    looked_up (state g.S.Store c.args.conn.now) (state g.S.Store c.last_declaration-found.new.conn) _ _ c.last_declaration-found.ensures.looks _ _ c.number_after.result c.number_after.ensures.value
     (λ t stands found n right read. ap pos (read ∙ ap next_declaration right) ∙ next_declaration_is t.declarations)

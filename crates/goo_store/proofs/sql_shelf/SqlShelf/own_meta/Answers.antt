@@ -15,5 +15,5 @@ invariant_of-self g c = record {
 pub returns : goal.returns
 returns g c =
     looked (view g.S.Store c.args.self.now.conn) (view g.S.Store c.find_meta-found.new.conn) c.args.self.now.well _ _ c.find_meta-found.ensures.looks _ _ c.read_meta.result
-    c.args.self.now.refused c.told.new.refused c.told.result (λ live db may. g.met.S.Store.settled c.args.self.now.conn.store db live may) c.if-self.false c.read_meta.ensures c.told.ensures
+    c.args.self.now.refused c.told.new.refused c.told.result (λ live db may. g.met.S.Store.settled c.args.self.now.conn.store db live may) c.if-self.false c.read_meta.ensures.value c.told.ensures
     (λ kept row meta found read. read (tables_in (view g.S.Store c.args.self.now.conn)) found)
