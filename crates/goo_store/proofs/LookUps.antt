@@ -1,5 +1,5 @@
 -- Look-ups in the tables, joined.
-use Rattle.std.proofs.Common.{◌≡◌, Ok, Err, Result, IfOk, IsErr, OnOk, refl, arith}
+use Rattle.std.proofs.Common.{Ok, Err, Result, IfOk, IsErr, OnOk, refl, arith}
 use Rattle.sqlite.specs.State.{State}
 use Rattle.sqlite.specs.declared.error.Error.{Error}
 use Rattle.goo_columns.specs.Rows.{Tables}

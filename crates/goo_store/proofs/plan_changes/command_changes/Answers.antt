@@ -1,6 +1,6 @@
 use Rattle.sqlite.specs.Held.{state}
 use Rattle.goo_columns.proofs.Results.{if_ok}
-use Rattle.goo_store.proofs.Gathered.{gathers_then, gathers_made, when_ok}
+use Rattle.goo_store.proofs.Gathered.{gathers_then, gathers_made}
 use Rattle.goo_store.proofs.plan_changes.command_changes.Goals as goal
 
 pub returns-in-Declare-clause-gathers : goal.returns-in-Declare-clause-gathers

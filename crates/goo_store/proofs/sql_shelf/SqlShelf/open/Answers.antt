@@ -1,4 +1,4 @@
-use Rattle.std.proofs.Common.{rules, ◌≡◌, ◌∙◌, ap, sym, subst, IsTrue, false, true≢false}
+use Rattle.std.proofs.Common.{rules, ◌≡◌, ap, sym, subst, IsTrue}
 use Rattle.sqlite.specs.Held.{state as view}
 use Rattle.sqlite.specs.State.{HasCleanDisk}
 use Rattle.goo_columns.specs.Stands.{Rests, doubts}
