@@ -8,29 +8,15 @@ use Rattle.goo_types.specs.Day.{day_reading}
 use Rattle.goo_types.specs.Support.{support_reading}
 use Rattle.goo_types.specs.declared.command.RegisterDevice.{RegisterDevice}
 use Rattle.goo_notice.specs.declared.value_fault.ValueFault.{ValueFault}
-use Rattle.goo_notice.specs.RegisterDevice.{IsRegisterDevice, register_device_of}
+use Rattle.goo_notice.specs.RegisterDevice.{IsRegisterDevice, device_of_members, register_device_of}
 use Rattle.goo_notice.specs.Faults.{◌>>=◌}
 use Rattle.goo_notice.specs.Members.{of_size, string_at, integer_at}
 use Rattle.goo_notice.specs.Fields.{as_field, integer_in}
 use Rattle.goo_notice.proofs.LimitLemmas.{IsDay-reading}
 use Rattle.goo_notice.proofs.FieldLimits.{bind_ok, field_ok, ok_same, within_limits, name_again, country_again, tech_again, source_again, gsrn_again}
 
--- what the members state, once they are found
-abbrev stated : ℤ → ℤ → List ℕ → List ℕ → List ℕ → List ℕ → List ℕ → List ℕ → List ℕ → Result RegisterDevice ValueFault
-stated account capacity_w commissioned country device site source support tech = do
-  device ← as_field (gsrn_reading device)
-  account ← integer_in 1 999999999 account
-  country ← as_field (country_reading country)
-  site ← as_field (name_reading site)
-  tech ← as_field (tech_reading tech)
-  source ← as_field (source_reading source)
-  capacity_w ← integer_in 1 100000000000 capacity_w
-  commissioned ← as_field (day_reading commissioned)
-  support ← as_field (support_reading support)
-  Ok (record { device = device; account = account; country = country; site = site; tech = tech; source = source; capacity_w = capacity_w; commissioned = commissioned; support = support })
-
 limits : (account capacity_w : ℤ) (commissioned country device site source support tech : List ℕ) (c : RegisterDevice)
-    → stated account capacity_w commissioned country device site source support tech ≡ Ok c → IsRegisterDevice c
+    → device_of_members account capacity_w commissioned country device site source support tech ≡ Ok c → IsRegisterDevice c
 limits account capacity_w commissioned country device site source support tech c e =
     let a0 = bind_ok (as_field (gsrn_reading device)) _ c e in
     let a1 = bind_ok (integer_in 1 999999999 account) _ c a0.2 in

@@ -69,7 +69,7 @@ const COUNTERS: Counters = Counters {
 };
 
 /// The tables and the row of `meta`, committed. False inside a transaction.
-pub fn create<S: Alter>(alloc: Global, conn: &mut Connection<S>) -> Result<bool, Error> {
+pub(crate) fn create<S: Alter>(alloc: Global, conn: &mut Connection<S>) -> Result<bool, Error> {
     if !conn.is_autocommit() {
         return Ok(false);
     }
@@ -119,7 +119,7 @@ fn fill_acts<S: Alter>(alloc: Global, tx: &mut Transaction<'_, S>) -> Result<(),
 }
 
 /// Rows of each table, committed. False inside a transaction.
-pub fn fill<S: Alter>(alloc: Global, conn: &mut Connection<S>) -> Result<bool, Error> {
+pub(crate) fn fill<S: Alter>(alloc: Global, conn: &mut Connection<S>) -> Result<bool, Error> {
     if !conn.is_autocommit() {
         return Ok(false);
     }
@@ -133,7 +133,7 @@ pub fn fill<S: Alter>(alloc: Global, conn: &mut Connection<S>) -> Result<bool, E
 }
 
 /// Each change of a row, committed. False inside a transaction.
-pub fn change<S: Alter>(conn: &mut Connection<S>) -> Result<bool, Error> {
+pub(crate) fn change<S: Alter>(conn: &mut Connection<S>) -> Result<bool, Error> {
     if !conn.is_autocommit() {
         return Ok(false);
     }

@@ -1,6 +1,7 @@
 //! The statements that find one row by its key.
 
 use crate::rows::{NORTH, SOUTH};
+use crate::telling::show;
 use goo_tables::account::find_account;
 use goo_tables::cancellation::find_cancellation;
 use goo_tables::declaration::{find_declaration, last_declaration};
@@ -18,46 +19,46 @@ use sqlite::{Alter, Connection};
 
 fn tell_holders<S: Alter>(rt: &HostRuntime, conn: &mut Connection<S>) -> Result<(), anyhow::Error> {
     let alloc = rt.alloc();
-    println!(rt; "{:?}", find_meta(alloc, conn)?)?;
-    println!(rt; "{:?}", find_holder(alloc, conn, "VOLT")?)?;
-    println!(rt; "{:?}", find_holder(alloc, conn, "WIND")?)?;
-    println!(rt; "{:?}", find_account(alloc, conn, 2)?)?;
-    println!(rt; "{:?}", find_device(alloc, conn, SOUTH)?)?;
+    show(rt, find_meta(alloc, conn))?;
+    show(rt, find_holder(alloc, conn, "VOLT"))?;
+    show(rt, find_holder(alloc, conn, "WIND"))?;
+    show(rt, find_account(alloc, conn, 2))?;
+    show(rt, find_device(alloc, conn, SOUTH))?;
     Ok(())
 }
 
 fn tell_lots<S: Alter>(rt: &HostRuntime, conn: &mut Connection<S>) -> Result<(), anyhow::Error> {
     let alloc = rt.alloc();
-    println!(rt; "{:?}", find_declaration(alloc, conn, NORTH, "2025-02-01")?)?;
-    println!(rt; "{:?}", last_declaration(alloc, conn)?)?;
-    println!(rt; "{:?}", find_lot(alloc, conn, 9, SOUTH, "2099-01-01")?)?;
-    println!(rt; "{:?}", find_lot_by_id(alloc, conn, 1)?)?;
-    println!(rt; "{:?}", last_lot(alloc, conn)?)?;
+    show(rt, find_declaration(alloc, conn, NORTH, "2025-02-01"))?;
+    show(rt, last_declaration(alloc, conn))?;
+    show(rt, find_lot(alloc, conn, 9, SOUTH, "2099-01-01"))?;
+    show(rt, find_lot_by_id(alloc, conn, 1))?;
+    show(rt, last_lot(alloc, conn))?;
     Ok(())
 }
 
 fn tell_acts<S: Alter>(rt: &HostRuntime, conn: &mut Connection<S>) -> Result<(), anyhow::Error> {
     let alloc = rt.alloc();
-    println!(rt; "{:?}", find_piece(alloc, conn, 7_000_000_000_011)?)?;
-    println!(rt; "{:?}", find_piece(alloc, conn, 7_000_000_000_012)?)?;
-    println!(rt; "{:?}", find_peer(alloc, conn, 9)?)?;
-    println!(rt; "{:?}", find_cancellation(alloc, conn, 1)?)?;
-    println!(rt; "{:?}", find_withdrawal(alloc, conn, 1)?)?;
+    show(rt, find_piece(alloc, conn, 7_000_000_000_011))?;
+    show(rt, find_piece(alloc, conn, 7_000_000_000_012))?;
+    show(rt, find_peer(alloc, conn, 9))?;
+    show(rt, find_cancellation(alloc, conn, 1))?;
+    show(rt, find_withdrawal(alloc, conn, 1))?;
     Ok(())
 }
 
 fn tell_notices<S: Alter>(rt: &HostRuntime, conn: &mut Connection<S>) -> Result<(), anyhow::Error> {
     let alloc = rt.alloc();
-    println!(rt; "{:?}", find_receipt(alloc, conn, "ISSUER", "d1")?)?;
-    println!(rt; "{:?}", find_receipt(alloc, conn, "SUN", "d1")?)?;
-    println!(rt; "{:?}", find_notice_out(alloc, conn, 1)?)?;
-    println!(rt; "{:?}", find_notice_in(alloc, conn, 9, 4)?)?;
-    println!(rt; "{:?}", find_notice_in(alloc, conn, 9, 5)?)?;
+    show(rt, find_receipt(alloc, conn, "ISSUER", "d1"))?;
+    show(rt, find_receipt(alloc, conn, "SUN", "d1"))?;
+    show(rt, find_notice_out(alloc, conn, 1))?;
+    show(rt, find_notice_in(alloc, conn, 9, 4))?;
+    show(rt, find_notice_in(alloc, conn, 9, 5))?;
     Ok(())
 }
 
 /// Prints what each look-up by a key finds.
-pub fn tell_finds<S: Alter>(
+pub(crate) fn tell_finds<S: Alter>(
     rt: &HostRuntime,
     conn: &mut Connection<S>,
 ) -> Result<(), anyhow::Error> {

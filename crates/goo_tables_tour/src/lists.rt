@@ -1,5 +1,6 @@
 //! The statements that read a whole table.
 
+use crate::telling::show;
 use goo_tables::account::all_accounts;
 use goo_tables::cancellation::all_cancellations;
 use goo_tables::declaration::all_declarations;
@@ -17,34 +18,34 @@ use sqlite::{Alter, Connection};
 
 fn tell_holders<S: Alter>(rt: &HostRuntime, conn: &mut Connection<S>) -> Result<(), anyhow::Error> {
     let alloc = rt.alloc();
-    println!(rt; "{:?}", all_meta(alloc, conn)?)?;
-    println!(rt; "{:?}", all_holders(alloc, conn)?)?;
-    println!(rt; "{:?}", all_accounts(alloc, conn)?)?;
-    println!(rt; "{:?}", all_devices(alloc, conn)?)?;
+    show(rt, all_meta(alloc, conn))?;
+    show(rt, all_holders(alloc, conn))?;
+    show(rt, all_accounts(alloc, conn))?;
+    show(rt, all_devices(alloc, conn))?;
     Ok(())
 }
 
 fn tell_pieces<S: Alter>(rt: &HostRuntime, conn: &mut Connection<S>) -> Result<(), anyhow::Error> {
     let alloc = rt.alloc();
-    println!(rt; "{:?}", all_declarations(alloc, conn)?)?;
-    println!(rt; "{:?}", all_lots(alloc, conn)?)?;
-    println!(rt; "{:?}", all_pieces(alloc, conn)?)?;
-    println!(rt; "{:?}", all_peers(alloc, conn)?)?;
+    show(rt, all_declarations(alloc, conn))?;
+    show(rt, all_lots(alloc, conn))?;
+    show(rt, all_pieces(alloc, conn))?;
+    show(rt, all_peers(alloc, conn))?;
     Ok(())
 }
 
 fn tell_acts<S: Alter>(rt: &HostRuntime, conn: &mut Connection<S>) -> Result<(), anyhow::Error> {
     let alloc = rt.alloc();
-    println!(rt; "{:?}", all_cancellations(alloc, conn)?)?;
-    println!(rt; "{:?}", all_withdrawals(alloc, conn)?)?;
-    println!(rt; "{:?}", all_receipts(alloc, conn)?)?;
-    println!(rt; "{:?}", all_notices_out(alloc, conn)?)?;
-    println!(rt; "{:?}", all_notices_in(alloc, conn)?)?;
+    show(rt, all_cancellations(alloc, conn))?;
+    show(rt, all_withdrawals(alloc, conn))?;
+    show(rt, all_receipts(alloc, conn))?;
+    show(rt, all_notices_out(alloc, conn))?;
+    show(rt, all_notices_in(alloc, conn))?;
     Ok(())
 }
 
 /// Prints each table.
-pub fn tell_lists<S: Alter>(
+pub(crate) fn tell_lists<S: Alter>(
     rt: &HostRuntime,
     conn: &mut Connection<S>,
 ) -> Result<(), anyhow::Error> {

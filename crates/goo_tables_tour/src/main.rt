@@ -9,6 +9,7 @@ mod finds;
 mod lists;
 mod rows;
 mod searches;
+mod telling;
 
 use changes::{change, create, fill};
 use finds::tell_finds;

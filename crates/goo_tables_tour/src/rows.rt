@@ -19,10 +19,10 @@ use sqlite::Error;
 use std::alloc::Global;
 
 /// The device at the north field.
-pub const NORTH: &str = "500000000000000012";
+pub(crate) const NORTH: &str = "500000000000000012";
 
 /// The device at the south field.
-pub const SOUTH: &str = "500000000000000029";
+pub(crate) const SOUTH: &str = "500000000000000029";
 
 fn string(alloc: Global, text: &str) -> Result<String, Error> {
     Ok(String::from_str(alloc, text)?)
@@ -32,7 +32,7 @@ fn blob(alloc: Global, text: &str) -> Result<Vec<u8>, Error> {
     Ok(Vec::from_slice(alloc, text.as_bytes())?)
 }
 
-pub fn meta(alloc: Global) -> Result<MetaRow, Error>
+pub(crate) fn meta(alloc: Global) -> Result<MetaRow, Error>
     ensures fits { IfOk result MetaFits }
 {
     Ok(MetaRow {
@@ -47,14 +47,14 @@ pub fn meta(alloc: Global) -> Result<MetaRow, Error>
     })
 }
 
-pub fn holder(alloc: Global, code: &str, name: &str) -> Result<HolderRow, Error> {
+pub(crate) fn holder(alloc: Global, code: &str, name: &str) -> Result<HolderRow, Error> {
     Ok(HolderRow {
         code: string(alloc, code)?,
         name: string(alloc, name)?,
     })
 }
 
-pub fn account(alloc: Global, number: u32, holder: &str) -> Result<AccountRow, Error> {
+pub(crate) fn account(alloc: Global, number: u32, holder: &str) -> Result<AccountRow, Error> {
     Ok(AccountRow {
         number,
         holder: string(alloc, holder)?,
@@ -76,7 +76,7 @@ fn plant(alloc: Global, country: &str, site: &str) -> Result<PlantRow, Error>
     })
 }
 
-pub fn north(alloc: Global) -> Result<DeviceRow, Error>
+pub(crate) fn north(alloc: Global) -> Result<DeviceRow, Error>
     ensures fits { IfOk result DeviceFits }
 {
     Ok(DeviceRow {
@@ -88,7 +88,7 @@ pub fn north(alloc: Global) -> Result<DeviceRow, Error>
     })
 }
 
-pub fn south(alloc: Global) -> Result<DeviceRow, Error>
+pub(crate) fn south(alloc: Global) -> Result<DeviceRow, Error>
     ensures fits { IfOk result DeviceFits }
 {
     Ok(DeviceRow {
@@ -100,7 +100,7 @@ pub fn south(alloc: Global) -> Result<DeviceRow, Error>
     })
 }
 
-pub fn january(alloc: Global) -> Result<DeclarationRow, Error>
+pub(crate) fn january(alloc: Global) -> Result<DeclarationRow, Error>
     ensures fits { IfOk result DeclarationFits }
 {
     Ok(DeclarationRow {
@@ -113,7 +113,7 @@ pub fn january(alloc: Global) -> Result<DeclarationRow, Error>
     })
 }
 
-pub fn february(alloc: Global) -> Result<DeclarationRow, Error>
+pub(crate) fn february(alloc: Global) -> Result<DeclarationRow, Error>
     ensures fits { IfOk result DeclarationFits }
 {
     Ok(DeclarationRow {
@@ -127,7 +127,7 @@ pub fn february(alloc: Global) -> Result<DeclarationRow, Error>
 }
 
 /// The lot of January's declaration.
-pub fn own_lot(alloc: Global) -> Result<LotRow, Error>
+pub(crate) fn own_lot(alloc: Global) -> Result<LotRow, Error>
     ensures fits { IfOk result LotFits }
 {
     Ok(LotRow {
@@ -143,7 +143,7 @@ pub fn own_lot(alloc: Global) -> Result<LotRow, Error>
 }
 
 /// A lot of another registry, which never expires.
-pub fn other_lot(alloc: Global) -> Result<LotRow, Error>
+pub(crate) fn other_lot(alloc: Global) -> Result<LotRow, Error>
     ensures fits { IfOk result LotFits }
 {
     Ok(LotRow {
@@ -158,7 +158,7 @@ pub fn other_lot(alloc: Global) -> Result<LotRow, Error>
     })
 }
 
-pub fn cancellation(alloc: Global) -> Result<CancellationRow, Error>
+pub(crate) fn cancellation(alloc: Global) -> Result<CancellationRow, Error>
     ensures fits { IfOk result CancellationFits }
 {
     Ok(CancellationRow {
@@ -173,7 +173,7 @@ pub fn cancellation(alloc: Global) -> Result<CancellationRow, Error>
     })
 }
 
-pub fn withdrawal(alloc: Global) -> Result<WithdrawalRow, Error>
+pub(crate) fn withdrawal(alloc: Global) -> Result<WithdrawalRow, Error>
     ensures fits { IfOk result WithdrawalFits }
 {
     Ok(WithdrawalRow {
@@ -185,7 +185,7 @@ pub fn withdrawal(alloc: Global) -> Result<WithdrawalRow, Error>
     })
 }
 
-pub fn receipt(alloc: Global) -> Result<ReceiptRow, Error>
+pub(crate) fn receipt(alloc: Global) -> Result<ReceiptRow, Error>
     ensures fits { IfOk result ReceiptFits }
 {
     Ok(ReceiptRow {
@@ -199,7 +199,7 @@ pub fn receipt(alloc: Global) -> Result<ReceiptRow, Error>
     })
 }
 
-pub fn sent(alloc: Global) -> Result<NoticeOutRow, Error> {
+pub(crate) fn sent(alloc: Global) -> Result<NoticeOutRow, Error> {
     Ok(NoticeOutRow {
         number: 1,
         account: 5,
@@ -207,7 +207,7 @@ pub fn sent(alloc: Global) -> Result<NoticeOutRow, Error> {
     })
 }
 
-pub fn came(alloc: Global) -> Result<NoticeInRow, Error> {
+pub(crate) fn came(alloc: Global) -> Result<NoticeInRow, Error> {
     Ok(NoticeInRow {
         sender: 9,
         number: 4,
