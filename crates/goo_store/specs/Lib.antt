@@ -8,6 +8,7 @@ pub mod Near
 pub mod Changes
 pub mod Creating
 pub mod Planned
+pub mod Preparing
 pub mod EditChanges
 pub mod Acted
 pub mod NewLots

@@ -1,10 +1,10 @@
 use Rattle.sqlite.specs.Held.{state as view}
+use Rattle.goo_store.proofs.CommitsAfter.{refused_prepared}
 use Rattle.goo_store.proofs.Gathered.{well, gathered, found_after, in_order}
-use Rattle.goo_store.proofs.Looking.{refused_look}
 use Rattle.goo_store.proofs.sql_shelf.SqlShelf.changes_for.Goals as goal
 
-pub returns-then-self-clause-looks : goal.returns-then-self-clause-looks
-returns-then-self-clause-looks g c = refused_look (view g.S.Store c.args.self.now.conn) c.args.self.now.well c.args.self.now.refused c.if-self.true (λ live db may. g.met.S.Store.settled c.args.self.now.conn.store db live may) _
+pub returns-then-self-clause-prepares : goal.returns-then-self-clause-prepares
+returns-then-self-clause-prepares g c = refused_prepared (view g.S.Store c.args.self.now.conn) c.args.self.now.well c.args.self.now.refused c.if-self.true (λ live db may. g.met.S.Store.settled c.args.self.now.conn.store db live may)
 
 pub invariant_of-self : goal.invariant_of-self
 invariant_of-self g c = record {
@@ -12,10 +12,10 @@ invariant_of-self g c = record {
   well = well (view g.S.Store c.args.self.now.conn) (view g.S.Store c.plan_changes-changes.new.conn) c.args.self.now.well c.plan_changes-changes.result _ c.plan_changes-changes.ensures.gathers;
 }
 
-pub returns-clause-looks : goal.returns-clause-looks
-returns-clause-looks g c =
+pub returns-clause-prepares : goal.returns-clause-prepares
+returns-clause-prepares g c =
     gathered (view g.S.Store c.args.self.now.conn) (view g.S.Store c.plan_changes-changes.new.conn) c.args.self.now.well c.plan_changes-changes.result _ c.plan_changes-changes.ensures.gathers
-    c.args.self.now.refused c.told.new.refused c.told.result (λ live db may. g.met.S.Store.settled c.args.self.now.conn.store db live may) c.if-self.false c.plan_changes-changes.ensures.works c.told.ensures
+    c.args.self.now.refused c.told.new.refused c.told.result (λ live db may. g.met.S.Store.settled c.args.self.now.conn.store db live may) c.if-self.false c.told.ensures
 
 pub returns-clause-planned : goal.returns-clause-planned
 returns-clause-planned g c =
