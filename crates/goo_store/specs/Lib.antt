@@ -1,4 +1,5 @@
 pub mod Moments
+pub mod OwnRow
 pub mod Holding
 pub mod Telling
 pub mod Reading

@@ -14,6 +14,7 @@ ghost use Rattle.goo_store.specs.Carrying.{CarriesOut, IsAccepted};
 ghost use Rattle.goo_store.specs.Changes.{made_all, ChangeFits};
 ghost use Rattle.goo_store.specs.EditChanges.{AreForEdits};
 ghost use Rattle.goo_store.specs.LookingUp.{LooksUp};
+ghost use Rattle.goo_store.specs.OwnRow.{IsRowOf};
 ghost use Rattle.goo_store.specs.Planned.{IsPlanned};
 
 use crate::change::Change;
@@ -23,7 +24,7 @@ use crate::gathered_lots::Gathered;
 use crate::importing::import_changes;
 use crate::new_declarations::declare_changes;
 use crate::new_receipts::receipt_row;
-use crate::registry_row::own_row;
+use crate::registry_row::known_row;
 use crate::trouble::Trouble;
 use goo_columns::meta::MetaRow;
 use goo_shelf::plan::Plan;
@@ -87,13 +88,14 @@ fn declaration<S: Alter>(
 fn by_own_row<S: Alter>(
     alloc: Global,
     conn: &mut Connection<S>,
+    own: Option<MetaRow>,
     plan: &Plan,
 ) -> Result<Gathered, Trouble>
-    ensures gathers { LooksUp (state S.Store conn.old) (state S.Store conn.new) result (λ t gathered. AreKept t → AreInOrder t → Fits (state_of t) (rows_of t) plan.now → CarriesOut t plan.now.request.command gathered) }
+    ensures gathers { LooksUp (state S.Store conn.old) (state S.Store conn.new) result (λ t gathered. IsRowOf own t → AreKept t → AreInOrder t → Fits (state_of t) (rows_of t) plan.now → CarriesOut t plan.now.request.command gathered) }
     ensures outside { conn.old.in_transaction ≡ false → conn.new.in_transaction ≡ false }
     ensures fits { IfOk result (λ gathered. All ChangeFits gathered.changes.items) }
 {
-    let meta = own_row(alloc, conn)?;
+    let meta = known_row(alloc, conn, own)?;
     match &plan.request.command {
         Command::Declare(command) => declaration(alloc, conn, &meta, command, plan.reply),
         _ => numbered(alloc, &meta, plan),
@@ -101,13 +103,14 @@ fn by_own_row<S: Alter>(
 }
 
 /// What the plan's command changes beside the certificates. The registry's row is looked up for
-/// those commands alone that need it.
+/// those commands alone that need it, where it isn't kept.
 fn command_changes<S: Alter>(
     alloc: Global,
     conn: &mut Connection<S>,
+    own: Option<MetaRow>,
     plan: &Plan,
 ) -> Result<Gathered, Trouble>
-    ensures gathers { LooksUp (state S.Store conn.old) (state S.Store conn.new) result (λ t gathered. AreKept t → AreInOrder t → Fits (state_of t) (rows_of t) plan.now → CarriesOut t plan.now.request.command gathered) }
+    ensures gathers { LooksUp (state S.Store conn.old) (state S.Store conn.new) result (λ t gathered. IsRowOf own t → AreKept t → AreInOrder t → Fits (state_of t) (rows_of t) plan.now → CarriesOut t plan.now.request.command gathered) }
     ensures outside { conn.old.in_transaction ≡ false → conn.new.in_transaction ≡ false }
     ensures fits { IfOk result (λ gathered. All ChangeFits gathered.changes.items) }
 {
@@ -117,7 +120,7 @@ fn command_changes<S: Alter>(
         | Command::Declare(_)
         | Command::Cancel(_)
         | Command::Withdraw(_)
-        | Command::Export(_) => by_own_row(alloc, conn, plan),
+        | Command::Export(_) => by_own_row(alloc, conn, own, plan),
         _ => plain(alloc, plan),
     }
 }
@@ -144,17 +147,19 @@ fn joined(
     Ok(changes)
 }
 
-/// The changes of the tables that carry out a plan, of which nothing is done yet.
+/// The changes of the tables that carry out a plan, of which nothing is done yet. `own` is the
+/// registry's row, where it is kept.
 pub fn plan_changes<S: Alter>(
     alloc: Global,
     conn: &mut Connection<S>,
+    own: Option<MetaRow>,
     plan: &Plan,
 ) -> Result<Vec<Change>, Trouble>
-    ensures gathers { LooksUp (state S.Store conn.old) (state S.Store conn.new) result (λ t changes. AreKept t → AreInOrder t → Fits (state_of t) (rows_of t) plan.now → IsPlanned t changes.items plan.now) }
+    ensures gathers { LooksUp (state S.Store conn.old) (state S.Store conn.new) result (λ t changes. IsRowOf own t → AreKept t → AreInOrder t → Fits (state_of t) (rows_of t) plan.now → IsPlanned t changes.items plan.now) }
     ensures outside { conn.old.in_transaction ≡ false → conn.new.in_transaction ≡ false }
     ensures fits { IfOk result (λ changes. All ChangeFits changes.items) }
 {
-    let act = command_changes(alloc, conn, plan)?;
+    let act = command_changes(alloc, conn, own, plan)?;
     let edits = changes_of_edits(alloc, conn, &act.added, &plan.edits)?;
     joined(alloc, act.changes, edits, plan)
 }
