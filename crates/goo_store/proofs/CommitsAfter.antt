@@ -1,5 +1,6 @@
--- A commit after a look-up, which is told as one.
+-- A commit after the look-ups with which it begins, which is told as one.
 use Rattle.std.proofs.Common.{◌≡◌, Bool, true, false, refl, inl, Result, Ok, Err, IsErrAnd, OnOk, OnErr, sym, subst, arith}
+use Rattle.sqlite.specs.State.{State as View}
 use Rattle.goo_types.specs.declared.fault.Fault.{Fault}
 use Rattle.goo_types.specs.declared.fault.Fault.TheVariants.{Store, Memory}
 use Rattle.goo_spec.specs.State.{State}
@@ -8,17 +9,41 @@ use Rattle.goo_rows.specs.Rows.{edited_all}
 use Rattle.goo_shelf.specs.Plan.{Fits, Commits, IsEither}
 use Rattle.goo_shelf.specs.Shelf.{Moment, Looks, IsTold}
 use Rattle.goo_shelf.specs.declared.plan.Plan.{Plan}
-use Rattle.goo_store.specs.Moments.{count}
+use Rattle.goo_store.specs.Holding.{LeavesCommit}
+use Rattle.goo_store.specs.Moments.{count, moment, IsWell}
+use Rattle.goo_store.specs.Preparing.{Prepares}
+use Rattle.goo_store.proofs.Looking.{refused_look}
 
 -- the flag of a shelf that answers is down
 pub not_refused : (f : Bool) → count f ≡ 0 → f ≡ false
 not_refused true is = absurd (omega (arith, is))
 not_refused false is = refl
 
+-- one look-up prepares
+pub prepared : {T : Type 0} (a b : Moment) (r : Result T Fault) (right : T → Type 0) → Looks a b r right → Prepares a b r
+prepared {T = T} a b r right look = record {
+  same = look.same;
+  rows_same = look.rows_same;
+  doubted = look.doubted;
+  lied = look.lied;
+  kept = look.kept;
+  told = look.told;
+  works = works_still r look.works;
+  crash = look.crash;
+}
+  where
+    works_still : (q : Result T Fault) → OnOk q (b.lies ≡ 0 → b.doubts ≡ 0) → OnOk q (b.lies ≡ 0 → a.doubts ≡ 0 → b.doubts ≡ 0)
+    works_still (Ok x) works = λ late none. works late
+    works_still (Err e) works = tt
+
+-- once the flag is up
+pub refused_prepared : {T : Type 0} (old : View) → IsWell old → (a : Bool) → a ≡ true → LeavesCommit old → Prepares {T = T} (moment old a) (moment old a) (Err Store)
+refused_prepared {T = T} old it a has law = prepared {T = T} (moment old a) (moment old a) (Err Store) (λ _. Unit {0}) (refused_look old it a has law (λ _. Unit {0}))
+
 module _ (a b : Moment) (plan : Plan) where
-  -- a look-up that failed: nothing is committed
-  pub not_committed : {T : Type 0} (e : Fault) (right : T → Type 0) → Looks a b (Err e) right → Commits a b (Err e) plan
-  not_committed {T = T} e right look = record {
+  -- look-ups that failed: nothing is committed
+  pub not_committed : {T : Type 0} (e : Fault) → Prepares {T = T} a b (Err e) → Commits a b (Err e) plan
+  not_committed {T = T} e look = record {
     done = λ none. tt;
     rows_done = λ none. tt;
     undone = look.same;
@@ -41,11 +66,11 @@ module _ (a b : Moment) (plan : Plan) where
   as_err (Err f) e is commit = subst (λ x. Commits a b (Err x) plan) (sym is) commit
 
   -- a plan that fits before it fits after it
-  pub fits_still : {T : Type 0} (r : Result T Fault) (right : T → Type 0) → Looks a b r right → (a.doubts ≡ 0 → Fits a.state a.rows plan) → b.doubts ≡ 0 → Fits b.state b.rows plan
-  fits_still r right look fits none =
+  pub fits_still : {T : Type 0} (r : Result T Fault) → Prepares a b r → (a.doubts ≡ 0 → Fits a.state a.rows plan) → b.doubts ≡ 0 → Fits b.state b.rows plan
+  fits_still r look fits none =
       subst (λ rows. Fits b.state rows plan) (sym (look.rows_same none)) (subst (λ (s : State). Fits s a.rows plan) (sym (look.same none)) (fits (look.doubted none)))
 
-  module _ {T : Type 0} (c : Moment) (x : T) (right : T → Type 0) (look : Looks a b (Ok x) right) where
+  module _ {T : Type 0} (c : Moment) (x : T) (look : Prepares a b (Ok x)) where
     done_so : (r : Result (Unit {0}) Fault) (s t : State) → s ≡ t → OnOk r (c.state ≡ accept s plan.request) → OnOk r (c.state ≡ accept t plan.request)
     done_so r s t same = subst (λ (u : State). OnOk r (c.state ≡ accept u plan.request)) same
 
@@ -60,5 +85,5 @@ module _ (a b : Moment) (plan : Plan) where
       kept = omega (arith, look.kept, commit.kept);
       told = commit.told;
       works = commit.works;
-      crash = λ late none. let mid = look.works (commit.lied late) in subst (λ (s : State). IsEither c s (accept s plan.request)) (look.same mid) (commit.crash late mid);
+      crash = λ late none. let mid = look.works (commit.lied late) none in subst (λ (s : State). IsEither c s (accept s plan.request)) (look.same mid) (commit.crash late mid);
     }

@@ -1,5 +1,5 @@
 -- Calls that gather what the tables show, one after another, and what a shelf tells of them.
-use Rattle.std.proofs.Common.{◌≡◌, ◌≤◌, inl, inr, Bool, false, IsTrue, sym, ap, subst, ◌∙◌, arith, true≢false, Ok, Err, Result, IfOk, OnOk, IsErr}
+use Rattle.std.proofs.Common.{◌≡◌, ◌≤◌, inl, inr, Bool, false, IsTrue, sym, ap, subst, ◌∙◌, arith, true≢false, Option, Ok, Err, Result, IfOk, OnOk, IsErr}
 use Rattle.sqlite.specs.State.{State, HasCleanDisk, Survives}
 use Rattle.sqlite.specs.Tree.{Trees}
 use Rattle.sqlite.specs.Effect.{Database}
@@ -7,6 +7,7 @@ use Rattle.sqlite.specs.declared.error.Error.{Error}
 use Rattle.goo_types.specs.declared.fault.Fault.{Fault}
 use Rattle.goo_shelf.specs.Shelf as shelf
 use Rattle.goo_columns.specs.Rows.{Tables, tables_of}
+use Rattle.goo_columns.specs.declared.meta.MetaRow.{MetaRow}
 use Rattle.goo_columns.specs.Stands.{Stands, Rests, Looks, doubts}
 use Rattle.goo_kept.specs.Kept.{AreKept}
 use Rattle.goo_kept.specs.Places.{rows_of}
@@ -14,6 +15,8 @@ use Rattle.goo_kept.specs.States.{state_of}
 use Rattle.goo_store.specs.Carried.{AreInOrder}
 use Rattle.goo_store.specs.LookingUp.{LooksUp, IsOurs}
 use Rattle.goo_store.specs.Moments.{tables_in, count, moment, IsWell}
+use Rattle.goo_store.specs.OwnRow.{IsRowOf, Knows}
+use Rattle.goo_store.specs.Preparing.{Prepares}
 use Rattle.goo_store.specs.Telling.{Passes, Tells}
 use Rattle.goo_store.specs.declared.trouble.Trouble.{Trouble}
 use Rattle.goo_store.specs.declared.trouble.Trouble.TheVariants.{Memory, Refused}
@@ -126,14 +129,6 @@ module _ {T U : Type 0} (a b c : State) (x : T) (r : Result U Trouble) (First : 
     crash = λ clean live it db left. let mid = one.works (early clean) live in one.crash (early clean) live it db (two.crash clean mid (again clean it mid) db left);
   }
 
-  -- where the first call shows that the connection is open, it is so after both
-  pub works_then : (HasCleanDisk b → IsTrue b.is_open) → OnOk r (HasCleanDisk c → IsTrue c.is_open)
-  works_then first = go r two.works
-    where
-      go : (q : Result U Trouble) → OnOk q (HasCleanDisk c → IsTrue b.is_open → IsTrue c.is_open) → OnOk q (HasCleanDisk c → IsTrue c.is_open)
-      go (Ok y) works = λ clean. works clean (first (early clean))
-      go (Err e) works = tt
-
 -- ---- what a shelf tells of it
 
 -- tables that stand are in the order of their keys
@@ -177,6 +172,10 @@ module _ {T : Type 0} (old new : State) (it : IsWell old) (r : Result T Trouble)
     settled = λ none. now_same none ∙ it.settled (before none) ∙ sym ((rests none).committed (sure new none).1);
   }
 
+  -- the row that is kept stays right
+  pub known : (own : Option MetaRow) → Knows old own → Knows new own
+  known own knows none = subst (IsRowOf own) (sym (tables_same none)) (knows (before none))
+
   crash : LeavesCommit old → HasCleanDisk new → doubts old ≡ 0 → (b : Bool) → shelf.IsSafe (moment new b) (state_of (tables_in old))
   crash law late none b o left = left_by old it law none left.0 (gathers.crash late (sure old none).1 (ours none) left.0 left.1) o left.2
 
@@ -198,8 +197,8 @@ module _ {T : Type 0} (old new : State) (it : IsWell old) (r : Result T Trouble)
   works_so W (Err Memory) a b result told works = subst (λ (z : Result T Fault). OnOk z W) (sym told.0) tt
   works_so W (Err Refused) a b result told works = subst (λ (z : Result T Fault). OnOk z W) (sym told.0) tt
 
-  sure_so : (q : Result T Trouble) → OnOk q (HasCleanDisk new → IsTrue new.is_open) → OnOk q (HasCleanDisk new → doubts new ≡ 0)
-  sure_so (Ok x) works = λ late. is_sure new late (works late)
+  sure_so : (q : Result T Trouble) → OnOk q (HasCleanDisk new → IsTrue old.is_open → IsTrue new.is_open) → OnOk q (HasCleanDisk new → doubts old ≡ 0 → doubts new ≡ 0)
+  sure_so (Ok x) works = λ late none. is_sure new late (works late (sure old none).1)
   sure_so (Err e) works = tt
 
   -- what is found is told under the tables that are there after it
@@ -212,19 +211,14 @@ module _ {T : Type 0} (old new : State) (it : IsWell old) (r : Result T Trouble)
       go (Err e) is = tt
 
   -- the state stays, and a fault is told
-  pub gathered : (a b : Bool) (result : Result T Fault) → LeavesCommit old → a ≡ false → OnOk r (HasCleanDisk new → IsTrue new.is_open) → Tells r result a b → shelf.Looks (moment old a) (moment new b) result (λ _. Unit {0})
-  gathered a b result law not_yet works told = record {
-    found = λ none. any result;
+  pub gathered : (a b : Bool) (result : Result T Fault) → LeavesCommit old → a ≡ false → Tells r result a b → Prepares (moment old a) (moment new b) result
+  gathered a b result law not_yet told = record {
     same = λ none. ap state_of (tables_same none);
     rows_same = λ none. ap rows_of (tables_same none);
     doubted = before;
     lied = λ late. omega (arith, late, gathers.clean);
     kept = still a b not_yet;
     told = told_so r a b result not_yet told;
-    works = works_so _ r a b result told (sure_so r works);
+    works = works_so _ r a b result told (sure_so r gathers.works);
     crash = λ late none. crash law late none b;
   }
-    where
-      any : (q : Result T Fault) → IfOk q (λ _. Unit {0})
-      any (Ok x) = tt
-      any (Err e) = tt

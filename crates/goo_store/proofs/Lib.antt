@@ -28,3 +28,4 @@ pub mod DeclareCarried
 pub mod Judging
 pub mod Unread
 pub mod DevicesApart
+pub mod OwnRows

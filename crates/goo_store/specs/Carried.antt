@@ -50,12 +50,20 @@ counters_in m = record {
   next_notice = m.next_notice;
 }
 
--- the command adds no lot, the number that it gives isn't used up, and the notice that it sends is there
-abbrev pub CanAct : MetaRow → Command → Option NoticeContents → Type 0
-CanAct m (OpenAccount x) notice = IsTrue (is_act m.next_account)
-CanAct m (Cancel x) notice = IsTrue (is_act m.next_cancellation)
-CanAct m (Withdraw x) notice = IsTrue (is_act m.next_withdrawal)
-CanAct m (Export x) notice = IsTrue (is_act m.next_notice) × IsSome notice
-CanAct m (Declare x) notice = ⊥
-CanAct m (Import x) notice = ⊥
-CanAct m _ notice = Unit {0}
+-- the command takes a number that isn't used up, and the notice that it sends is there
+abbrev pub CanTakeNumber : MetaRow → Command → Option NoticeContents → Type 0
+CanTakeNumber m (OpenAccount x) notice = IsTrue (is_act m.next_account)
+CanTakeNumber m (Cancel x) notice = IsTrue (is_act m.next_cancellation)
+CanTakeNumber m (Withdraw x) notice = IsTrue (is_act m.next_withdrawal)
+CanTakeNumber m (Export x) notice = IsTrue (is_act m.next_notice) × IsSome notice
+CanTakeNumber m _ notice = ⊥
+
+-- the command needs nothing of the registry's row, and puts no lot in
+abbrev pub IsPlain : Command → Type 0
+IsPlain (OpenAccount x) = ⊥
+IsPlain (Cancel x) = ⊥
+IsPlain (Withdraw x) = ⊥
+IsPlain (Export x) = ⊥
+IsPlain (Declare x) = ⊥
+IsPlain (Import x) = ⊥
+IsPlain _ = Unit {0}

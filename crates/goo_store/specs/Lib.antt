@@ -1,4 +1,5 @@
 pub mod Moments
+pub mod OwnRow
 pub mod Holding
 pub mod Telling
 pub mod Reading
@@ -8,6 +9,7 @@ pub mod Near
 pub mod Changes
 pub mod Creating
 pub mod Planned
+pub mod Preparing
 pub mod EditChanges
 pub mod Acted
 pub mod NewLots

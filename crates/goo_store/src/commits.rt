@@ -1,12 +1,12 @@
 //! Carrying out plans: what a plan changes is gathered first, and then made in one transaction.
 
-ghost use Rattle.std.specs.Prelude.{◌≡◌, All, IfErr, IfOk};
+ghost use Rattle.std.specs.Prelude.{◌≡◌, None, All, IfErr, IfOk};
 ghost use Rattle.sqlite.specs.Held.{state as view};
 ghost use Rattle.goo_shelf.specs.Plan.{Fits, Commits};
-ghost use Rattle.goo_shelf.specs.Shelf.{Looks};
 ghost use Rattle.goo_store.specs.Changes.{ChangeFits};
 ghost use Rattle.goo_store.specs.Moments.{moment, tables_in};
 ghost use Rattle.goo_store.specs.Planned.{IsPlanned};
+ghost use Rattle.goo_store.specs.Preparing.{Prepares};
 ghost use Rattle.goo_store.specs.Telling.{IsTroubleOf, PassesOn};
 
 use crate::change::Change;
@@ -31,16 +31,18 @@ fn ending(made: Result<(), Error>) -> Result<(), Trouble>
 }
 
 impl<S: Alter> SqlShelf<S> {
-    /// The changes that carry out a plan. Nothing is changed yet.
+    /// The changes that carry out a plan. Nothing is changed yet, and no row is kept any more.
     fn changes_for(&mut self, alloc: Global, plan: &Plan) -> Result<Vec<Change>, Fault>
-        ensures looks { Looks (moment (view S.Store self.old.conn) self.old.refused) (moment (view S.Store self.new.conn) self.new.refused) result (λ _. Unit {0}) }
+        ensures prepares { Prepares (moment (view S.Store self.old.conn) self.old.refused) (moment (view S.Store self.new.conn) self.new.refused) result }
         ensures planned { (moment (view S.Store self.new.conn) self.new.refused).doubts ≡ 0 → IfOk result (λ changes. Fits (moment (view S.Store self.new.conn) self.new.refused).state (moment (view S.Store self.new.conn) self.new.refused).rows plan.now → IsPlanned (tables_in (view S.Store self.new.conn)) changes.items plan.now) }
         ensures fits { IfOk result (λ changes. All ChangeFits changes.items) }
+        ensures taken { IfOk result (λ _. self.new.own ≡ None) }
     {
         if self.refused {
             return Err(Fault::Store);
         }
-        let changes = plan_changes(alloc, &mut self.conn, plan);
+        let own = self.own.take();
+        let changes = plan_changes(alloc, &mut self.conn, own, plan);
         told(changes, &mut self.refused)
     }
 

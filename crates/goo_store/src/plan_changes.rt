@@ -1,8 +1,7 @@
 //! The changes that carry out a plan: those of its command, then those of its edits, and the receipt.
 
-ghost use Rattle.std.specs.Prelude.{◌≡◌, ◌++◌, [], ◌∷◌, false, All, IfOk, OnOk, IsTrue};
+ghost use Rattle.std.specs.Prelude.{◌≡◌, ◌++◌, [], ◌∷◌, false, All, IfOk};
 ghost use Rattle.sqlite.specs.Held.{state};
-ghost use Rattle.sqlite.specs.State.{HasCleanDisk};
 ghost use Rattle.goo_types.specs.declared.request.Request.{Request};
 ghost use Rattle.goo_store.specs.declared.gathered_lots.Gathered.{Gathered as Given};
 ghost use Rattle.goo_shelf.specs.Plan.{Fits};
@@ -15,16 +14,17 @@ ghost use Rattle.goo_store.specs.Carrying.{CarriesOut, IsAccepted};
 ghost use Rattle.goo_store.specs.Changes.{made_all, ChangeFits};
 ghost use Rattle.goo_store.specs.EditChanges.{AreForEdits};
 ghost use Rattle.goo_store.specs.LookingUp.{LooksUp};
+ghost use Rattle.goo_store.specs.OwnRow.{IsRowOf};
 ghost use Rattle.goo_store.specs.Planned.{IsPlanned};
 
 use crate::change::Change;
-use crate::command_changes::act_changes;
+use crate::command_changes::{numbered_changes, plain_changes};
 use crate::edit_changes::changes_of_edits;
 use crate::gathered_lots::Gathered;
 use crate::importing::import_changes;
 use crate::new_declarations::declare_changes;
 use crate::new_receipts::receipt_row;
-use crate::registry_row::own_row;
+use crate::registry_row::known_row;
 use crate::trouble::Trouble;
 use goo_columns::meta::MetaRow;
 use goo_shelf::plan::Plan;
@@ -33,18 +33,35 @@ use goo_types::reply::Reply;
 use sqlite::{Alter, Connection};
 use std::alloc::Global;
 
-/// The changes of an accepted command that puts no lot in.
-fn act(alloc: Global, meta: &MetaRow, plan: &Plan) -> Result<Gathered, Trouble>
-    ensures does { IfOk result (λ gathered. (t : Tables) → t.meta ≡ meta_in meta.now → AreKept t → AreInOrder t → Fits (state_of t) (rows_of t) plan.now → CarriesOut t plan.now.request.command gathered) }
-    ensures fits { IfOk result (λ gathered. All ChangeFits gathered.changes.items) }
+/// Changes that put no lot in.
+fn without_lots(alloc: Global, changes: Vec<Change>) -> Gathered
+    ensures changes { result.changes ≡ changes }
+    ensures added { result.added.items ≡ [] }
 {
-    let changes = act_changes(alloc, meta, plan)?;
     let added = Vec::new(alloc);
-    Ok(Gathered {
+    Gathered {
         changes,
         added,
         next: 0,
-    })
+    }
+}
+
+/// The changes of an accepted command that needs nothing of the registry's row.
+fn plain(alloc: Global, plan: &Plan) -> Result<Gathered, Trouble>
+    ensures does { IfOk result (λ gathered. (t : Tables) → AreKept t → AreInOrder t → Fits (state_of t) (rows_of t) plan.now → CarriesOut t plan.now.request.command gathered) }
+    ensures fits { IfOk result (λ gathered. All ChangeFits gathered.changes.items) }
+{
+    let changes = plain_changes(alloc, plan)?;
+    Ok(without_lots(alloc, changes))
+}
+
+/// The changes of an accepted command that takes the next number of a kind and puts no lot in.
+fn numbered(alloc: Global, meta: &MetaRow, plan: &Plan) -> Result<Gathered, Trouble>
+    ensures does { IfOk result (λ gathered. (t : Tables) → t.meta ≡ meta_in meta.now → AreKept t → AreInOrder t → Fits (state_of t) (rows_of t) plan.now → CarriesOut t plan.now.request.command gathered) }
+    ensures fits { IfOk result (λ gathered. All ChangeFits gathered.changes.items) }
+{
+    let changes = numbered_changes(alloc, meta, plan)?;
+    Ok(without_lots(alloc, changes))
 }
 
 /// The changes of an accepted declaration, by the reply that it gets.
@@ -67,22 +84,44 @@ fn declaration<S: Alter>(
     }
 }
 
-/// What the plan's command changes beside the certificates.
-fn command_changes<S: Alter>(
+/// The changes of an accepted command that needs the registry's row.
+fn by_own_row<S: Alter>(
     alloc: Global,
     conn: &mut Connection<S>,
+    own: Option<MetaRow>,
     plan: &Plan,
 ) -> Result<Gathered, Trouble>
-    ensures gathers { LooksUp (state S.Store conn.old) (state S.Store conn.new) result (λ t gathered. AreKept t → AreInOrder t → Fits (state_of t) (rows_of t) plan.now → CarriesOut t plan.now.request.command gathered) }
-    ensures works { OnOk result (HasCleanDisk (state S.Store conn.new) → IsTrue (state S.Store conn.new).is_open) }
+    ensures gathers { LooksUp (state S.Store conn.old) (state S.Store conn.new) result (λ t gathered. IsRowOf own t → AreKept t → AreInOrder t → Fits (state_of t) (rows_of t) plan.now → CarriesOut t plan.now.request.command gathered) }
     ensures outside { conn.old.in_transaction ≡ false → conn.new.in_transaction ≡ false }
     ensures fits { IfOk result (λ gathered. All ChangeFits gathered.changes.items) }
 {
-    let meta = own_row(alloc, conn)?;
+    let meta = known_row(alloc, conn, own)?;
     match &plan.request.command {
         Command::Declare(command) => declaration(alloc, conn, &meta, command, plan.reply),
+        _ => numbered(alloc, &meta, plan),
+    }
+}
+
+/// What the plan's command changes beside the certificates. The registry's row is looked up for
+/// those commands alone that need it, where it isn't kept.
+fn command_changes<S: Alter>(
+    alloc: Global,
+    conn: &mut Connection<S>,
+    own: Option<MetaRow>,
+    plan: &Plan,
+) -> Result<Gathered, Trouble>
+    ensures gathers { LooksUp (state S.Store conn.old) (state S.Store conn.new) result (λ t gathered. IsRowOf own t → AreKept t → AreInOrder t → Fits (state_of t) (rows_of t) plan.now → CarriesOut t plan.now.request.command gathered) }
+    ensures outside { conn.old.in_transaction ≡ false → conn.new.in_transaction ≡ false }
+    ensures fits { IfOk result (λ gathered. All ChangeFits gathered.changes.items) }
+{
+    match &plan.request.command {
         Command::Import(command) => import_changes(alloc, conn, command),
-        _ => act(alloc, &meta, plan),
+        Command::OpenAccount(_)
+        | Command::Declare(_)
+        | Command::Cancel(_)
+        | Command::Withdraw(_)
+        | Command::Export(_) => by_own_row(alloc, conn, own, plan),
+        _ => plain(alloc, plan),
     }
 }
 
@@ -108,18 +147,19 @@ fn joined(
     Ok(changes)
 }
 
-/// The changes of the tables that carry out a plan, of which nothing is done yet.
+/// The changes of the tables that carry out a plan, of which nothing is done yet. `own` is the
+/// registry's row, where it is kept.
 pub fn plan_changes<S: Alter>(
     alloc: Global,
     conn: &mut Connection<S>,
+    own: Option<MetaRow>,
     plan: &Plan,
 ) -> Result<Vec<Change>, Trouble>
-    ensures gathers { LooksUp (state S.Store conn.old) (state S.Store conn.new) result (λ t changes. AreKept t → AreInOrder t → Fits (state_of t) (rows_of t) plan.now → IsPlanned t changes.items plan.now) }
-    ensures works { OnOk result (HasCleanDisk (state S.Store conn.new) → IsTrue (state S.Store conn.new).is_open) }
+    ensures gathers { LooksUp (state S.Store conn.old) (state S.Store conn.new) result (λ t changes. IsRowOf own t → AreKept t → AreInOrder t → Fits (state_of t) (rows_of t) plan.now → IsPlanned t changes.items plan.now) }
     ensures outside { conn.old.in_transaction ≡ false → conn.new.in_transaction ≡ false }
     ensures fits { IfOk result (λ changes. All ChangeFits changes.items) }
 {
-    let act = command_changes(alloc, conn, plan)?;
+    let act = command_changes(alloc, conn, own, plan)?;
     let edits = changes_of_edits(alloc, conn, &act.added, &plan.edits)?;
     joined(alloc, act.changes, edits, plan)
 }

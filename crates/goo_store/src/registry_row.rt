@@ -9,6 +9,7 @@ ghost use Rattle.goo_shelf.specs.Meta.{meta_of};
 ghost use Rattle.goo_shelf.specs.Shelf.{Looks};
 ghost use Rattle.goo_store.specs.LookingUp.{LooksUp};
 ghost use Rattle.goo_store.specs.Moments.{moment};
+ghost use Rattle.goo_store.specs.OwnRow.{IsRowOf, KeepsFound};
 ghost use Rattle.goo_store.specs.Telling.{Accepts, Passes};
 ghost use Rattle.goo_kept.specs.Readable.{is_meta};
 ghost use Rattle.goo_kept.specs.States.{state_of};
@@ -43,6 +44,21 @@ pub fn own_row<S: Alter>(alloc: Global, conn: &mut Connection<S>) -> Result<Meta
     row(find_meta(alloc, conn))
 }
 
+/// The registry's row: the one that is kept, where one is.
+pub fn known_row<S: Alter>(
+    alloc: Global,
+    conn: &mut Connection<S>,
+    own: Option<MetaRow>,
+) -> Result<MetaRow, Trouble>
+    ensures gathers { LooksUp (view S.Store conn.old) (view S.Store conn.new) result (λ t row. IsRowOf own t → t.meta ≡ meta_in row) }
+    ensures outside { conn.old.in_transaction ≡ false → conn.new.in_transaction ≡ false }
+{
+    match own {
+        Some(row) => Ok(row),
+        None => own_row(alloc, conn),
+    }
+}
+
 /// The next number of each kind.
 #[tactic(auto, unfolding(goo_kept::specs::States::state_of))]
 fn counters_in_row(row: &MetaRow) -> Result<Counters, Trouble>
@@ -75,13 +91,19 @@ fn meta_in_row(row: &MetaRow) -> Result<Meta, Trouble>
     })
 }
 
-/// What the registry knows of itself, where its row was found.
-fn read_meta(found: Result<Option<MetaRow>, Error>) -> Result<Meta, Trouble>
+/// What the registry knows of itself, where its row was found. The row is kept.
+fn read_meta(
+    found: Result<Option<MetaRow>, Error>,
+    own: &mut Option<MetaRow>,
+) -> Result<Meta, Trouble>
     ensures value { Passes found result (λ row meta. (t : Tables) → option_map meta_in row ≡ Some t.meta → meta ≡ meta_of (state_of t)) }
     ensures accepts { Accepts found result (λ row. IsSomeAnd row (λ m. IsTrue (is_meta (meta_in m)))) }
+    ensures kept { KeepsFound found own.old own.new }
 {
     let row = row(found)?;
-    meta_in_row(&row)
+    let meta = meta_in_row(&row)?;
+    *own = Some(row);
+    Ok(meta)
 }
 
 impl<S: Alter> SqlShelf<S> {
@@ -93,7 +115,7 @@ impl<S: Alter> SqlShelf<S> {
             return Err(Fault::Store);
         }
         let found = find_meta(self.alloc, &mut self.conn);
-        told(read_meta(found), &mut self.refused)
+        told(read_meta(found, &mut self.own), &mut self.refused)
     }
 
     /// The registry's own code.

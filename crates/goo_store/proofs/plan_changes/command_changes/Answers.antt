@@ -1,19 +1,14 @@
 use Rattle.sqlite.specs.Held.{state}
 use Rattle.goo_columns.proofs.Results.{if_ok}
-use Rattle.goo_store.proofs.Gathered.{gathers_then, gathers_made}
+use Rattle.goo_store.proofs.LookUps.{looks_none, looks_so}
 use Rattle.goo_store.proofs.plan_changes.command_changes.Goals as goal
-
-pub returns-in-Declare-clause-gathers : goal.returns-in-Declare-clause-gathers
-returns-in-Declare-clause-gathers g c =
-    gathers_then (state g.S.Store c.args.conn.now) (state g.S.Store c.own_row.new.conn) (state g.S.Store c.declaration.new.conn) c.in_ok-meta.meta c.declaration.result _ _ c.in_ok-meta.ensures.gathers c.declaration.ensures.looks _
-    (λ t gathered same says kept order fits. says c.args.plan.now.request c.in-Declare.is same (record { kept = kept; accepted = fits.accepted }))
 
 pub returns-in-Import-clause-gathers : goal.returns-in-Import-clause-gathers
 returns-in-Import-clause-gathers g c =
-    gathers_then (state g.S.Store c.args.conn.now) (state g.S.Store c.own_row.new.conn) (state g.S.Store c.import_changes.new.conn) c.in_ok-meta.meta c.import_changes.result _ _ c.in_ok-meta.ensures.gathers c.import_changes.ensures.looks _
-    (λ t gathered same says kept order fits. says c.args.plan.now.request c.args.plan.now.reply c.in-Import.is (record { kept = kept; accepted = fits.accepted }))
+    looks_so (state g.S.Store c.args.conn.now) (state g.S.Store c.import_changes.new.conn) c.import_changes.result _ _ c.import_changes.ensures.looks
+    (λ t it gathered says known kept order fits. says c.args.plan.now.request c.args.plan.now.reply c.in-Import.is (record { kept = kept; accepted = fits.accepted }))
 
-pub returns-clause-gathers : goal.returns-clause-gathers
-returns-clause-gathers g c =
-    gathers_made (state g.S.Store c.args.conn.now) (state g.S.Store c.own_row.new.conn) c.in_ok-meta.meta c.act.result _ _ c.in_ok-meta.ensures.gathers
-    (λ t same. if_ok c.act.result c.act.ensures.does (λ gathered does kept order fits. does t same kept order fits))
+pub returns-in_default-clause-gathers : goal.returns-in_default-clause-gathers
+returns-in_default-clause-gathers g c =
+    looks_none (state g.S.Store c.args.conn.now) c.plain.result _
+    (λ t it. if_ok c.plain.result c.plain.ensures.does (λ gathered does known kept order fits. does t kept order fits))

@@ -11,6 +11,7 @@ use Rattle.goo_store.specs.Carrying.{CarriesOut}
 use Rattle.goo_store.specs.Changes.{made_all}
 use Rattle.goo_store.specs.EditChanges.{AreForEdits}
 use Rattle.goo_store.specs.LotNumbers.{AreWith}
+use Rattle.goo_store.specs.OwnRow.{IsRowOf}
 use Rattle.goo_store.proofs.Gathered.{gathers_then, gathers_made}
 use Rattle.goo_store.proofs.plan_changes.plan_changes.Goals as goal
 
@@ -23,11 +24,11 @@ returns-clause-gathers g c =
     let act = c.in_ok-act.act in
     let added = c.deref.result.now in
     let edits = c.deref-2.result.now in
-    let Carries : Tables → Type 0 = λ t. AreKept t → AreInOrder t → Fits (state_of t) (rows_of t) plan → CarriesOut t plan.request.command act in
+    let Carries : Tables → Type 0 = λ t. IsRowOf c.args.own t → AreKept t → AreInOrder t → Fits (state_of t) (rows_of t) plan → CarriesOut t plan.request.command act in
     gathers_made start end c.in_ok-edits.edits c.joined.result _ _
     (gathers_then start mid end act _ _ _ c.in_ok-act.ensures.gathers c.in_ok-edits.ensures.looks (λ t pieces. Carries t × ((lots : List Lot) → AreWith t.lots added lots → AreForEdits lots edits pieces.items)) (λ t pieces carry are. (carry, are)))
-    (λ t both. if_ok c.joined.result c.joined.ensures.planned (λ changes is kept order fits.
-    let carries = both.0 kept order fits in
+    (λ t both. if_ok c.joined.result c.joined.ensures.planned (λ changes is known kept order fits.
+    let carries = both.0 known kept order fits in
     let lots = (made_all t act.changes.items).lots in
     is t kept order fits act refl carries
     (subst (λ es. AreForEdits lots es c.in_ok-edits.edits.items) c.deref-2.ensures.value (both.1 lots (subst (λ xs. AreWith t.lots xs lots) (sym c.deref.ensures.value) carries.lots)))))

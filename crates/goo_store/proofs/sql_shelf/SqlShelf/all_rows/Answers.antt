@@ -2,7 +2,7 @@ use Rattle.std.proofs.Common.{◌∙◌, ap, map}
 use Rattle.sqlite.specs.Held.{state as view}
 use Rattle.goo_store.specs.Moments.{tables_in}
 use Rattle.goo_kept.specs.Places.{rows_of, piece_of}
-use Rattle.goo_store.proofs.Looking.{looked, refused_look, well}
+use Rattle.goo_store.proofs.Looking.{looked, refused_look, well, known}
 use Rattle.goo_store.proofs.WholeLemmas.{all_within}
 use Rattle.goo_store.proofs.sql_shelf.SqlShelf.all_rows.Goals as goal
 
@@ -13,6 +13,7 @@ pub invariant_of-self : goal.invariant_of-self
 invariant_of-self g c = record {
   outside = c.pieces_beginning-found.ensures.outside c.args.self.now.outside;
   well = well (view g.S.Store c.args.self.now.conn) (view g.S.Store c.pieces_beginning-found.new.conn) c.args.self.now.well _ _ c.pieces_beginning-found.ensures.looks;
+  known = known (view g.S.Store c.args.self.now.conn) (view g.S.Store c.pieces_beginning-found.new.conn) c.args.self.now.well _ _ c.pieces_beginning-found.ensures.looks c.args.self.now.own c.args.self.now.known;
 }
 
 pub returns-clause-looks : goal.returns-clause-looks

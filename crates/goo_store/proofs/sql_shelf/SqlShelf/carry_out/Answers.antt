@@ -2,6 +2,7 @@ use Rattle.std.proofs.Common.{◌≡◌, rules, sym, subst}
 use Rattle.sqlite.specs.Held.{state as view}
 use Rattle.goo_columns.specs.Stands.{doubts}
 use Rattle.goo_store.specs.Moments.{moment, tables_in}
+use Rattle.goo_store.specs.OwnRow.{Knows}
 use Rattle.goo_store.specs.Planned.{IsPlanned}
 use Rattle.goo_store.proofs.CommitLemmas.{well_after, committed}
 use Rattle.goo_store.proofs.CommitsAfter.{not_refused, not_committed, as_err, fits_still, commits_after}
@@ -11,7 +12,7 @@ pub returns-in_err-changes : goal.returns-in_err-changes
 returns-in_err-changes g c =
     let old = moment (view g.S.Store c.args.self.now.conn) c.args.self.now.refused in
     let new = moment (view g.S.Store c.changes_for.new.self.conn) c.changes_for.new.self.refused in
-    as_err old new c.args.plan.now c.from_residual.result c.in_err-changes.field-0.0 (search rules) (not_committed old new c.args.plan.now c.in_err-changes.field-0.0 _ c.in_err-changes.ensures.looks)
+    as_err old new c.args.plan.now c.from_residual.result c.in_err-changes.field-0.0 (search rules) (not_committed old new c.args.plan.now c.in_err-changes.field-0.0 c.in_err-changes.ensures.prepares)
 
 pub invariant_of-self : goal.invariant_of-self
 invariant_of-self g c =
@@ -21,9 +22,10 @@ invariant_of-self g c =
     let plan = c.args.plan.now in
     let it = c.commit_changes-made.ensures in
     let planned : doubts mid ≡ 0 → IsPlanned (tables_in mid) c.deref.result.now plan =
-    λ none. subst (λ xs. IsPlanned (tables_in mid) xs plan) (sym c.deref.ensures.value) (c.in_ok-changes.ensures.planned none (fits_still old (moment mid shelf.refused) plan _ _ c.in_ok-changes.ensures.looks c.requires none)) in record {
+    λ none. subst (λ xs. IsPlanned (tables_in mid) xs plan) (sym c.deref.ensures.value) (c.in_ok-changes.ensures.planned none (fits_still old (moment mid shelf.refused) plan _ c.in_ok-changes.ensures.prepares c.requires none)) in record {
       outside = it.outside;
       well = well_after mid (view g.S.Store c.commit_changes-made.new.conn) shelf.well c.deref.result.now plan planned c.commit_changes-made.result it.clean it.was_open it.works it.done it.kept it.crash;
+      known = subst (Knows (view g.S.Store c.commit_changes-made.new.conn)) (sym c.in_ok-changes.ensures.taken) (λ none. tt);
     }
 
 pub returns : goal.returns
@@ -34,9 +36,9 @@ returns g c =
     let new = view g.S.Store c.commit_changes-made.new.conn in
     let plan = c.args.plan.now in
     let it = c.commit_changes-made.ensures in
-    let looks = c.in_ok-changes.ensures.looks in
+    let looks = c.in_ok-changes.ensures.prepares in
     let planned : doubts mid ≡ 0 → IsPlanned (tables_in mid) c.deref.result.now plan =
-    λ none. subst (λ xs. IsPlanned (tables_in mid) xs plan) (sym c.deref.ensures.value) (c.in_ok-changes.ensures.planned none (fits_still old (moment mid shelf.refused) plan _ _ looks c.requires none)) in
-    commits_after old (moment mid shelf.refused) plan (moment new c.told.new.refused) c.in_ok-changes.changes _ looks c.told.result
+    λ none. subst (λ xs. IsPlanned (tables_in mid) xs plan) (sym c.deref.ensures.value) (c.in_ok-changes.ensures.planned none (fits_still old (moment mid shelf.refused) plan _ looks c.requires none)) in
+    commits_after old (moment mid shelf.refused) plan (moment new c.told.new.refused) c.in_ok-changes.changes looks c.told.result
     (committed mid new shelf.well c.deref.result.now plan planned c.commit_changes-made.result it.clean it.was_open it.works it.done it.kept it.crash c.ending.result shelf.refused c.told.new.refused c.told.result
     (λ live db may. g.met.S.Store.settled shelf.conn.store db live may) (not_refused shelf.refused looks.told) c.ending.ensures.passes c.told.ensures)

@@ -1,21 +1,24 @@
+use Rattle.std.proofs.Common.{sym, subst}
 use Rattle.sqlite.specs.Held.{state as view}
-use Rattle.goo_store.proofs.Gathered.{well, gathered, found_after, in_order}
-use Rattle.goo_store.proofs.Looking.{refused_look}
+use Rattle.goo_store.specs.OwnRow.{Knows}
+use Rattle.goo_store.proofs.CommitsAfter.{refused_prepared}
+use Rattle.goo_store.proofs.Gathered.{well, gathered, found_after, in_order, known}
 use Rattle.goo_store.proofs.sql_shelf.SqlShelf.changes_for.Goals as goal
 
-pub returns-then-self-clause-looks : goal.returns-then-self-clause-looks
-returns-then-self-clause-looks g c = refused_look (view g.S.Store c.args.self.now.conn) c.args.self.now.well c.args.self.now.refused c.if-self.true (λ live db may. g.met.S.Store.settled c.args.self.now.conn.store db live may) _
+pub returns-then-self-clause-prepares : goal.returns-then-self-clause-prepares
+returns-then-self-clause-prepares g c = refused_prepared (view g.S.Store c.args.self.now.conn) c.args.self.now.well c.args.self.now.refused c.if-self.true (λ live db may. g.met.S.Store.settled c.args.self.now.conn.store db live may)
 
 pub invariant_of-self : goal.invariant_of-self
 invariant_of-self g c = record {
   outside = c.plan_changes-changes.ensures.outside c.args.self.now.outside;
   well = well (view g.S.Store c.args.self.now.conn) (view g.S.Store c.plan_changes-changes.new.conn) c.args.self.now.well c.plan_changes-changes.result _ c.plan_changes-changes.ensures.gathers;
+  known = subst (Knows (view g.S.Store c.plan_changes-changes.new.conn)) (sym c.take-own.ensures.after) (λ none. tt);
 }
 
-pub returns-clause-looks : goal.returns-clause-looks
-returns-clause-looks g c =
+pub returns-clause-prepares : goal.returns-clause-prepares
+returns-clause-prepares g c =
     gathered (view g.S.Store c.args.self.now.conn) (view g.S.Store c.plan_changes-changes.new.conn) c.args.self.now.well c.plan_changes-changes.result _ c.plan_changes-changes.ensures.gathers
-    c.args.self.now.refused c.told.new.refused c.told.result (λ live db may. g.met.S.Store.settled c.args.self.now.conn.store db live may) c.if-self.false c.plan_changes-changes.ensures.works c.told.ensures
+    c.args.self.now.refused c.told.new.refused c.told.result (λ live db may. g.met.S.Store.settled c.args.self.now.conn.store db live may) c.if-self.false c.told.ensures
 
 pub returns-clause-planned : goal.returns-clause-planned
 returns-clause-planned g c =
@@ -23,4 +26,4 @@ returns-clause-planned g c =
     let new = view g.S.Store c.plan_changes-changes.new.conn in
     let after = well old new c.args.self.now.well c.plan_changes-changes.result _ c.plan_changes-changes.ensures.gathers in
     found_after old new c.args.self.now.well c.plan_changes-changes.result _ c.plan_changes-changes.ensures.gathers _ c.args.self.now.refused c.told.new.refused c.told.result c.told.ensures
-    (λ none changes is fits. is (after.kept none) (in_order new.now _ (after.stands none)) fits)
+    (λ none changes is fits. is (subst (λ o. Knows new o) (sym c.take-own.ensures.value) (known old new c.args.self.now.well c.plan_changes-changes.result _ c.plan_changes-changes.ensures.gathers c.args.self.now.own c.args.self.now.known) none) (after.kept none) (in_order new.now _ (after.stands none)) fits)

@@ -2,7 +2,7 @@ use Rattle.std.proofs.Common.{◌∙◌, ap, map}
 use Rattle.goo_kept.specs.Devices.{declaration_of}
 use Rattle.sqlite.specs.Held.{state as view}
 use Rattle.goo_kept.specs.States.{state_of}
-use Rattle.goo_store.proofs.Looking.{looked, refused_look, well}
+use Rattle.goo_store.proofs.Looking.{looked, refused_look, well, known}
 use Rattle.goo_store.proofs.sql_shelf.SqlShelf.declarations.Goals as goal
 
 pub returns-then-self : goal.returns-then-self
@@ -12,6 +12,7 @@ pub invariant_of-self : goal.invariant_of-self
 invariant_of-self g c = record {
   outside = c.all_declarations-found.ensures.outside c.args.self.now.outside;
   well = well (view g.S.Store c.args.self.now.conn) (view g.S.Store c.all_declarations-found.new.conn) c.args.self.now.well _ _ c.all_declarations-found.ensures.looks;
+  known = known (view g.S.Store c.args.self.now.conn) (view g.S.Store c.all_declarations-found.new.conn) c.args.self.now.well _ _ c.all_declarations-found.ensures.looks c.args.self.now.own c.args.self.now.known;
 }
 
 pub returns : goal.returns

@@ -6,7 +6,7 @@ use Rattle.goo_kept.proofs.DeviceLemmas.{entries_same}
 use Rattle.goo_store.specs.Moments.{tables_in}
 use Rattle.sqlite.specs.Held.{state as view}
 use Rattle.goo_kept.specs.States.{state_of}
-use Rattle.goo_store.proofs.Looking.{looked, refused_look, well}
+use Rattle.goo_store.proofs.Looking.{looked, refused_look, well, known}
 use Rattle.goo_store.proofs.sql_shelf.SqlShelf.device_numbers.Goals as goal
 
 pub returns-then-self : goal.returns-then-self
@@ -16,6 +16,7 @@ pub invariant_of-self : goal.invariant_of-self
 invariant_of-self g c = record {
   outside = c.all_devices-found.ensures.outside c.args.self.now.outside;
   well = well (view g.S.Store c.args.self.now.conn) (view g.S.Store c.all_devices-found.new.conn) c.args.self.now.well _ _ c.all_devices-found.ensures.looks;
+  known = known (view g.S.Store c.args.self.now.conn) (view g.S.Store c.all_devices-found.new.conn) c.args.self.now.well _ _ c.all_devices-found.ensures.looks c.args.self.now.own c.args.self.now.known;
 }
 
 pub returns : goal.returns

@@ -5,7 +5,7 @@ use Rattle.std.specs.Cmp.{nat_cmp_total}
 use Rattle.goo_kept.specs.States.{account_of}
 use Rattle.goo_kept.proofs.Known.{known_row, number_test}
 use Rattle.goo_kept.specs.States.{state_of}
-use Rattle.goo_store.proofs.Looking.{looked, refused_look, well}
+use Rattle.goo_store.proofs.Looking.{looked, refused_look, well, known}
 use Rattle.goo_store.proofs.sql_shelf.SqlShelf.known_account.Goals as goal
 
 pub returns-then-self : goal.returns-then-self
@@ -15,6 +15,7 @@ pub invariant_of-self : goal.invariant_of-self
 invariant_of-self g c = record {
   outside = c.find_account-found.ensures.outside c.args.self.now.outside;
   well = well (view g.S.Store c.args.self.now.conn) (view g.S.Store c.find_account-found.new.conn) c.args.self.now.well _ _ c.find_account-found.ensures.looks;
+  known = known (view g.S.Store c.args.self.now.conn) (view g.S.Store c.find_account-found.new.conn) c.args.self.now.well _ _ c.find_account-found.ensures.looks c.args.self.now.own c.args.self.now.known;
 }
 
 pub returns : goal.returns

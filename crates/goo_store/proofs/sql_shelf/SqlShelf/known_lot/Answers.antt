@@ -8,7 +8,7 @@ use Rattle.goo_spec.specs.Lots.{key_of, lot_key}
 use Rattle.goo_kept.specs.Places.{lot_of}
 use Rattle.goo_kept.proofs.Known.{known_row, lot_test}
 use Rattle.goo_kept.specs.States.{state_of}
-use Rattle.goo_store.proofs.Looking.{looked, refused_look, well}
+use Rattle.goo_store.proofs.Looking.{looked, refused_look, well, known}
 use Rattle.goo_store.proofs.sql_shelf.SqlShelf.known_lot.Goals as goal
 
 pub returns-then-self : goal.returns-then-self
@@ -18,6 +18,7 @@ pub invariant_of-self : goal.invariant_of-self
 invariant_of-self g c = record {
   outside = c.find_lot-found.ensures.outside c.args.self.now.outside;
   well = well (view g.S.Store c.args.self.now.conn) (view g.S.Store c.find_lot-found.new.conn) c.args.self.now.well _ _ c.find_lot-found.ensures.looks;
+  known = known (view g.S.Store c.args.self.now.conn) (view g.S.Store c.find_lot-found.new.conn) c.args.self.now.well _ _ c.find_lot-found.ensures.looks c.args.self.now.own c.args.self.now.known;
 }
 
 pub returns : goal.returns

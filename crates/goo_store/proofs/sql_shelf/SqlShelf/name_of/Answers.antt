@@ -4,7 +4,7 @@ use Rattle.std.specs.Cmp.Lexicographic.{nat_list_cmp_total}
 use Rattle.goo_kept.specs.States.{state_of}
 use Rattle.sqlite_typed.specs.Tests.{bytes_eq}
 use Rattle.goo_kept.proofs.Known.{known_kept, text_test}
-use Rattle.goo_store.proofs.Looking.{looked, refused_look, well}
+use Rattle.goo_store.proofs.Looking.{looked, refused_look, well, known}
 use Rattle.goo_store.proofs.sql_shelf.SqlShelf.name_of.Goals as goal
 
 pub returns-then-self : goal.returns-then-self
@@ -14,6 +14,7 @@ pub invariant_of-self : goal.invariant_of-self
 invariant_of-self g c = record {
   outside = c.find_holder-found.ensures.outside c.args.self.now.outside;
   well = well (view g.S.Store c.args.self.now.conn) (view g.S.Store c.find_holder-found.new.conn) c.args.self.now.well _ _ c.find_holder-found.ensures.looks;
+  known = known (view g.S.Store c.args.self.now.conn) (view g.S.Store c.find_holder-found.new.conn) c.args.self.now.well _ _ c.find_holder-found.ensures.looks c.args.self.now.own c.args.self.now.known;
 }
 
 pub returns : goal.returns

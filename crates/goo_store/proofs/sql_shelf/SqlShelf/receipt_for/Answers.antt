@@ -7,7 +7,7 @@ use Rattle.goo_columns.specs.Rows.{receipt_in}
 use Rattle.goo_kept.specs.Replies.{receipt_of}
 use Rattle.goo_kept.proofs.Known.{known_kept, receipt_test, receipt_total}
 use Rattle.goo_kept.specs.States.{state_of}
-use Rattle.goo_store.proofs.Looking.{looked, refused_look, well}
+use Rattle.goo_store.proofs.Looking.{looked, refused_look, well, known}
 use Rattle.goo_store.proofs.sql_shelf.SqlShelf.receipt_for.Goals as goal
 
 pub returns-then-self : goal.returns-then-self
@@ -17,6 +17,7 @@ pub invariant_of-self : goal.invariant_of-self
 invariant_of-self g c = record {
   outside = c.find_receipt-found.ensures.outside c.args.self.now.outside;
   well = well (view g.S.Store c.args.self.now.conn) (view g.S.Store c.find_receipt-found.new.conn) c.args.self.now.well _ _ c.find_receipt-found.ensures.looks;
+  known = known (view g.S.Store c.args.self.now.conn) (view g.S.Store c.find_receipt-found.new.conn) c.args.self.now.well _ _ c.find_receipt-found.ensures.looks c.args.self.now.own c.args.self.now.known;
 }
 
 pub returns : goal.returns

@@ -5,7 +5,7 @@ use Rattle.goo_columns.specs.Beside.{pieces_beside}
 use Rattle.goo_store.specs.Moments.{tables_in}
 use Rattle.goo_kept.specs.Places.{rows_of}
 use Rattle.goo_kept.proofs.RowsFound.{filtered}
-use Rattle.goo_store.proofs.Looking.{looked, refused_look, well}
+use Rattle.goo_store.proofs.Looking.{looked, refused_look, well, known}
 use Rattle.goo_store.proofs.sql_shelf.SqlShelf.rows_beginning.Goals as goal
 
 pub returns-then-self : goal.returns-then-self
@@ -15,6 +15,7 @@ pub invariant_of-self : goal.invariant_of-self
 invariant_of-self g c = record {
   outside = c.pieces_beginning-found.ensures.outside c.args.self.now.outside;
   well = well (view g.S.Store c.args.self.now.conn) (view g.S.Store c.pieces_beginning-found.new.conn) c.args.self.now.well _ _ c.pieces_beginning-found.ensures.looks;
+  known = known (view g.S.Store c.args.self.now.conn) (view g.S.Store c.pieces_beginning-found.new.conn) c.args.self.now.well _ _ c.pieces_beginning-found.ensures.looks c.args.self.now.own c.args.self.now.known;
 }
 
 pub returns : goal.returns

@@ -8,7 +8,7 @@ use Rattle.goo_store.specs.Moments.{tables_in}
 use Rattle.goo_kept.specs.Places.{rows_of}
 use Rattle.goo_kept.proofs.Known.{number_is}
 use Rattle.goo_kept.proofs.RowsFound.{filtered, place_account}
-use Rattle.goo_store.proofs.Looking.{looked, refused_look, well}
+use Rattle.goo_store.proofs.Looking.{looked, refused_look, well, known}
 use Rattle.goo_store.proofs.sql_shelf.SqlShelf.rows_naming.Goals as goal
 
 pub returns-then-self-clause-looks : goal.returns-then-self-clause-looks
@@ -18,6 +18,7 @@ pub invariant_of-self : goal.invariant_of-self
 invariant_of-self g c = record {
   outside = c.pieces_of_account-found.ensures.outside c.args.self.now.outside;
   well = well (view g.S.Store c.args.self.now.conn) (view g.S.Store c.pieces_of_account-found.new.conn) c.args.self.now.well _ _ c.pieces_of_account-found.ensures.looks;
+  known = known (view g.S.Store c.args.self.now.conn) (view g.S.Store c.pieces_of_account-found.new.conn) c.args.self.now.well _ _ c.pieces_of_account-found.ensures.looks c.args.self.now.own c.args.self.now.known;
 }
 
 pub returns-clause-looks : goal.returns-clause-looks

@@ -1,0 +1,16 @@
+-- Look-ups with which a commit begins.
+use Rattle.std.specs.Prelude.{◌≡◌, ◌≤◌, Result, OnOk}
+use Rattle.goo_types.specs.declared.fault.Fault.{Fault}
+use Rattle.goo_shelf.specs.Shelf.{Moment, IsTold, IsSafe}
+
+-- As a look-up, but for any number of statements, none among them: a success tells that no doubt has come, and not that there is none.
+-- That the database works is shown by the transaction that is made then.
+pub record Prepares {T : Type 0} (old new : Moment) (result : Result T Fault) : Type 0 where
+  pub same : new.doubts ≡ 0 → new.state ≡ old.state
+  pub rows_same : new.doubts ≡ 0 → new.rows ≡ old.rows
+  pub doubted : new.doubts ≡ 0 → old.doubts ≡ 0
+  pub lied : new.lies ≡ 0 → old.lies ≡ 0
+  pub kept : old.refusals ≤ new.refusals
+  pub told : IsTold result new.refusals
+  pub works : OnOk result (new.lies ≡ 0 → old.doubts ≡ 0 → new.doubts ≡ 0)
+  pub crash : new.lies ≡ 0 → old.doubts ≡ 0 → IsSafe new old.state
