@@ -28,3 +28,5 @@ pub mod DeclareCarried
 pub mod Judging
 pub mod Unread
 pub mod DevicesApart
+pub mod RowsRead
+pub mod Blaming

@@ -21,3 +21,4 @@ pub mod Carrying
 pub mod Standing
 pub mod Declaring
 pub mod Opening
+pub mod StoreFaults
