@@ -4,7 +4,7 @@ use Rattle.std.specs.List.{list_all}
 use Rattle.std.specs.Ordering.{int_eq}
 use Rattle.std.proofs.lemmas.Bool.{leb-true, eqb-true}
 use Rattle.std.proofs.lemmas.Cmp.{int_eq_equiv}
-use Rattle.std.proofs.lemmas.List.Elements.{All-nil, All-cons}
+use Rattle.std.proofs.lemmas.List.Elements.{All-nil, All-cons, All-head, All-tail, All-map}
 use Rattle.sqlite.specs.Order.{Row}
 use Rattle.sqlite.specs.Effect.{Database}
 use Rattle.sqlite.specs.declared.types.Value.TheVariants.{Int, Text}
@@ -258,12 +258,18 @@ each : {X : Type 0} (p : X → Bool) (P : Row → Type 0) (to_row : X → Row) �
 each p P to_row so [] all = All-nil P
 each p P to_row so (x ∷ xs) all = All-cons P (to_row x) (map to_row xs) (so x (first_of_both (p x) (list_all p xs) all)) (each p P to_row so xs (second_of_both (p x) (list_all p xs) all))
 
-each_lot : (ls : List Lot) → IsKeyedBy lot_key ls → ((id : ℤ) (l : Lot) → get_by lot_key ls id ≡ Some l → IsKeptLot l) → list_all is_lot ls ≡ true → All (lot_readable 0) (map lot_columns ls)
-each_lot [] keyed kept all = All-nil (lot_readable 0)
-each_lot (x ∷ xs) keyed kept all =
-    All-cons (lot_readable 0) (lot_columns x) (map lot_columns xs)
-    (lot x (kept (lot_key x) x (ap (λ b. cond b (Some x) (get_by lot_key xs (lot_key x))) (int_eq_equiv.refl (lot_key x)))) (first_of_both (is_lot x) (list_all is_lot xs) all))
-    (each_lot xs keyed.1 (λ id l is. kept id l (go id l (int_eq (lot_key x) id) refl is)) (second_of_both (is_lot x) (list_all is_lot xs) all))
+-- rows of which more is known, beside a test that all pass
+pub each_with : {X : Type 0} (p : X → Bool) (K Q : X → Type 0) → ((x : X) → K x → p x ≡ true → Q x) → (xs : List X) → All K xs → list_all p xs ≡ true → All Q xs
+each_with p K Q so [] known all = All-nil Q
+each_with p K Q so (x ∷ xs) known all =
+    All-cons Q x xs (so x (All-head K x xs known) (first_of_both (p x) (list_all p xs) all)) (each_with p K Q so xs (All-tail K x xs known) (second_of_both (p x) (list_all p xs) all))
+
+-- what is kept of the lot under any number is kept of each lot
+pub each_kept : (ls : List Lot) → IsKeyedBy lot_key ls → ((id : ℤ) (l : Lot) → get_by lot_key ls id ≡ Some l → IsKeptLot l) → All IsKeptLot ls
+each_kept [] keyed kept = All-nil IsKeptLot
+each_kept (x ∷ xs) keyed kept =
+    All-cons IsKeptLot x xs (kept (lot_key x) x (ap (λ b. cond b (Some x) (get_by lot_key xs (lot_key x))) (int_eq_equiv.refl (lot_key x))))
+    (each_kept xs keyed.1 (λ id l is. kept id l (go id l (int_eq (lot_key x) id) refl is)))
   where
     go : (id : ℤ) (l : Lot) (b : Bool) → int_eq (lot_key x) id ≡ b → get_by lot_key xs id ≡ Some l → cond b (Some x) (get_by lot_key xs id) ≡ Some l
     go id l false e is = is
@@ -282,7 +288,7 @@ kept_can_be_read db t stands kept =
         accounts = each is_account account_readable account_columns account t.accounts r.accounts;
         devices = each is_device device_readable (λ k. device_columns k.1) device t.devices r.devices;
         declarations = each is_declaration declaration_readable declaration_columns declaration t.declarations r.declarations;
-        lots = each_lot t.lots stands.lots.rise kept.lots r.lots;
+        lots = All-map (lot_readable 0) lot_columns t.lots (each_with is_lot IsKeptLot (λ l. lot_readable 0 (lot_columns l)) lot t.lots (each_kept t.lots stands.lots.rise kept.lots) r.lots);
         pieces = each is_piece piece_readable piece_columns piece t.pieces r.pieces;
         peers = each is_peer peer_readable (λ k. peer_columns k.1) peer t.peers r.peers;
         receipts = each is_receipt receipt_readable (λ k. receipt_columns k.1) receipt t.receipts r.receipts;

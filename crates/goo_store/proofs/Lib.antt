@@ -29,3 +29,5 @@ pub mod Judging
 pub mod Unread
 pub mod DevicesApart
 pub mod OwnRows
+pub mod RowsRead
+pub mod Blaming

@@ -62,3 +62,11 @@ module _ (range : Numbers) where
             ∙ sym ((λ i. reaching range (before p ps i) ++ cond (out i && nat_le p.first (range.last + 1)) (p ∷ filter within ps) (filter within ps))
             ∙ (λ i. reaching range (option_or (find begins (reverse ps)) (cond (is i) (Some p) None)) ++ filter within ps)
             ∙ ap (λ rows. rows ++ filter within ps) (short p (find begins (reverse ps)) ends))
+
+-- what the two statements found, by the range's ends
+pub near_found : (range : Numbers) → range.first ≤ range.last → (rows : List Piece) → IsRisingFrom 0 rows → (low high : ℕ) → low ≡ range.first → high ≡ range.last → (before : Option Piece) (later : List Piece)
+    → before ≡ find (λ p. nat_lt p.first low) (reverse rows) → later ≡ filter (λ p. nat_le low p.first && nat_le p.first (high + 1)) rows → reaching range before ++ later ≡ meeting range rows
+near_found range forward rows rising low high is_low is_high before later first second =
+    (λ i. reaching range (first i) ++ second i)
+    ∙ (λ i. reaching range (find (λ p. nat_lt p.first (is_low i)) (reverse rows)) ++ filter (λ p. nat_le (is_low i) p.first && nat_le p.first (is_high i + 1)) rows)
+    ∙ sym (near_rows range (omega (arith, forward)) 0 rows rising)

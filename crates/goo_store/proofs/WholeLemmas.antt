@@ -1,6 +1,6 @@
 -- All rows are found, and what their sums come to.
 use Rattle.std.proofs.Common.{◌≡◌, ◌≤◌, ◌&&◌, ℕ, pos, List, [], ◌∷◌, map, Bool, true, false, cond, nat_le, Option, Some, None, option_map, refl, sym, ap, ◌∙◌, arith}
-use Rattle.std.specs.Prelude.{count_by}
+use Rattle.std.specs.Prelude.{count_by, sum_by}
 use Rattle.std.specs.List.{filter, cons_option, list_all}
 use Rattle.std.specs.FinMap.{entries, keys}
 use Rattle.std.proofs.lemmas.Bool.{leb-true, le-leb}
@@ -9,18 +9,20 @@ use Rattle.sqlite_keyed.proofs.RuleLemmas.{first_of_both, second_of_both}
 use Rattle.goo_types.specs.Number.{code_of, serial_of, is_number}
 use Rattle.goo_types.specs.Piece.{IsRising}
 use Rattle.goo_types.specs.declared.piece.Piece.{Piece}
+use Rattle.goo_spec.specs.Sound.{IsSound}
 use Rattle.goo_spec.specs.State.{State}
-use Rattle.goo_spec.specs.Energy.{total, carry, issued, is_issued_to}
+use Rattle.goo_spec.specs.Energy.{total, carry, due, issued, is_issued_to}
 use Rattle.goo_shelf.specs.Shelf.{totals_for, totals_of}
 use Rattle.goo_columns.specs.Rows.{Tables, Lot, lot_key}
 use Rattle.goo_columns.specs.Beside.{beside}
 use Rattle.goo_columns.specs.declared.piece.PieceRow.{PieceRow}
-use Rattle.goo_rows.specs.Certificates.{certificates_of}
-use Rattle.goo_rows.proofs.CertificateLemmas.{issued-rows}
+use Rattle.goo_rows.specs.Certificates.{certificates_of, issued_in}
+use Rattle.goo_rows.proofs.CertificateLemmas.{issued-rows, own-block}
+use Rattle.goo_kept.specs.Kept.{AreKept}
 use Rattle.goo_kept.specs.Readable.{is_piece, are_ends}
 use Rattle.goo_kept.specs.Places.{rows_of}
 use Rattle.goo_kept.specs.States.{state_of}
-use Rattle.goo_store.specs.Summing.{summed_for}
+use Rattle.goo_store.specs.Summing.{summed_for, HaveSmallSums}
 
 abbrev within : PieceRow × Lot → Bool
 within a = nat_le 0 a.0.first && nat_le a.0.first 100000000000000
@@ -66,7 +68,21 @@ module _ (s : State) (rows : List Piece) (at : s.at ≡ certificates_of rows) (r
   pub totals_same : map (summed_for s.own s.declarations rows) (keys s.devices) ≡ totals_of s
   totals_same = each_same (summed_for s.own s.declarations rows) (totals_for s) one_device (entries s.devices)
 
+  -- and small: no device declared more than all serials are worth
+  pub small_sums : IsSound s → (own : ℕ) → HaveSmallSums own s.declarations rows
+  unfolding total due
+  small_sums sound own device =
+      let few = own-block s.own device 0 rows rising in
+      let same : sum_by (issued_in s.own device) rows ≡ issued s device = counted device in
+      let when = sound.issued_when_due device in
+      let here = own-block own device 0 rows rising in
+      (omega (arith, few, same, when), omega (arith, here))
+
 -- and so those of the state that the tables stand for
 pub state_totals : (t : Tables) → IsRising (rows_of t) → map (summed_for (state_of t).own (state_of t).declarations (rows_of t)) (keys (state_of t).devices) ≡ totals_of (state_of t)
 unfolding state_of
 state_totals t rising = totals_same (state_of t) (rows_of t) refl rising
+
+pub tables_small : (t : Tables) → AreKept t → (own : ℕ) → HaveSmallSums own (state_of t).declarations (rows_of t)
+unfolding state_of
+tables_small t kept = small_sums (state_of t) (rows_of t) refl kept.rising kept.sound

@@ -23,3 +23,4 @@ pub mod Carrying
 pub mod Standing
 pub mod Declaring
 pub mod Opening
+pub mod StoreFaults

@@ -6,6 +6,7 @@ ghost use Rattle.sqlite.specs.Held.{state as view};
 ghost use Rattle.goo_columns.specs.Rows.{account_in};
 ghost use Rattle.goo_shelf.specs.Shelf.{Looks};
 ghost use Rattle.goo_store.specs.Moments.{moment};
+ghost use Rattle.goo_store.specs.StoreFaults.{BlamesStore};
 ghost use Rattle.goo_kept.specs.States.{account_of};
 ghost use Rattle.goo_kept.specs.Readable.{is_account};
 ghost use Rattle.goo_store.specs.Telling.{Accepts, Passes};
@@ -35,7 +36,8 @@ fn read_account(found: Result<Option<AccountRow>, Error>) -> Result<Option<Accou
 impl<S: Alter> SqlShelf<S> {
     /// An account.
     pub(crate) fn known_account(&mut self, account: AccountNo) -> Result<Option<Account>, Fault>
-        ensures { Looks (moment (view S.Store self.old.conn) self.old.refused) (moment (view S.Store self.new.conn) self.new.refused) result (λ found. found ≡ get (moment (view S.Store self.old.conn) self.old.refused).state.accounts account) }
+        ensures looks { Looks (moment (view S.Store self.old.conn) self.old.refused) (moment (view S.Store self.new.conn) self.new.refused) result (λ found. found ≡ get (moment (view S.Store self.old.conn) self.old.refused).state.accounts account) }
+        ensures store { BlamesStore (view S.Store self.old.conn) (view S.Store self.new.conn) self.old.refused result }
     {
         if self.refused {
             return Err(Fault::Store);

@@ -7,6 +7,7 @@ ghost use Rattle.goo_columns.specs.Rows.{declaration_in};
 ghost use Rattle.goo_shelf.specs.Shelf.{Looks};
 ghost use Rattle.goo_kept.specs.Devices.{declaration_of};
 ghost use Rattle.goo_store.specs.Moments.{moment};
+ghost use Rattle.goo_store.specs.StoreFaults.{BlamesStore};
 ghost use Rattle.goo_kept.specs.Readable.{is_declaration};
 ghost use Rattle.goo_store.specs.Telling.{Accepts, Passes};
 ghost use Rattle.goo_store.specs.declared.trouble.Trouble.TheVariants.{Memory};
@@ -71,7 +72,8 @@ fn read_all(
 impl<S: Alter> SqlShelf<S> {
     /// The accepted declarations, in the order in which they came.
     pub(crate) fn declarations(&mut self, alloc: Global) -> Result<Vec<Declare>, Fault>
-        ensures { Looks (moment (view S.Store self.old.conn) self.old.refused) (moment (view S.Store self.new.conn) self.new.refused) result (λ declared. declared.items ≡ (moment (view S.Store self.old.conn) self.old.refused).state.declarations) }
+        ensures looks { Looks (moment (view S.Store self.old.conn) self.old.refused) (moment (view S.Store self.new.conn) self.new.refused) result (λ declared. declared.items ≡ (moment (view S.Store self.old.conn) self.old.refused).state.declarations) }
+        ensures store { BlamesStore (view S.Store self.old.conn) (view S.Store self.new.conn) self.old.refused result }
     {
         if self.refused {
             return Err(Fault::Store);

@@ -10,6 +10,7 @@ ghost use Rattle.goo_shelf.specs.Maps.{map_of};
 ghost use Rattle.goo_shelf.specs.Shelf.{Looks};
 ghost use Rattle.goo_kept.specs.Devices.{device_entry};
 ghost use Rattle.goo_store.specs.Moments.{moment};
+ghost use Rattle.goo_store.specs.StoreFaults.{BlamesStore};
 ghost use Rattle.goo_kept.specs.Readable.{is_device};
 ghost use Rattle.goo_store.specs.Reading.{AreReadableDevices};
 ghost use Rattle.goo_store.specs.Telling.{Accepts, Passes};
@@ -83,7 +84,8 @@ fn sorted_numbers(alloc: Global, found: Result<Vec<DeviceRow>, Error>) -> Result
 impl<S: Alter> SqlShelf<S> {
     /// The numbers of the devices, sorted.
     pub(crate) fn device_numbers(&mut self, alloc: Global) -> Result<Vec<Gsrn>, Fault>
-        ensures { Looks (moment (view S.Store self.old.conn) self.old.refused) (moment (view S.Store self.new.conn) self.new.refused) result (λ numbers. numbers.items ≡ keys_of (moment (view S.Store self.old.conn) self.old.refused).state.devices) }
+        ensures looks { Looks (moment (view S.Store self.old.conn) self.old.refused) (moment (view S.Store self.new.conn) self.new.refused) result (λ numbers. numbers.items ≡ keys_of (moment (view S.Store self.old.conn) self.old.refused).state.devices) }
+        ensures store { BlamesStore (view S.Store self.old.conn) (view S.Store self.new.conn) self.old.refused result }
     {
         if self.refused {
             return Err(Fault::Store);

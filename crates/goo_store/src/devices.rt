@@ -7,6 +7,7 @@ ghost use Rattle.goo_columns.specs.Rows.{device_in};
 ghost use Rattle.goo_shelf.specs.Shelf.{Looks, progress_of, IsRecordOf};
 ghost use Rattle.goo_kept.specs.Devices.{device_of, progress_in, record_in};
 ghost use Rattle.goo_store.specs.Moments.{moment};
+ghost use Rattle.goo_store.specs.StoreFaults.{BlamesStore};
 ghost use Rattle.goo_kept.specs.Readable.{is_device, is_maybe_day};
 ghost use Rattle.goo_store.specs.Telling.{Accepts, Passes};
 ghost use Rattle.goo_kept.specs.Texts.{day_of};
@@ -107,7 +108,8 @@ fn read_record(found: Result<Option<DeviceRow>, Error>) -> Result<Option<DeviceR
 impl<S: Alter> SqlShelf<S> {
     /// A device.
     pub(crate) fn known_device(&mut self, device: &Gsrn) -> Result<Option<Device>, Fault>
-        ensures { Looks (moment (view S.Store self.old.conn) self.old.refused) (moment (view S.Store self.new.conn) self.new.refused) result (λ found. found ≡ get (moment (view S.Store self.old.conn) self.old.refused).state.devices device.now) }
+        ensures looks { Looks (moment (view S.Store self.old.conn) self.old.refused) (moment (view S.Store self.new.conn) self.new.refused) result (λ found. found ≡ get (moment (view S.Store self.old.conn) self.old.refused).state.devices device.now) }
+        ensures store { BlamesStore (view S.Store self.old.conn) (view S.Store self.new.conn) self.old.refused result }
     {
         if self.refused {
             return Err(Fault::Store);
@@ -118,7 +120,8 @@ impl<S: Alter> SqlShelf<S> {
 
     /// A device's last accepted period and its carry.
     pub(crate) fn progress_for(&mut self, device: &Gsrn) -> Result<Progress, Fault>
-        ensures { Looks (moment (view S.Store self.old.conn) self.old.refused) (moment (view S.Store self.new.conn) self.new.refused) result (λ progress. progress ≡ progress_of (moment (view S.Store self.old.conn) self.old.refused).state device.now) }
+        ensures looks { Looks (moment (view S.Store self.old.conn) self.old.refused) (moment (view S.Store self.new.conn) self.new.refused) result (λ progress. progress ≡ progress_of (moment (view S.Store self.old.conn) self.old.refused).state device.now) }
+        ensures store { BlamesStore (view S.Store self.old.conn) (view S.Store self.new.conn) self.old.refused result }
     {
         if self.refused {
             return Err(Fault::Store);
@@ -129,7 +132,8 @@ impl<S: Alter> SqlShelf<S> {
 
     /// A device with its last accepted period and its carry.
     pub(crate) fn record_for(&mut self, device: &Gsrn) -> Result<Option<DeviceRecord>, Fault>
-        ensures { Looks (moment (view S.Store self.old.conn) self.old.refused) (moment (view S.Store self.new.conn) self.new.refused) result (IsRecordOf (moment (view S.Store self.old.conn) self.old.refused).state device.now) }
+        ensures looks { Looks (moment (view S.Store self.old.conn) self.old.refused) (moment (view S.Store self.new.conn) self.new.refused) result (IsRecordOf (moment (view S.Store self.old.conn) self.old.refused).state device.now) }
+        ensures store { BlamesStore (view S.Store self.old.conn) (view S.Store self.new.conn) self.old.refused result }
     {
         if self.refused {
             return Err(Fault::Store);

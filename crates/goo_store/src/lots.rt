@@ -9,6 +9,7 @@ ghost use Rattle.goo_spec.specs.Lots.{lot_key};
 ghost use Rattle.goo_columns.specs.Rows.{lot_in};
 ghost use Rattle.goo_shelf.specs.Shelf.{Looks};
 ghost use Rattle.goo_store.specs.Moments.{moment};
+ghost use Rattle.goo_store.specs.StoreFaults.{BlamesStore};
 ghost use Rattle.goo_kept.specs.Places.{lot_of};
 ghost use Rattle.goo_store.specs.Reading.{IsReadableLot};
 ghost use Rattle.goo_store.specs.Telling.{Accepts, Passes};
@@ -70,7 +71,8 @@ impl<S: Alter> SqlShelf<S> {
         device: &Gsrn,
         first_day: Day,
     ) -> Result<Option<Lot>, Fault>
-        ensures { Looks (moment (view S.Store self.old.conn) self.old.refused) (moment (view S.Store self.new.conn) self.new.refused) result (λ lot. lot ≡ get (moment (view S.Store self.old.conn) self.old.refused).state.lots (lot_key origin device.now first_day)) }
+        ensures looks { Looks (moment (view S.Store self.old.conn) self.old.refused) (moment (view S.Store self.new.conn) self.new.refused) result (λ lot. lot ≡ get (moment (view S.Store self.old.conn) self.old.refused).state.lots (lot_key origin device.now first_day)) }
+        ensures store { BlamesStore (view S.Store self.old.conn) (view S.Store self.new.conn) self.old.refused result }
     {
         if self.refused {
             return Err(Fault::Store);

@@ -6,6 +6,7 @@ ghost use Rattle.sqlite.specs.Held.{state as view};
 ghost use Rattle.goo_columns.specs.Rows.{notice_out_in, notice_in_in};
 ghost use Rattle.goo_shelf.specs.Shelf.{Looks, arrival_of};
 ghost use Rattle.goo_store.specs.Moments.{moment};
+ghost use Rattle.goo_store.specs.StoreFaults.{BlamesStore};
 ghost use Rattle.goo_kept.specs.Records.{sent_of, arrived_of};
 ghost use Rattle.goo_kept.specs.Readable.{is_notice_in};
 ghost use Rattle.goo_store.specs.Reading.{IsReadableSent};
@@ -70,7 +71,8 @@ fn read_arrival(
 impl<S: Alter> SqlShelf<S> {
     /// A notice that was sent.
     pub(crate) fn known_sent(&mut self, alloc: Global, notice: ActNo) -> Result<Option<Sent>, Fault>
-        ensures { Looks (moment (view S.Store self.old.conn) self.old.refused) (moment (view S.Store self.new.conn) self.new.refused) result (λ found. found ≡ get (moment (view S.Store self.old.conn) self.old.refused).state.sent notice) }
+        ensures looks { Looks (moment (view S.Store self.old.conn) self.old.refused) (moment (view S.Store self.new.conn) self.new.refused) result (λ found. found ≡ get (moment (view S.Store self.old.conn) self.old.refused).state.sent notice) }
+        ensures store { BlamesStore (view S.Store self.old.conn) (view S.Store self.new.conn) self.old.refused result }
     {
         if self.refused {
             return Err(Fault::Store);
@@ -81,7 +83,8 @@ impl<S: Alter> SqlShelf<S> {
 
     /// What is kept for a notice's sender and number, seen from the notice.
     pub(crate) fn arrival_of(&mut self, alloc: Global, notice: &Notice) -> Result<Arrival, Fault>
-        ensures { Looks (moment (view S.Store self.old.conn) self.old.refused) (moment (view S.Store self.new.conn) self.new.refused) result (λ arrival. arrival ≡ arrival_of (get (moment (view S.Store self.old.conn) self.old.refused).state.arrived (notice.now.sender, notice.now.number)) notice.now) }
+        ensures looks { Looks (moment (view S.Store self.old.conn) self.old.refused) (moment (view S.Store self.new.conn) self.new.refused) result (λ arrival. arrival ≡ arrival_of (get (moment (view S.Store self.old.conn) self.old.refused).state.arrived (notice.now.sender, notice.now.number)) notice.now) }
+        ensures store { BlamesStore (view S.Store self.old.conn) (view S.Store self.new.conn) self.old.refused result }
     {
         if self.refused {
             return Err(Fault::Store);

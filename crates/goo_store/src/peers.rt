@@ -5,6 +5,7 @@ ghost use Rattle.std.specs.FinMap.{contains_key};
 ghost use Rattle.sqlite.specs.Held.{state as view};
 ghost use Rattle.goo_shelf.specs.Shelf.{Looks};
 ghost use Rattle.goo_store.specs.Moments.{moment};
+ghost use Rattle.goo_store.specs.StoreFaults.{BlamesStore};
 ghost use Rattle.goo_store.specs.Telling.{Accepts, Passes};
 
 use crate::sql_shelf::SqlShelf;
@@ -26,7 +27,8 @@ fn is_there(found: Result<Option<PeerRow>, Error>) -> Result<bool, Trouble>
 impl<S: Alter> SqlShelf<S> {
     /// Whether another registry is known.
     pub(crate) fn knows_peer(&mut self, code: RegistryCode) -> Result<bool, Fault>
-        ensures { Looks (moment (view S.Store self.old.conn) self.old.refused) (moment (view S.Store self.new.conn) self.new.refused) result (λ known. known ≡ contains_key (moment (view S.Store self.old.conn) self.old.refused).state.peers code) }
+        ensures looks { Looks (moment (view S.Store self.old.conn) self.old.refused) (moment (view S.Store self.new.conn) self.new.refused) result (λ known. known ≡ contains_key (moment (view S.Store self.old.conn) self.old.refused).state.peers code) }
+        ensures store { BlamesStore (view S.Store self.old.conn) (view S.Store self.new.conn) self.old.refused result }
     {
         if self.refused {
             return Err(Fault::Store);

@@ -8,6 +8,7 @@ ghost use Rattle.goo_spec.specs.Step.{is_kept};
 ghost use Rattle.goo_columns.specs.Rows.{receipt_in};
 ghost use Rattle.goo_shelf.specs.Shelf.{Looks, receipt_of as seen_from};
 ghost use Rattle.goo_store.specs.Moments.{moment};
+ghost use Rattle.goo_store.specs.StoreFaults.{BlamesStore};
 ghost use Rattle.goo_kept.specs.Replies.{issued_of, reply_of, receipt_of};
 ghost use Rattle.goo_kept.specs.Readable.{are_ends, is_receipt, is_reply};
 ghost use Rattle.goo_store.specs.Telling.{Accepts, Passes};
@@ -113,7 +114,8 @@ impl<S: Alter> SqlShelf<S> {
         key: &Key,
         command: &Command,
     ) -> Result<Receipt, Fault>
-        ensures { Looks (moment (view S.Store self.old.conn) self.old.refused) (moment (view S.Store self.new.conn) self.new.refused) result (λ receipt. receipt ≡ seen_from (get (moment (view S.Store self.old.conn) self.old.refused).state.receipts (caller.now, key.now)) command.now) }
+        ensures looks { Looks (moment (view S.Store self.old.conn) self.old.refused) (moment (view S.Store self.new.conn) self.new.refused) result (λ receipt. receipt ≡ seen_from (get (moment (view S.Store self.old.conn) self.old.refused).state.receipts (caller.now, key.now)) command.now) }
+        ensures store { BlamesStore (view S.Store self.old.conn) (view S.Store self.new.conn) self.old.refused result }
     {
         if self.refused {
             return Err(Fault::Store);

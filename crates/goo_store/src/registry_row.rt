@@ -10,6 +10,7 @@ ghost use Rattle.goo_shelf.specs.Shelf.{Looks};
 ghost use Rattle.goo_store.specs.LookingUp.{LooksUp};
 ghost use Rattle.goo_store.specs.Moments.{moment};
 ghost use Rattle.goo_store.specs.OwnRow.{IsRowOf, KeepsFound};
+ghost use Rattle.goo_store.specs.StoreFaults.{BlamesStore};
 ghost use Rattle.goo_store.specs.Telling.{Accepts, Passes};
 ghost use Rattle.goo_kept.specs.Readable.{is_meta};
 ghost use Rattle.goo_kept.specs.States.{state_of};
@@ -109,7 +110,8 @@ fn read_meta(
 impl<S: Alter> SqlShelf<S> {
     /// What the registry knows of itself.
     pub(crate) fn own_meta(&mut self) -> Result<Meta, Fault>
-        ensures { Looks (moment (view S.Store self.old.conn) self.old.refused) (moment (view S.Store self.new.conn) self.new.refused) result (λ meta. meta ≡ meta_of (moment (view S.Store self.old.conn) self.old.refused).state) }
+        ensures looks { Looks (moment (view S.Store self.old.conn) self.old.refused) (moment (view S.Store self.new.conn) self.new.refused) result (λ meta. meta ≡ meta_of (moment (view S.Store self.old.conn) self.old.refused).state) }
+        ensures store { BlamesStore (view S.Store self.old.conn) (view S.Store self.new.conn) self.old.refused result }
     {
         if self.refused {
             return Err(Fault::Store);
@@ -120,7 +122,8 @@ impl<S: Alter> SqlShelf<S> {
 
     /// The registry's own code.
     pub(crate) fn own_code(&mut self) -> Result<RegistryCode, Fault>
-        ensures { Looks (moment (view S.Store self.old.conn) self.old.refused) (moment (view S.Store self.new.conn) self.new.refused) result (λ code. code ≡ (moment (view S.Store self.old.conn) self.old.refused).state.own) }
+        ensures looks { Looks (moment (view S.Store self.old.conn) self.old.refused) (moment (view S.Store self.new.conn) self.new.refused) result (λ code. code ≡ (moment (view S.Store self.old.conn) self.old.refused).state.own) }
+        ensures store { BlamesStore (view S.Store self.old.conn) (view S.Store self.new.conn) self.old.refused result }
     {
         let meta = self.own_meta()?;
         Ok(meta.code)
@@ -128,7 +131,8 @@ impl<S: Alter> SqlShelf<S> {
 
     /// The registry's date.
     pub(crate) fn own_date(&mut self) -> Result<Day, Fault>
-        ensures { Looks (moment (view S.Store self.old.conn) self.old.refused) (moment (view S.Store self.new.conn) self.new.refused) result (λ day. day ≡ (moment (view S.Store self.old.conn) self.old.refused).state.today) }
+        ensures looks { Looks (moment (view S.Store self.old.conn) self.old.refused) (moment (view S.Store self.new.conn) self.new.refused) result (λ day. day ≡ (moment (view S.Store self.old.conn) self.old.refused).state.today) }
+        ensures store { BlamesStore (view S.Store self.old.conn) (view S.Store self.new.conn) self.old.refused result }
     {
         let meta = self.own_meta()?;
         Ok(meta.today)
@@ -136,7 +140,8 @@ impl<S: Alter> SqlShelf<S> {
 
     /// The next number of each kind.
     pub(crate) fn next_numbers(&mut self) -> Result<Counters, Fault>
-        ensures { Looks (moment (view S.Store self.old.conn) self.old.refused) (moment (view S.Store self.new.conn) self.new.refused) result (λ counters. counters ≡ counters_of (moment (view S.Store self.old.conn) self.old.refused).state) }
+        ensures looks { Looks (moment (view S.Store self.old.conn) self.old.refused) (moment (view S.Store self.new.conn) self.new.refused) result (λ counters. counters ≡ counters_of (moment (view S.Store self.old.conn) self.old.refused).state) }
+        ensures store { BlamesStore (view S.Store self.old.conn) (view S.Store self.new.conn) self.old.refused result }
     {
         let meta = self.own_meta()?;
         Ok(meta.counters)

@@ -8,6 +8,7 @@ ghost use Rattle.goo_rows.specs.Rows.{meeting as near};
 ghost use Rattle.goo_shelf.specs.Rows.{naming_account, expiring_on};
 ghost use Rattle.goo_shelf.specs.Shelf.{Looks};
 ghost use Rattle.goo_store.specs.Moments.{moment};
+ghost use Rattle.goo_store.specs.StoreFaults.{BlamesStore};
 
 use crate::pieces::{join_near, read_maybe, read_rising};
 use crate::sql_shelf::SqlShelf;
@@ -29,7 +30,8 @@ impl<S: Alter> SqlShelf<S> {
     /// The last row that begins below a number.
     fn row_before(&mut self, alloc: Global, low: u64) -> Result<Option<Piece>, Fault>
         requires { low < 2 ^ 63 }
-        ensures { Looks (moment (view S.Store self.old.conn) self.old.refused) (moment (view S.Store self.new.conn) self.new.refused) result (λ row. row ≡ find (λ p. nat_lt p.first low) (reverse (moment (view S.Store self.old.conn) self.old.refused).rows)) }
+        ensures looks { Looks (moment (view S.Store self.old.conn) self.old.refused) (moment (view S.Store self.new.conn) self.new.refused) result (λ row. row ≡ find (λ p. nat_lt p.first low) (reverse (moment (view S.Store self.old.conn) self.old.refused).rows)) }
+        ensures store { BlamesStore (view S.Store self.old.conn) (view S.Store self.new.conn) self.old.refused result }
     {
         if self.refused {
             return Err(Fault::Store);
@@ -41,7 +43,8 @@ impl<S: Alter> SqlShelf<S> {
     /// The rows that begin between two numbers, both counted.
     fn rows_beginning(&mut self, alloc: Global, low: u64, high: u64) -> Result<Vec<Piece>, Fault>
         requires { (low < 2 ^ 63) × (high < 2 ^ 63) }
-        ensures { Looks (moment (view S.Store self.old.conn) self.old.refused) (moment (view S.Store self.new.conn) self.new.refused) result (λ rows. rows.items ≡ filter (λ p. nat_le low p.first && nat_le p.first high) (moment (view S.Store self.old.conn) self.old.refused).rows) }
+        ensures looks { Looks (moment (view S.Store self.old.conn) self.old.refused) (moment (view S.Store self.new.conn) self.new.refused) result (λ rows. rows.items ≡ filter (λ p. nat_le low p.first && nat_le p.first high) (moment (view S.Store self.old.conn) self.old.refused).rows) }
+        ensures store { BlamesStore (view S.Store self.old.conn) (view S.Store self.new.conn) self.old.refused result }
     {
         if self.refused {
             return Err(Fault::Store);
@@ -53,6 +56,7 @@ impl<S: Alter> SqlShelf<S> {
     /// The rows with a number of the range or next to one, rising.
     pub(crate) fn rows_near(&mut self, alloc: Global, range: Range) -> Result<Vec<Piece>, Fault>
         ensures looks { Looks (moment (view S.Store self.old.conn) self.old.refused) (moment (view S.Store self.new.conn) self.new.refused) result (λ met. met.items ≡ near range (moment (view S.Store self.old.conn) self.old.refused).rows) }
+        ensures store { BlamesStore (view S.Store self.old.conn) (view S.Store self.new.conn) self.old.refused result }
         ensures rising { IfOk result (λ met. IsRising met.items) }
     {
         let first = range.first().get();
@@ -65,6 +69,7 @@ impl<S: Alter> SqlShelf<S> {
     /// All rows, rising.
     pub(crate) fn all_rows(&mut self, alloc: Global) -> Result<Vec<Piece>, Fault>
         ensures looks { Looks (moment (view S.Store self.old.conn) self.old.refused) (moment (view S.Store self.new.conn) self.new.refused) result (λ rows. rows.items ≡ (moment (view S.Store self.old.conn) self.old.refused).rows) }
+        ensures store { BlamesStore (view S.Store self.old.conn) (view S.Store self.new.conn) self.old.refused result }
         ensures rising { IfOk result (λ rows. IsRising rows.items) }
     {
         if self.refused {
@@ -81,6 +86,7 @@ impl<S: Alter> SqlShelf<S> {
         account: AccountNo,
     ) -> Result<Vec<Piece>, Fault>
         ensures looks { Looks (moment (view S.Store self.old.conn) self.old.refused) (moment (view S.Store self.new.conn) self.new.refused) result (λ met. met.items ≡ naming_account account (moment (view S.Store self.old.conn) self.old.refused).rows) }
+        ensures store { BlamesStore (view S.Store self.old.conn) (view S.Store self.new.conn) self.old.refused result }
         ensures rising { IfOk result (λ met. IsRising met.items) }
     {
         if self.refused {
@@ -93,6 +99,7 @@ impl<S: Alter> SqlShelf<S> {
     /// The held rows whose lot is over on a day, rising.
     pub(crate) fn rows_expiring(&mut self, alloc: Global, day: Day) -> Result<Vec<Piece>, Fault>
         ensures looks { Looks (moment (view S.Store self.old.conn) self.old.refused) (moment (view S.Store self.new.conn) self.new.refused) result (λ met. met.items ≡ expiring_on day (moment (view S.Store self.old.conn) self.old.refused).rows) }
+        ensures store { BlamesStore (view S.Store self.old.conn) (view S.Store self.new.conn) self.old.refused result }
         ensures rising { IfOk result (λ met. IsRising met.items) }
     {
         if self.refused {

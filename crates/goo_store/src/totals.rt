@@ -5,6 +5,7 @@ ghost use Rattle.std.specs.FinMap.{keys as keys_of};
 ghost use Rattle.sqlite.specs.Held.{state as view};
 ghost use Rattle.goo_shelf.specs.Shelf.{Looks, totals_of};
 ghost use Rattle.goo_store.specs.Moments.{moment};
+ghost use Rattle.goo_store.specs.StoreFaults.{BlamesStore};
 
 use crate::sql_shelf::SqlShelf;
 use crate::sums::totals_over;
@@ -24,7 +25,8 @@ impl<S: Alter> SqlShelf<S> {
         own: RegistryCode,
         devices: &[Gsrn],
     ) -> Result<Vec<DeviceTotals>, Fault>
-        ensures { Looks (moment (view S.Store self.old.conn) self.old.refused) (moment (view S.Store self.new.conn) self.new.refused) result (λ totals. own ≡ (moment (view S.Store self.old.conn) self.old.refused).state.own → devices.now ≡ keys_of (moment (view S.Store self.old.conn) self.old.refused).state.devices → totals.items ≡ totals_of (moment (view S.Store self.old.conn) self.old.refused).state) }
+        ensures looks { Looks (moment (view S.Store self.old.conn) self.old.refused) (moment (view S.Store self.new.conn) self.new.refused) result (λ totals. own ≡ (moment (view S.Store self.old.conn) self.old.refused).state.own → devices.now ≡ keys_of (moment (view S.Store self.old.conn) self.old.refused).state.devices → totals.items ≡ totals_of (moment (view S.Store self.old.conn) self.old.refused).state) }
+        ensures store { BlamesStore (view S.Store self.old.conn) (view S.Store self.new.conn) self.old.refused result }
     {
         let declared = self.declarations(alloc)?;
         let rows = self.all_rows(alloc)?;
@@ -34,7 +36,8 @@ impl<S: Alter> SqlShelf<S> {
 
     /// The totals of all devices, of the registry of this code.
     fn totals_by(&mut self, alloc: Global, own: RegistryCode) -> Result<Vec<DeviceTotals>, Fault>
-        ensures { Looks (moment (view S.Store self.old.conn) self.old.refused) (moment (view S.Store self.new.conn) self.new.refused) result (λ totals. own ≡ (moment (view S.Store self.old.conn) self.old.refused).state.own → totals.items ≡ totals_of (moment (view S.Store self.old.conn) self.old.refused).state) }
+        ensures looks { Looks (moment (view S.Store self.old.conn) self.old.refused) (moment (view S.Store self.new.conn) self.new.refused) result (λ totals. own ≡ (moment (view S.Store self.old.conn) self.old.refused).state.own → totals.items ≡ totals_of (moment (view S.Store self.old.conn) self.old.refused).state) }
+        ensures store { BlamesStore (view S.Store self.old.conn) (view S.Store self.new.conn) self.old.refused result }
     {
         let devices = self.device_numbers(alloc)?;
         self.totals_of_devices(alloc, own, &devices)
@@ -42,7 +45,8 @@ impl<S: Alter> SqlShelf<S> {
 
     /// The energy and the certificates of each device, by device.
     pub(crate) fn all_totals(&mut self, alloc: Global) -> Result<Vec<DeviceTotals>, Fault>
-        ensures { Looks (moment (view S.Store self.old.conn) self.old.refused) (moment (view S.Store self.new.conn) self.new.refused) result (λ totals. totals.items ≡ totals_of (moment (view S.Store self.old.conn) self.old.refused).state) }
+        ensures looks { Looks (moment (view S.Store self.old.conn) self.old.refused) (moment (view S.Store self.new.conn) self.new.refused) result (λ totals. totals.items ≡ totals_of (moment (view S.Store self.old.conn) self.old.refused).state) }
+        ensures store { BlamesStore (view S.Store self.old.conn) (view S.Store self.new.conn) self.old.refused result }
     {
         let own = self.own_code()?;
         self.totals_by(alloc, own)

@@ -43,7 +43,7 @@ use Rattle.goo_tables.proofs.Values.{whole_is, null_at_key}
 
 -- ---- account: the table
 
-abbrev accounts : TableOf AccountRow Account Account
+abbrev pub accounts : TableOf AccountRow Account Account
 accounts = record {
   table = account;
   row = account_row;

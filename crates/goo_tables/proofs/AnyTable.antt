@@ -1,5 +1,5 @@
 -- What the statements on a table show and make, for any table whose rows are typed and stand in the order of a key.
-use Rattle.std.proofs.Common.{◌≡◌, ◌<ℤ◌, ℕ, ℤ, Bool, true, List, [], ◌∷◌, map, filter, find, reverse, slice_get, Option, option_map, refl, sym, ap, ap₂, subst, ◌∙◌, map-id, IsPermutation}
+use Rattle.std.proofs.Common.{◌≡◌, ◌<ℤ◌, ℕ, ℤ, Bool, true, false, cond, All, List, [], ◌∷◌, map, filter, find, reverse, take, slice_get, Option, option_map, refl, sym, ap, ap₂, subst, ◌∙◌, map-id, IsPermutation}
 use Rattle.std.specs.List.{AllByRecursion, AllZip, list_all}
 use Rattle.sqlite.specs.declared.types.Value.TheVariants.{Int}
 use Rattle.sqlite.specs.Order.{Row, column}
@@ -21,6 +21,8 @@ use Rattle.sqlite_keyed.specs.Keyed.{IsKeyedBy}
 use Rattle.sqlite_keyed.proofs.KeyedLemmas.{Less-from_lt}
 use Rattle.sqlite_keyed.proofs.ListLemmas.{ascending_weaker}
 use Rattle.std.proofs.lemmas.List.Sorted.{IsPermutation-reverse}
+use Rattle.std.proofs.lemmas.List.Elements.{All-cons, All-head, All-tail, All-take}
+use Rattle.std.proofs.lemmas.Map.Views.{All-map-IsPermutation}
 use Rattle.goo_columns.proofs.Joining.{answer_listed, ascending-reverse, first_left}
 use Rattle.goo_columns.specs.Asked.{FirstZip}
 use Rattle.goo_columns.specs.Columns.{registry_schema}
@@ -41,6 +43,19 @@ module _ {Y : Type 0} (tree : ℕ) (row : Y → Row) (key : Y → ℤ) (keyed : 
       let source = last_table db tree row key ys (plain ∙ are) rise (at_end db) in
       sym (map-id rows)
       ∙ answer_by_keys (in_order tree filter_by columns) db params source p tests (λ r. r) show shows refl refl (λ a b. last_key (ap₂ value_cmp (keyed a) (keyed b) ∙ value_cmp-Int (key a) (key b))) rows answer
+
+-- the rows that a test leaves can be read, where all can
+pub readable_left : {Y : Type 0} (readable : Row → Type 0) (show : Y → Row) (p : Y → Bool) (ys : List Y) → All readable (map show ys) → All readable (map show (filter p ys))
+readable_left readable show p [] all = all
+readable_left readable show p (y ∷ ys) all = go (p y) (readable_left readable show p ys (All-tail readable (show y) (map show ys) all))
+  where
+    go : (b : Bool) → All readable (map show (filter p ys)) → All readable (map show (cond b (y ∷ filter p ys) (filter p ys)))
+    go true rest = All-cons readable (show y) (map show (filter p ys)) (All-head readable (show y) (map show ys) all) rest
+    go false rest = rest
+
+-- the first of them in the other order
+pub readable_last : {Y : Type 0} (readable : Row → Type 0) (show : Y → Row) (ys : List Y) → All readable (map show ys) → All readable (map show (reverse ys))
+readable_last readable show ys all = All-map-IsPermutation show readable ys (reverse ys) (IsPermutation-reverse ys) all
 
 -- A table that keeps `Y`s, of whose rows as a query shows them `X`s are read; `of` is what such a value says of a `Y`.
 pub record TableOf (X Y Z : Type 0) : Type 1 where
@@ -71,17 +86,30 @@ module _ {X Y Z : Type 0} (l : TableOf X Y Z) (old : State) {ys : List Y} (keeps
       let shows = ordered l.table.tree l.row l.key l.keyed old.now.trees (l.plain old.now.trees) filter_by l.columns params p l.show tests (l.shows params) ys keeps.are keeps.rise rows answer in
       first_read l.reads l.show l.value l.of l.same p ys x (subst (λ s. FirstZip l.reads s x) shows read)
 
+  -- what a query in the order of the rowids shows can be read, where the whole table can
+  pub readable_among : (readable : Row → Type 0) → All readable (map l.show ys) → (filter_by : List Term) (params : Row) (rows : List Row)
+      → IsAnswer (in_order l.table.tree filter_by l.columns) (overlay old.now.trees []) params rows → All readable rows
+  readable_among readable all filter_by params rows answer =
+      let p = λ (y : Y). list_all (holds (params ∷ l.row y ∷ [])) filter_by in
+      let shows = ordered l.table.tree l.row l.key l.keyed old.now.trees (l.plain old.now.trees) filter_by l.columns params p l.show (λ _. refl) (l.shows params) ys keeps.are keeps.rise rows answer in
+      subst (λ s. All readable s) (sym shows) (readable_left readable l.show p ys all)
+
 -- where the values themselves are read: the row with the highest rowid
 module _ {X Y : Type 0} (l : TableOf X Y Y) (old : State) {ys : List Y} (keeps : Keeps (old.now.trees l.table.tree) l.row l.key ys) where
-  pub shows_top : ((y : Y) (x : X) → l.reads (l.show y) x → l.value x ≡ y)
-      → (x : Option X) (rows : List Row) → IsAnswer (last_of l.table.tree l.columns) (overlay old.now.trees []) [] rows → FirstZip l.reads rows x → option_map l.value x ≡ slice_get (reverse ys) 0
-  shows_top same x rows answer read =
+  shown_top : (rows : List Row) → IsAnswer (last_of l.table.tree l.columns) (overlay old.now.trees []) [] rows → rows ≡ take 1 (map l.show (reverse ys))
+  shown_top rows answer =
       let db = overlay old.now.trees [] in
       let source = last_table db l.table.tree l.row l.key ys (l.plain old.now.trees ∙ keeps.are) keeps.rise (at_end db) in
       let falls = ascending_weaker _ _ (λ a b h. last_key (ap₂ value_cmp (l.keyed b) (l.keyed a) ∙ value_cmp-Int (l.key b) (l.key a)) ∙ Less-from_lt (l.key b) (l.key a) h) _ (ascending-reverse (λ a b. l.key a <ℤ l.key b) ys keeps.rise) in
       let all = subst (λ s. IsPermutation s (reverse ys)) (sym (unfiltered ys refl)) (IsPermutation-reverse ys) in
-      let shows = answer_listed (last_of l.table.tree l.columns) db [] source (λ _. true) (λ _. refl) l.show (l.shows []) refl refl (reverse ys) all falls rows answer in
-      top_listed l.reads l.show l.value same (reverse ys) x (first_left l.reads _ x (subst (λ s. FirstZip l.reads s x) shows read))
+      answer_listed (last_of l.table.tree l.columns) db [] source (λ _. true) (λ _. refl) l.show (l.shows []) refl refl (reverse ys) all falls rows answer
+
+  pub shows_top : ((y : Y) (x : X) → l.reads (l.show y) x → l.value x ≡ y)
+      → (x : Option X) (rows : List Row) → IsAnswer (last_of l.table.tree l.columns) (overlay old.now.trees []) [] rows → FirstZip l.reads rows x → option_map l.value x ≡ slice_get (reverse ys) 0
+  shows_top same x rows answer read = top_listed l.reads l.show l.value same (reverse ys) x (first_left l.reads _ x (subst (λ s. FirstZip l.reads s x) (shown_top rows answer) read))
+
+  pub readable_top : (readable : Row → Type 0) → All readable (map l.show ys) → (rows : List Row) → IsAnswer (last_of l.table.tree l.columns) (overlay old.now.trees []) [] rows → All readable rows
+  readable_top readable all rows answer = subst (λ s. All readable s) (sym (shown_top rows answer)) (All-take readable 1 (map l.show (reverse ys)) (readable_last readable l.show ys all))
 
 -- ---- a table that is met as it is
 

@@ -36,7 +36,7 @@ use Rattle.goo_tables.proofs.Values.{whole_is, null_at_key}
 
 -- ---- cancellation: the table
 
-abbrev cancellations : TableOf CancellationRow Cancellation Cancellation
+abbrev pub cancellations : TableOf CancellationRow Cancellation Cancellation
 cancellations = record {
   table = cancellation;
   row = cancellation_row;

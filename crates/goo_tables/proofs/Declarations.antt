@@ -37,7 +37,7 @@ use Rattle.goo_tables.proofs.Values.{whole_is, null_at_key}
 
 -- ---- declaration: the table
 
-abbrev declarations : TableOf DeclarationRow Declaration Declaration
+abbrev pub declarations : TableOf DeclarationRow Declaration Declaration
 declarations = record {
   table = declaration;
   row = declaration_row;

@@ -44,7 +44,7 @@ use Rattle.goo_tables.proofs.Values.{whole_is}
 
 -- ---- device: the table
 
-abbrev devices : TableOf DeviceRow (Kept Device) Device
+abbrev pub devices : TableOf DeviceRow (Kept Device) Device
 devices = record {
   table = device;
   row = device_row;

@@ -36,7 +36,7 @@ use Rattle.goo_tables.proofs.Values.{whole_is}
 
 -- ---- holder: the table
 
-abbrev holders : TableOf HolderRow (Kept Holder) Holder
+abbrev pub holders : TableOf HolderRow (Kept Holder) Holder
 holders = record {
   table = holder;
   row = holder_row;

@@ -37,7 +37,7 @@ use Rattle.goo_tables.proofs.Values.{whole_is, null_at_key}
 
 -- ---- lot: the table
 
-abbrev lots : TableOf LotRow Lot Lot
+abbrev pub lots : TableOf LotRow Lot Lot
 lots = record {
   table = lot;
   row = lot_row;

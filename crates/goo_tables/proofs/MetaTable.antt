@@ -1,6 +1,7 @@
 -- What the statements on `meta` do and show.
-use Rattle.std.proofs.Common.{map, ◌≡◌, ℕ, ℤ, pos, inr, List, [], ◌∷◌, codes, true, false, Some, Option, option_map, Ok, Err, Result, OnOk, refl, ◌∙◌}
+use Rattle.std.proofs.Common.{All, map, ◌≡◌, ℕ, ℤ, pos, inr, List, [], ◌∷◌, codes, true, false, Some, Option, option_map, Ok, Err, Result, OnOk, refl, ◌∙◌}
 use Rattle.std.specs.List.{AllZip}
+use Rattle.std.proofs.lemmas.List.Elements.{All-cons, All-nil}
 use Rattle.sqlite_tied.specs.Compute.{everything}
 use Rattle.sqlite.specs.declared.types.Value.TheVariants.{Null, Int, Text}
 use Rattle.sqlite.specs.declared.error.Error.{Error}
@@ -22,6 +23,7 @@ use Rattle.goo_columns.specs.Columns.{registry_schema, meta}
 use Rattle.goo_columns.specs.Rows.{Tables, Meta, meta_columns, meta_row, meta_in, Numbered, numbered_in, numbered_key, numbered_row}
 use Rattle.goo_columns.specs.declared.numbered_meta.NumberedMeta.{NumberedMeta}
 use Rattle.goo_columns.specs.declared.meta.MetaRow.{MetaRow}
+use Rattle.goo_columns.specs.Readable.{meta_readable}
 use Rattle.goo_columns.specs.Reads.{meta_reads, numbered_meta_reads}
 use Rattle.goo_columns.specs.Stands.{Stands, IsBare, Keeps}
 use Rattle.goo_columns.specs.Met.{HasOurTables}
@@ -37,7 +39,7 @@ use Rattle.goo_tables.specs.Changes.{begun, at_day, with_counters}
 use Rattle.goo_tables.specs.declared.counters.Counters.{Counters}
 use Rattle.goo_tables.proofs.Queries.{in_order, unordered}
 use Rattle.std.specs.Prelude.{⊤}
-use Rattle.goo_tables.proofs.AnyTable.{TableOf, finds_one, shown, shows_each, IsListed, meets_listed}
+use Rattle.goo_tables.proofs.AnyTable.{TableOf, finds_one, readable_among, shown, shows_each, IsListed, meets_listed}
 use Rattle.goo_tables.proofs.Asking.{Asks, Says, Tells}
 use Rattle.goo_tables.proofs.Values.{whole_is, null_at_key}
 
@@ -102,6 +104,11 @@ pub finds : (old : State) → Says old find_query [] (λ (x : Option MetaRow) ro
 finds old t it x rows answer read =
     let keeps : Keeps (old.now.trees 0) meta_row meta_key (t.meta ∷ []) = record { are = it.meta; rise = (tt, tt) } in
     finds_one the_meta old keeps at_one [] (λ (m : Meta). true) (λ _. last_term (at_ints false Eq (pos 1) (pos 1))) x rows answer read
+
+pub readable_meta : (old : State) (t : Tables) → Stands old.now t → meta_readable (meta_columns t.meta) → (rows : List Row) → IsAnswer find_query (overlay old.now.trees []) [] rows → All meta_readable rows
+readable_meta old t it fits =
+    let keeps : Keeps (old.now.trees 0) meta_row meta_key (t.meta ∷ []) = record { are = it.meta; rise = (tt, tt) } in
+    readable_among the_meta old keeps meta_readable (All-cons meta_readable (meta_columns t.meta) [] fits (All-nil meta_readable)) at_one []
 
 -- ---- the row is changed
 

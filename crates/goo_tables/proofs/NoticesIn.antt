@@ -36,7 +36,7 @@ use Rattle.goo_tables.proofs.Values.{whole_is, values_typed}
 
 -- ---- notice_in: the table
 
-abbrev notices_in : TableOf NoticeInRow (Kept NoticeIn) NoticeIn
+abbrev pub notices_in : TableOf NoticeInRow (Kept NoticeIn) NoticeIn
 notices_in = record {
   table = notice_in;
   row = notice_in_row;

@@ -37,7 +37,7 @@ use Rattle.goo_tables.proofs.Values.{whole_is, values_typed, null_at_key}
 
 -- ---- notice_out: the table
 
-abbrev notices_out : TableOf NoticeOutRow NoticeOut NoticeOut
+abbrev pub notices_out : TableOf NoticeOutRow NoticeOut NoticeOut
 notices_out = record {
   table = notice_out;
   row = notice_out_row;

@@ -36,7 +36,7 @@ use Rattle.goo_tables.proofs.Values.{whole_is}
 
 -- ---- peer: the table
 
-abbrev peers : TableOf PeerRow (Kept PeerRow) PeerRow
+abbrev pub peers : TableOf PeerRow (Kept PeerRow) PeerRow
 peers = record {
   table = peer;
   row = peer_row;

@@ -47,7 +47,7 @@ use Rattle.goo_tables.proofs.Values.{whole_is, null_at_key}
 
 -- ---- piece: the table
 
-abbrev pieces : TableOf PieceRow PieceRow PieceRow
+abbrev pub pieces : TableOf PieceRow PieceRow PieceRow
 pieces = record {
   table = piece;
   row = piece_row;

@@ -1,5 +1,5 @@
 -- What the statements on `piece` joined with `lot` show.
-use Rattle.std.proofs.Common.{◌≡◌, ℕ, ℤ, Bool, pos, negsuc, ◌&&◌, List, [], ◌∷◌, map, filter, find, reverse, codes, false, None, Some, Option, option_map, refl, subst, ◌∙◌, take, int_eq, nat_le, nat_lt}
+use Rattle.std.proofs.Common.{◌≡◌, ℕ, ℤ, Bool, pos, negsuc, ◌&&◌, List, [], ◌∷◌, map, filter, find, reverse, codes, false, None, Some, Option, option_map, refl, sym, subst, ◌∙◌, take, All, int_eq, nat_le, nat_lt}
 use Rattle.std.specs.List.{AllZip, list_all}
 use Rattle.sqlite_tied.specs.Compute.{everything}
 use Rattle.sqlite.specs.declared.types.Value.TheVariants.{Int, Text}
@@ -27,9 +27,12 @@ use Rattle.goo_columns.specs.declared.joined.JoinedRow.{JoinedRow}
 use Rattle.goo_columns.specs.Reads.{joined_reads}
 use Rattle.goo_columns.specs.Stands.{Stands}
 use Rattle.goo_columns.specs.Asked.{FirstZip}
+use Rattle.goo_columns.specs.Readable.{joined_readable}
 use Rattle.goo_columns.proofs.Read.{all_listed, first_listed}
 use Rattle.goo_columns.proofs.Same.{joined_same}
 use Rattle.goo_columns.proofs.Joining.{answer_listed, is_of_lot, passing_pairs, rising_passing, falling_passing, falling_pairs, first_left}
+use Rattle.std.proofs.lemmas.List.Elements.{All-take}
+use Rattle.goo_tables.proofs.AnyTable.{readable_left, readable_last}
 use Rattle.goo_tables.proofs.Queries.{rising, falling}
 use Rattle.goo_tables.proofs.Asking.{Asks, Says}
 
@@ -56,14 +59,14 @@ joined_query where_terms key limit = record {
   offset = lit (Int (pos 0));
 }
 
-module _ (where_terms : List Term) (params : Row) (old : State) (t : Tables) (it : Stands old.now t) (q : PieceRow × Lot → Bool) where
+module _ (where_terms : List Term) (params : Row) (old : State) (t : Tables) (it : Stands old.now t) where
   abbrev db : Trees
   db = overlay old.now.trees []
 
   abbrev source : Source db (inner 10 (inner 8 end)) (PieceRow × Lot)
   source = next_table db 10 piece_row piece_key t.pieces it.pieces.are it.pieces.rise (last_table db 8 lot_row lot_key t.lots it.lots.are it.lots.rise (at_end db))
 
-  module _ (tests : (a : PieceRow × Lot) → list_all (holds (params ∷ source.env (params ∷ []) a)) where_terms ≡ q a) (rows : List Row) where
+  module _ (q : PieceRow × Lot → Bool) (tests : (a : PieceRow × Lot) → list_all (holds (params ∷ source.env (params ∷ []) a)) where_terms ≡ q a) (rows : List Row) where
     on_and : (a : PieceRow × Lot) → list_all (holds (params ∷ source.env (params ∷ []) a)) (op2 (Compare Eq Binary) (col 2 0) (col 1 3) ∷ where_terms) ≡ (is_of_lot a && q a)
     on_and a = then_term (at_ints false Eq (pos a.1.id) (pos a.0.lot)) (tests a)
 
@@ -84,6 +87,25 @@ module _ (where_terms : List Term) (params : Row) (old : State) (t : Tables) (it
         answer_listed (joined_query where_terms falling (pos 1)) db params source (λ a. is_of_lot a && q a) on_and joined_columns (λ _. refl) refl refl (filter q (reverse (pieces_beside t)))
         (falling_pairs t.lots t.pieces q it.lots.rise)
         (ascending_weaker _ _ (λ a b h. last_key (value_cmp-Int (piece_key b.0) (piece_key a.0)) ∙ Less-from_lt (piece_key b.0) (piece_key a.0) h) _ (falling_passing t.lots t.pieces q it.pieces.rise)) rows
+
+  -- what is shown can be read, where each piece can beside its lot
+  module _ (all : All joined_readable (map joined_columns (pieces_beside t))) (rows : List Row) where
+    abbrev passes : PieceRow × Lot → Bool
+    passes a = list_all (holds (params ∷ source.env (params ∷ []) a)) where_terms
+
+    pub readable_rising : IsAnswer (joined_query where_terms rising (negsuc 0)) db params rows → All joined_readable rows
+    readable_rising answer = subst (λ s. All joined_readable s) (sym (shows_rising passes (λ _. refl) rows answer)) (readable_left joined_readable joined_columns passes (pieces_beside t) all)
+
+    pub readable_first : IsAnswer (joined_query where_terms rising (pos 1)) db params rows → All joined_readable rows
+    readable_first answer =
+        subst (λ s. All joined_readable s) (sym (shows_first passes (λ _. refl) rows answer))
+        (All-take joined_readable 1 (map joined_columns (filter passes (pieces_beside t))) (readable_left joined_readable joined_columns passes (pieces_beside t) all))
+
+    pub readable_falling : IsAnswer (joined_query where_terms falling (pos 1)) db params rows → All joined_readable rows
+    readable_falling answer =
+        subst (λ s. All joined_readable s) (sym (shows_last passes (λ _. refl) rows answer))
+        (All-take joined_readable 1 (map joined_columns (filter passes (reverse (pieces_beside t))))
+        (readable_left joined_readable joined_columns passes (reverse (pieces_beside t)) (readable_last joined_readable joined_columns (pieces_beside t) all)))
 
 -- ---- pieces_beginning
 

@@ -37,7 +37,7 @@ use Rattle.goo_tables.proofs.Values.{whole_is, values_typed}
 
 -- ---- receipt: the table
 
-abbrev receipts : TableOf ReceiptRow (Kept Receipt) Receipt
+abbrev pub receipts : TableOf ReceiptRow (Kept Receipt) Receipt
 receipts = record {
   table = receipt;
   row = receipt_row;

@@ -36,7 +36,7 @@ use Rattle.goo_tables.proofs.Values.{whole_is, null_at_key}
 
 -- ---- withdrawal: the table
 
-abbrev withdrawals : TableOf WithdrawalRow Withdrawal Withdrawal
+abbrev pub withdrawals : TableOf WithdrawalRow Withdrawal Withdrawal
 withdrawals = record {
   table = withdrawal;
   row = withdrawal_row;

@@ -63,6 +63,7 @@ pub fn find_account<S: Alter>(
 ) -> Result<Option<AccountRow>, Error>
     ensures looks { Looks (state S.Store conn.old) (state S.Store conn.new) result
         (λ t found. option_map account_in found ≡ get_by account_key t.accounts (pos number)) }
+    ensures readable { FailsOnlyByFault (state S.Store conn.old) (state S.Store conn.new) result (λ t. All account_readable (map account_columns t.accounts)) }
     ensures refused { FailsByFault (state S.Store conn.old) (state S.Store conn.new) result }
     ensures outside { conn.old.in_transaction ≡ false → conn.new.in_transaction ≡ false }
 {

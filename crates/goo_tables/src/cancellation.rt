@@ -54,6 +54,7 @@ pub fn find_cancellation<S: Alter>(
 ) -> Result<Option<CancellationRow>, Error>
     ensures looks { Looks (state S.Store conn.old) (state S.Store conn.new) result
         (λ t found. option_map cancellation_in found ≡ get_by cancellation_key t.cancellations (pos number)) }
+    ensures readable { FailsOnlyByFault (state S.Store conn.old) (state S.Store conn.new) result (λ t. All cancellation_readable (map cancellation_columns t.cancellations)) }
     ensures refused { FailsByFault (state S.Store conn.old) (state S.Store conn.new) result }
     ensures outside { conn.old.in_transaction ≡ false → conn.new.in_transaction ≡ false }
 {

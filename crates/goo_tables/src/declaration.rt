@@ -53,6 +53,7 @@ pub fn find_declaration<S: Alter>(
 ) -> Result<Option<DeclarationRow>, Error>
     ensures looks { Looks (state S.Store conn.old) (state S.Store conn.new) result
         (λ t found. option_map declaration_in found ≡ find (λ x. bytes_eq x.device device.now && bytes_eq x.first_day first_day.now) t.declarations) }
+    ensures readable { FailsOnlyByFault (state S.Store conn.old) (state S.Store conn.new) result (λ t. All declaration_readable (map declaration_columns t.declarations)) }
     ensures refused { FailsByFault (state S.Store conn.old) (state S.Store conn.new) result }
     ensures outside { conn.old.in_transaction ≡ false → conn.new.in_transaction ≡ false }
 {
@@ -89,6 +90,7 @@ pub fn last_declaration<S: Alter>(
     conn: &mut Connection<S>,
 ) -> Result<Option<DeclarationRow>, Error>
     ensures looks { Looks (state S.Store conn.old) (state S.Store conn.new) result (λ t found. option_map declaration_in found ≡ slice_get (reverse t.declarations) 0) }
+    ensures readable { FailsOnlyByFault (state S.Store conn.old) (state S.Store conn.new) result (λ t. All declaration_readable (map declaration_columns t.declarations)) }
     ensures refused { FailsByFault (state S.Store conn.old) (state S.Store conn.new) result }
     ensures outside { conn.old.in_transaction ≡ false → conn.new.in_transaction ≡ false }
 {

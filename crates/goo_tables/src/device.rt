@@ -82,6 +82,7 @@ pub fn find_device<S: Alter>(
 ) -> Result<Option<DeviceRow>, Error>
     ensures looks { Looks (state S.Store conn.old) (state S.Store conn.new) result
         (λ t found. option_map device_in found ≡ option_map (λ k. k.1) (find (λ k. bytes_eq k.1.gsrn gsrn.now) t.devices)) }
+    ensures readable { FailsOnlyByFault (state S.Store conn.old) (state S.Store conn.new) result (λ t. All device_readable (map (λ k. device_columns k.1) t.devices)) }
     ensures refused { FailsByFault (state S.Store conn.old) (state S.Store conn.new) result }
     ensures outside { conn.old.in_transaction ≡ false → conn.new.in_transaction ≡ false }
 {

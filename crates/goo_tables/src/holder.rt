@@ -44,6 +44,7 @@ pub fn find_holder<S: Alter>(
 ) -> Result<Option<HolderRow>, Error>
     ensures looks { Looks (state S.Store conn.old) (state S.Store conn.new) result
         (λ t found. option_map holder_in found ≡ option_map (λ k. k.1) (find (λ k. bytes_eq k.1.code code.now) t.holders)) }
+    ensures readable { FailsOnlyByFault (state S.Store conn.old) (state S.Store conn.new) result (λ t. All holder_readable (map (λ k. holder_columns k.1) t.holders)) }
     ensures refused { FailsByFault (state S.Store conn.old) (state S.Store conn.new) result }
     ensures outside { conn.old.in_transaction ≡ false → conn.new.in_transaction ≡ false }
 {

@@ -61,6 +61,7 @@ pub fn find_lot<S: Alter>(
 ) -> Result<Option<LotRow>, Error>
     ensures looks { Looks (state S.Store conn.old) (state S.Store conn.new) result
         (λ t found. option_map lot_in found ≡ find (λ x. int_eq (pos x.origin) (pos origin) && (bytes_eq x.device device.now && bytes_eq x.first_day first_day.now)) t.lots) }
+    ensures readable { FailsOnlyByFault (state S.Store conn.old) (state S.Store conn.new) result (λ t. All (lot_readable 0) (map lot_columns t.lots)) }
     ensures refused { FailsByFault (state S.Store conn.old) (state S.Store conn.new) result }
     ensures outside { conn.old.in_transaction ≡ false → conn.new.in_transaction ≡ false }
 {
@@ -80,6 +81,7 @@ pub fn find_lot_by_id<S: Alter>(
 ) -> Result<Option<LotRow>, Error>
     requires { id < 2 ^ 63 }
     ensures looks { Looks (state S.Store conn.old) (state S.Store conn.new) result (λ t found. option_map lot_in found ≡ get_by lot_key t.lots (pos id)) }
+    ensures readable { FailsOnlyByFault (state S.Store conn.old) (state S.Store conn.new) result (λ t. All (lot_readable 0) (map lot_columns t.lots)) }
     ensures refused { FailsByFault (state S.Store conn.old) (state S.Store conn.new) result }
     ensures outside { conn.old.in_transaction ≡ false → conn.new.in_transaction ≡ false }
 {
@@ -110,6 +112,7 @@ pub fn all_lots<S: Alter>(alloc: Global, conn: &mut Connection<S>) -> Result<Vec
 /// The lot with the highest number.
 pub fn last_lot<S: Alter>(alloc: Global, conn: &mut Connection<S>) -> Result<Option<LotRow>, Error>
     ensures looks { Looks (state S.Store conn.old) (state S.Store conn.new) result (λ t found. option_map lot_in found ≡ slice_get (reverse t.lots) 0) }
+    ensures readable { FailsOnlyByFault (state S.Store conn.old) (state S.Store conn.new) result (λ t. All (lot_readable 0) (map lot_columns t.lots)) }
     ensures refused { FailsByFault (state S.Store conn.old) (state S.Store conn.new) result }
     ensures outside { conn.old.in_transaction ≡ false → conn.new.in_transaction ≡ false }
 {

@@ -5,7 +5,7 @@ ghost use Rattle.sqlite.specs.State.{HasCleanDisk, KeepsCommit, Survives};
 ghost use Rattle.sqlite.specs.Held.{state};
 ghost use Rattle.sqlite.specs.declared.types.Value.TheVariants.{Int};
 ghost use Rattle.goo_columns.specs.Rows.{Tables, meta_in, numbered_in, numbered_key, numbered_row, meta_columns};
-ghost use Rattle.goo_columns.specs.Readable.{numbered_meta_readable};
+ghost use Rattle.goo_columns.specs.Readable.{meta_readable, numbered_meta_readable};
 ghost use Rattle.goo_columns.specs.Refused.{FailsByFault, FailsOnlyByFault};
 ghost use Rattle.goo_columns.specs.Stands.{Sees, Looks, IsBare, Keeps};
 ghost use Rattle.goo_columns.specs.Met.{HasOurTables};
@@ -51,6 +51,7 @@ pub fn find_meta<S: Alter>(
     conn: &mut Connection<S>,
 ) -> Result<Option<MetaRow>, Error>
     ensures looks { Looks (state S.Store conn.old) (state S.Store conn.new) result (λ t found. option_map meta_in found ≡ Some t.meta) }
+    ensures readable { FailsOnlyByFault (state S.Store conn.old) (state S.Store conn.new) result (λ t. meta_readable (meta_columns t.meta)) }
     ensures refused { FailsByFault (state S.Store conn.old) (state S.Store conn.new) result }
     ensures outside { conn.old.in_transaction ≡ false → conn.new.in_transaction ≡ false }
 {

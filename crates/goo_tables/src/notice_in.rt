@@ -49,6 +49,7 @@ pub fn find_notice_in<S: Alter>(
 ) -> Result<Option<NoticeInRow>, Error>
     ensures looks { Looks (state S.Store conn.old) (state S.Store conn.new) result
         (λ t found. option_map notice_in_in found ≡ option_map (λ k. k.1) (find (λ k. int_eq (pos k.1.sender) (pos sender) && int_eq (pos k.1.number) (pos number)) t.notices_in)) }
+    ensures readable { FailsOnlyByFault (state S.Store conn.old) (state S.Store conn.new) result (λ t. All notice_in_readable (map (λ k. notice_in_columns k.1) t.notices_in)) }
     ensures refused { FailsByFault (state S.Store conn.old) (state S.Store conn.new) result }
     ensures outside { conn.old.in_transaction ≡ false → conn.new.in_transaction ≡ false }
 {

@@ -48,6 +48,7 @@ pub fn find_notice_out<S: Alter>(
 ) -> Result<Option<NoticeOutRow>, Error>
     ensures looks { Looks (state S.Store conn.old) (state S.Store conn.new) result
         (λ t found. option_map notice_out_in found ≡ get_by notice_out_key t.notices_out (pos number)) }
+    ensures readable { FailsOnlyByFault (state S.Store conn.old) (state S.Store conn.new) result (λ t. All notice_out_readable (map notice_out_columns t.notices_out)) }
     ensures refused { FailsByFault (state S.Store conn.old) (state S.Store conn.new) result }
     ensures outside { conn.old.in_transaction ≡ false → conn.new.in_transaction ≡ false }
 {

@@ -41,6 +41,7 @@ pub fn find_peer<S: Alter>(
 ) -> Result<Option<PeerRow>, Error>
     ensures looks { Looks (state S.Store conn.old) (state S.Store conn.new) result
         (λ t found. found ≡ option_map (λ k. k.1) (find (λ k. int_eq (pos k.1.code) (pos code)) t.peers)) }
+    ensures readable { FailsOnlyByFault (state S.Store conn.old) (state S.Store conn.new) result (λ t. All peer_readable (map (λ k. peer_columns k.1) t.peers)) }
     ensures refused { FailsByFault (state S.Store conn.old) (state S.Store conn.new) result }
     ensures outside { conn.old.in_transaction ≡ false → conn.new.in_transaction ≡ false }
 {

@@ -61,6 +61,7 @@ pub fn find_piece<S: Alter>(
 ) -> Result<Option<PieceRow>, Error>
     requires { first < 2 ^ 63 }
     ensures looks { Looks (state S.Store conn.old) (state S.Store conn.new) result (λ t found. found ≡ get_by piece_key t.pieces (pos first)) }
+    ensures readable { FailsOnlyByFault (state S.Store conn.old) (state S.Store conn.new) result (λ t. All piece_readable (map piece_columns t.pieces)) }
     ensures refused { FailsByFault (state S.Store conn.old) (state S.Store conn.new) result }
     ensures outside { conn.old.in_transaction ≡ false → conn.new.in_transaction ≡ false }
 {

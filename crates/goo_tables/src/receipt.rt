@@ -54,6 +54,7 @@ pub fn find_receipt<S: Alter>(
 ) -> Result<Option<ReceiptRow>, Error>
     ensures looks { Looks (state S.Store conn.old) (state S.Store conn.new) result
         (λ t found. option_map receipt_in found ≡ option_map (λ k. k.1) (find (λ k. bytes_eq k.1.caller caller.now && bytes_eq k.1.key key.now) t.receipts)) }
+    ensures readable { FailsOnlyByFault (state S.Store conn.old) (state S.Store conn.new) result (λ t. All receipt_readable (map (λ k. receipt_columns k.1) t.receipts)) }
     ensures refused { FailsByFault (state S.Store conn.old) (state S.Store conn.new) result }
     ensures outside { conn.old.in_transaction ≡ false → conn.new.in_transaction ≡ false }
 {

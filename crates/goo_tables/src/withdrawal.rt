@@ -51,6 +51,7 @@ pub fn find_withdrawal<S: Alter>(
 ) -> Result<Option<WithdrawalRow>, Error>
     ensures looks { Looks (state S.Store conn.old) (state S.Store conn.new) result
         (λ t found. option_map withdrawal_in found ≡ get_by withdrawal_key t.withdrawals (pos number)) }
+    ensures readable { FailsOnlyByFault (state S.Store conn.old) (state S.Store conn.new) result (λ t. All withdrawal_readable (map withdrawal_columns t.withdrawals)) }
     ensures refused { FailsByFault (state S.Store conn.old) (state S.Store conn.new) result }
     ensures outside { conn.old.in_transaction ≡ false → conn.new.in_transaction ≡ false }
 {

@@ -1,8 +1,9 @@
 use Rattle.sqlite.specs.Held.{state}
 use Rattle.goo_columns.specs.Readable.{account_readable}
-use Rattle.goo_tables.proofs.Accounts.{finds, find_asks}
+use Rattle.goo_tables.proofs.AnyTable.{readable_among}
+use Rattle.goo_tables.proofs.Accounts.{finds, find_asks, accounts}
 use Rattle.goo_tables.proofs.account.find_account.Goals as goal
-use Rattle.goo_tables.proofs.Asking.{looks_up, refused}
+use Rattle.goo_tables.proofs.Asking.{looks_up, refused, refused_readable}
 
 pub returns-clause-looks : goal.returns-clause-looks
 returns-clause-looks g c =
@@ -13,3 +14,8 @@ returns-clause-looks g c =
 pub returns-clause-refused : goal.returns-clause-refused
 returns-clause-refused g c clean has unlimited =
     refused find_asks c.args.number (state g.S.Store c.args.conn.now) (state g.S.Store c.ask_first.new.conn) c.ask_first.result account_readable has unlimited (rw (c.small.ensures) at (c.ask_first.ensures.refused clean))
+
+pub returns-clause-readable : goal.returns-clause-readable
+returns-clause-readable g c clean unlimited t it fits =
+    let old = state g.S.Store c.args.conn.now in
+    refused_readable find_asks c.args.number old (state g.S.Store c.ask_first.new.conn) c.ask_first.result account_readable it.schema unlimited (readable_among accounts old it.accounts account_readable fits _ _) (rw (c.small.ensures) at (c.ask_first.ensures.refused clean))

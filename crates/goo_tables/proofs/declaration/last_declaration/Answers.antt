@@ -1,8 +1,9 @@
 use Rattle.sqlite.specs.Held.{state}
 use Rattle.goo_columns.specs.Readable.{declaration_readable}
-use Rattle.goo_tables.proofs.Declarations.{shows_last, last_asks}
+use Rattle.goo_tables.proofs.AnyTable.{readable_top}
+use Rattle.goo_tables.proofs.Declarations.{shows_last, last_asks, declarations}
 use Rattle.goo_tables.proofs.declaration.last_declaration.Goals as goal
-use Rattle.goo_tables.proofs.Asking.{looks_up, refused}
+use Rattle.goo_tables.proofs.Asking.{looks_up, refused, refused_readable}
 
 pub returns-clause-looks : goal.returns-clause-looks
 returns-clause-looks g c =
@@ -12,3 +13,8 @@ returns-clause-looks g c =
 pub returns-clause-refused : goal.returns-clause-refused
 returns-clause-refused g c clean has unlimited =
     refused last_asks tt (state g.S.Store c.args.conn.now) (state g.S.Store c.ask_first.new.conn) c.ask_first.result declaration_readable has unlimited (c.ask_first.ensures.refused clean)
+
+pub returns-clause-readable : goal.returns-clause-readable
+returns-clause-readable g c clean unlimited t it fits =
+    let old = state g.S.Store c.args.conn.now in
+    refused_readable last_asks tt old (state g.S.Store c.ask_first.new.conn) c.ask_first.result declaration_readable it.schema unlimited (readable_top declarations old it.declarations declaration_readable fits) (c.ask_first.ensures.refused clean)

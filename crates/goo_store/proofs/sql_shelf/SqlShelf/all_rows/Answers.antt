@@ -4,6 +4,8 @@ use Rattle.goo_store.specs.Moments.{tables_in}
 use Rattle.goo_kept.specs.Places.{rows_of, piece_of}
 use Rattle.goo_store.proofs.Looking.{looked, refused_look, well, known}
 use Rattle.goo_store.proofs.WholeLemmas.{all_within}
+use Rattle.goo_store.proofs.Blaming.{blames, refused_blames}
+use Rattle.goo_store.proofs.RowsRead.{pieces_found, pieces_read}
 use Rattle.goo_store.proofs.sql_shelf.SqlShelf.all_rows.Goals as goal
 
 pub returns-then-self-clause-looks : goal.returns-then-self-clause-looks
@@ -23,3 +25,12 @@ returns-clause-looks g c =
     c.args.self.now.refused c.told.new.refused c.told.result (λ live db may. g.met.S.Store.settled c.args.self.now.conn.store db live may) c.if-self.false c.read_rising.ensures.value c.told.ensures
     (λ kept rows pieces found read.
     read ∙ ap (map piece_of) (found ∙ all_within (tables_in (view g.S.Store c.args.self.now.conn)).lots (tables_in (view g.S.Store c.args.self.now.conn)).pieces kept.readable.pieces))
+
+pub returns-then-self-clause-store : goal.returns-then-self-clause-store
+returns-then-self-clause-store g c = refused_blames (view g.S.Store c.args.self.now.conn) c.args.self.now.refused _ c.if-self.true
+
+pub returns-clause-store : goal.returns-clause-store
+returns-clause-store g c =
+    blames (view g.S.Store c.args.self.now.conn) (view g.S.Store c.pieces_beginning-found.new.conn) c.args.self.now.well _ _ c.pieces_beginning-found.ensures.looks _ _ c.read_rising.result c.args.self.now.refused c.told.new.refused c.told.result
+    c.pieces_beginning-found.ensures.readable c.read_rising.ensures.accepts c.told.ensures (pieces_read (tables_in (view g.S.Store c.args.self.now.conn)))
+    (λ stands kept rows found. pieces_found (view g.S.Store c.args.self.now.conn).now (tables_in (view g.S.Store c.args.self.now.conn)) stands kept _ rows.items found)

@@ -1,12 +1,17 @@
-use Rattle.std.proofs.Common.{◌∙◌, ap, map}
+use Rattle.std.proofs.Common.{◌∙◌, ap, map, sym, map-id}
 use Rattle.goo_kept.specs.Devices.{declaration_of}
 use Rattle.sqlite.specs.Held.{state as view}
 use Rattle.goo_kept.specs.States.{state_of}
 use Rattle.goo_store.proofs.Looking.{looked, refused_look, well, known}
+use Rattle.goo_store.proofs.Blaming.{blames, refused_blames}
+use Rattle.goo_store.proofs.RowsRead.{listed}
+use Rattle.goo_kept.specs.Readable.{is_declaration}
+use Rattle.goo_columns.specs.Rows.{declaration_in}
+use Rattle.goo_store.specs.Moments.{tables_in}
 use Rattle.goo_store.proofs.sql_shelf.SqlShelf.declarations.Goals as goal
 
-pub returns-then-self : goal.returns-then-self
-returns-then-self g c = refused_look (view g.S.Store c.args.self.now.conn) c.args.self.now.well c.args.self.now.refused c.if-self.true (λ live db may. g.met.S.Store.settled c.args.self.now.conn.store db live may) _
+pub returns-then-self-clause-looks : goal.returns-then-self-clause-looks
+returns-then-self-clause-looks g c = refused_look (view g.S.Store c.args.self.now.conn) c.args.self.now.well c.args.self.now.refused c.if-self.true (λ live db may. g.met.S.Store.settled c.args.self.now.conn.store db live may) _
 
 pub invariant_of-self : goal.invariant_of-self
 invariant_of-self g c = record {
@@ -15,9 +20,18 @@ invariant_of-self g c = record {
   known = known (view g.S.Store c.args.self.now.conn) (view g.S.Store c.all_declarations-found.new.conn) c.args.self.now.well _ _ c.all_declarations-found.ensures.looks c.args.self.now.own c.args.self.now.known;
 }
 
-pub returns : goal.returns
+pub returns-clause-looks : goal.returns-clause-looks
 unfolding state_of
-returns g c =
+returns-clause-looks g c =
     looked (view g.S.Store c.args.self.now.conn) (view g.S.Store c.all_declarations-found.new.conn) c.args.self.now.well _ _ c.all_declarations-found.ensures.looks _ _ c.read_all.result
     c.args.self.now.refused c.told.new.refused c.told.result (λ live db may. g.met.S.Store.settled c.args.self.now.conn.store db live may) c.if-self.false c.read_all.ensures.value c.told.ensures
     (λ kept rows declared found read. read ∙ ap (map declaration_of) found)
+
+pub returns-then-self-clause-store : goal.returns-then-self-clause-store
+returns-then-self-clause-store g c = refused_blames (view g.S.Store c.args.self.now.conn) c.args.self.now.refused _ c.if-self.true
+
+pub returns-clause-store : goal.returns-clause-store
+returns-clause-store g c =
+    blames (view g.S.Store c.args.self.now.conn) (view g.S.Store c.all_declarations-found.new.conn) c.args.self.now.well _ _ c.all_declarations-found.ensures.looks _ _ c.read_all.result c.args.self.now.refused c.told.new.refused c.told.result
+    c.all_declarations-found.ensures.readable c.read_all.ensures.accepts c.told.ensures (λ can. can.declarations)
+    (λ stands kept rows found. listed is_declaration (λ d. d) declaration_in (tables_in (view g.S.Store c.args.self.now.conn)).declarations rows.items (found ∙ sym (map-id (tables_in (view g.S.Store c.args.self.now.conn)).declarations)) kept.readable.declarations)

@@ -7,10 +7,12 @@ use Rattle.goo_store.specs.Moments.{tables_in}
 use Rattle.sqlite.specs.Held.{state as view}
 use Rattle.goo_kept.specs.States.{state_of}
 use Rattle.goo_store.proofs.Looking.{looked, refused_look, well, known}
+use Rattle.goo_store.proofs.Blaming.{blames, refused_blames}
+use Rattle.goo_store.proofs.RowsRead.{devices_found}
 use Rattle.goo_store.proofs.sql_shelf.SqlShelf.device_numbers.Goals as goal
 
-pub returns-then-self : goal.returns-then-self
-returns-then-self g c = refused_look (view g.S.Store c.args.self.now.conn) c.args.self.now.well c.args.self.now.refused c.if-self.true (λ live db may. g.met.S.Store.settled c.args.self.now.conn.store db live may) _
+pub returns-then-self-clause-looks : goal.returns-then-self-clause-looks
+returns-then-self-clause-looks g c = refused_look (view g.S.Store c.args.self.now.conn) c.args.self.now.well c.args.self.now.refused c.if-self.true (λ live db may. g.met.S.Store.settled c.args.self.now.conn.store db live may) _
 
 pub invariant_of-self : goal.invariant_of-self
 invariant_of-self g c = record {
@@ -19,9 +21,18 @@ invariant_of-self g c = record {
   known = known (view g.S.Store c.args.self.now.conn) (view g.S.Store c.all_devices-found.new.conn) c.args.self.now.well _ _ c.all_devices-found.ensures.looks c.args.self.now.own c.args.self.now.known;
 }
 
-pub returns : goal.returns
+pub returns-clause-looks : goal.returns-clause-looks
 unfolding state_of
-returns g c =
+returns-clause-looks g c =
     looked (view g.S.Store c.args.self.now.conn) (view g.S.Store c.all_devices-found.new.conn) c.args.self.now.well _ _ c.all_devices-found.ensures.looks _ _ c.sorted_numbers.result
     c.args.self.now.refused c.told.new.refused c.told.result (λ live db may. g.met.S.Store.settled c.args.self.now.conn.store db live may) c.if-self.false c.sorted_numbers.ensures.value c.told.ensures
     (λ kept rows numbers found read. read ∙ ap (λ ds. keys (from_entries {R = text_cmp} (map device_entry ds))) found ∙ ap (λ es. keys (from_entries {R = text_cmp} es)) (entries_same (tables_in (view g.S.Store c.args.self.now.conn)).devices))
+
+pub returns-then-self-clause-store : goal.returns-then-self-clause-store
+returns-then-self-clause-store g c = refused_blames (view g.S.Store c.args.self.now.conn) c.args.self.now.refused _ c.if-self.true
+
+pub returns-clause-store : goal.returns-clause-store
+returns-clause-store g c =
+    blames (view g.S.Store c.args.self.now.conn) (view g.S.Store c.all_devices-found.new.conn) c.args.self.now.well _ _ c.all_devices-found.ensures.looks _ _ c.sorted_numbers.result c.args.self.now.refused c.told.new.refused c.told.result
+    c.all_devices-found.ensures.readable c.sorted_numbers.ensures.accepts c.told.ensures (λ can. can.devices)
+    (λ stands kept rows found. devices_found (view g.S.Store c.args.self.now.conn).now (tables_in (view g.S.Store c.args.self.now.conn)) stands kept rows.items found)

@@ -9,10 +9,15 @@ use Rattle.goo_kept.specs.Places.{lot_of}
 use Rattle.goo_kept.proofs.Known.{known_row, lot_test}
 use Rattle.goo_kept.specs.States.{state_of}
 use Rattle.goo_store.proofs.Looking.{looked, refused_look, well, known}
+use Rattle.goo_store.proofs.Blaming.{blames, refused_blames}
+use Rattle.goo_store.proofs.RowsRead.{found_row, lots_kept}
+use Rattle.goo_columns.specs.Rows.{lot_in}
+use Rattle.goo_store.specs.Reading.{IsReadableLot}
+use Rattle.goo_store.specs.Moments.{tables_in}
 use Rattle.goo_store.proofs.sql_shelf.SqlShelf.known_lot.Goals as goal
 
-pub returns-then-self : goal.returns-then-self
-returns-then-self g c = refused_look (view g.S.Store c.args.self.now.conn) c.args.self.now.well c.args.self.now.refused c.if-self.true (λ live db may. g.met.S.Store.settled c.args.self.now.conn.store db live may) _
+pub returns-then-self-clause-looks : goal.returns-then-self-clause-looks
+returns-then-self-clause-looks g c = refused_look (view g.S.Store c.args.self.now.conn) c.args.self.now.well c.args.self.now.refused c.if-self.true (λ live db may. g.met.S.Store.settled c.args.self.now.conn.store db live may) _
 
 pub invariant_of-self : goal.invariant_of-self
 invariant_of-self g c = record {
@@ -21,9 +26,9 @@ invariant_of-self g c = record {
   known = known (view g.S.Store c.args.self.now.conn) (view g.S.Store c.find_lot-found.new.conn) c.args.self.now.well _ _ c.find_lot-found.ensures.looks c.args.self.now.own c.args.self.now.known;
 }
 
-pub returns : goal.returns
+pub returns-clause-looks : goal.returns-clause-looks
 unfolding state_of
-returns g c =
+returns-clause-looks g c =
     looked (view g.S.Store c.args.self.now.conn) (view g.S.Store c.find_lot-found.new.conn) c.args.self.now.well _ _ c.find_lot-found.ensures.looks _ _ c.read_found.result
     c.args.self.now.refused c.told.new.refused c.told.result (λ live db may. g.met.S.Store.settled c.args.self.now.conn.store db live may) c.if-self.false c.read_found.ensures.value c.told.ensures
     (λ kept row lot found read.
@@ -31,3 +36,12 @@ returns g c =
     (λ l. (λ i. int_eq (pos l.origin) (pos ((c.from-origin.ensures ∙ c.get.ensures.value) i)) && (bytes_eq l.device (c.text.ensures.value i) && bytes_eq l.first_day ((c.as_str.ensures.value ∙ c.day_text-day.ensures.text) i)))
     ∙ lot_test l.origin l.device l.first_day c.args.origin c.args.device.now c.args.first_day c.day_text-day.ensures.limit)
     lot_of _ _ lot found read)
+
+pub returns-then-self-clause-store : goal.returns-then-self-clause-store
+returns-then-self-clause-store g c = refused_blames (view g.S.Store c.args.self.now.conn) c.args.self.now.refused _ c.if-self.true
+
+pub returns-clause-store : goal.returns-clause-store
+returns-clause-store g c =
+    blames (view g.S.Store c.args.self.now.conn) (view g.S.Store c.find_lot-found.new.conn) c.args.self.now.well _ _ c.find_lot-found.ensures.looks _ _ c.read_found.result c.args.self.now.refused c.told.new.refused c.told.result
+    c.find_lot-found.ensures.readable c.read_found.ensures.accepts c.told.ensures (λ can. can.lots)
+    (λ stands kept row found. found_row lot_in IsReadableLot _ (tables_in (view g.S.Store c.args.self.now.conn)).lots (lots_kept (view g.S.Store c.args.self.now.conn).now (tables_in (view g.S.Store c.args.self.now.conn)) stands kept) row found)

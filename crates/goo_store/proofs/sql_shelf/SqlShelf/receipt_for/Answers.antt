@@ -1,4 +1,4 @@
-use Rattle.std.proofs.Common.{◌∙◌, ap, refl}
+use Rattle.std.proofs.Common.{◌∙◌, ap, refl, pos, IsTrue}
 use Rattle.sqlite.specs.Held.{state as view}
 use Rattle.std.proofs.Common.{◌&&◌, option_map}
 use Rattle.sqlite_typed.specs.Tests.{bytes_eq}
@@ -8,10 +8,14 @@ use Rattle.goo_kept.specs.Replies.{receipt_of}
 use Rattle.goo_kept.proofs.Known.{known_kept, receipt_test, receipt_total}
 use Rattle.goo_kept.specs.States.{state_of}
 use Rattle.goo_store.proofs.Looking.{looked, refused_look, well, known}
+use Rattle.goo_store.proofs.Blaming.{blames, refused_blames}
+use Rattle.goo_store.proofs.RowsRead.{found_part, each_so}
+use Rattle.goo_kept.specs.Readable.{is_receipt}
+use Rattle.goo_store.specs.Moments.{tables_in}
 use Rattle.goo_store.proofs.sql_shelf.SqlShelf.receipt_for.Goals as goal
 
-pub returns-then-self : goal.returns-then-self
-returns-then-self g c = refused_look (view g.S.Store c.args.self.now.conn) c.args.self.now.well c.args.self.now.refused c.if-self.true (λ live db may. g.met.S.Store.settled c.args.self.now.conn.store db live may) _
+pub returns-then-self-clause-looks : goal.returns-then-self-clause-looks
+returns-then-self-clause-looks g c = refused_look (view g.S.Store c.args.self.now.conn) c.args.self.now.well c.args.self.now.refused c.if-self.true (λ live db may. g.met.S.Store.settled c.args.self.now.conn.store db live may) _
 
 pub invariant_of-self : goal.invariant_of-self
 invariant_of-self g c = record {
@@ -20,9 +24,9 @@ invariant_of-self g c = record {
   known = known (view g.S.Store c.args.self.now.conn) (view g.S.Store c.find_receipt-found.new.conn) c.args.self.now.well _ _ c.find_receipt-found.ensures.looks c.args.self.now.own c.args.self.now.known;
 }
 
-pub returns : goal.returns
+pub returns-clause-looks : goal.returns-clause-looks
 unfolding state_of
-returns g c =
+returns-clause-looks g c =
     looked (view g.S.Store c.args.self.now.conn) (view g.S.Store c.find_receipt-found.new.conn) c.args.self.now.well _ _ c.find_receipt-found.ensures.looks _ _ c.read_receipt.result
     c.args.self.now.refused c.told.new.refused c.told.result (λ live db may. g.met.S.Store.settled c.args.self.now.conn.store db live may) c.if-self.false c.read_receipt.ensures.value c.told.ensures
     (λ kept row receipt found read.
@@ -31,3 +35,12 @@ returns g c =
     read ∙ ap (λ known. seen_from known c.args.command.now) (known_kept receipt_total (λ k. (k.1.caller, k.1.key)) (caller, key) _
     (λ k. (λ i. bytes_eq k.1.caller (c.text.ensures.value i) && bytes_eq k.1.key (c.text-2.ensures.value i)) ∙ receipt_test k.1.caller k.1.key caller key)
     (λ k. k.1) receipt_of _ _ (option_map receipt_of (option_map receipt_in row)) found refl))
+
+pub returns-then-self-clause-store : goal.returns-then-self-clause-store
+returns-then-self-clause-store g c = refused_blames (view g.S.Store c.args.self.now.conn) c.args.self.now.refused _ c.if-self.true
+
+pub returns-clause-store : goal.returns-clause-store
+returns-clause-store g c =
+    blames (view g.S.Store c.args.self.now.conn) (view g.S.Store c.find_receipt-found.new.conn) c.args.self.now.well _ _ c.find_receipt-found.ensures.looks _ _ c.read_receipt.result c.args.self.now.refused c.told.new.refused c.told.result
+    c.find_receipt-found.ensures.readable c.read_receipt.ensures.accepts c.told.ensures (λ can. can.receipts)
+    (λ stands kept row found. found_part (λ k. k.1) receipt_in (λ r. IsTrue (is_receipt (pos 0, r))) _ (tables_in (view g.S.Store c.args.self.now.conn)).receipts (each_so is_receipt (λ k. IsTrue (is_receipt k)) (λ _ good. good) (tables_in (view g.S.Store c.args.self.now.conn)).receipts kept.readable.receipts) row found)

@@ -6,10 +6,12 @@ use Rattle.goo_store.specs.Moments.{tables_in}
 use Rattle.goo_kept.specs.Places.{rows_of}
 use Rattle.goo_kept.proofs.RowsFound.{last_found}
 use Rattle.goo_store.proofs.Looking.{looked, refused_look, well, known}
+use Rattle.goo_store.proofs.Blaming.{blames, refused_blames}
+use Rattle.goo_store.proofs.RowsRead.{last_piece, pieces_read}
 use Rattle.goo_store.proofs.sql_shelf.SqlShelf.row_before.Goals as goal
 
-pub returns-then-self : goal.returns-then-self
-returns-then-self g c = refused_look (view g.S.Store c.args.self.now.conn) c.args.self.now.well c.args.self.now.refused c.if-self.true (λ live db may. g.met.S.Store.settled c.args.self.now.conn.store db live may) _
+pub returns-then-self-clause-looks : goal.returns-then-self-clause-looks
+returns-then-self-clause-looks g c = refused_look (view g.S.Store c.args.self.now.conn) c.args.self.now.well c.args.self.now.refused c.if-self.true (λ live db may. g.met.S.Store.settled c.args.self.now.conn.store db live may) _
 
 pub invariant_of-self : goal.invariant_of-self
 invariant_of-self g c = record {
@@ -18,10 +20,19 @@ invariant_of-self g c = record {
   known = known (view g.S.Store c.args.self.now.conn) (view g.S.Store c.piece_before-found.new.conn) c.args.self.now.well _ _ c.piece_before-found.ensures.looks c.args.self.now.own c.args.self.now.known;
 }
 
-pub returns : goal.returns
+pub returns-clause-looks : goal.returns-clause-looks
 unfolding rows_of
-returns g c =
+returns-clause-looks g c =
     looked (view g.S.Store c.args.self.now.conn) (view g.S.Store c.piece_before-found.new.conn) c.args.self.now.well _ _ c.piece_before-found.ensures.looks _ _ c.read_maybe.result
     c.args.self.now.refused c.told.new.refused c.told.result (λ live db may. g.met.S.Store.settled c.args.self.now.conn.store db live may) c.if-self.false c.read_maybe.ensures.value c.told.ensures
     (λ kept row piece found read.
     last_found (λ a. nat_lt a.0.first c.args.low) (λ p. nat_lt p.first c.args.low) (λ a. refl) (pieces_beside (tables_in (view g.S.Store c.args.self.now.conn))) _ piece found read)
+
+pub returns-then-self-clause-store : goal.returns-then-self-clause-store
+returns-then-self-clause-store g c = refused_blames (view g.S.Store c.args.self.now.conn) c.args.self.now.refused _ c.if-self.true
+
+pub returns-clause-store : goal.returns-clause-store
+returns-clause-store g c =
+    blames (view g.S.Store c.args.self.now.conn) (view g.S.Store c.piece_before-found.new.conn) c.args.self.now.well _ _ c.piece_before-found.ensures.looks _ _ c.read_maybe.result c.args.self.now.refused c.told.new.refused c.told.result
+    c.piece_before-found.ensures.readable c.read_maybe.ensures.accepts c.told.ensures (pieces_read (tables_in (view g.S.Store c.args.self.now.conn)))
+    (λ stands kept row found. last_piece (view g.S.Store c.args.self.now.conn).now (tables_in (view g.S.Store c.args.self.now.conn)) stands kept _ row found)

@@ -9,6 +9,8 @@ use Rattle.goo_store.specs.Moments.{tables_in}
 use Rattle.goo_kept.specs.Places.{rows_of}
 use Rattle.goo_kept.proofs.Expiring.{expiring_found}
 use Rattle.goo_store.proofs.Looking.{looked, refused_look, well, known}
+use Rattle.goo_store.proofs.Blaming.{blames, refused_blames}
+use Rattle.goo_store.proofs.RowsRead.{pieces_found, pieces_read}
 use Rattle.goo_store.proofs.sql_shelf.SqlShelf.rows_expiring.Goals as goal
 
 pub returns-then-self-clause-looks : goal.returns-then-self-clause-looks
@@ -30,3 +32,12 @@ returns-clause-looks g c =
     let t = tables_in (view g.S.Store c.args.self.now.conn) in
     expiring_found t kept c.args.day c.day_text-text.ensures.limit _ _
     (found ∙ ap (λ text. filter (λ a. int_eq (pos a.0.kind) (pos 1) && both_and bytes_lt a.1.expires_on (Some text)) (pieces_beside t)) (c.as_str.ensures.value ∙ c.day_text-text.ensures.text)) read)
+
+pub returns-then-self-clause-store : goal.returns-then-self-clause-store
+returns-then-self-clause-store g c = refused_blames (view g.S.Store c.args.self.now.conn) c.args.self.now.refused _ c.if-self.true
+
+pub returns-clause-store : goal.returns-clause-store
+returns-clause-store g c =
+    blames (view g.S.Store c.args.self.now.conn) (view g.S.Store c.pieces_expiring-found.new.conn) c.args.self.now.well _ _ c.pieces_expiring-found.ensures.looks _ _ c.read_rising.result c.args.self.now.refused c.told.new.refused c.told.result
+    c.pieces_expiring-found.ensures.readable c.read_rising.ensures.accepts c.told.ensures (pieces_read (tables_in (view g.S.Store c.args.self.now.conn)))
+    (λ stands kept rows found. pieces_found (view g.S.Store c.args.self.now.conn).now (tables_in (view g.S.Store c.args.self.now.conn)) stands kept _ rows.items found)

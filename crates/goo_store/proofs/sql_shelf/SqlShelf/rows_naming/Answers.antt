@@ -9,6 +9,8 @@ use Rattle.goo_kept.specs.Places.{rows_of}
 use Rattle.goo_kept.proofs.Known.{number_is}
 use Rattle.goo_kept.proofs.RowsFound.{filtered, place_account}
 use Rattle.goo_store.proofs.Looking.{looked, refused_look, well, known}
+use Rattle.goo_store.proofs.Blaming.{blames, refused_blames}
+use Rattle.goo_store.proofs.RowsRead.{pieces_found, pieces_read}
 use Rattle.goo_store.proofs.sql_shelf.SqlShelf.rows_naming.Goals as goal
 
 pub returns-then-self-clause-looks : goal.returns-then-self-clause-looks
@@ -30,3 +32,12 @@ returns-clause-looks g c =
     filtered _ (λ p. account_of p.place == c.args.account)
     (λ a. ap (λ n. int_eq (pos a.0.account) (pos n)) c.get.ensures.value ∙ number_is a.0.account c.args.account ∙ sym (ap (λ n. n == c.args.account) (place_account a.0.kind a.0.account a.0.act)))
     (pieces_beside (tables_in (view g.S.Store c.args.self.now.conn))) _ _ found read)
+
+pub returns-then-self-clause-store : goal.returns-then-self-clause-store
+returns-then-self-clause-store g c = refused_blames (view g.S.Store c.args.self.now.conn) c.args.self.now.refused _ c.if-self.true
+
+pub returns-clause-store : goal.returns-clause-store
+returns-clause-store g c =
+    blames (view g.S.Store c.args.self.now.conn) (view g.S.Store c.pieces_of_account-found.new.conn) c.args.self.now.well _ _ c.pieces_of_account-found.ensures.looks _ _ c.read_rising.result c.args.self.now.refused c.told.new.refused c.told.result
+    c.pieces_of_account-found.ensures.readable c.read_rising.ensures.accepts c.told.ensures (pieces_read (tables_in (view g.S.Store c.args.self.now.conn)))
+    (λ stands kept rows found. pieces_found (view g.S.Store c.args.self.now.conn).now (tables_in (view g.S.Store c.args.self.now.conn)) stands kept _ rows.items found)

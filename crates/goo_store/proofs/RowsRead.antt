@@ -1,0 +1,149 @@
+-- The rows that statements find in tables that keep the rules are rows that are read.
+use Rattle.std.proofs.Common.{◌≡◌, ◌≤◌, ◌+◌, ◌++◌, ◌&&◌, nat_le, nat_lt, map-id, ℕ, ℤ, pos, Bool, true, false, cond, IsTrue, IfSome, IsSomeAnd, List, [], ◌∷◌, map, filter, find, reverse, length, All, Option, Some, None, option_map, refl, sym, ap, subst, ◌∙◌, arith}
+use Rattle.std.specs.List.{list_all, cons_option}
+use Rattle.std.proofs.lemmas.Iterator.Adapters.{option_map_id}
+use Rattle.std.proofs.lemmas.List.{length-map}
+use Rattle.std.proofs.lemmas.List.Elements.{All-nil, All-cons, All-head, All-tail, All-map, All-filter}
+use Rattle.std.proofs.lemmas.List.Folds.{list_all-map}
+use Rattle.std.proofs.lemmas.List.Sorted.{All-permutation, IsPermutation-reverse}
+use Rattle.sqlite.specs.Effect.{Database}
+use Rattle.sqlite.specs.declared.types.Value.TheVariants.{Int}
+use Rattle.sqlite_keyed.specs.Keyed.{get_by}
+use Rattle.sqlite_keyed.proofs.ListLemmas.{filter-map}
+use Rattle.sqlite_keyed.proofs.RuleLemmas.{first_of_both, second_of_both}
+use Rattle.sqlite_typed.specs.Tests.{bytes_eq}
+use Rattle.goo_types.specs.Piece.{IsRising, IsRisingFrom}
+use Rattle.goo_types.specs.Range.{Numbers}
+use Rattle.goo_types.specs.declared.piece.Piece.{Piece}
+use Rattle.goo_rows.specs.Rows.{is_near, meeting}
+use Rattle.goo_store.specs.Near.{reaching}
+use Rattle.goo_store.proofs.Merging.{near_found}
+use Rattle.goo_ranges.proofs.Rising.{rising-weaken}
+use Rattle.goo_columns.specs.Beside.{beside, pieces_beside, joined_columns, joined_in}
+use Rattle.goo_columns.specs.Readable.{meta_readable, numbered_meta_readable, joined_readable, piece_readable, lot_readable}
+use Rattle.goo_columns.specs.Rows.{Tables, Meta, Device, Lot, lot_key, meta_columns, meta_in, device_in, piece_columns, lot_columns}
+use Rattle.goo_columns.specs.Stands.{Stands}
+use Rattle.goo_columns.specs.declared.device.DeviceRow.{DeviceRow}
+use Rattle.goo_columns.specs.declared.joined.JoinedRow.{JoinedRow}
+use Rattle.goo_columns.specs.declared.meta.MetaRow.{MetaRow}
+use Rattle.goo_columns.specs.declared.piece.PieceRow.{PieceRow}
+use Rattle.goo_opening.specs.Reading.{CanBeRead}
+use Rattle.goo_kept.specs.Kept.{AreKept, IsKeptLot}
+use Rattle.goo_kept.specs.Places.{piece_of, rows_of}
+use Rattle.goo_kept.specs.Readable.{is_meta, is_device, is_lot, is_piece}
+use Rattle.goo_rules.proofs.CanBeRead.{each_with, each_kept}
+use Rattle.goo_store.specs.Reading.{IsReadableLot, IsReadablePiece, AreReadablePieces, AreReadableDevices}
+
+-- ---- a row that was found is one of the rows
+
+module _ {A B X : Type 0} (part : A → B) (of : X → B) (Q : B → Type 0) (test : A → Bool) where
+  pub found_part : (xs : List A) → All (λ a. Q (part a)) xs → (row : Option X) → option_map of row ≡ option_map part (find test xs) → IfSome row (λ r. Q (of r))
+  found_part [] all None is = tt
+  found_part [] all (Some r) is = absurd cc
+  found_part (x ∷ xs) all row is = go (test x) row is (found_part xs (All-tail (λ a. Q (part a)) x xs all))
+    where
+      go : (b : Bool) (o : Option X) → option_map of o ≡ option_map part (cond b (Some x) (find test xs)) → ((o : Option X) → option_map of o ≡ option_map part (find test xs) → IfSome o (λ r. Q (of r))) → IfSome o (λ r. Q (of r))
+      go false o same later = later o same
+      go true None same later = tt
+      go true (Some r) same later = let one : part x ≡ of r = cc in subst Q one (All-head (λ a. Q (part a)) x xs all)
+
+-- where the rows are found as they are
+pub found_row : {A X : Type 0} (of : X → A) (Q : A → Type 0) (test : A → Bool) (xs : List A) → All Q xs → (row : Option X) → option_map of row ≡ find test xs → IfSome row (λ r. Q (of r))
+found_row of Q test xs all row is = found_part (λ a. a) of Q test xs all row (is ∙ sym (option_map_id (find test xs)))
+
+-- rows that pass a test are such rows
+pub each_so : {A : Type 0} (p : A → Bool) (Q : A → Type 0) → ((a : A) → p a ≡ true → Q a) → (xs : List A) → list_all p xs ≡ true → All Q xs
+each_so p Q so [] all = All-nil Q
+each_so p Q so (x ∷ xs) all = All-cons Q x xs (so x (first_of_both (p x) (list_all p xs) all)) (each_so p Q so xs (second_of_both (p x) (list_all p xs) all))
+
+-- all rows, read from the table
+pub listed : {A B X : Type 0} (p : B → Bool) (part : A → B) (of : X → B) (xs : List A) (rows : List X) → map of rows ≡ map part xs → list_all (λ a. p (part a)) xs ≡ true → list_all (λ r. p (of r)) rows ≡ true
+listed p part of xs rows is all = sym (list_all-map p of rows) ∙ ap (list_all p) is ∙ list_all-map p part xs ∙ all
+
+-- ---- what `CanBeRead` says of the row of the registry, and of pieces beside their lots
+
+pub meta_read : (t : Tables) → CanBeRead t → meta_readable (meta_columns t.meta)
+meta_read t can =
+    let h : numbered_meta_readable (Int (pos 1) ∷ meta_columns t.meta) = All-head numbered_meta_readable (Int (pos 1) ∷ meta_columns t.meta) [] can.meta in
+    (omega arith, h.2, h.3, h.4, h.5, h.6, h.7, h.8, h.9)
+
+unmapped : {A B : Type 0} (P : B → Type 0) (f : A → B) (xs : List A) → All P (map f xs) → All (λ a. P (f a)) xs
+unmapped P f [] all = All-nil (λ a. P (f a))
+unmapped P f (x ∷ xs) all = All-cons (λ a. P (f a)) x xs (All-head P (f x) (map f xs) all) (unmapped P f xs (All-tail P (f x) (map f xs) all))
+
+module _ (R : Lot → Type 0) where
+  lot_found : (lots : List Lot) → All R lots → (id : ℤ) (l : Lot) → get_by lot_key lots id ≡ Some l → R l
+  lot_found lots all id l is = found_row (λ a. a) R _ lots all (Some l) (sym is)
+
+  pub each_beside : (Q : PieceRow → Type 0) (P : PieceRow × Lot → Type 0) → ((p : PieceRow) (l : Lot) → Q p → R l → P (p, l)) → (lots : List Lot) → All R lots → (ps : List PieceRow) → All Q ps → All P (beside lots ps)
+  each_beside Q P both lots there [] all = All-nil P
+  each_beside Q P both lots there (p ∷ ps) all = go (get_by lot_key lots (pos p.lot)) (lot_found lots there (pos p.lot)) (each_beside Q P both lots there ps (All-tail Q p ps all))
+    where
+      go : (o : Option Lot) → ((l : Lot) → o ≡ Some l → R l) → All P (beside lots ps) → All P (cons_option (option_map (λ (l : Lot). (p, l)) o) (beside lots ps))
+      go None is rest = rest
+      go (Some l) is rest = All-cons P (p, l) (beside lots ps) (both p l (All-head Q p ps all) (is l refl)) rest
+
+joined_read : (p : PieceRow) (l : Lot) → piece_readable (piece_columns p) → lot_readable 0 (lot_columns l) → joined_readable (joined_columns (p, l))
+joined_read p l a b = (
+  (omega arith, a.1, a.2, a.3, a.4, a.5, a.6),
+  (omega arith, b.1, b.2, b.3, (omega arith, b.4.1, b.4.2, b.4.3, b.4.4, b.4.5, b.4.6, b.4.7), b.5, b.6, b.7, b.8),
+)
+
+pub pieces_read : (t : Tables) → CanBeRead t → All joined_readable (map joined_columns (pieces_beside t))
+pieces_read t can =
+    All-map joined_readable joined_columns (pieces_beside t)
+    (each_beside (λ l. lot_readable 0 (lot_columns l)) (λ p. piece_readable (piece_columns p)) (λ a. joined_readable (joined_columns a)) joined_read t.lots
+    (unmapped (lot_readable 0) lot_columns t.lots can.lots) t.pieces (unmapped piece_readable piece_columns t.pieces can.pieces))
+
+-- some of the rows rise as all do
+rising_left : {A : Type 0} (f : A → Piece) (test : A → Bool) (low : ℕ) (xs : List A) → IsRisingFrom low (map f xs) → IsRisingFrom low (map f (filter test xs))
+rising_left f test low [] rising = tt
+rising_left f test low (x ∷ xs) rising = go (test x) (rising_left f test ((f x).last + 1) xs rising.2)
+  where
+    go : (b : Bool) → IsRisingFrom ((f x).last + 1) (map f (filter test xs)) → IsRisingFrom low (map f (cond b (x ∷ filter test xs) (filter test xs)))
+    go true rest = (rising.0, rising.1, rest)
+    go false rest = rising-weaken low ((f x).last + 1) (map f (filter test xs)) (omega (arith, rising.0, rising.1.0)) rest
+
+-- the rows near a range, as two statements find them
+pub near_rises : (range : Numbers) → range.first ≤ range.last → (rows : List Piece) → IsRising rows → (low high : ℕ) → low ≡ range.first → high ≡ range.last → (before : Option Piece) (later : List Piece)
+    → before ≡ find (λ p. nat_lt p.first low) (reverse rows) → later ≡ filter (λ p. nat_le low p.first && nat_le p.first (high + 1)) rows → IsRising (reaching range before ++ later)
+near_rises range forward rows rising low high is_low is_high before later first second =
+    let near = subst IsRising (map-id (meeting range rows)) (rising_left (λ p. p) (is_near range) 0 rows (subst IsRising (sym (map-id rows)) rising)) in
+    subst IsRising (sym (near_found range forward rows rising low high is_low is_high before later first second)) near
+
+-- ---- what the rules of the tables say of the rows that are found
+
+-- the row of the registry
+pub meta_found : (m : Meta) → is_meta m ≡ true → (row : Option MetaRow) → option_map meta_in row ≡ Some m → IsSomeAnd row (λ r. IsTrue (is_meta (meta_in r)))
+meta_found m good None is = absurd cc
+meta_found m good (Some r) is = let same : meta_in r ≡ m = cc in ap is_meta same ∙ good
+
+module _ (db : Database) (t : Tables) (stands : Stands db t) (kept : AreKept t) where
+  pub lots_kept : All IsReadableLot t.lots
+  lots_kept = each_with is_lot IsKeptLot IsReadableLot (λ l it good. record { values = good; days = it.valid }) t.lots (each_kept t.lots stands.lots.rise kept.lots) kept.readable.lots
+
+  pub pieces_kept : All IsReadablePiece (pieces_beside t)
+  pieces_kept =
+      each_beside IsReadableLot (λ p. IsTrue (is_piece p)) IsReadablePiece (λ p l good it. record { values = good; lot = it }) t.lots lots_kept t.pieces
+      (each_so is_piece (λ p. IsTrue (is_piece p)) (λ _ good. good) t.pieces kept.readable.pieces)
+
+  pub last_piece : (test : PieceRow × Lot → Bool) (row : Option JoinedRow) → option_map joined_in row ≡ find test (reverse (pieces_beside t)) → IfSome row (λ r. IsReadablePiece (joined_in r))
+  last_piece test = found_row joined_in IsReadablePiece test (reverse (pieces_beside t)) (All-permutation IsReadablePiece (pieces_beside t) (reverse (pieces_beside t)) (IsPermutation-reverse (pieces_beside t)) pieces_kept)
+
+  pub pieces_found : (test : PieceRow × Lot → Bool) (rows : List JoinedRow) → map joined_in rows ≡ filter test (pieces_beside t) → AreReadablePieces rows
+  unfolding rows_of
+  pieces_found test rows is = record {
+    each = unmapped IsReadablePiece joined_in rows (subst (All IsReadablePiece) (sym is) (All-filter test IsReadablePiece (pieces_beside t) pieces_kept));
+    rising = subst IsRising (ap (map piece_of) (sym is)) (rising_left piece_of test 0 (pieces_beside t) kept.rising);
+  }
+
+  pub devices_found : (rows : List DeviceRow) → map device_in rows ≡ map (λ k. k.1) t.devices → AreReadableDevices rows
+  devices_found rows is = record {
+    each = listed (λ d. is_device (pos 0, d)) (λ k. k.1) device_in t.devices rows is kept.readable.devices;
+    apart = λ gsrn.
+        let p = λ (d : Device). bytes_eq d.gsrn gsrn in
+        let same : length (filter (λ r. p (device_in r)) rows) ≡ length (filter (λ k. p k.1) t.devices) =
+            sym (length-map (filter (λ r. p (device_in r)) rows) device_in) ∙ ap length (sym (filter-map p device_in rows) ∙ ap (filter p) is ∙ filter-map p (λ k. k.1) t.devices)
+            ∙ length-map (filter (λ k. p k.1) t.devices) (λ k. k.1) in
+        subst (λ n. n ≤ 1) (sym same) (kept.devices gsrn);
+  }
