@@ -1,5 +1,5 @@
 -- A look-up answers `Store` only where the store failed.
-use Rattle.std.proofs.Common.{◌≡◌, ◌≢◌, ◌≤◌, inl, inr, Bool, true, false, None, IsTrue, refl, sym, subst, ◌∙◌, arith, true≢false, Ok, Err, Result, IfOk, IfErr, IsOkUnless}
+use Rattle.std.proofs.Common.{◌≡◌, ◌≢◌, ◌≤◌, inl, inr, Bool, true, false, IsTrue, refl, sym, subst, ◌∙◌, arith, true≢false, Ok, Err, Result, IfOk, IfErr, IsOkUnless}
 use Rattle.sqlite_disk.specs.Disk.{MoreFaults}
 use Rattle.sqlite.specs.State.{State, HasCleanDisk}
 use Rattle.sqlite.specs.declared.error.Error.{Error}

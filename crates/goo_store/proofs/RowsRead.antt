@@ -143,7 +143,7 @@ module _ (db : Database) (t : Tables) (stands : Stands db t) (kept : AreKept t) 
     apart = λ gsrn.
         let p = λ (d : Device). bytes_eq d.gsrn gsrn in
         let same : length (filter (λ r. p (device_in r)) rows) ≡ length (filter (λ k. p k.1) t.devices) =
-            sym (length-map (filter (λ r. p (device_in r)) rows) device_in) ∙ ap length (sym (filter-map p device_in rows) ∙ ap (filter p) is ∙ filter-map p (λ k. k.1) t.devices)
-            ∙ length-map (filter (λ k. p k.1) t.devices) (λ k. k.1) in
+        sym (length-map (filter (λ r. p (device_in r)) rows) device_in) ∙ ap length (sym (filter-map p device_in rows) ∙ ap (filter p) is ∙ filter-map p (λ k. k.1) t.devices)
+        ∙ length-map (filter (λ k. p k.1) t.devices) (λ k. k.1) in
         subst (λ n. n ≤ 1) (sym same) (kept.devices gsrn);
   }

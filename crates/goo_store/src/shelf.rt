@@ -29,7 +29,17 @@ use std::alloc::Global;
 
 impl<S: Alter> Shelf for SqlShelf<S> {
     ghost use Rattle.sqlite.specs.Held.{state as view};
+    ghost use Rattle.std.specs.Prelude.{◌≡◌, IfOk};
+    ghost use Rattle.std.specs.FinMap.{get, contains_key};
+    ghost use Rattle.goo_types.specs.Piece.{IsRising};
+    ghost use Rattle.goo_spec.specs.Lots.{lot_key};
+    ghost use Rattle.goo_rows.specs.Rows.{meeting as near};
+    ghost use Rattle.goo_shelf.specs.Counters.{counters_of};
+    ghost use Rattle.goo_shelf.specs.Meta.{meta_of};
+    ghost use Rattle.goo_shelf.specs.Rows.{expiring_on, naming_account};
+    ghost use Rattle.goo_shelf.specs.Shelf.{Looks, progress_of, IsRecordOf, receipt_of, arrival_of, totals_of};
     ghost use Rattle.goo_store.specs.Moments.{moment};
+    ghost use Rattle.goo_store.specs.StoreFaults.{BlamesStore};
     ghost use Rattle.goo_store.specs.Holding.{safe};
 
     ghost seen = { λ s. moment (view S.Store s.conn) s.refused };
@@ -38,39 +48,66 @@ impl<S: Alter> Shelf for SqlShelf<S> {
         self.count_refused()
     }
 
-    fn registry(&mut self) -> Result<Meta, Fault> {
+    fn registry(&mut self) -> Result<Meta, Fault>
+        ensures looks { Looks (moment (view S.Store self.old.conn) self.old.refused) (moment (view S.Store self.new.conn) self.new.refused) result (λ meta. meta ≡ meta_of (moment (view S.Store self.old.conn) self.old.refused).state) }
+        ensures store { BlamesStore (view S.Store self.old.conn) (view S.Store self.new.conn) self.old.refused result }
+    {
         self.own_meta()
     }
 
-    fn code(&mut self) -> Result<RegistryCode, Fault> {
+    fn code(&mut self) -> Result<RegistryCode, Fault>
+        ensures looks { Looks (moment (view S.Store self.old.conn) self.old.refused) (moment (view S.Store self.new.conn) self.new.refused) result (λ code. code ≡ (moment (view S.Store self.old.conn) self.old.refused).state.own) }
+        ensures store { BlamesStore (view S.Store self.old.conn) (view S.Store self.new.conn) self.old.refused result }
+    {
         self.own_code()
     }
 
-    fn today(&mut self) -> Result<Day, Fault> {
+    fn today(&mut self) -> Result<Day, Fault>
+        ensures looks { Looks (moment (view S.Store self.old.conn) self.old.refused) (moment (view S.Store self.new.conn) self.new.refused) result (λ day. day ≡ (moment (view S.Store self.old.conn) self.old.refused).state.today) }
+        ensures store { BlamesStore (view S.Store self.old.conn) (view S.Store self.new.conn) self.old.refused result }
+    {
         self.own_date()
     }
 
-    fn counters(&mut self) -> Result<Counters, Fault> {
+    fn counters(&mut self) -> Result<Counters, Fault>
+        ensures looks { Looks (moment (view S.Store self.old.conn) self.old.refused) (moment (view S.Store self.new.conn) self.new.refused) result (λ counters. counters ≡ counters_of (moment (view S.Store self.old.conn) self.old.refused).state) }
+        ensures store { BlamesStore (view S.Store self.old.conn) (view S.Store self.new.conn) self.old.refused result }
+    {
         self.next_numbers()
     }
 
-    fn holder(&mut self, code: &HolderCode) -> Result<Option<Name>, Fault> {
+    fn holder(&mut self, code: &HolderCode) -> Result<Option<Name>, Fault>
+        ensures looks { Looks (moment (view S.Store self.old.conn) self.old.refused) (moment (view S.Store self.new.conn) self.new.refused) result (λ name. name ≡ get (moment (view S.Store self.old.conn) self.old.refused).state.holders code.now) }
+        ensures store { BlamesStore (view S.Store self.old.conn) (view S.Store self.new.conn) self.old.refused result }
+    {
         self.name_of(code)
     }
 
-    fn account(&mut self, account: AccountNo) -> Result<Option<Account>, Fault> {
+    fn account(&mut self, account: AccountNo) -> Result<Option<Account>, Fault>
+        ensures looks { Looks (moment (view S.Store self.old.conn) self.old.refused) (moment (view S.Store self.new.conn) self.new.refused) result (λ found. found ≡ get (moment (view S.Store self.old.conn) self.old.refused).state.accounts account) }
+        ensures store { BlamesStore (view S.Store self.old.conn) (view S.Store self.new.conn) self.old.refused result }
+    {
         self.known_account(account)
     }
 
-    fn device(&mut self, device: &Gsrn) -> Result<Option<Device>, Fault> {
+    fn device(&mut self, device: &Gsrn) -> Result<Option<Device>, Fault>
+        ensures looks { Looks (moment (view S.Store self.old.conn) self.old.refused) (moment (view S.Store self.new.conn) self.new.refused) result (λ found. found ≡ get (moment (view S.Store self.old.conn) self.old.refused).state.devices device.now) }
+        ensures store { BlamesStore (view S.Store self.old.conn) (view S.Store self.new.conn) self.old.refused result }
+    {
         self.known_device(device)
     }
 
-    fn progress(&mut self, device: &Gsrn) -> Result<Progress, Fault> {
+    fn progress(&mut self, device: &Gsrn) -> Result<Progress, Fault>
+        ensures looks { Looks (moment (view S.Store self.old.conn) self.old.refused) (moment (view S.Store self.new.conn) self.new.refused) result (λ progress. progress ≡ progress_of (moment (view S.Store self.old.conn) self.old.refused).state device.now) }
+        ensures store { BlamesStore (view S.Store self.old.conn) (view S.Store self.new.conn) self.old.refused result }
+    {
         self.progress_for(device)
     }
 
-    fn device_record(&mut self, device: &Gsrn) -> Result<Option<DeviceRecord>, Fault> {
+    fn device_record(&mut self, device: &Gsrn) -> Result<Option<DeviceRecord>, Fault>
+        ensures looks { Looks (moment (view S.Store self.old.conn) self.old.refused) (moment (view S.Store self.new.conn) self.new.refused) result (IsRecordOf (moment (view S.Store self.old.conn) self.old.refused).state device.now) }
+        ensures store { BlamesStore (view S.Store self.old.conn) (view S.Store self.new.conn) self.old.refused result }
+    {
         self.record_for(device)
     }
 
@@ -80,7 +117,10 @@ impl<S: Alter> Shelf for SqlShelf<S> {
         caller: &HolderCode,
         key: &Key,
         command: &Command,
-    ) -> Result<Receipt, Fault> {
+    ) -> Result<Receipt, Fault>
+        ensures looks { Looks (moment (view S.Store self.old.conn) self.old.refused) (moment (view S.Store self.new.conn) self.new.refused) result (λ receipt. receipt ≡ receipt_of (get (moment (view S.Store self.old.conn) self.old.refused).state.receipts (caller.now, key.now)) command.now) }
+        ensures store { BlamesStore (view S.Store self.old.conn) (view S.Store self.new.conn) self.old.refused result }
+    {
         self.receipt_for(alloc, caller, key, command)
     }
 
@@ -89,39 +129,69 @@ impl<S: Alter> Shelf for SqlShelf<S> {
         origin: RegistryCode,
         device: &Gsrn,
         first_day: Day,
-    ) -> Result<Option<Lot>, Fault> {
+    ) -> Result<Option<Lot>, Fault>
+        ensures looks { Looks (moment (view S.Store self.old.conn) self.old.refused) (moment (view S.Store self.new.conn) self.new.refused) result (λ lot. lot ≡ get (moment (view S.Store self.old.conn) self.old.refused).state.lots (lot_key origin device.now first_day)) }
+        ensures store { BlamesStore (view S.Store self.old.conn) (view S.Store self.new.conn) self.old.refused result }
+    {
         self.known_lot(origin, device, first_day)
     }
 
-    fn peer(&mut self, code: RegistryCode) -> Result<bool, Fault> {
+    fn peer(&mut self, code: RegistryCode) -> Result<bool, Fault>
+        ensures looks { Looks (moment (view S.Store self.old.conn) self.old.refused) (moment (view S.Store self.new.conn) self.new.refused) result (λ known. known ≡ contains_key (moment (view S.Store self.old.conn) self.old.refused).state.peers code) }
+        ensures store { BlamesStore (view S.Store self.old.conn) (view S.Store self.new.conn) self.old.refused result }
+    {
         self.knows_peer(code)
     }
 
-    fn arrived(&mut self, alloc: Global, notice: &Notice) -> Result<Arrival, Fault> {
+    fn arrived(&mut self, alloc: Global, notice: &Notice) -> Result<Arrival, Fault>
+        ensures looks { Looks (moment (view S.Store self.old.conn) self.old.refused) (moment (view S.Store self.new.conn) self.new.refused) result (λ arrival. arrival ≡ arrival_of (get (moment (view S.Store self.old.conn) self.old.refused).state.arrived (notice.now.sender, notice.now.number)) notice.now) }
+        ensures store { BlamesStore (view S.Store self.old.conn) (view S.Store self.new.conn) self.old.refused result }
+    {
         self.arrival_of(alloc, notice)
     }
 
-    fn sent(&mut self, alloc: Global, notice: ActNo) -> Result<Option<Sent>, Fault> {
+    fn sent(&mut self, alloc: Global, notice: ActNo) -> Result<Option<Sent>, Fault>
+        ensures looks { Looks (moment (view S.Store self.old.conn) self.old.refused) (moment (view S.Store self.new.conn) self.new.refused) result (λ found. found ≡ get (moment (view S.Store self.old.conn) self.old.refused).state.sent notice) }
+        ensures store { BlamesStore (view S.Store self.old.conn) (view S.Store self.new.conn) self.old.refused result }
+    {
         self.known_sent(alloc, notice)
     }
 
-    fn cancelled(&mut self, cancellation: ActNo) -> Result<Option<CancelRecord>, Fault> {
+    fn cancelled(&mut self, cancellation: ActNo) -> Result<Option<CancelRecord>, Fault>
+        ensures looks { Looks (moment (view S.Store self.old.conn) self.old.refused) (moment (view S.Store self.new.conn) self.new.refused) result (λ found. found ≡ get (moment (view S.Store self.old.conn) self.old.refused).state.cancellations cancellation) }
+        ensures store { BlamesStore (view S.Store self.old.conn) (view S.Store self.new.conn) self.old.refused result }
+    {
         self.known_cancellation(cancellation)
     }
 
-    fn meeting(&mut self, alloc: Global, range: Range) -> Result<Vec<Piece>, Fault> {
+    fn meeting(&mut self, alloc: Global, range: Range) -> Result<Vec<Piece>, Fault>
+        ensures looks { Looks (moment (view S.Store self.old.conn) self.old.refused) (moment (view S.Store self.new.conn) self.new.refused) result (λ met. met.items ≡ near range (moment (view S.Store self.old.conn) self.old.refused).rows) }
+        ensures store { BlamesStore (view S.Store self.old.conn) (view S.Store self.new.conn) self.old.refused result }
+        ensures rising { IfOk result (λ met. IsRising met.items) }
+    {
         self.rows_near(alloc, range)
     }
 
-    fn expiring(&mut self, alloc: Global, day: Day) -> Result<Vec<Piece>, Fault> {
+    fn expiring(&mut self, alloc: Global, day: Day) -> Result<Vec<Piece>, Fault>
+        ensures looks { Looks (moment (view S.Store self.old.conn) self.old.refused) (moment (view S.Store self.new.conn) self.new.refused) result (λ met. met.items ≡ expiring_on day (moment (view S.Store self.old.conn) self.old.refused).rows) }
+        ensures store { BlamesStore (view S.Store self.old.conn) (view S.Store self.new.conn) self.old.refused result }
+        ensures rising { IfOk result (λ met. IsRising met.items) }
+    {
         self.rows_expiring(alloc, day)
     }
 
-    fn pieces_of(&mut self, alloc: Global, account: AccountNo) -> Result<Vec<Piece>, Fault> {
+    fn pieces_of(&mut self, alloc: Global, account: AccountNo) -> Result<Vec<Piece>, Fault>
+        ensures looks { Looks (moment (view S.Store self.old.conn) self.old.refused) (moment (view S.Store self.new.conn) self.new.refused) result (λ met. met.items ≡ naming_account account (moment (view S.Store self.old.conn) self.old.refused).rows) }
+        ensures store { BlamesStore (view S.Store self.old.conn) (view S.Store self.new.conn) self.old.refused result }
+        ensures rising { IfOk result (λ met. IsRising met.items) }
+    {
         self.rows_naming(alloc, account)
     }
 
-    fn totals(&mut self, alloc: Global) -> Result<Vec<DeviceTotals>, Fault> {
+    fn totals(&mut self, alloc: Global) -> Result<Vec<DeviceTotals>, Fault>
+        ensures looks { Looks (moment (view S.Store self.old.conn) self.old.refused) (moment (view S.Store self.new.conn) self.new.refused) result (λ totals. totals.items ≡ totals_of (moment (view S.Store self.old.conn) self.old.refused).state) }
+        ensures store { BlamesStore (view S.Store self.old.conn) (view S.Store self.new.conn) self.old.refused result }
+    {
         self.all_totals(alloc)
     }
 

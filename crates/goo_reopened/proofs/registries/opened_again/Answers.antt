@@ -8,5 +8,5 @@ use Rattle.goo_reopened.proofs.registries.opened_again.Goals as goal
 pub opened-requires : goal.opened-requires
 opened-requires g c = record {
   ordered = ordered_again (state g.S.Store c.into_connection-conn.result) c.into_connection-conn.ensures.well
-      (subst (λ conn. HasCleanDisk (state g.S.Store conn) → doubts (state g.S.Store conn) ≡ 0) (sym c.into_connection-conn.ensures.conn) c.in-Ok.ensures.works);
+      (subst (λ conn. HasCleanDisk (state g.S.Store conn) → doubts (state g.S.Store conn) ≡ 0) (sym c.into_connection-conn.ensures.conn) c.in-Ok.ensures.looks.works);
 }
