@@ -50,11 +50,7 @@ pub fn plain_changes(alloc: Global, plan: &Plan) -> Result<Vec<Change>, Trouble>
 
 /// The changes of an accepted command that takes the next number of an account, a cancellation, a
 /// withdrawal or a notice. Any other command is refused.
-pub fn numbered_changes(
-    alloc: Global,
-    meta: &MetaRow,
-    plan: &Plan,
-) -> Result<Vec<Change>, Trouble>
+pub fn numbered_changes(alloc: Global, meta: &MetaRow, plan: &Plan) -> Result<Vec<Change>, Trouble>
     ensures does { IfOk result (λ changes. (t : Tables) → t.meta ≡ meta_in meta.now → plan.now.notice ≡ notice_sent (state_of t) plan.now.request.command → Does t plan.now.request.command changes.items) }
     ensures fits { IfOk result (λ changes. All ChangeFits changes.items) }
     ensures memory { IsTrue (is_meta (meta_in meta.now)) → CanTakeNumber meta.now plan.now.request.command plan.now.notice → IsOkUnless result Memory }
