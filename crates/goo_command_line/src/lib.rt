@@ -6,8 +6,6 @@
 
 mod line_fault;
 mod task;
-#[cfg(test)]
-mod tests;
 mod values;
 mod words;
 

@@ -5,7 +5,5 @@
 #![tactic(auto)]
 
 mod memory_file;
-#[cfg(test)]
-mod tests;
 
 pub use memory_file::MemoryFile;

@@ -11,8 +11,6 @@ mod lines;
 mod lines_fault;
 mod run;
 mod tally;
-#[cfg(test)]
-mod tests;
 mod unread;
 
 pub use answer::Answer;

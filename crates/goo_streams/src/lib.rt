@@ -130,6 +130,3 @@ pub fn write_whole<W: Write>(writer: &mut W, text: &[u8]) -> Result<(), WriteFau
     }
     Ok(())
 }
-
-#[cfg(test)]
-mod tests;

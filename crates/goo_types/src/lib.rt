@@ -27,8 +27,6 @@ pub mod lot;
 pub mod lot_fields;
 pub mod name;
 pub mod notice;
-#[cfg(test)]
-mod notice_tests;
 pub mod number;
 pub mod outcome;
 pub mod part;
@@ -44,8 +42,6 @@ pub mod serial;
 pub mod source_code;
 pub mod support;
 pub mod tech_code;
-#[cfg(test)]
-mod tests;
 pub mod text_fault;
 pub mod watts;
 pub mod wh;

@@ -1,5 +1,5 @@
 //! The texts of outcomes, against a table written by hand.
-use crate::{Unreadable, outcome_text, unreadable_text};
+use goo_outcome::{Unreadable, outcome_text, unreadable_text};
 use goo_types::account_no::AccountNo;
 use goo_types::act_no::ActNo;
 use goo_types::number::Number;

@@ -1,4 +1,6 @@
-use super::*;
+//! Lines that state no request, faults of the records and of the writer, and the limit of an input, over records that
+//! fail at each request.
+use goo_lines::{Desk, LinesFault, MOST_INPUT, Tally, run_lines};
 use goo_types::fault::Fault;
 use goo_types::outcome::Outcome;
 use goo_types::request::Request;

@@ -1,10 +1,11 @@
-use crate::MemoryFile;
+//! What a file in memory holds.
+use goo_disk::MemoryFile;
 use sqlite_disk::Disk;
 use std::io::ErrorKind;
 use std::test::Fail;
 
 #[test]
-fn what_is_written_is_read(rt: HostRuntime) -> Result<(), Fail> {
+fn what_is_written_is_read_and_nothing_beyond_the_end(rt: HostRuntime) -> Result<(), Fail> {
     let mut file = MemoryFile::new(rt.alloc());
     file.write_at(0, b"registry")?;
     file.write_at(10, b"more")?;
@@ -18,20 +19,13 @@ fn what_is_written_is_read(rt: HostRuntime) -> Result<(), Fail> {
     let mut read = [7; 4];
     file.read_at(0, &mut read)?;
     assert_eq!(rt; &read, b"rows");
-    Ok(())
-}
-
-#[test]
-fn beyond_the_end_nothing_is_read(rt: HostRuntime) -> Result<(), Fail> {
-    let mut file = MemoryFile::new(rt.alloc());
-    file.write_at(0, b"rows")?;
-    let mut read = [7; 2];
     for at in [3, 4, 5, usize::MAX] {
-        let Err(error) = file.read_at(at, &mut read) else {
+        let mut kept = [7; 2];
+        let Err(error) = file.read_at(at, &mut kept) else {
             return Err(Fail::new("read beyond the end"));
         };
         assert!(rt; error.kind() == ErrorKind::UnexpectedEof);
-        assert_eq!(rt; &read, &[7, 7]);
+        assert_eq!(rt; &kept, &[7, 7]);
     }
     Ok(())
 }

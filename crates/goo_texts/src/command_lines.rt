@@ -1,4 +1,5 @@
-use super::*;
+//! What command lines ask for.
+use goo_command_line::{LineFault, Place, Task, read_task};
 
 /// The task of these words, or the kind of their fault.
 fn told(asked: Result<Task, LineFault>) -> &'static str {
@@ -38,10 +39,6 @@ fn a_registry_in_memory_begins_as_it_is_told(rt: HostRuntime) {
     ];
     let opening = opened(read_task(rt.alloc(), words.as_slice()));
     assert_eq!(rt; opening, Some((7, *b"2025-03-01", 999_999_999_999)));
-}
-
-#[test]
-fn the_first_serial_is_one(rt: HostRuntime) {
     let words = [
         "goo",
         "run",

@@ -1,5 +1,6 @@
-use super::*;
-use std::io;
+//! Streams that are interrupted, that fail in the middle, and that have no more room.
+use goo_streams::{ReadFault, read_whole, write_whole};
+use std::io::{self, ErrorKind, Read, Write};
 use std::test::Fail;
 
 /// A text that is read one byte a call, with so many interruptions before each, and after so many bytes a failure.
@@ -54,7 +55,7 @@ struct Narrow {
     end: End,
 }
 
-#[derive(Debug, Clone, Copy, PartialEq, Eq, Drop)]
+#[derive(Clone, Copy, Drop)]
 enum End {
     Fails,
     TakesNothing,
@@ -84,8 +85,10 @@ impl Write for Narrow {
                 self.count += 1;
                 Ok(1)
             }
-            _ if self.end == End::Fails => Err(io::Error::from(ErrorKind::BrokenPipe)),
-            _ => Ok(0),
+            _ => match self.end {
+                End::Fails => Err(io::Error::from(ErrorKind::BrokenPipe)),
+                End::TakesNothing => Ok(0),
+            },
         }
     }
 
@@ -112,7 +115,7 @@ fn a_thousand_interruptions_are_passed_over_and_one_more_is_a_fault(
 }
 
 #[test]
-fn a_read_that_fails_in_the_middle_is_a_fault(rt: HostRuntime) -> Result<(), Fail> {
+fn a_fault_in_the_middle_and_at_the_limit(rt: HostRuntime) -> Result<(), Fail> {
     let mut broken = make_halting(b"abc", 0, 2);
     assert!(rt;
         matches!(
@@ -120,11 +123,6 @@ fn a_read_that_fails_in_the_middle_is_a_fault(rt: HostRuntime) -> Result<(), Fai
             Err(ReadFault::Read)
         )
     );
-    Ok(())
-}
-
-#[test]
-fn the_limit_is_exact(rt: HostRuntime) -> Result<(), Fail> {
     let mut whole = b"abc".as_slice();
     let input = read_whole(rt.alloc(), &mut whole, 3)?;
     assert_eq!(rt; input.as_slice(), b"abc".as_slice());

@@ -1,7 +1,6 @@
 //! The text of a notice, against texts written by hand: ten certificates of one January.
 use goo_notice::{NoticeFault, from_value, read, write};
 use serde_json::Value;
-use std::alloc::Global;
 use std::test::Fail;
 
 const NOTICE: &str = "{\"account\":5,\"addressee\":9,\"number\":1,\
@@ -30,13 +29,6 @@ fn exported(rt: HostRuntime) -> Result<(), Fail> {
     let value = Value::from_slice(rt.alloc(), NOTICE.as_bytes())?;
     assert!(rt; from_value(rt.alloc(), &value)?.is(&notice));
     Ok(())
-}
-
-/// What is told of the notice's text with one piece of it replaced.
-fn fault_with(alloc: Global, old: &str, new: &str) -> Result<Option<NoticeFault>, Fail> {
-    let (before, after) = NOTICE.split_once(old).ok_or("no such piece")?;
-    let text = format!(in alloc; "{before}{new}{after}")?;
-    Ok(read(alloc, text.as_bytes()).err())
 }
 
 /// A piece of the notice's text, what stands in its place, and what is told of that.
@@ -84,13 +76,10 @@ const CHANGES: [(&str, &str, NoticeFault); 18] = [
 #[test]
 fn changed(rt: HostRuntime) -> Result<(), Fail> {
     for (old, new, wanted) in CHANGES {
-        assert!(rt; fault_with(rt.alloc(), old, new)? == Some(wanted));
+        let (before, after) = NOTICE.split_once(old).ok_or("no such piece")?;
+        let text = format!(in rt.alloc(); "{before}{new}{after}")?;
+        assert!(rt; read(rt.alloc(), text.as_bytes()).err() == Some(wanted));
     }
-    Ok(())
-}
-
-#[test]
-fn no_parts_and_no_object(rt: HostRuntime) -> Result<(), Fail> {
     let none =
         "{\"account\":5,\"addressee\":9,\"number\":1,\"parts\":[],\"sender\":7,\"version\":1}";
     assert!(rt; read(rt.alloc(), none.as_bytes()).err() == Some(NoticeFault::Field));
