@@ -3,7 +3,7 @@
 usage: python3 bench/tables/profile.py PROGRAM statements [PLACE]          statements a request, by kind of request
        python3 bench/tables/profile.py PROGRAM costly WORKLOAD N [PLACE]   the costliest functions of N requests more, and the shares of the crates
 
-PLACE is disks unless told (memory: the tables in sorted lists). Each count is the difference of two runs: one with the requests and one without them, so that
+PLACE is disks unless told (memory: the tables in sorted lists; program: PROGRAM is crates/goo/out/goo itself). Each count is the difference of two runs: one with the requests and one without them, so that
 reading the schema and making the tables is left out. A statement is a call of the function by which the library looks a text up among those it has compiled,
 `Entry::fetch`. No part of the gate.
 """
@@ -22,6 +22,8 @@ sys.path.insert(0, str(HERE.parent))
 import kinds  # noqa: E402
 import workloads  # noqa: E402
 
+# The words that the program of the registry is run with.
+PROGRAM = ['run', '--memory', '--code', '7', '--today', '2025-03-01']
 STATEMENT = re.compile(r'Entry.*fetch')
 COMPILED = re.compile(r'listing.*understand')
 
@@ -69,16 +71,19 @@ def profile(program, place, lines):
     with tempfile.TemporaryDirectory() as folder:
         out, source = Path(folder) / 'out', Path(folder) / 'lines'
         source.write_text('\n'.join(lines) + '\n', encoding='utf-8')
-        words = [place] if place != 'file' else [place, str(Path(folder) / 'x.db')]
+        words = PROGRAM if place == 'program' else [place] if place != 'file' else [place, str(Path(folder) / 'x.db')]
         with open(source, 'rb') as given:
-            subprocess.run(['valgrind', '--tool=callgrind', f'--callgrind-out-file={out}', program, *words], stdin=given, stdout=subprocess.DEVNULL,
-                           stderr=subprocess.DEVNULL, check=True)
+            done = subprocess.run(['valgrind', '--tool=callgrind', f'--callgrind-out-file={out}', program, *words], stdin=given, stdout=subprocess.DEVNULL,
+                                  stderr=subprocess.DEVNULL, check=False)
+        if done.returncode > (place == 'program'):
+            sys.exit(f'{program} ended with status {done.returncode}')
         return Profile(out.read_text(encoding='utf-8', errors='replace'))
 
 
-def outcomes(program, lines):
+def outcomes(program, place, lines):
     """How often each word of an outcome comes."""
-    done = subprocess.run([program, 'memory'], input='\n'.join(lines) + '\n', capture_output=True, text=True, check=True)
+    words = PROGRAM if place == 'program' else ['memory']
+    done = subprocess.run([program, *words], input='\n'.join(lines) + '\n', capture_output=True, text=True, check=False)
     return collections.Counter(json.loads(line)['outcome'] for line in done.stdout.splitlines())
 
 
@@ -99,7 +104,7 @@ def statements(program, place):
     print('| Request | Statements | Compiled anew | Instructions | By function of goo_tables |\n|---|---|---|---|---|')
     for kind in kinds.KINDS:
         wanted = {'repeat': 'repeated', 'refuse': 'refused'}.get(kind, 'accepted')
-        if outcomes(program, kinds.lines(kind, 12))[wanted] - outcomes(program, kinds.lines(kind, 2))[wanted] != 10:
+        if outcomes(program, place, kinds.lines(kind, 12))[wanted] - outcomes(program, place, kinds.lines(kind, 2))[wanted] != 10:
             sys.exit(f'{kind}: not all are {wanted}')
         # The first request of a kind compiles its statements, so the counts are those of the ten after the first two.
         found = profile(program, place, kinds.lines(kind, 12)).minus(profile(program, place, kinds.lines(kind, 2)))
