@@ -29,24 +29,24 @@ fn tour<S: Alter>(rt: &HostRuntime, conn: &mut Connection<S>) -> Result<bool, an
     Ok(true)
 }
 
-fn in_memory(rt: &HostRuntime) -> Result<(), anyhow::Error> {
-    println!(rt; "-- in memory")?;
+/// The tour over tables in memory.
+fn in_memory(rt: &HostRuntime) -> Result<bool, anyhow::Error> {
     let mut conn = Connection::open_in_memory(rt.alloc())?;
-    let done = tour(rt, &mut conn)?;
-    println!(rt; "-- done: {done}")?;
-    Ok(())
+    tour(rt, &mut conn)
 }
 
-fn on_a_file(rt: &HostRuntime) -> Result<(), anyhow::Error> {
-    println!(rt; "-- on a file")?;
+/// The tour over tables in a file.
+fn on_a_file(rt: &HostRuntime) -> Result<bool, anyhow::Error> {
     let mut conn = Connection::open(rt, "registry.db")?;
-    let done = tour(rt, &mut conn)?;
-    println!(rt; "-- done: {done}")?;
-    Ok(())
+    tour(rt, &mut conn)
 }
 
 fn main(rt: HostRuntime) -> Result<(), anyhow::Error> {
-    in_memory(&rt)?;
-    on_a_file(&rt)?;
+    println!(rt; "-- in memory")?;
+    let done = in_memory(&rt)?;
+    println!(rt; "-- done: {done}")?;
+    println!(rt; "-- on a file")?;
+    let done = on_a_file(&rt)?;
+    println!(rt; "-- done: {done}")?;
     Ok(())
 }
