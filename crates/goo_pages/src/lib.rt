@@ -4,5 +4,3 @@
 mod near;
 pub mod page;
 pub mod paged;
-#[cfg(test)]
-mod tests;

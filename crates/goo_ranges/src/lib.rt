@@ -8,8 +8,6 @@ mod joined;
 mod page;
 mod pages;
 mod parts;
-#[cfg(test)]
-mod tests;
 
 pub use books::Book;
 pub use edits::Edit;

@@ -116,6 +116,7 @@ fn is_empty<S: Shelf>(rt: &impl Abort, alloc: Global, shelf: &mut S) -> Result<(
     assert!(rt; shelf.meeting(alloc, range)?.is_empty());
     assert!(rt; shelf.expiring(alloc, Day::read(b"2099-12-31")?)?.is_empty());
     assert!(rt; shelf.pieces_of(alloc, account)?.is_empty());
+    assert!(rt; shelf.totals(alloc)?.is_empty());
     Ok(())
 }
 
