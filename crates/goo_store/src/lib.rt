@@ -13,6 +13,7 @@ mod declarations;
 mod device_numbers;
 mod devices;
 mod edit_changes;
+mod findings;
 mod gathered_lots;
 mod holders;
 mod importing;
