@@ -1,5 +1,5 @@
 -- What a shelf keeps of its look-ups until the next commit.
-use Rattle.std.specs.Prelude.{◌≡◌, ◌⊎◌, ℕ, pos, List, [], All, Option, Some, None, option_map, Result, IsOkAnd}
+use Rattle.std.specs.Prelude.{◌≡◌, ◌⊎◌, ℕ, pos, List, [], All, Option, Some, None, option_map, Result, Ok, Err, IsOkAnd, IsSomeAnd}
 use Rattle.std.specs.Coded.{Coded, Coded-set, code_by, coded×, coded_list, coded_ℕ}
 use Rattle.std.specs.FinMap.{get}
 use Rattle.std.proofs.Props.{props}
@@ -9,9 +9,14 @@ use Rattle.sqlite.specs.declared.error.Error.{Error}
 use Rattle.sqlite_keyed.specs.Keyed.{get_by}
 use Rattle.goo_types.specs.declared.lot_fields.LotFields.{LotFields}
 use Rattle.goo_spec.specs.State.{Device}
-use Rattle.goo_columns.specs.Rows.{Tables, Meta, Lot, lot_key, meta_in}
+use Rattle.goo_columns.specs.Beside.{joined_in}
+use Rattle.goo_columns.specs.Rows.{Tables, Meta, Lot, device_in, lot_key, meta_in}
 use Rattle.goo_columns.specs.Stands.{doubts}
+use Rattle.goo_columns.specs.declared.device.DeviceRow.{DeviceRow}
+use Rattle.goo_columns.specs.declared.joined.JoinedRow.{JoinedRow}
 use Rattle.goo_columns.specs.declared.meta.MetaRow.{MetaRow}
+use Rattle.goo_columns.specs.declared.piece.PieceRow.{PieceRow}
+use Rattle.goo_kept.specs.Devices.{device_of}
 use Rattle.goo_kept.specs.Places.{lot_of}
 use Rattle.goo_kept.specs.States.{state_of}
 use Rattle.goo_store.specs.Moments.{tables_in}
@@ -29,9 +34,12 @@ abbrev pub IsDeviceOf : Option KnownDevice → Tables → Type 0
 IsDeviceOf None t = Unit {0}
 IsDeviceOf (Some known) t = get (state_of t).devices known.gsrn ≡ Some known.device
 
--- each lot is stated by the row under its number
+-- the row under the number states the lot
+abbrev pub IsStated : List Lot → ℕ → LotFields → Type 0
+IsStated lots n lot = option_map lot_of (get_by lot_key lots (pos n)) ≡ Some lot
+
 abbrev pub AreStated : List Lot → List NumberedLot → Type 0
-AreStated lots xs = All (λ x. option_map lot_of (get_by lot_key lots (pos x.number)) ≡ Some x.lot) xs
+AreStated lots xs = All (λ x. IsStated lots x.number x.lot) xs
 
 -- all that is kept is so in the tables
 pub record AreFindingsOf (findings : Findings) (t : Tables) : Type 0 where
@@ -52,6 +60,23 @@ pub record AreNone (findings : Findings) : Type 0 where
 -- what is kept after a row was read: what was kept before, or what was found
 abbrev pub KeepsFound : Result (Option MetaRow) Error → Option MetaRow → Option MetaRow → Type 0
 KeepsFound found old new = (new ≡ old) ⊎ IsOkAnd found (λ row. new ≡ row)
+
+-- what is kept after a device was read: what was kept before, or the device that was found, under the number that it was looked up by
+abbrev pub KeepsDevice : Result (Option DeviceRow) Error → List ℕ → Option KnownDevice → Option KnownDevice → Type 0
+KeepsDevice found gsrn old new = (new ≡ old) ⊎ IsOkAnd found (λ row. IsSomeAnd row (λ r. new ≡ Some (record { gsrn = gsrn; device = device_of (device_in r) })))
+
+-- the lot that a piece names is beside it
+abbrev pub IsBeside : List Lot → PieceRow × Lot → Type 0
+IsBeside lots a = get_by lot_key lots (pos a.0.lot) ≡ Some a.1
+
+-- what is kept after rows were read: where all of them were pieces beside the lots that they name, no lot that the tables don't state
+abbrev pub KeepsLots : List JoinedRow → List NumberedLot → List NumberedLot → Type 0
+KeepsLots rows old new = (lots : List Lot) → AreStated lots old → All (λ r. IsBeside lots (joined_in r)) rows → AreStated lots new
+
+-- so after a statement; what was kept before, where it failed
+abbrev pub KeepsRead : {T : Type 0} → Result T Error → (T → List JoinedRow) → List NumberedLot → List NumberedLot → Type 0
+KeepsRead (Ok x) rows old new = KeepsLots (rows x) old new
+KeepsRead (Err e) rows old new = new ≡ old
 
 -- ---- it has one proof at most, so it may be a ghost field
 

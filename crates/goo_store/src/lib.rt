@@ -17,6 +17,7 @@ mod findings;
 mod gathered_lots;
 mod holders;
 mod importing;
+mod kept_lots;
 mod lot_numbers;
 mod lots;
 mod member_changes;
