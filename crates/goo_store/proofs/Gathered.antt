@@ -1,5 +1,5 @@
 -- Calls that gather what the tables show, one after another, and what a shelf tells of them.
-use Rattle.std.proofs.Common.{◌≡◌, ◌≤◌, inl, inr, Bool, false, IsTrue, sym, ap, subst, ◌∙◌, arith, true≢false, Option, Ok, Err, Result, IfOk, OnOk, IsErr}
+use Rattle.std.proofs.Common.{◌≡◌, ◌≤◌, inl, inr, Bool, false, IsTrue, sym, ap, subst, ◌∙◌, arith, true≢false, Ok, Err, Result, IfOk, OnOk, IsErr}
 use Rattle.sqlite.specs.State.{State, HasCleanDisk, Survives}
 use Rattle.sqlite.specs.Tree.{Trees}
 use Rattle.sqlite.specs.Effect.{Database}
@@ -7,7 +7,6 @@ use Rattle.sqlite.specs.declared.error.Error.{Error}
 use Rattle.goo_types.specs.declared.fault.Fault.{Fault}
 use Rattle.goo_shelf.specs.Shelf as shelf
 use Rattle.goo_columns.specs.Rows.{Tables, tables_of}
-use Rattle.goo_columns.specs.declared.meta.MetaRow.{MetaRow}
 use Rattle.goo_columns.specs.Stands.{Stands, Rests, Looks, doubts}
 use Rattle.goo_kept.specs.Kept.{AreKept}
 use Rattle.goo_kept.specs.Places.{rows_of}
@@ -15,9 +14,10 @@ use Rattle.goo_kept.specs.States.{state_of}
 use Rattle.goo_store.specs.Carried.{AreInOrder}
 use Rattle.goo_store.specs.LookingUp.{LooksUp, IsOurs}
 use Rattle.goo_store.specs.Moments.{tables_in, count, moment, IsWell}
-use Rattle.goo_store.specs.OwnRow.{IsRowOf, Knows}
+use Rattle.goo_store.specs.Found.{AreFindingsOf, Knows}
 use Rattle.goo_store.specs.Preparing.{Prepares}
 use Rattle.goo_store.specs.Telling.{Passes, Tells}
+use Rattle.goo_store.specs.declared.findings.Findings.{Findings}
 use Rattle.goo_store.specs.declared.trouble.Trouble.{Trouble}
 use Rattle.goo_store.specs.declared.trouble.Trouble.TheVariants.{Memory, Refused}
 use Rattle.goo_store.specs.Holding.{is_sure, sure, LeavesCommit, left_by}
@@ -172,9 +172,9 @@ module _ {T : Type 0} (old new : State) (it : IsWell old) (r : Result T Trouble)
     settled = λ none. now_same none ∙ it.settled (before none) ∙ sym ((rests none).committed (sure new none).1);
   }
 
-  -- the row that is kept stays right
-  pub known : (own : Option MetaRow) → Knows old own → Knows new own
-  known own knows none = subst (IsRowOf own) (sym (tables_same none)) (knows (before none))
+  -- what is kept stays right
+  pub known : (findings : Findings) → Knows old findings → Knows new findings
+  known findings knows none = subst (AreFindingsOf findings) (sym (tables_same none)) (knows (before none))
 
   crash : LeavesCommit old → HasCleanDisk new → doubts old ≡ 0 → (b : Bool) → shelf.IsSafe (moment new b) (state_of (tables_in old))
   crash law late none b o left = left_by old it law none left.0 (gathers.crash late (sure old none).1 (ours none) left.0 left.1) o left.2

@@ -28,6 +28,6 @@ pub mod DeclareCarried
 pub mod Judging
 pub mod Unread
 pub mod DevicesApart
-pub mod OwnRows
+pub mod Found
 pub mod RowsRead
 pub mod Blaming

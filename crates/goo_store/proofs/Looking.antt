@@ -1,5 +1,5 @@
 -- Look-ups of a shelf, from those of the tables.
-use Rattle.std.proofs.Common.{◌≡◌, ◌≤◌, inl, inr, Bool, true, false, IsTrue, refl, sym, ap, subst, ◌∙◌, arith, true≢false, Option, Ok, Err, Result, IfOk, OnOk}
+use Rattle.std.proofs.Common.{◌≡◌, ◌≤◌, inl, inr, Bool, true, false, IsTrue, refl, sym, ap, subst, ◌∙◌, arith, true≢false, Ok, Err, Result, IfOk, OnOk}
 use Rattle.sqlite.specs.State.{State, HasCleanDisk}
 use Rattle.sqlite.specs.Effect.{Database}
 use Rattle.sqlite.specs.declared.error.Error.{Error}
@@ -8,8 +8,8 @@ use Rattle.goo_types.specs.declared.fault.Fault.TheVariants as fault
 use Rattle.goo_shelf.specs.Shelf as shelf
 use Rattle.goo_columns.proofs.Results.{if_ok}
 use Rattle.goo_columns.specs.Rows.{Tables, tables_of}
-use Rattle.goo_columns.specs.declared.meta.MetaRow.{MetaRow}
 use Rattle.goo_columns.specs.Stands.{Stands, Rests, Looks, doubts}
+use Rattle.goo_store.specs.declared.findings.Findings.{Findings}
 use Rattle.goo_store.specs.declared.trouble.Trouble.{Trouble}
 use Rattle.goo_store.specs.declared.trouble.Trouble.TheVariants.{Memory, Refused}
 use Rattle.goo_kept.specs.Kept.{AreKept}
@@ -17,7 +17,7 @@ use Rattle.goo_kept.specs.Places.{rows_of}
 use Rattle.goo_kept.specs.States.{state_of}
 use Rattle.goo_store.specs.Telling.{Passes, Tells}
 use Rattle.goo_store.specs.Moments.{tables_in, count, moment, IsWell}
-use Rattle.goo_store.specs.OwnRow.{IsRowOf, Knows}
+use Rattle.goo_store.specs.Found.{AreFindingsOf, Knows}
 use Rattle.goo_store.specs.Holding.{is_sure, sure, LeavesCommit, left_by, safe}
 
 module _ (old new : State) (it : IsWell old) {T : Type 0} (r : Result T Error) (right : Tables → T → Type 0) (looks : Looks old new r right) where
@@ -41,13 +41,13 @@ module _ (old new : State) (it : IsWell old) {T : Type 0} (r : Result T Error) (
     settled = λ none. now_same none ∙ it.settled (before none) ∙ sym ((rests none).committed (sure new none).1);
   }
 
-  -- a row of the tables before it is one of those after it
-  pub row_still : (own : Option MetaRow) → doubts new ≡ 0 → IsRowOf own (tables_in old) → IsRowOf own (tables_in new)
-  row_still own none = subst (IsRowOf own) (sym (tables_same none))
+  -- what is so of the tables before it is so of those after it
+  pub so_still : (P : Tables → Type 0) → doubts new ≡ 0 → P (tables_in old) → P (tables_in new)
+  so_still P none = subst P (sym (tables_same none))
 
-  -- the row that is kept stays right
-  pub known : (own : Option MetaRow) → Knows old own → Knows new own
-  known own knows none = row_still own none (knows (before none))
+  -- what is kept stays right
+  pub known : (findings : Findings) → Knows old findings → Knows new findings
+  known findings knows none = so_still (AreFindingsOf findings) none (knows (before none))
 
   crash : LeavesCommit old → HasCleanDisk new → doubts old ≡ 0 → (b : Bool) → shelf.IsSafe (moment new b) (state_of (tables_in old))
   crash law late none b o left =

@@ -67,7 +67,7 @@ meta_read t can =
     let h : numbered_meta_readable (Int (pos 1) ∷ meta_columns t.meta) = All-head numbered_meta_readable (Int (pos 1) ∷ meta_columns t.meta) [] can.meta in
     (omega arith, h.2, h.3, h.4, h.5, h.6, h.7, h.8, h.9)
 
-unmapped : {A B : Type 0} (P : B → Type 0) (f : A → B) (xs : List A) → All P (map f xs) → All (λ a. P (f a)) xs
+pub unmapped : {A B : Type 0} (P : B → Type 0) (f : A → B) (xs : List A) → All P (map f xs) → All (λ a. P (f a)) xs
 unmapped P f [] all = All-nil (λ a. P (f a))
 unmapped P f (x ∷ xs) all = All-cons (λ a. P (f a)) x xs (All-head P (f x) (map f xs) all) (unmapped P f xs (All-tail P (f x) (map f xs) all))
 

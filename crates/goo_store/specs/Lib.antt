@@ -1,5 +1,5 @@
 pub mod Moments
-pub mod OwnRow
+pub mod Found
 pub mod Holding
 pub mod Telling
 pub mod Reading

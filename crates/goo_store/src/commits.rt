@@ -1,9 +1,10 @@
 //! Carrying out plans: what a plan changes is gathered first, and then made in one transaction.
 
-ghost use Rattle.std.specs.Prelude.{◌≡◌, None, All, IfErr, IfOk};
+ghost use Rattle.std.specs.Prelude.{◌≡◌, All, IfErr, IfOk};
 ghost use Rattle.sqlite.specs.Held.{state as view};
 ghost use Rattle.goo_shelf.specs.Plan.{Fits, Commits};
 ghost use Rattle.goo_store.specs.Changes.{ChangeFits};
+ghost use Rattle.goo_store.specs.Found.{AreNone};
 ghost use Rattle.goo_store.specs.Moments.{moment, tables_in};
 ghost use Rattle.goo_store.specs.Planned.{IsPlanned};
 ghost use Rattle.goo_store.specs.Preparing.{Prepares};
@@ -11,6 +12,7 @@ ghost use Rattle.goo_store.specs.Telling.{IsTroubleOf, PassesOn};
 
 use crate::change::Change;
 use crate::committing::commit_changes;
+use crate::findings::Findings;
 use crate::plan_changes::plan_changes;
 use crate::sql_shelf::SqlShelf;
 use crate::trouble::{Trouble, told};
@@ -18,6 +20,7 @@ use goo_shelf::plan::Plan;
 use goo_types::fault::Fault;
 use sqlite::{Alter, Error};
 use std::alloc::Global;
+use std::mem;
 
 /// How a commit ended.
 fn ending(made: Result<(), Error>) -> Result<(), Trouble>
@@ -31,18 +34,19 @@ fn ending(made: Result<(), Error>) -> Result<(), Trouble>
 }
 
 impl<S: Alter> SqlShelf<S> {
-    /// The changes that carry out a plan. Nothing is changed yet, and no row is kept any more.
+    /// The changes that carry out a plan. Nothing is changed yet, and nothing that was found is kept
+    /// any more.
     fn changes_for(&mut self, alloc: Global, plan: &Plan) -> Result<Vec<Change>, Fault>
         ensures prepares { Prepares (moment (view S.Store self.old.conn) self.old.refused) (moment (view S.Store self.new.conn) self.new.refused) result }
         ensures planned { (moment (view S.Store self.new.conn) self.new.refused).doubts ≡ 0 → IfOk result (λ changes. Fits (moment (view S.Store self.new.conn) self.new.refused).state (moment (view S.Store self.new.conn) self.new.refused).rows plan.now → IsPlanned (tables_in (view S.Store self.new.conn)) changes.items plan.now) }
         ensures fits { IfOk result (λ changes. All ChangeFits changes.items) }
-        ensures taken { IfOk result (λ _. self.new.own ≡ None) }
+        ensures taken { IfOk result (λ _. AreNone self.new.findings) }
     {
         if self.refused {
             return Err(Fault::Store);
         }
-        let own = self.own.take();
-        let changes = plan_changes(alloc, &mut self.conn, own, plan);
+        let findings = mem::replace(&mut self.findings, Findings::none(alloc));
+        let changes = plan_changes(alloc, &mut self.conn, findings, plan);
         told(changes, &mut self.refused)
     }
 

@@ -6,12 +6,14 @@ ghost use Rattle.sqlite.specs.Held.{state as view};
 ghost use Rattle.goo_columns.specs.Rows.{device_in};
 ghost use Rattle.goo_shelf.specs.Shelf.{Looks, progress_of, IsRecordOf};
 ghost use Rattle.goo_kept.specs.Devices.{device_of, progress_in, record_in};
+ghost use Rattle.goo_store.specs.Found.{KeepsDevice};
 ghost use Rattle.goo_store.specs.Moments.{moment};
 ghost use Rattle.goo_store.specs.StoreFaults.{BlamesStore};
 ghost use Rattle.goo_kept.specs.Readable.{is_device, is_maybe_day};
 ghost use Rattle.goo_store.specs.Telling.{Accepts, Passes};
 ghost use Rattle.goo_kept.specs.Texts.{day_of};
 
+use crate::findings::KnownDevice;
 use crate::plants::read_plant;
 use crate::sql_shelf::SqlShelf;
 use crate::trouble::{Trouble, told};
@@ -92,16 +94,26 @@ fn read_progress(found: Result<Option<DeviceRow>, Error>) -> Result<Progress, Tr
     progress_in_row(&row)
 }
 
-/// The device with its progress, if there is one.
-fn read_record(found: Result<Option<DeviceRow>, Error>) -> Result<Option<DeviceRecord>, Trouble>
+/// The device with its progress, if there is one. The device is kept then, under the number that it
+/// was looked up by.
+fn read_record(
+    found: Result<Option<DeviceRow>, Error>,
+    gsrn: &Gsrn,
+    kept: &mut Option<KnownDevice>,
+) -> Result<Option<DeviceRecord>, Trouble>
     ensures value { Passes found result (λ row found. found ≡ record_in (option_map device_in row)) }
     ensures accepts { Accepts found result (λ row. IfSome row (λ r. IsTrue (is_device (pos 0, device_in r)))) }
+    ensures kept { KeepsDevice found gsrn.now kept.old kept.new }
 {
     let Some(row) = found? else {
         return Ok(None);
     };
     let device = device_in_row(&row)?;
     let progress = progress_in_row(&row)?;
+    *kept = Some(KnownDevice {
+        gsrn: *gsrn,
+        device,
+    });
     Ok(Some(DeviceRecord { device, progress }))
 }
 
@@ -139,6 +151,7 @@ impl<S: Alter> SqlShelf<S> {
             return Err(Fault::Store);
         }
         let found = find_device(self.alloc, &mut self.conn, device.text());
-        told(read_record(found), &mut self.refused)
+        let record = read_record(found, device, &mut self.findings.device);
+        told(record, &mut self.refused)
     }
 }

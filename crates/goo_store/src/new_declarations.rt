@@ -15,9 +15,11 @@ ghost use Rattle.goo_kept.specs.Texts.{day_of};
 ghost use Rattle.goo_store.specs.Carrying.{CarriesOut, IsAccepted};
 ghost use Rattle.goo_store.specs.Changes.{ChangeFits};
 ghost use Rattle.goo_store.specs.Declaring.{Begins, IsDue, Issues, SetsProgress};
+ghost use Rattle.goo_store.specs.Found.{IsDeviceOf};
 ghost use Rattle.goo_store.specs.LookingUp.{LooksUp};
 
 use crate::change::Change;
+use crate::findings::KnownDevice;
 use crate::gathered_lots::{Gathered, add_lot};
 use crate::new_rows::day_string;
 use crate::standing::{Standing, find_standing};
@@ -181,6 +183,7 @@ fn declared_changes(
 }
 
 /// What an accepted declaration changes, by the carry in Wh and the certificates that its reply states.
+/// The device isn't looked up where it is kept.
 ///
 /// # Errors
 ///
@@ -189,14 +192,15 @@ pub fn declare_changes<S: Alter>(
     alloc: Global,
     conn: &mut Connection<S>,
     meta: &MetaRow,
+    kept: Option<KnownDevice>,
     declared: &Declare,
     carry: u64,
     issued: Option<Range>,
 ) -> Result<Gathered, Trouble>
-    ensures looks { LooksUp (state S.Store conn.old) (state S.Store conn.new) result (λ t gathered. (q : Request) (reply : Reply) → q.command ≡ Command.Declare declared.now → reply ≡ Declared carry issued → t.meta ≡ meta_in meta.now → IsAccepted t q reply → CarriesOut t q.command gathered) }
+    ensures looks { LooksUp (state S.Store conn.old) (state S.Store conn.new) result (λ t gathered. (q : Request) (reply : Reply) → q.command ≡ Command.Declare declared.now → reply ≡ Declared carry issued → t.meta ≡ meta_in meta.now → IsDeviceOf kept t → IsAccepted t q reply → CarriesOut t q.command gathered) }
     ensures fits { IfOk result (λ gathered. All ChangeFits gathered.changes.items) }
     ensures outside { conn.old.in_transaction ≡ false → conn.new.in_transaction ≡ false }
 {
-    let standing = find_standing(alloc, conn, &declared.device)?;
+    let standing = find_standing(alloc, conn, kept, &declared.device)?;
     declared_changes(alloc, meta, declared, carry, issued, &standing)
 }

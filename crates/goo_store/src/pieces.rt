@@ -1,15 +1,19 @@
 //! Rows of `piece` beside their lots, as pieces.
 
 ghost use Rattle.std.specs.Prelude.{◌≡◌, ◌++◌, ◌↔◌, [], ◌∷◌, All, IfOk, IfSome, IsOk, IsOkUnless, OnOk, IsTrue, map, option_map};
+ghost use Rattle.std.specs.List.{cons_option};
 ghost use Rattle.goo_types.specs.Piece.{IsRising};
 ghost use Rattle.goo_columns.specs.Beside.{joined_in};
 ghost use Rattle.goo_kept.specs.Places.{place_of, piece_of};
 ghost use Rattle.goo_kept.specs.Readable.{is_act, names_act};
+ghost use Rattle.goo_store.specs.Found.{KeepsLots, KeepsRead};
 ghost use Rattle.goo_store.specs.Near.{reaching};
 ghost use Rattle.goo_store.specs.Reading.{IsReadablePiece, AreReadablePieces};
 ghost use Rattle.goo_store.specs.Telling.{Accepts, Passes};
 ghost use Rattle.goo_store.specs.declared.trouble.Trouble.TheVariants.{Memory};
 
+use crate::kept_lots::keep_lot;
+use crate::lot_numbers::NumberedLot;
 use crate::lots::read_lot;
 use crate::numbers;
 use crate::trouble::Trouble;
@@ -37,7 +41,7 @@ fn read_place(kind: u32, account: u32, act: u32) -> Result<Place, Trouble>
 }
 
 /// The piece that a row states beside its lot.
-pub fn read_piece(row: &JoinedRow) -> Result<Piece, Trouble>
+fn read_piece(row: &JoinedRow) -> Result<Piece, Trouble>
     ensures value { IfOk result (λ piece. piece ≡ piece_of (joined_in row.now)) }
     ensures accepts { IsReadablePiece (joined_in row.now) → IsOk result }
 {
@@ -49,35 +53,60 @@ pub fn read_piece(row: &JoinedRow) -> Result<Piece, Trouble>
     })
 }
 
-/// The piece, if there is one.
-pub fn read_maybe(found: Result<Option<JoinedRow>, Error>) -> Result<Option<Piece>, Trouble>
+/// The piece that a row states beside its lot, which is kept.
+fn read_beside(row: &JoinedRow, lots: &mut Vec<NumberedLot>) -> Result<Piece, Trouble>
+    ensures value { IfOk result (λ piece. piece ≡ piece_of (joined_in row.now)) }
+    ensures accepts { IsReadablePiece (joined_in row.now) → IsOkUnless result Memory }
+    ensures kept { KeepsLots (row.now ∷ []) lots.old.items lots.new.items }
+{
+    let piece = read_piece(row)?;
+    keep_lot(lots, row.piece.lot, &piece.lot)?;
+    Ok(piece)
+}
+
+/// The piece, if there is one. Its lot is kept.
+pub fn read_maybe(
+    found: Result<Option<JoinedRow>, Error>,
+    lots: &mut Vec<NumberedLot>,
+) -> Result<Option<Piece>, Trouble>
     ensures value { Passes found result (λ row piece. piece ≡ option_map piece_of (option_map joined_in row)) }
     ensures accepts { Accepts found result (λ row. IfSome row (λ r. IsReadablePiece (joined_in r))) }
+    ensures kept { KeepsRead found (λ row. cons_option row []) lots.old.items lots.new.items }
 {
     match found? {
-        Some(row) => Ok(Some(read_piece(&row)?)),
+        Some(row) => Ok(Some(read_beside(&row, lots)?)),
         None => Ok(None),
     }
 }
 
-/// One row more.
-fn push_read(pieces: &mut Vec<Piece>, row: &JoinedRow) -> Result<(), Trouble>
+/// One row more. Its lot is kept.
+fn push_read(
+    pieces: &mut Vec<Piece>,
+    row: &JoinedRow,
+    lots: &mut Vec<NumberedLot>,
+) -> Result<(), Trouble>
     ensures pushed { OnOk result (pieces.new.items ≡ pieces.old.items ++ piece_of (joined_in row.now) ∷ []) }
     ensures accepts { IsReadablePiece (joined_in row.now) → IsOkUnless result Memory }
+    ensures kept { KeepsLots (row.now ∷ []) lots.old.items lots.new.items }
 {
-    let piece = [read_piece(row)?];
+    let piece = [read_beside(row, lots)?];
     pieces.extend_from_slice(&piece)?;
     Ok(())
 }
 
-/// Each row as a piece.
-fn read_each(alloc: Global, rows: &[JoinedRow]) -> Result<Vec<Piece>, Trouble>
+/// Each row as a piece. Their lots are kept.
+fn read_each(
+    alloc: Global,
+    rows: &[JoinedRow],
+    lots: &mut Vec<NumberedLot>,
+) -> Result<Vec<Piece>, Trouble>
     ensures value { IfOk result (λ pieces. pieces.items ≡ map piece_of (map joined_in rows.now)) }
     ensures accepts { All (λ row. IsReadablePiece (joined_in row)) rows.now → IsOkUnless result Memory }
+    ensures kept { KeepsLots rows.now lots.old.items lots.new.items }
 {
     let mut pieces = Vec::new(alloc);
     for row in rows {
-        push_read(&mut pieces, row)?;
+        push_read(&mut pieces, row, lots)?;
     }
     Ok(pieces)
 }
@@ -96,16 +125,18 @@ pub fn are_rising(pieces: &[Piece]) -> bool
     true
 }
 
-/// The pieces, which must rise.
+/// The pieces, which must rise. Their lots are kept.
 pub fn read_rising(
     alloc: Global,
     found: Result<Vec<JoinedRow>, Error>,
+    lots: &mut Vec<NumberedLot>,
 ) -> Result<Vec<Piece>, Trouble>
     ensures value { Passes found result (λ rows pieces. pieces.items ≡ map piece_of (map joined_in rows.items)) }
     ensures accepts { Accepts found result (λ rows. AreReadablePieces rows.items) }
     ensures rising { IfOk result (λ pieces. IsRising pieces.items) }
+    ensures kept { KeepsRead found (λ rows. rows.items) lots.old.items lots.new.items }
 {
-    let pieces = read_each(alloc, &found?)?;
+    let pieces = read_each(alloc, &found?, lots)?;
     if are_rising(&pieces) {
         Ok(pieces)
     } else {

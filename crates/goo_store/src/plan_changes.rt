@@ -14,12 +14,13 @@ ghost use Rattle.goo_store.specs.Carrying.{CarriesOut, IsAccepted};
 ghost use Rattle.goo_store.specs.Changes.{made_all, ChangeFits};
 ghost use Rattle.goo_store.specs.EditChanges.{AreForEdits};
 ghost use Rattle.goo_store.specs.LookingUp.{LooksUp};
-ghost use Rattle.goo_store.specs.OwnRow.{IsRowOf};
+ghost use Rattle.goo_store.specs.Found.{AreFindingsOf, IsDeviceOf, IsRowOf};
 ghost use Rattle.goo_store.specs.Planned.{IsPlanned};
 
 use crate::change::Change;
 use crate::command_changes::{numbered_changes, plain_changes};
 use crate::edit_changes::changes_of_edits;
+use crate::findings::{Findings, KnownDevice};
 use crate::gathered_lots::Gathered;
 use crate::importing::import_changes;
 use crate::new_declarations::declare_changes;
@@ -69,16 +70,17 @@ fn declaration<S: Alter>(
     alloc: Global,
     conn: &mut Connection<S>,
     meta: &MetaRow,
+    device: Option<KnownDevice>,
     declared: &Declare,
     reply: Reply,
 ) -> Result<Gathered, Trouble>
-    ensures looks { LooksUp (state S.Store conn.old) (state S.Store conn.new) result (λ t gathered. (q : Request) → q.command ≡ Command.Declare declared.now → t.meta ≡ meta_in meta.now → IsAccepted t q reply → CarriesOut t q.command gathered) }
+    ensures looks { LooksUp (state S.Store conn.old) (state S.Store conn.new) result (λ t gathered. (q : Request) → q.command ≡ Command.Declare declared.now → t.meta ≡ meta_in meta.now → IsDeviceOf device t → IsAccepted t q reply → CarriesOut t q.command gathered) }
     ensures fits { IfOk result (λ gathered. All ChangeFits gathered.changes.items) }
     ensures outside { conn.old.in_transaction ≡ false → conn.new.in_transaction ≡ false }
 {
     match reply {
         Reply::Declared { carry, issued } => {
-            declare_changes(alloc, conn, meta, declared, carry, issued)
+            declare_changes(alloc, conn, meta, device, declared, carry, issued)
         }
         _ => Err(Trouble::Refused),
     }
@@ -89,28 +91,32 @@ fn by_own_row<S: Alter>(
     alloc: Global,
     conn: &mut Connection<S>,
     own: Option<MetaRow>,
+    device: Option<KnownDevice>,
     plan: &Plan,
 ) -> Result<Gathered, Trouble>
-    ensures gathers { LooksUp (state S.Store conn.old) (state S.Store conn.new) result (λ t gathered. IsRowOf own t → AreKept t → AreInOrder t → Fits (state_of t) (rows_of t) plan.now → CarriesOut t plan.now.request.command gathered) }
+    ensures gathers { LooksUp (state S.Store conn.old) (state S.Store conn.new) result (λ t gathered. IsRowOf own t → IsDeviceOf device t → AreKept t → AreInOrder t → Fits (state_of t) (rows_of t) plan.now → CarriesOut t plan.now.request.command gathered) }
     ensures outside { conn.old.in_transaction ≡ false → conn.new.in_transaction ≡ false }
     ensures fits { IfOk result (λ gathered. All ChangeFits gathered.changes.items) }
 {
     let meta = known_row(alloc, conn, own)?;
     match &plan.request.command {
-        Command::Declare(command) => declaration(alloc, conn, &meta, command, plan.reply),
+        Command::Declare(command) => {
+            declaration(alloc, conn, &meta, device, command, plan.reply)
+        }
         _ => numbered(alloc, &meta, plan),
     }
 }
 
-/// What the plan's command changes beside the certificates. The registry's row is looked up for
-/// those commands alone that need it, where it isn't kept.
+/// What the plan's command changes beside the certificates. The registry's row and the device are
+/// looked up for those commands alone that need them, where they aren't kept.
 fn command_changes<S: Alter>(
     alloc: Global,
     conn: &mut Connection<S>,
     own: Option<MetaRow>,
+    device: Option<KnownDevice>,
     plan: &Plan,
 ) -> Result<Gathered, Trouble>
-    ensures gathers { LooksUp (state S.Store conn.old) (state S.Store conn.new) result (λ t gathered. IsRowOf own t → AreKept t → AreInOrder t → Fits (state_of t) (rows_of t) plan.now → CarriesOut t plan.now.request.command gathered) }
+    ensures gathers { LooksUp (state S.Store conn.old) (state S.Store conn.new) result (λ t gathered. IsRowOf own t → IsDeviceOf device t → AreKept t → AreInOrder t → Fits (state_of t) (rows_of t) plan.now → CarriesOut t plan.now.request.command gathered) }
     ensures outside { conn.old.in_transaction ≡ false → conn.new.in_transaction ≡ false }
     ensures fits { IfOk result (λ gathered. All ChangeFits gathered.changes.items) }
 {
@@ -120,7 +126,7 @@ fn command_changes<S: Alter>(
         | Command::Declare(_)
         | Command::Cancel(_)
         | Command::Withdraw(_)
-        | Command::Export(_) => by_own_row(alloc, conn, own, plan),
+        | Command::Export(_) => by_own_row(alloc, conn, own, device, plan),
         _ => plain(alloc, plan),
     }
 }
@@ -147,19 +153,22 @@ fn joined(
     Ok(changes)
 }
 
-/// The changes of the tables that carry out a plan, of which nothing is done yet. `own` is the
-/// registry's row, where it is kept.
+/// The changes of the tables that carry out a plan, of which nothing is done yet. What was found
+/// before isn't looked up again.
 pub fn plan_changes<S: Alter>(
     alloc: Global,
     conn: &mut Connection<S>,
-    own: Option<MetaRow>,
+    findings: Findings,
     plan: &Plan,
 ) -> Result<Vec<Change>, Trouble>
-    ensures gathers { LooksUp (state S.Store conn.old) (state S.Store conn.new) result (λ t changes. IsRowOf own t → AreKept t → AreInOrder t → Fits (state_of t) (rows_of t) plan.now → IsPlanned t changes.items plan.now) }
+    ensures gathers { LooksUp (state S.Store conn.old) (state S.Store conn.new) result (λ t changes. AreFindingsOf findings t → AreKept t → AreInOrder t → Fits (state_of t) (rows_of t) plan.now → IsPlanned t changes.items plan.now) }
     ensures outside { conn.old.in_transaction ≡ false → conn.new.in_transaction ≡ false }
     ensures fits { IfOk result (λ changes. All ChangeFits changes.items) }
 {
-    let act = command_changes(alloc, conn, own, plan)?;
-    let edits = changes_of_edits(alloc, conn, &act.added, &plan.edits)?;
+    let Findings { own, device, lots } = findings;
+    let act = command_changes(alloc, conn, own, device, plan)?;
+    let mut added = act.added;
+    added.extend_from_slice(&lots)?;
+    let edits = changes_of_edits(alloc, conn, &added, &plan.edits)?;
     joined(alloc, act.changes, edits, plan)
 }

@@ -9,7 +9,7 @@ ghost use Rattle.goo_shelf.specs.Meta.{meta_of};
 ghost use Rattle.goo_shelf.specs.Shelf.{Looks};
 ghost use Rattle.goo_store.specs.LookingUp.{LooksUp};
 ghost use Rattle.goo_store.specs.Moments.{moment};
-ghost use Rattle.goo_store.specs.OwnRow.{IsRowOf, KeepsFound};
+ghost use Rattle.goo_store.specs.Found.{IsRowOf, KeepsFound};
 ghost use Rattle.goo_store.specs.StoreFaults.{BlamesStore};
 ghost use Rattle.goo_store.specs.Telling.{Accepts, Passes};
 ghost use Rattle.goo_kept.specs.Readable.{is_meta};
@@ -117,7 +117,7 @@ impl<S: Alter> SqlShelf<S> {
             return Err(Fault::Store);
         }
         let found = find_meta(self.alloc, &mut self.conn);
-        told(read_meta(found, &mut self.own), &mut self.refused)
+        told(read_meta(found, &mut self.findings.own), &mut self.refused)
     }
 
     /// The registry's own code.

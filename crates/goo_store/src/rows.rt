@@ -37,7 +37,8 @@ impl<S: Alter> SqlShelf<S> {
             return Err(Fault::Store);
         }
         let found = piece_before(alloc, &mut self.conn, low);
-        told(read_maybe(found), &mut self.refused)
+        let row = read_maybe(found, &mut self.findings.lots);
+        told(row, &mut self.refused)
     }
 
     /// The rows that begin between two numbers, both counted.
@@ -50,7 +51,8 @@ impl<S: Alter> SqlShelf<S> {
             return Err(Fault::Store);
         }
         let found = pieces_beginning(alloc, &mut self.conn, low, high);
-        told(read_rising(alloc, found), &mut self.refused)
+        let rows = read_rising(alloc, found, &mut self.findings.lots);
+        told(rows, &mut self.refused)
     }
 
     /// The rows with a number of the range or next to one, rising.
@@ -76,7 +78,8 @@ impl<S: Alter> SqlShelf<S> {
             return Err(Fault::Store);
         }
         let found = pieces_beginning(alloc, &mut self.conn, 0, BEYOND_ALL);
-        told(read_rising(alloc, found), &mut self.refused)
+        let rows = read_rising(alloc, found, &mut self.findings.lots);
+        told(rows, &mut self.refused)
     }
 
     /// The rows whose place names an account, rising.
@@ -93,7 +96,8 @@ impl<S: Alter> SqlShelf<S> {
             return Err(Fault::Store);
         }
         let found = pieces_of_account(alloc, &mut self.conn, account.get());
-        told(read_rising(alloc, found), &mut self.refused)
+        let rows = read_rising(alloc, found, &mut self.findings.lots);
+        told(rows, &mut self.refused)
     }
 
     /// The held rows whose lot is over on a day, rising.
@@ -107,6 +111,7 @@ impl<S: Alter> SqlShelf<S> {
         }
         let text = day_text(day);
         let found = pieces_expiring(alloc, &mut self.conn, text.as_str());
-        told(read_rising(alloc, found), &mut self.refused)
+        let rows = read_rising(alloc, found, &mut self.findings.lots);
+        told(rows, &mut self.refused)
     }
 }

@@ -12,11 +12,11 @@ ghost use Rattle.goo_shelf.specs.Shelf.{IsReady};
 ghost use Rattle.goo_tables.specs.Changes.{begun};
 ghost use Rattle.goo_store.specs.Creating.{meta_of};
 ghost use Rattle.goo_store.specs.Moments.{IsWell, IsWell-prop, count, moment};
-ghost use Rattle.goo_store.specs.OwnRow.{Knows, Knows-prop};
+ghost use Rattle.goo_store.specs.Found.{Knows, Knows-prop};
 ghost use Rattle.goo_opening.specs.declared.fault.OpenFault.TheVariants.{AlreadyThere};
 
 use crate::creating::{begin, is_empty};
-use goo_columns::meta::MetaRow;
+use crate::findings::Findings;
 use goo_opening::fault::OpenFault;
 use goo_types::day::Day;
 use goo_types::registry_code::RegistryCode;
@@ -26,15 +26,15 @@ use std::alloc::Global;
 
 /// A registry's state in a database. From the first call on that was refused for another cause than
 /// memory, or that met a row which breaks the rules of the tables, it answers `Store` and calls the
-/// database no more. The registry's row is kept from a look-up to the next commit, which needs it.
+/// database no more. What look-ups found is kept for the next commit, which needs it.
 pub struct SqlShelf<S: Alter> {
     pub(crate) alloc: Global,
     pub(crate) conn: Connection<S>,
     pub(crate) refused: bool,
-    pub(crate) own: Option<MetaRow>,
+    pub(crate) findings: Findings,
     ghost outside: { conn.in_transaction ≡ false },
     ghost well: { IsWell (view S.Store conn) } by { IsWell-prop (view S.Store conn) },
-    ghost known: { Knows (view S.Store conn) own } by { Knows-prop (view S.Store conn) own },
+    ghost known: { Knows (view S.Store conn) findings } by { Knows-prop (view S.Store conn) findings },
 }
 
 impl<S: Alter + Drop> Drop for SqlShelf<S> {
@@ -43,7 +43,7 @@ impl<S: Alter + Drop> Drop for SqlShelf<S> {
             alloc: _,
             conn: _conn,
             refused: _,
-            own: _own,
+            findings: _findings,
         } = self;
     }
 }
@@ -60,7 +60,7 @@ impl<S: Alter> SqlShelf<S> {
             alloc,
             conn,
             refused: false,
-            own: None,
+            findings: Findings::none(alloc),
         }
     }
 
@@ -118,7 +118,7 @@ impl<S: Alter> SqlShelf<S> {
             alloc: _,
             conn,
             refused: _,
-            own: _own,
+            findings: _findings,
         } = self;
         conn
     }

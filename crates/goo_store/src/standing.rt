@@ -8,12 +8,14 @@ ghost use Rattle.goo_columns.specs.Rows.{declaration_in, declaration_key, device
 ghost use Rattle.goo_kept.specs.Devices.{device_of};
 ghost use Rattle.goo_kept.specs.Readable.{is_device};
 ghost use Rattle.goo_kept.specs.States.{state_of};
+ghost use Rattle.goo_store.specs.Found.{IsDeviceOf};
 ghost use Rattle.goo_store.specs.LookingUp.{LooksUp};
 ghost use Rattle.goo_store.specs.LotRows.{next_declaration};
 ghost use Rattle.goo_store.specs.Standing.{IsStanding};
 ghost use Rattle.goo_store.specs.Telling.{Accepts, Passes};
 
 use crate::devices::device_in_row;
+use crate::findings::KnownDevice;
 use crate::gathered_lots::next_lot_number;
 use crate::trouble::Trouble;
 use goo_columns::declaration::DeclarationRow;
@@ -60,6 +62,22 @@ fn find_registered<S: Alter>(
     device_found(found)
 }
 
+/// A device that is registered: the one that is kept, where it has the number.
+fn known_registered<S: Alter>(
+    alloc: Global,
+    conn: &mut Connection<S>,
+    kept: Option<KnownDevice>,
+    gsrn: &Gsrn,
+) -> Result<Device, Trouble>
+    ensures looks { LooksUp (state S.Store conn.old) (state S.Store conn.new) result (λ t device. IsDeviceOf kept t → get (state_of t).devices gsrn.now ≡ Some device) }
+    ensures outside { conn.old.in_transaction ≡ false → conn.new.in_transaction ≡ false }
+{
+    match kept {
+        Some(known) if known.gsrn == *gsrn => Ok(known.device),
+        _ => find_registered(alloc, conn, gsrn),
+    }
+}
+
 /// The number after that of the last row.
 fn number_after(found: Result<Option<DeclarationRow>, Error>) -> Result<u64, Trouble>
     ensures value { Passes found result (λ row n. n ≡ next_declaration (option_map declaration_in row)) }
@@ -86,7 +104,7 @@ fn next_declaration_number<S: Alter>(
     number_after(found)
 }
 
-/// What the tables hold for a declaration of a device.
+/// What the tables hold for a declaration of a device, which isn't looked up where it is kept.
 ///
 /// # Errors
 ///
@@ -94,12 +112,13 @@ fn next_declaration_number<S: Alter>(
 pub fn find_standing<S: Alter>(
     alloc: Global,
     conn: &mut Connection<S>,
+    kept: Option<KnownDevice>,
     gsrn: &Gsrn,
 ) -> Result<Standing, Trouble>
-    ensures looks { LooksUp (state S.Store conn.old) (state S.Store conn.new) result (λ t standing. IsStanding t gsrn.now standing) }
+    ensures looks { LooksUp (state S.Store conn.old) (state S.Store conn.new) result (λ t standing. IsDeviceOf kept t → IsStanding t gsrn.now standing) }
     ensures outside { conn.old.in_transaction ≡ false → conn.new.in_transaction ≡ false }
 {
-    let device = find_registered(alloc, conn, gsrn)?;
+    let device = known_registered(alloc, conn, kept, gsrn)?;
     let number = next_declaration_number(alloc, conn)?;
     let next_lot = next_lot_number(alloc, conn)?;
     Ok(Standing {

@@ -1,6 +1,6 @@
-use Rattle.std.proofs.Common.{sym, subst}
+use Rattle.std.proofs.Common.{subst}
 use Rattle.sqlite.specs.Held.{state as view}
-use Rattle.goo_store.specs.OwnRow.{IsRowOf}
+use Rattle.goo_store.specs.Found.{IsRowOf}
 use Rattle.goo_store.proofs.LookUps.{looks_none, looks_so}
 use Rattle.goo_store.proofs.registry_row.known_row.Goals as goal
 

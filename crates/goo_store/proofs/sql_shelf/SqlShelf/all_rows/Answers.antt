@@ -1,8 +1,9 @@
-use Rattle.std.proofs.Common.{◌∙◌, ap, map}
+use Rattle.std.proofs.Common.{◌∙◌, refl, ap, map}
 use Rattle.sqlite.specs.Held.{state as view}
 use Rattle.goo_store.specs.Moments.{tables_in}
 use Rattle.goo_kept.specs.Places.{rows_of, piece_of}
-use Rattle.goo_store.proofs.Looking.{looked, refused_look, well, known}
+use Rattle.goo_store.proofs.Looking.{looked, refused_look, well}
+use Rattle.goo_store.proofs.Found.{lots_known, some_beside}
 use Rattle.goo_store.proofs.WholeLemmas.{all_within}
 use Rattle.goo_store.proofs.Blaming.{blames, refused_blames}
 use Rattle.goo_store.proofs.RowsRead.{pieces_found, pieces_read}
@@ -15,14 +16,17 @@ pub invariant_of-self : goal.invariant_of-self
 invariant_of-self g c = record {
   outside = c.pieces_beginning-found.ensures.outside c.args.self.now.outside;
   well = well (view g.S.Store c.args.self.now.conn) (view g.S.Store c.pieces_beginning-found.new.conn) c.args.self.now.well _ _ c.pieces_beginning-found.ensures.looks;
-  known = known (view g.S.Store c.args.self.now.conn) (view g.S.Store c.pieces_beginning-found.new.conn) c.args.self.now.well _ _ c.pieces_beginning-found.ensures.looks c.args.self.now.own c.args.self.now.known;
+  known =
+      lots_known (view g.S.Store c.args.self.now.conn) (view g.S.Store c.pieces_beginning-found.new.conn) c.args.self.now.well _ _ c.pieces_beginning-found.ensures.looks (λ rows. rows.items)
+      (λ rows is. some_beside (tables_in (view g.S.Store c.args.self.now.conn)) _ rows.items is)
+      c.args.self.now.findings (record { own = c.args.self.now.findings.own; device = c.args.self.now.findings.device; lots = c.read_rising-rows.new.lots }) refl refl c.args.self.now.known c.read_rising-rows.ensures.kept;
 }
 
 pub returns-clause-looks : goal.returns-clause-looks
 unfolding rows_of
 returns-clause-looks g c =
-    looked (view g.S.Store c.args.self.now.conn) (view g.S.Store c.pieces_beginning-found.new.conn) c.args.self.now.well _ _ c.pieces_beginning-found.ensures.looks _ _ c.read_rising.result
-    c.args.self.now.refused c.told.new.refused c.told.result (λ live db may. g.met.S.Store.settled c.args.self.now.conn.store db live may) c.if-self.false c.read_rising.ensures.value c.told.ensures
+    looked (view g.S.Store c.args.self.now.conn) (view g.S.Store c.pieces_beginning-found.new.conn) c.args.self.now.well _ _ c.pieces_beginning-found.ensures.looks _ _ c.read_rising-rows.result
+    c.args.self.now.refused c.told.new.refused c.told.result (λ live db may. g.met.S.Store.settled c.args.self.now.conn.store db live may) c.if-self.false c.read_rising-rows.ensures.value c.told.ensures
     (λ kept rows pieces found read.
     read ∙ ap (map piece_of) (found ∙ all_within (tables_in (view g.S.Store c.args.self.now.conn)).lots (tables_in (view g.S.Store c.args.self.now.conn)).pieces kept.readable.pieces))
 
@@ -31,6 +35,6 @@ returns-then-self-clause-store g c = refused_blames (view g.S.Store c.args.self.
 
 pub returns-clause-store : goal.returns-clause-store
 returns-clause-store g c =
-    blames (view g.S.Store c.args.self.now.conn) (view g.S.Store c.pieces_beginning-found.new.conn) c.args.self.now.well _ _ c.pieces_beginning-found.ensures.looks _ _ c.read_rising.result c.args.self.now.refused c.told.new.refused c.told.result
-    c.pieces_beginning-found.ensures.readable c.read_rising.ensures.accepts c.told.ensures (pieces_read (tables_in (view g.S.Store c.args.self.now.conn)))
+    blames (view g.S.Store c.args.self.now.conn) (view g.S.Store c.pieces_beginning-found.new.conn) c.args.self.now.well _ _ c.pieces_beginning-found.ensures.looks _ _ c.read_rising-rows.result c.args.self.now.refused c.told.new.refused c.told.result
+    c.pieces_beginning-found.ensures.readable c.read_rising-rows.ensures.accepts c.told.ensures (pieces_read (tables_in (view g.S.Store c.args.self.now.conn)))
     (λ stands kept rows found. pieces_found (view g.S.Store c.args.self.now.conn).now (tables_in (view g.S.Store c.args.self.now.conn)) stands kept _ rows.items found)

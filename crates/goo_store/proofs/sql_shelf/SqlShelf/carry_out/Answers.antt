@@ -2,9 +2,9 @@ use Rattle.std.proofs.Common.{◌≡◌, rules, sym, subst}
 use Rattle.sqlite.specs.Held.{state as view}
 use Rattle.goo_columns.specs.Stands.{doubts}
 use Rattle.goo_store.specs.Moments.{moment, tables_in}
-use Rattle.goo_store.specs.OwnRow.{Knows}
 use Rattle.goo_store.specs.Planned.{IsPlanned}
 use Rattle.goo_store.proofs.CommitLemmas.{well_after, committed}
+use Rattle.goo_store.proofs.Found.{none_known}
 use Rattle.goo_store.proofs.CommitsAfter.{not_refused, not_committed, as_err, fits_still, commits_after}
 use Rattle.goo_store.proofs.sql_shelf.SqlShelf.carry_out.Goals as goal
 
@@ -25,7 +25,7 @@ invariant_of-self g c =
     λ none. subst (λ xs. IsPlanned (tables_in mid) xs plan) (sym c.deref.ensures.value) (c.in_ok-changes.ensures.planned none (fits_still old (moment mid shelf.refused) plan _ c.in_ok-changes.ensures.prepares c.requires none)) in record {
       outside = it.outside;
       well = well_after mid (view g.S.Store c.commit_changes-made.new.conn) shelf.well c.deref.result.now plan planned c.commit_changes-made.result it.clean it.was_open it.works it.done it.kept it.crash;
-      known = subst (Knows (view g.S.Store c.commit_changes-made.new.conn)) (sym c.in_ok-changes.ensures.taken) (λ none. tt);
+      known = none_known (view g.S.Store c.commit_changes-made.new.conn) shelf.findings c.in_ok-changes.ensures.taken;
     }
 
 pub returns : goal.returns

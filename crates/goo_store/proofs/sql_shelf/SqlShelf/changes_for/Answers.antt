@@ -1,7 +1,8 @@
 use Rattle.std.proofs.Common.{sym, subst}
 use Rattle.sqlite.specs.Held.{state as view}
-use Rattle.goo_store.specs.OwnRow.{Knows}
+use Rattle.goo_store.specs.Found.{AreNone, Knows}
 use Rattle.goo_store.proofs.CommitsAfter.{refused_prepared}
+use Rattle.goo_store.proofs.Found.{none_known}
 use Rattle.goo_store.proofs.Gathered.{well, gathered, found_after, in_order, known}
 use Rattle.goo_store.proofs.sql_shelf.SqlShelf.changes_for.Goals as goal
 
@@ -12,7 +13,7 @@ pub invariant_of-self : goal.invariant_of-self
 invariant_of-self g c = record {
   outside = c.plan_changes-changes.ensures.outside c.args.self.now.outside;
   well = well (view g.S.Store c.args.self.now.conn) (view g.S.Store c.plan_changes-changes.new.conn) c.args.self.now.well c.plan_changes-changes.result _ c.plan_changes-changes.ensures.gathers;
-  known = subst (Knows (view g.S.Store c.plan_changes-changes.new.conn)) (sym c.take-own.ensures.after) (λ none. tt);
+  known = none_known (view g.S.Store c.plan_changes-changes.new.conn) c.replace-findings.new.dest (subst AreNone (sym c.replace-findings.ensures.after) c.none.ensures);
 }
 
 pub returns-clause-prepares : goal.returns-clause-prepares
@@ -26,4 +27,4 @@ returns-clause-planned g c =
     let new = view g.S.Store c.plan_changes-changes.new.conn in
     let after = well old new c.args.self.now.well c.plan_changes-changes.result _ c.plan_changes-changes.ensures.gathers in
     found_after old new c.args.self.now.well c.plan_changes-changes.result _ c.plan_changes-changes.ensures.gathers _ c.args.self.now.refused c.told.new.refused c.told.result c.told.ensures
-    (λ none changes is fits. is (subst (λ o. Knows new o) (sym c.take-own.ensures.value) (known old new c.args.self.now.well c.plan_changes-changes.result _ c.plan_changes-changes.ensures.gathers c.args.self.now.own c.args.self.now.known) none) (after.kept none) (in_order new.now _ (after.stands none)) fits)
+    (λ none changes is fits. is (subst (λ o. Knows new o) (sym c.replace-findings.ensures.value) (known old new c.args.self.now.well c.plan_changes-changes.result _ c.plan_changes-changes.ensures.gathers c.args.self.now.findings c.args.self.now.known) none) (after.kept none) (in_order new.now _ (after.stands none)) fits)

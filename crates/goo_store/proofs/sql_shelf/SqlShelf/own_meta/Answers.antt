@@ -1,7 +1,7 @@
 use Rattle.sqlite.specs.Held.{state as view}
 use Rattle.goo_store.specs.Moments.{tables_in}
 use Rattle.goo_store.proofs.Looking.{looked, refused_look, well}
-use Rattle.goo_store.proofs.OwnRows.{kept_known}
+use Rattle.goo_store.proofs.Found.{own_known}
 use Rattle.goo_store.proofs.Blaming.{blames, refused_blames}
 use Rattle.goo_store.proofs.RowsRead.{meta_found, meta_read}
 use Rattle.goo_store.proofs.sql_shelf.SqlShelf.own_meta.Goals as goal
@@ -13,7 +13,7 @@ pub invariant_of-self : goal.invariant_of-self
 invariant_of-self g c = record {
   outside = c.find_meta-found.ensures.outside c.args.self.now.outside;
   well = well (view g.S.Store c.args.self.now.conn) (view g.S.Store c.find_meta-found.new.conn) c.args.self.now.well _ _ c.find_meta-found.ensures.looks;
-  known = kept_known (view g.S.Store c.args.self.now.conn) (view g.S.Store c.find_meta-found.new.conn) c.args.self.now.well _ c.find_meta-found.ensures.looks c.args.self.now.own c.read_meta.new.own c.args.self.now.known c.read_meta.ensures.kept;
+  known = own_known (view g.S.Store c.args.self.now.conn) (view g.S.Store c.find_meta-found.new.conn) c.args.self.now.well _ c.find_meta-found.ensures.looks c.args.self.now.findings c.read_meta.new.own c.args.self.now.known c.read_meta.ensures.kept;
 }
 
 pub returns-clause-looks : goal.returns-clause-looks

@@ -17,7 +17,7 @@ pub invariant_of-self : goal.invariant_of-self
 invariant_of-self g c = record {
   outside = c.find_device-found.ensures.outside c.args.self.now.outside;
   well = well (view g.S.Store c.args.self.now.conn) (view g.S.Store c.find_device-found.new.conn) c.args.self.now.well _ _ c.find_device-found.ensures.looks;
-  known = known (view g.S.Store c.args.self.now.conn) (view g.S.Store c.find_device-found.new.conn) c.args.self.now.well _ _ c.find_device-found.ensures.looks c.args.self.now.own c.args.self.now.known;
+  known = known (view g.S.Store c.args.self.now.conn) (view g.S.Store c.find_device-found.new.conn) c.args.self.now.well _ _ c.find_device-found.ensures.looks c.args.self.now.findings c.args.self.now.known;
 }
 
 pub returns-clause-looks : goal.returns-clause-looks

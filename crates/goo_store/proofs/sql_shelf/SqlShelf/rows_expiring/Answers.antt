@@ -1,4 +1,4 @@
-use Rattle.std.proofs.Common.{◌∙◌, ap, pos}
+use Rattle.std.proofs.Common.{◌∙◌, refl, ap, pos}
 use Rattle.sqlite.specs.Held.{state as view}
 use Rattle.std.proofs.Common.{◌&&◌, Some}
 use Rattle.std.specs.List.{filter}
@@ -8,7 +8,8 @@ use Rattle.goo_columns.specs.Beside.{pieces_beside}
 use Rattle.goo_store.specs.Moments.{tables_in}
 use Rattle.goo_kept.specs.Places.{rows_of}
 use Rattle.goo_kept.proofs.Expiring.{expiring_found}
-use Rattle.goo_store.proofs.Looking.{looked, refused_look, well, known}
+use Rattle.goo_store.proofs.Looking.{looked, refused_look, well}
+use Rattle.goo_store.proofs.Found.{lots_known, some_beside}
 use Rattle.goo_store.proofs.Blaming.{blames, refused_blames}
 use Rattle.goo_store.proofs.RowsRead.{pieces_found, pieces_read}
 use Rattle.goo_store.proofs.sql_shelf.SqlShelf.rows_expiring.Goals as goal
@@ -20,14 +21,17 @@ pub invariant_of-self : goal.invariant_of-self
 invariant_of-self g c = record {
   outside = c.pieces_expiring-found.ensures.outside c.args.self.now.outside;
   well = well (view g.S.Store c.args.self.now.conn) (view g.S.Store c.pieces_expiring-found.new.conn) c.args.self.now.well _ _ c.pieces_expiring-found.ensures.looks;
-  known = known (view g.S.Store c.args.self.now.conn) (view g.S.Store c.pieces_expiring-found.new.conn) c.args.self.now.well _ _ c.pieces_expiring-found.ensures.looks c.args.self.now.own c.args.self.now.known;
+  known =
+      lots_known (view g.S.Store c.args.self.now.conn) (view g.S.Store c.pieces_expiring-found.new.conn) c.args.self.now.well _ _ c.pieces_expiring-found.ensures.looks (λ rows. rows.items)
+      (λ rows is. some_beside (tables_in (view g.S.Store c.args.self.now.conn)) _ rows.items is)
+      c.args.self.now.findings (record { own = c.args.self.now.findings.own; device = c.args.self.now.findings.device; lots = c.read_rising-rows.new.lots }) refl refl c.args.self.now.known c.read_rising-rows.ensures.kept;
 }
 
 pub returns-clause-looks : goal.returns-clause-looks
 unfolding rows_of
 returns-clause-looks g c =
-    looked (view g.S.Store c.args.self.now.conn) (view g.S.Store c.pieces_expiring-found.new.conn) c.args.self.now.well _ _ c.pieces_expiring-found.ensures.looks _ _ c.read_rising.result
-    c.args.self.now.refused c.told.new.refused c.told.result (λ live db may. g.met.S.Store.settled c.args.self.now.conn.store db live may) c.if-self.false c.read_rising.ensures.value c.told.ensures
+    looked (view g.S.Store c.args.self.now.conn) (view g.S.Store c.pieces_expiring-found.new.conn) c.args.self.now.well _ _ c.pieces_expiring-found.ensures.looks _ _ c.read_rising-rows.result
+    c.args.self.now.refused c.told.new.refused c.told.result (λ live db may. g.met.S.Store.settled c.args.self.now.conn.store db live may) c.if-self.false c.read_rising-rows.ensures.value c.told.ensures
     (λ kept rows pieces found read.
     let t = tables_in (view g.S.Store c.args.self.now.conn) in
     expiring_found t kept c.args.day c.day_text-text.ensures.limit _ _
@@ -38,6 +42,6 @@ returns-then-self-clause-store g c = refused_blames (view g.S.Store c.args.self.
 
 pub returns-clause-store : goal.returns-clause-store
 returns-clause-store g c =
-    blames (view g.S.Store c.args.self.now.conn) (view g.S.Store c.pieces_expiring-found.new.conn) c.args.self.now.well _ _ c.pieces_expiring-found.ensures.looks _ _ c.read_rising.result c.args.self.now.refused c.told.new.refused c.told.result
-    c.pieces_expiring-found.ensures.readable c.read_rising.ensures.accepts c.told.ensures (pieces_read (tables_in (view g.S.Store c.args.self.now.conn)))
+    blames (view g.S.Store c.args.self.now.conn) (view g.S.Store c.pieces_expiring-found.new.conn) c.args.self.now.well _ _ c.pieces_expiring-found.ensures.looks _ _ c.read_rising-rows.result c.args.self.now.refused c.told.new.refused c.told.result
+    c.pieces_expiring-found.ensures.readable c.read_rising-rows.ensures.accepts c.told.ensures (pieces_read (tables_in (view g.S.Store c.args.self.now.conn)))
     (λ stands kept rows found. pieces_found (view g.S.Store c.args.self.now.conn).now (tables_in (view g.S.Store c.args.self.now.conn)) stands kept _ rows.items found)

@@ -1,0 +1,149 @@
+-- What a shelf keeps of its look-ups, as it is found and kept.
+use Rattle.std.proofs.Common.{◌≡◌, inl, inr, refl, sym, ap, subst, ◌∙◌, ◌++◌, ◌∷◌, [], pos, ℕ, Bool, List, All, map, find, filter, reverse, slice_index_or, Option, Some, None, option_map, Ok, Err, Result, IfOk, IfSome, IsSomeAnd}
+use Rattle.std.specs.Prelude.{IsOkAnd}
+use Rattle.std.specs.FinMap.{get}
+use Rattle.std.specs.List.{cons_option}
+use Rattle.std.proofs.lemmas.List.Elements.{All-nil, All-cons, All-head, All-append, All-filter}
+use Rattle.std.proofs.lemmas.List.Sorted.{All-permutation, IsPermutation-reverse}
+use Rattle.sqlite.specs.State.{State}
+use Rattle.sqlite.specs.declared.error.Error.{Error}
+use Rattle.sqlite_keyed.specs.Keyed.{get_by}
+use Rattle.goo_spec.proofs.Mapping.{inside, none_some}
+use Rattle.goo_types.specs.declared.piece.Piece.{Piece}
+use Rattle.goo_columns.specs.Beside.{beside, pieces_beside, joined_in}
+use Rattle.goo_columns.specs.Rows.{Tables, Lot, device_in, lot_key, meta_in}
+use Rattle.goo_columns.specs.Stands.{Looks, doubts}
+use Rattle.goo_columns.specs.declared.device.DeviceRow.{DeviceRow}
+use Rattle.goo_columns.specs.declared.joined.JoinedRow.{JoinedRow}
+use Rattle.goo_columns.specs.declared.meta.MetaRow.{MetaRow}
+use Rattle.goo_columns.specs.declared.piece.PieceRow.{PieceRow}
+use Rattle.goo_kept.specs.Devices.{device_of}
+use Rattle.goo_kept.specs.States.{state_of}
+use Rattle.goo_kept.specs.Places.{lot_of, piece_of}
+use Rattle.goo_store.specs.Found.{IsRowOf, IsDeviceOf, IsBeside, IsStated, AreStated, AreNone, Knows, KeepsFound, KeepsDevice, KeepsLots, KeepsRead}
+use Rattle.goo_store.specs.Holding.{sure}
+use Rattle.goo_store.specs.LotNumbers.{AreWith, IsNumberOf}
+use Rattle.goo_store.specs.Moments.{tables_in, IsWell}
+use Rattle.goo_store.specs.declared.findings.Findings.{Findings}
+use Rattle.goo_store.specs.declared.findings.KnownDevice.{KnownDevice}
+use Rattle.goo_store.specs.declared.lot_numbers.NumberedLot.{NumberedLot}
+use Rattle.goo_store.proofs.Looking.{before, so_still, known}
+use Rattle.goo_store.proofs.RowsRead.{found_row, unmapped}
+
+-- nothing kept is right of all tables
+pub none_known : (s : State) (findings : Findings) → AreNone findings → Knows s findings
+none_known s findings is none = record {
+  own = subst (λ o. IsRowOf o (tables_in s)) (sym is.own) tt;
+  device = subst (λ o. IsDeviceOf o (tables_in s)) (sym is.device) tt;
+  lots = subst (AreStated (tables_in s).lots) (sym is.lots) (All-nil _);
+}
+
+-- the row that is kept after a look-up for it is right
+row_known : (old new : State) (it : IsWell old) (r : Result (Option MetaRow) Error) → Looks old new r (λ t row. option_map meta_in row ≡ Some t.meta) → (a b : Option MetaRow) → (doubts new ≡ 0 → IsRowOf a (tables_in new)) → KeepsFound r a b → doubts new ≡ 0 → IsRowOf b (tables_in new)
+row_known old new it r looks a b knows kept none =
+    elim kept [
+      | inl same ↦ subst (λ o. IsRowOf o (tables_in new)) (sym same) (knows none)
+      | inr is ↦ so_still old new it r _ looks (IsRowOf b) none (right r (looks.found (sure new none).0 (tables_in old) (it.stands (before old new it r _ looks none))) is)
+    ]
+  where
+    right : (q : Result (Option MetaRow) Error) → IfOk q (λ row. option_map meta_in row ≡ Some (tables_in old).meta) → IsOkAnd q (λ row. b ≡ row) → IsRowOf b (tables_in old)
+    right (Ok None) found is = subst (λ o. IsRowOf o (tables_in old)) (sym is) tt
+    right (Ok (Some row)) found is = subst (λ o. IsRowOf o (tables_in old)) (sym is) (sym (inside _ _ found))
+    right (Err e) found is = absurd is
+
+-- what is kept after a look-up for the row is right
+pub own_known : (old new : State) (it : IsWell old) (r : Result (Option MetaRow) Error) → Looks old new r (λ t row. option_map meta_in row ≡ Some t.meta) → (findings : Findings) (b : Option MetaRow) → Knows old findings → KeepsFound r findings.own b
+    → Knows new (record { own = b; device = findings.device; lots = findings.lots })
+own_known old new it r looks findings b knows kept none =
+    let still = known old new it r _ looks findings knows in record {
+      own = row_known old new it r looks findings.own b (λ none. (still none).own) kept none;
+      device = (still none).device;
+      lots = (still none).lots;
+    }
+
+-- ---- lots, by the rows that state them
+
+-- a lot that a row states has the row's number
+pub stated : (lots : List Lot) (x : NumberedLot) → option_map lot_of (get_by lot_key lots (pos x.number)) ≡ Some x.lot → IsNumberOf lots x.number x.lot
+stated lots x = go (get_by lot_key lots (pos x.number)) refl
+  where
+    go : (o : Option Lot) → get_by lot_key lots (pos x.number) ≡ o → option_map lot_of o ≡ Some x.lot → IsNumberOf lots x.number x.lot
+    go None is states = none_some x.lot states
+    go (Some row) is states = record { row = row; there = is; states = inside _ _ states }
+
+-- those that are kept are there beside those that are added
+pub with_found : (before : List Lot) (added found : List NumberedLot) (lots : List Lot) → AreStated before found → AreWith before added lots → AreWith before (added ++ found) lots
+with_found before added found lots are with = record {
+  kept = with.kept;
+  added_are = All-append (λ x. IsNumberOf lots x.number x.lot) added found with.added_are (λ k d low. later (slice_index_or found k d) (stated before (slice_index_or found k d) (are k d low)));
+}
+  where
+    later : (x : NumberedLot) → IsNumberOf before x.number x.lot → IsNumberOf lots x.number x.lot
+    later x is = record { row = is.row; there = with.kept x.number is.row is.there; states = is.states }
+
+-- ---- what is kept after a device was looked up
+
+pub device_known : (old new : State) (it : IsWell old) (r : Result (Option DeviceRow) Error) (right : Tables → Option DeviceRow → Type 0) → Looks old new r right → (gsrn : List ℕ)
+    → ((row : DeviceRow) → right (tables_in old) (Some row) → get (state_of (tables_in old)).devices gsrn ≡ Some (device_of (device_in row)))
+    → (findings : Findings) (b : Option KnownDevice) → Knows old findings → KeepsDevice r gsrn findings.device b → Knows new (record { own = findings.own; device = b; lots = findings.lots })
+device_known old new it r right looks gsrn is_it findings b knows kept none =
+    let still = known old new it r _ looks findings knows in record {
+      own = (still none).own;
+      device =
+          elim kept [
+            | inl same ↦ subst (λ o. IsDeviceOf o (tables_in new)) (sym same) (still none).device
+            | inr is ↦ so_still old new it r _ looks (IsDeviceOf b) none (there r (looks.found (sure new none).0 (tables_in old) (it.stands (before old new it r _ looks none))) is)
+          ];
+      lots = (still none).lots;
+    }
+  where
+    there : (q : Result (Option DeviceRow) Error) → IfOk q (right (tables_in old)) → IsOkAnd q (λ row. IsSomeAnd row (λ x. b ≡ Some (record { gsrn = gsrn; device = device_of (device_in x) }))) → IsDeviceOf b (tables_in old)
+    there (Ok None) found is = absurd is
+    there (Ok (Some row)) found is = subst (λ o. IsDeviceOf o (tables_in old)) (sym is) (is_it row found)
+    there (Err e) found is = absurd is
+
+-- ---- what is kept after pieces were looked up beside their lots
+
+-- the pieces beside the lots that they name
+all_beside : (lots : List Lot) (ps : List PieceRow) → All (IsBeside lots) (beside lots ps)
+all_beside lots [] = All-nil (IsBeside lots)
+all_beside lots (p ∷ ps) = go (get_by lot_key lots (pos p.lot)) refl (all_beside lots ps)
+  where
+    go : (o : Option Lot) → get_by lot_key lots (pos p.lot) ≡ o → All (IsBeside lots) (beside lots ps) → All (IsBeside lots) (cons_option (option_map (λ (l : Lot). (p, l)) o) (beside lots ps))
+    go None is rest = rest
+    go (Some l) is rest = All-cons (IsBeside lots) (p, l) (beside lots ps) is rest
+
+-- the row beside it states the lot of a piece
+pub beside_states : (lots : List Lot) (row : JoinedRow) (piece : Piece) → piece ≡ piece_of (joined_in row) → All (λ r. IsBeside lots (joined_in r)) (row ∷ []) → IsStated lots row.piece.lot piece.lot
+beside_states lots row piece is each = ap (option_map lot_of) (All-head (λ r. IsBeside lots (joined_in r)) row [] each) ∙ ap (λ (p : Piece). Some p.lot) (sym is)
+
+-- the one row that was found
+pub kept_one : (found : Result (Option JoinedRow) Error) (row : JoinedRow) (old new : List NumberedLot) → found ≡ Ok (Some row) → KeepsLots (row ∷ []) old new → KeepsRead found (λ o. cons_option o []) old new
+kept_one found row old new is kept = subst (λ (f : Result (Option JoinedRow) Error). KeepsRead f (λ o. cons_option o []) old new) (sym is) kept
+
+-- the last row that passes a test
+pub last_beside : (t : Tables) (test : PieceRow × Lot → Bool) (row : Option JoinedRow) → option_map joined_in row ≡ find test (reverse (pieces_beside t)) → All (λ r. IsBeside t.lots (joined_in r)) (cons_option row [])
+last_beside t test row is =
+    one row
+    (found_row joined_in (IsBeside t.lots) test (reverse (pieces_beside t)) (All-permutation (IsBeside t.lots) (pieces_beside t) (reverse (pieces_beside t)) (IsPermutation-reverse (pieces_beside t)) (all_beside t.lots t.pieces)) row is)
+  where
+    one : (o : Option JoinedRow) → IfSome o (λ r. IsBeside t.lots (joined_in r)) → All (λ r. IsBeside t.lots (joined_in r)) (cons_option o [])
+    one None is = All-nil (λ r. IsBeside t.lots (joined_in r))
+    one (Some r) is = All-cons (λ r. IsBeside t.lots (joined_in r)) r [] is (All-nil (λ r. IsBeside t.lots (joined_in r)))
+
+-- all rows that pass a test
+pub some_beside : (t : Tables) (test : PieceRow × Lot → Bool) (rows : List JoinedRow) → map joined_in rows ≡ filter test (pieces_beside t) → All (λ r. IsBeside t.lots (joined_in r)) rows
+some_beside t test rows is = unmapped (IsBeside t.lots) joined_in rows (subst (All (IsBeside t.lots)) (sym is) (All-filter test (IsBeside t.lots) (pieces_beside t) (all_beside t.lots t.pieces)))
+
+pub lots_known : (old new : State) (it : IsWell old) {T : Type 0} (r : Result T Error) (right : Tables → T → Type 0) → Looks old new r right → (rows : T → List JoinedRow) → ((x : T) → right (tables_in old) x → All (λ a. IsBeside (tables_in old).lots (joined_in a)) (rows x))
+    → (findings next : Findings) → next.own ≡ findings.own → next.device ≡ findings.device → Knows old findings → KeepsRead r rows findings.lots.items next.lots.items → Knows new next
+lots_known old new it {T} r right looks rows each findings next own device knows kept none =
+    let still = known old new it r _ looks findings knows in record {
+      own = subst (λ o. IsRowOf o (tables_in new)) (sym own) (still none).own;
+      device = subst (λ o. IsDeviceOf o (tables_in new)) (sym device) (still none).device;
+      lots = so_still old new it r _ looks (λ t. AreStated t.lots next.lots.items) none (all r (looks.found (sure new none).0 (tables_in old) (it.stands (before old new it r _ looks none))) kept);
+    }
+  where
+    all : (q : Result T Error) → IfOk q (right (tables_in old)) → KeepsRead q rows findings.lots.items next.lots.items → AreStated (tables_in old).lots next.lots.items
+    all (Ok x) found keeps = keeps (tables_in old).lots (knows (before old new it r _ looks none)).lots (each x found)
+    all (Err e) found keeps = subst (AreStated (tables_in old).lots) (sym keeps) (knows (before old new it r _ looks none)).lots

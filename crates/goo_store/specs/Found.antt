@@ -1,0 +1,111 @@
+-- What a shelf keeps of its look-ups until the next commit.
+use Rattle.std.specs.Prelude.{◌≡◌, ◌⊎◌, ℕ, pos, List, [], All, Option, Some, None, option_map, Result, Ok, Err, IsOkAnd, IsSomeAnd}
+use Rattle.std.specs.Coded.{Coded, Coded-set, code_by, coded×, coded_list, coded_ℕ}
+use Rattle.std.specs.FinMap.{get}
+use Rattle.std.proofs.Props.{props}
+use mathlib.Core.Path.{refl}
+use Rattle.sqlite.specs.State.{State}
+use Rattle.sqlite.specs.declared.error.Error.{Error}
+use Rattle.sqlite_keyed.specs.Keyed.{get_by}
+use Rattle.goo_types.specs.declared.lot_fields.LotFields.{LotFields}
+use Rattle.goo_spec.specs.State.{Device}
+use Rattle.goo_columns.specs.Beside.{joined_in}
+use Rattle.goo_columns.specs.Rows.{Tables, Meta, Lot, device_in, lot_key, meta_in}
+use Rattle.goo_columns.specs.Stands.{doubts}
+use Rattle.goo_columns.specs.declared.device.DeviceRow.{DeviceRow}
+use Rattle.goo_columns.specs.declared.joined.JoinedRow.{JoinedRow}
+use Rattle.goo_columns.specs.declared.meta.MetaRow.{MetaRow}
+use Rattle.goo_columns.specs.declared.piece.PieceRow.{PieceRow}
+use Rattle.goo_kept.specs.Devices.{device_of}
+use Rattle.goo_kept.specs.Places.{lot_of}
+use Rattle.goo_kept.specs.States.{state_of}
+use Rattle.goo_store.specs.Moments.{tables_in}
+use Rattle.goo_store.specs.declared.findings.Findings.{Findings}
+use Rattle.goo_store.specs.declared.findings.KnownDevice.{KnownDevice}
+use Rattle.goo_store.specs.declared.lot_numbers.NumberedLot.{NumberedLot}
+
+-- where a row is kept, it is that of the tables
+abbrev pub IsRowOf : Option MetaRow → Tables → Type 0
+IsRowOf None t = Unit {0}
+IsRowOf (Some row) t = t.meta ≡ meta_in row
+
+-- where a device is kept, it is registered under its number
+abbrev pub IsDeviceOf : Option KnownDevice → Tables → Type 0
+IsDeviceOf None t = Unit {0}
+IsDeviceOf (Some known) t = get (state_of t).devices known.gsrn ≡ Some known.device
+
+-- the row under the number states the lot
+abbrev pub IsStated : List Lot → ℕ → LotFields → Type 0
+IsStated lots n lot = option_map lot_of (get_by lot_key lots (pos n)) ≡ Some lot
+
+abbrev pub AreStated : List Lot → List NumberedLot → Type 0
+AreStated lots xs = All (λ x. IsStated lots x.number x.lot) xs
+
+-- all that is kept is so in the tables
+pub record AreFindingsOf (findings : Findings) (t : Tables) : Type 0 where
+  pub own : IsRowOf findings.own t
+  pub device : IsDeviceOf findings.device t
+  pub lots : AreStated t.lots findings.lots.items
+
+-- it is so while nothing is in doubt
+abbrev pub Knows : State → Findings → Type 0
+Knows s findings = doubts s ≡ 0 → AreFindingsOf findings (tables_in s)
+
+-- nothing is kept
+pub record AreNone (findings : Findings) : Type 0 where
+  pub own : findings.own ≡ None
+  pub device : findings.device ≡ None
+  pub lots : findings.lots.items ≡ []
+
+-- what is kept after a row was read: what was kept before, or what was found
+abbrev pub KeepsFound : Result (Option MetaRow) Error → Option MetaRow → Option MetaRow → Type 0
+KeepsFound found old new = (new ≡ old) ⊎ IsOkAnd found (λ row. new ≡ row)
+
+-- what is kept after a device was read: what was kept before, or the device that was found, under the number that it was looked up by
+abbrev pub KeepsDevice : Result (Option DeviceRow) Error → List ℕ → Option KnownDevice → Option KnownDevice → Type 0
+KeepsDevice found gsrn old new = (new ≡ old) ⊎ IsOkAnd found (λ row. IsSomeAnd row (λ r. new ≡ Some (record { gsrn = gsrn; device = device_of (device_in r) })))
+
+-- the lot that a piece names is beside it
+abbrev pub IsBeside : List Lot → PieceRow × Lot → Type 0
+IsBeside lots a = get_by lot_key lots (pos a.0.lot) ≡ Some a.1
+
+-- what is kept after rows were read: where all of them were pieces beside the lots that they name, no lot that the tables don't state
+abbrev pub KeepsLots : List JoinedRow → List NumberedLot → List NumberedLot → Type 0
+KeepsLots rows old new = (lots : List Lot) → AreStated lots old → All (λ r. IsBeside lots (joined_in r)) rows → AreStated lots new
+
+-- so after a statement; what was kept before, where it failed
+abbrev pub KeepsRead : {T : Type 0} → Result T Error → (T → List JoinedRow) → List NumberedLot → List NumberedLot → Type 0
+KeepsRead (Ok x) rows old new = KeepsLots (rows x) old new
+KeepsRead (Err e) rows old new = new ≡ old
+
+-- ---- it has one proof at most, so it may be a ghost field
+
+coded_meta : Coded Meta
+coded_meta =
+    code_by (ℕ × (ℕ × (List ℕ × (ℕ × (ℕ × (ℕ × (ℕ × ℕ))))))) (coded× coded_ℕ (coded× coded_ℕ (coded× (coded_list coded_ℕ) (coded× coded_ℕ (coded× coded_ℕ (coded× coded_ℕ (coded× coded_ℕ coded_ℕ)))))))
+    (λ m. (m.version, (m.code, (m.today, (m.next_serial, (m.next_account, (m.next_cancellation, (m.next_withdrawal, m.next_notice))))))))
+    (λ p. record { version = p.0; code = p.1.0; today = p.1.1.0; next_serial = p.1.1.1.0; next_account = p.1.1.1.1.0; next_cancellation = p.1.1.1.1.1.0; next_withdrawal = p.1.1.1.1.1.1.0; next_notice = p.1.1.1.1.1.1.1 }) (λ _. refl)
+
+row-prop : (own : Option MetaRow) (t : Tables) → IsProp (IsRowOf own t)
+row-prop None t a b = λ i. tt
+row-prop (Some row) t a b = Coded-set coded_meta _ _ a b
+
+known-prop : (a b : Option Device) → IsProp (a ≡ b)
+known-prop a b = Prim.hlevel props
+
+device-prop : (device : Option KnownDevice) (t : Tables) → IsProp (IsDeviceOf device t)
+device-prop None t a b = λ i. tt
+device-prop (Some known) t a b = known-prop (get (state_of t).devices known.gsrn) (Some known.device) a b
+
+lot-prop : (a b : Option LotFields) → IsProp (a ≡ b)
+lot-prop a b = Prim.hlevel props
+
+lots-prop : (lots : List Lot) (xs : List NumberedLot) → IsProp (AreStated lots xs)
+lots-prop lots xs a b = λ i k d low. lot-prop _ _ (a k d low) (b k d low) i
+
+pub Knows-prop : (s : State) (findings : Findings) → IsProp (Knows s findings)
+Knows-prop s findings a b = λ i none. record {
+  own = row-prop findings.own (tables_in s) (a none).own (b none).own i;
+  device = device-prop findings.device (tables_in s) (a none).device (b none).device i;
+  lots = lots-prop (tables_in s).lots findings.lots.items (a none).lots (b none).lots i;
+}

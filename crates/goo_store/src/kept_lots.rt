@@ -1,0 +1,45 @@
+//! The lots of rows that were found, which are kept beside their numbers.
+
+ghost use Rattle.std.specs.Prelude.{List, IsOkUnless};
+ghost use Rattle.goo_columns.specs.Rows.{Lot as RowOfLot};
+ghost use Rattle.goo_store.specs.Found.{AreStated, IsStated};
+ghost use Rattle.goo_store.specs.declared.trouble.Trouble.TheVariants.{Memory};
+
+use crate::lot_numbers::NumberedLot;
+use crate::trouble::Trouble;
+use goo_types::lot::Lot;
+
+/// How many lots are kept at most, so that a search of them takes little.
+const MOST_LOTS: usize = 16;
+
+/// Whether a lot is kept under this number.
+fn is_kept(lots: &[NumberedLot], number: u64) -> bool {
+    for lot in lots {
+        if lot.number == number {
+            return true;
+        }
+    }
+    false
+}
+
+/// Makes room for a lot more: where the most are kept, they go.
+fn make_room(lots: &mut Vec<NumberedLot>)
+    ensures kept { (known : List RowOfLot) → AreStated known lots.old.items → AreStated known lots.new.items }
+{
+    if lots.len() >= MOST_LOTS {
+        lots.clear();
+    }
+}
+
+/// Keeps the lot that the row under this number states, unless one is kept under it.
+pub fn keep_lot(lots: &mut Vec<NumberedLot>, number: u64, lot: &Lot) -> Result<(), Trouble>
+    ensures kept { (known : List RowOfLot) → AreStated known lots.old.items → IsStated known number lot.now → AreStated known lots.new.items }
+    ensures memory { IsOkUnless result Memory }
+{
+    if is_kept(lots, number) {
+        return Ok(());
+    }
+    make_room(lots);
+    lots.extend_from_slice(&[NumberedLot { number, lot: *lot }])?;
+    Ok(())
+}
