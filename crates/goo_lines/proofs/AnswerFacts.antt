@@ -1,10 +1,10 @@
 -- Answering one more line.
-use Rattle.std.proofs.Common.{◌≡◌, ◌==◌, ◌≤◌, ◌+◌, ℕ, List, [], ◌∷◌, ◌++◌, refl, sym, arith, Option, ◌∙◌, append_assoc, length, length-append, ap, ◌<◌, true, false, Result, Ok, Err, IfErr, IfSome, IsErrAnd, OnErr, Some, None}
+use Rattle.std.proofs.Common.{◌≡◌, ◌==◌, ◌≤◌, ◌+◌, ℕ, List, [], ◌∷◌, ◌++◌, refl, sym, arith, Option, ◌∙◌, length, length-append, ap, ◌<◌, true, false, Result, Ok, Err, IfErr, IfSome, IsErrAnd, OnErr, Some, None}
 use Rattle.std.proofs.lemmas.List.{append-nil}
 use Rattle.std.proofs.lemmas.List.Splits.{length-slice_split}
 use Rattle.std.proofs.lemmas.List.Sums.{count_by-le-length}
 use Rattle.std.specs.Io.KnownBytes.{Appends, Keeps}
-use Rattle.goo_streams.proofs.AppendsFacts.{appends-kept, appends-more, appends-none, prefix-more}
+use Rattle.goo_streams.proofs.AppendsFacts.{appends-kept, appends-more, appends-none}
 use Rattle.goo_spec.specs.State.{State}
 use Rattle.goo_lines.specs.Lines.{lines_of}
 use Rattle.goo_streams.specs.Streams.{AppendsPrefix}
@@ -122,6 +122,11 @@ whole-at first s new had mid has input done left t order stood same kept = recor
   text = appends-kept had mid has (answering first done).text stood.text kept;
 }
 
+-- the text of a line's answer, with whatever counts so far
+text-alone : (s u : State) (t : Tally) (line : List ℕ) → s ≡ u → (with_line (counted s t) line).text ≡ (with_line (nothing_answered u) line).text
+text-alone s u t [] same = refl
+text-alone s u t (b ∷ line) same = rw same refl
+
 pub part-at : (first s new : State) (had mid has : Option (List ℕ)) (input : List ℕ) (done left : List (List ℕ)) (line : List ℕ) (t : Tally) → lines_of input ≡ done ++ line ∷ left → Stands first s had mid done t
     → new ≡ (with_line (counted s t) line).state → AppendsPrefix mid has (with_line (counted s t) line).text → StandsInPart input first new had has
 part-at first s new had mid has input done left line t order stood state text =
@@ -129,11 +134,14 @@ part-at first s new had mid has input done left line t order stood state text =
     let last : answering first (done ++ line ∷ []) ≡ with_line a line = with-last (nothing_answered first) done line in
     let single = alone s t a line stood.state stood.good stood.bad in
     record {
-      done = done ++ line ∷ [];
+      done = done;
+      last = line;
       left = left;
-      order = rw (append_assoc done (line ∷ []) left) order;
+      order = order;
       state = rw (last, state-parts a line) (state ∙ ap (λ (b : Answered). b.state) single);
-      text = rw (last, text-parts a line) (prefix-more had mid has a.text (with_line (untold a) line).text stood.text (rw single at text));
+      mid = mid;
+      whole = stood.text;
+      begun = rw (text-alone s a.state t line stood.state) at text;
     }
 
 -- the error that is handed on

@@ -1,11 +1,11 @@
 -- Where an answering of lines stops, and what stands then.
-use Rattle.std.specs.Prelude.{◌≡◌, ℕ, ◌++◌, List, Option}
+use Rattle.std.specs.Prelude.{◌≡◌, ℕ, [], ◌∷◌, ◌++◌, List, Option}
 use Rattle.std.specs.Io.KnownBytes.{Appends}
 use Rattle.goo_streams.specs.Streams.{AppendsPrefix}
 use Rattle.goo_spec.specs.State.{State}
 use Rattle.goo_lines.specs.Desk.{Seen}
 use Rattle.goo_lines.specs.Lines.{lines_of}
-use Rattle.goo_lines.specs.Fold.{answering, counted, with_line}
+use Rattle.goo_lines.specs.Fold.{answering, counted, nothing_answered, with_line}
 use Rattle.goo_lines.specs.declared.lines_fault.LinesFault.{LinesFault}
 use Rattle.goo_lines.specs.declared.lines_fault.LinesFault.TheVariants.{Read, Write, Store, Memory}
 use Rattle.goo_lines.specs.declared.tally.Tally.{Tally}
@@ -24,6 +24,13 @@ IsBetweenLines Memory = Unit {0}
 IsBetweenLines Read = ⊥
 IsBetweenLines Write = ⊥
 
+-- the fault came after the whole input was read
+abbrev pub IsAfterReading : LinesFault → Type 0
+IsAfterReading Store = Unit {0}
+IsAfterReading Write = Unit {0}
+IsAfterReading Read = ⊥
+IsAfterReading Memory = ⊥
+
 -- the first of the input's lines stand, and what was written is the whole of their answers
 pub record StandsWhole (input : List ℕ) (old : State) (new : Seen) (had has : Option (List ℕ)) : Type 0 where
   pub done : List (List ℕ)
@@ -32,10 +39,14 @@ pub record StandsWhole (input : List ℕ) (old : State) (new : Seen) (had has : 
   pub state : new.doubts ≡ 0 → new.state ≡ (answering old done).state
   pub text : Appends had has (answering old done).text
 
--- the first of the input's lines stand, and what was written is a beginning of their answers
+-- the first of the input's lines stand, `last` among them: the answers of those before it are written whole, and a beginning of its own
 pub record StandsInPart (input : List ℕ) (old : State) (new : State) (had has : Option (List ℕ)) : Type 0 where
   pub done : List (List ℕ)
+  pub last : List ℕ
   pub left : List (List ℕ)
-  pub order : lines_of input ≡ done ++ left
-  pub state : new ≡ (answering old done).state
-  pub text : AppendsPrefix had has (answering old done).text
+  pub order : lines_of input ≡ done ++ last ∷ left
+  pub state : new ≡ (answering old (done ++ last ∷ [])).state
+  -- what the writer held before the answer of `last`
+  pub mid : Option (List ℕ)
+  pub whole : Appends had mid (answering old done).text
+  pub begun : AppendsPrefix mid has (with_line (nothing_answered (answering old done).state) last).text

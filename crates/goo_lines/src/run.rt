@@ -1,10 +1,11 @@
 //! The lines of an input, answered in turn.
-ghost use Rattle.std.specs.Prelude.{◌≡◌, ◌≢◌, ◌≤◌, ◌<◌, ◌+◌, ◌^◌, ◌++◌, ◌∷◌, [], length, IfOk, IfErr, IfSome, OnOk, OnErr};
-ghost use Rattle.std.specs.Io.KnownBytes.{Appends, Keeps};
+ghost use Rattle.std.specs.Prelude.{◌≡◌, ◌≢◌, ◌≤◌, ◌<◌, ◌+◌, ◌^◌, ◌++◌, ◌∷◌, [], length, IfOk, IfErr, IfSome, OnOk, OnErr, Err};
+ghost use Rattle.std.specs.Io.KnownBytes.{Appends, IsAtEnd, Keeps};
 ghost use Rattle.goo_streams.specs.Streams.{AppendsPrefix};
 ghost use Rattle.goo_lines.specs.Answers.{answer_to, state_after};
+ghost use Rattle.goo_lines.specs.Lines.{request_in};
 ghost use Rattle.goo_lines.specs.Fold.{counted, with_line, lines};
-ghost use Rattle.goo_lines.specs.Stops.{AnswersLine, IsBetweenLines, StandsWhole, StandsInPart};
+ghost use Rattle.goo_lines.specs.Stops.{AnswersLine, IsAfterReading, IsBetweenLines, StandsWhole, StandsInPart};
 ghost use Rattle.goo_lines.specs.declared.lines_fault.LinesFault.TheVariants.{Read as Reading, Write as Writing};
 
 use crate::answer::Answer;
@@ -29,6 +30,7 @@ fn answer_line<D: Desk>(alloc: Global, desk: &mut D, line: &[u8]) -> Result<Answ
     ensures state { (D.seen desk.new).lies ≡ 0 → OnOk result ((D.seen desk.new).state ≡ state_after (D.seen desk.old).state line.now) }
     ensures unchanged { (D.seen desk.new).doubts ≡ 0 → OnErr result ((D.seen desk.new).state ≡ (D.seen desk.old).state) }
     ensures lied { (D.seen desk.new).lies ≡ 0 → (D.seen desk.old).lies ≡ 0 }
+    ensures unasked { (reason : _) → request_in line.now ≡ Err reason → IfErr result (λ fault. fault ≡ Fault.Memory) }
 {
     match read_line(alloc, line) {
         Ok(request) => Ok(Answer::Decided(desk.apply(alloc, &request)?)),
@@ -63,6 +65,7 @@ fn answer_next<D: Desk, W: Write>(
     ensures stands { IfErr result (λ fault. fault ≡ Writing → (D.seen desk.new).lies ≡ 0 → (D.seen desk.new).state ≡ (with_line (counted (D.seen desk.old).state tally.old) line.now).state) }
     ensures prefix { IfErr result (λ fault. fault ≡ Writing → (D.seen desk.new).lies ≡ 0 → AppendsPrefix (W.contents writer.old) (W.contents writer.new) (with_line (counted (D.seen desk.old).state tally.old) line.now).text) }
     ensures lied { (D.seen desk.new).lies ≡ 0 → (D.seen desk.old).lies ≡ 0 }
+    ensures unasked { (reason : _) → request_in line.now ≡ Err reason → IfErr result (λ fault. fault ≢ LinesFault.Store) }
 {
     if line.is_empty() {
         return Ok(());
@@ -124,6 +127,8 @@ pub fn run_lines<D: Desk, R: Read, W: Write>(
     ensures whole { (D.seen desk.new).lies ≡ 0 → IfSome (R.remaining reader.old) (λ input. IfErr result (λ fault. IsBetweenLines fault → StandsWhole input (D.seen desk.old).state (D.seen desk.new) (W.contents writer.old) (W.contents writer.new))) }
     ensures part { (D.seen desk.new).lies ≡ 0 → IfSome (R.remaining reader.old) (λ input. IfErr result (λ fault. fault ≡ Writing → StandsInPart input (D.seen desk.old).state (D.seen desk.new).state (W.contents writer.old) (W.contents writer.new))) }
     ensures lied { (D.seen desk.new).lies ≡ 0 → (D.seen desk.old).lies ≡ 0 }
+    ensures end { OnOk result (IsAtEnd (R.remaining reader.new)) }
+    ensures read { IfErr result (λ fault. IsAfterReading fault → IsAtEnd (R.remaining reader.new)) }
 {
     let input = read_whole(alloc, reader, MOST_INPUT)?;
     answer_lines(alloc, desk, &input, writer)
