@@ -77,6 +77,7 @@ const MEMBERS: Case = Case {
             r#"{"outcome":"accepted","reply":{"expired":0}}"#,
         ),
     ],
+    shown: "",
 };
 
 /// A new registry's code, date and next numbers, and neither members nor acts.

@@ -4,7 +4,7 @@ use crate::asking::{asks, plays};
 use crate::cases::{FIFTH, FIRST, FOURTH, SECOND, SIXTH, THIRD};
 use crate::registries::{begun, begun_in_lists, closed, in_march_from, opened_again};
 use crate::script::{Line, SCRIPT};
-use crate::sight::sight;
+use crate::sight::{sight, tell_certificates};
 use goo_body::read_command;
 use goo_outcome::outcome_text;
 use goo_registry::Registry;
@@ -30,11 +30,28 @@ pub struct Case {
     pub begun: usize,
     /// What is asked then.
     pub asked: &'static [Exchange],
+    /// The certificates and the audit that are shown in the end; empty where that isn't written down.
+    pub shown: &'static str,
 }
 
 /// The requests that come first in a case.
 fn first_of(case: &Case) -> Result<&'static [Line], Fail> {
     Ok(SCRIPT.get(..case.begun).ok_or("so many requests")?)
+}
+
+/// What a registry shows after a case: its certificates are those that are written down.
+fn ends<S: Shelf>(
+    rt: &impl Abort,
+    alloc: Global,
+    registry: &mut Registry<S>,
+    case: &Case,
+) -> Result<String, Fail> {
+    if !case.shown.is_empty() {
+        let mut shown = String::new(alloc);
+        tell_certificates(alloc, registry, &mut shown)?;
+        assert_eq!(rt; shown.as_str(), case.shown, "{}", case.name);
+    }
+    sight(alloc, registry)
 }
 
 /// A case, one request at a time, and what the registry shows then.
@@ -50,7 +67,7 @@ pub fn answers<S: Shelf>(
         let text = outcome_text(outcome);
         assert!(rt; text.as_str() == *wanted, "{}: {body}", case.name);
     }
-    sight(alloc, registry)
+    ends(rt, alloc, registry, case)
 }
 
 /// The requests of a case in a list.
@@ -80,7 +97,7 @@ pub fn runs<S: Shelf>(
         let text = outcome_text(*outcome);
         assert!(rt; text.as_str() == *wanted, "{}: {body}", case.name);
     }
-    sight(alloc, registry)
+    ends(rt, alloc, registry, case)
 }
 
 /// What a registry in a database shows after a case, in a list or one request at a time, and again once it is opened again.
