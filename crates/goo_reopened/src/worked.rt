@@ -129,13 +129,29 @@ fn shown_by<S: Alter + Drop>(
     Ok((shown, closed(registry).0))
 }
 
+/// What a registry in plain lists shows after a case.
+fn shown_by_lists(rt: &impl Abort, alloc: Global, case: &Case) -> Result<String, Fail> {
+    let mut lists = begun_in_lists(alloc, in_march_from(case.serial)?);
+    answers(rt, alloc, &mut lists, case)
+}
+
+/// What a registry in tables in memory shows after a case.
+fn shown_by_tables(
+    rt: &impl Abort,
+    alloc: Global,
+    case: &Case,
+    is_list: bool,
+) -> Result<String, Fail> {
+    let conn = Connection::open_in_memory(alloc)?;
+    let (shown, _conn) = shown_by(rt, alloc, conn, case, is_list)?;
+    Ok(shown)
+}
+
 /// A case over lists, over tables, and over tables in a list: all show the same.
 fn is_alike(rt: &impl Abort, alloc: Global, case: &Case) -> Result<(), Fail> {
-    let mut lists = begun_in_lists(alloc, in_march_from(case.serial)?);
-    let wanted = answers(rt, alloc, &mut lists, case)?;
+    let wanted = shown_by_lists(rt, alloc, case)?;
     for is_list in [false, true] {
-        let conn = Connection::open_in_memory(alloc)?;
-        let (shown, _conn) = shown_by(rt, alloc, conn, case, is_list)?;
+        let shown = shown_by_tables(rt, alloc, case, is_list)?;
         assert_eq!(rt; shown.as_str(), wanted.as_str(), "{}", case.name);
     }
     Ok(())

@@ -83,13 +83,19 @@ const ROWS: [Row; 8] = [
     (Event::Brings(2, NINE), IN, Some(9), None),
 ];
 
+/// Registry 9.
+fn ninth(rt: &impl Abort, alloc: Global) -> Result<Desk, Fail> {
+    let mut desk = Desk::new(alloc, 9, "2025-04-05")?;
+    desk.plays(rt, &NINTH)?;
+    Ok(desk)
+}
+
 /// Registry 7, and registry 9: each knows the other.
 fn seven_and_nine(rt: &impl Abort, alloc: Global) -> Result<World, Fail> {
-    let seven = april(rt, alloc)?;
-    let mut nine = Desk::new(alloc, 9, "2025-04-05")?;
-    nine.plays(rt, &NINTH)?;
-    let desks = vec![in alloc; seven, nine]?;
-    Ok(World::new(alloc, desks))
+    let mut world = World::new(alloc);
+    world.adds(april(rt, alloc)?)?;
+    world.adds(ninth(rt, alloc)?)?;
+    Ok(world)
 }
 
 /// What an event comes to.
@@ -100,15 +106,33 @@ fn happens(world: &mut World, event: &Event) -> Result<Outcome, Fail> {
     }
 }
 
+/// An event comes to this.
+fn comes_to(rt: &impl Abort, world: &mut World, event: &Event, wanted: &str) -> Result<(), Fail> {
+    let outcome = happens(world, event)?;
+    is_outcome(rt, outcome, wanted);
+    Ok(())
+}
+
+/// Then certificate ..0020 is at home in this registry, or on the road with this notice.
+fn is_found(
+    rt: &impl Abort,
+    world: &mut World,
+    home: Option<u8>,
+    road: Option<(u8, u32)>,
+) -> Result<(), Fail> {
+    world.collects()?;
+    let lot = lot_of(&JANUARY)?;
+    assert_eq!(rt; world.home(number(20), &lot)?, home);
+    assert_eq!(rt; world.road(number(20), &lot)?, road);
+    Ok(())
+}
+
 #[test]
 fn out_and_back_and_out_again(rt: HostRuntime) -> Result<(), Fail> {
     let mut world = seven_and_nine(&rt, rt.alloc())?;
-    let lot = lot_of(&JANUARY)?;
     for (event, wanted, home, road) in &ROWS {
-        is_outcome(&rt, happens(&mut world, event)?, wanted);
-        world.collects()?;
-        assert_eq!(rt; world.home(number(20), &lot)?, *home);
-        assert_eq!(rt; world.road(number(20), &lot)?, *road);
+        comes_to(&rt, &mut world, event, wanted)?;
+        is_found(&rt, &mut world, *home, *road)?;
     }
     Ok(())
 }

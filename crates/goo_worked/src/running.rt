@@ -39,21 +39,31 @@ fn runs(rt: &impl Abort, desk: &mut Desk, lines: &[Line]) -> Result<(), Fail> {
     Ok(())
 }
 
+/// The hundred certificates are shown.
+fn shows_the_hundred(rt: &impl Abort, desk: &mut Desk) -> Result<(), Fail> {
+    desk.shows(rt, 2, &[(100, 199, held(2))])
+}
+
 #[test]
 fn two_requests_and_none(rt: HostRuntime) -> Result<(), Fail> {
     let mut desk = april(&rt, rt.alloc())?;
     runs(&rt, &mut desk, &TWO)?;
-    desk.shows(&rt, 2, &[(100, 199, held(2))])?;
+    shows_the_hundred(&rt, &mut desk)?;
     runs(&rt, &mut desk, &[])?;
-    desk.shows(&rt, 2, &[(100, 199, held(2))])
+    shows_the_hundred(&rt, &mut desk)
 }
 
-#[test]
-fn what_keeps_the_records_is_handed_back(rt: HostRuntime) -> Result<(), Fail> {
-    let mut shelf = april(&rt, rt.alloc())?.into_lists();
+/// What keeps the records of registry 7 in April.
+fn is_of_april<S: Shelf>(rt: &impl Abort, shelf: &mut S) -> Result<(), Fail> {
     assert!(rt; shelf.code()?.get() == 7);
     assert!(rt; shelf.today()? == day_of("2025-04-05")?);
     assert!(rt; shelf.counters()?.serial() == 1202);
     assert!(rt; shelf.refused_calls() == 0);
     Ok(())
+}
+
+#[test]
+fn what_keeps_the_records_is_handed_back(rt: HostRuntime) -> Result<(), Fail> {
+    let mut shelf = april(&rt, rt.alloc())?.into_lists();
+    is_of_april(&rt, &mut shelf)
 }

@@ -135,11 +135,11 @@ fn registry(rt: &impl Abort, alloc: Global, code: u8, own: &[Line]) -> Result<De
 
 /// Three registries, each of which knows the others.
 fn three(rt: &impl Abort, alloc: Global) -> Result<World, Fail> {
-    let seven = registry(rt, alloc, 7, &SEVEN)?;
-    let eight = registry(rt, alloc, 8, &EIGHT)?;
-    let nine = registry(rt, alloc, 9, &NINE)?;
-    let desks = vec![in alloc; seven, eight, nine]?;
-    Ok(World::new(alloc, desks))
+    let mut world = World::new(alloc);
+    world.adds(registry(rt, alloc, 7, &SEVEN)?)?;
+    world.adds(registry(rt, alloc, 8, &EIGHT)?)?;
+    world.adds(registry(rt, alloc, 9, &NINE)?)?;
+    Ok(world)
 }
 
 /// A registry by chance.

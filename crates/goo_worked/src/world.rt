@@ -95,12 +95,17 @@ fn is_home(place: Place) -> bool {
 }
 
 impl World {
-    /// These registries, which have sent nothing.
-    pub fn new(alloc: Global, desks: Vec<Desk>) -> World {
+    /// No registries yet.
+    pub fn new(alloc: Global) -> World {
         World {
-            desks,
+            desks: Vec::new(alloc),
             letters: Vec::new(alloc),
         }
+    }
+
+    /// One more registry, which has sent nothing.
+    pub fn adds(&mut self, desk: Desk) -> Result<(), AllocError> {
+        Ok(self.desks.push(desk)?)
     }
 
     /// What a registry answers to a request. A notice that it sends is on the road once it is collected.
