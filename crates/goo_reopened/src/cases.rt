@@ -2,7 +2,7 @@
 
 use crate::worked::Case;
 
-pub const FIRST: [Case; 5] = [
+pub const FIRST: [Case; 8] = [
     Case {
         name: "a_key_after_the_date_moved",
         serial: 1,
@@ -44,6 +44,7 @@ pub const FIRST: [Case; 5] = [
                 r#"{"code":1,"name":"NotAllowed","outcome":"refused"}"#,
             ),
         ],
+        shown: "1 07000000000001 07000000001200 2025-01-01 held\n1 07000000001201 07000000001201 2025-03-01 held\n500000000000000012 1201000000 1201 0\n",
     },
     Case {
         name: "a_number_that_another_account_holds",
@@ -61,6 +62,47 @@ pub const FIRST: [Case; 5] = [
                 r#"{"code":17,"name":"NotHeld","number":"07000000000007","outcome":"refused"}"#,
             ),
         ],
+        shown: "1 07000000000001 07000000000006 2025-01-01 held\n1 07000000000008 07000000001200 2025-01-01 held\n1 07000000001201 07000000001201 2025-03-01 held\n2 07000000000007 07000000000007 2025-01-01 held\n500000000000000012 1201000000 1201 0\n",
+    },
+    Case {
+        name: "a_number_that_another_account_holds_before_the_date_moves",
+        serial: 1,
+        begun: 7,
+        asked: &[
+            (
+                "SUN",
+                r#"{"command":"transfer","giver":1,"taker":2,"first":"07000000000007","last":"07000000000007","key":"k685"}"#,
+                r#"{"outcome":"accepted","reply":{"count":1}}"#,
+            ),
+            (
+                "SUN",
+                r#"{"command":"cancel","account":1,"first":"07000000000001","last":"07000000000010","beneficiary":"X","use_first":"2025-01-01","use_last":"2025-03-31","key":"k686"}"#,
+                r#"{"code":17,"name":"NotHeld","number":"07000000000007","outcome":"refused"}"#,
+            ),
+        ],
+        shown: "1 07000000000001 07000000000006 2025-01-01 held\n1 07000000000008 07000000001200 2025-01-01 held\n2 07000000000007 07000000000007 2025-01-01 held\n500000000000000012 1200999999 1200 999999\n",
+    },
+    Case {
+        name: "a_part_is_moved",
+        serial: 1,
+        begun: 9,
+        asked: &[(
+            "SUN",
+            r#"{"command":"transfer","giver":1,"taker":2,"first":"07000000000100","last":"07000000000199","key":"k609"}"#,
+            r#"{"outcome":"accepted","reply":{"count":100}}"#,
+        )],
+        shown: "1 07000000000001 07000000000099 2025-01-01 held\n1 07000000000200 07000000001200 2025-01-01 held\n1 07000000001201 07000000001201 2025-03-01 held\n2 07000000000100 07000000000199 2025-01-01 held\n500000000000000012 1201000000 1201 0\n",
+    },
+    Case {
+        name: "a_part_is_moved_before_the_date_moves",
+        serial: 1,
+        begun: 7,
+        asked: &[(
+            "SUN",
+            r#"{"command":"transfer","giver":1,"taker":2,"first":"07000000000100","last":"07000000000199","key":"k667"}"#,
+            r#"{"outcome":"accepted","reply":{"count":100}}"#,
+        )],
+        shown: "1 07000000000001 07000000000099 2025-01-01 held\n1 07000000000200 07000000001200 2025-01-01 held\n2 07000000000100 07000000000199 2025-01-01 held\n500000000000000012 1200999999 1200 999999\n",
     },
     Case {
         name: "a_withdrawal",
@@ -83,6 +125,30 @@ pub const FIRST: [Case; 5] = [
                 r#"{"code":1,"name":"NotAllowed","outcome":"refused"}"#,
             ),
         ],
+        shown: "1 07000000000001 07000000000004 2025-01-01 held\n1 07000000000005 07000000000005 2025-01-01 withdrawn:1\n1 07000000000006 07000000001200 2025-01-01 held\n1 07000000001201 07000000001201 2025-03-01 held\n500000000000000012 1201000000 1201 0\n",
+    },
+    Case {
+        name: "a_withdrawal_before_the_date_moves",
+        serial: 1,
+        begun: 7,
+        asked: &[
+            (
+                "ISSUER",
+                r#"{"command":"withdraw","first":"07000000000005","last":"07000000000005","reason":"meter read twice","key":"k675"}"#,
+                r#"{"outcome":"accepted","reply":{"count":1,"withdrawal":1}}"#,
+            ),
+            (
+                "ISSUER",
+                r#"{"command":"withdraw","first":"07000000000005","last":"07000000000005","reason":"meter read twice","key":"k676"}"#,
+                r#"{"code":17,"name":"NotHeld","number":"07000000000005","outcome":"refused"}"#,
+            ),
+            (
+                "SUN",
+                r#"{"command":"withdraw","first":"07000000000005","last":"07000000000005","reason":"meter read twice","key":"k677"}"#,
+                r#"{"code":1,"name":"NotAllowed","outcome":"refused"}"#,
+            ),
+        ],
+        shown: "1 07000000000001 07000000000004 2025-01-01 held\n1 07000000000005 07000000000005 2025-01-01 withdrawn:1\n1 07000000000006 07000000001200 2025-01-01 held\n500000000000000012 1200999999 1200 999999\n",
     },
     Case {
         name: "an_account_closed_after_its_certificates_expired",
@@ -125,7 +191,11 @@ pub const FIRST: [Case; 5] = [
                 r#"{"code":6,"name":"AccountClosed","outcome":"refused"}"#,
             ),
         ],
+        shown: "",
     },
+];
+
+pub const SECOND: [Case; 3] = [
     Case {
         name: "an_old_period",
         serial: 1,
@@ -157,10 +227,8 @@ pub const FIRST: [Case; 5] = [
                 r#"{"outcome":"accepted","reply":{"cancellation":1,"count":1}}"#,
             ),
         ],
+        shown: "",
     },
-];
-
-pub const SECOND: [Case; 3] = [
     Case {
         name: "another_lot_and_a_stale_one",
         serial: 1,
@@ -182,6 +250,7 @@ pub const SECOND: [Case; 3] = [
                 r#"{"code":27,"name":"Stale","outcome":"refused"}"#,
             ),
         ],
+        shown: "1 07000000000001 07000000000019 2025-01-01 held\n1 07000000000020 07000000000029 2025-01-01 exported:1\n1 07000000000030 07000000001200 2025-01-01 held\n1 07000000001201 07000000001201 2025-03-01 held\n500000000000000012 1201000000 1201 0\n",
     },
     Case {
         name: "before_the_date_moves",
@@ -269,7 +338,11 @@ pub const SECOND: [Case; 3] = [
                 r#"{"code":29,"name":"UsePeriod","outcome":"refused"}"#,
             ),
         ],
+        shown: "",
     },
+];
+
+pub const THIRD: [Case; 5] = [
     Case {
         name: "certificates_of_another_registry",
         serial: 1,
@@ -321,10 +394,8 @@ pub const SECOND: [Case; 3] = [
                 r#"{"outcome":"accepted","reply":{"expired":1207}}"#,
             ),
         ],
+        shown: "",
     },
-];
-
-pub const THIRD: [Case; 2] = [
     Case {
         name: "closing_an_account",
         serial: 1,
@@ -356,6 +427,7 @@ pub const THIRD: [Case; 2] = [
                 r#"{"code":6,"name":"AccountClosed","outcome":"refused"}"#,
             ),
         ],
+        shown: "1 07000000000001 07000000000001 2025-01-01 cancelled:1\n500000000000000012 1000000 1 0\n",
     },
     Case {
         name: "declarations_that_are_refused",
@@ -403,10 +475,8 @@ pub const THIRD: [Case; 2] = [
                 r#"{"code":13,"name":"AuxExceedsGross","outcome":"refused"}"#,
             ),
         ],
+        shown: "",
     },
-];
-
-pub const FOURTH: [Case; 5] = [
     Case {
         name: "just_the_capacity",
         serial: 1,
@@ -416,6 +486,7 @@ pub const FOURTH: [Case; 5] = [
             r#"{"command":"declare","device":"500000000000000012","first_day":"2025-01-01","last_day":"2025-01-31","gross_wh":1490000000,"aux_wh":0,"key":"k135"}"#,
             r#"{"outcome":"accepted","reply":{"carry":0,"count":1490,"first":"07000000000001","last":"07000000001490"}}"#,
         )],
+        shown: "",
     },
     Case {
         name: "more_auxiliaries_than_gross",
@@ -433,7 +504,11 @@ pub const FOURTH: [Case; 5] = [
                 r#"{"code":13,"name":"AuxExceedsGross","outcome":"refused"}"#,
             ),
         ],
+        shown: "1 07000000000001 07000000001200 2025-01-01 held\n1 07000000001201 07000000001201 2025-03-01 held\n500000000000000012 1201000000 1201 0\n",
     },
+];
+
+pub const FOURTH: [Case; 6] = [
     Case {
         name: "notices_that_are_refused",
         serial: 1,
@@ -450,6 +525,18 @@ pub const FOURTH: [Case; 5] = [
                 r#"{"code":25,"name":"NumberTaken","number":"07000000000001","outcome":"refused"}"#,
             ),
         ],
+        shown: "",
+    },
+    Case {
+        name: "one_serial_too_few",
+        serial: 999_999_999_999,
+        begun: 5,
+        asked: &[(
+            "ISSUER",
+            r#"{"command":"declare","device":"500000000000000012","first_day":"2025-01-01","last_day":"2025-01-31","gross_wh":2000000,"aux_wh":0,"key":"k645"}"#,
+            r#"{"code":15,"name":"NumbersExhausted","outcome":"refused"}"#,
+        )],
+        shown: "500000000000000012 0 0 0\n",
     },
     Case {
         name: "one_watt-hour_above_the_capacity",
@@ -460,6 +547,7 @@ pub const FOURTH: [Case; 5] = [
             r#"{"command":"declare","device":"500000000000000012","first_day":"2025-01-01","last_day":"2025-01-31","gross_wh":1490000001,"aux_wh":0,"key":"k141"}"#,
             r#"{"code":14,"name":"OverCapacity","outcome":"refused"}"#,
         )],
+        shown: "",
     },
     Case {
         name: "out_back_and_out_again",
@@ -502,10 +590,8 @@ pub const FOURTH: [Case; 5] = [
                 r#"{"outcome":"accepted","reply":{"count":10}}"#,
             ),
         ],
+        shown: "1 07000000000001 07000000001200 2025-01-01 held\n1 07000000001201 07000000001201 2025-03-01 held\n500000000000000012 1201000000 1201 0\n",
     },
-];
-
-pub const FIFTH: [Case; 3] = [
     Case {
         name: "periods_that_are_refused",
         serial: 1,
@@ -532,6 +618,7 @@ pub const FIFTH: [Case; 3] = [
                 r#"{"code":11,"name":"PeriodOrder","outcome":"refused"}"#,
             ),
         ],
+        shown: "",
     },
     Case {
         name: "refusals_of_the_other_commands",
@@ -609,6 +696,56 @@ pub const FIFTH: [Case; 3] = [
                 r#"{"code":29,"name":"UsePeriod","outcome":"refused"}"#,
             ),
         ],
+        shown: "",
+    },
+];
+
+pub const FIFTH: [Case; 5] = [
+    Case {
+        name: "ten_certificates_come_back_once",
+        serial: 1,
+        begun: 10,
+        asked: &[
+            (
+                "SUN",
+                r#"{"command":"export","giver":1,"peer":9,"account":5,"first":"07000000000020","last":"07000000000029","key":"k656"}"#,
+                r#"{"outcome":"accepted","reply":{"count":10,"notice":1}}"#,
+            ),
+            (
+                "ISSUER",
+                r#"{"command":"import","notice":{"sender":9,"addressee":7,"number":1,"account":1,"version":1,"parts":[{"first":"07000000000020","last":"07000000000029","lot":{"capacity_w":2000000,"commissioned":"2020-06-15","country":"DE","device":"500000000000000012","first_day":"2025-01-01","issued_on":"2025-03-01","last_day":"2025-01-31","origin":7,"site":"North field","source":"F01010100","support":"none","tech":"T010000"}}]},"key":"k657"}"#,
+                r#"{"outcome":"accepted","reply":{"count":10}}"#,
+            ),
+            (
+                "ISSUER",
+                r#"{"command":"import","notice":{"sender":9,"addressee":7,"number":1,"account":1,"version":1,"parts":[{"first":"07000000000020","last":"07000000000029","lot":{"capacity_w":2000000,"commissioned":"2020-06-15","country":"DE","device":"500000000000000012","first_day":"2025-01-01","issued_on":"2025-03-01","last_day":"2025-01-31","origin":7,"site":"North field","source":"F01010100","support":"none","tech":"T010000"}}]},"key":"k658"}"#,
+                r#"{"outcome":"repeated","reply":{"count":10}}"#,
+            ),
+            (
+                "ISSUER",
+                r#"{"command":"import","notice":{"sender":9,"addressee":7,"number":1,"account":1,"version":1,"parts":[{"first":"07000000000020","last":"07000000000028","lot":{"capacity_w":2000000,"commissioned":"2020-06-15","country":"DE","device":"500000000000000012","first_day":"2025-01-01","issued_on":"2025-03-01","last_day":"2025-01-31","origin":7,"site":"North field","source":"F01010100","support":"none","tech":"T010000"}}]},"key":"k659"}"#,
+                r#"{"code":24,"name":"NoticeConflict","outcome":"refused"}"#,
+            ),
+        ],
+        shown: "1 07000000000001 07000000001200 2025-01-01 held\n1 07000000001201 07000000001201 2025-03-01 held\n500000000000000012 1201000000 1201 0\n",
+    },
+    Case {
+        name: "the_day_after_the_last",
+        serial: 1,
+        begun: 9,
+        asked: &[
+            (
+                "ISSUER",
+                r#"{"command":"advance","day":"2026-07-31","key":"k638"}"#,
+                r#"{"outcome":"accepted","reply":{"expired":0}}"#,
+            ),
+            (
+                "ISSUER",
+                r#"{"command":"advance","day":"2026-08-01","key":"k639"}"#,
+                r#"{"outcome":"accepted","reply":{"expired":1200}}"#,
+            ),
+        ],
+        shown: "1 07000000000001 07000000001200 2025-01-01 expired\n1 07000000001201 07000000001201 2025-03-01 held\n500000000000000012 1201000000 1201 0\n",
     },
     Case {
         name: "the_last_day_and_the_day_after",
@@ -636,10 +773,19 @@ pub const FIFTH: [Case; 3] = [
                 r#"{"code":17,"name":"NotHeld","number":"07000000001200","outcome":"refused"}"#,
             ),
         ],
+        shown: "1 07000000000001 07000000001200 2025-01-01 expired\n1 07000000001201 07000000001201 2025-03-01 cancelled:1\n500000000000000012 1201000000 1201 0\n",
     },
-];
-
-pub const SIXTH: [Case; 7] = [
+    Case {
+        name: "the_last_day_of_a_month",
+        serial: 1,
+        begun: 9,
+        asked: &[(
+            "ISSUER",
+            r#"{"command":"advance","day":"2026-07-31","key":"k628"}"#,
+            r#"{"outcome":"accepted","reply":{"expired":0}}"#,
+        )],
+        shown: "1 07000000000001 07000000001200 2025-01-01 held\n1 07000000001201 07000000001201 2025-03-01 held\n500000000000000012 1201000000 1201 0\n",
+    },
     Case {
         name: "the_last_serial_of_all",
         serial: 999_999_999_999,
@@ -661,7 +807,11 @@ pub const SIXTH: [Case; 7] = [
                 r#"{"outcome":"accepted","reply":{"carry":999999,"count":0}}"#,
             ),
         ],
+        shown: "1 07999999999999 07999999999999 2025-01-01 held\n500000000000000012 1999999 1 999999\n",
     },
+];
+
+pub const SIXTH: [Case; 7] = [
     Case {
         name: "the_same_key_again",
         serial: 1,
@@ -687,7 +837,13 @@ pub const SIXTH: [Case; 7] = [
                 r#"{"command":"declare","device":"500000000000000012","first_day":"2025-01-01","last_day":"2025-01-31","gross_wh":1234567891,"aux_wh":34567890,"key":"x"}"#,
                 r#"{"code":2,"name":"KeyReused","outcome":"refused"}"#,
             ),
+            (
+                "SUN",
+                r#"{"command":"declare","device":"500000000000000012","first_day":"2025-01-01","last_day":"2025-01-31","gross_wh":1234567890,"aux_wh":34567890,"key":"x"}"#,
+                r#"{"code":1,"name":"NotAllowed","outcome":"refused"}"#,
+            ),
         ],
+        shown: "1 07000000000001 07000000001200 2025-01-01 held\n500000000000000012 1200999999 1200 999999\n",
     },
     Case {
         name: "there_and_back",
@@ -705,12 +861,42 @@ pub const SIXTH: [Case; 7] = [
                 r#"{"outcome":"accepted","reply":{"count":100}}"#,
             ),
         ],
+        shown: "1 07000000000001 07000000001200 2025-01-01 held\n1 07000000001201 07000000001201 2025-03-01 held\n500000000000000012 1201000000 1201 0\n",
     },
     Case {
         name: "three_declarations",
         serial: 1,
         begun: 9,
         asked: &[],
+        shown: "1 07000000000001 07000000001200 2025-01-01 held\n1 07000000001201 07000000001201 2025-03-01 held\n500000000000000012 1201000000 1201 0\n",
+    },
+    Case {
+        name: "trade_closed_before_it_was_issued",
+        serial: 1,
+        begun: 5,
+        asked: &[
+            (
+                "ISSUER",
+                r#"{"command":"register_device","account":1,"capacity_w":2000000,"commissioned":"2020-06-15","country":"DE","device":"500000000000000029","site":"North field","source":"F01010100","support":"none","tech":"T010000","key":"k615"}"#,
+                r#"{"outcome":"accepted","reply":{}}"#,
+            ),
+            (
+                "ISSUER",
+                r#"{"command":"declare","device":"500000000000000029","first_day":"2023-10-01","last_day":"2023-10-31","gross_wh":1000000,"aux_wh":0,"key":"k616"}"#,
+                r#"{"outcome":"accepted","reply":{"carry":0,"count":1,"first":"07000000000001","last":"07000000000001"}}"#,
+            ),
+            (
+                "SUN",
+                r#"{"command":"transfer","giver":1,"taker":2,"first":"07000000000001","last":"07000000000001","key":"k617"}"#,
+                r#"{"code":18,"name":"TradeClosed","number":"07000000000001","outcome":"refused"}"#,
+            ),
+            (
+                "SUN",
+                r#"{"command":"cancel","account":1,"first":"07000000000001","last":"07000000000001","beneficiary":"X","use_first":"2025-01-01","use_last":"2025-03-31","key":"k618"}"#,
+                r#"{"outcome":"accepted","reply":{"cancellation":1,"count":1}}"#,
+            ),
+        ],
+        shown: "1 07000000000001 07000000000001 2023-10-01 cancelled:1\n500000000000000012 0 0 0\n500000000000000029 1000000 1 0\n",
     },
     Case {
         name: "trade_closes",
@@ -743,6 +929,7 @@ pub const SIXTH: [Case; 7] = [
                 r#"{"outcome":"accepted","reply":{"cancellation":1,"count":1}}"#,
             ),
         ],
+        shown: "1 07000000000002 07000000000002 2025-01-01 cancelled:1\n1 07000000000003 07000000001200 2025-01-01 held\n1 07000000001201 07000000001201 2025-03-01 held\n2 07000000000001 07000000000001 2025-01-01 held\n500000000000000012 1201000000 1201 0\n",
     },
     Case {
         name: "two_halves_of_a_month",
@@ -765,6 +952,7 @@ pub const SIXTH: [Case; 7] = [
                 r#"{"outcome":"accepted","reply":{"count":2}}"#,
             ),
         ],
+        shown: "2 07000000000001 07000000000001 2025-01-01 held\n2 07000000000002 07000000000002 2025-01-16 held\n500000000000000012 2000000 2 0\n",
     },
     Case {
         name: "two_lots_in_one_range",
@@ -775,5 +963,6 @@ pub const SIXTH: [Case; 7] = [
             r#"{"command":"transfer","giver":1,"taker":2,"first":"07000000001200","last":"07000000001201","key":"k46"}"#,
             r#"{"outcome":"accepted","reply":{"count":2}}"#,
         )],
+        shown: "1 07000000000001 07000000001199 2025-01-01 held\n2 07000000001200 07000000001200 2025-01-01 held\n2 07000000001201 07000000001201 2025-03-01 held\n500000000000000012 1201000000 1201 0\n",
     },
 ];

@@ -77,16 +77,23 @@ const MEMBERS: Case = Case {
             r#"{"outcome":"accepted","reply":{"expired":0}}"#,
         ),
     ],
+    shown: "",
 };
 
-/// A new registry's code, date and next numbers, and neither members nor acts.
-fn has_its_own<S: Shelf>(rt: &impl Abort, alloc: Global, shelf: &mut S) -> Result<(), Fail> {
+/// A new registry's code, date and next numbers.
+fn has_its_own<S: Shelf>(rt: &impl Abort, shelf: &mut S) -> Result<(), Fail> {
     assert!(rt; shelf.code()?.get() == 7);
     assert!(rt; shelf.today()? == Day::read(b"2025-03-01")?);
     let counters = shelf.counters()?;
     assert!(rt; counters.serial() == LAST);
     assert!(rt; counters.account() == 1 && counters.notice() == 1);
     assert!(rt; counters.cancellation() == 1 && counters.withdrawal() == 1);
+    assert!(rt; shelf.refused_calls() == 0);
+    Ok(())
+}
+
+/// A new registry's shelf has neither members nor acts.
+fn has_nobody<S: Shelf>(rt: &impl Abort, alloc: Global, shelf: &mut S) -> Result<(), Fail> {
     let account = AccountNo::new(1).ok_or("no account")?;
     let act = ActNo::new(1).ok_or("no act")?;
     assert!(rt; shelf.holder(&HolderCode::read(b"SUN")?)?.is_none());
@@ -94,22 +101,23 @@ fn has_its_own<S: Shelf>(rt: &impl Abort, alloc: Global, shelf: &mut S) -> Resul
     assert!(rt; !shelf.peer(RegistryCode::new(7).ok_or("no code")?)?);
     assert!(rt; shelf.cancelled(act)?.is_none());
     assert!(rt; shelf.sent(alloc, act)?.is_none());
-    assert!(rt; shelf.refused_calls() == 0);
     Ok(())
 }
 
-/// A new registry's shelf has neither devices, lots nor rows.
-fn is_empty<S: Shelf>(rt: &impl Abort, alloc: Global, shelf: &mut S) -> Result<(), Fail> {
+/// A new registry's shelf has neither devices nor lots.
+fn has_no_device<S: Shelf>(rt: &impl Abort, shelf: &mut S) -> Result<(), Fail> {
     let device = Gsrn::read(b"500000000000000012")?;
     let code = RegistryCode::new(7).ok_or("no code")?;
     assert!(rt; shelf.device(&device)?.is_none());
-    assert!(rt;
-        shelf
-            .lot(code, &device, Day::read(b"2025-01-01")?)?
-            .is_none()
-    );
+    let lot = shelf.lot(code, &device, Day::read(b"2025-01-01")?)?;
+    assert!(rt; lot.is_none());
     let progress = shelf.progress(&device)?;
     assert!(rt; progress.last_day.is_none() && progress.carry.get() == 0);
+    Ok(())
+}
+
+/// A new registry's shelf has no rows.
+fn is_empty<S: Shelf>(rt: &impl Abort, alloc: Global, shelf: &mut S) -> Result<(), Fail> {
     let first = Number::new(7, 1).ok_or("no number")?;
     let range = Range::new(first, first).ok_or("no range")?;
     let account = AccountNo::new(1).ok_or("no account")?;
@@ -127,8 +135,37 @@ fn finds_nothing<S: Shelf + Drop>(
     registry: Registry<S>,
 ) -> Result<(), Fail> {
     let mut shelf = registry.into_shelf();
-    has_its_own(rt, alloc, &mut shelf)?;
+    has_its_own(rt, &mut shelf)?;
+    has_nobody(rt, alloc, &mut shelf)?;
+    has_no_device(rt, &mut shelf)?;
     is_empty(rt, alloc, &mut shelf)
+}
+
+/// The holder with an open account and a closed one.
+fn has_accounts<S: Shelf>(rt: &impl Abort, shelf: &mut S) -> Result<(), Fail> {
+    let Some(name) = shelf.holder(&HolderCode::read(b"SUN")?)? else {
+        return Err("no holder".into());
+    };
+    assert!(rt; name.text() == "Sun Power");
+    for (number, closed) in [(1, false), (2, true)] {
+        let number = AccountNo::new(number).ok_or("no number")?;
+        let Some(account) = shelf.account(number)? else {
+            return Err("no account".into());
+        };
+        assert!(rt; account.is_closed() == closed);
+    }
+    Ok(())
+}
+
+/// The device, which has declared nothing.
+fn has_a_device<S: Shelf>(rt: &impl Abort, shelf: &mut S) -> Result<(), Fail> {
+    let gsrn = Gsrn::read(b"500000000000000012")?;
+    let Some(device) = shelf.device(&gsrn)? else {
+        return Err("no device".into());
+    };
+    assert!(rt; device.capacity_w().get() == 2_000_000);
+    assert!(rt; shelf.progress(&gsrn)?.last_day.is_none());
+    Ok(())
 }
 
 /// A new registry finds its members once they were asked for.
@@ -140,16 +177,8 @@ fn finds_members<S: Shelf + Drop>(
     let mut registry = registry;
     let _shown = answers(rt, alloc, &mut registry, &MEMBERS)?;
     let mut shelf = registry.into_shelf();
-    let name = shelf.holder(&HolderCode::read(b"SUN")?)?;
-    assert!(rt; name.is_some_and(|name| name.text() == "Sun Power"));
-    let first = shelf.account(AccountNo::new(1).ok_or("no account")?)?;
-    assert!(rt; first.is_some_and(|found| !found.is_closed()));
-    let second = shelf.account(AccountNo::new(2).ok_or("no account")?)?;
-    assert!(rt; second.is_some_and(|found| found.is_closed()));
-    let device = Gsrn::read(b"500000000000000012")?;
-    let found = shelf.device(&device)?;
-    assert!(rt; found.is_some_and(|found| found.capacity_w().get() == 2_000_000));
-    assert!(rt; shelf.progress(&device)?.last_day.is_none());
+    has_accounts(rt, &mut shelf)?;
+    has_a_device(rt, &mut shelf)?;
     assert!(rt; shelf.peer(RegistryCode::new(9).ok_or("no code")?)?);
     assert!(rt; shelf.counters()?.account() == 3);
     assert!(rt; shelf.today()? == Day::read(b"2025-04-01")?);

@@ -3,7 +3,7 @@
 use crate::asking::{asks, plays};
 use crate::registries::{begun, begun_in_lists, in_march};
 use crate::script::SCRIPT;
-use crate::sight::sight;
+use crate::sight::{sight, tell_audit};
 use crate::worked::Exchange;
 use goo_outcome::outcome_text;
 use goo_registry::Registry;
@@ -73,6 +73,9 @@ fn shown_by<S: Shelf + Drop>(
     declares_days(rt, alloc, &mut registry, "2024-11", 30, 31)?;
     declares_days(rt, alloc, &mut registry, "2024-12", 31, 61)?;
     declares_days(rt, alloc, &mut registry, "2025-01", 9, 92)?;
+    let mut audit = String::new(alloc);
+    tell_audit(alloc, &mut registry, &mut audit)?;
+    assert!(rt; audit.as_str() == "500000000000000012 101000000 101 0\n");
     for (caller, body, wanted) in &EXPORTS {
         let outcome = asks(alloc, &mut registry, caller, body)??;
         let text = outcome_text(outcome);

@@ -5,7 +5,7 @@ use goo_opening::connecting::open_ordered_in_memory;
 use goo_opening::fault::OpenFault;
 use goo_opening::finding::find_tables;
 use goo_opening::our_schema::has_our_schema;
-use sqlite::{Connection, MemStore};
+use sqlite::{Alter, Connection, MemStore};
 use std::alloc::Global;
 use std::test::Fail;
 
@@ -79,12 +79,15 @@ fn another_table_of_accounts(rt: HostRuntime) -> Result<(), Fail> {
     Ok(())
 }
 
+/// The code of the registry that is found in a database.
+fn code_found<S: Alter>(alloc: Global, conn: &mut Connection<S>) -> Result<u32, OpenFault> {
+    let found = find_tables(alloc, conn)?;
+    Ok(found.meta.code)
+}
+
 #[test]
 fn what_is_found(rt: HostRuntime) -> Result<(), Fail> {
     let alloc = rt.alloc();
-    let mut empty = open_ordered_in_memory(alloc)?;
-    let found = find_tables(alloc, &mut empty).map(|found| found.meta.code);
-    assert_eq!(rt; found, Err(OpenFault::NotARegistry));
     for (sql, wanted) in [
         ("", Ok(7)),
         ("DELETE FROM meta", Err(OpenFault::NotARegistry)),
@@ -96,8 +99,16 @@ fn what_is_found(rt: HostRuntime) -> Result<(), Fail> {
         ("INSERT INTO peer VALUES (-9)", Err(OpenFault::Damaged)),
     ] {
         let mut conn = tables_after(alloc, sql)?;
-        let found = find_tables(alloc, &mut conn).map(|found| found.meta.code);
-        assert_eq!(rt; found, wanted, "after {sql}");
+        assert_eq!(rt; code_found(alloc, &mut conn), wanted, "after {sql}");
     }
+    Ok(())
+}
+
+#[test]
+fn nothing_is_found(rt: HostRuntime) -> Result<(), Fail> {
+    let alloc = rt.alloc();
+    let mut empty = open_ordered_in_memory(alloc)?;
+    let found = code_found(alloc, &mut empty);
+    assert_eq!(rt; found, Err(OpenFault::NotARegistry));
     Ok(())
 }

@@ -32,9 +32,10 @@ fn place_word(alloc: Global, place: Place) -> Result<String, AllocError> {
     }
 }
 
-/// A line for each run: its numbers, the period of its lot, and its place.
+/// A line for each run: its account, its numbers, the period of its lot, and its place.
 fn tell_runs(alloc: Global, runs: &[Piece], text: &mut String) -> Result<(), AllocError> {
     for run in runs {
+        text.push_str(&format!(in alloc; "{} ", run.place.account().get())?)?;
         text.push_str(number_text(run.first).as_str())?;
         text.push_str(" ")?;
         text.push_str(number_text(run.last).as_str())?;
@@ -96,7 +97,7 @@ fn tell_holdings<S: Shelf>(
 }
 
 /// The energy and the certificates of each device.
-fn tell_audit<S: Shelf>(
+pub fn tell_audit<S: Shelf>(
     alloc: Global,
     registry: &mut Registry<S>,
     text: &mut String,
@@ -153,15 +154,24 @@ fn tell_notice<S: Shelf>(
     }
 }
 
+/// The certificates of both accounts, and the audit.
+pub fn tell_certificates<S: Shelf>(
+    alloc: Global,
+    registry: &mut Registry<S>,
+    text: &mut String,
+) -> Result<(), Fail> {
+    tell_holdings(alloc, registry, 1, text)?;
+    tell_holdings(alloc, registry, 2, text)?;
+    tell_audit(alloc, registry, text)
+}
+
 /// All that a registry shows.
 pub fn sight<S: Shelf>(alloc: Global, registry: &mut Registry<S>) -> Result<String, Fail> {
     let mut text = String::new(alloc);
     tell_answers(alloc, registry, &mut text)?;
     tell_holder(alloc, registry, "SUN", &mut text)?;
     tell_holder(alloc, registry, "VOLT", &mut text)?;
-    tell_holdings(alloc, registry, 1, &mut text)?;
-    tell_holdings(alloc, registry, 2, &mut text)?;
-    tell_audit(alloc, registry, &mut text)?;
+    tell_certificates(alloc, registry, &mut text)?;
     tell_cancellation(alloc, registry, &mut text)?;
     tell_notice(alloc, registry, &mut text)?;
     Ok(text)

@@ -127,19 +127,22 @@ fn ends<S: Alter>(
     shows(rt, alloc, registry, END_SHOWN)
 }
 
+/// Whether this is shown after so many requests.
+fn is_shown_after(wanted: &[String], kept: usize, shown: &str) -> bool {
+    match wanted.get(kept) {
+        Some(text) => text.as_str() == shown,
+        None => false,
+    }
+}
+
 /// How many requests the registry has kept that shows this: those answered, or one more.
 fn kept_of(rt: &impl Abort, shown: &str, answered: usize, wanted: &[String]) -> usize {
-    if wanted
-        .get(answered)
-        .is_some_and(|text| text.as_str() == shown)
-    {
+    if is_shown_after(wanted, answered, shown) {
         return answered;
     }
     let more = answered.saturating_add(1);
-    assert!(rt;
-        wanted.get(more).is_some_and(|text| text.as_str() == shown),
-        "{answered} answered, and then {shown}"
-    );
+    let is_one_more = is_shown_after(wanted, more, shown);
+    assert!(rt; is_one_more, "{answered} answered, and then {shown}");
     more
 }
 

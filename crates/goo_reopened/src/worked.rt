@@ -4,7 +4,7 @@ use crate::asking::{asks, plays};
 use crate::cases::{FIFTH, FIRST, FOURTH, SECOND, SIXTH, THIRD};
 use crate::registries::{begun, begun_in_lists, closed, in_march_from, opened_again};
 use crate::script::{Line, SCRIPT};
-use crate::sight::sight;
+use crate::sight::{sight, tell_certificates};
 use goo_body::read_command;
 use goo_outcome::outcome_text;
 use goo_registry::Registry;
@@ -30,11 +30,28 @@ pub struct Case {
     pub begun: usize,
     /// What is asked then.
     pub asked: &'static [Exchange],
+    /// The certificates and the audit that are shown in the end; empty where that isn't written down.
+    pub shown: &'static str,
 }
 
 /// The requests that come first in a case.
 fn first_of(case: &Case) -> Result<&'static [Line], Fail> {
     Ok(SCRIPT.get(..case.begun).ok_or("so many requests")?)
+}
+
+/// What a registry shows after a case: its certificates are those that are written down.
+fn ends<S: Shelf>(
+    rt: &impl Abort,
+    alloc: Global,
+    registry: &mut Registry<S>,
+    case: &Case,
+) -> Result<String, Fail> {
+    if !case.shown.is_empty() {
+        let mut shown = String::new(alloc);
+        tell_certificates(alloc, registry, &mut shown)?;
+        assert_eq!(rt; shown.as_str(), case.shown, "{}", case.name);
+    }
+    sight(alloc, registry)
 }
 
 /// A case, one request at a time, and what the registry shows then.
@@ -50,7 +67,7 @@ pub fn answers<S: Shelf>(
         let text = outcome_text(outcome);
         assert!(rt; text.as_str() == *wanted, "{}: {body}", case.name);
     }
-    sight(alloc, registry)
+    ends(rt, alloc, registry, case)
 }
 
 /// The requests of a case in a list.
@@ -80,7 +97,7 @@ pub fn runs<S: Shelf>(
         let text = outcome_text(*outcome);
         assert!(rt; text.as_str() == *wanted, "{}: {body}", case.name);
     }
-    sight(alloc, registry)
+    ends(rt, alloc, registry, case)
 }
 
 /// What a registry in a database shows after a case, in a list or one request at a time, and again once it is opened again.
@@ -112,13 +129,29 @@ fn shown_by<S: Alter + Drop>(
     Ok((shown, closed(registry).0))
 }
 
+/// What a registry in plain lists shows after a case.
+fn shown_by_lists(rt: &impl Abort, alloc: Global, case: &Case) -> Result<String, Fail> {
+    let mut lists = begun_in_lists(alloc, in_march_from(case.serial)?);
+    answers(rt, alloc, &mut lists, case)
+}
+
+/// What a registry in tables in memory shows after a case.
+fn shown_by_tables(
+    rt: &impl Abort,
+    alloc: Global,
+    case: &Case,
+    is_list: bool,
+) -> Result<String, Fail> {
+    let conn = Connection::open_in_memory(alloc)?;
+    let (shown, _conn) = shown_by(rt, alloc, conn, case, is_list)?;
+    Ok(shown)
+}
+
 /// A case over lists, over tables, and over tables in a list: all show the same.
 fn is_alike(rt: &impl Abort, alloc: Global, case: &Case) -> Result<(), Fail> {
-    let mut lists = begun_in_lists(alloc, in_march_from(case.serial)?);
-    let wanted = answers(rt, alloc, &mut lists, case)?;
+    let wanted = shown_by_lists(rt, alloc, case)?;
     for is_list in [false, true] {
-        let conn = Connection::open_in_memory(alloc)?;
-        let (shown, _conn) = shown_by(rt, alloc, conn, case, is_list)?;
+        let shown = shown_by_tables(rt, alloc, case, is_list)?;
         assert_eq!(rt; shown.as_str(), wanted.as_str(), "{}", case.name);
     }
     Ok(())

@@ -1,6 +1,16 @@
-//! What is asked of a registry.
+//! Requests as texts, and what they must come to.
 
-use goo_types::range::Range;
+use crate::desk::Desk;
+use crate::values::{account_of, holder_of};
+use goo_body::read_command;
+use goo_outcome::outcome_text;
+use goo_types::command::Command;
+use goo_types::outcome::Outcome;
+use goo_types::place::Place;
+use goo_types::request::Request;
+use std::alloc::Global;
+use std::process::Abort;
+use std::test::Fail;
 
 /// The issuing body.
 pub const ISSUER: &str = "ISSUER";
@@ -9,106 +19,65 @@ pub const SUN: &str = "SUN";
 /// The holder of account 2.
 pub const VOLT: &str = "VOLT";
 
-/// The device of account 1.
-pub const DEVICE: &str = "500000000000000012";
-/// A second device.
-pub const SECOND: &str = "500000000000000029";
+/// Who asks what, and what that is answered.
+pub type Line = (&'static str, &'static str, &'static str);
 
-/// What is asked, in plain texts and numbers: they are read when it is sent.
-#[derive(Clone, Copy)]
-pub enum Ask {
-    /// A holder with a code.
-    OpenHolder(&'static str),
-    /// An account for a holder.
-    OpenAccount(&'static str),
-    /// An account's end.
-    CloseAccount(u32),
-    /// A device, for an account.
-    RegisterDevice(&'static str, u32),
-    /// What a device produced.
-    Declare(Production),
-    /// Certificates for another account.
-    Transfer(u32, u32, Range),
-    /// Certificates of an account used up, for the days of use.
-    Cancel(u32, Range, &'static str, &'static str),
-    /// Certificates taken back.
-    Withdraw(Range),
-    /// A new date.
-    Advance(&'static str),
-    /// Another registry.
-    AddPeer(u8),
-    /// Certificates of an account for an account at another registry.
-    Export(u32, u8, u32, Range),
+/// The request of a caller's text.
+pub fn request_of(alloc: Global, caller: &str, body: &str) -> Result<Request, Fail> {
+    let caller = holder_of(caller)?;
+    Ok(read_command(alloc, &caller, body.as_bytes())?)
 }
 
-/// What a device produced from the first to the last day, and what its auxiliaries used of that, in Wh.
-#[derive(Clone, Copy)]
-pub struct Production {
-    /// The device.
-    pub device: &'static str,
-    /// The first day.
-    pub first: &'static str,
-    /// The last day.
-    pub last: &'static str,
-    /// What was produced.
-    pub gross: u64,
-    /// What the auxiliaries used.
-    pub aux: u64,
+/// The outcome has this text.
+pub fn is_outcome(rt: &impl Abort, outcome: Outcome, wanted: &str) {
+    let text = outcome_text(outcome);
+    assert!(rt; text.as_str() == wanted, "not {wanted}");
 }
 
-/// What the first device produced.
-pub const fn declare(first: &'static str, last: &'static str, gross: u64, aux: u64) -> Ask {
-    declare_of(DEVICE, first, last, gross, aux)
-}
+impl Desk {
+    /// What a request comes to.
+    pub fn asks(&mut self, caller: &str, body: &str) -> Result<Outcome, Fail> {
+        let request = request_of(self.alloc(), caller, body)?;
+        Ok(self.apply(&request)?)
+    }
 
-/// What a device produced.
-pub const fn declare_of(
-    device: &'static str,
-    first: &'static str,
-    last: &'static str,
-    gross: u64,
-    aux: u64,
-) -> Ask {
-    Ask::Declare(Production {
-        device,
-        first,
-        last,
-        gross,
-        aux,
-    })
-}
+    /// What a command comes to that is sent under a key of its own.
+    pub fn sends(&mut self, caller: &str, command: Command) -> Result<Outcome, Fail> {
+        let key = self.next_key()?;
+        let caller = holder_of(caller)?;
+        let request = Request {
+            caller,
+            key,
+            command,
+        };
+        Ok(self.apply(&request)?)
+    }
 
-/// The production of January 2025, of which 1,200 MWh are left.
-pub const fn january() -> Ask {
-    declare("2025-01-01", "2025-01-31", 1_234_567_890, 34_567_890)
-}
+    /// Each line in order.
+    pub fn plays(&mut self, rt: &impl Abort, lines: &[Line]) -> Result<(), Fail> {
+        for (caller, body, wanted) in lines {
+            let outcome = self.asks(caller, body)?;
+            is_outcome(rt, outcome, wanted);
+        }
+        Ok(())
+    }
 
-/// The production of February 2025, one Wh short of a certificate.
-pub const fn february() -> Ask {
-    declare("2025-02-01", "2025-02-28", 999_999, 0)
-}
-
-/// The production of March 2025: one Wh.
-pub const fn march() -> Ask {
-    declare("2025-03-01", "2025-03-31", 1, 0)
-}
-
-/// Certificates of one account for another.
-pub const fn transfer(giver: u32, taker: u32, range: Range) -> Ask {
-    Ask::Transfer(giver, taker, range)
-}
-
-/// Certificates taken back.
-pub const fn withdraw(range: Range) -> Ask {
-    Ask::Withdraw(range)
-}
-
-/// Certificates of account 1 for an account at another registry.
-pub const fn export(peer: u8, account: u32, range: Range) -> Ask {
-    Ask::Export(1, peer, account, range)
-}
-
-/// Certificates used up by what was used in January to March 2025.
-pub const fn cancel(account: u32, range: Range) -> Ask {
-    Ask::Cancel(account, range, "2025-01-01", "2025-03-31")
+    /// The issuing body is shown these runs of an account: first and last serial, and place.
+    pub fn shows(
+        &mut self,
+        rt: &impl Abort,
+        account: u32,
+        wanted: &[(u64, u64, Place)],
+    ) -> Result<(), Fail> {
+        let issuer = holder_of(ISSUER)?;
+        let account = account_of(account)?;
+        let runs = self.holdings(&issuer, account)?;
+        assert_eq!(rt; runs.len(), wanted.len());
+        for (run, (first, last, place)) in runs.iter().zip(wanted) {
+            assert_eq!(rt; run.first.serial(), *first);
+            assert_eq!(rt; run.last.serial(), *last);
+            assert_eq!(rt; run.place, *place);
+        }
+        Ok(())
+    }
 }

@@ -5,7 +5,7 @@
 
 ghost use Rattle.std.specs.Prelude.{ℕ};
 
-use crate::commands::{code_of, day_of};
+use crate::values::{code_of, day_of};
 use goo_list::list_shelf::ListShelf;
 use goo_registry::{CancellationStatement, ReadFault, Registry, RunFault};
 use goo_shelf::found::DeviceTotals;
@@ -44,10 +44,10 @@ impl Model for Desk {
 }
 
 impl Desk {
-    /// A new registry, with a code, a next serial and a date.
-    pub fn new(alloc: Global, code: u8, next_serial: u64, today: &str) -> Result<Desk, Fail> {
+    /// A new registry, with a code and a date.
+    pub fn new(alloc: Global, code: u8, today: &str) -> Result<Desk, Fail> {
         let code = code_of(code)?;
-        let serial = Serial::new(next_serial).ok_or("no serial")?;
+        let serial = Serial::new(1).ok_or("no serial")?;
         let shelf = ListShelf::new(alloc, code, serial, day_of(today)?);
         Ok(Desk {
             registry: Registry::new(shelf),
@@ -65,11 +65,6 @@ impl Desk {
     /// The code of the registry.
     pub fn code(&self) -> RegistryCode {
         self.code
-    }
-
-    /// How many requests it was sent under a key of their own.
-    pub fn sent(&self) -> u32 {
-        self.sent
     }
 
     /// What keeps the records.

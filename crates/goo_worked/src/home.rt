@@ -1,15 +1,12 @@
 //! A certificate that goes back and forth between two registries: after each event it has one home, or is on one road.
 
-use crate::answers::{DONE, exported, imported, refused, repeated};
-use crate::asking::{Ask, ISSUER, SUN, export};
+use crate::asking::{Line, is_outcome};
 use crate::desk::Desk;
-use crate::notices::{JANUARY, lot_of};
-use crate::numbers::{account, act, number, serials};
-use crate::stages::with_peer;
+use crate::lots::{JANUARY, lot_of};
+use crate::stages::april;
+use crate::values::number;
 use crate::world::World;
 use goo_types::outcome::Outcome;
-use goo_types::refusal::Refusal;
-use goo_types::reply::Reply;
 use std::alloc::Global;
 use std::process::Abort;
 use std::test::Fail;
@@ -17,94 +14,125 @@ use std::test::Fail;
 /// What happens in a world: a request at a registry, or a notice that comes to one. Both are counted from 0.
 #[derive(Clone, Copy)]
 enum Event {
-    Asks(usize, &'static str, Ask),
+    Asks(usize, &'static str, &'static str),
     Brings(usize, usize),
 }
 
 /// An event, what it comes to, and then the certificate's home, or the sender and number of the notice it is on.
-type Row = (Event, Outcome, Option<u8>, Option<(u8, u32)>);
+type Row = (Event, &'static str, Option<u8>, Option<(u8, u32)>);
 
 /// Where registry 7 stands in the world.
 const SEVEN: usize = 0;
 /// Where registry 9 stands.
 const NINE: usize = 1;
 
-/// Registry 7, and registry 9 with one holder and one account: each knows the other.
+/// One holder and one account of registry 9, which knows registry 7.
+const NINTH: [Line; 3] = [
+    (
+        "ISSUER",
+        r#"{"command":"open_holder","holder":"WIND","key":"a","name":"Wind"}"#,
+        r#"{"outcome":"accepted","reply":{}}"#,
+    ),
+    (
+        "ISSUER",
+        r#"{"command":"open_account","holder":"WIND","key":"b"}"#,
+        r#"{"outcome":"accepted","reply":{"account":1}}"#,
+    ),
+    (
+        "ISSUER",
+        r#"{"command":"add_peer","key":"c","peer":7}"#,
+        r#"{"outcome":"accepted","reply":{}}"#,
+    ),
+];
+
+/// The certificate leaves registry 7 for account 1 of registry 9.
+const OUT: &str =
+    r#"{"account":1,"command":"export","first":"07000000000020","giver":1,"key":"out","last":"07000000000020","peer":9}"#;
+/// It leaves registry 9 for account 1 of registry 7.
+const BACK: &str =
+    r#"{"account":1,"command":"export","first":"07000000000020","giver":1,"key":"back","last":"07000000000020","peer":7}"#;
+/// It leaves registry 7 once more.
+const OUT_AGAIN: &str =
+    r#"{"account":1,"command":"export","first":"07000000000020","giver":1,"key":"again","last":"07000000000020","peer":9}"#;
+
+/// It is sent away with the first notice of a registry.
+const FIRST: &str = r#"{"outcome":"accepted","reply":{"count":1,"notice":1}}"#;
+/// It is sent away with the second notice.
+const SECOND: &str = r#"{"outcome":"accepted","reply":{"count":1,"notice":2}}"#;
+/// It is taken in.
+const IN: &str = r#"{"outcome":"accepted","reply":{"count":1}}"#;
+/// It was taken in before.
+const IN_BEFORE: &str = r#"{"outcome":"repeated","reply":{"count":1}}"#;
+/// The notice is for another registry.
+const WRONG: &str = r#"{"code":23,"name":"WrongRegistry","outcome":"refused"}"#;
+
+/// Out and back and out again; the first notice comes once more, and the last one to its sender.
+const ROWS: [Row; 8] = [
+    (Event::Asks(SEVEN, "SUN", OUT), FIRST, None, Some((7, 1))),
+    (Event::Brings(0, NINE), IN, Some(9), None),
+    (Event::Asks(NINE, "WIND", BACK), FIRST, None, Some((9, 1))),
+    (Event::Brings(1, SEVEN), IN, Some(7), None),
+    (
+        Event::Asks(SEVEN, "SUN", OUT_AGAIN),
+        SECOND,
+        None,
+        Some((7, 2)),
+    ),
+    (Event::Brings(0, NINE), IN_BEFORE, None, Some((7, 2))),
+    (Event::Brings(2, SEVEN), WRONG, None, Some((7, 2))),
+    (Event::Brings(2, NINE), IN, Some(9), None),
+];
+
+/// Registry 9.
+fn ninth(rt: &impl Abort, alloc: Global) -> Result<Desk, Fail> {
+    let mut desk = Desk::new(alloc, 9, "2025-04-05")?;
+    desk.plays(rt, &NINTH)?;
+    Ok(desk)
+}
+
+/// Registry 7, and registry 9: each knows the other.
 fn seven_and_nine(rt: &impl Abort, alloc: Global) -> Result<World, Fail> {
-    let seven = with_peer(rt, alloc)?;
-    let mut nine = Desk::new(alloc, 9, 1, "2025-04-05")?;
-    let opened = Outcome::Accepted(Reply::Account {
-        account: account(1),
-    });
-    nine.plays(
-        rt,
-        &[
-            (ISSUER, Ask::OpenHolder("WIND"), DONE),
-            (ISSUER, Ask::OpenAccount("WIND"), opened),
-            (ISSUER, Ask::AddPeer(7), DONE),
-        ],
-    )?;
-    let desks = vec![in alloc; seven, nine]?;
-    Ok(World::new(alloc, desks))
+    let mut world = World::new(alloc);
+    world.adds(april(rt, alloc)?)?;
+    world.adds(ninth(rt, alloc)?)?;
+    Ok(world)
 }
 
 /// What an event comes to.
 fn happens(world: &mut World, event: &Event) -> Result<Outcome, Fail> {
     match event {
-        Event::Asks(at, caller, ask) => world.asks(*at, caller, ask),
+        Event::Asks(at, caller, body) => world.asks(*at, caller, body),
         Event::Brings(which, to) => world.brings(*which, *to),
     }
 }
 
-/// Each row in order, for certificate ..0020.
-fn follows(rt: &impl Abort, world: &mut World, rows: &[Row]) -> Result<(), Fail> {
+/// An event comes to this.
+fn comes_to(rt: &impl Abort, world: &mut World, event: &Event, wanted: &str) -> Result<(), Fail> {
+    let outcome = happens(world, event)?;
+    is_outcome(rt, outcome, wanted);
+    Ok(())
+}
+
+/// Then certificate ..0020 is at home in this registry, or on the road with this notice.
+fn is_found(
+    rt: &impl Abort,
+    world: &mut World,
+    home: Option<u8>,
+    road: Option<(u8, u32)>,
+) -> Result<(), Fail> {
+    world.collects()?;
     let lot = lot_of(&JANUARY)?;
-    for (index, (event, outcome, home, road)) in rows.iter().enumerate() {
-        assert_eq!(rt; happens(world, event)?, *outcome, "event {index}");
-        world.collects()?;
-        assert_eq!(rt; world.home(number(20), &lot)?, *home, "event {index}");
-        assert_eq!(rt; world.road(number(20), &lot)?, *road, "event {index}");
-    }
+    assert_eq!(rt; world.home(number(20), &lot)?, home);
+    assert_eq!(rt; world.road(number(20), &lot)?, road);
     Ok(())
 }
 
 #[test]
 fn out_and_back_and_out_again(rt: HostRuntime) -> Result<(), Fail> {
     let mut world = seven_and_nine(&rt, rt.alloc())?;
-    let out = export(9, 1, serials(20, 20));
-    let back = export(7, 1, serials(20, 20));
-    let out_again = export(9, 1, serials(20, 20));
-    let first = exported(act(1), 1);
-    let back_first = exported(act(1), 1);
-    let second = exported(act(2), 1);
-    let wrong = refused(Refusal::WrongRegistry);
-    follows(
-        &rt,
-        &mut world,
-        &[
-            (Event::Asks(SEVEN, SUN, out), first, None, Some((7, 1))),
-            (Event::Brings(0, NINE), imported(1), Some(9), None),
-            (
-                Event::Asks(NINE, "WIND", back),
-                back_first,
-                None,
-                Some((9, 1)),
-            ),
-            (Event::Brings(1, SEVEN), imported(1), Some(7), None),
-            (
-                Event::Asks(SEVEN, SUN, out_again),
-                second,
-                None,
-                Some((7, 2)),
-            ),
-            (
-                Event::Brings(0, NINE),
-                repeated(imported(1)),
-                None,
-                Some((7, 2)),
-            ),
-            (Event::Brings(2, SEVEN), wrong, None, Some((7, 2))),
-            (Event::Brings(2, NINE), imported(1), Some(9), None),
-        ],
-    )
+    for (event, wanted, home, road) in &ROWS {
+        comes_to(&rt, &mut world, event, wanted)?;
+        is_found(&rt, &mut world, *home, *road)?;
+    }
+    Ok(())
 }

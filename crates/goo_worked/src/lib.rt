@@ -1,53 +1,34 @@
-//! Worked examples of a registry over plain lists: requests in order, and what each is answered.
+//! A registry over plain lists: who is shown what, requests in a list, memory refused, and registries that send one another notices.
 //!
 //! It has tests alone. A test says what is asked and what must come of it, and takes that from the rules of the
-//! registry, worked out by hand. `asking` and `answers` have the words that the tests are written in, `desk` sends the
-//! requests, `stages` has the registries that they begin with.
+//! registry, worked out by hand. `desk` has a registry, `asking` sends it requests as texts and compares what they are answered, `stages` has
+//! the registries that tests begin with, `values` and `places` the values that they compare with. The worked requests of each command
+//! are in `cases/`, and goo_reopened plays them.
 #![tactic(auto)]
 
 #[cfg(test)]
-mod answers;
-#[cfg(test)]
 mod asking;
-#[cfg(test)]
-mod closing;
-#[cfg(test)]
-mod commands;
 #[cfg(test)]
 mod desk;
 #[cfg(test)]
 mod dice;
 #[cfg(test)]
-mod exchange;
-#[cfg(test)]
-mod expiry;
-#[cfg(test)]
 mod home;
 #[cfg(test)]
-mod issuing;
+mod lots;
 #[cfg(test)]
 mod memory;
-#[cfg(test)]
-mod notices;
-#[cfg(test)]
-mod numbers;
 #[cfg(test)]
 mod places;
 #[cfg(test)]
 mod reads;
 #[cfg(test)]
-mod refusals;
-#[cfg(test)]
-mod repeats;
-#[cfg(test)]
 mod running;
 #[cfg(test)]
 mod schedules;
 #[cfg(test)]
-mod sending;
-#[cfg(test)]
 mod stages;
 #[cfg(test)]
-mod trading;
+mod values;
 #[cfg(test)]
 mod world;

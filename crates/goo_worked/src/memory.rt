@@ -3,26 +3,104 @@
 //! A request that was refused memory changed nothing: the registry shows what it showed before, and the request
 //! sent again under its key is accepted, and not repeated.
 
-use crate::answers::{DONE, cancelled, expired, exported, imported, issued, moved, repeated};
-use crate::asking::{Ask, DEVICE, ISSUER, SUN, VOLT, cancel, export, january, transfer};
-use crate::commands::{account_of, command_of, holder_of};
+use crate::asking::{ISSUER, Line, is_outcome};
 use crate::desk::Desk;
-use crate::notices::{JANUARY, lot_of, notice_with};
-use crate::numbers::{account, act, serials};
 use crate::places::{away, held, over, used};
+use crate::values::{account_of, holder_of};
+use goo_body::read_command;
 use goo_registry::ReadFault;
-use goo_types::command::{Command, Import};
 use goo_types::fault::Fault;
-use goo_types::key::Key;
 use goo_types::outcome::Outcome;
-use goo_types::part::Part;
 use goo_types::piece::Piece;
 use goo_types::place::Place;
-use goo_types::reply::Reply;
 use goo_types::request::Request;
-use std::alloc::Global;
 use std::process::Abort;
 use std::test::Fail;
+
+/// Two holders with an account each, a device, another registry and 1,200 certificates.
+const BEGINS: [Line; 7] = [
+    (
+        "ISSUER",
+        r#"{"command":"open_holder","holder":"SUN","key":"a","name":"Sun Power"}"#,
+        r#"{"outcome":"accepted","reply":{}}"#,
+    ),
+    (
+        "ISSUER",
+        r#"{"command":"open_account","holder":"SUN","key":"b"}"#,
+        r#"{"outcome":"accepted","reply":{"account":1}}"#,
+    ),
+    (
+        "ISSUER",
+        r#"{"command":"open_holder","holder":"VOLT","key":"c","name":"Volt"}"#,
+        r#"{"outcome":"accepted","reply":{}}"#,
+    ),
+    (
+        "ISSUER",
+        r#"{"command":"open_account","holder":"VOLT","key":"d"}"#,
+        r#"{"outcome":"accepted","reply":{"account":2}}"#,
+    ),
+    (
+        "ISSUER",
+        r#"{"account":1,"capacity_w":2000000,"command":"register_device","commissioned":"2020-06-15","country":"DE","device":"500000000000000012","key":"e","site":"North field","source":"F01010100","support":"none","tech":"T010000"}"#,
+        r#"{"outcome":"accepted","reply":{}}"#,
+    ),
+    (
+        "ISSUER",
+        r#"{"command":"add_peer","key":"f","peer":9}"#,
+        r#"{"outcome":"accepted","reply":{}}"#,
+    ),
+    (
+        "ISSUER",
+        r#"{"aux_wh":34567890,"command":"declare","device":"500000000000000012","first_day":"2025-01-01","gross_wh":1234567890,"key":"g","last_day":"2025-01-31"}"#,
+        r#"{"outcome":"accepted","reply":{"carry":0,"count":1200,"first":"07000000000001","last":"07000000001200"}}"#,
+    ),
+];
+
+/// A hundred certificates are moved, ten used up and ten sent away.
+const TRADES: [Line; 3] = [
+    (
+        "SUN",
+        r#"{"command":"transfer","first":"07000000000100","giver":1,"key":"a","last":"07000000000199","taker":2}"#,
+        r#"{"outcome":"accepted","reply":{"count":100}}"#,
+    ),
+    (
+        "SUN",
+        r#"{"account":1,"beneficiary":"Bäckerei Müller","command":"cancel","first":"07000000000001","key":"b","last":"07000000000010","use_first":"2025-01-01","use_last":"2025-03-31"}"#,
+        r#"{"outcome":"accepted","reply":{"cancellation":1,"count":10}}"#,
+    ),
+    (
+        "SUN",
+        r#"{"account":5,"command":"export","first":"07000000000020","giver":1,"key":"c","last":"07000000000029","peer":9}"#,
+        r#"{"outcome":"accepted","reply":{"count":10,"notice":1}}"#,
+    ),
+];
+
+/// The ten certificates that were sent away come back.
+const RETURN: [Line; 1] = [(
+    "ISSUER",
+    r#"{"command":"import","key":"h","notice":{"account":1,"addressee":7,"number":1,"parts":[{"first":"07000000000020","last":"07000000000029","lot":{"capacity_w":2000000,"commissioned":"2020-06-15","country":"DE","device":"500000000000000012","first_day":"2025-01-01","issued_on":"2025-03-01","last_day":"2025-01-31","origin":7,"site":"North field","source":"F01010100","support":"none","tech":"T010000"}}],"sender":9,"version":1}}"#,
+    r#"{"outcome":"accepted","reply":{"count":10}}"#,
+)];
+
+/// A certificate is moved, and all of January that is still held expires.
+const ENDS: [Line; 2] = [
+    (
+        "VOLT",
+        r#"{"command":"transfer","first":"07000000000100","giver":2,"key":"a","last":"07000000000100","taker":1}"#,
+        r#"{"outcome":"accepted","reply":{"count":1}}"#,
+    ),
+    (
+        "ISSUER",
+        r#"{"command":"advance","day":"2026-08-01","key":"i"}"#,
+        r#"{"outcome":"accepted","reply":{"expired":1190}}"#,
+    ),
+];
+
+/// What that comes to where it stands already.
+const REPEATED: [&str; 2] = [
+    r#"{"outcome":"repeated","reply":{"count":1}}"#,
+    r#"{"outcome":"repeated","reply":{"expired":1190}}"#,
+];
 
 /// The runs of an account as the issuing body is shown them; asked twice where memory was refused.
 fn runs_of(desk: &mut Desk, account: u32) -> Result<Vec<Piece>, Fail> {
@@ -42,7 +120,10 @@ fn issued_in_all(desk: &mut Desk) -> Result<u64, Fail> {
         Ok(totals) => totals,
         Err(_) => desk.audit(&issuer)?,
     };
-    Ok(totals.first().map_or(0, |device| device.issued))
+    match totals.first() {
+        Some(device) => Ok(device.issued),
+        None => Ok(0),
+    }
 }
 
 /// What the registry shows of its accounts and its certificates.
@@ -77,38 +158,35 @@ fn carries_out(
     rt: &impl Abort,
     desk: &mut Desk,
     request: &Request,
-    wanted: Outcome,
+    wanted: &str,
 ) -> Result<(), Fail> {
     let before = Sight::of(desk)?;
-    match desk.apply(request) {
-        Ok(outcome) => assert_eq!(rt; outcome, wanted),
+    let outcome = match desk.apply(request) {
+        Ok(outcome) => outcome,
         Err(fault) => {
             assert_eq!(rt; fault, Fault::Memory);
             assert!(rt; Sight::of(desk)?.is(&before));
-            let outcome = desk.apply(request)?;
-            assert_eq!(rt; outcome, wanted);
+            desk.apply(request)?
         }
-    }
+    };
+    is_outcome(rt, outcome, wanted);
     Ok(())
 }
 
-/// A request under a key.
-fn request(caller: &str, key: &str, command: Command) -> Result<Request, Fail> {
-    Ok(Request {
-        caller: holder_of(caller)?,
-        key: Key::read(key.as_bytes())?,
-        command,
-    })
+/// The request of a line; read twice where memory was refused.
+fn request_in(desk: &Desk, line: &Line) -> Result<Request, Fail> {
+    let caller = holder_of(line.0)?;
+    match read_command(desk.alloc(), &caller, line.1.as_bytes()) {
+        Ok(request) => Ok(request),
+        Err(_) => Ok(read_command(desk.alloc(), &caller, line.1.as_bytes())?),
+    }
 }
-
-/// A caller, a key, what is asked under it, and what it comes to.
-type Line = (&'static str, &'static str, Ask, Outcome);
 
 /// Each line in order.
 fn carries_out_all(rt: &impl Abort, desk: &mut Desk, lines: &[Line]) -> Result<(), Fail> {
-    for (caller, key, ask, wanted) in lines {
-        let request = request(caller, key, command_of(ask)?)?;
-        carries_out(rt, desk, &request, *wanted)?;
+    for line in lines {
+        let request = request_in(desk, line)?;
+        carries_out(rt, desk, &request, line.2)?;
     }
     Ok(())
 }
@@ -125,43 +203,66 @@ fn shows(rt: &impl Abort, desk: &mut Desk, wanted: &[(u64, u64, Place)]) -> Resu
     Ok(())
 }
 
-/// Two holders with an account each, a device, another registry and 1,200 certificates.
-fn begins(rt: &impl Abort, desk: &mut Desk) -> Result<(), Fail> {
-    let first = Outcome::Accepted(Reply::Account {
-        account: account(1),
-    });
-    let second = Outcome::Accepted(Reply::Account {
-        account: account(2),
-    });
-    carries_out_all(
-        rt,
-        desk,
-        &[
-            (ISSUER, "a", Ask::OpenHolder(SUN), DONE),
-            (ISSUER, "b", Ask::OpenAccount(SUN), first),
-            (ISSUER, "c", Ask::OpenHolder(VOLT), DONE),
-            (ISSUER, "d", Ask::OpenAccount(VOLT), second),
-            (ISSUER, "e", Ask::RegisterDevice(DEVICE, 1), DONE),
-            (ISSUER, "f", Ask::AddPeer(9), DONE),
-            (ISSUER, "g", january(), issued(serials(1, 1200))),
-        ],
-    )
+/// What the request at this place of the list comes to when it is sent again, where so many of them stand.
+fn wanted_again(stand: usize, index: usize) -> Option<&'static str> {
+    if index < stand {
+        return REPEATED.get(index).copied();
+    }
+    match ENDS.get(index) {
+        Some(line) => Some(line.2),
+        None => None,
+    }
 }
 
-/// A hundred certificates are moved, ten used up and ten sent away.
-fn trades(rt: &impl Abort, desk: &mut Desk) -> Result<(), Fail> {
-    let hundred = transfer(1, 2, serials(100, 199));
-    let ten = cancel(1, serials(1, 10));
-    let ten_more = export(9, 5, serials(20, 29));
-    carries_out_all(
-        rt,
-        desk,
-        &[
-            (SUN, "a", hundred, moved(100)),
-            (SUN, "b", ten, cancelled(act(1), 10)),
-            (SUN, "c", ten_more, exported(act(1), 10)),
-        ],
-    )?;
+/// A run that stopped is sent again: the requests that stand are repeated, and the others accepted.
+fn runs_again(
+    rt: &impl Abort,
+    desk: &mut Desk,
+    requests: &[Request],
+    stand: usize,
+) -> Result<(), Fail> {
+    let Ok(outcomes) = desk.run(requests) else {
+        return Err(Fail::new("the run stopped twice"));
+    };
+    comes_to(rt, &outcomes, stand)?;
+    assert_eq!(rt; outcomes.len(), ENDS.len());
+    Ok(())
+}
+
+/// The first outcomes of the list, where so many of its requests stood before.
+fn comes_to(rt: &impl Abort, outcomes: &[Outcome], stand: usize) -> Result<(), Fail> {
+    for (index, outcome) in outcomes.iter().enumerate() {
+        let wanted = wanted_again(stand, index).ok_or("so many outcomes")?;
+        is_outcome(rt, *outcome, wanted);
+    }
+    Ok(())
+}
+
+/// The last requests in a list come to their outcomes, at once or after memory was refused.
+fn runs(rt: &impl Abort, desk: &mut Desk, requests: &[Request]) -> Result<(), Fail> {
+    match desk.run(requests) {
+        Ok(outcomes) => {
+            assert_eq!(rt; outcomes.len(), ENDS.len());
+            comes_to(rt, &outcomes, 0)
+        }
+        Err(stop) => {
+            assert_eq!(rt; stop.fault, Fault::Memory);
+            let stand = stop.done.len();
+            assert!(rt; stand < ENDS.len());
+            comes_to(rt, &stop.done, 0)?;
+            runs_again(rt, desk, requests, stand)
+        }
+    }
+}
+
+/// The last requests, in one list.
+fn ends(rt: &impl Abort, desk: &mut Desk) -> Result<(), Fail> {
+    let requests = [request_in(desk, &ENDS[0])?, request_in(desk, &ENDS[1])?];
+    runs(rt, desk, &requests)
+}
+
+/// What is shown once certificates were moved, used up and sent away.
+fn shows_trades(rt: &impl Abort, desk: &mut Desk) -> Result<(), Fail> {
     shows(
         rt,
         desk,
@@ -175,99 +276,28 @@ fn trades(rt: &impl Abort, desk: &mut Desk) -> Result<(), Fail> {
     )
 }
 
-/// A list with this part alone; asked for twice where memory was refused.
-fn one_part(alloc: Global, part: Part) -> Result<Vec<Part>, Fail> {
-    match Vec::from_slice(alloc, &[part]) {
-        Ok(parts) => Ok(parts),
-        Err(_) => Ok(Vec::from_slice(alloc, &[part])?),
-    }
-}
-
-/// The ten certificates that were sent away come back.
-fn takes_back(rt: &impl Abort, desk: &mut Desk) -> Result<(), Fail> {
-    let lot = lot_of(&JANUARY)?;
-    let range = serials(20, 29);
-    let parts = one_part(desk.alloc(), Part { range, lot })?;
-    let notice = notice_with(parts, 7, 1)?;
-    let import = request(ISSUER, "h", Command::Import(Import { notice }))?;
-    carries_out(rt, desk, &import, imported(10))
-}
-
-/// What a run that is sent again comes to, where so many of its requests stand.
-fn wanted_again(wanted: &[Outcome], stand: usize, index: usize) -> Option<Outcome> {
-    let outcome = wanted.get(index)?;
-    if index < stand {
-        Some(repeated(*outcome))
-    } else {
-        Some(*outcome)
-    }
-}
-
-/// A run that stopped is sent again: the requests that stand are repeated, and the others accepted.
-fn runs_again(
-    rt: &impl Abort,
-    desk: &mut Desk,
-    requests: &[Request],
-    wanted: &[Outcome],
-    stand: usize,
-) -> Result<(), Fail> {
-    let Ok(outcomes) = desk.run(requests) else {
-        return Err(Fail::new("the run stopped twice"));
-    };
-    assert_eq!(rt; outcomes.len(), wanted.len());
-    for (index, outcome) in outcomes.iter().enumerate() {
-        assert_eq!(rt; Some(*outcome), wanted_again(wanted, stand, index));
-    }
-    Ok(())
-}
-
-/// Requests in a list come to these outcomes, at once or after memory was refused.
-fn runs(
-    rt: &impl Abort,
-    desk: &mut Desk,
-    requests: &[Request],
-    wanted: &[Outcome],
-) -> Result<(), Fail> {
-    match desk.run(requests) {
-        Ok(outcomes) => {
-            assert_eq!(rt; outcomes.as_slice(), wanted);
-            Ok(())
-        }
-        Err(stop) => {
-            assert_eq!(rt; stop.fault, Fault::Memory);
-            let stand = stop.done.len();
-            assert!(rt; stand < wanted.len());
-            assert_eq!(rt; stop.done.as_slice(), &wanted[..stand]);
-            runs_again(rt, desk, requests, wanted, stand)
-        }
-    }
-}
-
-/// In one list, a certificate is moved and all of January that is still held expires.
-fn ends(rt: &impl Abort, desk: &mut Desk) -> Result<(), Fail> {
-    let one = command_of(&transfer(2, 1, serials(100, 100)))?;
-    let date = command_of(&Ask::Advance("2026-08-01"))?;
-    let requests = [request(VOLT, "a", one)?, request(ISSUER, "i", date)?];
-    let wanted = [moved(1), expired(1190)];
-    runs(rt, desk, &requests, &wanted)
-}
-
-#[test]
-fn each_request_stands_or_changed_nothing(rt: HostRuntime) -> Result<(), Fail> {
-    let mut desk = Desk::new(rt.alloc(), 7, 1, "2025-03-01")?;
-    begins(&rt, &mut desk)?;
-    trades(&rt, &mut desk)?;
-    takes_back(&rt, &mut desk)?;
-    ends(&rt, &mut desk)?;
+/// What is shown in the end.
+fn shows_end(rt: &impl Abort, desk: &mut Desk) -> Result<(), Fail> {
     shows(
-        &rt,
-        &mut desk,
+        rt,
+        desk,
         &[
             (1, 10, used(1, 1)),
             (11, 100, over(1)),
             (200, 1200, over(1)),
         ],
     )?;
-    assert_eq!(rt; issued_in_all(&mut desk)?, 1200);
+    assert_eq!(rt; issued_in_all(desk)?, 1200);
     Ok(())
+}
+
+#[test]
+fn each_request_stands_or_changed_nothing(rt: HostRuntime) -> Result<(), Fail> {
+    let mut desk = Desk::new(rt.alloc(), 7, "2025-03-01")?;
+    carries_out_all(&rt, &mut desk, &BEGINS)?;
+    carries_out_all(&rt, &mut desk, &TRADES)?;
+    shows_trades(&rt, &mut desk)?;
+    carries_out_all(&rt, &mut desk, &RETURN)?;
+    ends(&rt, &mut desk)?;
+    shows_end(&rt, &mut desk)
 }

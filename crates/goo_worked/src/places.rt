@@ -2,7 +2,7 @@
 
 ghost use Rattle.std.specs.Prelude.{◌≤◌, ◌<◌};
 
-use crate::numbers::{account, act};
+use crate::values::{account, act};
 use goo_types::place::Place;
 
 /// In an account.
@@ -29,16 +29,6 @@ pub fn over(holder: u32) -> Place
     requires below { holder < 1_000_000_000 }
 {
     Place::Expired(account(holder))
-}
-
-/// Taken back from an account, by a withdrawal.
-pub fn taken_back(holder: u32, withdrawal: u32) -> Place
-    requires holder_above { 1 ≤ holder }
-    requires holder_below { holder < 1_000_000_000 }
-    requires act_above { 1 ≤ withdrawal }
-    requires act_below { withdrawal < 1_000_000_000 }
-{
-    Place::Withdrawn(account(holder), act(withdrawal))
 }
 
 /// Sent from an account, with a notice.

@@ -1,21 +1,41 @@
 //! Who is shown what.
 
-use crate::answers::{cancelled, exported};
-use crate::asking::{ISSUER, SUN, VOLT, cancel, export};
-use crate::commands::{account_of, act_of, code_of, day_of, holder_of};
+use crate::asking::{ISSUER, Line, SUN, VOLT};
 use crate::desk::Desk;
-use crate::notices::{JANUARY, lot_of};
-use crate::numbers::{act, number, serials};
+use crate::lots::{JANUARY, lot_of};
 use crate::places::{held, used};
-use crate::stages::{april, with_peer};
+use crate::stages::april;
+use crate::values::{account_of, act, act_of, code_of, day_of, holder_of, number, serials};
 use goo_registry::{CancellationStatement, ReadFault};
 use goo_shelf::found::DeviceTotals;
 use goo_types::lot::Lot;
 use goo_types::notice::Notice;
 use goo_types::number::Number;
 use goo_types::place::Place;
+use std::alloc::Global;
 use std::process::Abort;
 use std::test::Fail;
+
+/// Ten certificates are used up.
+const CANCELLATION: [Line; 1] = [(
+    "SUN",
+    r#"{"account":1,"beneficiary":"Bäckerei Müller","command":"cancel","first":"07000000000001","key":"ten","last":"07000000000010","use_first":"2025-01-01","use_last":"2025-03-31"}"#,
+    r#"{"outcome":"accepted","reply":{"cancellation":1,"count":10}}"#,
+)];
+
+/// Ten are sent to account 5 of registry 9.
+const EXPORT: [Line; 1] = [(
+    "SUN",
+    r#"{"account":5,"command":"export","first":"07000000000020","giver":1,"key":"away","last":"07000000000029","peer":9}"#,
+    r#"{"outcome":"accepted","reply":{"count":10,"notice":1}}"#,
+)];
+
+/// Who isn't shown the first cancellation or notice, or the second, and why: there is none, and only the issuing body learns it.
+const HIDDEN: [(&str, u32, ReadFault); 3] = [
+    (VOLT, 1, ReadFault::NotAllowed),
+    (ISSUER, 2, ReadFault::Unknown),
+    (SUN, 2, ReadFault::NotAllowed),
+];
 
 type Shown<T> = Result<Result<T, ReadFault>, Fail>;
 
@@ -31,19 +51,28 @@ fn no_place(desk: &mut Desk, caller: &str, number: Number) -> Result<Option<Read
 }
 
 #[test]
-fn places(rt: HostRuntime) -> Result<(), Fail> {
+fn a_place(rt: HostRuntime) -> Result<(), Fail> {
     let mut desk = april(&rt, rt.alloc())?;
     let (lot, place) = place(&mut desk, SUN, number(1))??;
     assert_eq!(rt; place, held(1));
     assert!(rt; lot.is(&lot_of(&JANUARY)?));
-    let unknown = Some(ReadFault::Unknown);
-    assert_eq!(rt; no_place(&mut desk, VOLT, number(1))?, unknown);
-    assert_eq!(rt; no_place(&mut desk, VOLT, number(1202))?, unknown);
-    assert_eq!(rt; no_place(&mut desk, ISSUER, number(1202))?, unknown);
     assert_eq!(rt; no_place(&mut desk, ISSUER, number(1))?, None);
-    let stranger = Some(ReadFault::NotAllowed);
-    assert_eq!(rt; no_place(&mut desk, "NOBODY", number(1))?, stranger);
-    assert_eq!(rt; no_place(&mut desk, "NOBODY", number(1202))?, stranger);
+    Ok(())
+}
+
+#[test]
+fn places_that_are_not_shown(rt: HostRuntime) -> Result<(), Fail> {
+    let mut desk = april(&rt, rt.alloc())?;
+    for (caller, serial, wanted) in [
+        (VOLT, 1, ReadFault::Unknown),
+        (VOLT, 1202, ReadFault::Unknown),
+        (ISSUER, 1202, ReadFault::Unknown),
+        ("NOBODY", 1, ReadFault::NotAllowed),
+        ("NOBODY", 1202, ReadFault::NotAllowed),
+    ] {
+        let kept = no_place(&mut desk, caller, number(serial))?;
+        assert_eq!(rt; kept, Some(wanted), "{caller} {serial}");
+    }
     Ok(())
 }
 
@@ -57,20 +86,16 @@ fn no_holdings(desk: &mut Desk, caller: &str, account: u32) -> Result<Option<Rea
 #[test]
 fn holdings(rt: HostRuntime) -> Result<(), Fail> {
     let mut desk = april(&rt, rt.alloc())?;
-    assert_eq!(rt; no_holdings(&mut desk, SUN, 1)?, None);
-    assert_eq!(rt; no_holdings(&mut desk, ISSUER, 1)?, None);
-    assert_eq!(rt;
-        no_holdings(&mut desk, VOLT, 1)?,
-        Some(ReadFault::NotAllowed)
-    );
-    assert_eq!(rt;
-        no_holdings(&mut desk, VOLT, 3)?,
-        Some(ReadFault::NotAllowed)
-    );
-    assert_eq!(rt;
-        no_holdings(&mut desk, ISSUER, 3)?,
-        Some(ReadFault::Unknown)
-    );
+    for (caller, account, wanted) in [
+        (SUN, 1, None),
+        (ISSUER, 1, None),
+        (VOLT, 1, Some(ReadFault::NotAllowed)),
+        (VOLT, 3, Some(ReadFault::NotAllowed)),
+        (ISSUER, 3, Some(ReadFault::Unknown)),
+    ] {
+        let kept = no_holdings(&mut desk, caller, account)?;
+        assert_eq!(rt; kept, wanted, "{caller} {account}");
+    }
     Ok(())
 }
 
@@ -98,19 +123,37 @@ fn states_ten(rt: &impl Abort, statement: &CancellationStatement) -> Result<(), 
     Ok(())
 }
 
+/// The registry after that cancellation.
+fn after_a_cancellation(rt: &impl Abort, alloc: Global) -> Result<Desk, Fail> {
+    let mut desk = april(rt, alloc)?;
+    desk.plays(rt, &CANCELLATION)?;
+    Ok(desk)
+}
+
 #[test]
-fn cancellations(rt: HostRuntime) -> Result<(), Fail> {
-    let mut desk = april(&rt, rt.alloc())?;
-    let ten = cancel(1, serials(1, 10));
-    desk.plays(&rt, &[(SUN, ten, cancelled(act(1), 10))])?;
+fn a_cancellation(rt: HostRuntime) -> Result<(), Fail> {
+    let mut desk = after_a_cancellation(&rt, rt.alloc())?;
     states_ten(&rt, &cancellation(&mut desk, SUN, 1)??)?;
-    states_ten(&rt, &cancellation(&mut desk, ISSUER, 1)??)?;
-    let kept = cancellation(&mut desk, VOLT, 1)?.err();
-    assert_eq!(rt; kept, Some(ReadFault::NotAllowed));
-    let absent = cancellation(&mut desk, ISSUER, 2)?.err();
-    assert_eq!(rt; absent, Some(ReadFault::Unknown));
-    let absent = cancellation(&mut desk, SUN, 2)?.err();
-    assert_eq!(rt; absent, Some(ReadFault::NotAllowed));
+    states_ten(&rt, &cancellation(&mut desk, ISSUER, 1)??)
+}
+
+#[test]
+fn cancellations_that_are_not_shown(rt: HostRuntime) -> Result<(), Fail> {
+    let mut desk = after_a_cancellation(&rt, rt.alloc())?;
+    for (caller, number, wanted) in HIDDEN {
+        let kept = cancellation(&mut desk, caller, number)?.err();
+        assert_eq!(rt; kept, Some(wanted), "{caller} {number}");
+    }
+    Ok(())
+}
+
+/// The notice of ten certificates of January for account 5 of registry 9.
+fn names_ten(rt: &impl Abort, sent: &Notice) -> Result<(), Fail> {
+    assert!(rt; sent.sender() == code_of(7)? && sent.addressee() == code_of(9)?);
+    assert!(rt; sent.number() == act(1) && sent.account().get() == 5);
+    assert_eq!(rt; sent.parts().len(), 1);
+    assert_eq!(rt; sent.parts()[0].range, serials(20, 29));
+    assert!(rt; sent.parts()[0].lot.is(&lot_of(&JANUARY)?));
     Ok(())
 }
 
@@ -121,32 +164,27 @@ fn notice(desk: &mut Desk, caller: &str, number: u32) -> Shown<Notice> {
     Ok(desk.notice(&caller, number))
 }
 
+/// The registry after that export.
+fn after_an_export(rt: &impl Abort, alloc: Global) -> Result<Desk, Fail> {
+    let mut desk = april(rt, alloc)?;
+    desk.plays(rt, &EXPORT)?;
+    Ok(desk)
+}
+
 #[test]
-fn notices(rt: HostRuntime) -> Result<(), Fail> {
-    let mut desk = with_peer(&rt, rt.alloc())?;
-    let ten = export(9, 5, serials(20, 29));
-    desk.plays(&rt, &[(SUN, ten, exported(act(1), 10))])?;
-    let sent = notice(&mut desk, SUN, 1)??;
-    assert!(rt; sent.sender() == code_of(7)? && sent.addressee() == code_of(9)?);
-    assert!(rt; sent.number() == act(1) && sent.account().get() == 5);
-    assert_eq!(rt; sent.parts().len(), 1);
-    assert_eq!(rt; sent.parts()[0].range, serials(20, 29));
-    assert!(rt; sent.parts()[0].lot.is(&lot_of(&JANUARY)?));
-    assert!(rt; notice(&mut desk, ISSUER, 1)??.is(&sent));
-    Ok(())
+fn a_notice(rt: HostRuntime) -> Result<(), Fail> {
+    let mut desk = after_an_export(&rt, rt.alloc())?;
+    names_ten(&rt, &notice(&mut desk, SUN, 1)??)?;
+    names_ten(&rt, &notice(&mut desk, ISSUER, 1)??)
 }
 
 #[test]
 fn notices_that_are_not_shown(rt: HostRuntime) -> Result<(), Fail> {
-    let mut desk = with_peer(&rt, rt.alloc())?;
-    let ten = export(9, 5, serials(20, 29));
-    desk.plays(&rt, &[(SUN, ten, exported(act(1), 10))])?;
-    let kept = notice(&mut desk, VOLT, 1)?.err();
-    assert_eq!(rt; kept, Some(ReadFault::NotAllowed));
-    let absent = notice(&mut desk, ISSUER, 2)?.err();
-    assert_eq!(rt; absent, Some(ReadFault::Unknown));
-    let absent = notice(&mut desk, SUN, 2)?.err();
-    assert_eq!(rt; absent, Some(ReadFault::NotAllowed));
+    let mut desk = after_an_export(&rt, rt.alloc())?;
+    for (caller, number, wanted) in HIDDEN {
+        let kept = notice(&mut desk, caller, number)?.err();
+        assert_eq!(rt; kept, Some(wanted), "{caller} {number}");
+    }
     Ok(())
 }
 
@@ -159,13 +197,22 @@ fn audit(desk: &mut Desk, caller: &str) -> Shown<Vec<DeviceTotals>> {
 #[test]
 fn an_audit(rt: HostRuntime) -> Result<(), Fail> {
     let mut desk = april(&rt, rt.alloc())?;
-    desk.counts(&rt, (1_201_000_000, 1201, 0))?;
     let totals = audit(&mut desk, ISSUER)??;
     assert_eq!(rt; totals.len(), 1);
-    assert!(rt; totals[0].device.text() == "500000000000000012");
-    let kept = audit(&mut desk, SUN)?.err();
-    assert_eq!(rt; kept, Some(ReadFault::NotAllowed));
-    let kept = audit(&mut desk, "NOBODY")?.err();
-    assert_eq!(rt; kept, Some(ReadFault::NotAllowed));
+    let device = &totals[0];
+    assert!(rt; device.device.text() == "500000000000000012");
+    assert_eq!(rt; device.declared, 1_201_000_000);
+    assert_eq!(rt; device.issued, 1201);
+    assert_eq!(rt; device.carry, 0);
+    Ok(())
+}
+
+#[test]
+fn audits_that_are_not_shown(rt: HostRuntime) -> Result<(), Fail> {
+    let mut desk = april(&rt, rt.alloc())?;
+    for caller in [SUN, "NOBODY"] {
+        let kept = audit(&mut desk, caller)?.err();
+        assert_eq!(rt; kept, Some(ReadFault::NotAllowed), "{caller}");
+    }
     Ok(())
 }

@@ -1,57 +1,69 @@
 //! Requests in a list, and a registry handed back to what keeps its records.
 
-use crate::answers::{moved, refused};
-use crate::asking::{Ask, ISSUER, SUN, transfer};
-use crate::commands::{command_of, day_of, holder_of};
+use crate::asking::{Line, is_outcome, request_of};
 use crate::desk::Desk;
-use crate::numbers::serials;
 use crate::places::held;
 use crate::stages::april;
+use crate::values::day_of;
 use goo_shelf::shelf::Shelf;
-use goo_types::command::Command;
-use goo_types::key::Key;
-use goo_types::outcome::Outcome;
-use goo_types::refusal::Refusal;
-use goo_types::request::Request;
 use std::process::Abort;
 use std::test::Fail;
 
-/// A request under a key.
-fn request(caller: &str, key: &[u8], command: Command) -> Result<Request, Fail> {
-    Ok(Request {
-        caller: holder_of(caller)?,
-        key: Key::read(key)?,
-        command,
-    })
+/// A hundred certificates are given, and the date doesn't move.
+const TWO: [Line; 2] = [
+    (
+        "SUN",
+        r#"{"command":"transfer","first":"07000000000100","giver":1,"key":"given","last":"07000000000199","taker":2}"#,
+        r#"{"outcome":"accepted","reply":{"count":100}}"#,
+    ),
+    (
+        "ISSUER",
+        r#"{"command":"advance","day":"2025-04-05","key":"date"}"#,
+        r#"{"code":20,"name":"DateBackwards","outcome":"refused"}"#,
+    ),
+];
+
+/// Requests in a list come to their outcomes, one after another.
+fn runs(rt: &impl Abort, desk: &mut Desk, lines: &[Line]) -> Result<(), Fail> {
+    let mut requests = Vec::new(desk.alloc());
+    for (caller, body, _) in lines {
+        requests.push(request_of(desk.alloc(), caller, body)?)?;
+    }
+    let Ok(outcomes) = desk.run(&requests) else {
+        return Err("the run stopped".into());
+    };
+    assert_eq!(rt; outcomes.len(), lines.len());
+    for (outcome, (_, _, wanted)) in outcomes.iter().zip(lines) {
+        is_outcome(rt, *outcome, wanted);
+    }
+    Ok(())
 }
 
-/// A hundred certificates are given, and the date doesn't move.
-fn gives_and_stays(rt: &impl Abort, desk: &mut Desk) -> Result<(), Fail> {
-    let given = command_of(&transfer(1, 2, serials(100, 199)))?;
-    let date = command_of(&Ask::Advance("2025-04-05"))?;
-    let requests = [
-        request(SUN, b"given", given)?,
-        request(ISSUER, b"date", date)?,
-    ];
-    let wanted = [moved(100), refused(Refusal::DateBackwards)];
-    desk.runs(rt, &requests, &wanted)
+/// The hundred certificates are shown.
+fn shows_the_hundred(rt: &impl Abort, desk: &mut Desk) -> Result<(), Fail> {
+    desk.shows(rt, 2, &[(100, 199, held(2))])
 }
 
 #[test]
 fn two_requests_and_none(rt: HostRuntime) -> Result<(), Fail> {
     let mut desk = april(&rt, rt.alloc())?;
-    gives_and_stays(&rt, &mut desk)?;
-    desk.shows(&rt, 2, &[(100, 199, held(2))])?;
-    desk.runs(&rt, &[], &[])?;
-    desk.shows(&rt, 2, &[(100, 199, held(2))])
+    runs(&rt, &mut desk, &TWO)?;
+    shows_the_hundred(&rt, &mut desk)?;
+    runs(&rt, &mut desk, &[])?;
+    shows_the_hundred(&rt, &mut desk)
 }
 
-#[test]
-fn what_keeps_the_records_is_handed_back(rt: HostRuntime) -> Result<(), Fail> {
-    let mut shelf = april(&rt, rt.alloc())?.into_lists();
+/// What keeps the records of registry 7 in April.
+fn is_of_april<S: Shelf>(rt: &impl Abort, shelf: &mut S) -> Result<(), Fail> {
     assert!(rt; shelf.code()?.get() == 7);
     assert!(rt; shelf.today()? == day_of("2025-04-05")?);
     assert!(rt; shelf.counters()?.serial() == 1202);
     assert!(rt; shelf.refused_calls() == 0);
     Ok(())
+}
+
+#[test]
+fn what_keeps_the_records_is_handed_back(rt: HostRuntime) -> Result<(), Fail> {
+    let mut shelf = april(&rt, rt.alloc())?.into_lists();
+    is_of_april(&rt, &mut shelf)
 }

@@ -1,19 +1,18 @@
 //! Notices that are lost, repeated, late or sent astray, by chance, among three registries: after each event each
 //! certificate has one home, or is on one road, and one lot wherever it is known.
 
-use crate::answers::{DONE, issued, refused};
-use crate::asking::{Ask, DEVICE, ISSUER, SUN, cancel, declare, export};
-use crate::commands::range_of;
+use crate::asking::{Line, SUN};
 use crate::desk::Desk;
 use crate::dice::Dice;
-use crate::notices::{Batch, JANUARY, lot_of};
-use crate::numbers::account;
+use crate::lots::{Batch, lot_of};
+use crate::values::{account_of, code_of, day_of, range_of};
 use crate::world::World;
+use goo_types::command::{Cancel, Command, Export};
+use goo_types::name::Name;
 use goo_types::number::Number;
 use goo_types::outcome::Outcome;
 use goo_types::range::Range;
 use goo_types::refusal::Refusal;
-use goo_types::reply::Reply;
 use std::alloc::Global;
 use std::process::Abort;
 use std::test::Fail;
@@ -35,39 +34,112 @@ struct Tally {
     late: u64,
 }
 
-/// A registry of three certificates, two of one lot and one of another, that knows two others.
-fn registry(rt: &impl Abort, alloc: Global, code: u8, peers: (u8, u8)) -> Result<Desk, Fail> {
-    let mut desk = Desk::new(alloc, code, 1, "2025-03-01")?;
-    let opened = Outcome::Accepted(Reply::Account {
-        account: account(1),
-    });
-    let two = issued(range_of(code, 1, 2)?);
-    let third = issued(range_of(code, 3, 3)?);
-    let early = declare("2025-01-01", "2025-01-15", 2_000_000, 0);
-    let late = declare("2025-01-16", "2025-01-31", 1_000_000, 0);
-    let (one, other) = peers;
-    desk.plays(
-        rt,
-        &[
-            (ISSUER, Ask::OpenHolder(SUN), DONE),
-            (ISSUER, Ask::OpenAccount(SUN), opened),
-            (ISSUER, Ask::RegisterDevice(DEVICE, 1), DONE),
-            (ISSUER, Ask::AddPeer(one), DONE),
-            (ISSUER, Ask::AddPeer(other), DONE),
-            (ISSUER, early, two),
-            (ISSUER, late, third),
-        ],
-    )?;
+/// What each registry is asked first: a holder, an account and a device.
+const MEMBERS: [Line; 3] = [
+    (
+        "ISSUER",
+        r#"{"command":"open_holder","holder":"SUN","key":"a","name":"Sun Power"}"#,
+        r#"{"outcome":"accepted","reply":{}}"#,
+    ),
+    (
+        "ISSUER",
+        r#"{"command":"open_account","holder":"SUN","key":"b"}"#,
+        r#"{"outcome":"accepted","reply":{"account":1}}"#,
+    ),
+    (
+        "ISSUER",
+        r#"{"account":1,"capacity_w":2000000,"command":"register_device","commissioned":"2020-06-15","country":"DE","device":"500000000000000012","key":"c","site":"North field","source":"F01010100","support":"none","tech":"T010000"}"#,
+        r#"{"outcome":"accepted","reply":{}}"#,
+    ),
+];
+
+/// What registry 7 is asked then: two certificates of one lot, one of another, and the other registries.
+const SEVEN: [Line; 4] = [
+    (
+        "ISSUER",
+        r#"{"aux_wh":0,"command":"declare","device":"500000000000000012","first_day":"2025-01-01","gross_wh":2000000,"key":"d","last_day":"2025-01-15"}"#,
+        r#"{"outcome":"accepted","reply":{"carry":0,"count":2,"first":"07000000000001","last":"07000000000002"}}"#,
+    ),
+    (
+        "ISSUER",
+        r#"{"aux_wh":0,"command":"declare","device":"500000000000000012","first_day":"2025-01-16","gross_wh":1000000,"key":"e","last_day":"2025-01-31"}"#,
+        r#"{"outcome":"accepted","reply":{"carry":0,"count":1,"first":"07000000000003","last":"07000000000003"}}"#,
+    ),
+    (
+        "ISSUER",
+        r#"{"command":"add_peer","key":"f","peer":8}"#,
+        r#"{"outcome":"accepted","reply":{}}"#,
+    ),
+    (
+        "ISSUER",
+        r#"{"command":"add_peer","key":"g","peer":9}"#,
+        r#"{"outcome":"accepted","reply":{}}"#,
+    ),
+];
+
+/// What registry 8 is asked then: two certificates of one lot, one of another, and the other registries.
+const EIGHT: [Line; 4] = [
+    (
+        "ISSUER",
+        r#"{"aux_wh":0,"command":"declare","device":"500000000000000012","first_day":"2025-01-01","gross_wh":2000000,"key":"d","last_day":"2025-01-15"}"#,
+        r#"{"outcome":"accepted","reply":{"carry":0,"count":2,"first":"08000000000001","last":"08000000000002"}}"#,
+    ),
+    (
+        "ISSUER",
+        r#"{"aux_wh":0,"command":"declare","device":"500000000000000012","first_day":"2025-01-16","gross_wh":1000000,"key":"e","last_day":"2025-01-31"}"#,
+        r#"{"outcome":"accepted","reply":{"carry":0,"count":1,"first":"08000000000003","last":"08000000000003"}}"#,
+    ),
+    (
+        "ISSUER",
+        r#"{"command":"add_peer","key":"f","peer":7}"#,
+        r#"{"outcome":"accepted","reply":{}}"#,
+    ),
+    (
+        "ISSUER",
+        r#"{"command":"add_peer","key":"g","peer":9}"#,
+        r#"{"outcome":"accepted","reply":{}}"#,
+    ),
+];
+
+/// What registry 9 is asked then: two certificates of one lot, one of another, and the other registries.
+const NINE: [Line; 4] = [
+    (
+        "ISSUER",
+        r#"{"aux_wh":0,"command":"declare","device":"500000000000000012","first_day":"2025-01-01","gross_wh":2000000,"key":"d","last_day":"2025-01-15"}"#,
+        r#"{"outcome":"accepted","reply":{"carry":0,"count":2,"first":"09000000000001","last":"09000000000002"}}"#,
+    ),
+    (
+        "ISSUER",
+        r#"{"aux_wh":0,"command":"declare","device":"500000000000000012","first_day":"2025-01-16","gross_wh":1000000,"key":"e","last_day":"2025-01-31"}"#,
+        r#"{"outcome":"accepted","reply":{"carry":0,"count":1,"first":"09000000000003","last":"09000000000003"}}"#,
+    ),
+    (
+        "ISSUER",
+        r#"{"command":"add_peer","key":"f","peer":7}"#,
+        r#"{"outcome":"accepted","reply":{}}"#,
+    ),
+    (
+        "ISSUER",
+        r#"{"command":"add_peer","key":"g","peer":8}"#,
+        r#"{"outcome":"accepted","reply":{}}"#,
+    ),
+];
+
+/// A registry of three certificates that knows two others.
+fn registry(rt: &impl Abort, alloc: Global, code: u8, own: &[Line]) -> Result<Desk, Fail> {
+    let mut desk = Desk::new(alloc, code, "2025-03-01")?;
+    desk.plays(rt, &MEMBERS)?;
+    desk.plays(rt, own)?;
     Ok(desk)
 }
 
 /// Three registries, each of which knows the others.
 fn three(rt: &impl Abort, alloc: Global) -> Result<World, Fail> {
-    let seven = registry(rt, alloc, 7, (8, 9))?;
-    let eight = registry(rt, alloc, 8, (7, 9))?;
-    let nine = registry(rt, alloc, 9, (7, 8))?;
-    let desks = vec![in alloc; seven, eight, nine]?;
-    Ok(World::new(alloc, desks))
+    let mut world = World::new(alloc);
+    world.adds(registry(rt, alloc, 7, &SEVEN)?)?;
+    world.adds(registry(rt, alloc, 8, &EIGHT)?)?;
+    world.adds(registry(rt, alloc, 9, &NINE)?)?;
+    Ok(world)
 }
 
 /// A registry by chance.
@@ -87,12 +159,33 @@ fn some_range(dice: &mut Dice) -> Result<Range, Fail> {
     range_of(code, first, last)
 }
 
+/// A range used up.
+fn cancel(range: Range) -> Result<Command, Fail> {
+    Ok(Command::Cancel(Cancel {
+        account: account_of(1)?,
+        range,
+        beneficiary: Name::read(b"Baker")?,
+        use_first: day_of("2025-01-01")?,
+        use_last: day_of("2025-03-31")?,
+    }))
+}
+
+/// A range for account 1 at a registry.
+fn export(peer: u8, range: Range) -> Result<Command, Fail> {
+    Ok(Command::Export(Export {
+        giver: account_of(1)?,
+        peer: code_of(peer)?,
+        account: account_of(1)?,
+        range,
+    }))
+}
+
 /// A range for an account at some registry, or used up, by chance.
-fn some_ask(dice: &mut Dice, range: Range) -> Ask {
+fn some_command(dice: &mut Dice, range: Range) -> Result<Command, Fail> {
     if dice.below(10) == 0 {
-        return cancel(1, range);
+        return cancel(range);
     }
-    export(some_code(dice), 1, range)
+    export(some_code(dice), range)
 }
 
 /// Where some of a range are held, the holder sends all of it away, or uses it up: he may, whether or not all are there.
@@ -101,8 +194,9 @@ fn asks(rt: &impl Abort, world: &mut World, dice: &mut Dice) -> Result<(), Fail>
     let Some(at) = world.holder(range.first())? else {
         return Ok(());
     };
-    let ask = some_ask(dice, range);
-    assert_ne!(rt; world.asks(at, SUN, &ask)?, refused(Refusal::NotAllowed));
+    let command = some_command(dice, range)?;
+    let outcome = world.sends(at, SUN, command)?;
+    assert!(rt; outcome != Outcome::Refused(Refusal::NotAllowed));
     world.collects()
 }
 
@@ -125,7 +219,7 @@ fn delivers(
     } else if matches!(outcome, Outcome::Repeated(_)) {
         tally.repeated = tally.repeated.wrapping_add(1);
     } else {
-        assert_eq!(rt; outcome, refused(Refusal::WrongRegistry));
+        assert!(rt; outcome == Outcome::Refused(Refusal::WrongRegistry));
         tally.astray = tally.astray.wrapping_add(1);
     }
     Ok(())
@@ -173,7 +267,6 @@ fn lot_from(code: u8, serial: u64) -> Batch {
         origin: code,
         first,
         last,
-        ..JANUARY
     }
 }
 

@@ -3,11 +3,12 @@
 //! A certificate is at home in a registry that shows it and doesn't show it as exported. It is on the road with a
 //! notice that names it and that its addressee hasn't accepted.
 
-use crate::asking::{Ask, ISSUER};
-use crate::commands::holder_of;
+use crate::asking::ISSUER;
 use crate::desk::Desk;
+use crate::values::{act_of, holder_of};
 use goo_registry::ReadFault;
 use goo_types::act_no::ActNo;
+use goo_types::command::{Command, Import};
 use goo_types::lot::Lot;
 use goo_types::notice::Notice;
 use goo_types::number::Number;
@@ -32,9 +33,12 @@ impl Letter {
 
     /// The lot of a certificate, if the notice names it.
     fn lot_of(&self, number: Number) -> Option<Lot> {
-        let part = self.notice.parts().iter().find(|part| part.range.first() <= number
-            && number <= part.range.last())?;
-        Some(part.lot)
+        for part in self.notice.parts() {
+            if part.range.first() <= number && number <= part.range.last() {
+                return Some(part.lot);
+            }
+        }
+        None
     }
 }
 
@@ -47,13 +51,13 @@ pub struct World {
 
 /// The number of the next notice of a registry that has sent these.
 fn next_notice(letters: &[Letter], sender: RegistryCode) -> Result<ActNo, Fail> {
-    let count = letters
-        .iter()
-        .filter(|letter| letter.notice.sender() == sender)
-        .count();
-    let number = u32::try_from(count)?.checked_add(1);
-    let act = number.and_then(ActNo::new);
-    Ok(act.ok_or("too many notices")?)
+    let mut number = 1u32;
+    for letter in letters {
+        if letter.notice.sender() == sender {
+            number = number.saturating_add(1);
+        }
+    }
+    act_of(number)
 }
 
 /// A notice that a registry sent, as it shows it to the issuing body.
@@ -91,20 +95,33 @@ fn is_home(place: Place) -> bool {
 }
 
 impl World {
-    /// These registries, which have sent nothing.
-    pub fn new(alloc: Global, desks: Vec<Desk>) -> World {
+    /// No registries yet.
+    pub fn new(alloc: Global) -> World {
         World {
-            desks,
+            desks: Vec::new(alloc),
             letters: Vec::new(alloc),
         }
     }
 
+    /// One more registry, which has sent nothing.
+    pub fn adds(&mut self, desk: Desk) -> Result<(), AllocError> {
+        Ok(self.desks.push(desk)?)
+    }
+
     /// What a registry answers to a request. A notice that it sends is on the road once it is collected.
-    pub fn asks(&mut self, at: usize, caller: &str, ask: &Ask) -> Result<Outcome, Fail> {
+    pub fn asks(&mut self, at: usize, caller: &str, body: &str) -> Result<Outcome, Fail> {
         let Some(desk) = self.desks.get_mut(at) else {
             return Err(Fail::new("no such registry"));
         };
-        desk.asks(caller, ask)
+        desk.asks(caller, body)
+    }
+
+    /// What a registry answers to a command under a key of its own.
+    pub fn sends(&mut self, at: usize, caller: &str, command: Command) -> Result<Outcome, Fail> {
+        let Some(desk) = self.desks.get_mut(at) else {
+            return Err(Fail::new("no such registry"));
+        };
+        desk.sends(caller, command)
     }
 
     /// Collects the next notice of each registry, where it has sent one.
@@ -127,7 +144,7 @@ impl World {
             return Err(Fail::new("no such registry"));
         };
         let notice = letter.notice.copy(desk.alloc())?;
-        let outcome = desk.imports(notice)?;
+        let outcome = desk.sends(ISSUER, Command::Import(Import { notice }))?;
         if matches!(outcome, Outcome::Accepted(_)) && desk.code().get() == letter.addressee() {
             letter.is_accepted = true;
         }
@@ -139,8 +156,10 @@ impl World {
         let Some(desk) = self.desks.get_mut(at) else {
             return Err(Fail::new("no such registry"));
         };
-        let known = known(desk, number)?;
-        Ok(known.is_some_and(|(_, place)| matches!(place, Place::Held(_))))
+        match known(desk, number)? {
+            Some((_, place)) => Ok(matches!(place, Place::Held(_))),
+            None => Ok(false),
+        }
     }
 
     /// Where the registry stands that has a certificate in an account, if one has.
@@ -156,16 +175,23 @@ impl World {
     /// Where the addressee of a notice stands.
     pub fn addressee(&self, which: usize) -> Result<usize, Fail> {
         let code = self.letters.get(which).ok_or("no such notice")?.addressee();
-        let place = self.desks.iter().position(|desk| desk.code().get() == code);
-        Ok(place.ok_or("no such registry")?)
+        for (at, desk) in self.desks.iter().enumerate() {
+            if desk.code().get() == code {
+                return Ok(at);
+            }
+        }
+        Err(Fail::new("no such registry"))
     }
 
     /// How many notices are under way.
     pub fn under_way(&self) -> usize {
-        self.letters
-            .iter()
-            .filter(|letter| !letter.is_accepted)
-            .count()
+        let mut count = 0usize;
+        for letter in &self.letters {
+            if !letter.is_accepted {
+                count = count.saturating_add(1);
+            }
+        }
+        count
     }
 
     /// The code of the registry that a certificate is at home in, if any. None has two homes, and each registry
