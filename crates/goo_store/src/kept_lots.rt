@@ -1,6 +1,7 @@
 //! The lots of rows that were found, which are kept beside their numbers.
 
-ghost use Rattle.std.specs.Prelude.{List, IsOkUnless};
+ghost use Rattle.std.specs.Prelude.{◌≡◌, ◌==◌, List, IsOkUnless};
+ghost use Rattle.std.specs.List.{list_any};
 ghost use Rattle.goo_columns.specs.Rows.{Lot as RowOfLot};
 ghost use Rattle.goo_store.specs.Found.{AreStated, IsStated};
 ghost use Rattle.goo_store.specs.declared.trouble.Trouble.TheVariants.{Memory};
@@ -13,13 +14,10 @@ use goo_types::lot::Lot;
 const MOST_LOTS: usize = 16;
 
 /// Whether a lot is kept under this number.
-fn is_kept(lots: &[NumberedLot], number: u64) -> bool {
-    for lot in lots {
-        if lot.number == number {
-            return true;
-        }
-    }
-    false
+fn is_kept(lots: &[NumberedLot], number: u64) -> bool
+    ensures { result ≡ list_any (λ lot. lot.number == number) lots.now }
+{
+    lots.iter().any(|lot| lot.number == number)
 }
 
 /// Makes room for a lot more: where the most are kept, they go.
