@@ -1,6 +1,110 @@
 //! What command lines ask for.
 use goo_command_line::{LineFault, Place, Task, read_task};
 
+/// The words of a command line, and the kind of their fault.
+const FAULTS: [(&[&str], &str); 16] = [
+    (&["goo"], "command"),
+    (&["goo", "--help"], "words"),
+    (&["goo", "help"], "words"),
+    (&["goo", "run", "--help"], "words"),
+    (
+        &[
+            "goo",
+            "init",
+            "--db",
+            "x",
+            "--code",
+            "7",
+            "--today",
+            "2025-03-01",
+        ],
+        "words",
+    ),
+    (&["goo", "run"], "place"),
+    (&["goo", "run", "--db", "x"], "words"),
+    (&["goo", "run", "x", "--memory"], "words"),
+    (&["goo", "run", "--memory", "--today", "2025-03-01"], "code"),
+    (
+        &[
+            "goo",
+            "run",
+            "--memory",
+            "--today",
+            "2025-03-01",
+            "--code",
+            "+7",
+        ],
+        "code",
+    ),
+    (
+        &[
+            "goo",
+            "run",
+            "--memory",
+            "--today",
+            "2025-03-01",
+            "--code",
+            "100",
+        ],
+        "code",
+    ),
+    (
+        &[
+            "goo",
+            "run",
+            "--memory",
+            "--today",
+            "2025-03-01",
+            "--code",
+            "7",
+            "--code",
+            "7",
+        ],
+        "words",
+    ),
+    (
+        &[
+            "goo",
+            "run",
+            "--memory",
+            "--code",
+            "7",
+            "--today",
+            "2025-02-29",
+        ],
+        "today",
+    ),
+    (&["goo", "run", "--memory", "--code", "7"], "today"),
+    (
+        &[
+            "goo",
+            "run",
+            "--memory",
+            "--code",
+            "7",
+            "--today",
+            "2025-03-01",
+            "--next-serial",
+            "0",
+        ],
+        "next serial",
+    ),
+    (
+        &[
+            "goo",
+            "run",
+            "--memory",
+            "--code",
+            "7",
+            "--today",
+            "2025-03-01",
+            "--next-serial",
+            "1000000000000",
+        ],
+        "next serial",
+    ),
+];
+
 /// The task of these words, or the kind of their fault.
 fn told(asked: Result<Task, LineFault>) -> &'static str {
     match asked {
@@ -54,109 +158,7 @@ fn a_registry_in_memory_begins_as_it_is_told(rt: HostRuntime) {
 
 #[test]
 fn each_fault_of_a_command_line_is_told(rt: HostRuntime) {
-    let cases: [(&[&str], &str); 16] = [
-        (&["goo"], "command"),
-        (&["goo", "--help"], "words"),
-        (&["goo", "help"], "words"),
-        (&["goo", "run", "--help"], "words"),
-        (
-            &[
-                "goo",
-                "init",
-                "--db",
-                "x",
-                "--code",
-                "7",
-                "--today",
-                "2025-03-01",
-            ],
-            "words",
-        ),
-        (&["goo", "run"], "place"),
-        (&["goo", "run", "--db", "x"], "words"),
-        (&["goo", "run", "x", "--memory"], "words"),
-        (&["goo", "run", "--memory", "--today", "2025-03-01"], "code"),
-        (
-            &[
-                "goo",
-                "run",
-                "--memory",
-                "--today",
-                "2025-03-01",
-                "--code",
-                "+7",
-            ],
-            "code",
-        ),
-        (
-            &[
-                "goo",
-                "run",
-                "--memory",
-                "--today",
-                "2025-03-01",
-                "--code",
-                "100",
-            ],
-            "code",
-        ),
-        (
-            &[
-                "goo",
-                "run",
-                "--memory",
-                "--today",
-                "2025-03-01",
-                "--code",
-                "7",
-                "--code",
-                "7",
-            ],
-            "words",
-        ),
-        (
-            &[
-                "goo",
-                "run",
-                "--memory",
-                "--code",
-                "7",
-                "--today",
-                "2025-02-29",
-            ],
-            "today",
-        ),
-        (&["goo", "run", "--memory", "--code", "7"], "today"),
-        (
-            &[
-                "goo",
-                "run",
-                "--memory",
-                "--code",
-                "7",
-                "--today",
-                "2025-03-01",
-                "--next-serial",
-                "0",
-            ],
-            "next serial",
-        ),
-        (
-            &[
-                "goo",
-                "run",
-                "--memory",
-                "--code",
-                "7",
-                "--today",
-                "2025-03-01",
-                "--next-serial",
-                "1000000000000",
-            ],
-            "next serial",
-        ),
-    ];
-    for (words, wanted) in cases {
+    for (words, wanted) in FAULTS {
         assert_eq!(rt; told(read_task(rt.alloc(), words)), wanted);
     }
 }

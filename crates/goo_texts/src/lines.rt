@@ -56,39 +56,41 @@ const SHAPE: &str = "{\"fault\":\"Shape\",\"outcome\":\"unreadable\"}\n";
 
 const FIELD: &str = "{\"fault\":\"Field\",\"outcome\":\"unreadable\"}\n";
 
+/// A line that states no request, and what it is answered.
+const UNREADABLE: [(&str, &str); 13] = [
+    ("ISSUER", CALLER),
+    ("\r", CALLER),
+    (" {}", CALLER),
+    ("issuer {}", CALLER),
+    ("ABCDEFGHIJKLMNOPQ {}", CALLER),
+    ("ISSUER ", NOT_JSON),
+    (
+        "ISSUER {\"command\":\"open_account\",\"holder\":\"SUN\",\"key\":\"a\"",
+        NOT_JSON,
+    ),
+    ("ISSUER  {}\r", SHAPE),
+    ("ISSUER []", SHAPE),
+    (
+        "ISSUER {\"command\":\"open_acount\",\"holder\":\"SUN\",\"key\":\"a\"}",
+        SHAPE,
+    ),
+    (
+        "ISSUER {\"command\":\"open_account\",\"holder\":1,\"key\":\"a\"}",
+        SHAPE,
+    ),
+    (
+        "ISSUER {\"command\":\"open_account\",\"holder\":\"\",\"key\":\"a\"}",
+        FIELD,
+    ),
+    (
+        "ISSUER {\"command\":\"open_account\",\"holder\":\"SUN\",\"key\":\"\"}",
+        FIELD,
+    ),
+];
+
 #[test]
 fn each_unreadable_line_is_told(rt: HostRuntime) -> Result<(), Fail> {
-    let cases: [(&str, &str); 13] = [
-        ("ISSUER", CALLER),
-        ("\r", CALLER),
-        (" {}", CALLER),
-        ("issuer {}", CALLER),
-        ("ABCDEFGHIJKLMNOPQ {}", CALLER),
-        ("ISSUER ", NOT_JSON),
-        (
-            "ISSUER {\"command\":\"open_account\",\"holder\":\"SUN\",\"key\":\"a\"",
-            NOT_JSON,
-        ),
-        ("ISSUER  {}\r", SHAPE),
-        ("ISSUER []", SHAPE),
-        (
-            "ISSUER {\"command\":\"open_acount\",\"holder\":\"SUN\",\"key\":\"a\"}",
-            SHAPE,
-        ),
-        (
-            "ISSUER {\"command\":\"open_account\",\"holder\":1,\"key\":\"a\"}",
-            SHAPE,
-        ),
-        (
-            "ISSUER {\"command\":\"open_account\",\"holder\":\"\",\"key\":\"a\"}",
-            FIELD,
-        ),
-        (
-            "ISSUER {\"command\":\"open_account\",\"holder\":\"SUN\",\"key\":\"\"}",
-            FIELD,
-        ),
-    ];
-    for (line, wanted) in cases {
+    for (line, wanted) in UNREADABLE {
         let mut desk = FailingDesk {
             fault: Fault::Store,
         };

@@ -7,34 +7,145 @@ use goo_types::outcome::Outcome;
 use goo_types::range::Range;
 use goo_types::refusal::Refusal;
 use goo_types::reply::Reply;
+use std::alloc::Global;
 use std::test::Fail;
+
+/// What a request did, and its text.
+type ReplyRow = (Reply, &'static str);
+
+/// What a request did, with no account, act or range.
+const REPLIES: [ReplyRow; 5] = [
+    (Reply::Done, "{}"),
+    (
+        Reply::Declared {
+            carry: 999_999,
+            issued: None,
+        },
+        "{\"carry\":999999,\"count\":0}",
+    ),
+    (Reply::Moved { count: 10 }, "{\"count\":10}"),
+    (Reply::Imported { count: 10 }, "{\"count\":10}"),
+    (Reply::Advanced { expired: 0 }, "{\"expired\":0}"),
+];
+
+/// A reason, the text of its code and name, and that of the certificate that it names.
+type RefusalRow = (Refusal, &'static str, &'static str);
+
+/// The reasons that name no certificate.
+const REFUSALS: [RefusalRow; 25] = [
+    (Refusal::NotAllowed, "1,\"name\":\"NotAllowed\"", ""),
+    (Refusal::KeyReused, "2,\"name\":\"KeyReused\"", ""),
+    (Refusal::UnknownHolder, "3,\"name\":\"UnknownHolder\"", ""),
+    (Refusal::HolderExists, "4,\"name\":\"HolderExists\"", ""),
+    (Refusal::UnknownAccount, "5,\"name\":\"UnknownAccount\"", ""),
+    (Refusal::AccountClosed, "6,\"name\":\"AccountClosed\"", ""),
+    (
+        Refusal::AccountNotEmpty,
+        "7,\"name\":\"AccountNotEmpty\"",
+        "",
+    ),
+    (Refusal::DeviceExists, "8,\"name\":\"DeviceExists\"", ""),
+    (Refusal::UnknownDevice, "9,\"name\":\"UnknownDevice\"", ""),
+    (
+        Refusal::BeforeCommissioning,
+        "10,\"name\":\"BeforeCommissioning\"",
+        "",
+    ),
+    (Refusal::PeriodOrder, "11,\"name\":\"PeriodOrder\"", ""),
+    (Refusal::PeriodSpan, "12,\"name\":\"PeriodSpan\"", ""),
+    (
+        Refusal::AuxExceedsGross,
+        "13,\"name\":\"AuxExceedsGross\"",
+        "",
+    ),
+    (Refusal::OverCapacity, "14,\"name\":\"OverCapacity\"", ""),
+    (
+        Refusal::NumbersExhausted,
+        "15,\"name\":\"NumbersExhausted\"",
+        "",
+    ),
+    (Refusal::SameAccount, "19,\"name\":\"SameAccount\"", ""),
+    (Refusal::DateBackwards, "20,\"name\":\"DateBackwards\"", ""),
+    (Refusal::UnknownPeer, "21,\"name\":\"UnknownPeer\"", ""),
+    (Refusal::PeerExists, "22,\"name\":\"PeerExists\"", ""),
+    (Refusal::WrongRegistry, "23,\"name\":\"WrongRegistry\"", ""),
+    (
+        Refusal::NoticeConflict,
+        "24,\"name\":\"NoticeConflict\"",
+        "",
+    ),
+    (Refusal::Stale, "27,\"name\":\"Stale\"", ""),
+    (Refusal::FuturePeriod, "28,\"name\":\"FuturePeriod\"", ""),
+    (Refusal::UsePeriod, "29,\"name\":\"UsePeriod\"", ""),
+    (Refusal::TooManyParts, "30,\"name\":\"TooManyParts\"", ""),
+];
+
+/// A text is the one that is wanted; else both are told.
+fn reads(text: &str, wanted: &str) -> Result<(), Fail> {
+    if text == wanted {
+        return Ok(());
+    }
+    Err(Fail::new(format_args!("{text} in place of {wanted}")))
+}
+
+/// The replies have their texts, told at once and told again.
+fn replies_read(alloc: Global, replies: &[ReplyRow]) -> Result<(), Fail> {
+    for (reply, want) in replies {
+        let wanted = format!(in alloc; "{{\"outcome\":\"accepted\",\"reply\":{want}}}")?;
+        reads(
+            outcome_text(Outcome::Accepted(*reply)).as_str(),
+            wanted.as_str(),
+        )?;
+        let wanted = format!(in alloc; "{{\"outcome\":\"repeated\",\"reply\":{want}}}")?;
+        reads(
+            outcome_text(Outcome::Repeated(*reply)).as_str(),
+            wanted.as_str(),
+        )?;
+    }
+    Ok(())
+}
+
+/// The refusals have their texts.
+fn refusals_read(alloc: Global, refusals: &[RefusalRow]) -> Result<(), Fail> {
+    for (refusal, reason, number) in refusals {
+        let wanted = format!(in alloc; "{{\"code\":{reason}{number},\"outcome\":\"refused\"}}")?;
+        reads(
+            outcome_text(Outcome::Refused(*refusal)).as_str(),
+            wanted.as_str(),
+        )?;
+    }
+    Ok(())
+}
 
 #[test]
 fn accepted(rt: HostRuntime) -> Result<(), Fail> {
+    replies_read(rt.alloc(), &REPLIES)
+}
+
+#[test]
+fn accepted_with_numbers(rt: HostRuntime) -> Result<(), Fail> {
     let account = AccountNo::new(1).ok_or("no account")?;
-    let act = ActNo::new(1).ok_or("no act")?;
     let first = Number::read(b"07000000000001")?;
     let last = Number::read(b"07000000001200")?;
     let issued = Range::new(first, last).ok_or("no range")?;
+    let declared = Reply::Declared {
+        carry: 0,
+        issued: Some(issued),
+    };
     let replies = [
-        (Reply::Done, "{}"),
         (Reply::Account { account }, "{\"account\":1}"),
         (
-            Reply::Declared {
-                carry: 0,
-                issued: Some(issued),
-            },
+            declared,
             "{\"carry\":0,\"count\":1200,\"first\":\"07000000000001\",\"last\":\"07000000001200\"}",
         ),
-        (
-            Reply::Declared {
-                carry: 999_999,
-                issued: None,
-            },
-            "{\"carry\":999999,\"count\":0}",
-        ),
-        (Reply::Moved { count: 10 }, "{\"count\":10}"),
-        (Reply::Imported { count: 10 }, "{\"count\":10}"),
+    ];
+    replies_read(rt.alloc(), &replies)
+}
+
+#[test]
+fn accepted_with_acts(rt: HostRuntime) -> Result<(), Fail> {
+    let act = ActNo::new(1).ok_or("no act")?;
+    let replies = [
         (
             Reply::Cancelled {
                 cancellation: act,
@@ -49,7 +160,6 @@ fn accepted(rt: HostRuntime) -> Result<(), Fail> {
             },
             "{\"count\":1,\"withdrawal\":1}",
         ),
-        (Reply::Advanced { expired: 0 }, "{\"expired\":0}"),
         (
             Reply::Exported {
                 notice: act,
@@ -58,51 +168,19 @@ fn accepted(rt: HostRuntime) -> Result<(), Fail> {
             "{\"count\":10,\"notice\":1}",
         ),
     ];
-    for (reply, want) in &replies {
-        let wanted = format!(in rt.alloc(); "{{\"outcome\":\"accepted\",\"reply\":{want}}}")?;
-        assert!(rt; outcome_text(Outcome::Accepted(*reply)).as_str() == wanted.as_str());
-        let wanted = format!(in rt.alloc(); "{{\"outcome\":\"repeated\",\"reply\":{want}}}")?;
-        assert!(rt; outcome_text(Outcome::Repeated(*reply)).as_str() == wanted.as_str());
-    }
-    Ok(())
+    replies_read(rt.alloc(), &replies)
 }
 
 #[test]
 fn refused(rt: HostRuntime) -> Result<(), Fail> {
+    refusals_read(rt.alloc(), &REFUSALS)
+}
+
+#[test]
+fn refused_for_a_certificate(rt: HostRuntime) -> Result<(), Fail> {
     let n = Number::read(b"07000000000007")?;
     let named = ",\"number\":\"07000000000007\"";
     let refusals = [
-        (Refusal::NotAllowed, "1,\"name\":\"NotAllowed\"", ""),
-        (Refusal::KeyReused, "2,\"name\":\"KeyReused\"", ""),
-        (Refusal::UnknownHolder, "3,\"name\":\"UnknownHolder\"", ""),
-        (Refusal::HolderExists, "4,\"name\":\"HolderExists\"", ""),
-        (Refusal::UnknownAccount, "5,\"name\":\"UnknownAccount\"", ""),
-        (Refusal::AccountClosed, "6,\"name\":\"AccountClosed\"", ""),
-        (
-            Refusal::AccountNotEmpty,
-            "7,\"name\":\"AccountNotEmpty\"",
-            "",
-        ),
-        (Refusal::DeviceExists, "8,\"name\":\"DeviceExists\"", ""),
-        (Refusal::UnknownDevice, "9,\"name\":\"UnknownDevice\"", ""),
-        (
-            Refusal::BeforeCommissioning,
-            "10,\"name\":\"BeforeCommissioning\"",
-            "",
-        ),
-        (Refusal::PeriodOrder, "11,\"name\":\"PeriodOrder\"", ""),
-        (Refusal::PeriodSpan, "12,\"name\":\"PeriodSpan\"", ""),
-        (
-            Refusal::AuxExceedsGross,
-            "13,\"name\":\"AuxExceedsGross\"",
-            "",
-        ),
-        (Refusal::OverCapacity, "14,\"name\":\"OverCapacity\"", ""),
-        (
-            Refusal::NumbersExhausted,
-            "15,\"name\":\"NumbersExhausted\"",
-            "",
-        ),
         (
             Refusal::UnknownNumber(n),
             "16,\"name\":\"UnknownNumber\"",
@@ -114,34 +192,14 @@ fn refused(rt: HostRuntime) -> Result<(), Fail> {
             "18,\"name\":\"TradeClosed\"",
             named,
         ),
-        (Refusal::SameAccount, "19,\"name\":\"SameAccount\"", ""),
-        (Refusal::DateBackwards, "20,\"name\":\"DateBackwards\"", ""),
-        (Refusal::UnknownPeer, "21,\"name\":\"UnknownPeer\"", ""),
-        (Refusal::PeerExists, "22,\"name\":\"PeerExists\"", ""),
-        (Refusal::WrongRegistry, "23,\"name\":\"WrongRegistry\"", ""),
-        (
-            Refusal::NoticeConflict,
-            "24,\"name\":\"NoticeConflict\"",
-            "",
-        ),
         (
             Refusal::NumberTaken(n),
             "25,\"name\":\"NumberTaken\"",
             named,
         ),
         (Refusal::LotDiffers(n), "26,\"name\":\"LotDiffers\"", named),
-        (Refusal::Stale, "27,\"name\":\"Stale\"", ""),
-        (Refusal::FuturePeriod, "28,\"name\":\"FuturePeriod\"", ""),
-        (Refusal::UsePeriod, "29,\"name\":\"UsePeriod\"", ""),
-        (Refusal::TooManyParts, "30,\"name\":\"TooManyParts\"", ""),
     ];
-    for (refusal, reason, number) in refusals {
-        let wanted = format!(in rt.alloc();
-            "{{\"code\":{reason}{number},\"outcome\":\"refused\"}}"
-        )?;
-        assert!(rt; outcome_text(Outcome::Refused(refusal)).as_str() == wanted.as_str());
-    }
-    Ok(())
+    refusals_read(rt.alloc(), &refusals)
 }
 
 #[test]
