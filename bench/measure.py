@@ -3,7 +3,7 @@
 usage: python3 bench/measure.py [PROGRAM]
 
 PROGRAM is crates/goo/out/goo unless told (`./goo` builds it). Prints a table: processor seconds, requests a second, peak memory, the growth
-as a fitted exponent, and the ratio to the baseline (bench/baseline.py, in memory). Nothing here is part of the gate.
+as a fitted exponent, and the ratio to the baseline (bench/baseline.py, in memory). Each time is the least of three runs, program and baseline in turn. Nothing here is part of the gate.
 """
 import math
 import os
@@ -13,6 +13,7 @@ import tempfile
 from pathlib import Path
 
 HERE = Path(__file__).resolve().parent
+RUNS = 3
 SIZES = {'declarations': (25_000, 50_000, 100_000), 'trades': (5_000, 10_000, 20_000)}
 ARGUMENTS = ['run', '--memory', '--code', '7', '--today', '2025-03-01']
 
@@ -51,8 +52,8 @@ def measure(program, name, twice, folder):
     for size in SIZES[name]:
         lines, outcomes = folder / 'lines', folder / 'outcomes'
         requests = write_lines(name, size, 2 if twice else 1, lines)
-        used, memory = run(program, lines, outcomes)
-        plain = baseline(lines)
+        pairs = [(run(program, lines, outcomes), baseline(lines)) for _ in range(RUNS)]
+        (used, memory), plain = min(pair[0] for pair in pairs), min(pair[1] for pair in pairs)
         seconds.append(used)
         title = f'{name}{", sent twice" if twice else ""}'
         print(f'| {title} | {requests:,} | {used:.2f} | {requests / used:,.0f} | {memory:.0f} MB | {plain:.2f} | {used / plain:.2f} |', flush=True)
