@@ -1,33 +1,44 @@
 -- What a shelf keeps of its look-ups, as it is found and kept.
-use Rattle.std.proofs.Common.{◌≡◌, inl, inr, refl, sym, ap, subst, ◌∙◌, ◌++◌, ◌∷◌, [], pos, ℕ, Bool, List, All, map, find, filter, reverse, slice_index_or, Option, Some, None, option_map, Ok, Err, Result, IfOk, IfSome, IsSomeAnd}
+use Rattle.std.proofs.Common.{◌≡◌, inl, inr, refl, sym, ap, subst, ◌∙◌, ◌++◌, ◌∷◌, [], pos, ℕ, ◌||◌, Bool, true, false, cond, true≢false, List, All, map, find, filter, reverse, slice_index_or, is_some, Option, Some, None, option_map, Ok, Err, Result, IfOk, IfSome, IsSomeAnd}
 use Rattle.std.specs.Prelude.{IsOkAnd}
-use Rattle.std.specs.FinMap.{get}
+use Rattle.std.specs.FinMap.{get, contains_key}
+use Rattle.std.specs.Ordering.{eq_by_cmp, int_eq}
+use Rattle.std.specs.Cmp.Lexicographic.{nat_list_cmp_total}
 use Rattle.std.specs.List.{cons_option}
-use Rattle.std.proofs.lemmas.List.Elements.{All-nil, All-cons, All-head, All-append, All-filter}
+use Rattle.std.proofs.lemmas.List.Elements.{All-nil, All-cons, All-head, All-tail, All-append, All-filter}
 use Rattle.std.proofs.lemmas.List.Sorted.{All-permutation, IsPermutation-reverse}
 use Rattle.sqlite.specs.State.{State}
 use Rattle.sqlite.specs.declared.error.Error.{Error}
 use Rattle.sqlite_keyed.specs.Keyed.{get_by}
+use Rattle.sqlite_keyed.proofs.SliceLemmas.{is_some-map}
+use Rattle.goo_spec.specs.Lots.{key_of}
+use Rattle.goo_spec.specs.State.{text_cmp}
 use Rattle.goo_spec.proofs.Mapping.{inside, none_some}
+use Rattle.goo_types.specs.declared.lot_fields.LotFields.{LotFields}
 use Rattle.goo_types.specs.declared.piece.Piece.{Piece}
 use Rattle.goo_columns.specs.Beside.{beside, pieces_beside, joined_in}
-use Rattle.goo_columns.specs.Rows.{Tables, Lot, device_in, lot_key, meta_in}
-use Rattle.goo_columns.specs.Stands.{Looks, doubts}
+use Rattle.goo_columns.specs.Rows.{Tables, Lot, device_in, lot_in, lot_key, meta_in}
+use Rattle.goo_columns.specs.Stands.{Looks, Stands, doubts}
 use Rattle.goo_columns.specs.declared.device.DeviceRow.{DeviceRow}
 use Rattle.goo_columns.specs.declared.joined.JoinedRow.{JoinedRow}
+use Rattle.goo_columns.specs.declared.lot.LotRow.{LotRow}
 use Rattle.goo_columns.specs.declared.meta.MetaRow.{MetaRow}
 use Rattle.goo_columns.specs.declared.piece.PieceRow.{PieceRow}
 use Rattle.goo_kept.specs.Devices.{device_of}
-use Rattle.goo_kept.specs.States.{state_of}
+use Rattle.goo_kept.specs.States.{known_lot, state_of}
+use Rattle.goo_kept.proofs.Known.{text_same, text_itself, get-known}
 use Rattle.goo_kept.specs.Places.{lot_of, piece_of}
-use Rattle.goo_store.specs.Found.{IsRowOf, IsDeviceOf, IsBeside, IsStated, AreStated, AreNone, Knows, KeepsFound, KeepsDevice, KeepsLots, KeepsRead}
+use Rattle.goo_store.specs.Found.{IsRowOf, IsDeviceOf, IsBeside, IsStated, AreStated, AreNone, Knows, KeepsFound, KeepsDevice, KeepsLot, KeepsLots, KeepsRead, KeepsRow}
 use Rattle.goo_store.specs.Holding.{sure}
 use Rattle.goo_store.specs.LotNumbers.{AreWith, IsNumberOf}
+use Rattle.goo_store.specs.LotRows.{is_among}
 use Rattle.goo_store.specs.Moments.{tables_in, IsWell}
+use Rattle.goo_store.specs.NewLots.{known_lots}
 use Rattle.goo_store.specs.declared.findings.Findings.{Findings}
 use Rattle.goo_store.specs.declared.findings.KnownDevice.{KnownDevice}
 use Rattle.goo_store.specs.declared.lot_numbers.NumberedLot.{NumberedLot}
 use Rattle.goo_store.proofs.Looking.{before, so_still, known}
+use Rattle.goo_store.proofs.RowsGathered.{found_by_key}
 use Rattle.goo_store.proofs.RowsRead.{found_row, unmapped}
 
 -- nothing kept is right of all tables
@@ -80,6 +91,33 @@ with_found before added found lots are with = record {
   where
     later : (x : NumberedLot) → IsNumberOf before x.number x.lot → IsNumberOf lots x.number x.lot
     later x is = record { row = is.row; there = with.kept x.number is.row is.there; states = is.states }
+
+-- where a row is found, a row that passes another test as well is found by it
+found_too : {X : Type 0} (p q : X → Bool) (xs : List X) (x : X) → find p xs ≡ Some x → q x ≡ true → is_some (find q xs) ≡ true
+found_too p q [] x is passes = none_some x is
+found_too {X} p q (y ∷ ys) x is passes = go (p y) (q y) refl is (λ later. found_too p q ys x later passes)
+  where
+    go : (a b : Bool) → q y ≡ b → cond a (Some y) (find p ys) ≡ Some x → (find p ys ≡ Some x → is_some (find q ys) ≡ true) → is_some (cond b (Some y) (find q ys)) ≡ true
+    go a true same found rest = refl
+    go true false same found rest = absurd (true≢false (sym passes ∙ ap q (sym (inside y x found)) ∙ same))
+    go false false same found rest = rest found
+
+-- a lot that a row states is known by its key
+stated_known : (lots : List Lot) (x : NumberedLot) → IsStated lots x.number x.lot → contains_key (known_lots lots) (key_of x.lot) ≡ true
+stated_known lots x states =
+    let it = stated lots x states in
+    let test : Lot → Bool = λ l. eq_by_cmp text_cmp (key_of x.lot) (key_of (lot_of l)) in
+    ap is_some (get-known nat_list_cmp_total known_lot (key_of x.lot) test (λ l. refl) lots) ∙ is_some-map (λ l. (known_lot l).1) (find test lots)
+    ∙ found_too (λ l. int_eq (lot_key l) (pos x.number)) test lots it.row it.there (text_itself (key_of x.lot) (key_of (lot_of it.row)) (ap key_of (sym it.states)))
+
+-- a lot that is among those that are kept is known
+pub kept_known : (lots : List Lot) (kept : List NumberedLot) (key : List ℕ) → AreStated lots kept → is_among kept key ≡ true → contains_key (known_lots lots) key ≡ true
+kept_known lots [] key are among = absurd (true≢false (sym among))
+kept_known lots (x ∷ xs) key are among = go (eq_by_cmp text_cmp key (key_of x.lot)) refl among (kept_known lots xs key (All-tail (λ y. IsStated lots y.number y.lot) x xs are))
+  where
+    go : (b : Bool) → eq_by_cmp text_cmp key (key_of x.lot) ≡ b → (b || is_among xs key) ≡ true → (is_among xs key ≡ true → contains_key (known_lots lots) key ≡ true) → contains_key (known_lots lots) key ≡ true
+    go true same here rest = subst (λ k. contains_key (known_lots lots) k ≡ true) (sym (text_same key (key_of x.lot) same)) (stated_known lots x (All-head (λ y. IsStated lots y.number y.lot) x xs are))
+    go false other later rest = rest later
 
 -- ---- what is kept after a device was looked up
 
@@ -135,15 +173,41 @@ last_beside t test row is =
 pub some_beside : (t : Tables) (test : PieceRow × Lot → Bool) (rows : List JoinedRow) → map joined_in rows ≡ filter test (pieces_beside t) → All (λ r. IsBeside t.lots (joined_in r)) rows
 some_beside t test rows is = unmapped (IsBeside t.lots) joined_in rows (subst (All (IsBeside t.lots)) (sym is) (All-filter test (IsBeside t.lots) (pieces_beside t) (all_beside t.lots t.pieces)))
 
-pub lots_known : (old new : State) (it : IsWell old) {T : Type 0} (r : Result T Error) (right : Tables → T → Type 0) → Looks old new r right → (rows : T → List JoinedRow) → ((x : T) → right (tables_in old) x → All (λ a. IsBeside (tables_in old).lots (joined_in a)) (rows x))
-    → (findings next : Findings) → next.own ≡ findings.own → next.device ≡ findings.device → Knows old findings → KeepsRead r rows findings.lots.items next.lots.items → Knows new next
-lots_known old new it {T} r right looks rows each findings next own device knows kept none =
-    let still = known old new it r _ looks findings knows in record {
+-- lots that were looked up
+lots_after : (old new : State) (it : IsWell old) {T : Type 0} (r : Result T Error) (right : Tables → T → Type 0) → Looks old new r right → (findings next : Findings) → next.own ≡ findings.own → next.device ≡ findings.device → Knows old findings
+    → (Stands old.now (tables_in old) → IfOk r (right (tables_in old)) → AreStated (tables_in old).lots findings.lots.items → AreStated (tables_in old).lots next.lots.items) → Knows new next
+lots_after old new it r right looks findings next own device knows are none =
+    let still = known old new it r _ looks findings knows in
+    let first = before old new it r _ looks none in record {
       own = subst (λ o. IsRowOf o (tables_in new)) (sym own) (still none).own;
       device = subst (λ o. IsDeviceOf o (tables_in new)) (sym device) (still none).device;
-      lots = so_still old new it r _ looks (λ t. AreStated t.lots next.lots.items) none (all r (looks.found (sure new none).0 (tables_in old) (it.stands (before old new it r _ looks none))) kept);
+      lots = so_still old new it r _ looks (λ t. AreStated t.lots next.lots.items) none (are (it.stands first) (looks.found (sure new none).0 (tables_in old) (it.stands first)) (knows first).lots);
     }
+
+pub lots_known : (old new : State) (it : IsWell old) {T : Type 0} (r : Result T Error) (right : Tables → T → Type 0) → Looks old new r right → (rows : T → List JoinedRow) → ((x : T) → right (tables_in old) x → All (λ a. IsBeside (tables_in old).lots (joined_in a)) (rows x))
+    → (findings next : Findings) → next.own ≡ findings.own → next.device ≡ findings.device → Knows old findings → KeepsRead r rows findings.lots.items next.lots.items → Knows new next
+lots_known old new it {T} r right looks rows each findings next own device knows kept = lots_after old new it r right looks findings next own device knows (λ stands found are. all r found kept are)
   where
-    all : (q : Result T Error) → IfOk q (right (tables_in old)) → KeepsRead q rows findings.lots.items next.lots.items → AreStated (tables_in old).lots next.lots.items
-    all (Ok x) found keeps = keeps (tables_in old).lots (knows (before old new it r _ looks none)).lots (each x found)
-    all (Err e) found keeps = subst (AreStated (tables_in old).lots) (sym keeps) (knows (before old new it r _ looks none)).lots
+    all : (q : Result T Error) → IfOk q (right (tables_in old)) → KeepsRead q rows findings.lots.items next.lots.items → AreStated (tables_in old).lots findings.lots.items → AreStated (tables_in old).lots next.lots.items
+    all (Ok x) found keeps are = keeps (tables_in old).lots are (each x found)
+    all (Err e) found keeps are = subst (AreStated (tables_in old).lots) (sym keeps) are
+
+-- ---- what is kept after a lot was looked up by its key
+
+-- a row under its own number states its lot
+pub row_states : (lots : List Lot) (row : LotRow) (lot : LotFields) → lot ≡ lot_of (lot_in row) → get_by lot_key lots (lot_key (lot_in row)) ≡ Some (lot_in row) → IsStated lots row.id lot
+row_states lots row lot is there = ap (option_map lot_of) there ∙ ap (λ (l : LotFields). Some l) (sym is)
+
+-- the row that was found
+pub kept_row : (found : Result (Option LotRow) Error) (row : LotRow) (old new : List NumberedLot) → found ≡ Ok (Some row) → KeepsRow row old new → KeepsLot found old new
+kept_row found row old new is kept = subst (λ (f : Result (Option LotRow) Error). KeepsLot f old new) (sym is) kept
+
+pub lot_known : (old new : State) (it : IsWell old) (r : Result (Option LotRow) Error) (test : Lot → Bool) → Looks old new r (λ t found. option_map lot_in found ≡ find test t.lots)
+    → (findings next : Findings) → next.own ≡ findings.own → next.device ≡ findings.device → Knows old findings → KeepsLot r findings.lots.items next.lots.items → Knows new next
+lot_known old new it r test looks findings next own device knows kept = lots_after old new it r _ looks findings next own device knows (all r kept)
+  where
+    all : (q : Result (Option LotRow) Error) → KeepsLot q findings.lots.items next.lots.items → Stands old.now (tables_in old) → IfOk q (λ found. option_map lot_in found ≡ find test (tables_in old).lots)
+        → AreStated (tables_in old).lots findings.lots.items → AreStated (tables_in old).lots next.lots.items
+    all (Ok (Some row)) keeps stands found are = keeps (tables_in old).lots are (found_by_key lot_key test (tables_in old).lots (lot_in row) stands.lots.rise (sym found))
+    all (Ok None) keeps stands found are = subst (AreStated (tables_in old).lots) (sym keeps) are
+    all (Err e) keeps stands found are = subst (AreStated (tables_in old).lots) (sym keeps) are

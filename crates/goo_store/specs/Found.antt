@@ -10,10 +10,11 @@ use Rattle.sqlite_keyed.specs.Keyed.{get_by}
 use Rattle.goo_types.specs.declared.lot_fields.LotFields.{LotFields}
 use Rattle.goo_spec.specs.State.{Device}
 use Rattle.goo_columns.specs.Beside.{joined_in}
-use Rattle.goo_columns.specs.Rows.{Tables, Meta, Lot, device_in, lot_key, meta_in}
+use Rattle.goo_columns.specs.Rows.{Tables, Meta, Lot, device_in, lot_in, lot_key, meta_in}
 use Rattle.goo_columns.specs.Stands.{doubts}
 use Rattle.goo_columns.specs.declared.device.DeviceRow.{DeviceRow}
 use Rattle.goo_columns.specs.declared.joined.JoinedRow.{JoinedRow}
+use Rattle.goo_columns.specs.declared.lot.LotRow.{LotRow}
 use Rattle.goo_columns.specs.declared.meta.MetaRow.{MetaRow}
 use Rattle.goo_columns.specs.declared.piece.PieceRow.{PieceRow}
 use Rattle.goo_kept.specs.Devices.{device_of}
@@ -77,6 +78,16 @@ KeepsLots rows old new = (lots : List Lot) → AreStated lots old → All (λ r.
 abbrev pub KeepsRead : {T : Type 0} → Result T Error → (T → List JoinedRow) → List NumberedLot → List NumberedLot → Type 0
 KeepsRead (Ok x) rows old new = KeepsLots (rows x) old new
 KeepsRead (Err e) rows old new = new ≡ old
+
+-- what is kept after the row of a lot was read: where it stands under its own number, no lot that the tables don't state
+abbrev pub KeepsRow : LotRow → List NumberedLot → List NumberedLot → Type 0
+KeepsRow row old new = (lots : List Lot) → AreStated lots old → get_by lot_key lots (lot_key (lot_in row)) ≡ Some (lot_in row) → AreStated lots new
+
+-- so after a look-up for it; what was kept before, where none was found
+abbrev pub KeepsLot : Result (Option LotRow) Error → List NumberedLot → List NumberedLot → Type 0
+KeepsLot (Ok (Some row)) old new = KeepsRow row old new
+KeepsLot (Ok None) old new = new ≡ old
+KeepsLot (Err e) old new = new ≡ old
 
 -- ---- it has one proof at most, so it may be a ghost field
 

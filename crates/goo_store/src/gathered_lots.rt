@@ -9,6 +9,7 @@ ghost use Rattle.goo_spec.specs.Lots.{key_of};
 ghost use Rattle.goo_spec.specs.State.{text_cmp};
 ghost use Rattle.goo_columns.specs.Rows.{lot_in, lot_key};
 ghost use Rattle.goo_store.specs.Changes.{ChangeFits};
+ghost use Rattle.goo_store.specs.Found.{AreStated};
 ghost use Rattle.goo_store.specs.GatheredLots.{AddsLot, ArePutIn, Gathers};
 ghost use Rattle.goo_store.specs.LookingUp.{LooksUp};
 ghost use Rattle.goo_store.specs.LotRows.{is_among, next_lot};
@@ -97,10 +98,28 @@ fn is_known_as(known: &NumberedLot, lot: &Lot) -> bool
 }
 
 /// Whether a lot of the same origin, device and first day is among some.
-fn is_among_added(added: &[NumberedLot], lot: &Lot) -> bool
-    ensures { result ≡ is_among added.now (key_of lot.now) }
+fn is_among_lots(lots: &[NumberedLot], lot: &Lot) -> bool
+    ensures { result ≡ is_among lots.now (key_of lot.now) }
 {
-    added.iter().any(|known| is_known_as(known, lot))
+    lots.iter().any(|known| is_known_as(known, lot))
+}
+
+/// Whether a lot of this origin, device and first day is in the table: one that is kept is. Any other
+/// is looked up.
+fn is_there_already<S: Alter>(
+    alloc: Global,
+    conn: &mut Connection<S>,
+    kept: &[NumberedLot],
+    lot: &Lot,
+) -> Result<bool, Trouble>
+    ensures looks { LooksUp (state S.Store conn.old) (state S.Store conn.new) result (λ t known. AreStated t.lots kept.now → known ≡ contains_key (known_lots t.lots) (key_of lot.now)) }
+    ensures outside { conn.old.in_transaction ≡ false → conn.new.in_transaction ≡ false }
+{
+    let among = is_among_lots(kept, lot);
+    if among {
+        return Ok(true);
+    }
+    is_in_table(alloc, conn, lot)
 }
 
 /// One lot more, under the next number.
@@ -122,31 +141,33 @@ pub fn add_lot(alloc: Global, gathered: &mut Gathered, lot: &Lot) -> Result<(), 
 fn gather_lot<S: Alter>(
     alloc: Global,
     conn: &mut Connection<S>,
+    kept: &[NumberedLot],
     gathered: &mut Gathered,
     part: &Part,
 ) -> Result<(), Trouble>
-    ensures looks { LooksUp (state S.Store conn.old) (state S.Store conn.new) result (λ t _. Gathers t.lots part.now gathered.old gathered.new) }
+    ensures looks { LooksUp (state S.Store conn.old) (state S.Store conn.new) result (λ t _. AreStated t.lots kept.now → Gathers t.lots part.now gathered.old gathered.new) }
     ensures outside { conn.old.in_transaction ≡ false → conn.new.in_transaction ≡ false }
     ensures fits { All ChangeFits gathered.old.changes.items → OnOk result (All ChangeFits gathered.new.changes.items) }
 {
-    let among = is_among_added(&gathered.added, &part.lot);
+    let among = is_among_lots(&gathered.added, &part.lot);
     if among {
         return Ok(());
     }
-    let known = is_in_table(alloc, conn, &part.lot)?;
+    let known = is_there_already(alloc, conn, kept, &part.lot)?;
     if known {
         return Ok(());
     }
     add_lot(alloc, gathered, &part.lot)
 }
 
-/// The lots of the parts that aren't known by then, in turn.
+/// The lots of the parts that aren't known by then, in turn. Those that are kept aren't looked up.
 pub fn gather_lots<S: Alter>(
     alloc: Global,
     conn: &mut Connection<S>,
+    kept: &[NumberedLot],
     parts: &[Part],
 ) -> Result<Gathered, Trouble>
-    ensures looks { LooksUp (state S.Store conn.old) (state S.Store conn.new) result (λ t gathered. ArePutIn t.lots parts.now [] gathered) }
+    ensures looks { LooksUp (state S.Store conn.old) (state S.Store conn.new) result (λ t gathered. AreStated t.lots kept.now → ArePutIn t.lots parts.now [] gathered) }
     ensures outside { conn.old.in_transaction ≡ false → conn.new.in_transaction ≡ false }
     ensures fits { IfOk result (λ gathered. All ChangeFits gathered.changes.items) }
 {
@@ -159,7 +180,7 @@ pub fn gather_lots<S: Alter>(
         next,
     };
     for part in parts {
-        gather_lot(alloc, conn, &mut gathered, part)?;
+        gather_lot(alloc, conn, kept, &mut gathered, part)?;
     }
     Ok(gathered)
 }

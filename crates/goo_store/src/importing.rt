@@ -9,10 +9,12 @@ ghost use Rattle.goo_kept.specs.Readable.{is_notice_in};
 ghost use Rattle.goo_kept.specs.States.{known_arrival};
 ghost use Rattle.goo_store.specs.Carrying.{CarriesOut, IsAccepted};
 ghost use Rattle.goo_store.specs.Changes.{ChangeFits};
+ghost use Rattle.goo_store.specs.Found.{AreStated};
 ghost use Rattle.goo_store.specs.LookingUp.{LooksUp};
 
 use crate::change::Change;
 use crate::gathered_lots::{Gathered, gather_lots};
+use crate::lot_numbers::NumberedLot;
 use crate::trouble::Trouble;
 use goo_columns::notice_in::NoticeInRow;
 use goo_notice::write;
@@ -36,17 +38,19 @@ fn notice_row(alloc: Global, notice: &Notice) -> Result<NoticeInRow, Trouble>
     })
 }
 
-/// The lots of the notice's parts that aren't known yet, and the notice.
+/// The lots of the notice's parts that aren't known yet, and the notice. Of lots that are kept it is
+/// known that they are.
 pub fn import_changes<S: Alter>(
     alloc: Global,
     conn: &mut Connection<S>,
+    kept: &[NumberedLot],
     import: &Import,
 ) -> Result<Gathered, Trouble>
-    ensures looks { LooksUp (state S.Store conn.old) (state S.Store conn.new) result (λ t gathered. (q : Request) (reply : Reply) → q.command ≡ Command.Import import.now → IsAccepted t q reply → CarriesOut t q.command gathered) }
+    ensures looks { LooksUp (state S.Store conn.old) (state S.Store conn.new) result (λ t gathered. AreStated t.lots kept.now → (q : Request) (reply : Reply) → q.command ≡ Command.Import import.now → IsAccepted t q reply → CarriesOut t q.command gathered) }
     ensures fits { IfOk result (λ gathered. All ChangeFits gathered.changes.items) }
     ensures outside { conn.old.in_transaction ≡ false → conn.new.in_transaction ≡ false }
 {
-    let mut gathered = gather_lots(alloc, conn, import.notice.parts())?;
+    let mut gathered = gather_lots(alloc, conn, kept, import.notice.parts())?;
     let row = notice_row(alloc, &import.notice)?;
     gathered.changes.push(Change::AddNoticeIn(row))?;
     Ok(gathered)

@@ -1,6 +1,6 @@
 //! Lots, as they are found.
 
-ghost use Rattle.std.specs.Prelude.{◌≡◌, IfOk, IfSome, IsOk, option_map};
+ghost use Rattle.std.specs.Prelude.{◌≡◌, IfOk, IfSome, IsOk, IsOkUnless, option_map};
 ghost use Rattle.std.specs.FinMap.{get};
 ghost use Rattle.sqlite.specs.Held.{state as view};
 ghost use Rattle.goo_types.specs.Day.{IsDay};
@@ -8,12 +8,16 @@ ghost use Rattle.goo_types.specs.Texts.{day_text};
 ghost use Rattle.goo_spec.specs.Lots.{lot_key};
 ghost use Rattle.goo_columns.specs.Rows.{lot_in};
 ghost use Rattle.goo_shelf.specs.Shelf.{Looks};
+ghost use Rattle.goo_store.specs.Found.{KeepsLot, KeepsRow};
 ghost use Rattle.goo_store.specs.Moments.{moment};
 ghost use Rattle.goo_store.specs.StoreFaults.{BlamesStore};
 ghost use Rattle.goo_kept.specs.Places.{lot_of};
 ghost use Rattle.goo_store.specs.Reading.{IsReadableLot};
 ghost use Rattle.goo_store.specs.Telling.{Accepts, Passes};
+ghost use Rattle.goo_store.specs.declared.trouble.Trouble.TheVariants.{Memory};
 
+use crate::kept_lots::keep_lot;
+use crate::lot_numbers::NumberedLot;
 use crate::plants::read_plant;
 use crate::sql_shelf::SqlShelf;
 use crate::trouble::{Trouble, told};
@@ -52,13 +56,28 @@ pub fn read_lot(row: &LotRow) -> Result<Lot, Trouble>
     Lot::new(fields).ok_or(Trouble::Refused)
 }
 
-/// The lot, if there is one.
-fn read_found(found: Result<Option<LotRow>, Error>) -> Result<Option<Lot>, Trouble>
+/// The lot that a row states, which is kept.
+fn read_kept(row: &LotRow, lots: &mut Vec<NumberedLot>) -> Result<Lot, Trouble>
+    ensures value { IfOk result (λ lot. lot ≡ lot_of (lot_in row.now)) }
+    ensures accepts { IsReadableLot (lot_in row.now) → IsOkUnless result Memory }
+    ensures kept { KeepsRow row.now lots.old.items lots.new.items }
+{
+    let lot = read_lot(row)?;
+    keep_lot(lots, row.id, &lot)?;
+    Ok(lot)
+}
+
+/// The lot, if there is one. It is kept.
+fn read_found(
+    found: Result<Option<LotRow>, Error>,
+    lots: &mut Vec<NumberedLot>,
+) -> Result<Option<Lot>, Trouble>
     ensures value { Passes found result (λ row lot. lot ≡ option_map lot_of (option_map lot_in row)) }
     ensures accepts { Accepts found result (λ row. IfSome row (λ r. IsReadableLot (lot_in r))) }
+    ensures kept { KeepsLot found lots.old.items lots.new.items }
 {
     match found? {
-        Some(row) => Ok(Some(read_lot(&row)?)),
+        Some(row) => Ok(Some(read_kept(&row, lots)?)),
         None => Ok(None),
     }
 }
@@ -86,6 +105,7 @@ impl<S: Alter> SqlShelf<S> {
             device.text(),
             day.as_str(),
         );
-        told(read_found(found), &mut self.refused)
+        let lot = read_found(found, &mut self.findings.lots);
+        told(lot, &mut self.refused)
     }
 }

@@ -14,7 +14,7 @@ ghost use Rattle.goo_store.specs.Carrying.{CarriesOut, IsAccepted};
 ghost use Rattle.goo_store.specs.Changes.{made_all, ChangeFits};
 ghost use Rattle.goo_store.specs.EditChanges.{AreForEdits};
 ghost use Rattle.goo_store.specs.LookingUp.{LooksUp};
-ghost use Rattle.goo_store.specs.Found.{AreFindingsOf, IsDeviceOf, IsRowOf};
+ghost use Rattle.goo_store.specs.Found.{AreFindingsOf, AreStated, IsDeviceOf, IsRowOf};
 ghost use Rattle.goo_store.specs.Planned.{IsPlanned};
 
 use crate::change::Change;
@@ -23,6 +23,7 @@ use crate::edit_changes::changes_of_edits;
 use crate::findings::{Findings, KnownDevice};
 use crate::gathered_lots::Gathered;
 use crate::importing::import_changes;
+use crate::lot_numbers::NumberedLot;
 use crate::new_declarations::declare_changes;
 use crate::new_receipts::receipt_row;
 use crate::registry_row::known_row;
@@ -107,21 +108,22 @@ fn by_own_row<S: Alter>(
     }
 }
 
-/// What the plan's command changes beside the certificates. The registry's row and the device are
-/// looked up for those commands alone that need them, where they aren't kept.
+/// What the plan's command changes beside the certificates. The registry's row, the device and the
+/// lots are looked up for those commands alone that need them, where they aren't kept.
 fn command_changes<S: Alter>(
     alloc: Global,
     conn: &mut Connection<S>,
     own: Option<MetaRow>,
     device: Option<KnownDevice>,
+    lots: &[NumberedLot],
     plan: &Plan,
 ) -> Result<Gathered, Trouble>
-    ensures gathers { LooksUp (state S.Store conn.old) (state S.Store conn.new) result (λ t gathered. IsRowOf own t → IsDeviceOf device t → AreKept t → AreInOrder t → Fits (state_of t) (rows_of t) plan.now → CarriesOut t plan.now.request.command gathered) }
+    ensures gathers { LooksUp (state S.Store conn.old) (state S.Store conn.new) result (λ t gathered. IsRowOf own t → IsDeviceOf device t → AreStated t.lots lots.now → AreKept t → AreInOrder t → Fits (state_of t) (rows_of t) plan.now → CarriesOut t plan.now.request.command gathered) }
     ensures outside { conn.old.in_transaction ≡ false → conn.new.in_transaction ≡ false }
     ensures fits { IfOk result (λ gathered. All ChangeFits gathered.changes.items) }
 {
     match &plan.request.command {
-        Command::Import(command) => import_changes(alloc, conn, command),
+        Command::Import(command) => import_changes(alloc, conn, lots, command),
         Command::OpenAccount(_)
         | Command::Declare(_)
         | Command::Cancel(_)
@@ -166,7 +168,7 @@ pub fn plan_changes<S: Alter>(
     ensures fits { IfOk result (λ changes. All ChangeFits changes.items) }
 {
     let Findings { own, device, lots } = findings;
-    let act = command_changes(alloc, conn, own, device, plan)?;
+    let act = command_changes(alloc, conn, own, device, &lots, plan)?;
     let mut added = act.added;
     added.extend_from_slice(&lots)?;
     let edits = changes_of_edits(alloc, conn, &added, &plan.edits)?;

@@ -1,9 +1,11 @@
 use Rattle.std.proofs.Common.{◌+◌, ◌<◌, ◌∷◌, Ok, All, drop, length, ap, sym, subst, ◌∙◌, arith}
 use Rattle.sqlite.specs.Held.{state}
-use Rattle.std.proofs.lemmas.List.{drop_more}
+use Rattle.std.proofs.lemmas.List.{drop_all, drop_more}
 use Rattle.std.proofs.lemmas.List.Elements.{All-nil}
 use Rattle.goo_store.specs.Changes.{ChangeFits}
+use Rattle.goo_store.specs.Found.{AreStated}
 use Rattle.goo_store.specs.GatheredLots.{ArePutIn}
+use Rattle.goo_store.specs.LookingUp.{LooksUp}
 use Rattle.goo_store.proofs.LookUps.{looks_made, looks_then}
 use Rattle.goo_store.proofs.PutIn.{put_none}
 use Rattle.goo_store.proofs.gathered_lots.gather_lots.Goals as goal
@@ -11,7 +13,7 @@ use Rattle.goo_store.proofs.gathered_lots.gather_lots.Goals as goal
 pub loop-part-init : goal.loop-part-init
 loop-part-init g c = record {
   looks = looks_made (state g.S.Store c.args.conn.now) (state g.S.Store c.next_lot_number.new.conn) c.in_ok-next.next (Ok (record { changes = c.new-changes.result; added = c.new-added.result; next = c.in_ok-next.next })) _ _ c.in_ok-next.ensures.looks
-      (λ t it is. put_none t.lots c.args.parts.now (record { changes = c.new-changes.result; added = c.new-added.result; next = c.in_ok-next.next }) it.lots.rise c.new-changes.ensures.items c.new-added.ensures.items is);
+      (λ t it is are. put_none t.lots c.args.parts.now (record { changes = c.new-changes.result; added = c.new-added.result; next = c.in_ok-next.next }) it.lots.rise c.new-changes.ensures.items c.new-added.ensures.items is);
   outside = c.in_ok-next.ensures.outside;
   fits = subst (All ChangeFits) (sym c.new-changes.ensures.items) (All-nil ChangeFits);
 }
@@ -27,7 +29,13 @@ loop-part-preserved g c =
     record {
       looks = looks_made s0 s2 c.in_ok-gather_lot.field-0 (Ok c.gather_lot.new.gathered) _ _
           (looks_then s0 s1 s2 c.loop-part.gathered (Ok c.in_ok-gather_lot.field-0) _ _ c.loop-part.invariant.looks c.in_ok-gather_lot.ensures.looks)
-          (λ t it both. both.1 parts (drop (i + 1) parts) (subst (λ ps. ArePutIn t.lots parts ps c.loop-part.gathered) (drop_more parts i c.part-item.result low ∙ ap (λ p. p ∷ drop (i + 1) parts) (sym c.part-item.is)) both.0));
+          (λ t it both are. both.1 are parts (drop (i + 1) parts) (subst (λ ps. ArePutIn t.lots parts ps c.loop-part.gathered) (drop_more parts i c.part-item.result low ∙ ap (λ p. p ∷ drop (i + 1) parts) (sym c.part-item.is)) (both.0 are)));
       outside = λ none. c.in_ok-gather_lot.ensures.outside (c.loop-part.invariant.outside none);
       fits = c.in_ok-gather_lot.ensures.fits c.loop-part.invariant.fits;
     }
+
+pub returns-clause-looks : goal.returns-clause-looks
+returns-clause-looks g c =
+    subst (λ left. LooksUp (state g.S.Store c.args.conn.now) (state g.S.Store c.loop-part.conn) (Ok c.loop-part.gathered) (λ t gathered. AreStated t.lots c.args.kept.now → ArePutIn t.lots c.args.parts.now left gathered))
+    (drop_all c.loop-part.part-index c.args.parts.now (omega (arith, c.loop-part-test.false)))
+    c.loop-part.invariant.looks

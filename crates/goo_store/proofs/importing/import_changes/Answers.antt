@@ -12,8 +12,8 @@ pub returns-clause-looks : goal.returns-clause-looks
 returns-clause-looks g c =
     let before = c.in_ok-gathered.gathered in
     looks_made (state g.S.Store c.args.conn.now) (state g.S.Store c.gather_lots.new.conn) before (Ok (record { changes = c.push.new.self; added = before.added; next = before.next })) _ _ c.in_ok-gathered.ensures.looks
-    (λ t it put q reply is accepted.
-    import_carried t c.args.import.now q reply is accepted c.parts.ensures.limit it.notices_in.rise before (subst (λ ps. ArePutIn t.lots ps [] before) c.parts.ensures.value put)
+    (λ t it put are q reply is accepted.
+    import_carried t c.args.import.now q reply is accepted c.parts.ensures.limit it.notices_in.rise before (subst (λ ps. ArePutIn t.lots ps [] before) c.parts.ensures.value (put are))
     c.in_ok-row.row (λ k. c.in_ok-row.ensures.states) (λ k. c.in_ok-row.ensures.reads) (record { changes = c.push.new.self; added = before.added; next = before.next }) c.in_ok-push.ensures.items refl)
 
 pub returns-clause-fits : goal.returns-clause-fits
