@@ -25,7 +25,7 @@ pub struct Findings {
     pub own: Option<MetaRow>,
     /// The device whose record was found last.
     pub device: Option<KnownDevice>,
-    /// Some lots of the rows that were found near ranges, beside their numbers.
+    /// Some lots that were found by their keys or beside rows that name them, under their numbers.
     pub lots: Vec<NumberedLot>,
 }
 
