@@ -5,6 +5,8 @@ pub mod One
 pub mod Read
 pub mod Reading
 pub mod Refusing
+pub mod Failing
+pub mod Obeying
 pub mod Inside
 pub mod Committed
 pub mod Decoded

@@ -60,9 +60,9 @@ insert_text = codes "INSERT INTO cancellation (number, account, first, last, ben
 abbrev insert_terms : List Term
 insert_terms = col 0 0 ∷ lit Null ∷ col 0 1 ∷ col 0 2 ∷ col 0 3 ∷ col 0 4 ∷ col 0 5 ∷ col 0 6 ∷ col 0 7 ∷ []
 
-insert_adds : Adds insert_text 9 insert_terms 9
+insert_adds : Adds insert_text 9 insert_terms 9 8
 unfolding understood everything
-insert_adds = record { is = refl; plain = (refl, refl) }
+insert_adds = record { is = refl; plain = (refl, refl); whole = refl }
 
 pub inserts_row : (old new : State) (t : Tables) (x : Cancellation) (r : Result ℕ Error) → Stands old.now t → Executes insert_text (cancellation_columns x) old new r → OnOk r (Stands new.now (with_cancellation t x))
 inserts_row old new t x r it =

@@ -68,9 +68,9 @@ insert_text = codes "INSERT INTO device (gsrn, account, country, site, tech, sou
 abbrev insert_terms : List Term
 insert_terms = lit Null ∷ col 0 0 ∷ col 0 1 ∷ col 0 2 ∷ col 0 3 ∷ col 0 4 ∷ col 0 5 ∷ col 0 6 ∷ col 0 7 ∷ col 0 8 ∷ col 0 9 ∷ col 0 10 ∷ []
 
-insert_adds : Adds insert_text 3 insert_terms 12
+insert_adds : Adds insert_text 3 insert_terms 12 11
 unfolding understood everything
-insert_adds = record { is = refl; plain = (refl, refl) }
+insert_adds = record { is = refl; plain = (refl, refl); whole = refl }
 
 pub inserts_row : (old new : State) (t : Tables) (x : Device) (r : Result ℕ Error) → Stands old.now t → Executes insert_text (device_columns x) old new r → OnOk r (Stands new.now (with_device t x))
 inserts_row old new t x r it =

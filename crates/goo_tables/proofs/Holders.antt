@@ -60,9 +60,9 @@ insert_text = codes "INSERT INTO holder (code, name) VALUES (?1, ?2)"
 abbrev insert_terms : List Term
 insert_terms = lit Null ∷ col 0 0 ∷ col 0 1 ∷ []
 
-insert_adds : Adds insert_text 1 insert_terms 3
+insert_adds : Adds insert_text 1 insert_terms 3 2
 unfolding understood everything
-insert_adds = record { is = refl; plain = (refl, refl) }
+insert_adds = record { is = refl; plain = (refl, refl); whole = refl }
 
 pub inserts_row : (old new : State) (t : Tables) (x : Holder) (r : Result ℕ Error) → Stands old.now t → Executes insert_text (holder_columns x) old new r → OnOk r (Stands new.now (with_holder t x))
 inserts_row old new t x r it =

@@ -1,5 +1,6 @@
 pub mod Queries
 pub mod Adding
+pub mod Failing
 pub mod AnyTable
 pub mod Asking
 pub mod Values

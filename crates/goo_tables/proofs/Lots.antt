@@ -61,9 +61,9 @@ insert_text = codes "INSERT INTO lot (id, origin, device, country, site, tech, s
 abbrev insert_terms : List Term
 insert_terms = col 0 0 ∷ lit Null ∷ col 0 1 ∷ col 0 2 ∷ col 0 3 ∷ col 0 4 ∷ col 0 5 ∷ col 0 6 ∷ col 0 7 ∷ col 0 8 ∷ col 0 9 ∷ col 0 10 ∷ col 0 11 ∷ col 0 12 ∷ col 0 13 ∷ []
 
-insert_adds : Adds insert_text 5 insert_terms 15
+insert_adds : Adds insert_text 5 insert_terms 15 14
 unfolding understood everything
-insert_adds = record { is = refl; plain = (refl, refl) }
+insert_adds = record { is = refl; plain = (refl, refl); whole = refl }
 
 pub inserts_row : (old new : State) (t : Tables) (x : Lot) (r : Result ℕ Error) → Stands old.now t → Executes insert_text (lot_columns x) old new r → OnOk r (Stands new.now (with_lot t x))
 inserts_row old new t x r it =

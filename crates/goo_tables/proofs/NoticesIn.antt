@@ -60,9 +60,9 @@ insert_text = codes "INSERT INTO notice_in (sender, number, body) VALUES (?1, ?2
 abbrev insert_terms : List Term
 insert_terms = lit Null ∷ col 0 0 ∷ col 0 1 ∷ col 0 2 ∷ []
 
-insert_adds : Adds insert_text 12 insert_terms 4
+insert_adds : Adds insert_text 12 insert_terms 4 3
 unfolding understood everything
-insert_adds = record { is = refl; plain = (refl, refl) }
+insert_adds = record { is = refl; plain = (refl, refl); whole = refl }
 
 pub inserts_row : (old new : State) (t : Tables) (x : NoticeIn) (r : Result ℕ Error) → Stands old.now t → Executes insert_text (notice_in_columns x) old new r → OnOk r (Stands new.now (with_notice_in t x))
 inserts_row old new t x r it =

@@ -61,9 +61,9 @@ insert_text = codes "INSERT INTO notice_out (number, account, body) VALUES (?1, 
 abbrev insert_terms : List Term
 insert_terms = col 0 0 ∷ lit Null ∷ col 0 1 ∷ col 0 2 ∷ []
 
-insert_adds : Adds insert_text 11 insert_terms 4
+insert_adds : Adds insert_text 11 insert_terms 4 3
 unfolding understood everything
-insert_adds = record { is = refl; plain = (refl, refl) }
+insert_adds = record { is = refl; plain = (refl, refl); whole = refl }
 
 pub inserts_row : (old new : State) (t : Tables) (x : NoticeOut) (r : Result ℕ Error) → Stands old.now t → Executes insert_text (notice_out_columns x) old new r → OnOk r (Stands new.now (with_notice_out t x))
 inserts_row old new t x r it =

@@ -60,9 +60,9 @@ insert_text = codes "INSERT INTO peer (code) VALUES (?1)"
 abbrev insert_terms : List Term
 insert_terms = lit Null ∷ col 0 0 ∷ []
 
-insert_adds : Adds insert_text 7 insert_terms 2
+insert_adds : Adds insert_text 7 insert_terms 2 1
 unfolding understood everything
-insert_adds = record { is = refl; plain = (refl, refl) }
+insert_adds = record { is = refl; plain = (refl, refl); whole = refl }
 
 pub inserts_row : (old new : State) (t : Tables) (x : PeerRow) (r : Result ℕ Error) → Stands old.now t → Executes insert_text (peer_columns x) old new r → OnOk r (Stands new.now (with_peer t x))
 inserts_row old new t x r it =

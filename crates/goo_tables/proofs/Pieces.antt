@@ -71,9 +71,9 @@ insert_text = codes "INSERT INTO piece (first, last, lot, kind, account, act) VA
 abbrev insert_terms : List Term
 insert_terms = col 0 0 ∷ lit Null ∷ col 0 1 ∷ col 0 2 ∷ col 0 3 ∷ col 0 4 ∷ col 0 5 ∷ []
 
-insert_adds : Adds insert_text 6 insert_terms 7
+insert_adds : Adds insert_text 6 insert_terms 7 6
 unfolding understood everything
-insert_adds = record { is = refl; plain = (refl, refl) }
+insert_adds = record { is = refl; plain = (refl, refl); whole = refl }
 
 pub inserts_row : (old new : State) (t : Tables) (x : PieceRow) (r : Result ℕ Error) → Stands old.now t → Executes insert_text (piece_columns x) old new r → OnOk r (Stands new.now (with_piece t x))
 inserts_row old new t x r it =

@@ -61,9 +61,9 @@ insert_text = codes "INSERT INTO receipt (caller, key, command, kind, n1, n2, n3
 abbrev insert_terms : List Term
 insert_terms = lit Null ∷ col 0 0 ∷ col 0 1 ∷ col 0 2 ∷ col 0 3 ∷ col 0 4 ∷ col 0 5 ∷ col 0 6 ∷ []
 
-insert_adds : Adds insert_text 8 insert_terms 8
+insert_adds : Adds insert_text 8 insert_terms 8 7
 unfolding understood everything
-insert_adds = record { is = refl; plain = (refl, refl) }
+insert_adds = record { is = refl; plain = (refl, refl); whole = refl }
 
 pub inserts_row : (old new : State) (t : Tables) (x : Receipt) (r : Result ℕ Error) → Stands old.now t → Executes insert_text (receipt_columns x) old new r → OnOk r (Stands new.now (with_receipt t x))
 inserts_row old new t x r it =

@@ -60,9 +60,9 @@ insert_text = codes "INSERT INTO withdrawal (number, first, last, reason, day) V
 abbrev insert_terms : List Term
 insert_terms = col 0 0 ∷ lit Null ∷ col 0 1 ∷ col 0 2 ∷ col 0 3 ∷ col 0 4 ∷ []
 
-insert_adds : Adds insert_text 10 insert_terms 6
+insert_adds : Adds insert_text 10 insert_terms 6 5
 unfolding understood everything
-insert_adds = record { is = refl; plain = (refl, refl) }
+insert_adds = record { is = refl; plain = (refl, refl); whole = refl }
 
 pub inserts_row : (old new : State) (t : Tables) (x : Withdrawal) (r : Result ℕ Error) → Stands old.now t → Executes insert_text (withdrawal_columns x) old new r → OnOk r (Stands new.now (with_withdrawal t x))
 inserts_row old new t x r it =

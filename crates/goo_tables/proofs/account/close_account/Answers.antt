@@ -12,4 +12,4 @@ returns-clause-changed g c clean t it =
     let new = c.put.new.tx.conn.now in
     let number = c.args.number in
     sees g.S.Store old new close_text (Int (pos number) ∷ []) c.put.result t (with_closed t number) it (closes_row (state g.S.Store old) (state g.S.Store new) t number) c.put.result
-    (rw (c.small.ensures) at (c.put.ensures.runs clean it.inside))
+    (rw (c.small.ensures.value) at (c.put.ensures.runs clean it.inside))

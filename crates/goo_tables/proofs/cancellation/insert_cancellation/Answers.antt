@@ -11,4 +11,4 @@ returns-clause-changed g c clean t it =
     let new = c.put.new.tx.conn.now in
     let x = cancellation_in c.args.cancellation.now in
     sees g.S.Store old new insert_text (cancellation_columns x) c.put.result t (with_cancellation t x) it (inserts_row (state g.S.Store old) (state g.S.Store new) t x) c.put.result
-    (rw (c.small.ensures, c.small-2.ensures, c.number.ensures, c.number-2.ensures, c.text.ensures, c.text-2.ensures, c.text-3.ensures, c.text-4.ensures, c.deref.ensures, c.deref-2.ensures, c.deref-3.ensures, c.deref-4.ensures) at (c.put.ensures.runs clean it.inside))
+    (rw (c.small.ensures.value, c.small-2.ensures.value, c.number.ensures, c.number-2.ensures, c.text.ensures, c.text-2.ensures, c.text-3.ensures, c.text-4.ensures, c.deref.ensures, c.deref-2.ensures, c.deref-3.ensures, c.deref-4.ensures) at (c.put.ensures.runs clean it.inside))

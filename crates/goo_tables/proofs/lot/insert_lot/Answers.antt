@@ -11,4 +11,4 @@ returns-clause-changed g c clean t it =
     let new = c.put.new.tx.conn.now in
     let x = lot_in c.args.lot.now in
     sees g.S.Store old new insert_text (lot_columns x) c.put.result t (with_lot t x) it (inserts_row (state g.S.Store old) (state g.S.Store new) t x) c.put.result
-    (rw (c.number.ensures, c.small.ensures, c.text.ensures, c.text-2.ensures, c.text-3.ensures, c.text-4.ensures, c.text-5.ensures, c.number-2.ensures, c.text-6.ensures, c.text-7.ensures, c.text-8.ensures, c.text-9.ensures, c.maybe_text.ensures, c.text-10.ensures, c.deref.ensures, c.deref-2.ensures, c.deref-3.ensures, c.deref-4.ensures, c.deref-5.ensures, c.deref-6.ensures, c.deref-7.ensures, c.deref-8.ensures, c.deref-9.ensures, c.deref-10.ensures) at (c.put.ensures.runs clean it.inside))
+    (rw (c.number.ensures, c.small.ensures.value, c.text.ensures, c.text-2.ensures, c.text-3.ensures, c.text-4.ensures, c.text-5.ensures, c.number-2.ensures, c.text-6.ensures, c.text-7.ensures, c.text-8.ensures, c.text-9.ensures, c.maybe_text.ensures, c.text-10.ensures, c.deref.ensures, c.deref-2.ensures, c.deref-3.ensures, c.deref-4.ensures, c.deref-5.ensures, c.deref-6.ensures, c.deref-7.ensures, c.deref-8.ensures, c.deref-9.ensures, c.deref-10.ensures) at (c.put.ensures.runs clean it.inside))

@@ -10,4 +10,4 @@ returns-clause-changed g c clean t it =
     let new = c.put.new.tx.conn.now in
     let counters = c.args.counters.now in
     sees g.S.Store old new counters_text (counters_params counters) c.put.result t (with_counters t counters) it (sets_counters (state g.S.Store old) (state g.S.Store new) t counters) c.put.result
-    (rw (c.number.ensures, c.small.ensures, c.small-2.ensures, c.small-3.ensures, c.small-4.ensures) at (c.put.ensures.runs clean it.inside))
+    (rw (c.number.ensures, c.small.ensures.value, c.small-2.ensures.value, c.small-3.ensures.value, c.small-4.ensures.value) at (c.put.ensures.runs clean it.inside))

@@ -11,4 +11,4 @@ returns-clause-changed g c clean t it =
     let new = c.put.new.tx.conn.now in
     let x = notice_in_in c.args.notice.now in
     sees g.S.Store old new insert_text (notice_in_columns x) c.put.result t (with_notice_in t x) it (inserts_row (state g.S.Store old) (state g.S.Store new) t x) c.put.result
-    (rw (c.small.ensures, c.small-2.ensures, c.text_bytes.ensures, c.deref.ensures.value) at (c.put.ensures.runs clean it.inside))
+    (rw (c.small.ensures.value, c.small-2.ensures.value, c.text_bytes.ensures, c.deref.ensures.value) at (c.put.ensures.runs clean it.inside))

@@ -11,4 +11,4 @@ returns-clause-changed g c clean t it =
     let new = c.put.new.tx.conn.now in
     let x = c.args.peer.now in
     sees g.S.Store old new insert_text (peer_columns x) c.put.result t (with_peer t x) it (inserts_row (state g.S.Store old) (state g.S.Store new) t x) c.put.result
-    (rw (c.small.ensures) at (c.put.ensures.runs clean it.inside))
+    (rw (c.small.ensures.value) at (c.put.ensures.runs clean it.inside))

@@ -11,4 +11,4 @@ returns-clause-changed g c clean t it =
     let new = c.put.new.tx.conn.now in
     let x = c.args.piece.now in
     sees g.S.Store old new insert_text (piece_columns x) c.put.result t (with_piece t x) it (inserts_row (state g.S.Store old) (state g.S.Store new) t x) c.put.result
-    (rw (c.number.ensures, c.number-2.ensures, c.number-3.ensures, c.small.ensures, c.small-2.ensures, c.small-3.ensures) at (c.put.ensures.runs clean it.inside))
+    (rw (c.number.ensures, c.number-2.ensures, c.number-3.ensures, c.small.ensures.value, c.small-2.ensures.value, c.small-3.ensures.value) at (c.put.ensures.runs clean it.inside))

@@ -11,4 +11,4 @@ returns-clause-changed g c clean t it =
     let new = c.put.new.tx.conn.now in
     let x = receipt_in c.args.receipt.now in
     sees g.S.Store old new insert_text (receipt_columns x) c.put.result t (with_receipt t x) it (inserts_row (state g.S.Store old) (state g.S.Store new) t x) c.put.result
-    (rw (c.text.ensures, c.text-2.ensures, c.bytes.ensures, c.small.ensures, c.number.ensures, c.number-2.ensures, c.number-3.ensures, c.deref.ensures, c.deref-2.ensures, c.deref-3.ensures.value) at (c.put.ensures.runs clean it.inside))
+    (rw (c.text.ensures, c.text-2.ensures, c.bytes.ensures, c.small.ensures.value, c.number.ensures, c.number-2.ensures, c.number-3.ensures, c.deref.ensures, c.deref-2.ensures, c.deref-3.ensures.value) at (c.put.ensures.runs clean it.inside))
