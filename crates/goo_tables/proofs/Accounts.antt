@@ -1,5 +1,5 @@
 -- What the statements on `account` do and show.
-use Rattle.std.proofs.Common.{◌≡◌, ◌⊎◌, ◌<◌, ◌^◌, None, IfErr, ℕ, pos, List, [], ◌∷◌, map, find, codes, false, Option, option_map, Ok, Err, Result, OnOk, refl, ◌∙◌, map-id, int_eq}
+use Rattle.std.proofs.Common.{◌≡◌, ◌<◌, ◌^◌, None, ℕ, pos, List, [], ◌∷◌, map, find, codes, false, Option, option_map, Ok, Err, Result, OnOk, refl, ◌∙◌, map-id, int_eq}
 use Rattle.std.specs.List.{AllZip}
 use Rattle.sqlite_tied.specs.Compute.{everything}
 use Rattle.sqlite.specs.declared.types.Value.TheVariants.{Null, Int}
@@ -11,7 +11,7 @@ use Rattle.sqlite.specs.Query.{Query, IsAnswer}
 use Rattle.sqlite.specs.Program.{overlay}
 use Rattle.sqlite.specs.Command.TheVariants.{Update}
 use Rattle.sqlite.specs.Listing.{understood}
-use Rattle.sqlite.specs.State.{State, IsLive, Executes, ExecutesInside}
+use Rattle.sqlite.specs.State.{State, IsLive, Executes}
 use Rattle.sqlite.proofs.Callers.{IsPlain, command_of}
 use Rattle.sqlite_sql.specs.declared.ops.BinaryOp.TheVariants.{Compare}
 use Rattle.sqlite_sql.specs.declared.ops.CompareOp.TheVariants.{Eq}
@@ -39,9 +39,9 @@ use Rattle.std.proofs.lemmas.Iterator.Adapters.{option_map_id}
 use Rattle.std.proofs.lemmas.Bool.{lt-ltb}
 use Rattle.sqlite_keyed.specs.Keyed.{get_by}
 use Rattle.sqlite_keyed.proofs.ListLemmas.{all_of}
-use Rattle.goo_columns.specs.Refused.{IsFault, IsTooBig}
+use Rattle.goo_columns.specs.Refused.{IsTooBig}
 use Rattle.goo_tables.proofs.Adding.{Adds, adds_row}
-use Rattle.goo_tables.proofs.Failing.{not_there, adding_fails}
+use Rattle.goo_tables.proofs.Failing.{FailsOnly, not_there, adding_fails}
 use Rattle.goo_tables.proofs.AnyTable.{TableOf, shown, shows_each, finds_one, IsListed, meets_listed}
 use Rattle.goo_tables.proofs.Asking.{Asks, Tells, Says}
 use Rattle.goo_tables.proofs.Values.{whole_is, null_at_key}
@@ -81,8 +81,8 @@ inserts_row old new t x r it =
     adds_row insert_adds refl (λ _ _. refl) (account_columns x) old new account_row account_key (λ _. refl) t.accounts x it.accounts it.schema (simp (cast_null, cast_int) refl) (with_account t x)
     (λ schema others. accounts_stand old.now new.now t it schema others _) r
 
-pub inserting_fails : (old new : State) (t : Tables) (x : Account) → x.number < 2 ^ 63 → Stands old.now t → IsLive old → old.step_limit ≡ None → get_by account_key t.accounts (pos x.number) ≡ None → (q : Result ℕ Error)
-    → ExecutesInside 0 insert_text (account_columns x) old new q → IfErr q (λ e. IsFault old new e ⊎ IsTooBig e)
+pub inserting_fails : (old new : State) (t : Tables) (x : Account) → x.number < 2 ^ 63 → Stands old.now t → IsLive old → old.step_limit ≡ None → get_by account_key t.accounts (pos x.number) ≡ None
+    → FailsOnly IsTooBig insert_text (account_columns x) old new
 inserting_fails old new t x small it live unlimited free =
     adding_fails insert_adds refl (λ _ _. refl) (account_columns x) refl refl old new it.schema unlimited live (account_row x) (simp (cast_null, cast_int) refl)
     (record { typed = refl; present = refl; checked = refl; free = not_there account_row account_key (λ _. refl) (old.now.trees 3) t.accounts x it.accounts.are free; unique = all_of _ (λ _. refl) _; keyed = refl })

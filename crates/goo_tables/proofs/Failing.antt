@@ -39,6 +39,10 @@ use Rattle.goo_columns.proofs.Failing.{EndsBy, Stops, inserting, inserted, on_ro
 use Rattle.goo_columns.proofs.Obeying.{Obeys, MayJoin, AreUnique, no_references, joins, only_for_rowid, have_small_rowids}
 use Rattle.goo_tables.proofs.Adding.{Adds}
 
+-- what the text answers, if not a count
+abbrev pub FailsOnly : (Error → Type 0) → List ℕ → Row → State → State → Type 0
+FailsOnly May sql params old new = (q : Result ℕ Error) → ExecutesInside 0 sql params old new q → IfErr q (λ e. IsFault old new e ⊎ May e)
+
 -- ---- a rowid that no row has
 
 module _ {Y : Type 0} (row : Y → Row) (key : Y → ℤ) (keyed : (y : Y) → rowid (row y) ≡ Int (key y)) where
@@ -94,7 +98,7 @@ module _ {sql : List ℕ} {terms : List Term} {at width given : ℕ} (adds : Add
         (h.1 ∙ ap edit_error why.0, subst (λ news. have_small_rowids news ≡ false) new_row why.1)
 
     -- under a rowid that a column keeps
-    pub adding_fails : fits_i64 (id_in (rowid row)) ≡ true → (q : Result ℕ Error) → ExecutesInside 0 sql params old new q → IfErr q (λ e. IsFault old new e ⊎ IsTooBig e)
+    pub adding_fails : fits_i64 (id_in (rowid row)) ≡ true → FailsOnly IsTooBig sql params old new
     adding_fails small (Ok count) ran = tt
     adding_fails small (Err e) ran = elim (adding_ends e ran) [
       | inl fault ↦ inl fault
@@ -103,7 +107,7 @@ module _ {sql : List ℕ} {terms : List Term} {at width given : ℕ} (adds : Add
     ]
 
     -- under the next rowid
-    pub keeping_fails : (q : Result ℕ Error) → ExecutesInside 0 sql params old new q → IfErr q (λ e. IsFault old new e ⊎ IsTooBigOrFull e)
+    pub keeping_fails : FailsOnly IsTooBigOrFull sql params old new
     keeping_fails (Ok count) ran = tt
     keeping_fails (Err e) ran = elim (adding_ends e ran) [
       | inl fault ↦ inl fault

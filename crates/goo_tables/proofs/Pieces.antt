@@ -1,5 +1,5 @@
 -- What the statements on `piece` do and show.
-use Rattle.std.proofs.Common.{◌≡◌, ℕ, pos, List, [], ◌∷◌, filter, codes, map, map-id, false, Ok, Err, Result, OnOk, refl, sym, ap, subst, ◌∙◌, int_eq, find, Option}
+use Rattle.std.proofs.Common.{◌≡◌, ◌<◌, ◌^◌, None, ℕ, pos, List, [], ◌∷◌, filter, codes, map, map-id, false, Ok, Err, Result, OnOk, refl, sym, ap, subst, ◌∙◌, int_eq, find, Option}
 use Rattle.std.specs.List.{AllZip}
 use Rattle.sqlite_tied.specs.Compute.{everything}
 use Rattle.sqlite.specs.declared.types.Value.TheVariants.{Null, Int}
@@ -13,7 +13,7 @@ use Rattle.sqlite.specs.Command.TheVariants.{Delete}
 use Rattle.sqlite.specs.Edit.{without_all, id_in}
 use Rattle.sqlite.specs.Tree.{rowid}
 use Rattle.sqlite.specs.Listing.{understood}
-use Rattle.sqlite.specs.State.{State, Executes}
+use Rattle.sqlite.specs.State.{State, IsLive, Executes}
 use Rattle.sqlite.proofs.Callers.{IsPlain, command_of}
 use Rattle.sqlite_rules.specs.Calls.{ids_of}
 use Rattle.sqlite_sql.specs.declared.ops.BinaryOp.TheVariants.{Compare}
@@ -40,7 +40,12 @@ use Rattle.goo_tables.proofs.Queries.{in_order, unordered}
 use Rattle.goo_columns.specs.Met.{HasOurTables}
 use Rattle.goo_columns.proofs.Meeting.{type_rules, shape_rules, no_number, int_same}
 use Rattle.std.specs.Prelude.{⊤}
+use Rattle.std.proofs.lemmas.Bool.{lt-ltb}
+use Rattle.sqlite_keyed.specs.Keyed.{get_by}
+use Rattle.sqlite_keyed.proofs.ListLemmas.{all_of}
+use Rattle.goo_columns.specs.Refused.{IsTooBig}
 use Rattle.goo_tables.proofs.Adding.{Adds, adds_row}
+use Rattle.goo_tables.proofs.Failing.{FailsOnly, not_there, adding_fails}
 use Rattle.goo_tables.proofs.AnyTable.{TableOf, shown, shows_each, finds_one, IsListed, meets_listed}
 use Rattle.goo_tables.proofs.Asking.{Asks, Tells, Says}
 use Rattle.goo_tables.proofs.Values.{whole_is, null_at_key}
@@ -79,6 +84,13 @@ pub inserts_row : (old new : State) (t : Tables) (x : PieceRow) (r : Result ℕ 
 inserts_row old new t x r it =
     adds_row insert_adds refl (λ _ _. refl) (piece_columns x) old new piece_row piece_key (λ _. refl) t.pieces x it.pieces it.schema (simp (cast_null, cast_int) refl) (with_piece t x)
     (λ schema others. pieces_stand old.now new.now t it schema others _) r
+
+pub inserting_fails : (old new : State) (t : Tables) (x : PieceRow) → x.first < 2 ^ 63 → Stands old.now t → IsLive old → old.step_limit ≡ None → get_by piece_key t.pieces (pos x.first) ≡ None
+    → FailsOnly IsTooBig insert_text (piece_columns x) old new
+inserting_fails old new t x small it live unlimited free =
+    adding_fails insert_adds refl (λ _ _. refl) (piece_columns x) refl refl old new it.schema unlimited live (piece_row x) (simp (cast_null, cast_int) refl)
+    (record { typed = refl; present = refl; checked = refl; free = not_there piece_row piece_key (λ _. refl) (old.now.trees 10) t.pieces x it.pieces.are free; unique = all_of _ (λ _. refl) _; keyed = refl })
+    (lt-ltb _ _ small)
 
 -- ---- piece: a row is taken out
 
