@@ -1,14 +1,17 @@
 -- Which rows obey each rule of our tables.
-use Rattle.std.proofs.Common.{◌≡◌, ℕ, ℤ, Bool, true, false, not, if◌then◌else◌, ◌&&◌, ◌==◌, List, [], ◌∷◌, refl, sym, ap, subst, ◌∙◌, true≢false}
-use Rattle.std.specs.List.{AllByRecursion, list_all}
+use Rattle.std.proofs.Common.{◌≡◌, ℕ, ℤ, Bool, true, false, not, if◌then◌else◌, ◌&&◌, ◌||◌, cond, filter, ◌==◌, List, [], ◌∷◌, refl, sym, ap, subst, ◌∙◌, true≢false}
+use Rattle.std.specs.List.{AllByRecursion, list_all, list_any}
 use Rattle.std.proofs.lemmas.Bool.{eqb-true}
 use Rattle.sqlite.specs.Order.{Row}
 use Rattle.sqlite.specs.Table.{Table}
-use Rattle.sqlite.specs.Tree.{Trees, rowid, put_row}
-use Rattle.sqlite.specs.Edit.{Edit, id_in}
+use Rattle.sqlite.specs.Tree.{Trees, rowid, put_row, has_rowid, without_rowid}
+use Rattle.sqlite.specs.Edit.{Edit, id_in, without_all}
 use Rattle.sqlite.specs.Ops.{fits_i64}
-use Rattle.sqlite_keyed.proofs.ListLemmas.{all_of, all_weaker}
+use Rattle.sqlite_keyed.proofs.ListLemmas.{all_of, all_weaker, any_from_none}
 use Rattle.sqlite_trees.specs.Tree.{with_tree}
+use Rattle.sqlite_value.specs.Order.{value_cmp}
+use Rattle.sqlite.specs.declared.types.Value.TheVariants.{Int}
+use Rattle.std.specs.Ordering.{is_eq}
 use Rattle.sqlite_trees.specs.View.{is_int}
 use Rattle.sqlite_rules.specs.Edit.{IsRefused, is_taken, are_fresh, have_rowids, is_referred, left_by, edited}
 use Rattle.sqlite_rules.specs.declared.error.Refusal.{Refusal}
@@ -90,6 +93,47 @@ joins db table row bare it = record {
   checked = alone _ it.checked;
   fresh = rw it.free refl;
   unique = it.unique;
+  keyed = alone _ it.keyed;
+  referred = rw bare refl;
+}
+
+either_way : (b : Bool) → (not b || true) ≡ true
+either_way true = refl
+either_way false = refl
+
+-- no row is added
+pub leaves : (db : Trees) (table : Table) (gone : List ℤ) → AreUnique table.tree (without_all (db table.tree) gone) → Obeys db (record { table = table; gone = gone; news = [] })
+leaves db table gone unique = record { typed = refl; present = refl; checked = refl; fresh = refl; unique = unique; keyed = refl; referred = either_way _ }
+
+none_left : {X : Type 0} (p : X → Bool) (xs : List X) → list_any p (filter (λ x. not (p x)) xs) ≡ false
+none_left {X} p xs = any_from_none p _ (all_from_filter xs)
+  where
+    all_from_filter : (ys : List X) → AllByRecursion (λ x. p x ≡ false) (filter (λ x. not (p x)) ys)
+    all_from_filter [] = tt
+    all_from_filter (y ∷ ys) = go (p y) refl (all_from_filter ys)
+      where
+        go : (b : Bool) → p y ≡ b → AllByRecursion (λ x. p x ≡ false) (filter (λ x. not (p x)) ys) → AllByRecursion (λ x. p x ≡ false) (cond (not b) (y ∷ filter (λ x. not (p x)) ys) (filter (λ x. not (p x)) ys))
+        go true e more = more
+        go false e more = (e, more)
+
+-- ---- a row is changed
+
+-- what a changed row keeps
+pub record MayStand (db : Trees) (table : Table) (row : Row) : Type 0 where
+  pub typed : passes Datatype registry_schema db table row ≡ true
+  pub present : passes NotNull registry_schema db table row ≡ true
+  pub checked : passes Check registry_schema db table row ≡ true
+  pub keyed : is_int (rowid row) ≡ true
+
+-- the row that had the rowid is taken out, and this one is put in
+pub replaces : (db : Trees) (table : Table) (id : ℤ) (row : Row) → table.references ≡ [] → rowid row ≡ Int id → MayStand db table row → AreUnique table.tree (put_row row (without_rowid id (db table.tree)))
+    → Obeys db (record { table = table; gone = id ∷ []; news = row ∷ [] })
+replaces db table id row bare is it unique = record {
+  typed = alone _ it.typed;
+  present = alone _ it.present;
+  checked = alone _ it.checked;
+  fresh = rw (subst (λ v. list_any (λ r. is_eq (value_cmp (rowid r) v)) (without_rowid id (db table.tree)) ≡ false) (sym is) (none_left (has_rowid id) (db table.tree))) refl;
+  unique = unique;
   keyed = alone _ it.keyed;
   referred = rw bare refl;
 }

@@ -43,6 +43,10 @@ use Rattle.goo_tables.proofs.Adding.{Adds}
 abbrev pub FailsOnly : (Error → Type 0) → List ℕ → Row → State → State → Type 0
 FailsOnly May sql params old new = (q : Result ℕ Error) → ExecutesInside 0 sql params old new q → IfErr q (λ e. IsFault old new e ⊎ May e)
 
+-- the UNIQUE columns of an open database are unique
+pub rules_hold : (s : State) → s.now.schema ≡ registry_schema → IsLive s → IsTrue s.is_open → Keeps Unique registry_schema s.now.trees
+rules_hold s has live is_open = subst (λ (schema : Schema). Keeps Unique schema s.now.trees) has ((live is_open).0.obeys.rules Unique)
+
 -- ---- a rowid that no row has
 
 module _ {Y : Type 0} (row : Y → Row) (key : Y → ℤ) (keyed : (y : Y) → rowid (row y) ≡ Int (key y)) where
@@ -89,12 +93,9 @@ module _ {sql : List ℕ} {terms : List Term} {at width given : ℕ} (adds : Add
     abbrev adding : List Row → Edit
     adding news = record { table = table; gone = []; news = news }
 
-    rules : IsTrue old.is_open → Keeps Unique registry_schema trees
-    rules is_open = subst (λ (s : Schema). Keeps Unique s trees) has ((live is_open).0.obeys.rules Unique)
-
     refused : (e : Error) → IsTrue old.is_open → Stopped (Some e) → (e ≡ SqliteFailure NoRowid) × (have_small_rowids (row ∷ []) ≡ false)
     refused e is_open h =
-        let why = only_for_rowid trees (adding _) (rules is_open) (subst (λ news. Obeys trees (adding news)) (sym new_row) (joins trees table row refl joining)) h.0 h.2 in
+        let why = only_for_rowid trees (adding _) (rules_hold old has live is_open) (subst (λ news. Obeys trees (adding news)) (sym new_row) (joins trees table row refl joining)) h.0 h.2 in
         (h.1 ∙ ap edit_error why.0, subst (λ news. have_small_rowids news ≡ false) new_row why.1)
 
     -- under a rowid that a column keeps

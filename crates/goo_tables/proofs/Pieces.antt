@@ -1,5 +1,5 @@
 -- What the statements on `piece` do and show.
-use Rattle.std.proofs.Common.{◌≡◌, ◌<◌, ◌^◌, None, ℕ, pos, List, [], ◌∷◌, filter, codes, map, map-id, false, Ok, Err, Result, OnOk, refl, sym, ap, subst, ◌∙◌, int_eq, find, Option}
+use Rattle.std.proofs.Common.{◌≡◌, true, ◌<◌, ◌^◌, None, ℕ, pos, List, [], ◌∷◌, filter, codes, map, map-id, false, Ok, Err, Result, OnOk, refl, sym, ap, subst, ◌∙◌, int_eq, find, Option}
 use Rattle.std.specs.List.{AllZip}
 use Rattle.sqlite_tied.specs.Compute.{everything}
 use Rattle.sqlite.specs.declared.types.Value.TheVariants.{Null, Int}
@@ -43,8 +43,9 @@ use Rattle.std.specs.Prelude.{⊤}
 use Rattle.std.proofs.lemmas.Bool.{lt-ltb}
 use Rattle.sqlite_keyed.specs.Keyed.{get_by}
 use Rattle.sqlite_keyed.proofs.ListLemmas.{all_of}
-use Rattle.goo_columns.specs.Refused.{IsTooBig}
+use Rattle.goo_columns.specs.Refused.{IsTooBig, is_suited}
 use Rattle.goo_tables.proofs.Adding.{Adds, adds_row}
+use Rattle.goo_tables.proofs.Altering as any
 use Rattle.goo_tables.proofs.Failing.{FailsOnly, not_there, adding_fails}
 use Rattle.goo_tables.proofs.AnyTable.{TableOf, shown, shows_each, finds_one, IsListed, meets_listed}
 use Rattle.goo_tables.proofs.Asking.{Asks, Tells, Says}
@@ -123,6 +124,14 @@ deletes_row old new t first (Ok count) it ran =
           ∙ removes piece_key piece_row (λ _. refl) (old.now.trees 10) t.pieces p it.pieces.are it.pieces.rise;
       rise = IsKeyedBy-delete_where piece_key p t.pieces it.pieces.rise;
     })
+
+delete_suits : (first : ℕ) → is_suited registry_schema delete_text delete_query (Int (pos first) ∷ []) ≡ true
+unfolding understood everything
+delete_suits first = refl
+
+pub deleting_fails : (old new : State) (t : Tables) (first : ℕ) → Stands old.now t → IsLive old → old.step_limit ≡ None → FailsOnly (λ _. ⊥) delete_text (Int (pos first) ∷ []) old new
+deleting_fails old new t first it live unlimited =
+    any.deleting_fails delete_text 6 delete_query refl (λ _ _. refl) delete_plain (Int (pos first) ∷ []) (delete_suits first) old new it.schema unlimited live delete_is (λ _. all_of _ (λ _. refl) _)
 
 -- ---- piece: the row with a key
 

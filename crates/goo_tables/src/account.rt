@@ -1,6 +1,6 @@
 //! The statements on `account`.
 
-ghost use Rattle.std.specs.Prelude.{◌≡◌, None, false, pos, map, IfOk, OnOk, option_map, All};
+ghost use Rattle.std.specs.Prelude.{◌≡◌, ⊤, None, false, pos, map, IfOk, OnOk, option_map, All};
 ghost use Rattle.sqlite.specs.State.{HasCleanDisk, KeepsCommit, Survives};
 ghost use Rattle.sqlite.specs.Held.{state};
 ghost use Rattle.sqlite_keyed.specs.Keyed.{get_by};
@@ -46,6 +46,7 @@ pub fn close_account<S: Alter>(tx: &mut Transaction<'_, S>, number: u32) -> Resu
     ensures same_reference { tx.new.conn.ghost_name ≡ tx.old.conn.ghost_name }
     ensures changed { HasCleanDisk (state S.Store tx.new.conn.now) → (t : Tables) → Sees (state S.Store tx.old.conn.now) t
         → OnOk result (Sees (state S.Store tx.new.conn.now) (with_closed t number)) }
+    ensures refused { ChangeFailsBy IsTooBig (state S.Store tx.old.conn.now) (state S.Store tx.new.conn.now) result (λ _. ⊤) }
     ensures uncommitted { HasCleanDisk (state S.Store tx.new.conn.now) → KeepsCommit (state S.Store tx.old.conn.now) (state S.Store tx.new.conn.now) }
     ensures survives { Survives (state S.Store tx.old.conn.now) (state S.Store tx.new.conn.now) (λ _. ⊥) }
 {

@@ -1,6 +1,6 @@
 //! The statements on `piece`.
 
-ghost use Rattle.std.specs.Prelude.{◌≡◌, None, ◌<◌, ◌^◌, false, IfOk, OnOk, pos, All, map};
+ghost use Rattle.std.specs.Prelude.{◌≡◌, ⊤, None, ◌<◌, ◌^◌, false, IfOk, OnOk, pos, All, map};
 ghost use Rattle.sqlite.specs.State.{HasCleanDisk, KeepsCommit, Survives};
 ghost use Rattle.sqlite.specs.Held.{state};
 ghost use Rattle.sqlite_keyed.specs.Keyed.{get_by};
@@ -48,6 +48,7 @@ pub fn delete_piece<S: Alter>(tx: &mut Transaction<'_, S>, first: u64) -> Result
     ensures same_reference { tx.new.conn.ghost_name ≡ tx.old.conn.ghost_name }
     ensures changed { HasCleanDisk (state S.Store tx.new.conn.now) → (t : Tables) → Sees (state S.Store tx.old.conn.now) t
         → OnOk result (Sees (state S.Store tx.new.conn.now) (without_piece t first)) }
+    ensures refused { ChangeFailsBy (λ _. ⊥) (state S.Store tx.old.conn.now) (state S.Store tx.new.conn.now) result (λ _. ⊤) }
     ensures uncommitted { HasCleanDisk (state S.Store tx.new.conn.now) → KeepsCommit (state S.Store tx.old.conn.now) (state S.Store tx.new.conn.now) }
     ensures survives { Survives (state S.Store tx.old.conn.now) (state S.Store tx.new.conn.now) (λ _. ⊥) }
 {
