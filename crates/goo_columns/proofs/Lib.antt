@@ -7,6 +7,7 @@ pub mod Reading
 pub mod Refusing
 pub mod Failing
 pub mod Obeying
+pub mod Distinct
 pub mod Inside
 pub mod Committed
 pub mod Decoded

@@ -90,7 +90,7 @@ pub inserting_fails : (old new : State) (t : Tables) (x : Account) → x.number 
     → FailsOnly IsTooBig insert_text (account_columns x) old new
 inserting_fails old new t x small it live unlimited free =
     adding_fails insert_adds refl (λ _ _. refl) (account_columns x) refl refl old new it.schema unlimited live (account_row x) (simp (cast_null, cast_int) refl)
-    (record { typed = refl; present = refl; checked = refl; free = not_there account_row account_key (λ _. refl) (old.now.trees 3) t.accounts x it.accounts.are free; unique = all_of _ (λ _. refl) _; keyed = refl })
+    (λ _. record { typed = refl; present = refl; checked = refl; free = not_there account_row account_key (λ _. refl) (old.now.trees 3) t.accounts x it.accounts.are free; unique = all_of _ (λ _. refl) _; keyed = refl })
     (lt-ltb _ _ small)
 
 -- ---- account: the row with a key

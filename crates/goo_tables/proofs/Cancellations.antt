@@ -78,7 +78,7 @@ pub inserting_fails : (old new : State) (t : Tables) (x : Cancellation) → x.nu
     → FailsOnly IsTooBig insert_text (cancellation_columns x) old new
 inserting_fails old new t x small it live unlimited free =
     adding_fails insert_adds refl (λ _ _. refl) (cancellation_columns x) refl refl old new it.schema unlimited live (cancellation_row x) (simp (cast_null, cast_int) refl)
-    (record { typed = refl; present = refl; checked = refl; free = not_there cancellation_row cancellation_key (λ _. refl) (old.now.trees 15) t.cancellations x it.cancellations.are free; unique = all_of _ (λ _. refl) _; keyed = refl })
+    (λ _. record { typed = refl; present = refl; checked = refl; free = not_there cancellation_row cancellation_key (λ _. refl) (old.now.trees 15) t.cancellations x it.cancellations.are free; unique = all_of _ (λ _. refl) _; keyed = refl })
     (lt-ltb _ _ small)
 
 -- ---- cancellation: the row with a key

@@ -98,7 +98,7 @@ insert_adds = record { is = refl; plain = (refl, refl); whole = refl }
 pub inserting_fails : (old new : State) (m : Meta) → IsBare old.now → IsLive old → old.step_limit ≡ None → FailsOnly IsTooBig insert_text (meta_columns m) old new
 inserting_fails old new m it live unlimited =
     adding_fails insert_adds refl (λ _ _. refl) (meta_columns m) refl refl old new it.schema unlimited live (meta_row m) (simp (cast_null, cast_int) refl)
-    (record { typed = refl; present = refl; checked = refl; free = not_there meta_row meta_key (λ _. refl) (old.now.trees 0) [] m it.meta refl; unique = all_of _ (λ _. refl) _; keyed = refl })
+    (λ _. record { typed = refl; present = refl; checked = refl; free = not_there meta_row meta_key (λ _. refl) (old.now.trees 0) [] m it.meta refl; unique = all_of _ (λ _. refl) _; keyed = refl })
     refl
 
 -- ---- the row is read

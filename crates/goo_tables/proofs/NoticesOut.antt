@@ -79,7 +79,7 @@ pub inserting_fails : (old new : State) (t : Tables) (x : NoticeOut) → x.numbe
     → FailsOnly IsTooBig insert_text (notice_out_columns x) old new
 inserting_fails old new t x small it live unlimited free =
     adding_fails insert_adds refl (λ _ _. refl) (notice_out_columns x) refl refl old new it.schema unlimited live (notice_out_row x) (simp (cast_null, cast_int) refl)
-    (record { typed = refl; present = refl; checked = refl; free = not_there notice_out_row notice_out_key (λ _. refl) (old.now.trees 17) t.notices_out x it.notices_out.are free; unique = all_of _ (λ _. refl) _; keyed = refl })
+    (λ _. record { typed = refl; present = refl; checked = refl; free = not_there notice_out_row notice_out_key (λ _. refl) (old.now.trees 17) t.notices_out x it.notices_out.are free; unique = all_of _ (λ _. refl) _; keyed = refl })
     (lt-ltb _ _ small)
 
 -- ---- notice_out: the row with a key

@@ -90,7 +90,7 @@ pub inserting_fails : (old new : State) (t : Tables) (x : PieceRow) → x.first 
     → FailsOnly IsTooBig insert_text (piece_columns x) old new
 inserting_fails old new t x small it live unlimited free =
     adding_fails insert_adds refl (λ _ _. refl) (piece_columns x) refl refl old new it.schema unlimited live (piece_row x) (simp (cast_null, cast_int) refl)
-    (record { typed = refl; present = refl; checked = refl; free = not_there piece_row piece_key (λ _. refl) (old.now.trees 10) t.pieces x it.pieces.are free; unique = all_of _ (λ _. refl) _; keyed = refl })
+    (λ _. record { typed = refl; present = refl; checked = refl; free = not_there piece_row piece_key (λ _. refl) (old.now.trees 10) t.pieces x it.pieces.are free; unique = all_of _ (λ _. refl) _; keyed = refl })
     (lt-ltb _ _ small)
 
 -- ---- piece: a row is taken out

@@ -78,7 +78,7 @@ pub inserting_fails : (old new : State) (t : Tables) (x : Withdrawal) → x.numb
     → FailsOnly IsTooBig insert_text (withdrawal_columns x) old new
 inserting_fails old new t x small it live unlimited free =
     adding_fails insert_adds refl (λ _ _. refl) (withdrawal_columns x) refl refl old new it.schema unlimited live (withdrawal_row x) (simp (cast_null, cast_int) refl)
-    (record { typed = refl; present = refl; checked = refl; free = not_there withdrawal_row withdrawal_key (λ _. refl) (old.now.trees 16) t.withdrawals x it.withdrawals.are free; unique = all_of _ (λ _. refl) _; keyed = refl })
+    (λ _. record { typed = refl; present = refl; checked = refl; free = not_there withdrawal_row withdrawal_key (λ _. refl) (old.now.trees 16) t.withdrawals x it.withdrawals.are free; unique = all_of _ (λ _. refl) _; keyed = refl })
     (lt-ltb _ _ small)
 
 -- ---- withdrawal: the row with a key
