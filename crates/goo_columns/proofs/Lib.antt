@@ -5,6 +5,9 @@ pub mod One
 pub mod Read
 pub mod Reading
 pub mod Refusing
+pub mod Failing
+pub mod Obeying
+pub mod Distinct
 pub mod Inside
 pub mod Committed
 pub mod Decoded

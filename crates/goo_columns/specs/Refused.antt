@@ -8,14 +8,14 @@ use Rattle.sqlite_resolve.specs.declared.compiled.Compiled.{Compiled}
 use Rattle.sqlite_resolve.specs.declared.error.CompileError.{CompileError}
 use Rattle.sqlite_typing.specs.Types.{accepts_over}
 use Rattle.sqlite.specs.Listing.{understood}
-use Rattle.sqlite.specs.State.{State, HasCleanDisk}
-use Rattle.sqlite.specs.declared.error.ErrorCode.TheVariants.{OutOfMemory, SystemIoFailure, DatabaseCorrupt, DiskFull, Closed}
+use Rattle.sqlite.specs.State.{State, HasCleanDisk, IsLive}
+use Rattle.sqlite.specs.declared.error.ErrorCode.TheVariants.{OutOfMemory, SystemIoFailure, DatabaseCorrupt, DiskFull, Closed, TooBig, NoRowid}
 use Rattle.sqlite.specs.declared.error.Error.{Error}
 use Rattle.sqlite.specs.declared.error.Error.TheVariants.{SqliteFailure}
 use Rattle.goo_columns.specs.Columns.{registry_schema}
 use Rattle.goo_columns.specs.Readable.{is_read_error}
 use Rattle.goo_columns.specs.Rows.{Tables}
-use Rattle.goo_columns.specs.Stands.{Stands}
+use Rattle.goo_columns.specs.Stands.{Stands, Sees}
 
 -- an error that a store tells of its disk
 abbrev pub is_store_error : Error → Bool
@@ -39,6 +39,20 @@ FailsByFault old new result =
 abbrev pub FailsOnlyByFault : {T : Type 0} → State → State → Result T Error → (Tables → Type 0) → Type 0
 FailsOnlyByFault old new result IsReadable =
     HasCleanDisk new → old.step_limit ≡ None → (t : Tables) → Stands old.now t → IsReadable t → IfErr result (IsFault old new)
+
+-- A change inside a transaction, where `Fits` of the tables says that it breaks no rule of theirs: an error is such a fault, or what `May` says.
+-- `IsLive` is what each connection says of itself (`Connection::schema`).
+abbrev pub ChangeFailsBy : {T : Type 0} → (Error → Type 0) → State → State → Result T Error → (Tables → Type 0) → Type 0
+ChangeFailsBy May old new result Fits =
+    HasCleanDisk new → IsLive old → old.step_limit ≡ None → (t : Tables) → Sees old t → Fits t → IfErr result (λ e. IsFault old new e ⊎ May e)
+
+-- the row is too big to be stored
+abbrev pub IsTooBig : Error → Type 0
+IsTooBig e = e ≡ SqliteFailure TooBig
+
+-- the row is too big, or the table has a row with the last rowid that there is
+abbrev pub IsTooBigOrFull : Error → Type 0
+IsTooBigOrFull e = IsTooBig e ⊎ (e ≡ SqliteFailure NoRowid)
 
 -- ---- a test of a text, which computes
 

@@ -1,5 +1,5 @@
 -- What the statements on `account` do and show.
-use Rattle.std.proofs.Common.{◌≡◌, ℕ, pos, List, [], ◌∷◌, map, find, codes, false, Option, option_map, Ok, Err, Result, OnOk, refl, ◌∙◌, map-id, int_eq}
+use Rattle.std.proofs.Common.{◌≡◌, Bool, true, filter, sym, subst, ◌<◌, ◌^◌, None, ℕ, pos, List, [], ◌∷◌, map, find, codes, false, Option, option_map, Ok, Err, Result, OnOk, refl, ◌∙◌, map-id, int_eq}
 use Rattle.std.specs.List.{AllZip}
 use Rattle.sqlite_tied.specs.Compute.{everything}
 use Rattle.sqlite.specs.declared.types.Value.TheVariants.{Null, Int}
@@ -11,7 +11,7 @@ use Rattle.sqlite.specs.Query.{Query, IsAnswer}
 use Rattle.sqlite.specs.Program.{overlay}
 use Rattle.sqlite.specs.Command.TheVariants.{Update}
 use Rattle.sqlite.specs.Listing.{understood}
-use Rattle.sqlite.specs.State.{State, Executes}
+use Rattle.sqlite.specs.State.{State, IsLive, Executes}
 use Rattle.sqlite.proofs.Callers.{IsPlain, command_of}
 use Rattle.sqlite_sql.specs.declared.ops.BinaryOp.TheVariants.{Compare}
 use Rattle.sqlite_sql.specs.declared.ops.CompareOp.TheVariants.{Eq}
@@ -36,7 +36,17 @@ use Rattle.goo_columns.specs.Met.{HasOurTables}
 use Rattle.goo_columns.proofs.Meeting.{type_rules, shape_rules, no_number, int_same}
 use Rattle.std.specs.Prelude.{⊤}
 use Rattle.std.proofs.lemmas.Iterator.Adapters.{option_map_id}
+use Rattle.std.proofs.lemmas.Bool.{lt-ltb}
+use Rattle.sqlite_keyed.specs.Keyed.{get_by}
+use Rattle.sqlite_keyed.proofs.ListLemmas.{all_of}
+use Rattle.goo_columns.specs.Refused.{IsTooBig, is_suited}
 use Rattle.goo_tables.proofs.Adding.{Adds, adds_row}
+use Rattle.sqlite.specs.Effect.{Answers}
+use Rattle.sqlite.specs.Ops.{fits_i64}
+use Rattle.sqlite_keyed.proofs.KeyedLemmas.{same_int}
+use Rattle.goo_columns.proofs.Failing.{whole_query}
+use Rattle.goo_tables.proofs.Altering.{updating_fails, update_obeys, update_small}
+use Rattle.goo_tables.proofs.Failing.{FailsOnly, not_there, adding_fails}
 use Rattle.goo_tables.proofs.AnyTable.{TableOf, shown, shows_each, finds_one, IsListed, meets_listed}
 use Rattle.goo_tables.proofs.Asking.{Asks, Tells, Says}
 use Rattle.goo_tables.proofs.Values.{whole_is, null_at_key}
@@ -67,14 +77,21 @@ insert_text = codes "INSERT INTO account (number, holder, closed) VALUES (?1, ?2
 abbrev insert_terms : List Term
 insert_terms = col 0 0 ∷ lit Null ∷ col 0 1 ∷ col 0 2 ∷ []
 
-insert_adds : Adds insert_text 2 insert_terms 4
+insert_adds : Adds insert_text 2 insert_terms 4 3
 unfolding understood everything
-insert_adds = record { is = refl; plain = (refl, refl) }
+insert_adds = record { is = refl; plain = (refl, refl); whole = refl }
 
 pub inserts_row : (old new : State) (t : Tables) (x : Account) (r : Result ℕ Error) → Stands old.now t → Executes insert_text (account_columns x) old new r → OnOk r (Stands new.now (with_account t x))
 inserts_row old new t x r it =
     adds_row insert_adds refl (λ _ _. refl) (account_columns x) old new account_row account_key (λ _. refl) t.accounts x it.accounts it.schema (simp (cast_null, cast_int) refl) (with_account t x)
     (λ schema others. accounts_stand old.now new.now t it schema others _) r
+
+pub inserting_fails : (old new : State) (t : Tables) (x : Account) → x.number < 2 ^ 63 → Stands old.now t → IsLive old → old.step_limit ≡ None → get_by account_key t.accounts (pos x.number) ≡ None
+    → FailsOnly IsTooBig insert_text (account_columns x) old new
+inserting_fails old new t x small it live unlimited free =
+    adding_fails insert_adds refl (λ _ _. refl) (account_columns x) refl refl old new it.schema unlimited live (account_row x) (simp (cast_null, cast_int) refl)
+    (λ _. record { typed = refl; present = refl; checked = refl; free = not_there account_row account_key (λ _. refl) (old.now.trees 3) t.accounts x it.accounts.are free; unique = all_of _ (λ _. refl) _; keyed = refl })
+    (lt-ltb _ _ small)
 
 -- ---- account: the row with a key
 
@@ -129,20 +146,45 @@ close_plain = (refl, refl)
 abbrev closing : Account → Account
 closing a = record a { closed = 1 }
 
+abbrev has_number : ℕ → Account → Bool
+has_number number a = int_eq (account_key a) (pos number)
+
+closed_shown : (old : State) (t : Tables) (number : ℕ) → Keeps (old.now.trees 3) account_row account_key t.accounts → (rows : List Row) → Answers (record { schema = registry_schema; trees = old.now.trees }) (whole_query close_query) (Int (pos number) ∷ []) rows
+    → rows ≡ map (λ a. Int (account_key a) ∷ account_row (closing a)) (filter (has_number number) t.accounts)
+closed_shown old t number keeps rows answers =
+    let db = overlay old.now.trees [] in
+    let source = last_table db 3 account_row account_key t.accounts keeps.are keeps.rise (at_end db) in
+    answer_of_one close_query db (Int (pos number) ∷ []) source (has_number number) (λ a. last_term (at_ints false Eq (account_key a) (pos number))) (λ a. Int (account_key a) ∷ account_row (closing a)) (λ _. refl) refl refl
+    (one_keyed account_key (pos number) t.accounts keeps.rise) rows (answers.answer Null)
+
 pub closes_row : (old new : State) (t : Tables) (number : ℕ) (r : Result ℕ Error) → Stands old.now t → Executes close_text (Int (pos number) ∷ []) old new r → OnOk r (Stands new.now (with_closed t number))
 closes_row old new t number (Err e) it ran = tt
 closes_row old new t number (Ok count) it ran =
     let params = Int (pos number) ∷ [] in
     let made = updates registry_schema 2 _ 3 _ _ _ _ _ refl (λ _ _. refl) close_text params old new it.schema close_plain (record { lets = []; body = close_query }) close_is count ran in
-    let db = overlay old.now.trees [] in
-    let p = λ (a : Account). int_eq (account_key a) (pos number) in
-    let source = last_table db 3 account_row account_key t.accounts it.accounts.are it.accounts.rise (at_end db) in
-    let rows = answer_of_one close_query db params source p (λ a. last_term (at_ints false Eq (account_key a) (pos number))) (λ a. Int (account_key a) ∷ account_row (closing a)) (λ _. refl) refl refl
-    (one_keyed account_key (pos number) t.accounts it.accounts.rise) made.0 (made.1.answer Null) in
+    let p = has_number number in
+    let rows = closed_shown old t number it.accounts made.0 made.1 in
     accounts_stand old.now new.now t it made.2.schema_is made.2.applied.tables (update_where p closing t.accounts) (record {
       are = made.2.applied.rows ∙ updated account_key account_row (λ _. refl) account (λ a. simp (cast_null, cast_int) refl) p closing (λ _. refl) old.now.trees t.accounts it.accounts.are it.accounts.rise made.0 rows;
       rise = IsKeyedBy-update_where account_key p closing (λ _. refl) t.accounts it.accounts.rise;
     })
+
+close_suits : (number : ℕ) → is_suited registry_schema close_text close_query (Int (pos number) ∷ []) ≡ true
+unfolding understood everything
+close_suits number = refl
+
+pub closing_fails : (old new : State) (t : Tables) (number : ℕ) → number < 2 ^ 63 → Stands old.now t → IsLive old → old.step_limit ≡ None → FailsOnly IsTooBig close_text (Int (pos number) ∷ []) old new
+closing_fails old new t number small it live unlimited =
+    let keeps = it.accounts in
+    let p = has_number number in
+    let once = one_keyed account_key (pos number) t.accounts keeps.rise in
+    updating_fails close_text 2 close_query refl (λ _ _. refl) close_plain (Int (pos number) ∷ []) (close_suits number) old new it.schema unlimited live close_is
+    (λ rows answers.
+      update_obeys account_key account_row (λ _. refl) account refl (λ a. simp (cast_null, cast_int) refl) p closing (λ _. refl) old.now.trees t.accounts once rows (closed_shown old t number keeps rows answers)
+      (λ a. record { typed = refl; present = refl; checked = refl; keyed = refl }) (all_of _ (λ _. refl) _))
+    (λ rows answers.
+      update_small account_key account_row (λ _. refl) account refl (λ a. simp (cast_null, cast_int) refl) p closing (λ _. refl) old.now.trees t.accounts once rows (closed_shown old t number keeps rows answers)
+      (λ a has. subst (λ n. fits_i64 n ≡ true) (sym (same_int (account_key a) (pos number) has)) (lt-ltb _ _ small)))
 
 -- ---- account: the whole table, met as it is
 

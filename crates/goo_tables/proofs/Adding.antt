@@ -1,5 +1,5 @@
 -- What an INSERT of one row makes of a table.
-use Rattle.std.proofs.Common.{◌≡◌, ◌/◌, ℕ, ℤ, List, [], ◌∷◌, length, slice_get, Option, Some, Ok, Err, Result, OnOk, refl, ap, ◌∙◌}
+use Rattle.std.proofs.Common.{◌≡◌, ◌/◌, ℕ, ℤ, List, [], ◌∷◌, length, slice_get, Option, Some, Ok, Err, Result, OnOk, true, refl, ap, ◌∙◌}
 use Rattle.sqlite.specs.declared.error.Error.{Error}
 use Rattle.sqlite.specs.declared.types.Value.TheVariants.{Int}
 use Rattle.sqlite.specs.Order.{Row}
@@ -20,6 +20,7 @@ use Rattle.sqlite_value.specs.declared.keys.Order.{Order}
 use Rattle.sqlite_keyed.specs.Keyed.{insert_by, next_key}
 use Rattle.sqlite_keyed.proofs.KeyedLemmas.{IsKeyedBy-insert_by}
 use Rattle.goo_columns.specs.Columns.{registry_schema, strict_table}
+use Rattle.goo_columns.specs.Refused.{is_whole}
 use Rattle.goo_columns.specs.Rows.{Tables, Kept, kept_key}
 use Rattle.goo_columns.specs.Stands.{Stands, Keeps}
 use Rattle.goo_columns.proofs.Alone.{IsAlone}
@@ -27,12 +28,13 @@ use Rattle.goo_columns.proofs.Typed.{puts, next_is}
 use Rattle.goo_columns.proofs.Writing.{inserts}
 use Rattle.goo_tables.specs.Changes.{added}
 
--- the text adds a row of these values to the table at this place of the schema
-pub record Adds (sql : List ℕ) (at : ℕ) (terms : List Term) (width : ℕ) : Type 0 where
+-- the text adds a row of these values to the table at this place of the schema, for so many parameters
+pub record Adds (sql : List ℕ) (at : ℕ) (terms : List Term) (width given : ℕ) : Type 0 where
   pub is : command_of (understood registry_schema sql) ≡ Insert at (Values terms width)
   pub plain : IsPlain (understood registry_schema sql)
+  pub whole : is_whole (length sql) given (understood registry_schema sql) ≡ true
 
-module _ {sql : List ℕ} {terms : List Term} {at width : ℕ} (adds : Adds sql at terms width) {tree : ℕ} {name : List ℕ} {key_column : Option ℕ} {primary : List ℕ} {uniques : List (List ℕ)} {orders : List Order} {columns : List Column}
+module _ {sql : List ℕ} {terms : List Term} {at width given : ℕ} (adds : Adds sql at terms width given) {tree : ℕ} {name : List ℕ} {key_column : Option ℕ} {primary : List ℕ} {uniques : List (List ℕ)} {orders : List Order} {columns : List Column}
     (found : slice_get registry_schema.tables at ≡ Some (strict_table name tree key_column primary uniques orders columns)) (childless : (olds news : List Row) → works registry_schema Enforced 0 tree olds news ≡ [])
     (params : Row) (old new : State) where
   -- the rows of the table with what the text adds to them

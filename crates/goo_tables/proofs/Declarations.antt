@@ -1,5 +1,5 @@
 -- What the statements on `declaration` do and show.
-use Rattle.std.proofs.Common.{◌≡◌, reverse, slice_get, ℕ, ◌&&◌, List, [], ◌∷◌, map, find, codes, false, Option, option_map, Result, OnOk, refl, ◌∙◌, map-id}
+use Rattle.std.proofs.Common.{◌≡◌, reverse, slice_get, ℕ, ◌&&◌, List, [], ◌∷◌, map, find, codes, false, Option, option_map, Result, OnOk, refl, ◌∙◌, map-id, None, true, ap, ap₂, ◌<◌, ◌^◌, is_some, pos}
 use Rattle.std.specs.List.{AllZip}
 use Rattle.sqlite_tied.specs.Compute.{everything}
 use Rattle.sqlite.specs.declared.types.Value.TheVariants.{Null, Text}
@@ -10,7 +10,7 @@ use Rattle.sqlite.specs.Term.{Term, lit, col, op2}
 use Rattle.sqlite.specs.Query.{Query, IsAnswer}
 use Rattle.sqlite.specs.Program.{overlay}
 use Rattle.sqlite.specs.Listing.{understood}
-use Rattle.sqlite.specs.State.{State, Executes}
+use Rattle.sqlite.specs.State.{State, IsLive, Executes}
 use Rattle.sqlite_sql.specs.declared.ops.BinaryOp.TheVariants.{Compare}
 use Rattle.sqlite_sql.specs.declared.ops.CompareOp.TheVariants.{Eq}
 use Rattle.sqlite_typed.specs.Tests.{bytes_eq}
@@ -30,6 +30,11 @@ use Rattle.goo_columns.specs.Met.{HasOurTables}
 use Rattle.goo_columns.proofs.Meeting.{type_rules, shape_rules, no_number, int_same}
 use Rattle.std.specs.Prelude.{⊤}
 use Rattle.std.proofs.lemmas.Iterator.Adapters.{option_map_id}
+use Rattle.std.proofs.lemmas.Bool.{lt-ltb}
+use Rattle.sqlite_keyed.specs.Keyed.{get_by}
+use Rattle.goo_columns.specs.Refused.{IsTooBig}
+use Rattle.goo_columns.proofs.Distinct.{same_text, two_apart}
+use Rattle.goo_tables.proofs.Failing.{FailsOnly, distinct_fails}
 use Rattle.goo_tables.proofs.Adding.{Adds, adds_row}
 use Rattle.goo_tables.proofs.AnyTable.{TableOf, shown, shows_each, finds_one, IsListed, meets_listed, shows_top}
 use Rattle.goo_tables.proofs.Asking.{Asks, Tells, Says}
@@ -61,14 +66,21 @@ insert_text = codes "INSERT INTO declaration (id, device, first_day, last_day, g
 abbrev insert_terms : List Term
 insert_terms = col 0 0 ∷ lit Null ∷ col 0 1 ∷ col 0 2 ∷ col 0 3 ∷ col 0 4 ∷ col 0 5 ∷ []
 
-insert_adds : Adds insert_text 4 insert_terms 7
+insert_adds : Adds insert_text 4 insert_terms 7 6
 unfolding understood everything
-insert_adds = record { is = refl; plain = (refl, refl) }
+insert_adds = record { is = refl; plain = (refl, refl); whole = refl }
 
 pub inserts_row : (old new : State) (t : Tables) (x : Declaration) (r : Result ℕ Error) → Stands old.now t → Executes insert_text (declaration_columns x) old new r → OnOk r (Stands new.now (with_declaration t x))
 inserts_row old new t x r it =
     adds_row insert_adds refl (λ _ _. refl) (declaration_columns x) old new declaration_row declaration_key (λ _. refl) t.declarations x it.declarations it.schema (simp (cast_null, cast_int) refl) (with_declaration t x)
     (λ schema others. declarations_stand old.now new.now t it schema others _) r
+
+pub inserting_fails : (old new : State) (t : Tables) (x : Declaration) → x.id < 2 ^ 63 → Stands old.now t → IsLive old → old.step_limit ≡ None → get_by declaration_key t.declarations (pos x.id) ≡ None → find (λ (y : Declaration). bytes_eq y.device x.device && bytes_eq y.first_day x.first_day) t.declarations ≡ None
+    → FailsOnly IsTooBig insert_text (declaration_columns x) old new
+inserting_fails old new t x small it live unlimited free unmet =
+    distinct_fails insert_adds refl (λ _ _. refl) (declaration_columns x) refl refl old new it.schema unlimited live (2 ∷ 3 ∷ []) (λ _ _. refl) declaration_row declaration_key (λ _. refl) t.declarations it.declarations (λ (y : Declaration). bytes_eq y.device x.device && bytes_eq y.first_day x.first_day) unmet
+    x (simp (cast_null, cast_int) refl) (λ z h. ap₂ (λ a b. a && (b && true)) (same_text z.device x.device) (same_text z.first_day x.first_day) ∙ two_apart _ _ h)
+    (record { typed = refl; present = refl; checked = refl; keyed = refl }) (ap is_some free) (lt-ltb _ _ small)
 
 -- ---- declaration: the row with a key
 

@@ -1,5 +1,5 @@
 -- What the statements on `device` do and show.
-use Rattle.std.proofs.Common.{◌≡◌, ℕ, pos, filter, List, [], ◌∷◌, map, find, codes, false, Option, option_map, Ok, Err, Result, OnOk, refl, ◌∙◌}
+use Rattle.std.proofs.Common.{◌≡◌, ℕ, pos, filter, List, [], ◌∷◌, map, find, codes, false, Option, option_map, Ok, Err, Result, OnOk, refl, ◌∙◌, None, true, ◌&&◌, ap, ℤ, Some}
 use Rattle.std.specs.List.{AllZip}
 use Rattle.sqlite_tied.specs.Compute.{everything}
 use Rattle.sqlite.specs.declared.types.Value.TheVariants.{Null, Int, Text}
@@ -11,7 +11,7 @@ use Rattle.sqlite.specs.Query.{Query, IsAnswer}
 use Rattle.sqlite.specs.Program.{overlay}
 use Rattle.sqlite.specs.Command.TheVariants.{Update}
 use Rattle.sqlite.specs.Listing.{understood}
-use Rattle.sqlite.specs.State.{State, Executes}
+use Rattle.sqlite.specs.State.{State, IsLive, Executes}
 use Rattle.sqlite.proofs.Callers.{IsPlain, command_of}
 use Rattle.sqlite_sql.specs.declared.ops.BinaryOp.TheVariants.{Compare}
 use Rattle.sqlite_sql.specs.declared.ops.CompareOp.TheVariants.{Eq}
@@ -37,6 +37,15 @@ use Rattle.goo_tables.proofs.Queries.{in_order, unordered}
 use Rattle.goo_columns.specs.Met.{HasOurTables, KeepsSome}
 use Rattle.goo_columns.proofs.Meeting.{type_rules, shape_rules, no_number}
 use Rattle.std.specs.Prelude.{⊤}
+use Rattle.sqlite_keyed.specs.Keyed.{next_key}
+use Rattle.sqlite_keyed.proofs.KeyedLemmas.{next_key_is_free}
+use Rattle.goo_columns.specs.Refused.{IsTooBigOrFull}
+use Rattle.goo_columns.proofs.Distinct.{same_text, one_apart}
+use Rattle.sqlite.specs.Tree.{Trees}
+use Rattle.sqlite_typing.specs.Types.{accepts_terms}
+use Rattle.sqlite_schema.specs.declared.schema.Constraint.TheVariants.{Datatype}
+use Rattle.sqlite_schema.specs.Rules.{passes}
+use Rattle.goo_tables.proofs.Failing.{FailsOnly, distinct_kept_fails, next_row}
 use Rattle.goo_tables.proofs.Adding.{Adds, adds_kept}
 use Rattle.goo_tables.proofs.AnyTable.{TableOf, shown, shows_each, finds_one, IsKept, meets_kept}
 use Rattle.goo_tables.proofs.Asking.{Asks, Tells, Says}
@@ -68,14 +77,27 @@ insert_text = codes "INSERT INTO device (gsrn, account, country, site, tech, sou
 abbrev insert_terms : List Term
 insert_terms = lit Null ∷ col 0 0 ∷ col 0 1 ∷ col 0 2 ∷ col 0 3 ∷ col 0 4 ∷ col 0 5 ∷ col 0 6 ∷ col 0 7 ∷ col 0 8 ∷ col 0 9 ∷ col 0 10 ∷ []
 
-insert_adds : Adds insert_text 3 insert_terms 12
+insert_adds : Adds insert_text 3 insert_terms 12 11
 unfolding understood everything
-insert_adds = record { is = refl; plain = (refl, refl) }
+insert_adds = record { is = refl; plain = (refl, refl); whole = refl }
 
 pub inserts_row : (old new : State) (t : Tables) (x : Device) (r : Result ℕ Error) → Stands old.now t → Executes insert_text (device_columns x) old new r → OnOk r (Stands new.now (with_device t x))
 inserts_row old new t x r it =
     adds_kept insert_adds refl (λ _ _. refl) (device_columns x) old new device_columns t.devices x it.devices it.schema (simp (cast_null, cast_int, cast_maybe) refl) (with_device t x)
     (λ schema others. devices_stand old.now new.now t it schema others _) r
+
+insert_fits : (x : Device) → accepts_terms insert_terms (device_columns x) ≡ true
+insert_fits x = elim x.last_day as (λ o. accepts_terms insert_terms (device_columns (record x { last_day = o })) ≡ true) [ None ↦ refl | Some day ↦ refl ]
+
+insert_typed : (db : Trees) (n : ℤ) (x : Device) → passes Datatype registry_schema db device (device_row (n, x)) ≡ true
+insert_typed db n x = elim x.last_day as (λ o. passes Datatype registry_schema db device (device_row (n, (record x { last_day = o }))) ≡ true) [ None ↦ refl | Some day ↦ refl ]
+
+pub inserting_fails : (old new : State) (t : Tables) (x : Device) → Stands old.now t → IsLive old → old.step_limit ≡ None → find (λ (k : Kept Device). bytes_eq k.1.gsrn x.gsrn) t.devices ≡ None
+    → FailsOnly IsTooBigOrFull insert_text (device_columns x) old new
+inserting_fails old new t x it live unlimited unmet =
+    distinct_kept_fails insert_adds refl (λ _ _. refl) (device_columns x) refl (insert_fits x) old new it.schema unlimited live (1 ∷ []) (λ _ _. refl) device_row kept_key (λ _. refl) t.devices it.devices (λ (k : Kept Device). bytes_eq k.1.gsrn x.gsrn) unmet
+    (next_key kept_key t.devices, x) (simp (cast_null, cast_int, cast_maybe) refl ∙ next_row device_columns (old.now.trees 4) t.devices x it.devices.are) (λ z h. ap (λ a. a && true) (same_text z.1.gsrn x.gsrn) ∙ one_apart _ h)
+    (record { typed = insert_typed old.now.trees (next_key kept_key t.devices) x; present = refl; checked = refl; keyed = refl }) (next_key_is_free kept_key t.devices it.devices.rise)
 
 -- ---- device: the row with a key
 

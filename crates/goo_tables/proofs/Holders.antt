@@ -1,5 +1,5 @@
 -- What the statements on `holder` do and show.
-use Rattle.std.proofs.Common.{◌≡◌, ℕ, List, [], ◌∷◌, map, find, codes, false, Option, option_map, Result, OnOk, refl, ◌∙◌}
+use Rattle.std.proofs.Common.{◌≡◌, ℕ, List, [], ◌∷◌, map, find, codes, false, Option, option_map, Result, OnOk, refl, ◌∙◌, None, true, ◌&&◌, ap}
 use Rattle.std.specs.List.{AllZip}
 use Rattle.sqlite_tied.specs.Compute.{everything}
 use Rattle.sqlite.specs.declared.types.Value.TheVariants.{Null, Text}
@@ -10,7 +10,7 @@ use Rattle.sqlite.specs.Term.{Term, lit, col, op2}
 use Rattle.sqlite.specs.Query.{Query, IsAnswer}
 use Rattle.sqlite.specs.Program.{overlay}
 use Rattle.sqlite.specs.Listing.{understood}
-use Rattle.sqlite.specs.State.{State, Executes}
+use Rattle.sqlite.specs.State.{State, IsLive, Executes}
 use Rattle.sqlite_sql.specs.declared.ops.BinaryOp.TheVariants.{Compare}
 use Rattle.sqlite_sql.specs.declared.ops.CompareOp.TheVariants.{Eq}
 use Rattle.sqlite_typed.specs.Tests.{bytes_eq}
@@ -29,6 +29,11 @@ use Rattle.goo_tables.proofs.Queries.{in_order}
 use Rattle.goo_columns.specs.Met.{HasOurTables, KeepsSome}
 use Rattle.goo_columns.proofs.Meeting.{type_rules, shape_rules, no_text}
 use Rattle.std.specs.Prelude.{⊤}
+use Rattle.sqlite_keyed.specs.Keyed.{next_key}
+use Rattle.sqlite_keyed.proofs.KeyedLemmas.{next_key_is_free}
+use Rattle.goo_columns.specs.Refused.{IsTooBigOrFull}
+use Rattle.goo_columns.proofs.Distinct.{same_text, one_apart}
+use Rattle.goo_tables.proofs.Failing.{FailsOnly, distinct_kept_fails, next_row}
 use Rattle.goo_tables.proofs.Adding.{Adds, adds_kept}
 use Rattle.goo_tables.proofs.AnyTable.{TableOf, shown, shows_each, finds_one, IsKept, meets_kept}
 use Rattle.goo_tables.proofs.Asking.{Asks, Tells, Says}
@@ -60,14 +65,21 @@ insert_text = codes "INSERT INTO holder (code, name) VALUES (?1, ?2)"
 abbrev insert_terms : List Term
 insert_terms = lit Null ∷ col 0 0 ∷ col 0 1 ∷ []
 
-insert_adds : Adds insert_text 1 insert_terms 3
+insert_adds : Adds insert_text 1 insert_terms 3 2
 unfolding understood everything
-insert_adds = record { is = refl; plain = (refl, refl) }
+insert_adds = record { is = refl; plain = (refl, refl); whole = refl }
 
 pub inserts_row : (old new : State) (t : Tables) (x : Holder) (r : Result ℕ Error) → Stands old.now t → Executes insert_text (holder_columns x) old new r → OnOk r (Stands new.now (with_holder t x))
 inserts_row old new t x r it =
     adds_kept insert_adds refl (λ _ _. refl) (holder_columns x) old new holder_columns t.holders x it.holders it.schema (simp (cast_null) refl) (with_holder t x)
     (λ schema others. holders_stand old.now new.now t it schema others _) r
+
+pub inserting_fails : (old new : State) (t : Tables) (x : Holder) → Stands old.now t → IsLive old → old.step_limit ≡ None → find (λ (k : Kept Holder). bytes_eq k.1.code x.code) t.holders ≡ None
+    → FailsOnly IsTooBigOrFull insert_text (holder_columns x) old new
+inserting_fails old new t x it live unlimited unmet =
+    distinct_kept_fails insert_adds refl (λ _ _. refl) (holder_columns x) refl refl old new it.schema unlimited live (1 ∷ []) (λ _ _. refl) holder_row kept_key (λ _. refl) t.holders it.holders (λ (k : Kept Holder). bytes_eq k.1.code x.code) unmet
+    (next_key kept_key t.holders, x) (simp (cast_null) refl ∙ next_row holder_columns (old.now.trees 1) t.holders x it.holders.are) (λ z h. ap (λ a. a && true) (same_text z.1.code x.code) ∙ one_apart _ h)
+    (record { typed = refl; present = refl; checked = refl; keyed = refl }) (next_key_is_free kept_key t.holders it.holders.rise)
 
 -- ---- holder: the row with a key
 

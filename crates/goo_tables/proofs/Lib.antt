@@ -1,5 +1,7 @@
 pub mod Queries
 pub mod Adding
+pub mod Failing
+pub mod Altering
 pub mod AnyTable
 pub mod Asking
 pub mod Values

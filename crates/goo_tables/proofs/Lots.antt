@@ -1,5 +1,5 @@
 -- What the statements on `lot` do and show.
-use Rattle.std.proofs.Common.{◌≡◌, reverse, slice_get, ℕ, pos, ◌&&◌, List, [], ◌∷◌, map, find, codes, false, Option, option_map, Result, OnOk, refl, ◌∙◌, map-id, int_eq}
+use Rattle.std.proofs.Common.{◌≡◌, reverse, slice_get, ℕ, pos, ◌&&◌, List, [], ◌∷◌, map, find, codes, false, Option, option_map, Result, OnOk, refl, ◌∙◌, map-id, int_eq, None, true, ap, ◌<◌, ◌^◌, is_some, ℤ, Some}
 use Rattle.std.specs.List.{AllZip}
 use Rattle.sqlite_tied.specs.Compute.{everything}
 use Rattle.sqlite.specs.declared.types.Value.TheVariants.{Null, Int, Text}
@@ -10,12 +10,12 @@ use Rattle.sqlite.specs.Term.{Term, lit, col, op2}
 use Rattle.sqlite.specs.Query.{Query, IsAnswer}
 use Rattle.sqlite.specs.Program.{overlay}
 use Rattle.sqlite.specs.Listing.{understood}
-use Rattle.sqlite.specs.State.{State, Executes}
+use Rattle.sqlite.specs.State.{State, IsLive, Executes}
 use Rattle.sqlite_sql.specs.declared.ops.BinaryOp.TheVariants.{Compare}
 use Rattle.sqlite_sql.specs.declared.ops.CompareOp.TheVariants.{Eq}
 use Rattle.sqlite_typed.specs.Tests.{bytes_eq}
 use Rattle.sqlite_typed.proofs.TestLemmas.{at_texts, at_ints, then_term, last_term, then_value}
-use Rattle.goo_columns.specs.Columns.{lot}
+use Rattle.goo_columns.specs.Columns.{registry_schema, lot}
 use Rattle.goo_columns.specs.Rows.{Tables, Lot, lot_in, lot_columns, lot_row, lot_key}
 use Rattle.goo_columns.specs.declared.lot.LotRow.{LotRow}
 use Rattle.goo_columns.specs.Reads.{lot_reads}
@@ -30,6 +30,15 @@ use Rattle.goo_columns.specs.Met.{HasOurTables}
 use Rattle.goo_columns.proofs.Meeting.{type_rules, shape_rules, no_text, int_same}
 use Rattle.std.specs.Prelude.{⊤}
 use Rattle.std.proofs.lemmas.Iterator.Adapters.{option_map_id}
+use Rattle.std.proofs.lemmas.Bool.{lt-ltb}
+use Rattle.sqlite_keyed.specs.Keyed.{get_by}
+use Rattle.goo_columns.specs.Refused.{IsTooBig}
+use Rattle.goo_columns.proofs.Distinct.{same_text, same_number, three_apart}
+use Rattle.sqlite.specs.Tree.{Trees}
+use Rattle.sqlite_typing.specs.Types.{accepts_terms}
+use Rattle.sqlite_schema.specs.declared.schema.Constraint.TheVariants.{Datatype}
+use Rattle.sqlite_schema.specs.Rules.{passes}
+use Rattle.goo_tables.proofs.Failing.{FailsOnly, distinct_fails}
 use Rattle.goo_tables.proofs.Adding.{Adds, adds_row}
 use Rattle.goo_tables.proofs.AnyTable.{TableOf, shown, shows_each, finds_one, IsListed, meets_listed, shows_top}
 use Rattle.goo_tables.proofs.Asking.{Asks, Tells, Says}
@@ -61,14 +70,27 @@ insert_text = codes "INSERT INTO lot (id, origin, device, country, site, tech, s
 abbrev insert_terms : List Term
 insert_terms = col 0 0 ∷ lit Null ∷ col 0 1 ∷ col 0 2 ∷ col 0 3 ∷ col 0 4 ∷ col 0 5 ∷ col 0 6 ∷ col 0 7 ∷ col 0 8 ∷ col 0 9 ∷ col 0 10 ∷ col 0 11 ∷ col 0 12 ∷ col 0 13 ∷ []
 
-insert_adds : Adds insert_text 5 insert_terms 15
+insert_adds : Adds insert_text 5 insert_terms 15 14
 unfolding understood everything
-insert_adds = record { is = refl; plain = (refl, refl) }
+insert_adds = record { is = refl; plain = (refl, refl); whole = refl }
 
 pub inserts_row : (old new : State) (t : Tables) (x : Lot) (r : Result ℕ Error) → Stands old.now t → Executes insert_text (lot_columns x) old new r → OnOk r (Stands new.now (with_lot t x))
 inserts_row old new t x r it =
     adds_row insert_adds refl (λ _ _. refl) (lot_columns x) old new lot_row lot_key (λ _. refl) t.lots x it.lots it.schema (simp (cast_null, cast_int, cast_maybe) refl) (with_lot t x)
     (λ schema others. lots_stand old.now new.now t it schema others _) r
+
+insert_fits : (x : Lot) → accepts_terms insert_terms (lot_columns x) ≡ true
+insert_fits x = elim x.expires_on as (λ o. accepts_terms insert_terms (lot_columns (record x { expires_on = o })) ≡ true) [ None ↦ refl | Some day ↦ refl ]
+
+insert_typed : (db : Trees) (x : Lot) → passes Datatype registry_schema db lot (lot_row x) ≡ true
+insert_typed db x = elim x.expires_on as (λ o. passes Datatype registry_schema db lot (lot_row (record x { expires_on = o })) ≡ true) [ None ↦ refl | Some day ↦ refl ]
+
+pub inserting_fails : (old new : State) (t : Tables) (x : Lot) → x.id < 2 ^ 63 → Stands old.now t → IsLive old → old.step_limit ≡ None → get_by lot_key t.lots (pos x.id) ≡ None → find (λ (y : Lot). int_eq (pos y.origin) (pos x.origin) && (bytes_eq y.device x.device && bytes_eq y.first_day x.first_day)) t.lots ≡ None
+    → FailsOnly IsTooBig insert_text (lot_columns x) old new
+inserting_fails old new t x small it live unlimited free unmet =
+    distinct_fails insert_adds refl (λ _ _. refl) (lot_columns x) refl (insert_fits x) old new it.schema unlimited live (2 ∷ 3 ∷ 11 ∷ []) (λ _ _. refl) lot_row lot_key (λ _. refl) t.lots it.lots (λ (y : Lot). int_eq (pos y.origin) (pos x.origin) && (bytes_eq y.device x.device && bytes_eq y.first_day x.first_day)) unmet
+    x (simp (cast_null, cast_int, cast_maybe) refl) (λ z h. (λ i. (same_number (pos z.origin) (pos x.origin)) i && ((same_text z.device x.device) i && ((same_text z.first_day x.first_day) i && true))) ∙ three_apart (int_eq (pos z.origin) (pos x.origin)) (bytes_eq z.device x.device) (bytes_eq z.first_day x.first_day) h)
+    (record { typed = insert_typed old.now.trees x; present = refl; checked = refl; keyed = refl }) (ap is_some free) (lt-ltb _ _ small)
 
 -- ---- lot: the row with a key
 

@@ -1,5 +1,5 @@
 -- What the statements on `meta` do and show.
-use Rattle.std.proofs.Common.{All, map, ◌≡◌, ℕ, ℤ, pos, inr, List, [], ◌∷◌, codes, true, false, Some, Option, option_map, Ok, Err, Result, OnOk, refl, ◌∙◌}
+use Rattle.std.proofs.Common.{None, All, map, ◌≡◌, ℕ, ℤ, pos, inr, List, [], ◌∷◌, codes, true, false, Some, Option, option_map, Ok, Err, Result, OnOk, refl, ◌∙◌}
 use Rattle.std.specs.List.{AllZip}
 use Rattle.std.proofs.lemmas.List.Elements.{All-cons, All-nil}
 use Rattle.sqlite_tied.specs.Compute.{everything}
@@ -13,7 +13,7 @@ use Rattle.sqlite.specs.Program.{overlay}
 use Rattle.sqlite.specs.Source.TheVariants.{Values}
 use Rattle.sqlite.specs.Command.TheVariants.{Insert, Update}
 use Rattle.sqlite.specs.Listing.{understood}
-use Rattle.sqlite.specs.State.{State, Executes}
+use Rattle.sqlite.specs.State.{State, IsLive, Executes}
 use Rattle.sqlite.proofs.Callers.{IsPlain, command_of}
 use Rattle.sqlite_sql.specs.declared.ops.BinaryOp.TheVariants.{Compare}
 use Rattle.sqlite_sql.specs.declared.ops.CompareOp.TheVariants.{Eq}
@@ -39,6 +39,12 @@ use Rattle.goo_tables.specs.Changes.{begun, at_day, with_counters}
 use Rattle.goo_tables.specs.declared.counters.Counters.{Counters}
 use Rattle.goo_tables.proofs.Queries.{in_order, unordered}
 use Rattle.std.specs.Prelude.{⊤}
+use Rattle.sqlite_keyed.proofs.ListLemmas.{all_of}
+use Rattle.goo_columns.specs.Refused.{IsTooBig, is_suited}
+use Rattle.goo_columns.proofs.Obeying.{MayStand}
+use Rattle.goo_tables.proofs.Adding.{Adds}
+use Rattle.goo_tables.proofs.Failing.{FailsOnly, not_there, adding_fails}
+use Rattle.goo_tables.proofs.Altering.{updating_fails, update_obeys, update_small}
 use Rattle.goo_tables.proofs.AnyTable.{TableOf, finds_one, readable_among, shown, shows_each, IsListed, meets_listed}
 use Rattle.goo_tables.proofs.Asking.{Asks, Says, Tells}
 use Rattle.goo_tables.proofs.Values.{whole_is, null_at_key}
@@ -85,6 +91,16 @@ inserts_row old new m (Ok count) it ran =
     begun_stands old.now new.now it made.schema_is made.applied.tables m
     (made.applied.rows ∙ simp (cast_null, cast_int) (puts meta_key meta_row (λ _. refl) (old.now.trees 0) [] m it.meta))
 
+insert_adds : Adds insert_text 0 insert_terms 10 8
+unfolding understood everything
+insert_adds = record { is = refl; plain = (refl, refl); whole = refl }
+
+pub inserting_fails : (old new : State) (m : Meta) → IsBare old.now → IsLive old → old.step_limit ≡ None → FailsOnly IsTooBig insert_text (meta_columns m) old new
+inserting_fails old new m it live unlimited =
+    adding_fails insert_adds refl (λ _ _. refl) (meta_columns m) refl refl old new it.schema unlimited live (meta_row m) (simp (cast_null, cast_int) refl)
+    (λ _. record { typed = refl; present = refl; checked = refl; free = not_there meta_row meta_key (λ _. refl) (old.now.trees 0) [] m it.meta refl; unique = all_of _ (λ _. refl) _; keyed = refl })
+    refl
+
 -- ---- the row is read
 
 abbrev pub find_text : List ℕ
@@ -123,6 +139,16 @@ module _ (sql : List ℕ) (params : Row) (project : List Term) (f : Meta → Met
       with_meta_stands old.now new.now t it made.2.schema_is made.2.applied.tables (f t.meta)
       (made.2.applied.rows ∙ updated meta_key meta_row (λ _. refl) meta (λ m. simp (cast_null, cast_int) refl) (λ _. true) f (λ _. refl) old.now.trees (t.meta ∷ []) it.meta (tt, tt) made.0 (shows old t made.0 it (made.1.answer Null)))
 
+  -- and why that fails
+  pub changing_fails : is_suited registry_schema sql (unordered 0 at_one project) params ≡ true → ((m : Meta) → MayStand old.now.trees meta (meta_row (f m))) → ((m : Meta) → meta_key (f m) ≡ meta_key m) → IsLive old → old.step_limit ≡ None
+      → FailsOnly IsTooBig sql params old new
+  changing_fails suits stands keeps live unlimited =
+      updating_fails sql 0 (unordered 0 at_one project) refl (λ _ _. refl) plain params suits old new it.schema unlimited live is
+      (λ rows answers.
+        update_obeys meta_key meta_row (λ _. refl) meta refl (λ m. simp (cast_null, cast_int) refl) (λ _. true) f keeps old.now.trees (t.meta ∷ []) (inr (t.meta, refl)) rows (shows old t rows it (answers.answer Null)) stands (all_of _ (λ _. refl) _))
+      (λ rows answers.
+        update_small meta_key meta_row (λ _. refl) meta refl (λ m. simp (cast_null, cast_int) refl) (λ _. true) f keeps old.now.trees (t.meta ∷ []) (inr (t.meta, refl)) rows (shows old t rows it (answers.answer Null)) (λ _ _. refl))
+
 -- ---- the date
 
 abbrev pub today_text : List ℕ
@@ -148,6 +174,15 @@ today_shows today old t rows it answer =
 
 pub sets_today : (old new : State) (t : Tables) (today : List ℕ) (r : Result ℕ Error) → Stands old.now t → Executes today_text (Text today ∷ []) old new r → OnOk r (Stands new.now (at_day t today))
 sets_today old new t today r it = changes today_text (Text today ∷ []) today_terms (λ m. record m { today = today }) today_is today_plain (today_shows today) old new t it r
+
+today_suits : (today : List ℕ) → is_suited registry_schema today_text (unordered 0 at_one today_terms) (Text today ∷ []) ≡ true
+unfolding understood everything
+today_suits today = refl
+
+pub today_fails : (old new : State) (t : Tables) (today : List ℕ) → Stands old.now t → IsLive old → old.step_limit ≡ None → FailsOnly IsTooBig today_text (Text today ∷ []) old new
+today_fails old new t today it =
+    changing_fails today_text (Text today ∷ []) today_terms (λ m. record m { today = today }) today_is today_plain (today_shows today) old new t it (today_suits today)
+    (λ m. record { typed = refl; present = refl; checked = refl; keyed = refl }) (λ _. refl)
 
 -- ---- the numbers that are given next
 
@@ -186,6 +221,15 @@ counters_shows c old t rows it answer =
 
 pub sets_counters : (old new : State) (t : Tables) (c : Counters) (r : Result ℕ Error) → Stands old.now t → Executes counters_text (counters_params c) old new r → OnOk r (Stands new.now (with_counters t c))
 sets_counters old new t c r it = changes counters_text (counters_params c) counters_terms (counted c) counters_is counters_plain (counters_shows c) old new t it r
+
+counters_suits : (c : Counters) → is_suited registry_schema counters_text (unordered 0 at_one counters_terms) (counters_params c) ≡ true
+unfolding understood everything
+counters_suits c = refl
+
+pub counters_fails : (old new : State) (t : Tables) (c : Counters) → Stands old.now t → IsLive old → old.step_limit ≡ None → FailsOnly IsTooBig counters_text (counters_params c) old new
+counters_fails old new t c it =
+    changing_fails counters_text (counters_params c) counters_terms (counted c) counters_is counters_plain (counters_shows c) old new t it (counters_suits c)
+    (λ m. record { typed = refl; present = refl; checked = refl; keyed = refl }) (λ _. refl)
 
 -- ---- all rows
 

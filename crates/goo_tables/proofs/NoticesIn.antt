@@ -1,5 +1,5 @@
 -- What the statements on `notice_in` do and show.
-use Rattle.std.proofs.Common.{◌≡◌, ℕ, pos, ◌&&◌, List, [], ◌∷◌, map, find, codes, false, Option, option_map, Result, OnOk, refl, sym, subst, ◌∙◌, int_eq}
+use Rattle.std.proofs.Common.{◌≡◌, ℕ, pos, ◌&&◌, List, [], ◌∷◌, map, find, codes, false, Option, option_map, Result, OnOk, refl, sym, subst, ◌∙◌, int_eq, None, true, ap₂}
 use Rattle.std.specs.List.{AllZip}
 use Rattle.sqlite_tied.specs.Compute.{everything}
 use Rattle.sqlite.specs.declared.types.Value.TheVariants.{Null, Int}
@@ -10,7 +10,7 @@ use Rattle.sqlite.specs.Term.{Term, lit, col, op2}
 use Rattle.sqlite.specs.Query.{Query, IsAnswer}
 use Rattle.sqlite.specs.Program.{overlay}
 use Rattle.sqlite.specs.Listing.{understood}
-use Rattle.sqlite.specs.State.{State, Executes}
+use Rattle.sqlite.specs.State.{State, IsLive, Executes}
 use Rattle.sqlite_sql.specs.declared.ops.BinaryOp.TheVariants.{Compare}
 use Rattle.sqlite_sql.specs.declared.ops.CompareOp.TheVariants.{Eq}
 use Rattle.sqlite_typed.proofs.TestLemmas.{at_ints, then_term, last_term, then_value}
@@ -29,6 +29,11 @@ use Rattle.goo_columns.specs.Met.{HasOurTables, KeepsSome}
 use Rattle.goo_columns.proofs.Meeting.{type_rules, shape_rules, no_octets, text_octets}
 use Rattle.std.proofs.lemmas.Bool.{and_parts}
 use Rattle.std.specs.Prelude.{⊤}
+use Rattle.sqlite_keyed.specs.Keyed.{next_key}
+use Rattle.sqlite_keyed.proofs.KeyedLemmas.{next_key_is_free}
+use Rattle.goo_columns.specs.Refused.{IsTooBigOrFull}
+use Rattle.goo_columns.proofs.Distinct.{same_number, two_apart}
+use Rattle.goo_tables.proofs.Failing.{FailsOnly, distinct_kept_fails, next_row}
 use Rattle.goo_tables.proofs.Adding.{Adds, adds_kept}
 use Rattle.goo_tables.proofs.AnyTable.{TableOf, shown, shows_each, finds_one, IsKept, meets_kept}
 use Rattle.goo_tables.proofs.Asking.{Asks, Tells, Says}
@@ -60,14 +65,21 @@ insert_text = codes "INSERT INTO notice_in (sender, number, body) VALUES (?1, ?2
 abbrev insert_terms : List Term
 insert_terms = lit Null ∷ col 0 0 ∷ col 0 1 ∷ col 0 2 ∷ []
 
-insert_adds : Adds insert_text 12 insert_terms 4
+insert_adds : Adds insert_text 12 insert_terms 4 3
 unfolding understood everything
-insert_adds = record { is = refl; plain = (refl, refl) }
+insert_adds = record { is = refl; plain = (refl, refl); whole = refl }
 
 pub inserts_row : (old new : State) (t : Tables) (x : NoticeIn) (r : Result ℕ Error) → Stands old.now t → Executes insert_text (notice_in_columns x) old new r → OnOk r (Stands new.now (with_notice_in t x))
 inserts_row old new t x r it =
     adds_kept insert_adds refl (λ _ _. refl) (notice_in_columns x) old new notice_in_columns t.notices_in x it.notices_in it.schema (simp (cast_null, cast_int) refl) (with_notice_in t x)
     (λ schema others. notices_in_stand old.now new.now t it schema others _) r
+
+pub inserting_fails : (old new : State) (t : Tables) (x : NoticeIn) → Stands old.now t → IsLive old → old.step_limit ≡ None → find (λ (k : Kept NoticeIn). int_eq (pos k.1.sender) (pos x.sender) && int_eq (pos k.1.number) (pos x.number)) t.notices_in ≡ None
+    → FailsOnly IsTooBigOrFull insert_text (notice_in_columns x) old new
+inserting_fails old new t x it live unlimited unmet =
+    distinct_kept_fails insert_adds refl (λ _ _. refl) (notice_in_columns x) refl refl old new it.schema unlimited live (1 ∷ 2 ∷ []) (λ _ _. refl) notice_in_row kept_key (λ _. refl) t.notices_in it.notices_in (λ (k : Kept NoticeIn). int_eq (pos k.1.sender) (pos x.sender) && int_eq (pos k.1.number) (pos x.number)) unmet
+    (next_key kept_key t.notices_in, x) (simp (cast_null, cast_int) refl ∙ next_row notice_in_columns (old.now.trees 18) t.notices_in x it.notices_in.are) (λ z h. ap₂ (λ a b. a && (b && true)) (same_number (pos z.1.sender) (pos x.sender)) (same_number (pos z.1.number) (pos x.number)) ∙ two_apart _ _ h)
+    (record { typed = refl; present = refl; checked = refl; keyed = refl }) (next_key_is_free kept_key t.notices_in it.notices_in.rise)
 
 -- ---- notice_in: the row with a key
 

@@ -1,5 +1,5 @@
 -- What the statements on `notice_out` do and show.
-use Rattle.std.proofs.Common.{◌≡◌, ℕ, pos, List, [], ◌∷◌, map, find, codes, false, Option, option_map, Result, OnOk, refl, sym, subst, ◌∙◌, map-id, int_eq}
+use Rattle.std.proofs.Common.{◌≡◌, ◌<◌, ◌^◌, None, ℕ, pos, List, [], ◌∷◌, map, find, codes, false, Option, option_map, Result, OnOk, refl, sym, subst, ◌∙◌, map-id, int_eq}
 use Rattle.std.specs.List.{AllZip}
 use Rattle.sqlite_tied.specs.Compute.{everything}
 use Rattle.sqlite.specs.declared.types.Value.TheVariants.{Null, Int}
@@ -10,7 +10,7 @@ use Rattle.sqlite.specs.Term.{Term, lit, col, op2}
 use Rattle.sqlite.specs.Query.{Query, IsAnswer}
 use Rattle.sqlite.specs.Program.{overlay}
 use Rattle.sqlite.specs.Listing.{understood}
-use Rattle.sqlite.specs.State.{State, Executes}
+use Rattle.sqlite.specs.State.{State, IsLive, Executes}
 use Rattle.sqlite_sql.specs.declared.ops.BinaryOp.TheVariants.{Compare}
 use Rattle.sqlite_sql.specs.declared.ops.CompareOp.TheVariants.{Eq}
 use Rattle.sqlite_typed.proofs.TestLemmas.{at_ints, last_term, then_value}
@@ -30,7 +30,12 @@ use Rattle.goo_columns.proofs.Meeting.{type_rules, shape_rules, no_octets, int_s
 use Rattle.std.proofs.lemmas.Bool.{and_parts}
 use Rattle.std.specs.Prelude.{⊤}
 use Rattle.std.proofs.lemmas.Iterator.Adapters.{option_map_id}
+use Rattle.std.proofs.lemmas.Bool.{lt-ltb}
+use Rattle.sqlite_keyed.specs.Keyed.{get_by}
+use Rattle.sqlite_keyed.proofs.ListLemmas.{all_of}
+use Rattle.goo_columns.specs.Refused.{IsTooBig}
 use Rattle.goo_tables.proofs.Adding.{Adds, adds_row}
+use Rattle.goo_tables.proofs.Failing.{FailsOnly, not_there, adding_fails}
 use Rattle.goo_tables.proofs.AnyTable.{TableOf, shown, shows_each, finds_one, IsListed, meets_listed}
 use Rattle.goo_tables.proofs.Asking.{Asks, Tells, Says}
 use Rattle.goo_tables.proofs.Values.{whole_is, values_typed, null_at_key}
@@ -61,14 +66,21 @@ insert_text = codes "INSERT INTO notice_out (number, account, body) VALUES (?1, 
 abbrev insert_terms : List Term
 insert_terms = col 0 0 ∷ lit Null ∷ col 0 1 ∷ col 0 2 ∷ []
 
-insert_adds : Adds insert_text 11 insert_terms 4
+insert_adds : Adds insert_text 11 insert_terms 4 3
 unfolding understood everything
-insert_adds = record { is = refl; plain = (refl, refl) }
+insert_adds = record { is = refl; plain = (refl, refl); whole = refl }
 
 pub inserts_row : (old new : State) (t : Tables) (x : NoticeOut) (r : Result ℕ Error) → Stands old.now t → Executes insert_text (notice_out_columns x) old new r → OnOk r (Stands new.now (with_notice_out t x))
 inserts_row old new t x r it =
     adds_row insert_adds refl (λ _ _. refl) (notice_out_columns x) old new notice_out_row notice_out_key (λ _. refl) t.notices_out x it.notices_out it.schema (simp (cast_null, cast_int) refl) (with_notice_out t x)
     (λ schema others. notices_out_stand old.now new.now t it schema others _) r
+
+pub inserting_fails : (old new : State) (t : Tables) (x : NoticeOut) → x.number < 2 ^ 63 → Stands old.now t → IsLive old → old.step_limit ≡ None → get_by notice_out_key t.notices_out (pos x.number) ≡ None
+    → FailsOnly IsTooBig insert_text (notice_out_columns x) old new
+inserting_fails old new t x small it live unlimited free =
+    adding_fails insert_adds refl (λ _ _. refl) (notice_out_columns x) refl refl old new it.schema unlimited live (notice_out_row x) (simp (cast_null, cast_int) refl)
+    (λ _. record { typed = refl; present = refl; checked = refl; free = not_there notice_out_row notice_out_key (λ _. refl) (old.now.trees 17) t.notices_out x it.notices_out.are free; unique = all_of _ (λ _. refl) _; keyed = refl })
+    (lt-ltb _ _ small)
 
 -- ---- notice_out: the row with a key
 

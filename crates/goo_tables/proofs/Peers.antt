@@ -1,5 +1,5 @@
 -- What the statements on `peer` do and show.
-use Rattle.std.proofs.Common.{◌≡◌, ℕ, pos, List, [], ◌∷◌, map, find, codes, false, Option, option_map, Result, OnOk, refl, sym, subst, ◌∙◌, map-id, int_eq}
+use Rattle.std.proofs.Common.{◌≡◌, ℕ, pos, List, [], ◌∷◌, map, find, codes, false, Option, option_map, Result, OnOk, refl, sym, subst, ◌∙◌, map-id, int_eq, None, true, ◌&&◌, ap}
 use Rattle.std.specs.List.{AllZip}
 use Rattle.sqlite_tied.specs.Compute.{everything}
 use Rattle.sqlite.specs.declared.types.Value.TheVariants.{Null, Int}
@@ -10,7 +10,7 @@ use Rattle.sqlite.specs.Term.{Term, lit, col, op2}
 use Rattle.sqlite.specs.Query.{Query, IsAnswer}
 use Rattle.sqlite.specs.Program.{overlay}
 use Rattle.sqlite.specs.Listing.{understood}
-use Rattle.sqlite.specs.State.{State, Executes}
+use Rattle.sqlite.specs.State.{State, IsLive, Executes}
 use Rattle.sqlite_sql.specs.declared.ops.BinaryOp.TheVariants.{Compare}
 use Rattle.sqlite_sql.specs.declared.ops.CompareOp.TheVariants.{Eq}
 use Rattle.sqlite_typed.proofs.TestLemmas.{at_ints, last_term, then_value}
@@ -29,6 +29,11 @@ use Rattle.goo_tables.proofs.Queries.{in_order}
 use Rattle.goo_columns.specs.Met.{HasOurTables, KeepsSome}
 use Rattle.goo_columns.proofs.Meeting.{type_rules, shape_rules, no_number}
 use Rattle.std.specs.Prelude.{⊤}
+use Rattle.sqlite_keyed.specs.Keyed.{next_key}
+use Rattle.sqlite_keyed.proofs.KeyedLemmas.{next_key_is_free}
+use Rattle.goo_columns.specs.Refused.{IsTooBigOrFull}
+use Rattle.goo_columns.proofs.Distinct.{same_number, one_apart}
+use Rattle.goo_tables.proofs.Failing.{FailsOnly, distinct_kept_fails, next_row}
 use Rattle.goo_tables.proofs.Adding.{Adds, adds_kept}
 use Rattle.goo_tables.proofs.AnyTable.{TableOf, shown, shows_each, finds_one, IsKept, meets_kept}
 use Rattle.goo_tables.proofs.Asking.{Asks, Tells, Says}
@@ -60,14 +65,21 @@ insert_text = codes "INSERT INTO peer (code) VALUES (?1)"
 abbrev insert_terms : List Term
 insert_terms = lit Null ∷ col 0 0 ∷ []
 
-insert_adds : Adds insert_text 7 insert_terms 2
+insert_adds : Adds insert_text 7 insert_terms 2 1
 unfolding understood everything
-insert_adds = record { is = refl; plain = (refl, refl) }
+insert_adds = record { is = refl; plain = (refl, refl); whole = refl }
 
 pub inserts_row : (old new : State) (t : Tables) (x : PeerRow) (r : Result ℕ Error) → Stands old.now t → Executes insert_text (peer_columns x) old new r → OnOk r (Stands new.now (with_peer t x))
 inserts_row old new t x r it =
     adds_kept insert_adds refl (λ _ _. refl) (peer_columns x) old new peer_columns t.peers x it.peers it.schema (simp (cast_null, cast_int) refl) (with_peer t x)
     (λ schema others. peers_stand old.now new.now t it schema others _) r
+
+pub inserting_fails : (old new : State) (t : Tables) (x : PeerRow) → Stands old.now t → IsLive old → old.step_limit ≡ None → find (λ (k : Kept PeerRow). int_eq (pos k.1.code) (pos x.code)) t.peers ≡ None
+    → FailsOnly IsTooBigOrFull insert_text (peer_columns x) old new
+inserting_fails old new t x it live unlimited unmet =
+    distinct_kept_fails insert_adds refl (λ _ _. refl) (peer_columns x) refl refl old new it.schema unlimited live (1 ∷ []) (λ _ _. refl) peer_row kept_key (λ _. refl) t.peers it.peers (λ (k : Kept PeerRow). int_eq (pos k.1.code) (pos x.code)) unmet
+    (next_key kept_key t.peers, x) (simp (cast_null, cast_int) refl ∙ next_row peer_columns (old.now.trees 11) t.peers x it.peers.are) (λ z h. ap (λ a. a && true) (same_number (pos z.1.code) (pos x.code)) ∙ one_apart _ h)
+    (record { typed = refl; present = refl; checked = refl; keyed = refl }) (next_key_is_free kept_key t.peers it.peers.rise)
 
 -- ---- peer: the row with a key
 

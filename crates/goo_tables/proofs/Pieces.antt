@@ -1,5 +1,5 @@
 -- What the statements on `piece` do and show.
-use Rattle.std.proofs.Common.{◌≡◌, ℕ, pos, List, [], ◌∷◌, filter, codes, map, map-id, false, Ok, Err, Result, OnOk, refl, sym, ap, subst, ◌∙◌, int_eq, find, Option}
+use Rattle.std.proofs.Common.{◌≡◌, true, ◌<◌, ◌^◌, None, ℕ, pos, List, [], ◌∷◌, filter, codes, map, map-id, false, Ok, Err, Result, OnOk, refl, sym, ap, subst, ◌∙◌, int_eq, find, Option}
 use Rattle.std.specs.List.{AllZip}
 use Rattle.sqlite_tied.specs.Compute.{everything}
 use Rattle.sqlite.specs.declared.types.Value.TheVariants.{Null, Int}
@@ -13,7 +13,7 @@ use Rattle.sqlite.specs.Command.TheVariants.{Delete}
 use Rattle.sqlite.specs.Edit.{without_all, id_in}
 use Rattle.sqlite.specs.Tree.{rowid}
 use Rattle.sqlite.specs.Listing.{understood}
-use Rattle.sqlite.specs.State.{State, Executes}
+use Rattle.sqlite.specs.State.{State, IsLive, Executes}
 use Rattle.sqlite.proofs.Callers.{IsPlain, command_of}
 use Rattle.sqlite_rules.specs.Calls.{ids_of}
 use Rattle.sqlite_sql.specs.declared.ops.BinaryOp.TheVariants.{Compare}
@@ -40,7 +40,13 @@ use Rattle.goo_tables.proofs.Queries.{in_order, unordered}
 use Rattle.goo_columns.specs.Met.{HasOurTables}
 use Rattle.goo_columns.proofs.Meeting.{type_rules, shape_rules, no_number, int_same}
 use Rattle.std.specs.Prelude.{⊤}
+use Rattle.std.proofs.lemmas.Bool.{lt-ltb}
+use Rattle.sqlite_keyed.specs.Keyed.{get_by}
+use Rattle.sqlite_keyed.proofs.ListLemmas.{all_of}
+use Rattle.goo_columns.specs.Refused.{IsTooBig, is_suited}
 use Rattle.goo_tables.proofs.Adding.{Adds, adds_row}
+use Rattle.goo_tables.proofs.Altering as any
+use Rattle.goo_tables.proofs.Failing.{FailsOnly, not_there, adding_fails}
 use Rattle.goo_tables.proofs.AnyTable.{TableOf, shown, shows_each, finds_one, IsListed, meets_listed}
 use Rattle.goo_tables.proofs.Asking.{Asks, Tells, Says}
 use Rattle.goo_tables.proofs.Values.{whole_is, null_at_key}
@@ -71,14 +77,21 @@ insert_text = codes "INSERT INTO piece (first, last, lot, kind, account, act) VA
 abbrev insert_terms : List Term
 insert_terms = col 0 0 ∷ lit Null ∷ col 0 1 ∷ col 0 2 ∷ col 0 3 ∷ col 0 4 ∷ col 0 5 ∷ []
 
-insert_adds : Adds insert_text 6 insert_terms 7
+insert_adds : Adds insert_text 6 insert_terms 7 6
 unfolding understood everything
-insert_adds = record { is = refl; plain = (refl, refl) }
+insert_adds = record { is = refl; plain = (refl, refl); whole = refl }
 
 pub inserts_row : (old new : State) (t : Tables) (x : PieceRow) (r : Result ℕ Error) → Stands old.now t → Executes insert_text (piece_columns x) old new r → OnOk r (Stands new.now (with_piece t x))
 inserts_row old new t x r it =
     adds_row insert_adds refl (λ _ _. refl) (piece_columns x) old new piece_row piece_key (λ _. refl) t.pieces x it.pieces it.schema (simp (cast_null, cast_int) refl) (with_piece t x)
     (λ schema others. pieces_stand old.now new.now t it schema others _) r
+
+pub inserting_fails : (old new : State) (t : Tables) (x : PieceRow) → x.first < 2 ^ 63 → Stands old.now t → IsLive old → old.step_limit ≡ None → get_by piece_key t.pieces (pos x.first) ≡ None
+    → FailsOnly IsTooBig insert_text (piece_columns x) old new
+inserting_fails old new t x small it live unlimited free =
+    adding_fails insert_adds refl (λ _ _. refl) (piece_columns x) refl refl old new it.schema unlimited live (piece_row x) (simp (cast_null, cast_int) refl)
+    (λ _. record { typed = refl; present = refl; checked = refl; free = not_there piece_row piece_key (λ _. refl) (old.now.trees 10) t.pieces x it.pieces.are free; unique = all_of _ (λ _. refl) _; keyed = refl })
+    (lt-ltb _ _ small)
 
 -- ---- piece: a row is taken out
 
@@ -111,6 +124,14 @@ deletes_row old new t first (Ok count) it ran =
           ∙ removes piece_key piece_row (λ _. refl) (old.now.trees 10) t.pieces p it.pieces.are it.pieces.rise;
       rise = IsKeyedBy-delete_where piece_key p t.pieces it.pieces.rise;
     })
+
+delete_suits : (first : ℕ) → is_suited registry_schema delete_text delete_query (Int (pos first) ∷ []) ≡ true
+unfolding understood everything
+delete_suits first = refl
+
+pub deleting_fails : (old new : State) (t : Tables) (first : ℕ) → Stands old.now t → IsLive old → old.step_limit ≡ None → FailsOnly (λ _. ⊥) delete_text (Int (pos first) ∷ []) old new
+deleting_fails old new t first it live unlimited =
+    any.deleting_fails delete_text 6 delete_query refl (λ _ _. refl) delete_plain (Int (pos first) ∷ []) (delete_suits first) old new it.schema unlimited live delete_is (λ _. all_of _ (λ _. refl) _)
 
 -- ---- piece: the row with a key
 

@@ -1,5 +1,5 @@
 -- What the statements on `receipt` do and show.
-use Rattle.std.proofs.Common.{◌≡◌, ℕ, ◌&&◌, List, [], ◌∷◌, map, find, codes, false, Option, option_map, Result, OnOk, refl, ◌∙◌}
+use Rattle.std.proofs.Common.{◌≡◌, ℕ, ◌&&◌, List, [], ◌∷◌, map, find, codes, false, Option, option_map, Result, OnOk, refl, ◌∙◌, None, true, ap₂}
 use Rattle.std.specs.List.{AllZip}
 use Rattle.sqlite_tied.specs.Compute.{everything}
 use Rattle.sqlite.specs.declared.types.Value.TheVariants.{Null, Text}
@@ -10,7 +10,7 @@ use Rattle.sqlite.specs.Term.{Term, lit, col, op2}
 use Rattle.sqlite.specs.Query.{Query, IsAnswer}
 use Rattle.sqlite.specs.Program.{overlay}
 use Rattle.sqlite.specs.Listing.{understood}
-use Rattle.sqlite.specs.State.{State, Executes}
+use Rattle.sqlite.specs.State.{State, IsLive, Executes}
 use Rattle.sqlite_sql.specs.declared.ops.BinaryOp.TheVariants.{Compare}
 use Rattle.sqlite_sql.specs.declared.ops.CompareOp.TheVariants.{Eq}
 use Rattle.sqlite_typed.specs.Tests.{bytes_eq}
@@ -30,6 +30,11 @@ use Rattle.goo_columns.specs.Met.{HasOurTables, KeepsSome}
 use Rattle.goo_columns.proofs.Meeting.{type_rules, shape_rules, no_number, blob_octets}
 use Rattle.std.proofs.lemmas.Bool.{and_parts}
 use Rattle.std.specs.Prelude.{⊤}
+use Rattle.sqlite_keyed.specs.Keyed.{next_key}
+use Rattle.sqlite_keyed.proofs.KeyedLemmas.{next_key_is_free}
+use Rattle.goo_columns.specs.Refused.{IsTooBigOrFull}
+use Rattle.goo_columns.proofs.Distinct.{same_text, two_apart}
+use Rattle.goo_tables.proofs.Failing.{FailsOnly, distinct_kept_fails, next_row}
 use Rattle.goo_tables.proofs.Adding.{Adds, adds_kept}
 use Rattle.goo_tables.proofs.AnyTable.{TableOf, shown, shows_each, finds_one, IsKept, meets_kept}
 use Rattle.goo_tables.proofs.Asking.{Asks, Tells, Says}
@@ -61,14 +66,21 @@ insert_text = codes "INSERT INTO receipt (caller, key, command, kind, n1, n2, n3
 abbrev insert_terms : List Term
 insert_terms = lit Null ∷ col 0 0 ∷ col 0 1 ∷ col 0 2 ∷ col 0 3 ∷ col 0 4 ∷ col 0 5 ∷ col 0 6 ∷ []
 
-insert_adds : Adds insert_text 8 insert_terms 8
+insert_adds : Adds insert_text 8 insert_terms 8 7
 unfolding understood everything
-insert_adds = record { is = refl; plain = (refl, refl) }
+insert_adds = record { is = refl; plain = (refl, refl); whole = refl }
 
 pub inserts_row : (old new : State) (t : Tables) (x : Receipt) (r : Result ℕ Error) → Stands old.now t → Executes insert_text (receipt_columns x) old new r → OnOk r (Stands new.now (with_receipt t x))
 inserts_row old new t x r it =
     adds_kept insert_adds refl (λ _ _. refl) (receipt_columns x) old new receipt_columns t.receipts x it.receipts it.schema (simp (cast_null, cast_int) refl) (with_receipt t x)
     (λ schema others. receipts_stand old.now new.now t it schema others _) r
+
+pub inserting_fails : (old new : State) (t : Tables) (x : Receipt) → Stands old.now t → IsLive old → old.step_limit ≡ None → find (λ (k : Kept Receipt). bytes_eq k.1.caller x.caller && bytes_eq k.1.key x.key) t.receipts ≡ None
+    → FailsOnly IsTooBigOrFull insert_text (receipt_columns x) old new
+inserting_fails old new t x it live unlimited unmet =
+    distinct_kept_fails insert_adds refl (λ _ _. refl) (receipt_columns x) refl refl old new it.schema unlimited live (1 ∷ 2 ∷ []) (λ _ _. refl) receipt_row kept_key (λ _. refl) t.receipts it.receipts (λ (k : Kept Receipt). bytes_eq k.1.caller x.caller && bytes_eq k.1.key x.key) unmet
+    (next_key kept_key t.receipts, x) (simp (cast_null, cast_int) refl ∙ next_row receipt_columns (old.now.trees 13) t.receipts x it.receipts.are) (λ z h. ap₂ (λ a b. a && (b && true)) (same_text z.1.caller x.caller) (same_text z.1.key x.key) ∙ two_apart _ _ h)
+    (record { typed = refl; present = refl; checked = refl; keyed = refl }) (next_key_is_free kept_key t.receipts it.receipts.rise)
 
 -- ---- receipt: the row with a key
 

@@ -1,13 +1,13 @@
 //! The statements on `device`.
 
-ghost use Rattle.std.specs.Prelude.{◌≡◌, ◌<◌, ◌^◌, false, map, filter, find, IfOk, OnOk, option_map, All};
+ghost use Rattle.std.specs.Prelude.{◌≡◌, None, ◌<◌, ◌^◌, false, map, filter, find, IfOk, OnOk, option_map, All};
 ghost use Rattle.sqlite.specs.State.{HasCleanDisk, KeepsCommit, Survives};
 ghost use Rattle.sqlite.specs.Held.{state};
 ghost use Rattle.sqlite_typed.specs.Tests.{bytes_eq};
 ghost use Rattle.goo_columns.specs.Rows.{Tables, device_in, device_row, device_columns};
 ghost use Rattle.goo_columns.specs.Once.{IsOnce};
 ghost use Rattle.goo_columns.specs.Readable.{device_readable};
-ghost use Rattle.goo_columns.specs.Refused.{FailsByFault, FailsOnlyByFault};
+ghost use Rattle.goo_columns.specs.Refused.{FailsByFault, FailsOnlyByFault, ChangeFailsBy, IsTooBigOrFull};
 ghost use Rattle.goo_columns.specs.Stands.{Sees, Looks};
 ghost use Rattle.goo_columns.specs.Met.{HasOurTables, KeepsSome};
 ghost use Rattle.goo_tables.specs.Changes.{with_device, with_progress, DeviceFits};
@@ -28,6 +28,8 @@ pub fn insert_device<S: Alter>(
     ensures same_reference { tx.new.conn.ghost_name ≡ tx.old.conn.ghost_name }
     ensures changed { HasCleanDisk (state S.Store tx.new.conn.now) → (t : Tables) → Sees (state S.Store tx.old.conn.now) t
         → OnOk result (Sees (state S.Store tx.new.conn.now) (with_device t (device_in device.now))) }
+    ensures refused { ChangeFailsBy IsTooBigOrFull (state S.Store tx.old.conn.now) (state S.Store tx.new.conn.now) result
+        (λ t. find (λ k. bytes_eq k.1.gsrn (device_in device.now).gsrn) t.devices ≡ None) }
     ensures uncommitted { HasCleanDisk (state S.Store tx.new.conn.now) → KeepsCommit (state S.Store tx.old.conn.now) (state S.Store tx.new.conn.now) }
     ensures survives { Survives (state S.Store tx.old.conn.now) (state S.Store tx.new.conn.now) (λ _. ⊥) }
 {

@@ -1,12 +1,12 @@
 //! The statements on `holder`.
 
-ghost use Rattle.std.specs.Prelude.{◌≡◌, false, map, find, IfOk, OnOk, option_map, All};
+ghost use Rattle.std.specs.Prelude.{◌≡◌, None, false, map, find, IfOk, OnOk, option_map, All};
 ghost use Rattle.sqlite.specs.State.{HasCleanDisk, KeepsCommit, Survives};
 ghost use Rattle.sqlite.specs.Held.{state};
 ghost use Rattle.sqlite_typed.specs.Tests.{bytes_eq};
 ghost use Rattle.goo_columns.specs.Rows.{Tables, holder_in, holder_row, holder_columns};
 ghost use Rattle.goo_columns.specs.Readable.{holder_readable};
-ghost use Rattle.goo_columns.specs.Refused.{FailsByFault, FailsOnlyByFault};
+ghost use Rattle.goo_columns.specs.Refused.{FailsByFault, FailsOnlyByFault, ChangeFailsBy, IsTooBigOrFull};
 ghost use Rattle.goo_columns.specs.Stands.{Sees, Looks};
 ghost use Rattle.goo_columns.specs.Met.{HasOurTables, KeepsSome};
 ghost use Rattle.goo_tables.specs.Changes.{with_holder};
@@ -26,6 +26,8 @@ pub fn insert_holder<S: Alter>(
     ensures same_reference { tx.new.conn.ghost_name ≡ tx.old.conn.ghost_name }
     ensures changed { HasCleanDisk (state S.Store tx.new.conn.now) → (t : Tables) → Sees (state S.Store tx.old.conn.now) t
         → OnOk result (Sees (state S.Store tx.new.conn.now) (with_holder t (holder_in holder.now))) }
+    ensures refused { ChangeFailsBy IsTooBigOrFull (state S.Store tx.old.conn.now) (state S.Store tx.new.conn.now) result
+        (λ t. find (λ k. bytes_eq k.1.code (holder_in holder.now).code) t.holders ≡ None) }
     ensures uncommitted { HasCleanDisk (state S.Store tx.new.conn.now) → KeepsCommit (state S.Store tx.old.conn.now) (state S.Store tx.new.conn.now) }
     ensures survives { Survives (state S.Store tx.old.conn.now) (state S.Store tx.new.conn.now) (λ _. ⊥) }
 {

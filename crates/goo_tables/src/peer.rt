@@ -1,12 +1,12 @@
 //! The statements on `peer`.
 
-ghost use Rattle.std.specs.Prelude.{◌≡◌, false, pos, map, find, IfOk, OnOk, option_map, All};
+ghost use Rattle.std.specs.Prelude.{◌≡◌, None, false, pos, map, find, IfOk, OnOk, option_map, All};
 ghost use Rattle.std.specs.Ordering.{int_eq};
 ghost use Rattle.sqlite.specs.State.{HasCleanDisk, KeepsCommit, Survives};
 ghost use Rattle.sqlite.specs.Held.{state};
 ghost use Rattle.goo_columns.specs.Rows.{Tables, peer_row, peer_columns};
 ghost use Rattle.goo_columns.specs.Readable.{peer_readable};
-ghost use Rattle.goo_columns.specs.Refused.{FailsByFault, FailsOnlyByFault};
+ghost use Rattle.goo_columns.specs.Refused.{FailsByFault, FailsOnlyByFault, ChangeFailsBy, IsTooBigOrFull};
 ghost use Rattle.goo_columns.specs.Stands.{Sees, Looks};
 ghost use Rattle.goo_columns.specs.Met.{HasOurTables, KeepsSome};
 ghost use Rattle.goo_tables.specs.Changes.{with_peer};
@@ -23,6 +23,8 @@ pub fn insert_peer<S: Alter>(tx: &mut Transaction<'_, S>, peer: &PeerRow) -> Res
     ensures same_reference { tx.new.conn.ghost_name ≡ tx.old.conn.ghost_name }
     ensures changed { HasCleanDisk (state S.Store tx.new.conn.now) → (t : Tables) → Sees (state S.Store tx.old.conn.now) t
         → OnOk result (Sees (state S.Store tx.new.conn.now) (with_peer t peer.now)) }
+    ensures refused { ChangeFailsBy IsTooBigOrFull (state S.Store tx.old.conn.now) (state S.Store tx.new.conn.now) result
+        (λ t. find (λ k. int_eq (pos k.1.code) (pos peer.now.code)) t.peers ≡ None) }
     ensures uncommitted { HasCleanDisk (state S.Store tx.new.conn.now) → KeepsCommit (state S.Store tx.old.conn.now) (state S.Store tx.new.conn.now) }
     ensures survives { Survives (state S.Store tx.old.conn.now) (state S.Store tx.new.conn.now) (λ _. ⊥) }
 {

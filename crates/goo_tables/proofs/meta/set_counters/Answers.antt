@@ -1,7 +1,7 @@
 use Rattle.sqlite.specs.Held.{state}
 use Rattle.goo_columns.proofs.Inside.{sees}
 use Rattle.goo_tables.specs.Changes.{with_counters}
-use Rattle.goo_tables.proofs.MetaTable.{counters_text, counters_params, sets_counters}
+use Rattle.goo_tables.proofs.MetaTable.{counters_text, counters_params, sets_counters, counters_fails}
 use Rattle.goo_tables.proofs.meta.set_counters.Goals as goal
 
 pub returns-clause-changed : goal.returns-clause-changed
@@ -10,4 +10,9 @@ returns-clause-changed g c clean t it =
     let new = c.put.new.tx.conn.now in
     let counters = c.args.counters.now in
     sees g.S.Store old new counters_text (counters_params counters) c.put.result t (with_counters t counters) it (sets_counters (state g.S.Store old) (state g.S.Store new) t counters) c.put.result
-    (rw (c.number.ensures, c.small.ensures, c.small-2.ensures, c.small-3.ensures, c.small-4.ensures) at (c.put.ensures.runs clean it.inside))
+    (rw (c.number.ensures, c.small.ensures.value, c.small-2.ensures.value, c.small-3.ensures.value, c.small-4.ensures.value) at (c.put.ensures.runs clean it.inside))
+
+pub returns-clause-refused : goal.returns-clause-refused
+returns-clause-refused g c clean live unlimited t it any =
+    counters_fails (state g.S.Store c.args.tx.now.conn.now) (state g.S.Store c.put.new.tx.conn.now) t c.args.counters.now it.stands live unlimited c.put.result
+    (rw (c.number.ensures, c.small.ensures.value, c.small-2.ensures.value, c.small-3.ensures.value, c.small-4.ensures.value) at (c.put.ensures.runs clean it.inside))

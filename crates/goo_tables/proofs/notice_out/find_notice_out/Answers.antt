@@ -9,13 +9,13 @@ pub returns-clause-looks : goal.returns-clause-looks
 returns-clause-looks g c =
     let old = state g.S.Store c.args.conn.now in
     looks_up find_asks c.args.number old (state g.S.Store c.ask_first.new.conn) c.ask_first.result _ _ (finds old c.args.number)
-    (rw (c.small.ensures) at c.ask_first.ensures.read) (rw (c.small.ensures) at c.ask_first.ensures.ran) (rw (c.small.ensures) at c.ask_first.ensures.survives)
+    (rw (c.small.ensures.value) at c.ask_first.ensures.read) (rw (c.small.ensures.value) at c.ask_first.ensures.ran) (rw (c.small.ensures.value) at c.ask_first.ensures.survives)
 
 pub returns-clause-refused : goal.returns-clause-refused
 returns-clause-refused g c clean has unlimited =
-    refused find_asks c.args.number (state g.S.Store c.args.conn.now) (state g.S.Store c.ask_first.new.conn) c.ask_first.result notice_out_readable has unlimited (rw (c.small.ensures) at (c.ask_first.ensures.refused clean))
+    refused find_asks c.args.number (state g.S.Store c.args.conn.now) (state g.S.Store c.ask_first.new.conn) c.ask_first.result notice_out_readable has unlimited (rw (c.small.ensures.value) at (c.ask_first.ensures.refused clean))
 
 pub returns-clause-readable : goal.returns-clause-readable
 returns-clause-readable g c clean unlimited t it fits =
     let old = state g.S.Store c.args.conn.now in
-    refused_readable find_asks c.args.number old (state g.S.Store c.ask_first.new.conn) c.ask_first.result notice_out_readable it.schema unlimited (readable_among notices_out old it.notices_out notice_out_readable fits _ _) (rw (c.small.ensures) at (c.ask_first.ensures.refused clean))
+    refused_readable find_asks c.args.number old (state g.S.Store c.ask_first.new.conn) c.ask_first.result notice_out_readable it.schema unlimited (readable_among notices_out old it.notices_out notice_out_readable fits _ _) (rw (c.small.ensures.value) at (c.ask_first.ensures.refused clean))
