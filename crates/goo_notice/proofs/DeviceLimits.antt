@@ -1,5 +1,5 @@
 -- The registration of a device that a JSON value states is within its limits.
-use Rattle.std.proofs.Common.{◌≡◌, ◌+◌, ℕ, ℤ, List, codes, Ok, Result, subst}
+use Rattle.std.proofs.Common.{◌≡◌, ◌+◌, ℕ, ℤ, List, codes, Ok, subst}
 use Rattle.serde_json.specs.Data.{Data}
 use Rattle.serde_json.specs.Find.{as_object}
 use Rattle.goo_types.specs.Codes.{name_reading, country_reading, tech_reading, source_reading}
@@ -7,9 +7,7 @@ use Rattle.goo_types.specs.Gsrn.{gsrn_reading}
 use Rattle.goo_types.specs.Day.{day_reading}
 use Rattle.goo_types.specs.Support.{support_reading}
 use Rattle.goo_types.specs.declared.command.RegisterDevice.{RegisterDevice}
-use Rattle.goo_notice.specs.declared.value_fault.ValueFault.{ValueFault}
 use Rattle.goo_notice.specs.RegisterDevice.{IsRegisterDevice, device_of_members, register_device_of}
-use Rattle.goo_notice.specs.Faults.{◌>>=◌}
 use Rattle.goo_notice.specs.Members.{of_size, string_at, integer_at}
 use Rattle.goo_notice.specs.Fields.{as_field, integer_in}
 use Rattle.goo_notice.proofs.LimitLemmas.{IsDay-reading}
