@@ -26,8 +26,6 @@ mod registries;
 #[cfg(test)]
 mod reopened;
 #[cfg(test)]
-mod schemas;
-#[cfg(test)]
 mod script;
 #[cfg(test)]
 mod sight;
