@@ -2,15 +2,9 @@
 //! the command line asks for nothing that it does, and 3 after a fault. What it says of these goes to standard error.
 #![tactic(auto)]
 
-mod desk;
-mod ending;
-mod running;
-#[cfg(test)]
-mod tests;
-
-use ending::{Ending, Failure};
 use goo_command_line::{Place, Task, read_task};
-use running::run_in_memory;
+use goo_running::ending::{Ending, Failure};
+use goo_running::running::run_in_memory;
 use std::env;
 use std::io::{self, BufWriter, ErrorKind};
 use std::process::ExitCode;

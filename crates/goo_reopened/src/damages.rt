@@ -1,12 +1,11 @@
 //! Tables that were damaged, one value at a time.
 
 use crate::asking::{plays, plays_one};
-use crate::disks::{blank, edited, files_of, judged};
+use crate::disks::{blank, database_on, edited, files_of, judged};
 use crate::registries::{begun, closed, in_march};
 use crate::script::{APRIL, CANCELLATION, SCRIPT};
-use goo_opening::connecting::open_ordered;
 use goo_opening::fault::OpenFault;
-use sqlite::{Alter, Connection, Files, Options};
+use sqlite::{Alter, Connection, Files};
 use sqlite_disk::Disk;
 use std::alloc::Global;
 use std::process::Abort;
@@ -15,7 +14,7 @@ use std::test::Fail;
 /// What is done to the tables, how it is undone, and why they are not opened in between.
 type Damage = (&'static str, &'static str, OpenFault);
 
-const DAMAGES: [Damage; 18] = [
+const DAMAGES: [Damage; 22] = [
     (
         "UPDATE device SET carry = 1",
         "UPDATE device SET carry = 0",
@@ -97,6 +96,26 @@ const DAMAGES: [Damage; 18] = [
         OpenFault::Damaged,
     ),
     (
+        "CREATE TABLE plan (id INTEGER PRIMARY KEY) STRICT",
+        "DROP TABLE plan",
+        OpenFault::Damaged,
+    ),
+    (
+        "CREATE INDEX by_lot ON piece (lot)",
+        "DROP INDEX by_lot",
+        OpenFault::Damaged,
+    ),
+    (
+        "CREATE VIEW lots AS SELECT id FROM lot",
+        "DROP VIEW lots",
+        OpenFault::Damaged,
+    ),
+    (
+        "DROP INDEX piece_by_kind",
+        "CREATE INDEX piece_by_kind ON piece (kind, first)",
+        OpenFault::Damaged,
+    ),
+    (
         "UPDATE meta SET version = 9",
         "UPDATE meta SET version = 1",
         OpenFault::Version(9),
@@ -130,12 +149,7 @@ fn cancels_on<D: Disk + Drop>(
     alloc: Global,
     files: Files<D>,
 ) -> Result<Files<D>, Fail> {
-    if !files.may_be_used() {
-        return Err("disks that may not be used".into());
-    }
-    let Ok(conn) = open_ordered(alloc, files, Options::new(7)) else {
-        return Err("a database that isn't opened".into());
-    };
+    let conn = database_on(alloc, files)?;
     Ok(files_of(cancels(rt, alloc, conn)?))
 }
 
@@ -148,10 +162,10 @@ fn is_refused<D: Disk + Drop>(
 ) -> Result<Files<D>, Fail> {
     let files = edited(alloc, files, damage.0)?;
     let (word, files) = judged(alloc, files)?;
-    assert_eq!(rt; word, Some(damage.2), "after {}", damage.0);
+    assert!(rt; word == Some(damage.2), "after {}", damage.0);
     let files = edited(alloc, files, damage.1)?;
     let (word, files) = judged(alloc, files)?;
-    assert_eq!(rt; word, None, "after {}", damage.1);
+    assert!(rt; word == None, "after {}", damage.1);
     Ok(files)
 }
 

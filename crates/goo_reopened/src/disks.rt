@@ -1,5 +1,7 @@
 //! Disks in memory, and databases on them.
 
+ghost use Rattle.std.specs.Prelude.{IfOk};
+ghost use Rattle.sqlite.specs.Files.{file_state};
 ghost use Rattle.sqlite.specs.Held.{state};
 ghost use Rattle.sqlite.specs.State.{HasCleanDisk};
 ghost use Rattle.goo_columns.specs.Met.{IsInKeyOrder};
@@ -41,21 +43,29 @@ pub fn files_of<D: Disk + Drop>(conn: Connection<FileStore<D>>) -> Files<D> {
     conn.into_store().close()
 }
 
-/// The disks, after a text was run on their database.
-pub fn edited<D: Disk + Drop>(alloc: Global, files: Files<D>, sql: &str) -> Result<Files<D>, Fail> {
+/// The database on disks.
+pub fn database_on<D: Disk + Drop>(
+    alloc: Global,
+    files: Files<D>,
+) -> Result<Connection<FileStore<D>>, Fail>
+    ensures ordered { IfOk result (λ conn. HasCleanDisk (file_state conn) → IsInKeyOrder (file_state conn).now) }
+{
     if !files.may_be_used() {
         return Err("disks that may not be used".into());
     }
     match open_ordered(alloc, files, Options::new(7)) {
-        Ok(conn) => {
-            let mut conn = conn;
-            let done = conn.execute_batch(sql);
-            let files = files_of(conn);
-            done?;
-            Ok(files)
-        }
+        Ok(conn) => Ok(conn),
         Err(_) => Err("a database that isn't opened".into()),
     }
+}
+
+/// The disks, after a text was run on their database.
+pub fn edited<D: Disk + Drop>(alloc: Global, files: Files<D>, sql: &str) -> Result<Files<D>, Fail> {
+    let mut conn = database_on(alloc, files)?;
+    let done = conn.execute_batch(sql);
+    let files = files_of(conn);
+    done?;
+    Ok(files)
 }
 
 /// Why a database is not opened, if so, and the database as that leaves it.
@@ -73,14 +83,7 @@ pub fn judged<D: Disk + Drop>(
     alloc: Global,
     files: Files<D>,
 ) -> Result<(Option<OpenFault>, Files<D>), Fail> {
-    if !files.may_be_used() {
-        return Err("disks that may not be used".into());
-    }
-    match open_ordered(alloc, files, Options::new(7)) {
-        Ok(conn) => {
-            let (word, conn) = word_of(alloc, conn);
-            Ok((word, files_of(conn)))
-        }
-        Err(_) => Err("a database that isn't opened".into()),
-    }
+    let conn = database_on(alloc, files)?;
+    let (word, conn) = word_of(alloc, conn);
+    Ok((word, files_of(conn)))
 }

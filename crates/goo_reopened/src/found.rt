@@ -82,25 +82,40 @@ const MEMBERS: Case = Case {
 
 /// A new registry's code, date and next numbers.
 fn has_its_own<S: Shelf>(rt: &impl Abort, shelf: &mut S) -> Result<(), Fail> {
-    assert!(rt; shelf.code()?.get() == 7);
-    assert!(rt; shelf.today()? == Day::read(b"2025-03-01")?);
+    let today = Day::read(b"2025-03-01")?;
     let counters = shelf.counters()?;
-    assert!(rt; counters.serial() == LAST);
-    assert!(rt; counters.account() == 1 && counters.notice() == 1);
-    assert!(rt; counters.cancellation() == 1 && counters.withdrawal() == 1);
-    assert!(rt; shelf.refused_calls() == 0);
+    assert!(rt;
+        matches!(shelf.code(), Ok(code) if code.get() == 7)
+            && shelf.today() == Ok(today)
+            && counters.serial() == LAST
+            && counters.account() == 1
+            && counters.notice() == 1
+            && counters.cancellation() == 1
+            && counters.withdrawal() == 1
+            && shelf.refused_calls() == 0
+    );
     Ok(())
 }
 
-/// A new registry's shelf has neither members nor acts.
-fn has_nobody<S: Shelf>(rt: &impl Abort, alloc: Global, shelf: &mut S) -> Result<(), Fail> {
+/// A new registry's shelf has no members.
+fn has_nobody<S: Shelf>(rt: &impl Abort, shelf: &mut S) -> Result<(), Fail> {
+    let holder = HolderCode::read(b"SUN")?;
     let account = AccountNo::new(1).ok_or("no account")?;
+    let code = RegistryCode::new(7).ok_or("no code")?;
+    assert!(rt;
+        matches!(shelf.holder(&holder), Ok(None))
+            && matches!(shelf.account(account), Ok(None))
+            && matches!(shelf.peer(code), Ok(false))
+    );
+    Ok(())
+}
+
+/// A new registry's shelf has no acts.
+fn has_no_act<S: Shelf>(rt: &impl Abort, alloc: Global, shelf: &mut S) -> Result<(), Fail> {
     let act = ActNo::new(1).ok_or("no act")?;
-    assert!(rt; shelf.holder(&HolderCode::read(b"SUN")?)?.is_none());
-    assert!(rt; shelf.account(account)?.is_none());
-    assert!(rt; !shelf.peer(RegistryCode::new(7).ok_or("no code")?)?);
-    assert!(rt; shelf.cancelled(act)?.is_none());
-    assert!(rt; shelf.sent(alloc, act)?.is_none());
+    assert!(rt;
+        matches!(shelf.cancelled(act), Ok(None)) && matches!(shelf.sent(alloc, act), Ok(None))
+    );
     Ok(())
 }
 
@@ -108,11 +123,14 @@ fn has_nobody<S: Shelf>(rt: &impl Abort, alloc: Global, shelf: &mut S) -> Result
 fn has_no_device<S: Shelf>(rt: &impl Abort, shelf: &mut S) -> Result<(), Fail> {
     let device = Gsrn::read(b"500000000000000012")?;
     let code = RegistryCode::new(7).ok_or("no code")?;
-    assert!(rt; shelf.device(&device)?.is_none());
-    let lot = shelf.lot(code, &device, Day::read(b"2025-01-01")?)?;
-    assert!(rt; lot.is_none());
+    let first = Day::read(b"2025-01-01")?;
     let progress = shelf.progress(&device)?;
-    assert!(rt; progress.last_day.is_none() && progress.carry.get() == 0);
+    assert!(rt;
+        matches!(shelf.device(&device), Ok(None))
+            && matches!(shelf.lot(code, &device, first), Ok(None))
+            && progress.last_day.is_none()
+            && progress.carry.get() == 0
+    );
     Ok(())
 }
 
@@ -121,10 +139,13 @@ fn is_empty<S: Shelf>(rt: &impl Abort, alloc: Global, shelf: &mut S) -> Result<(
     let first = Number::new(7, 1).ok_or("no number")?;
     let range = Range::new(first, first).ok_or("no range")?;
     let account = AccountNo::new(1).ok_or("no account")?;
-    assert!(rt; shelf.meeting(alloc, range)?.is_empty());
-    assert!(rt; shelf.expiring(alloc, Day::read(b"2099-12-31")?)?.is_empty());
-    assert!(rt; shelf.pieces_of(alloc, account)?.is_empty());
-    assert!(rt; shelf.totals(alloc)?.is_empty());
+    let last_day = Day::read(b"2099-12-31")?;
+    assert!(rt;
+        shelf.meeting(alloc, range)?.is_empty()
+            && shelf.expiring(alloc, last_day)?.is_empty()
+            && shelf.pieces_of(alloc, account)?.is_empty()
+            && shelf.totals(alloc)?.is_empty()
+    );
     Ok(())
 }
 
@@ -136,35 +157,44 @@ fn finds_nothing<S: Shelf + Drop>(
 ) -> Result<(), Fail> {
     let mut shelf = registry.into_shelf();
     has_its_own(rt, &mut shelf)?;
-    has_nobody(rt, alloc, &mut shelf)?;
+    has_nobody(rt, &mut shelf)?;
+    has_no_act(rt, alloc, &mut shelf)?;
     has_no_device(rt, &mut shelf)?;
     is_empty(rt, alloc, &mut shelf)
 }
 
 /// The holder with an open account and a closed one.
 fn has_accounts<S: Shelf>(rt: &impl Abort, shelf: &mut S) -> Result<(), Fail> {
-    let Some(name) = shelf.holder(&HolderCode::read(b"SUN")?)? else {
-        return Err("no holder".into());
-    };
-    assert!(rt; name.text() == "Sun Power");
-    for (number, closed) in [(1, false), (2, true)] {
-        let number = AccountNo::new(number).ok_or("no number")?;
-        let Some(account) = shelf.account(number)? else {
-            return Err("no account".into());
-        };
-        assert!(rt; account.is_closed() == closed);
-    }
+    let holder = HolderCode::read(b"SUN")?;
+    let open = AccountNo::new(1).ok_or("no number")?;
+    let shut = AccountNo::new(2).ok_or("no number")?;
+    assert!(rt;
+        matches!(shelf.holder(&holder), Ok(Some(name)) if name.text() == "Sun Power")
+            && matches!(shelf.account(open), Ok(Some(account)) if !account.is_closed())
+            && matches!(shelf.account(shut), Ok(Some(account)) if account.is_closed())
+    );
     Ok(())
 }
 
 /// The device, which has declared nothing.
 fn has_a_device<S: Shelf>(rt: &impl Abort, shelf: &mut S) -> Result<(), Fail> {
     let gsrn = Gsrn::read(b"500000000000000012")?;
-    let Some(device) = shelf.device(&gsrn)? else {
-        return Err("no device".into());
-    };
-    assert!(rt; device.capacity_w().get() == 2_000_000);
-    assert!(rt; shelf.progress(&gsrn)?.last_day.is_none());
+    assert!(rt;
+        matches!(shelf.device(&gsrn), Ok(Some(device)) if device.capacity_w().get() == 2_000_000)
+            && matches!(shelf.progress(&gsrn), Ok(progress) if progress.last_day.is_none())
+    );
+    Ok(())
+}
+
+/// The other registry, the number of the next account, and the date.
+fn has_a_peer<S: Shelf>(rt: &impl Abort, shelf: &mut S) -> Result<(), Fail> {
+    let nine = RegistryCode::new(9).ok_or("no code")?;
+    let today = Day::read(b"2025-04-01")?;
+    assert!(rt;
+        matches!(shelf.peer(nine), Ok(true))
+            && matches!(shelf.counters(), Ok(counters) if counters.account() == 3)
+            && shelf.today() == Ok(today)
+    );
     Ok(())
 }
 
@@ -179,10 +209,7 @@ fn finds_members<S: Shelf + Drop>(
     let mut shelf = registry.into_shelf();
     has_accounts(rt, &mut shelf)?;
     has_a_device(rt, &mut shelf)?;
-    assert!(rt; shelf.peer(RegistryCode::new(9).ok_or("no code")?)?);
-    assert!(rt; shelf.counters()?.account() == 3);
-    assert!(rt; shelf.today()? == Day::read(b"2025-04-01")?);
-    Ok(())
+    has_a_peer(rt, &mut shelf)
 }
 
 #[test]

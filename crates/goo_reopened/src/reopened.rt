@@ -5,15 +5,14 @@ ghost use Rattle.sqlite.specs.State.{HasCleanDisk};
 ghost use Rattle.goo_columns.specs.Met.{IsInKeyOrder};
 
 use crate::asking::plays;
-use crate::disks::{blank, files_of};
+use crate::disks::{blank, database_on, files_of};
 use crate::registries::{begun, closed, in_march, opened, opened_again};
 use crate::script::{APRIL, Line, SCRIPT};
 use crate::sight::sight;
-use goo_opening::connecting::{open_ordered, open_ordered_in_memory};
 use goo_opening::fault::OpenFault;
 use goo_registry::Registry;
 use goo_store::sql_shelf::SqlShelf;
-use sqlite::{Alter, Connection, Files, Options};
+use sqlite::{Alter, Connection, Files};
 use sqlite_disk::Disk;
 use std::alloc::Global;
 use std::process::Abort;
@@ -57,7 +56,7 @@ pub fn shows<S: Alter>(
     wanted: &str,
 ) -> Result<(), Fail> {
     let shown = sight(alloc, registry)?;
-    assert_eq!(rt; shown.as_str(), wanted);
+    assert!(rt; shown.as_str() == wanted);
     Ok(())
 }
 
@@ -91,7 +90,7 @@ fn comes_back<S: Alter + Drop>(
     plays(rt, alloc, &mut registry, lines, lines.len())?;
     shows(rt, alloc, &mut registry, wanted)?;
     let (conn, refused) = closed(registry);
-    assert_eq!(rt; refused, 0);
+    assert!(rt; refused == 0);
     Ok(conn)
 }
 
@@ -120,7 +119,7 @@ fn is_taken<S: Alter + Drop>(
     match begun(alloc, conn, in_march()?) {
         Ok(_) => Err("another registry".into()),
         Err((conn, fault)) => {
-            assert_eq!(rt; fault, OpenFault::AlreadyThere);
+            assert!(rt; fault == OpenFault::AlreadyThere);
             Ok(conn)
         }
     }
@@ -134,12 +133,7 @@ fn stays_on<D: Disk + Drop>(
     lines: &[Line],
     wanted: &str,
 ) -> Result<Files<D>, Fail> {
-    if !files.may_be_used() {
-        return Err("disks that may not be used".into());
-    }
-    let Ok(conn) = open_ordered(alloc, files, Options::new(7)) else {
-        return Err("a database that isn't opened".into());
-    };
+    let conn = database_on(alloc, files)?;
     let conn = stays(rt, alloc, conn, lines, wanted)?;
     let conn = is_taken(rt, alloc, conn)?;
     Ok(files_of(conn))
@@ -152,12 +146,7 @@ fn shows_on<D: Disk + Drop>(
     files: Files<D>,
     wanted: &str,
 ) -> Result<(), Fail> {
-    if !files.may_be_used() {
-        return Err("disks that may not be used".into());
-    }
-    let Ok(conn) = open_ordered(alloc, files, Options::new(7)) else {
-        return Err("a database that isn't opened".into());
-    };
+    let conn = database_on(alloc, files)?;
     shows_there(rt, alloc, conn, wanted)
 }
 
@@ -176,22 +165,4 @@ fn on_disks(rt: HostRuntime) -> Result<(), Fail> {
     let april = SCRIPT.get(..APRIL).ok_or("so many requests")?;
     let files = stays_on(&rt, alloc, blank(alloc), april, APRIL_SHOWN)?;
     shows_on(&rt, alloc, files, APRIL_SHOWN)
-}
-
-#[test]
-fn an_empty_database_holds_none(rt: HostRuntime) -> Result<(), Fail> {
-    let alloc = rt.alloc();
-    let conn = open_ordered_in_memory(alloc)?;
-    if !conn.is_autocommit() {
-        return Err("a transaction".into());
-    }
-    match SqlShelf::open(alloc, conn) {
-        Ok(_) => Err("a registry".into()),
-        Err((conn, fault)) => {
-            assert_eq!(rt; fault, OpenFault::NotARegistry);
-            let april = SCRIPT.get(..APRIL).ok_or("so many requests")?;
-            let _conn = stays(&rt, alloc, conn, april, APRIL_SHOWN)?;
-            Ok(())
-        }
-    }
 }

@@ -32,18 +32,25 @@ fn place_word(alloc: Global, place: Place) -> Result<String, AllocError> {
     }
 }
 
-/// A line for each run: its account, its numbers, the period of its lot, and its place.
+/// A run's account, its numbers, the period of its lot, and its place.
+fn line_of(alloc: Global, run: &Piece) -> Result<String, AllocError> {
+    let first = number_text(run.first);
+    let last = number_text(run.last);
+    let day = day_text(run.lot.first_day());
+    let place = place_word(alloc, run.place)?;
+    format!(in alloc;
+        "{} {} {} {} {place}\n",
+        run.place.account().get(),
+        first.as_str(),
+        last.as_str(),
+        day.as_str()
+    )
+}
+
+/// A line for each run.
 fn tell_runs(alloc: Global, runs: &[Piece], text: &mut String) -> Result<(), AllocError> {
     for run in runs {
-        text.push_str(&format!(in alloc; "{} ", run.place.account().get())?)?;
-        text.push_str(number_text(run.first).as_str())?;
-        text.push_str(" ")?;
-        text.push_str(number_text(run.last).as_str())?;
-        text.push_str(" ")?;
-        text.push_str(day_text(run.lot.first_day()).as_str())?;
-        text.push_str(" ")?;
-        text.push_str(&place_word(alloc, run.place)?)?;
-        text.push_str("\n")?;
+        text.push_str(&line_of(alloc, run)?)?;
     }
     Ok(())
 }
@@ -125,12 +132,14 @@ fn tell_cancellation<S: Shelf>(
     let first = ActNo::new(1).ok_or("no act")?;
     match registry.cancellation(alloc, &issuer()?, first) {
         Ok(statement) => {
-            text.push_str(statement.holder.text())?;
-            text.push_str(" ")?;
-            text.push_str(day_text(statement.record.day()).as_str())?;
-            text.push_str(" ")?;
-            text.push_str(statement.record.beneficiary().text())?;
-            text.push_str("\n")?;
+            let day = day_text(statement.record.day());
+            let line = format!(in alloc;
+                "{} {} {}\n",
+                statement.holder.text(),
+                day.as_str(),
+                statement.record.beneficiary().text()
+            )?;
+            text.push_str(&line)?;
             Ok(tell_runs(alloc, &statement.runs, text)?)
         }
         Err(fault) => Ok(tell_fault(alloc, fault, text)?),

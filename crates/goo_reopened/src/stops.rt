@@ -6,7 +6,7 @@ ghost use Rattle.sqlite.specs.State.{HasCleanDisk};
 ghost use Rattle.goo_columns.specs.Met.{IsInKeyOrder};
 
 use crate::asking::{asks, is_outcome, plays, plays_one};
-use crate::disks::{crashed, files_of, stopping};
+use crate::disks::{crashed, database_on, files_of, stopping};
 use crate::registries::{begun, closed, in_march, opened};
 use crate::reopened::{END_SHOWN, shows};
 use crate::script::SCRIPT;
@@ -51,11 +51,11 @@ fn answered_by<S: Alter>(
     for (at, line) in SCRIPT.iter().enumerate() {
         match asks(alloc, registry, line.0, line.1)? {
             Ok(outcome) => {
-                assert_eq!(rt; answered, at);
+                assert!(rt; answered == at);
                 is_outcome(rt, alloc, outcome, "accepted", line)?;
                 answered = at.saturating_add(1);
             }
-            Err(fault) => assert_eq!(rt; fault, Fault::Store),
+            Err(fault) => assert!(rt; fault == Fault::Store),
         }
     }
     Ok(answered)
@@ -69,7 +69,7 @@ fn is_silent<S: Alter>(
 ) -> Result<(), Fail> {
     let issuer = HolderCode::read(b"ISSUER")?;
     let read = registry.audit(alloc, &issuer).err();
-    assert_eq!(rt; read, Some(ReadFault::Store));
+    assert!(rt; read == Some(ReadFault::Store));
     Ok(())
 }
 
@@ -88,18 +88,18 @@ fn runs<S: Alter + Drop>(
                 is_silent(rt, alloc, &mut registry)?;
             }
             let (conn, refused) = closed(registry);
-            assert_eq!(rt; refused, u64::from(is_stopped));
+            assert!(rt; refused == u64::from(is_stopped));
             Ok((answered, conn))
         }
         Err((conn, fault)) => {
-            assert_eq!(rt; fault, OpenFault::Store);
+            assert!(rt; fault == OpenFault::Store);
             Ok((0, conn))
         }
     }
 }
 
 /// How many requests a new registry on disks answers, and the disks as they stand then.
-fn runs_on<D: Disk + Drop>(
+pub fn runs_on<D: Disk + Drop>(
     rt: &impl Abort,
     alloc: Global,
     files: Files<D>,
@@ -164,7 +164,7 @@ fn returns<S: Alter + Drop>(
             ends(rt, alloc, &mut registry, kept)
         }
         Err((conn, fault)) => {
-            assert_eq!(rt; fault, OpenFault::NotARegistry);
+            assert!(rt; fault == OpenFault::NotARegistry);
             starts_over(rt, alloc, conn, answered)
         }
     }
@@ -177,7 +177,7 @@ fn starts_over<S: Alter + Drop>(
     conn: Connection<S>,
     answered: usize,
 ) -> Result<(), Fail> {
-    assert_eq!(rt; answered, 0);
+    assert!(rt; answered == 0);
     let Ok(mut registry) = begun(alloc, conn, in_march()?) else {
         return Err("no registry after a stop".into());
     };
@@ -185,19 +185,14 @@ fn starts_over<S: Alter + Drop>(
 }
 
 /// What a crash left on disks is opened again.
-fn goes_on<D: Disk + Drop>(
+pub fn goes_on<D: Disk + Drop>(
     rt: &impl Abort,
     alloc: Global,
     files: Files<D>,
     answered: usize,
     wanted: &[String],
 ) -> Result<(), Fail> {
-    if !files.may_be_used() {
-        return Err("disks that may not be used".into());
-    }
-    let Ok(conn) = open_ordered(alloc, files, Options::new(7)) else {
-        return Err("a database that isn't opened".into());
-    };
+    let conn = database_on(alloc, files)?;
     returns(rt, alloc, conn, answered, wanted)
 }
 
@@ -214,7 +209,7 @@ fn stops_on<D: Crash + Drop>(
 }
 
 /// What the registry shows without a stop, request by request: no two neighbours are alike.
-fn wanted_sights(rt: &impl Abort, alloc: Global) -> Result<Vec<String>, Fail> {
+pub fn wanted_sights(rt: &impl Abort, alloc: Global) -> Result<Vec<String>, Fail> {
     let conn = Connection::open_in_memory(alloc)?;
     let shown = sights(rt, alloc, conn)?;
     for (text, next) in shown.iter().zip(shown.iter().skip(1)) {

@@ -49,7 +49,7 @@ fn ends<S: Shelf>(
     if !case.shown.is_empty() {
         let mut shown = String::new(alloc);
         tell_certificates(alloc, registry, &mut shown)?;
-        assert_eq!(rt; shown.as_str(), case.shown, "{}", case.name);
+        assert!(rt; shown.as_str() == case.shown, "{}", case.name);
     }
     sight(alloc, registry)
 }
@@ -92,7 +92,7 @@ pub fn runs<S: Shelf>(
     let Ok(outcomes) = registry.run(alloc, &requests) else {
         return Err("the run stopped".into());
     };
-    assert_eq!(rt; outcomes.len(), case.asked.len());
+    assert!(rt; outcomes.len() == case.asked.len());
     for (outcome, (_, body, wanted)) in outcomes.iter().zip(case.asked) {
         let text = outcome_text(*outcome);
         assert!(rt; text.as_str() == *wanted, "{}: {body}", case.name);
@@ -120,9 +120,8 @@ fn shown_by<S: Alter + Drop>(
         return Err("not opened again".into());
     };
     let again = sight(alloc, &mut registry)?;
-    assert_eq!(rt;
-        again.as_str(),
-        shown.as_str(),
+    assert!(rt;
+        again.as_str() == shown.as_str(),
         "{} opened again",
         case.name
     );
@@ -152,7 +151,7 @@ fn is_alike(rt: &impl Abort, alloc: Global, case: &Case) -> Result<(), Fail> {
     let wanted = shown_by_lists(rt, alloc, case)?;
     for is_list in [false, true] {
         let shown = shown_by_tables(rt, alloc, case, is_list)?;
-        assert_eq!(rt; shown.as_str(), wanted.as_str(), "{}", case.name);
+        assert!(rt; shown.as_str() == wanted.as_str(), "{}", case.name);
     }
     Ok(())
 }

@@ -8,8 +8,8 @@ use Rattle.goo_lines.specs.declared.lines_fault.LinesFault.TheVariants as fault
 use Rattle.goo_lines.specs.declared.tally.Tally.{Tally}
 use Rattle.goo_lines.specs.Fold.{lines}
 use Rattle.goo_spec.specs.State.{State}
-use Rattle.goo.specs.declared.ending.Ending.TheVariants as ending
-use Rattle.goo.specs.Endings.{status_of, ending_of, ending_of_bad}
+use Rattle.goo_running.specs.declared.ending.Ending.TheVariants as ending
+use Rattle.goo_running.specs.Endings.{status_of, ending_of, ending_of_bad}
 
 -- where the count was some, so is the count of the lines
 some-bad : (n : ℕ) (read : Option (List ℕ)) (bad : List ℕ → ℕ) → IfSome read (λ input. n ≡ bad input) → status_of (ending_of_bad n) ≡ 1 → IfSome read (λ input. bad input ≢ 0)

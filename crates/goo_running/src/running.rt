@@ -3,7 +3,7 @@ ghost use Rattle.std.specs.Prelude.{◌≡◌, ◌≢◌, ◌<◌, IfSome};
 ghost use Rattle.goo_spec.specs.Created.{created};
 ghost use Rattle.goo_lines.specs.Fold.{lines};
 ghost use Rattle.std.specs.Io.KnownBytes.{Appends};
-ghost use Rattle.goo.specs.Endings.{status_of};
+ghost use Rattle.goo_running.specs.Endings.{status_of};
 
 use crate::desk::MemoryDesk;
 use crate::ending::{Ending, Failure};

@@ -3,8 +3,8 @@ ghost use Rattle.std.specs.Prelude.{◌≡◌, IsTrue, IfOk};
 ghost use Rattle.goo_spec.specs.Created.{created};
 ghost use Rattle.sqlite.specs.Files.{file_state};
 ghost use Rattle.sqlite.specs.Held.{IsNew};
-ghost use Rattle.goo.specs.Desks.{seen_at};
-ghost use Rattle.goo.specs.Endings.{fault_of_opening};
+ghost use Rattle.goo_running.specs.Desks.{seen_at};
+ghost use Rattle.goo_running.specs.Endings.{fault_of_opening};
 
 use goo_command_line::Opening;
 use goo_disk::MemoryFile;

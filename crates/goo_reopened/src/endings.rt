@@ -1,6 +1,8 @@
-use crate::perform_words;
-use crate::running::run_in_memory;
-use goo_command_line::{Opening, code_in, day_in, serial_in};
+//! How a run of the program ends, and command lines that ask for nothing.
+
+use goo_command_line::{Opening, code_in, day_in, read_task, serial_in};
+use goo_running::ending::Ending;
+use goo_running::running::run_in_memory;
 use std::alloc::Global;
 use std::io::{self, ErrorKind, Read, Write};
 use std::test::Fail;
@@ -61,48 +63,51 @@ fn status_of_input(alloc: Global, input: &str) -> Result<u8, Fail> {
 fn each_exit_status_of_a_run(rt: HostRuntime) -> Result<(), Fail> {
     for (input, wanted) in [("", 0), (BASE, 0), ("SUN\n", 1), ("SUN {}", 1)] {
         let status = status_of_input(rt.alloc(), input)?;
-        assert_eq!(rt; status, wanted, "after {input}");
+        assert!(rt; status == wanted, "after {input}");
     }
     let unwritten = status_of(rt.alloc(), &mut BASE.as_bytes(), &mut Broken)?;
-    assert_eq!(rt; unwritten, 3);
+    assert!(rt; unwritten == 3);
     let unflushed = status_of(rt.alloc(), &mut b"".as_slice(), &mut Broken)?;
-    assert_eq!(rt; unflushed, 3);
+    assert!(rt; unflushed == 3);
     let mut output = Vec::new(rt.alloc());
     let unread = status_of(rt.alloc(), &mut Broken, &mut output)?;
-    assert_eq!(rt; unread, 3);
+    assert!(rt; unread == 3);
     Ok(())
 }
 
-/// The exit status of a command line.
-fn status_of_words(rt: &HostRuntime, line: &str) -> Result<u8, Fail> {
-    let mut words = Vec::new(rt.alloc());
-    for word in line.split(' ') {
-        words.push(format!(in rt.alloc(); "{word}")?)?;
+/// Command lines that are no task.
+const LINES: [&str; 15] = [
+    "goo",
+    "goo --help",
+    "goo run",
+    "goo run --memory --code 7",
+    "goo run --memory --code 0 --today 2025-03-01",
+    "goo run --memory --code +7 --today 2025-03-01",
+    "goo run --memory --code 7 --today 2025-02-29",
+    "goo run --memory --code 7 --today 2025-03-01 --next-serial 0",
+    "goo run --db registry.db",
+    "goo run --db registry.db --memory --code 7 --today 2025-03-01",
+    "goo init --db registry.db --code 7 --today 2025-03-01",
+    "goo declare --db registry.db",
+    "goo statement 1 --db registry.db",
+    "goo audit --db registry.db",
+    "goo serve --port 8080 --count 1 --memory --code 7 --today 2025-03-01",
+];
+
+/// The exit status that a command line ends with, where it is no task.
+fn status_of_words(alloc: Global, line: &str) -> Result<u8, Fail> {
+    let words = line.split(' ').collect::<Vec<&str>>(alloc)?;
+    match read_task(alloc, words.as_slice()) {
+        Ok(_) => Err("a task".into()),
+        Err(fault) => Ok(Ending::from(fault).status()),
     }
-    Ok(perform_words(rt, words.as_slice()).status())
 }
 
 #[test]
 fn a_command_line_that_asks_for_nothing(rt: HostRuntime) -> Result<(), Fail> {
-    for line in [
-        "goo",
-        "goo --help",
-        "goo run",
-        "goo run --memory --code 7",
-        "goo run --memory --code 0 --today 2025-03-01",
-        "goo run --memory --code +7 --today 2025-03-01",
-        "goo run --memory --code 7 --today 2025-02-29",
-        "goo run --memory --code 7 --today 2025-03-01 --next-serial 0",
-        "goo run --db registry.db",
-        "goo run --db registry.db --memory --code 7 --today 2025-03-01",
-        "goo init --db registry.db --code 7 --today 2025-03-01",
-        "goo declare --db registry.db",
-        "goo statement 1 --db registry.db",
-        "goo audit --db registry.db",
-        "goo serve --port 8080 --count 1 --memory --code 7 --today 2025-03-01",
-    ] {
-        let status = status_of_words(&rt, line)?;
-        assert_eq!(rt; status, 2, "of {line}");
+    for line in LINES {
+        let status = status_of_words(rt.alloc(), line)?;
+        assert!(rt; status == 2, "of {line}");
     }
     Ok(())
 }

@@ -10,7 +10,7 @@ use Rattle.goo_registry.specs.Applying.{Applies}
 use Rattle.goo_shelf.specs.Shelf.{IsReady}
 use Rattle.goo_spec.specs.State as registry
 use Rattle.goo_lines.specs.Desk as desk
-use Rattle.goo.specs.Desks.{seen_at}
+use Rattle.goo_running.specs.Desks.{seen_at}
 
 -- what told no lie is in no doubt
 honest : (clean : Bool) → clean ≡ true → doubt clean ≡ 0

@@ -2,8 +2,8 @@ use Rattle.std.proofs.Common.{refl}
 use Rattle.sqlite.specs.Files.{file_state}
 use Rattle.sqlite_pool.specs.Pool.{state}
 use Rattle.goo_spec.specs.Created.{created}
-use Rattle.goo.proofs.DeskLemmas.{made}
-use Rattle.goo.proofs.desk.MemoryDesk.new.Goals as goal
+use Rattle.goo_running.proofs.DeskLemmas.{made}
+use Rattle.goo_running.proofs.desk.MemoryDesk.new.Goals as goal
 
 -- a file in memory tells no lie
 pub returns-in-Ok : goal.returns-in-Ok

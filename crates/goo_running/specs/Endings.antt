@@ -9,10 +9,10 @@ use Rattle.goo_command_line.specs.declared.line_fault.LineFault.{LineFault}
 use Rattle.goo_command_line.specs.declared.line_fault.LineFault.TheVariants as line
 use Rattle.goo_opening.specs.declared.fault.OpenFault.{OpenFault}
 use Rattle.goo_opening.specs.declared.fault.OpenFault.TheVariants as opening
-use Rattle.goo.specs.declared.ending.Ending.{Ending}
-use Rattle.goo.specs.declared.ending.Ending.TheVariants as ending
-use Rattle.goo.specs.declared.ending.Failure.{Failure}
-use Rattle.goo.specs.declared.ending.Failure.TheVariants as failure
+use Rattle.goo_running.specs.declared.ending.Ending.{Ending}
+use Rattle.goo_running.specs.declared.ending.Ending.TheVariants as ending
+use Rattle.goo_running.specs.declared.ending.Failure.{Failure}
+use Rattle.goo_running.specs.declared.ending.Failure.TheVariants as failure
 
 -- the exit status: all done, something refused or unreadable, a command line that asks for nothing, a fault
 abbrev pub status_of : Ending → ℕ

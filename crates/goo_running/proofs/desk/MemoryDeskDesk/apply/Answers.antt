@@ -1,8 +1,8 @@
 use Rattle.std.proofs.Common.{refl}
 use Rattle.sqlite.specs.Files.{file_state}
 use Rattle.sqlite_pool.specs.Pool.{state}
-use Rattle.goo.proofs.DeskLemmas.{applied}
-use Rattle.goo.proofs.desk.MemoryDeskDesk.apply.Goals as goal
+use Rattle.goo_running.proofs.DeskLemmas.{applied}
+use Rattle.goo_running.proofs.desk.MemoryDeskDesk.apply.Goals as goal
 
 -- a file in memory tells no lie
 pub returns : goal.returns
