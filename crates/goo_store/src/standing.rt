@@ -1,6 +1,6 @@
 //! What the tables hold for a declaration, as it is found.
 
-ghost use Rattle.std.specs.Prelude.{◌≡◌, ◌<◌, ◌^◌, false, pos, Some, option_map, IfSome, IsSomeAnd, IsTrue};
+ghost use Rattle.std.specs.Prelude.{◌≡◌, ◌<◌, ◌^◌, false, pos, Some, None, option_map, IfErr, IfOk, IfSome, IsSomeAnd, IsTrue};
 ghost use Rattle.std.specs.FinMap.{get};
 ghost use Rattle.sqlite.specs.Held.{state};
 ghost use Rattle.sqlite_keyed.specs.Keyed.{next_key};
@@ -13,6 +13,7 @@ ghost use Rattle.goo_store.specs.LookingUp.{LooksUp};
 ghost use Rattle.goo_store.specs.LotRows.{next_declaration};
 ghost use Rattle.goo_store.specs.Standing.{IsStanding};
 ghost use Rattle.goo_store.specs.Telling.{Accepts, Passes};
+ghost use Rattle.goo_store.specs.declared.trouble.Trouble.TheVariants.{Refused};
 
 use crate::devices::device_in_row;
 use crate::findings::KnownDevice;
@@ -42,6 +43,7 @@ pub struct Standing {
 fn device_found(found: Result<Option<DeviceRow>, Error>) -> Result<Device, Trouble>
     ensures value { Passes found result (λ row device. option_map device_of (option_map device_in row) ≡ Some device) }
     ensures accepts { Accepts found result (λ row. IsSomeAnd row (λ r. IsTrue (is_device (pos 0, device_in r)))) }
+    ensures missing { IfOk found (λ row. row ≡ None → IfErr result (λ trouble. trouble ≡ Refused)) }
 {
     let Some(row) = found? else {
         return Err(Trouble::Refused);
