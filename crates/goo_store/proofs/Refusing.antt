@@ -104,6 +104,10 @@ blames_made old new x First one Needs early r More says = record {
 
 -- ---- one after another
 
+worse : {U : Type 0} (a b c : ℕ) (q : Result U Trouble) → a ≤ b → IfErr q (λ e. e ≡ Refused → MoreFaults b c) → IfErr q (λ e. e ≡ Refused → MoreFaults a c)
+worse a b c (Ok y) up h = tt
+worse a b c (Err e) up h = λ is. omega (arith, up, h is)
+
 module _ {T U : Type 0} (a b c : State) (x : T) (First : Tables → T → Type 0) (one : LooksUp a b (Ok x) First) (Needs : Tables → Type 0) (early : BlamesDisk a b (Ok x) Needs)
     (r : Result U Trouble) (Next : Tables → U → Type 0) (two : LooksUp b c r Next) (Second : Tables → Type 0) (late : BlamesDisk b c r Second) where
   before : HasCleanDisk c → HasCleanDisk b
@@ -121,10 +125,6 @@ module _ {T U : Type 0} (a b c : State) (x : T) (First : Tables → T → Type 0
       let mid = open_between clean live in
       (ap (λ (d : Database). d.schema) (rests.now mid) ∙ ours.0, λ _. rests.now mid ∙ ours.1 live ∙ sym (rests.committed mid))
 
-  worse : (q : Result U Trouble) → a.faults ≤ b.faults → IfErr q (λ e. e ≡ Refused → MoreFaults b.faults c.faults) → IfErr q (λ e. e ≡ Refused → MoreFaults a.faults c.faults)
-  worse (Ok y) up h = tt
-  worse (Err e) up h = λ is. omega (arith, up, h is)
-
   pub blames_then : (More : Tables → Type 0) → ((t : Tables) → Stands a.now t → AreKept t → More t → First t x → Second t) → BlamesDisk a c r More
   blames_then More says = record {
     limit = λ clean ours live. late.limit clean (ours_between clean ours live) (open_between clean live) ∙ early.limit (before clean) ours live;
@@ -132,7 +132,7 @@ module _ {T U : Type 0} (a b c : State) (x : T) (First : Tables → T → Type 0
     refused = λ clean ours live unlimited t stands kept more.
         let mid = open_between clean live in
         let found = one.found (before clean) mid ours.1 t stands in
-        worse r (early.counts (before clean) ours live)
+        worse a.faults b.faults c.faults r (early.counts (before clean) ours live)
         (late.refused clean (ours_between clean ours live) mid (early.limit (before clean) ours live ∙ unlimited) t (subst (λ (d : Database). Stands d t) (sym (same clean ours live)) stands) kept (says t stands kept more found));
   }
 
@@ -150,11 +150,11 @@ some_and P (Some a) there each = each
 -- the number of the last row, where one above it is not past 2^63
 pub low_declaration : (found : Option DeclarationRow) → next_declaration (option_map declaration_in found) + 0 ≤ 2 ^ 63 → IfSome found (λ r. r.id < 2 ^ 63)
 low_declaration None room = tt
-low_declaration (Some r) room = omega (arith, room)
+low_declaration (Some r) room = let least : r.id + 1 + 0 ≤ 2 ^ 63 = room in let low : r.id < 2 ^ 63 = omega (arith, least) in low
 
 pub low_lot : (found : Option LotRow) → next_lot (option_map lot_in found) + 0 ≤ 2 ^ 63 → IfSome found (λ r. r.id < 2 ^ 63)
 low_lot None room = tt
-low_lot (Some r) room = omega (arith, room)
+low_lot (Some r) room = let least : r.id + 1 + 0 ≤ 2 ^ 63 = room in let low : r.id < 2 ^ 63 = omega (arith, least) in low
 
 -- a lot that the registry knows is stated by the row that is found by its key
 states_so : (found : Option LotRow) (lot : LotFields) → option_map (λ l. lot_of l) (option_map lot_in found) ≡ Some lot → IfSome found (λ r. IsReadableLot (lot_in r)) → IsSomeAnd found (λ r. IsReadableLot (lot_in r) × (lot_of (lot_in r) ≡ lot))
@@ -181,7 +181,7 @@ one_number a b k first second = let same : pos a ≡ pos b = first ∙ sym secon
 -- so few lots in, the next one has a number that a column keeps
 pub low_next : (lots : List Lot) (next i count : ℕ) → i < count → HasRoom count lot_key lots → ((n : ℕ) → pos n ≡ next_key lot_key lots → next ≤ n + i) → next < 2 ^ 63
 low_next lots next i count low room so_far =
-    let n = next_lot (slice_get (reverse lots) 0) in
-    let below = so_far n (next_lot_is lots) in
-    let left = room n (next_lot_is lots) in
+    let n : ℕ = next_lot (slice_get (reverse lots) 0) in
+    let below : next ≤ n + i = so_far n (next_lot_is lots) in
+    let left : n + count ≤ 2 ^ 63 = room n (next_lot_is lots) in
     omega (arith, low, below, left)

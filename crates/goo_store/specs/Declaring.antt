@@ -108,3 +108,10 @@ pub record CanBeDeclared (t : Tables) (kept : Option KnownDevice) (meta : MetaRo
   pub kept_is : IsDeviceOf kept t
   pub standing : HasStanding t x.device
   pub limits : (found : Standing) → IsStanding t x.device found → IsWithinLimits meta x carry issued found
+
+-- so by the reply, which is a declaration's
+pub record CanBeAnswered (t : Tables) (kept : Option KnownDevice) (meta : MetaRow) (x : Declare) (reply : Reply) : Type 0 where
+  pub carry : ℕ
+  pub issued : Option Numbers
+  pub reply_is : reply ≡ Declared carry issued
+  pub can : CanBeDeclared t kept meta x carry issued

@@ -25,3 +25,4 @@ pub mod Declaring
 pub mod Opening
 pub mod AtHand
 pub mod StoreFaults
+pub mod Needing
