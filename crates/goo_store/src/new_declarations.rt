@@ -66,7 +66,7 @@ fn declaration_row(
 
 /// What the certificates that are issued for a declaration have in common.
 fn issued_lot(meta: &MetaRow, declared: &Declare, device: &Device) -> Result<Lot, Trouble>
-    ensures { IfOk result (λ lot. (s : State) → s.own ≡ meta.now.code → s.today ≡ day_of (string_bytes meta.now.today) → lot ≡ lot_for s declared.now device.now) }
+    ensures value { IfOk result (λ lot. (s : State) → s.own ≡ meta.now.code → s.today ≡ day_of (string_bytes meta.now.today) → lot ≡ lot_for s declared.now device.now) }
     ensures accepts { IsTrue (is_meta (meta_in meta.now)) → IsLot (lot_stated meta.now declared.now device.now) → IsOk result }
 {
     let fields = LotFields {

@@ -32,8 +32,8 @@ pub returns-in_err-known-clause-blames : goal.returns-in_err-known-clause-blames
 returns-in_err-known-clause-blames g c =
     let s0 = state g.S.Store c.args.conn.now in
     let s1 = state g.S.Store c.is_there_already.new.conn in
-    let same : c.from_residual-in_err-known.result ≡ Err c.in_err-known.field-0.0 = search rules in
-    blames_err s0 s1 c.in_err-known.field-0.0 c.from_residual-in_err-known.result _ same (blames_so s0 s1 (Err c.in_err-known.field-0.0) _ _ c.in_err-known.ensures.blames (λ t stands kept low. tt))
+    let same : c.from_residual.result ≡ Err c.in_err-known.field-0.0 = search rules in
+    blames_err s0 s1 c.in_err-known.field-0.0 c.from_residual.result _ same (blames_so s0 s1 (Err c.in_err-known.field-0.0) _ _ c.in_err-known.ensures.blames (λ t stands kept low. tt))
 
 pub returns-then-known-clause-blames : goal.returns-then-known-clause-blames
 returns-then-known-clause-blames g c =

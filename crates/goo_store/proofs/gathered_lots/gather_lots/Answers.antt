@@ -60,8 +60,8 @@ pub returns-in_err-next-clause-blames : goal.returns-in_err-next-clause-blames
 returns-in_err-next-clause-blames g c =
     let s0 = state g.S.Store c.args.conn.now in
     let s1 = state g.S.Store c.next_lot_number.new.conn in
-    let same : c.from_residual-in_err-next.result ≡ Err c.in_err-next.field-0.0 = search rules in
-    blames_err s0 s1 c.in_err-next.field-0.0 c.from_residual-in_err-next.result _ same (blames_so s0 s1 (Err c.in_err-next.field-0.0) _ _ c.in_err-next.ensures.blames (λ t stands kept room n is. omega (arith, room n is)))
+    let same : c.from_residual.result ≡ Err c.in_err-next.field-0.0 = search rules in
+    blames_err s0 s1 c.in_err-next.field-0.0 c.from_residual.result _ same (blames_so s0 s1 (Err c.in_err-next.field-0.0) _ _ c.in_err-next.ensures.blames (λ t stands kept room n is. omega (arith, room n is)))
 
 pub returns-in_err-gather_lot-clause-blames : goal.returns-in_err-gather_lot-clause-blames
 returns-in_err-gather_lot-clause-blames g c =

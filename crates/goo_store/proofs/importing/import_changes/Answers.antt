@@ -27,8 +27,8 @@ pub returns-in_err-gathered-clause-blames : goal.returns-in_err-gathered-clause-
 returns-in_err-gathered-clause-blames g c =
     let s0 = state g.S.Store c.args.conn.now in
     let s1 = state g.S.Store c.gather_lots.new.conn in
-    let same : c.from_residual-in_err-gathered.result ≡ Err c.in_err-gathered.field-0.0 = search rules in
-    blames_err s0 s1 c.in_err-gathered.field-0.0 c.from_residual-in_err-gathered.result _ same
+    let same : c.from_residual.result ≡ Err c.in_err-gathered.field-0.0 = search rules in
+    blames_err s0 s1 c.in_err-gathered.field-0.0 c.from_residual.result _ same
     (blames_so s0 s1 (Err c.in_err-gathered.field-0.0) _ _ c.in_err-gathered.ensures.blames (λ t stands kept room. subst (λ ps. HasRoom (length ps) lot_key t.lots) (sym c.parts.ensures.value) room))
 
 pub returns-in_err-row-clause-blames : goal.returns-in_err-row-clause-blames

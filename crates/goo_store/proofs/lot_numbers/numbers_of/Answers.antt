@@ -36,8 +36,8 @@ returns-in_err-number-clause-blames g c =
     let lots = c.args.lots.now in
     let i = c.loop-lot.lot-index in
     let low : i < length lots = omega (arith, c.loop-lot-test.true) in
-    let same : c.from_residual-in_err-number.result ≡ Err c.in_err-number.field-0.0 = search rules in
-    blames_err s0 s2 c.in_err-number.field-0.0 c.from_residual-in_err-number.result _ same
+    let same : c.from_residual.result ≡ Err c.in_err-number.field-0.0 = search rules in
+    blames_err s0 s2 c.in_err-number.field-0.0 c.from_residual.result _ same
     (blames_then s0 s1 s2 c.loop-lot.found _ c.loop-lot.invariant.looks _ c.loop-lot.invariant.blames (Err c.in_err-number.field-0.0) _ c.in_err-number.ensures.looks _ c.in_err-number.ensures.blames _
     (λ t stands kept all first. subst (IsAtHand c.args.added.now t) (sym c.lot-item.is) (all i c.lot-item.result low)))
 

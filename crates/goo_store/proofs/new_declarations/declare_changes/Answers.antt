@@ -15,8 +15,8 @@ pub returns-in_err-standing-clause-blames : goal.returns-in_err-standing-clause-
 returns-in_err-standing-clause-blames g c =
     let s0 = state g.S.Store c.args.conn.now in
     let s1 = state g.S.Store c.find_standing.new.conn in
-    let same : c.from_residual-in_err-standing.result ≡ Err c.in_err-standing.field-0.0 = search rules in
-    blames_err s0 s1 c.in_err-standing.field-0.0 c.from_residual-in_err-standing.result _ same (blames_so s0 s1 (Err c.in_err-standing.field-0.0) _ _ c.in_err-standing.ensures.blames (λ t stands kept can. can.standing))
+    let same : c.from_residual.result ≡ Err c.in_err-standing.field-0.0 = search rules in
+    blames_err s0 s1 c.in_err-standing.field-0.0 c.from_residual.result _ same (blames_so s0 s1 (Err c.in_err-standing.field-0.0) _ _ c.in_err-standing.ensures.blames (λ t stands kept can. can.standing))
 
 pub returns-clause-blames : goal.returns-clause-blames
 returns-clause-blames g c =

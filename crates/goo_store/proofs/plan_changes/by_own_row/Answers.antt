@@ -20,8 +20,8 @@ pub returns-in_err-meta-clause-blames : goal.returns-in_err-meta-clause-blames
 returns-in_err-meta-clause-blames g c =
     let s0 = state g.S.Store c.args.conn.now in
     let s1 = state g.S.Store c.known_row.new.conn in
-    let same : c.from_residual-in_err-meta.result ≡ Err c.in_err-meta.field-0.0 = search rules in
-    blames_err s0 s1 c.in_err-meta.field-0.0 c.from_residual-in_err-meta.result _ same (blames_so s0 s1 (Err c.in_err-meta.field-0.0) _ _ c.in_err-meta.ensures.blames (λ t stands kept needs. tt))
+    let same : c.from_residual.result ≡ Err c.in_err-meta.field-0.0 = search rules in
+    blames_err s0 s1 c.in_err-meta.field-0.0 c.from_residual.result _ same (blames_so s0 s1 (Err c.in_err-meta.field-0.0) _ _ c.in_err-meta.ensures.blames (λ t stands kept needs. tt))
 
 pub returns-in-Declare-clause-blames : goal.returns-in-Declare-clause-blames
 returns-in-Declare-clause-blames g c =

@@ -39,8 +39,8 @@ pub returns-in_err-device-clause-blames : goal.returns-in_err-device-clause-blam
 returns-in_err-device-clause-blames g c =
     let s0 = state g.S.Store c.args.conn.now in
     let s1 = state g.S.Store c.known_registered.new.conn in
-    let same : c.from_residual-in_err-device.result ≡ Err c.in_err-device.field-0.0 = search rules in
-    blames_err s0 s1 c.in_err-device.field-0.0 c.from_residual-in_err-device.result _ same (blames_so s0 s1 (Err c.in_err-device.field-0.0) _ _ c.in_err-device.ensures.blames (λ t stands kept can. can.device))
+    let same : c.from_residual.result ≡ Err c.in_err-device.field-0.0 = search rules in
+    blames_err s0 s1 c.in_err-device.field-0.0 c.from_residual.result _ same (blames_so s0 s1 (Err c.in_err-device.field-0.0) _ _ c.in_err-device.ensures.blames (λ t stands kept can. can.device))
 
 pub returns-in_err-number-clause-blames : goal.returns-in_err-number-clause-blames
 returns-in_err-number-clause-blames g c =
