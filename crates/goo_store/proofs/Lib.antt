@@ -31,3 +31,4 @@ pub mod DevicesApart
 pub mod Found
 pub mod RowsRead
 pub mod Blaming
+pub mod Refusing

@@ -23,4 +23,6 @@ pub mod Carrying
 pub mod Standing
 pub mod Declaring
 pub mod Opening
+pub mod AtHand
 pub mod StoreFaults
+pub mod Needing

@@ -1,7 +1,7 @@
 //! The changes that carry out the edits of a plan.
 
-ghost use Rattle.std.specs.Prelude.{◌≡◌, ◌↔◌, ◌++◌, ◌-◌, ◌<◌, ◌^◌, false, List, All, Some, IfOk, IsOkUnless, IsTrue, OnOk, length, map, slice_get};
-ghost use Rattle.std.specs.List.{Contains};
+ghost use Rattle.std.specs.Prelude.{◌≡◌, ◌↔◌, ◌++◌, ◌-◌, ◌<◌, ◌^◌, false, List, All, Some, IfErr, IfOk, IsOk, IsOkUnless, IsTrue, OnOk, drop, length, map, slice_get};
+ghost use Rattle.std.specs.List.{Any, Contains};
 ghost use Rattle.goo_types.specs.declared.lot_fields.LotFields.{LotFields};
 ghost use Rattle.sqlite.specs.Held.{state};
 ghost use Rattle.goo_columns.specs.Rows.{Lot as RowOfLot};
@@ -11,7 +11,7 @@ ghost use Rattle.goo_store.specs.EditChanges.{AreForEdits, AreRowsOf};
 ghost use Rattle.goo_store.specs.EditsGathered.{AddsEdit};
 ghost use Rattle.goo_store.specs.LookingUp.{LooksUp};
 ghost use Rattle.goo_store.specs.LotNumbers.{AreNumbered, AreWith, IsNumberOf};
-ghost use Rattle.goo_store.specs.declared.trouble.Trouble.TheVariants.{Memory};
+ghost use Rattle.goo_store.specs.declared.trouble.Trouble.TheVariants.{Memory, Refused};
 
 use crate::change::Change;
 use crate::lot_numbers::{NumberedLot, numbers_of};
@@ -83,6 +83,8 @@ struct NumberAt {
 fn number_from(found: &[NumberedLot], from: usize, lot: &Lot) -> Result<NumberAt, Trouble>
     ensures numbers { IfOk result (λ at. (lots : List RowOfLot) → AreNumbered lots found.now → IsNumberOf lots at.number lot.now) }
     ensures fits { IfOk result (λ at. at.number < 2 ^ 63) }
+    ensures finds { Any (λ known. (known.lot ≡ lot.now) × (known.number < 2 ^ 63)) (drop from found.now) → IsOk result }
+    ensures cause { IfErr result (λ trouble. trouble ≡ Refused) }
 {
     for place in from..found.len() {
         let known = &found[place];

@@ -1,6 +1,6 @@
 //! The lots that the parts of a notice make known.
 
-ghost use Rattle.std.specs.Prelude.{◌≡◌, ◌<◌, ◌^◌, [], false, pos, All, IfOk, IfSome, OnOk, is_some, option_map, ⊤};
+ghost use Rattle.std.specs.Prelude.{◌≡◌, ◌≤◌, ◌<◌, ◌+◌, ◌^◌, [], false, pos, All, IfOk, IfSome, IsOkUnless, OnOk, is_some, length, option_map, ⊤};
 ghost use Rattle.std.specs.FinMap.{contains_key};
 ghost use Rattle.std.specs.Ordering.{eq_by_cmp};
 ghost use Rattle.sqlite.specs.Held.{state};
@@ -8,13 +8,16 @@ ghost use Rattle.sqlite_keyed.specs.Keyed.{next_key};
 ghost use Rattle.goo_spec.specs.Lots.{key_of};
 ghost use Rattle.goo_spec.specs.State.{text_cmp};
 ghost use Rattle.goo_columns.specs.Rows.{lot_in, lot_key};
+ghost use Rattle.goo_store.specs.AtHand.{HasRoom};
 ghost use Rattle.goo_store.specs.Changes.{ChangeFits};
 ghost use Rattle.goo_store.specs.Found.{AreStated};
 ghost use Rattle.goo_store.specs.GatheredLots.{AddsLot, ArePutIn, Gathers};
 ghost use Rattle.goo_store.specs.LookingUp.{LooksUp};
 ghost use Rattle.goo_store.specs.LotRows.{is_among, next_lot};
 ghost use Rattle.goo_store.specs.NewLots.{known_lots};
+ghost use Rattle.goo_store.specs.StoreFaults.{BlamesDisk};
 ghost use Rattle.goo_store.specs.Telling.{Accepts, Passes};
+ghost use Rattle.goo_store.specs.declared.trouble.Trouble.TheVariants.{Memory};
 
 use crate::change::Change;
 use crate::lot_numbers::NumberedLot;
@@ -56,6 +59,7 @@ fn number_after(found: Result<Option<LotRow>, Error>) -> Result<u64, Trouble>
 /// The number that the next lot gets.
 pub fn next_lot_number<S: Alter>(alloc: Global, conn: &mut Connection<S>) -> Result<u64, Trouble>
     ensures looks { LooksUp (state S.Store conn.old) (state S.Store conn.new) result (λ t n. pos n ≡ next_key lot_key t.lots) }
+    ensures blames { BlamesDisk (state S.Store conn.old) (state S.Store conn.new) result (λ t. HasRoom 0 lot_key t.lots) }
     ensures outside { conn.old.in_transaction ≡ false → conn.new.in_transaction ≡ false }
 {
     let found = last_lot(alloc, conn);
@@ -77,6 +81,7 @@ fn is_in_table<S: Alter>(
     lot: &Lot,
 ) -> Result<bool, Trouble>
     ensures looks { LooksUp (state S.Store conn.old) (state S.Store conn.new) result (λ t known. known ≡ contains_key (known_lots t.lots) (key_of lot.now)) }
+    ensures blames { BlamesDisk (state S.Store conn.old) (state S.Store conn.new) result (λ _. ⊤) }
     ensures outside { conn.old.in_transaction ≡ false → conn.new.in_transaction ≡ false }
 {
     let day = day_text(lot.first_day());
@@ -113,6 +118,7 @@ fn is_there_already<S: Alter>(
     lot: &Lot,
 ) -> Result<bool, Trouble>
     ensures looks { LooksUp (state S.Store conn.old) (state S.Store conn.new) result (λ t known. AreStated t.lots kept.now → known ≡ contains_key (known_lots t.lots) (key_of lot.now)) }
+    ensures blames { BlamesDisk (state S.Store conn.old) (state S.Store conn.new) result (λ _. ⊤) }
     ensures outside { conn.old.in_transaction ≡ false → conn.new.in_transaction ≡ false }
 {
     let among = is_among_lots(kept, lot);
@@ -126,6 +132,7 @@ fn is_there_already<S: Alter>(
 pub fn add_lot(alloc: Global, gathered: &mut Gathered, lot: &Lot) -> Result<(), Trouble>
     ensures added { OnOk result (AddsLot lot.now gathered.old gathered.new) }
     ensures fits { All ChangeFits gathered.old.changes.items → OnOk result (All ChangeFits gathered.new.changes.items) }
+    ensures memory { gathered.old.next < 2 ^ 63 → IsOkUnless result Memory }
 {
     let number = gathered.next;
     let row = lot_row(alloc, lot, number)?;
@@ -146,6 +153,8 @@ fn gather_lot<S: Alter>(
     part: &Part,
 ) -> Result<(), Trouble>
     ensures looks { LooksUp (state S.Store conn.old) (state S.Store conn.new) result (λ t _. AreStated t.lots kept.now → Gathers t.lots part.now gathered.old gathered.new) }
+    ensures blames { BlamesDisk (state S.Store conn.old) (state S.Store conn.new) result (λ _. gathered.old.next < 2 ^ 63) }
+    ensures counts { OnOk result (gathered.new.next ≤ gathered.old.next + 1) }
     ensures outside { conn.old.in_transaction ≡ false → conn.new.in_transaction ≡ false }
     ensures fits { All ChangeFits gathered.old.changes.items → OnOk result (All ChangeFits gathered.new.changes.items) }
 {
@@ -168,6 +177,7 @@ pub fn gather_lots<S: Alter>(
     parts: &[Part],
 ) -> Result<Gathered, Trouble>
     ensures looks { LooksUp (state S.Store conn.old) (state S.Store conn.new) result (λ t gathered. AreStated t.lots kept.now → ArePutIn t.lots parts.now [] gathered) }
+    ensures blames { BlamesDisk (state S.Store conn.old) (state S.Store conn.new) result (λ t. HasRoom (length parts.now) lot_key t.lots) }
     ensures outside { conn.old.in_transaction ≡ false → conn.new.in_transaction ≡ false }
     ensures fits { IfOk result (λ gathered. All ChangeFits gathered.changes.items) }
 {

@@ -1,16 +1,19 @@
 //! What an accepted import changes in the tables, beside the certificates.
 
-ghost use Rattle.std.specs.Prelude.{◌≡◌, false, true, pos, All, IfOk};
+ghost use Rattle.std.specs.Prelude.{◌≡◌, false, true, pos, All, IfOk, IsOkUnless, length};
 ghost use Rattle.sqlite.specs.Held.{state};
 ghost use Rattle.goo_types.specs.declared.reply.Reply.{Reply};
 ghost use Rattle.goo_types.specs.declared.request.Request.{Request};
-ghost use Rattle.goo_columns.specs.Rows.{notice_in_in};
+ghost use Rattle.goo_columns.specs.Rows.{lot_key, notice_in_in};
 ghost use Rattle.goo_kept.specs.Readable.{is_notice_in};
 ghost use Rattle.goo_kept.specs.States.{known_arrival};
+ghost use Rattle.goo_store.specs.AtHand.{HasRoom};
 ghost use Rattle.goo_store.specs.Carrying.{CarriesOut, IsAccepted};
 ghost use Rattle.goo_store.specs.Changes.{ChangeFits};
 ghost use Rattle.goo_store.specs.Found.{AreStated};
 ghost use Rattle.goo_store.specs.LookingUp.{LooksUp};
+ghost use Rattle.goo_store.specs.StoreFaults.{BlamesDisk};
+ghost use Rattle.goo_store.specs.declared.trouble.Trouble.TheVariants.{Memory};
 
 use crate::change::Change;
 use crate::gathered_lots::{Gathered, gather_lots};
@@ -27,6 +30,7 @@ use std::alloc::Global;
 fn notice_row(alloc: Global, notice: &Notice) -> Result<NoticeInRow, Trouble>
     ensures states { IfOk result (λ row. known_arrival (pos 0, notice_in_in row) ≡ ((notice.now.sender, notice.now.number), notice.now)) }
     ensures reads { IfOk result (λ row. is_notice_in (pos 0, notice_in_in row) ≡ true) }
+    ensures memory { IsOkUnless result Memory }
 {
     let Ok(body) = write(alloc, notice) else {
         return Err(Trouble::Memory);
@@ -47,6 +51,7 @@ pub fn import_changes<S: Alter>(
     import: &Import,
 ) -> Result<Gathered, Trouble>
     ensures looks { LooksUp (state S.Store conn.old) (state S.Store conn.new) result (λ t gathered. AreStated t.lots kept.now → (q : Request) (reply : Reply) → q.command ≡ Command.Import import.now → IsAccepted t q reply → CarriesOut t q.command gathered) }
+    ensures blames { BlamesDisk (state S.Store conn.old) (state S.Store conn.new) result (λ t. HasRoom (length import.now.notice.parts) lot_key t.lots) }
     ensures fits { IfOk result (λ gathered. All ChangeFits gathered.changes.items) }
     ensures outside { conn.old.in_transaction ≡ false → conn.new.in_transaction ≡ false }
 {

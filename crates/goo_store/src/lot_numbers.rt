@@ -1,12 +1,17 @@
 //! The numbers of lots in the table.
 
-ghost use Rattle.std.specs.Prelude.{◌≡◌, ◌≢◌, false, All, List, IfOk, IfSome, IsNone, IsSomeAnd, option_map};
+ghost use Rattle.std.specs.Prelude.{◌≡◌, ◌≢◌, false, All, List, IfOk, IfSome, IsNone, IsSomeAnd, Some, option_map};
+ghost use Rattle.std.specs.FinMap.{get};
 ghost use Rattle.sqlite.specs.Held.{state};
 ghost use Rattle.goo_columns.specs.Rows.{Lot as RowOfLot, lot_in};
+ghost use Rattle.goo_spec.specs.Lots.{key_of};
+ghost use Rattle.goo_kept.specs.States.{state_of};
+ghost use Rattle.goo_store.specs.AtHand.{IsAtHand};
 ghost use Rattle.goo_store.specs.LookingUp.{LooksUp};
 ghost use Rattle.goo_store.specs.LotNumbers.{AreNumbered, AreWith, IsNumberOf, IsRowOfLot};
 ghost use Rattle.goo_kept.specs.Places.{lot_of};
 ghost use Rattle.goo_store.specs.Reading.{IsReadableLot};
+ghost use Rattle.goo_store.specs.StoreFaults.{BlamesDisk};
 ghost use Rattle.goo_store.specs.Telling.{Accepts, Passes};
 
 use crate::lots::read_lot;
@@ -45,6 +50,7 @@ fn number_found(found: Result<Option<LotRow>, Error>, lot: &Lot) -> Result<u64, 
 /// The number of a lot that is in the table.
 fn find_number<S: Alter>(alloc: Global, conn: &mut Connection<S>, lot: &Lot) -> Result<u64, Trouble>
     ensures looks { LooksUp (state S.Store conn.old) (state S.Store conn.new) result (λ t n. IsNumberOf t.lots n lot.now) }
+    ensures blames { BlamesDisk (state S.Store conn.old) (state S.Store conn.new) result (λ t. get (state_of t).lots (key_of lot.now) ≡ Some lot.now) }
     ensures outside { conn.old.in_transaction ≡ false → conn.new.in_transaction ≡ false }
 {
     let day = day_text(lot.first_day());
@@ -79,6 +85,7 @@ fn number_of<S: Alter>(
     lot: &Lot,
 ) -> Result<u64, Trouble>
     ensures looks { LooksUp (state S.Store conn.old) (state S.Store conn.new) result (λ t n. (lots : List RowOfLot) → AreWith t.lots added.now lots → IsNumberOf lots n lot.now) }
+    ensures blames { BlamesDisk (state S.Store conn.old) (state S.Store conn.new) result (λ t. IsAtHand added.now t lot.now) }
     ensures outside { conn.old.in_transaction ≡ false → conn.new.in_transaction ≡ false }
 {
     match number_among(added, lot) {
@@ -100,6 +107,7 @@ pub fn numbers_of<S: Alter>(
     lots: &[Lot],
 ) -> Result<Vec<NumberedLot>, Trouble>
     ensures looks { LooksUp (state S.Store conn.old) (state S.Store conn.new) result (λ t found. (lots : List RowOfLot) → AreWith t.lots added.now lots → AreNumbered lots found.items) }
+    ensures blames { BlamesDisk (state S.Store conn.old) (state S.Store conn.new) result (λ t. All (IsAtHand added.now t) lots.now) }
     ensures outside { conn.old.in_transaction ≡ false → conn.new.in_transaction ≡ false }
 {
     let mut found = Vec::new(alloc);

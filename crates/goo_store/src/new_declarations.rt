@@ -1,7 +1,8 @@
 //! What an accepted declaration changes in the tables, by the rows that were found for it.
 
-ghost use Rattle.std.specs.Prelude.{◌≡◌, ◌+◌, false, true, string_bytes, All, IfOk};
+ghost use Rattle.std.specs.Prelude.{◌≡◌, ◌+◌, ◌<◌, ◌^◌, false, true, string_bytes, All, IfOk, IsOk, IsOkUnless, IsTrue};
 ghost use Rattle.sqlite.specs.Held.{state};
+ghost use Rattle.goo_types.specs.Lot.{IsLot};
 ghost use Rattle.goo_types.specs.declared.reply.Reply.{Reply};
 ghost use Rattle.goo_types.specs.declared.reply.Reply.TheVariants.{Declared};
 ghost use Rattle.goo_types.specs.declared.request.Request.{Request};
@@ -10,13 +11,15 @@ ghost use Rattle.goo_spec.specs.State.{State};
 ghost use Rattle.goo_columns.specs.Rows.{Tables, declaration_in, meta_in};
 ghost use Rattle.goo_tables.specs.Changes.{CountersFit, DeclarationFits};
 ghost use Rattle.goo_kept.specs.Devices.{declaration_of};
-ghost use Rattle.goo_kept.specs.Readable.{is_declaration};
+ghost use Rattle.goo_kept.specs.Readable.{is_declaration, is_meta};
 ghost use Rattle.goo_kept.specs.Texts.{day_of};
 ghost use Rattle.goo_store.specs.Carrying.{CarriesOut, IsAccepted};
 ghost use Rattle.goo_store.specs.Changes.{ChangeFits};
-ghost use Rattle.goo_store.specs.Declaring.{Begins, IsDue, Issues, SetsProgress};
+ghost use Rattle.goo_store.specs.Declaring.{Begins, CanBeDeclared, IsDue, IsWithinLimits, Issues, SetsProgress, count_of, lot_stated};
 ghost use Rattle.goo_store.specs.Found.{IsDeviceOf};
 ghost use Rattle.goo_store.specs.LookingUp.{LooksUp};
+ghost use Rattle.goo_store.specs.StoreFaults.{BlamesDisk};
+ghost use Rattle.goo_store.specs.declared.trouble.Trouble.TheVariants.{Memory};
 
 use crate::change::Change;
 use crate::findings::KnownDevice;
@@ -46,6 +49,7 @@ fn declaration_row(
     ensures states { IfOk result (λ row. declaration_of (declaration_in row) ≡ declared.now) }
     ensures reads { IfOk result (λ row. is_declaration (declaration_in row) ≡ true) }
     ensures fits { IfOk result DeclarationFits }
+    ensures memory { number < 2 ^ 63 → IsOkUnless result Memory }
 {
     if number >= 1 << 63 {
         return Err(Trouble::Refused);
@@ -62,7 +66,8 @@ fn declaration_row(
 
 /// What the certificates that are issued for a declaration have in common.
 fn issued_lot(meta: &MetaRow, declared: &Declare, device: &Device) -> Result<Lot, Trouble>
-    ensures { IfOk result (λ lot. (s : State) → s.own ≡ meta.now.code → s.today ≡ day_of (string_bytes meta.now.today) → lot ≡ lot_for s declared.now device.now) }
+    ensures value { IfOk result (λ lot. (s : State) → s.own ≡ meta.now.code → s.today ≡ day_of (string_bytes meta.now.today) → lot ≡ lot_for s declared.now device.now) }
+    ensures accepts { IsTrue (is_meta (meta_in meta.now)) → IsLot (lot_stated meta.now declared.now device.now) → IsOk result }
 {
     let fields = LotFields {
         origin: numbers::registry_code(meta.code)?,
@@ -85,6 +90,7 @@ fn issued_lot(meta: &MetaRow, declared: &Declare, device: &Device) -> Result<Lot
 fn progress_change(alloc: Global, declared: &Declare, carry: u64) -> Result<Change, Trouble>
     ensures sets { IfOk result (SetsProgress declared.now carry) }
     ensures fits { IfOk result ChangeFits }
+    ensures memory { carry < 2 ^ 63 → IsOkUnless result Memory }
 {
     if carry >= 1 << 63 {
         return Err(Trouble::Refused);
@@ -107,6 +113,7 @@ fn begin(
 ) -> Result<Gathered, Trouble>
     ensures begins { IfOk result (Begins declared.now carry standing.now) }
     ensures fits { IfOk result (λ gathered. All ChangeFits gathered.changes.items) }
+    ensures memory { standing.now.number < 2 ^ 63 → carry < 2 ^ 63 → IsOkUnless result Memory }
 {
     let row = declaration_row(alloc, declared, standing.number)?;
     let progress = progress_change(alloc, declared, carry)?;
@@ -132,6 +139,8 @@ fn issue(
 ) -> Result<u64, Trouble>
     ensures issues { IfOk result (Issues meta.now declared.now standing.now issued gathered.old gathered.new) }
     ensures fits { All ChangeFits gathered.old.changes.items → IfOk result (λ _. All ChangeFits gathered.new.changes.items) }
+    ensures memory { IsTrue (is_meta (meta_in meta.now)) → IsLot (lot_stated meta.now declared.now standing.now.device) → gathered.old.next < 2 ^ 63 → IsOkUnless result Memory }
+    ensures count { IfOk result (λ count. count ≡ count_of issued) }
 {
     match issued {
         None => Ok(0),
@@ -147,6 +156,7 @@ fn issue(
 fn counters_after(meta: &MetaRow, count: u64) -> Result<Counters, Trouble>
     ensures value { IfOk result (λ c. c ≡ record { next_serial = meta.now.next_serial + count; next_account = meta.now.next_account; next_cancellation = meta.now.next_cancellation; next_withdrawal = meta.now.next_withdrawal; next_notice = meta.now.next_notice }) }
     ensures fits { IfOk result CountersFit }
+    ensures accepts { meta.now.next_serial + count < 2 ^ 63 → IsOk result }
 {
     let Some(next_serial) = meta.next_serial.checked_add(count) else {
         return Err(Trouble::Refused);
@@ -173,6 +183,7 @@ fn declared_changes(
     standing: &Standing,
 ) -> Result<Gathered, Trouble>
     ensures carries { IfOk result (λ gathered. (t : Tables) (q : Request) (reply : Reply) → IsDue t q reply meta.now declared.now carry issued standing.now → CarriesOut t q.command gathered) }
+    ensures memory { IsWithinLimits meta.now declared.now carry issued standing.now → IsOkUnless result Memory }
     ensures fits { IfOk result (λ gathered. All ChangeFits gathered.changes.items) }
 {
     let mut gathered = begin(alloc, declared, carry, standing)?;
@@ -198,6 +209,7 @@ pub fn declare_changes<S: Alter>(
     issued: Option<Range>,
 ) -> Result<Gathered, Trouble>
     ensures looks { LooksUp (state S.Store conn.old) (state S.Store conn.new) result (λ t gathered. (q : Request) (reply : Reply) → q.command ≡ Command.Declare declared.now → reply ≡ Declared carry issued → t.meta ≡ meta_in meta.now → IsDeviceOf kept t → IsAccepted t q reply → CarriesOut t q.command gathered) }
+    ensures blames { BlamesDisk (state S.Store conn.old) (state S.Store conn.new) result (λ t. CanBeDeclared t kept meta.now declared.now carry issued) }
     ensures fits { IfOk result (λ gathered. All ChangeFits gathered.changes.items) }
     ensures outside { conn.old.in_transaction ≡ false → conn.new.in_transaction ≡ false }
 {

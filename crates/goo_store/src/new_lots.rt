@@ -1,12 +1,13 @@
 //! The rows of lots that become known.
 
-ghost use Rattle.std.specs.Prelude.{◌≡◌, true, IfOk, option_map, string_bytes};
+ghost use Rattle.std.specs.Prelude.{◌≡◌, ◌<◌, ◌^◌, true, IfOk, IsOkUnless, option_map, string_bytes};
 ghost use Rattle.goo_types.specs.Texts.{day_text as text_of_day};
 ghost use Rattle.goo_columns.specs.Rows.{lot_in, plant_in};
 ghost use Rattle.goo_kept.specs.Kept.{IsKeptLot};
 ghost use Rattle.goo_kept.specs.Places.{lot_of};
 ghost use Rattle.goo_kept.specs.Readable.{is_lot, is_plant};
 ghost use Rattle.goo_store.specs.LotRows.{IsRowOfPlant};
+ghost use Rattle.goo_store.specs.declared.trouble.Trouble.TheVariants.{Memory};
 ghost use Rattle.goo_tables.specs.Changes.{LotFits};
 
 use crate::new_rows::day_string;
@@ -73,6 +74,7 @@ pub fn lot_row(alloc: Global, lot: &Lot, number: u64) -> Result<LotRow, Trouble>
     ensures reads { IfOk result (λ row. is_lot (lot_in row) ≡ true) }
     ensures kept { IfOk result (λ row. IsKeptLot (lot_in row)) }
     ensures fits { IfOk result LotFits }
+    ensures memory { number < 2 ^ 63 → IsOkUnless result Memory }
 {
     if number >= 1 << 63 {
         return Err(Trouble::Refused);

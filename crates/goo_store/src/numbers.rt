@@ -1,9 +1,10 @@
 //! Numbers that columns keep, as values.
 
-ghost use Rattle.std.specs.Prelude.{◌≡◌, is_ok, nat_le, IfOk};
+ghost use Rattle.std.specs.Prelude.{◌≡◌, is_ok, nat_le, IfErr, IfOk};
 ghost use Rattle.goo_types.specs.Number.{is_number};
 ghost use Rattle.goo_types.specs.Range.{Numbers};
 ghost use Rattle.goo_kept.specs.Readable.{is_code, is_act, is_between, is_wh, are_ends};
+ghost use Rattle.goo_store.specs.declared.trouble.Trouble.TheVariants.{Refused};
 
 use crate::trouble::Trouble;
 use goo_types::account_no::AccountNo;
@@ -21,6 +22,7 @@ const SERIALS: u64 = 1_000_000_000_000;
 pub fn registry_code(code: u32) -> Result<RegistryCode, Trouble>
     ensures value { IfOk result (λ c. c ≡ code) }
     ensures accepts { is_ok result ≡ is_code code }
+    ensures cause { IfErr result (λ trouble. trouble ≡ Refused) }
 {
     if code > 99 {
         return Err(Trouble::Refused);
@@ -35,6 +37,7 @@ pub fn registry_code(code: u32) -> Result<RegistryCode, Trouble>
 pub fn account_no(number: u32) -> Result<AccountNo, Trouble>
     ensures value { IfOk result (λ n. n ≡ number) }
     ensures accepts { is_ok result ≡ is_act number }
+    ensures cause { IfErr result (λ trouble. trouble ≡ Refused) }
 {
     match AccountNo::new(number) {
         Some(number) => Ok(number),
@@ -46,6 +49,7 @@ pub fn account_no(number: u32) -> Result<AccountNo, Trouble>
 pub fn act_no(number: u32) -> Result<ActNo, Trouble>
     ensures value { IfOk result (λ n. n ≡ number) }
     ensures accepts { is_ok result ≡ is_act number }
+    ensures cause { IfErr result (λ trouble. trouble ≡ Refused) }
 {
     match ActNo::new(number) {
         Some(number) => Ok(number),
@@ -57,6 +61,7 @@ pub fn act_no(number: u32) -> Result<ActNo, Trouble>
 pub fn watts(value: u64) -> Result<Watts, Trouble>
     ensures value { IfOk result (λ w. w ≡ value) }
     ensures accepts { is_ok result ≡ is_between 1 100_000_000_000 value }
+    ensures cause { IfErr result (λ trouble. trouble ≡ Refused) }
 {
     match Watts::new(value) {
         Some(watts) => Ok(watts),
@@ -68,6 +73,7 @@ pub fn watts(value: u64) -> Result<Watts, Trouble>
 pub fn wh(value: u64) -> Result<Wh, Trouble>
     ensures value { IfOk result (λ w. w ≡ value) }
     ensures accepts { is_ok result ≡ is_wh value }
+    ensures cause { IfErr result (λ trouble. trouble ≡ Refused) }
 {
     match Wh::new(value) {
         Some(wh) => Ok(wh),
@@ -79,6 +85,7 @@ pub fn wh(value: u64) -> Result<Wh, Trouble>
 pub fn number(value: u64) -> Result<Number, Trouble>
     ensures value { IfOk result (λ n. n ≡ value) }
     ensures accepts { is_ok result ≡ is_number value }
+    ensures cause { IfErr result (λ trouble. trouble ≡ Refused) }
 {
     if value / SERIALS > 99 {
         return Err(Trouble::Refused);
@@ -93,6 +100,7 @@ pub fn number(value: u64) -> Result<Number, Trouble>
 pub fn range(first: u64, last: u64) -> Result<Range, Trouble>
     ensures value { IfOk result (λ r. r ≡ record { first = first; last = last }) }
     ensures accepts { is_ok result ≡ are_ends first last }
+    ensures cause { IfErr result (λ trouble. trouble ≡ Refused) }
 {
     match Range::new(number(first)?, number(last)?) {
         Some(range) => Ok(range),
@@ -104,6 +112,7 @@ pub fn range(first: u64, last: u64) -> Result<Range, Trouble>
 pub fn small(value: u64) -> Result<u32, Trouble>
     ensures value { IfOk result (λ n. n ≡ value) }
     ensures accepts { is_ok result ≡ nat_le value 999_999_999 }
+    ensures cause { IfErr result (λ trouble. trouble ≡ Refused) }
 {
     if value > 999_999_999 {
         return Err(Trouble::Refused);

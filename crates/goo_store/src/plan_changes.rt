@@ -1,6 +1,6 @@
 //! The changes that carry out a plan: those of its command, then those of its edits, and the receipt.
 
-ghost use Rattle.std.specs.Prelude.{◌≡◌, ◌++◌, [], ◌∷◌, false, All, IfOk};
+ghost use Rattle.std.specs.Prelude.{◌≡◌, ◌++◌, [], ◌∷◌, false, All, IfOk, IsOkUnless, IsTrue};
 ghost use Rattle.sqlite.specs.Held.{state};
 ghost use Rattle.goo_types.specs.declared.request.Request.{Request};
 ghost use Rattle.goo_store.specs.declared.gathered_lots.Gathered.{Gathered as Given};
@@ -9,13 +9,19 @@ ghost use Rattle.goo_columns.specs.Rows.{Tables, meta_in, receipt_in};
 ghost use Rattle.goo_kept.specs.Kept.{AreKept};
 ghost use Rattle.goo_kept.specs.Places.{rows_of};
 ghost use Rattle.goo_kept.specs.States.{state_of};
-ghost use Rattle.goo_store.specs.Carried.{AreInOrder};
+ghost use Rattle.goo_kept.specs.Readable.{is_meta};
+ghost use Rattle.goo_store.specs.Acted.{HasKeptNumbers};
+ghost use Rattle.goo_store.specs.Carried.{AreInOrder, CanTakeNumber, IsPlain};
 ghost use Rattle.goo_store.specs.Carrying.{CarriesOut, IsAccepted};
 ghost use Rattle.goo_store.specs.Changes.{made_all, ChangeFits};
+ghost use Rattle.goo_store.specs.Declaring.{CanBeAnswered};
 ghost use Rattle.goo_store.specs.EditChanges.{AreForEdits};
 ghost use Rattle.goo_store.specs.LookingUp.{LooksUp};
 ghost use Rattle.goo_store.specs.Found.{AreFindingsOf, AreStated, IsDeviceOf, IsRowOf};
+ghost use Rattle.goo_store.specs.Needing.{CanGoByRow};
 ghost use Rattle.goo_store.specs.Planned.{IsPlanned};
+ghost use Rattle.goo_store.specs.StoreFaults.{BlamesDisk};
+ghost use Rattle.goo_store.specs.declared.trouble.Trouble.TheVariants.{Memory};
 
 use crate::change::Change;
 use crate::command_changes::{numbered_changes, plain_changes};
@@ -52,6 +58,7 @@ fn without_lots(alloc: Global, changes: Vec<Change>) -> Gathered
 fn plain(alloc: Global, plan: &Plan) -> Result<Gathered, Trouble>
     ensures does { IfOk result (λ gathered. (t : Tables) → AreKept t → AreInOrder t → Fits (state_of t) (rows_of t) plan.now → CarriesOut t plan.now.request.command gathered) }
     ensures fits { IfOk result (λ gathered. All ChangeFits gathered.changes.items) }
+    ensures memory { IsPlain plan.now.request.command → IsOkUnless result Memory }
 {
     let changes = plain_changes(alloc, plan)?;
     Ok(without_lots(alloc, changes))
@@ -61,6 +68,7 @@ fn plain(alloc: Global, plan: &Plan) -> Result<Gathered, Trouble>
 fn numbered(alloc: Global, meta: &MetaRow, plan: &Plan) -> Result<Gathered, Trouble>
     ensures does { IfOk result (λ gathered. (t : Tables) → t.meta ≡ meta_in meta.now → AreKept t → AreInOrder t → Fits (state_of t) (rows_of t) plan.now → CarriesOut t plan.now.request.command gathered) }
     ensures fits { IfOk result (λ gathered. All ChangeFits gathered.changes.items) }
+    ensures memory { IsTrue (is_meta (meta_in meta.now)) → CanTakeNumber meta.now plan.now.request.command plan.now.notice → IsOkUnless result Memory }
 {
     let changes = numbered_changes(alloc, meta, plan)?;
     Ok(without_lots(alloc, changes))
@@ -77,6 +85,7 @@ fn declaration<S: Alter>(
 ) -> Result<Gathered, Trouble>
     ensures looks { LooksUp (state S.Store conn.old) (state S.Store conn.new) result (λ t gathered. (q : Request) → q.command ≡ Command.Declare declared.now → t.meta ≡ meta_in meta.now → IsDeviceOf device t → IsAccepted t q reply → CarriesOut t q.command gathered) }
     ensures fits { IfOk result (λ gathered. All ChangeFits gathered.changes.items) }
+    ensures blames { BlamesDisk (state S.Store conn.old) (state S.Store conn.new) result (λ t. CanBeAnswered t device meta.now declared.now reply) }
     ensures outside { conn.old.in_transaction ≡ false → conn.new.in_transaction ≡ false }
 {
     match reply {
@@ -96,6 +105,7 @@ fn by_own_row<S: Alter>(
     plan: &Plan,
 ) -> Result<Gathered, Trouble>
     ensures gathers { LooksUp (state S.Store conn.old) (state S.Store conn.new) result (λ t gathered. IsRowOf own t → IsDeviceOf device t → AreKept t → AreInOrder t → Fits (state_of t) (rows_of t) plan.now → CarriesOut t plan.now.request.command gathered) }
+    ensures blames { BlamesDisk (state S.Store conn.old) (state S.Store conn.new) result (λ t. CanGoByRow t own device plan.now) }
     ensures outside { conn.old.in_transaction ≡ false → conn.new.in_transaction ≡ false }
     ensures fits { IfOk result (λ gathered. All ChangeFits gathered.changes.items) }
 {
@@ -144,6 +154,7 @@ fn joined(
     requires edits { All ChangeFits edits.items }
     ensures planned { IfOk result (λ changes. (t : Tables) → AreKept t → AreInOrder t → Fits (state_of t) (rows_of t) plan.now → (gathered : Given) → gathered.changes.items ≡ act.items → CarriesOut t plan.now.request.command gathered → AreForEdits (made_all t act.items).lots plan.now.edits.items edits.items → IsPlanned t changes.items plan.now) }
     ensures fits { IfOk result (λ changes. All ChangeFits changes.items) }
+    ensures memory { HasKeptNumbers plan.now.reply → IsOkUnless result Memory }
 {
     // A request in hand has a command within its limits: it comes with that fact.
     let _ = plan.request.command();

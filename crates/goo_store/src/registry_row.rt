@@ -1,6 +1,6 @@
 //! The registry itself, as its row tells of it.
 
-ghost use Rattle.std.specs.Prelude.{◌≡◌, Some, false, option_map, IfOk, IsOk, IsSome, IsSomeAnd, IsTrue, OnOk};
+ghost use Rattle.std.specs.Prelude.{◌≡◌, Some, false, None, option_map, IfErr, IfOk, IsOk, IsSome, IsSomeAnd, IsTrue, OnOk, ⊤};
 ghost use Rattle.sqlite.specs.State.{HasCleanDisk};
 ghost use Rattle.sqlite.specs.Held.{state as view};
 ghost use Rattle.goo_columns.specs.Rows.{Tables, meta_in};
@@ -10,9 +10,10 @@ ghost use Rattle.goo_shelf.specs.Shelf.{Looks};
 ghost use Rattle.goo_store.specs.LookingUp.{LooksUp};
 ghost use Rattle.goo_store.specs.Moments.{moment};
 ghost use Rattle.goo_store.specs.Found.{IsRowOf, KeepsFound};
-ghost use Rattle.goo_store.specs.StoreFaults.{BlamesStore};
+ghost use Rattle.goo_store.specs.StoreFaults.{BlamesDisk, BlamesStore};
 ghost use Rattle.goo_store.specs.Telling.{Accepts, Passes};
 ghost use Rattle.goo_kept.specs.Readable.{is_meta};
+ghost use Rattle.goo_store.specs.declared.trouble.Trouble.TheVariants.{Refused};
 ghost use Rattle.goo_kept.specs.States.{state_of};
 
 use crate::sql_shelf::SqlShelf;
@@ -32,6 +33,7 @@ use std::alloc::Global;
 fn row(found: Result<Option<MetaRow>, Error>) -> Result<MetaRow, Trouble>
     ensures value { Passes found result (λ found row. found ≡ Some row) }
     ensures accepts { Accepts found result (λ row. IsSome row) }
+    ensures missing { IfOk found (λ row. row ≡ None → IfErr result (λ trouble. trouble ≡ Refused)) }
 {
     found?.ok_or(Trouble::Refused)
 }
@@ -40,6 +42,7 @@ fn row(found: Result<Option<MetaRow>, Error>) -> Result<MetaRow, Trouble>
 pub fn own_row<S: Alter>(alloc: Global, conn: &mut Connection<S>) -> Result<MetaRow, Trouble>
     ensures gathers { LooksUp (view S.Store conn.old) (view S.Store conn.new) result (λ t row. t.meta ≡ meta_in row) }
     ensures works { OnOk result (HasCleanDisk (view S.Store conn.new) → IsTrue (view S.Store conn.new).is_open) }
+    ensures blames { BlamesDisk (view S.Store conn.old) (view S.Store conn.new) result (λ _. ⊤) }
     ensures outside { conn.old.in_transaction ≡ false → conn.new.in_transaction ≡ false }
 {
     row(find_meta(alloc, conn))
@@ -52,6 +55,7 @@ pub fn known_row<S: Alter>(
     own: Option<MetaRow>,
 ) -> Result<MetaRow, Trouble>
     ensures gathers { LooksUp (view S.Store conn.old) (view S.Store conn.new) result (λ t row. IsRowOf own t → t.meta ≡ meta_in row) }
+    ensures blames { BlamesDisk (view S.Store conn.old) (view S.Store conn.new) result (λ _. ⊤) }
     ensures outside { conn.old.in_transaction ≡ false → conn.new.in_transaction ≡ false }
 {
     match own {
@@ -65,6 +69,7 @@ pub fn known_row<S: Alter>(
 fn counters_in_row(row: &MetaRow) -> Result<Counters, Trouble>
     ensures value { IfOk result (λ counters. (t : Tables) → t.meta ≡ meta_in row.now → counters ≡ counters_of (state_of t)) }
     ensures accepts { IsTrue (is_meta (meta_in row.now)) → IsOk result }
+    ensures cause { IfErr result (λ trouble. trouble ≡ Refused) }
 {
     let counters = Counters::new(
         row.next_serial,
@@ -81,6 +86,7 @@ fn counters_in_row(row: &MetaRow) -> Result<Counters, Trouble>
 fn meta_in_row(row: &MetaRow) -> Result<Meta, Trouble>
     ensures value { IfOk result (λ meta. (t : Tables) → t.meta ≡ meta_in row.now → meta ≡ meta_of (state_of t)) }
     ensures accepts { IsTrue (is_meta (meta_in row.now)) → IsOk result }
+    ensures cause { IfErr result (λ trouble. trouble ≡ Refused) }
 {
     let code = numbers::registry_code(row.code)?;
     let today = texts::day(&row.today)?;

@@ -1,6 +1,6 @@
 //! A shelf over the tables of a database.
 
-ghost use Rattle.std.specs.Prelude.{◌≡◌, ◌≢◌, [], false, IsTrue, IfOk, IfErr, IsErrAnd};
+ghost use Rattle.std.specs.Prelude.{◌≡◌, ◌≢◌, ◌⊎◌, [], false, IsTrue, IfOk, IfErr, IsErrAnd};
 ghost use Rattle.sqlite.specs.Held.{state as view};
 ghost use Rattle.sqlite.specs.State.{HasCleanDisk, Survives};
 ghost use Rattle.goo_rows.specs.Rows.{AreRowsOf};
@@ -13,6 +13,7 @@ ghost use Rattle.goo_tables.specs.Changes.{begun};
 ghost use Rattle.goo_store.specs.Creating.{meta_of};
 ghost use Rattle.goo_store.specs.Moments.{IsWell, IsWell-prop, count, moment};
 ghost use Rattle.goo_store.specs.Found.{Knows, Knows-prop};
+ghost use Rattle.goo_opening.specs.Found.{IsOutside};
 ghost use Rattle.goo_opening.specs.declared.fault.OpenFault.TheVariants.{AlreadyThere};
 
 use crate::creating::{begin, is_empty};
@@ -87,6 +88,7 @@ impl<S: Alter> SqlShelf<S> {
         ensures there { IfErr result (λ e. e.1 ≡ AlreadyThere → e.0 ≡ conn) }
         ensures taken { (view S.Store conn).now.schema ≢ no_schema → IsErrAnd result (λ e. e.1 ≡ AlreadyThere) }
         ensures untaken { (view S.Store conn).now.schema ≡ no_schema → IfErr result (λ e. e.1 ≢ AlreadyThere) }
+        ensures words { IfErr result (λ e. (e.1 ≡ AlreadyThere) ⊎ IsOutside e.1) }
         ensures kept { IfErr result (λ e. HasCleanDisk (view S.Store e.0) → IsTrue (view S.Store e.0).is_open → ((view S.Store e.0).now ≡ (view S.Store conn).now) × ((view S.Store e.0).committed ≡ (view S.Store conn).committed)) }
         ensures outside { IfErr result (λ e. e.0.in_transaction ≡ false) }
         ensures crash { IfErr result (λ e. Survives (view S.Store conn) (view S.Store e.0) (Holds (begun (meta_of code today next_serial)))) }

@@ -1,6 +1,6 @@
 //! What the tables hold for a declaration, as it is found.
 
-ghost use Rattle.std.specs.Prelude.{◌≡◌, ◌<◌, ◌^◌, false, pos, Some, option_map, IfSome, IsSomeAnd, IsTrue};
+ghost use Rattle.std.specs.Prelude.{◌≡◌, ◌<◌, ◌^◌, false, pos, Some, None, option_map, IfErr, IfOk, IfSome, IsSomeAnd, IsTrue};
 ghost use Rattle.std.specs.FinMap.{get};
 ghost use Rattle.sqlite.specs.Held.{state};
 ghost use Rattle.sqlite_keyed.specs.Keyed.{next_key};
@@ -8,11 +8,14 @@ ghost use Rattle.goo_columns.specs.Rows.{declaration_in, declaration_key, device
 ghost use Rattle.goo_kept.specs.Devices.{device_of};
 ghost use Rattle.goo_kept.specs.Readable.{is_device};
 ghost use Rattle.goo_kept.specs.States.{state_of};
+ghost use Rattle.goo_store.specs.AtHand.{HasRoom, HasStanding, IsRegistered};
 ghost use Rattle.goo_store.specs.Found.{IsDeviceOf};
 ghost use Rattle.goo_store.specs.LookingUp.{LooksUp};
 ghost use Rattle.goo_store.specs.LotRows.{next_declaration};
 ghost use Rattle.goo_store.specs.Standing.{IsStanding};
+ghost use Rattle.goo_store.specs.StoreFaults.{BlamesDisk};
 ghost use Rattle.goo_store.specs.Telling.{Accepts, Passes};
+ghost use Rattle.goo_store.specs.declared.trouble.Trouble.TheVariants.{Refused};
 
 use crate::devices::device_in_row;
 use crate::findings::KnownDevice;
@@ -42,6 +45,7 @@ pub struct Standing {
 fn device_found(found: Result<Option<DeviceRow>, Error>) -> Result<Device, Trouble>
     ensures value { Passes found result (λ row device. option_map device_of (option_map device_in row) ≡ Some device) }
     ensures accepts { Accepts found result (λ row. IsSomeAnd row (λ r. IsTrue (is_device (pos 0, device_in r)))) }
+    ensures missing { IfOk found (λ row. row ≡ None → IfErr result (λ trouble. trouble ≡ Refused)) }
 {
     let Some(row) = found? else {
         return Err(Trouble::Refused);
@@ -56,6 +60,7 @@ fn find_registered<S: Alter>(
     gsrn: &Gsrn,
 ) -> Result<Device, Trouble>
     ensures looks { LooksUp (state S.Store conn.old) (state S.Store conn.new) result (λ t device. get (state_of t).devices gsrn.now ≡ Some device) }
+    ensures blames { BlamesDisk (state S.Store conn.old) (state S.Store conn.new) result (λ t. IsRegistered t gsrn.now) }
     ensures outside { conn.old.in_transaction ≡ false → conn.new.in_transaction ≡ false }
 {
     let found = find_device(alloc, conn, gsrn.text());
@@ -70,6 +75,7 @@ fn known_registered<S: Alter>(
     gsrn: &Gsrn,
 ) -> Result<Device, Trouble>
     ensures looks { LooksUp (state S.Store conn.old) (state S.Store conn.new) result (λ t device. IsDeviceOf kept t → get (state_of t).devices gsrn.now ≡ Some device) }
+    ensures blames { BlamesDisk (state S.Store conn.old) (state S.Store conn.new) result (λ t. IsRegistered t gsrn.now) }
     ensures outside { conn.old.in_transaction ≡ false → conn.new.in_transaction ≡ false }
 {
     match kept {
@@ -98,6 +104,7 @@ fn next_declaration_number<S: Alter>(
     conn: &mut Connection<S>,
 ) -> Result<u64, Trouble>
     ensures looks { LooksUp (state S.Store conn.old) (state S.Store conn.new) result (λ t n. pos n ≡ next_key declaration_key t.declarations) }
+    ensures blames { BlamesDisk (state S.Store conn.old) (state S.Store conn.new) result (λ t. HasRoom 0 declaration_key t.declarations) }
     ensures outside { conn.old.in_transaction ≡ false → conn.new.in_transaction ≡ false }
 {
     let found = last_declaration(alloc, conn);
@@ -116,6 +123,7 @@ pub fn find_standing<S: Alter>(
     gsrn: &Gsrn,
 ) -> Result<Standing, Trouble>
     ensures looks { LooksUp (state S.Store conn.old) (state S.Store conn.new) result (λ t standing. IsDeviceOf kept t → IsStanding t gsrn.now standing) }
+    ensures blames { BlamesDisk (state S.Store conn.old) (state S.Store conn.new) result (λ t. HasStanding t gsrn.now) }
     ensures outside { conn.old.in_transaction ≡ false → conn.new.in_transaction ≡ false }
 {
     let device = known_registered(alloc, conn, kept, gsrn)?;

@@ -1,6 +1,6 @@
 //! Texts that columns keep, as values.
 
-ghost use Rattle.std.specs.Prelude.{◌≡◌, is_ok, IfOk, IsOkUnless, IsTrue};
+ghost use Rattle.std.specs.Prelude.{◌≡◌, is_ok, IfErr, IfOk, IsOkUnless, IsTrue};
 ghost use Rattle.goo_types.specs.Codes.{holder_reading, name_reading, country_reading, tech_reading, source_reading};
 ghost use Rattle.goo_types.specs.Day.{day_reading};
 ghost use Rattle.goo_types.specs.Gsrn.{gsrn_reading};
@@ -8,7 +8,7 @@ ghost use Rattle.goo_types.specs.Support.{support_reading};
 ghost use Rattle.goo_notice.specs.NoticeText.{notice_in};
 ghost use Rattle.goo_kept.specs.Readable.{reads};
 ghost use Rattle.goo_kept.specs.Texts.{day_of, support_of, notice_of};
-ghost use Rattle.goo_store.specs.declared.trouble.Trouble.TheVariants.{Memory};
+ghost use Rattle.goo_store.specs.declared.trouble.Trouble.TheVariants.{Memory, Refused};
 
 use crate::trouble::Trouble;
 use goo_notice::{NoticeFault, read};
@@ -28,6 +28,7 @@ use std::alloc::Global;
 pub fn holder_code(text: &str) -> Result<HolderCode, Trouble>
     ensures value { IfOk result (λ code. code ≡ text.now) }
     ensures accepts { is_ok result ≡ reads (holder_reading text.now) }
+    ensures cause { IfErr result (λ trouble. trouble ≡ Refused) }
 {
     match HolderCode::read(text.as_bytes()) {
         Ok(code) => Ok(code),
@@ -40,6 +41,7 @@ pub fn holder_code(text: &str) -> Result<HolderCode, Trouble>
 pub fn name(text: &str) -> Result<Name, Trouble>
     ensures value { IfOk result (λ name. name ≡ text.now) }
     ensures accepts { is_ok result ≡ reads (name_reading text.now) }
+    ensures cause { IfErr result (λ trouble. trouble ≡ Refused) }
 {
     match Name::read(text.as_bytes()) {
         Ok(name) => Ok(name),
@@ -52,6 +54,7 @@ pub fn name(text: &str) -> Result<Name, Trouble>
 pub fn country(text: &str) -> Result<Country, Trouble>
     ensures value { IfOk result (λ country. country ≡ text.now) }
     ensures accepts { is_ok result ≡ reads (country_reading text.now) }
+    ensures cause { IfErr result (λ trouble. trouble ≡ Refused) }
 {
     match Country::read(text.as_bytes()) {
         Ok(country) => Ok(country),
@@ -64,6 +67,7 @@ pub fn country(text: &str) -> Result<Country, Trouble>
 pub fn tech_code(text: &str) -> Result<TechCode, Trouble>
     ensures value { IfOk result (λ code. code ≡ text.now) }
     ensures accepts { is_ok result ≡ reads (tech_reading text.now) }
+    ensures cause { IfErr result (λ trouble. trouble ≡ Refused) }
 {
     match TechCode::read(text.as_bytes()) {
         Ok(code) => Ok(code),
@@ -76,6 +80,7 @@ pub fn tech_code(text: &str) -> Result<TechCode, Trouble>
 pub fn source_code(text: &str) -> Result<SourceCode, Trouble>
     ensures value { IfOk result (λ code. code ≡ text.now) }
     ensures accepts { is_ok result ≡ reads (source_reading text.now) }
+    ensures cause { IfErr result (λ trouble. trouble ≡ Refused) }
 {
     match SourceCode::read(text.as_bytes()) {
         Ok(code) => Ok(code),
@@ -88,6 +93,7 @@ pub fn source_code(text: &str) -> Result<SourceCode, Trouble>
 pub fn gsrn(text: &str) -> Result<Gsrn, Trouble>
     ensures value { IfOk result (λ gsrn. gsrn ≡ text.now) }
     ensures accepts { is_ok result ≡ reads (gsrn_reading text.now) }
+    ensures cause { IfErr result (λ trouble. trouble ≡ Refused) }
 {
     match Gsrn::read(text.as_bytes()) {
         Ok(gsrn) => Ok(gsrn),
@@ -99,6 +105,7 @@ pub fn gsrn(text: &str) -> Result<Gsrn, Trouble>
 pub fn day(text: &str) -> Result<Day, Trouble>
     ensures value { IfOk result (λ day. day ≡ day_of text.now) }
     ensures accepts { is_ok result ≡ reads (day_reading text.now) }
+    ensures cause { IfErr result (λ trouble. trouble ≡ Refused) }
 {
     match Day::read(text.as_bytes()) {
         Ok(day) => Ok(day),
@@ -110,6 +117,7 @@ pub fn day(text: &str) -> Result<Day, Trouble>
 pub fn support(text: &str) -> Result<Support, Trouble>
     ensures value { IfOk result (λ support. support ≡ support_of text.now) }
     ensures accepts { is_ok result ≡ reads (support_reading text.now) }
+    ensures cause { IfErr result (λ trouble. trouble ≡ Refused) }
 {
     match Support::read(text.as_bytes()) {
         Ok(support) => Ok(support),

@@ -4,6 +4,7 @@ use Rattle.goo_types.specs.Day.{IsDay}
 use Rattle.goo_types.specs.Texts.{day_text}
 use Rattle.goo_store.proofs.Gathering.{known_found}
 use Rattle.goo_store.proofs.LookUps.{looked_up}
+use Rattle.goo_store.proofs.Refusing.{blames_read}
 use Rattle.goo_store.proofs.gathered_lots.is_in_table.Goals as goal
 
 pub returns-clause-looks : goal.returns-clause-looks
@@ -12,3 +13,8 @@ returns-clause-looks g c =
     (λ t stands found there right read.
     known_found t.lots found there _ _ _ c.args.lot.now (c.from.ensures ∙ c.get.ensures.value ∙ c.origin.ensures) (c.text.ensures.value ∙ c.device.ensures)
     (c.as_str.ensures.value ∙ c.day_text-day.ensures.text ∙ ap day_text c.first_day.ensures) (subst IsDay c.first_day.ensures c.day_text-day.ensures.limit) right read)
+
+pub returns-clause-blames : goal.returns-clause-blames
+returns-clause-blames g c =
+    blames_read (state g.S.Store c.args.conn.now) (state g.S.Store c.find_lot-found.new.conn) _ _ c.find_lot-found.ensures.looks _ _ _ c.is_there.result c.find_lot-found.ensures.readable c.is_there.ensures.accepts (λ t can. can.lots)
+    (λ t stands kept needs found is. tt)

@@ -3,6 +3,7 @@ use Rattle.sqlite.specs.Held.{state}
 use Rattle.goo_spec.specs.Lots.{key_of}
 use Rattle.goo_store.proofs.Found.{kept_known}
 use Rattle.goo_store.proofs.LookUps.{looks_none, looks_so}
+use Rattle.goo_store.proofs.Refusing.{blames_none}
 use Rattle.goo_store.proofs.gathered_lots.is_there_already.Goals as goal
 
 pub returns-then-among-clause-looks : goal.returns-then-among-clause-looks
@@ -10,3 +11,6 @@ returns-then-among-clause-looks g c = looks_none (state g.S.Store c.args.conn.no
 
 pub returns-clause-looks : goal.returns-clause-looks
 returns-clause-looks g c = looks_so (state g.S.Store c.args.conn.now) (state g.S.Store c.is_in_table.new.conn) c.is_in_table.result _ _ c.is_in_table.ensures.looks (λ t it known is are. is)
+
+pub returns-then-among-clause-blames : goal.returns-then-among-clause-blames
+returns-then-among-clause-blames g c = blames_none (state g.S.Store c.args.conn.now) (Ok true) _ (λ t stands kept needs. tt)
