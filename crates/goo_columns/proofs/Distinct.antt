@@ -1,5 +1,5 @@
 -- A row that agrees with no other in the columns of a unique index may be put in.
-use Rattle.std.proofs.Common.{◌≡◌, ℕ, ℤ, Bool, true, false, not, ◌&&◌, List, [], ◌∷◌, Less, Equal, Greater, refl, sym, ap, ◌∙◌, arith, int_eq, true≢false}
+use Rattle.std.proofs.Common.{◌≡◌, ℕ, ℤ, Bool, true, false, not, ◌&&◌, List, [], ◌∷◌, filter, Less, Equal, Greater, refl, sym, ap, ◌∙◌, arith, int_eq, true≢false}
 use Rattle.std.specs.List.{AllByRecursion}
 use Rattle.std.specs.Ordering.{match_ordering}
 use Rattle.std.proofs.lemmas.Int.{ints}
@@ -14,7 +14,7 @@ use Rattle.sqlite_value.specs.Keys.{plain, first_key}
 use Rattle.sqlite_value.specs.declared.keys.Collation.TheVariants.{Binary}
 use Rattle.sqlite_typed.specs.Tests.{bytes_eq}
 use Rattle.sqlite_value.specs.Order.{value_cmp}
-use Rattle.sqlite_keyed.proofs.ListLemmas.{all_weaker, all_both, any_from_none, none_from_any}
+use Rattle.sqlite_keyed.proofs.ListLemmas.{all-filter, all_weaker, all_both, any_from_none, none_from_any}
 use Rattle.goo_columns.proofs.Obeying.{AreUnique, unique_among}
 
 all-put_row : (P : Row → Type 0) (new : Row) (rows : List Row) → P new → AllByRecursion P rows → AllByRecursion P (put_row new rows)
@@ -29,6 +29,13 @@ first_false a b h = rw h refl
 second_false : (a b : Bool) → b ≡ false → (a && b) ≡ false
 second_false true b h = h
 second_false false b h = refl
+
+unclash : (b : Bool) → (not b && true) ≡ true → b ≡ false
+unclash true h = absurd (true≢false (sym h))
+unclash false h = refl
+
+clear : (b : Bool) → b ≡ false → (not b && true) ≡ true
+clear b h = rw h refl
 
 module _ (places : List ℕ) (new : Row) (n : ℤ) (is : rowid new ≡ Int n) where
   abbrev agrees : Row → Row → Bool
@@ -51,17 +58,17 @@ module _ (places : List ℕ) (new : Row) (n : ℤ) (is : rowid new ≡ Int n) wh
 
   -- in a table with such an index and no other
   module _ (tree : ℕ) (indexed : (rows : List Row) (row : Row) → unique_among rows tree row ≡ (not (clashes plain places rows row) && true)) where
-    unclash : (b : Bool) → (not b && true) ≡ true → b ≡ false
-    unclash true h = absurd (true≢false (sym h))
-    unclash false h = refl
-
-    clear : (b : Bool) → b ≡ false → (not b && true) ≡ true
-    clear b h = rw h refl
-
     pub stays_apart : (rows : List Row) → AllByRecursion (λ r. agrees r new ≡ false) rows → AreUnique tree rows → AreUnique tree (put_row new rows)
     stays_apart rows free was =
         let none = all_weaker (λ r. unique_among rows tree r ≡ true) (λ r. clashes plain places rows r ≡ false) (λ r h. unclash _ (sym (indexed rows r) ∙ h)) rows was in
         all_weaker _ (λ r. unique_among (put_row new rows) tree r ≡ true) (λ r h. indexed (put_row new rows) r ∙ clear _ h) (put_row new rows) (put_apart rows free none)
+
+-- some rows are taken out
+pub fewer_unique : (places : List ℕ) (tree : ℕ) → ((rows : List Row) (row : Row) → unique_among rows tree row ≡ (not (clashes plain places rows row) && true)) → (q : Row → Bool) (rows : List Row) → AreUnique tree rows → AreUnique tree (filter q rows)
+fewer_unique places tree indexed q rows was =
+    all-filter (λ r. unique_among (filter q rows) tree r ≡ true) q rows
+    (all_weaker (λ r. unique_among rows tree r ≡ true) (λ r. unique_among (filter q rows) tree r ≡ true)
+    (λ r h. indexed (filter q rows) r ∙ (let none = unclash _ (sym (indexed rows r) ∙ h) in clear _ (any_from_none _ (filter q rows) (all-filter _ q rows (none_from_any _ rows none))))) rows was)
 
 -- ---- what the values of two rows say of that
 
