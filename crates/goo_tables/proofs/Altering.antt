@@ -1,5 +1,5 @@
 -- Why an UPDATE or a DELETE of our tables fails, whose query finds one row at most.
-use Rattle.std.proofs.Common.{◌≡◌, inl, inr, ℕ, ℤ, List, [], ◌∷◌, map, filter, cond, length, slice_get, Option, Some, None, Ok, Err, Bool, true, false, IsTrue, refl, sym, ap, subst, subst₂, ◌∙◌, true≢false}
+use Rattle.std.proofs.Common.{◌≡◌, inl, inr, ℕ, ℤ, List, [], ◌∷◌, map, filter, cond, slice_get, Option, Some, None, Ok, Err, Bool, true, false, IsTrue, refl, sym, ap, subst, subst₂, ◌∙◌, true≢false}
 use Rattle.std.specs.List.{AllByRecursion}
 use Rattle.std.proofs.lemmas.Bool.{and_parts}
 use Rattle.sqlite.specs.declared.error.Error.{Error}
@@ -28,7 +28,7 @@ use Rattle.sqlite_schema.specs.declared.schema.Keys.TheVariants.{Enforced}
 use Rattle.sqlite_value.specs.declared.keys.Order.{Order}
 use Rattle.goo_columns.specs.Columns.{registry_schema, strict_table}
 use Rattle.goo_columns.specs.Once.{IsOnce}
-use Rattle.goo_columns.specs.Refused.{IsFault, IsTooBig, IsTooBigOrFull, is_suited}
+use Rattle.goo_columns.specs.Refused.{IsTooBig, IsTooBigOrFull, is_suited}
 use Rattle.goo_columns.proofs.Failing.{EndsBy, StopsAt, whole_query, updated, deleted, on_rows, failed}
 use Rattle.goo_columns.proofs.Updating.{shown_update, ids_gone, rows_put}
 use Rattle.goo_columns.proofs.Obeying.{Obeys, MayStand, AreUnique, no_references, leaves, replaces, only_for_rowid, have_small_rowids}

@@ -233,11 +233,11 @@ progress_fails old new t gsrn last_day carry once it live unlimited =
     let was = λ (is_open : IsTrue old.is_open). all-slice_get (λ (u : Table). AreUnique u.tree (trees u.tree)) registry_schema.tables 3 device refl (rules_hold old it.schema live is_open) in
     updating_kept_fails progress_text 3 progress_query refl (λ _ _. refl) progress_plain (progress_params gsrn last_day carry) (progress_suits gsrn last_day carry) old new it.schema unlimited live progress_is
     (λ is_open rows answers.
-      update_obeys kept_key device_row (λ _. refl) device refl (λ k. simp (cast_int, cast_maybe) refl) p f (λ _. refl) trees t.devices once rows (progress_shown old t gsrn last_day carry once keeps rows answers)
-      (λ k. record { typed = refl; present = refl; checked = refl; keyed = refl }) (was is_open)
-      (λ x one.
-        stays_apart (1 ∷ []) (device_row (f x)) x.0 refl 4 (λ _ _. refl) (without_rowid x.0 (trees 4)) (subst (λ l. AllByRecursion (is_other gsrn last_day carry t.devices x one) (without_rowid x.0 l)) (sym keeps.are) (others gsrn last_day carry t.devices x one))
-        (fewer_unique (1 ∷ []) 4 (λ _ _. refl) _ (trees 4) (was is_open))))
+    update_obeys kept_key device_row (λ _. refl) device refl (λ k. simp (cast_int, cast_maybe) refl) p f (λ _. refl) trees t.devices once rows (progress_shown old t gsrn last_day carry once keeps rows answers)
+    (λ k. record { typed = refl; present = refl; checked = refl; keyed = refl }) (was is_open)
+    (λ x one.
+    stays_apart (1 ∷ []) (device_row (f x)) x.0 refl 4 (λ _ _. refl) (without_rowid x.0 (trees 4)) (subst (λ l. AllByRecursion (is_other gsrn last_day carry t.devices x one) (without_rowid x.0 l)) (sym keeps.are) (others gsrn last_day carry t.devices x one))
+    (fewer_unique (1 ∷ []) 4 (λ _ _. refl) _ (trees 4) (was is_open))))
 
 -- ---- device: the whole table, met as it is
 
