@@ -1,7 +1,6 @@
 -- Why a change is refused, for any table without counters or foreign keys.
-use Rattle.std.proofs.Common.{◌≡◌, ◌⊎◌, inl, inr, ℕ, zero, suc, ◌/◌, List, [], ◌∷◌, length, length-append, slice_get, Option, Some, None, Ok, Err, Result, Bool, true, false, IsTrue, refl, is_none, is_some, sym, ap, ap₂, subst, subst₂, ◌∙◌, arith, append-nil, option_map}
+use Rattle.std.proofs.Common.{◌≡◌, ◌⊎◌, inl, inr, ℕ, zero, suc, ◌/◌, List, [], ◌∷◌, length, length-append, Option, Some, None, Err, Bool, true, false, IsTrue, refl, is_none, is_some, sym, ap, ap₂, subst, subst₂, ◌∙◌, arith, append-nil, option_map}
 use Rattle.std.specs.Prelude.{◌&&◌, ◌||◌}
-use Rattle.std.proofs.lemmas.Bool.{cases_Bool, and_parts}
 use Rattle.sqlite.specs.Order.{Row}
 use Rattle.sqlite_schema.specs.declared.schema.Column.{Column}
 use Rattle.sqlite_schema.specs.declared.schema.Among.{Among}
@@ -24,7 +23,7 @@ use Rattle.sqlite_rules.specs.Edit.{IsRefused}
 use Rattle.sqlite_rules.specs.Action.{works, Leads, Writes}
 use Rattle.sqlite_rules.specs.declared.error.Refusal.{Refusal}
 use Rattle.sqlite.specs.Rowids.TheVariants.{Chosen, Given}
-use Rattle.sqlite.specs.Does.{Tally, Does, AtPlace, OnRows, Concludes, due}
+use Rattle.sqlite.specs.Does.{Does, Concludes, due}
 use Rattle.sqlite.specs.Rows.{Part, Then, Written, Task, Inserts, Updates, Deletes, Edited}
 use Rattle.sqlite.specs.Tree.{Trees}
 use Rattle.sqlite.specs.Listing.{understood}

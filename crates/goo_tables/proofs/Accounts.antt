@@ -179,12 +179,12 @@ closing_fails old new t number small it live unlimited =
     let p = has_number number in
     let once = one_keyed account_key (pos number) t.accounts keeps.rise in
     updating_fails close_text 2 close_query refl (λ _ _. refl) close_plain (Int (pos number) ∷ []) (close_suits number) old new it.schema unlimited live close_is
+    (λ _ rows answers.
+    update_obeys account_key account_row (λ _. refl) account refl (λ a. simp (cast_null, cast_int) refl) p closing (λ _. refl) old.now.trees t.accounts once rows (closed_shown old t number keeps rows answers)
+    (λ a. record { typed = refl; present = refl; checked = refl; keyed = refl }) (all_of _ (λ _. refl) _) (λ _ _. all_of _ (λ _. refl) _))
     (λ rows answers.
-      update_obeys account_key account_row (λ _. refl) account refl (λ a. simp (cast_null, cast_int) refl) p closing (λ _. refl) old.now.trees t.accounts once rows (closed_shown old t number keeps rows answers)
-      (λ a. record { typed = refl; present = refl; checked = refl; keyed = refl }) (all_of _ (λ _. refl) _))
-    (λ rows answers.
-      update_small account_key account_row (λ _. refl) account refl (λ a. simp (cast_null, cast_int) refl) p closing (λ _. refl) old.now.trees t.accounts once rows (closed_shown old t number keeps rows answers)
-      (λ a has. subst (λ n. fits_i64 n ≡ true) (sym (same_int (account_key a) (pos number) has)) (lt-ltb _ _ small)))
+    update_small account_key account_row (λ _. refl) account refl (λ a. simp (cast_null, cast_int) refl) p closing (λ _. refl) old.now.trees t.accounts once rows (closed_shown old t number keeps rows answers)
+    (λ a has. subst (λ n. fits_i64 n ≡ true) (sym (same_int (account_key a) (pos number) has)) (lt-ltb _ _ small)))
 
 -- ---- account: the whole table, met as it is
 

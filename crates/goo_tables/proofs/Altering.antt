@@ -1,5 +1,5 @@
 -- Why an UPDATE or a DELETE of our tables fails, whose query finds one row at most.
-use Rattle.std.proofs.Common.{◌≡◌, inl, inr, ℕ, ℤ, List, [], ◌∷◌, map, filter, cond, length, slice_get, Option, Some, None, Ok, Err, Bool, true, false, IsTrue, refl, sym, ap, subst, subst₂, ◌∙◌, true≢false}
+use Rattle.std.proofs.Common.{◌≡◌, inl, inr, ℕ, ℤ, List, [], ◌∷◌, map, filter, cond, slice_get, Option, Some, None, Ok, Err, Bool, true, false, IsTrue, refl, sym, ap, subst, subst₂, ◌∙◌, true≢false}
 use Rattle.std.specs.List.{AllByRecursion}
 use Rattle.std.proofs.lemmas.Bool.{and_parts}
 use Rattle.sqlite.specs.declared.error.Error.{Error}
@@ -9,7 +9,7 @@ use Rattle.sqlite.specs.declared.types.Value.TheVariants.{Int}
 use Rattle.sqlite.specs.Order.{Row}
 use Rattle.sqlite.specs.Query.{Query}
 use Rattle.sqlite.specs.Table.{Table}
-use Rattle.sqlite.specs.Tree.{Trees, rowid}
+use Rattle.sqlite.specs.Tree.{Trees, rowid, put_row, without_rowid}
 use Rattle.sqlite.specs.Command.TheVariants.{Update, Delete}
 use Rattle.sqlite.specs.Edit.{Edit, id_in, edit_of, edited}
 use Rattle.sqlite.specs.Rowids.TheVariants.{Given}
@@ -28,7 +28,7 @@ use Rattle.sqlite_schema.specs.declared.schema.Keys.TheVariants.{Enforced}
 use Rattle.sqlite_value.specs.declared.keys.Order.{Order}
 use Rattle.goo_columns.specs.Columns.{registry_schema, strict_table}
 use Rattle.goo_columns.specs.Once.{IsOnce}
-use Rattle.goo_columns.specs.Refused.{IsFault, IsTooBig, IsTooBigOrFull, is_suited}
+use Rattle.goo_columns.specs.Refused.{IsTooBig, IsTooBigOrFull, is_suited}
 use Rattle.goo_columns.proofs.Failing.{EndsBy, StopsAt, whole_query, updated, deleted, on_rows, failed}
 use Rattle.goo_columns.proofs.Updating.{shown_update, ids_gone, rows_put}
 use Rattle.goo_columns.proofs.Obeying.{Obeys, MayStand, AreUnique, no_references, leaves, replaces, only_for_rowid, have_small_rowids}
@@ -36,7 +36,7 @@ use Rattle.goo_tables.proofs.Failing.{FailsOnly, rules_hold}
 
 -- ---- an UPDATE of one row
 
-kept_pass : {X : Type 0} (p : X → Bool) (xs : List X) → AllByRecursion (λ x. p x ≡ true) (filter p xs)
+pub kept_pass : {X : Type 0} (p : X → Bool) (xs : List X) → AllByRecursion (λ x. p x ≡ true) (filter p xs)
 kept_pass p [] = tt
 kept_pass {X} p (x ∷ xs) = go (p x) refl (kept_pass p xs)
   where
@@ -56,19 +56,15 @@ module _ {X : Type 0} (key : X → ℤ) (to_row : X → Row) (keyed : (x : X) �
   on_those : (P : List ℤ → List Row → Type 0) → P (map key (filter p xs)) (map to_row (map f (filter p xs))) → P (ids_of rows) update_edit.news
   on_those P h = subst₂ P (sym (ids_gone key to_row keyed table casts p f keeps xs rows shown)) (sym (rows_put key to_row keyed table casts p f keeps db xs rows shown)) h
 
-  of_those : (P : List ℤ → List Row → Type 0) → P (ids_of rows) update_edit.news → P (map key (filter p xs)) (map to_row (map f (filter p xs)))
-  of_those P h = subst₂ P (ids_gone key to_row keyed table casts p f keeps xs rows shown) (rows_put key to_row keyed table casts p f keeps db xs rows shown) h
-
-  module _ (stands : (x : X) → MayStand db table (to_row (f x))) (unique : AreUnique table.tree (edited db update_edit)) where
-    obeyed : (ys : List X) → IsOnce ys → AreUnique table.tree (edited db (changing (map key ys) (map to_row (map f ys)))) → Obeys db (changing (map key ys) (map to_row (map f ys)))
-    obeyed ys (inl none) apart =
-        subst (λ l. Obeys db (changing (map key l) (map to_row (map f l)))) (sym none) (leaves db table [] (subst (λ l. AreUnique table.tree (edited db (changing (map key l) (map to_row (map f l))))) none apart))
-    obeyed ys (inr (x, one)) apart =
-        subst (λ l. Obeys db (changing (map key l) (map to_row (map f l)))) (sym one)
-        (replaces db table (key x) (to_row (f x)) bare (keyed (f x) ∙ ap Int (keeps x)) (stands x) (subst (λ l. AreUnique table.tree (edited db (changing (map key l) (map to_row (map f l))))) one apart))
+  module _ (stands : (x : X) → MayStand db table (to_row (f x))) (was : AreUnique table.tree (db table.tree))
+      (unique : (x : X) → filter p xs ≡ x ∷ [] → AreUnique table.tree (put_row (to_row (f x)) (without_rowid (key x) (db table.tree)))) where
+    obeyed : IsOnce (filter p xs) → Obeys db (changing (map key (filter p xs)) (map to_row (map f (filter p xs))))
+    obeyed (inl none) = subst (λ l. Obeys db (changing (map key l) (map to_row (map f l)))) (sym none) (leaves db table [] was)
+    obeyed (inr (x, one)) =
+        subst (λ l. Obeys db (changing (map key l) (map to_row (map f l)))) (sym one) (replaces db table (key x) (to_row (f x)) bare (keyed (f x) ∙ ap Int (keeps x)) (stands x) (unique x one))
 
     pub update_obeys : Obeys db update_edit
-    update_obeys = on_those (λ gone news. Obeys db (changing gone news)) (obeyed (filter p xs) once (of_those (λ gone news. AreUnique table.tree (edited db (changing gone news))) unique))
+    update_obeys = on_those (λ gone news. Obeys db (changing gone news)) (obeyed once)
 
   -- the rowid is one that a column keeps
   pub update_small : ((x : X) → p x ≡ true → fits_i64 (key x) ≡ true) → have_small_rowids update_edit.news ≡ true
@@ -98,10 +94,10 @@ module _ (sql : List ℕ) (at : ℕ) (q : Query) {tree : ℕ} {name : List ℕ} 
   abbrev Stopped : (List Row → Edit) → Option Error → Type 0
   Stopped = StopsAt registry_schema no_references trees old.step_limit unlimited name tree key_column primary uniques orders columns params childless q
 
-  module _ (edit : List Row → Edit) (obeys : (rows : List Row) → Asked rows → Obeys trees (edit rows)) where
+  module _ (edit : List Row → Edit) (obeys : IsTrue old.is_open → (rows : List Row) → Asked rows → Obeys trees (edit rows)) where
     refused : (e : Error) → IsTrue old.is_open → (h : Stopped edit (Some e)) → (e ≡ SqliteFailure NoRowid) × (have_small_rowids (edit h.0).news ≡ false)
     refused e is_open h =
-        let why = only_for_rowid trees (edit h.0) (rules_hold old has live is_open) (obeys h.0 h.1) h.2.0 h.2.2 in
+        let why = only_for_rowid trees (edit h.0) (rules_hold old has live is_open) (obeys is_open h.0 h.1) h.2.0 h.2.2 in
         (h.2.1 ∙ ap edit_error why.0, why.1)
 
   module _ (is : command_of (understood registry_schema sql) ≡ Update at (whole_query q)) where
@@ -120,7 +116,7 @@ module _ (sql : List ℕ) (at : ℕ) (q : Query) {tree : ℕ} {name : List ℕ} 
     updating_ends : (e : Error) → ExecutesInside 0 sql params old new (Err e) → EndsBy old new (Stopped updating) e
     updating_ends = failed registry_schema sql params old new has plain (and_parts _ _ suits).0 (Update at (whole_query q)) is refl (Stopped updating) update_stops
 
-    module _ (obeys : (rows : List Row) → Asked rows → Obeys trees (updating rows)) where
+    module _ (obeys : IsTrue old.is_open → (rows : List Row) → Asked rows → Obeys trees (updating rows)) where
       pub updating_fails : ((rows : List Row) → Asked rows → have_small_rowids (updating rows).news ≡ true) → FailsOnly IsTooBig sql params old new
       updating_fails small (Ok count) ran = tt
       updating_fails small (Err e) ran = elim (updating_ends e ran) [
@@ -159,5 +155,5 @@ module _ (sql : List ℕ) (at : ℕ) (q : Query) {tree : ℕ} {name : List ℕ} 
     deleting_fails unique (Err e) ran = elim (deleting_ends e ran) [
       | inl fault ↦ inl fault
       | inr (inl big) ↦ absurd big.1.2.1
-      | inr (inr broken) ↦ absurd (true≢false (refused deleting (λ rows _. leaves trees table (ids_of rows) (unique rows)) e broken.0 broken.1).1)
+      | inr (inr broken) ↦ absurd (true≢false (refused deleting (λ _ rows _. leaves trees table (ids_of rows) (unique rows)) e broken.0 broken.1).1)
     ]

@@ -1,6 +1,8 @@
 -- What the statements on `device` do and show.
-use Rattle.std.proofs.Common.{◌≡◌, ℕ, pos, filter, List, [], ◌∷◌, map, find, codes, false, Option, option_map, Ok, Err, Result, OnOk, refl, ◌∙◌, None, true, ◌&&◌, ap, ℤ, Some}
-use Rattle.std.specs.List.{AllZip}
+use Rattle.std.proofs.Common.{◌≡◌, ℕ, pos, filter, List, [], ◌∷◌, map, find, codes, false, Option, option_map, Ok, Err, Result, OnOk, refl, ◌∙◌, None, true, ◌&&◌, ap, ℤ, Some, Bool, not, sym, subst, IsTrue, arith, true≢false}
+use Rattle.std.specs.List.{AllZip, AllByRecursion}
+use Rattle.std.specs.Ordering.{is_eq}
+use Rattle.std.proofs.lemmas.Int.{ints}
 use Rattle.sqlite_tied.specs.Compute.{everything}
 use Rattle.sqlite.specs.declared.types.Value.TheVariants.{Null, Int, Text}
 use Rattle.sqlite.specs.declared.error.Error.{Error}
@@ -17,12 +19,12 @@ use Rattle.sqlite_sql.specs.declared.ops.BinaryOp.TheVariants.{Compare}
 use Rattle.sqlite_sql.specs.declared.ops.CompareOp.TheVariants.{Eq}
 use Rattle.sqlite_typed.specs.Tests.{bytes_eq}
 use Rattle.sqlite_typed.proofs.AnswerLemmas.{at_end, last_table}
-use Rattle.sqlite_typed.proofs.TestLemmas.{at_texts, last_term, then_value}
+use Rattle.sqlite_typed.proofs.TestLemmas.{same_bytes, at_texts, last_term, then_value}
 use Rattle.goo_columns.specs.Columns.{registry_schema, device}
 use Rattle.goo_columns.specs.Rows.{Tables, Kept, kept_key, Device, device_in, device_columns, device_row}
 use Rattle.goo_columns.specs.declared.device.DeviceRow.{DeviceRow}
 use Rattle.goo_columns.specs.Reads.{device_reads}
-use Rattle.goo_columns.specs.Stands.{Stands}
+use Rattle.goo_columns.specs.Stands.{Stands, Keeps}
 use Rattle.goo_columns.specs.Asked.{FirstZip}
 use Rattle.goo_columns.proofs.Writing.{updates}
 use Rattle.goo_columns.specs.Once.{IsOnce}
@@ -39,13 +41,22 @@ use Rattle.goo_columns.proofs.Meeting.{type_rules, shape_rules, no_number}
 use Rattle.std.specs.Prelude.{⊤}
 use Rattle.sqlite_keyed.specs.Keyed.{next_key}
 use Rattle.sqlite_keyed.proofs.KeyedLemmas.{next_key_is_free}
-use Rattle.goo_columns.specs.Refused.{IsTooBigOrFull}
-use Rattle.goo_columns.proofs.Distinct.{same_text, one_apart}
-use Rattle.sqlite.specs.Tree.{Trees}
+use Rattle.goo_columns.specs.Refused.{IsTooBigOrFull, is_suited}
+use Rattle.goo_columns.proofs.Distinct.{same_text, one_apart, stays_apart, fewer_unique}
+use Rattle.sqlite.specs.Tree.{Trees, has_rowid, without_rowid}
 use Rattle.sqlite_typing.specs.Types.{accepts_terms}
 use Rattle.sqlite_schema.specs.declared.schema.Constraint.TheVariants.{Datatype}
-use Rattle.sqlite_schema.specs.Rules.{passes}
-use Rattle.goo_tables.proofs.Failing.{FailsOnly, distinct_kept_fails, next_row}
+use Rattle.sqlite_schema.specs.Rules.{passes, agree}
+use Rattle.sqlite.specs.Table.{Table}
+use Rattle.sqlite.specs.Effect.{Answers}
+use Rattle.sqlite_value.specs.Keys.{plain}
+use Rattle.sqlite_value.specs.Order.{value_cmp}
+use Rattle.sqlite_value.proofs.OrderLemmas.{value_cmp-Int}
+use Rattle.sqlite_keyed.proofs.ListLemmas.{all_both, all-filter, all_kept, all_map, all-slice_get, filter-map}
+use Rattle.goo_columns.proofs.Failing.{whole_query}
+use Rattle.goo_columns.proofs.Obeying.{AreUnique}
+use Rattle.goo_tables.proofs.Altering.{updating_kept_fails, update_obeys, kept_pass}
+use Rattle.goo_tables.proofs.Failing.{FailsOnly, rules_hold, distinct_kept_fails, next_row}
 use Rattle.goo_tables.proofs.Adding.{Adds, adds_kept}
 use Rattle.goo_tables.proofs.AnyTable.{TableOf, shown, shows_each, finds_one, IsKept, meets_kept}
 use Rattle.goo_tables.proofs.Asking.{Asks, Tells, Says}
@@ -150,21 +161,83 @@ progress_plain : IsPlain (understood registry_schema progress_text)
 unfolding understood everything
 progress_plain = (refl, refl)
 
+abbrev has_gsrn : List ℕ → Kept Device → Bool
+has_gsrn gsrn k = bytes_eq k.1.gsrn gsrn
+
+abbrev progress_params : List ℕ → List ℕ → ℕ → Row
+progress_params gsrn last_day carry = Text gsrn ∷ Text last_day ∷ Int (pos carry) ∷ []
+
+progress_shown : (old : State) (t : Tables) (gsrn last_day : List ℕ) (carry : ℕ) → IsOnce (filter (has_gsrn gsrn) t.devices) → Keeps (old.now.trees 4) device_row kept_key t.devices → (rows : List Row)
+    → Answers (record { schema = registry_schema; trees = old.now.trees }) (whole_query progress_query) (progress_params gsrn last_day carry) rows
+    → rows ≡ map (λ k. Int k.0 ∷ device_row (progressed last_day carry k)) (filter (has_gsrn gsrn) t.devices)
+progress_shown old t gsrn last_day carry once keeps rows answers =
+    let db = overlay old.now.trees [] in
+    let source = last_table db 4 device_row kept_key t.devices keeps.are keeps.rise (at_end db) in
+    answer_of_one progress_query db (progress_params gsrn last_day carry) source (has_gsrn gsrn) (λ k. last_term (at_texts false Eq k.1.gsrn gsrn)) (λ k. Int k.0 ∷ device_row (progressed last_day carry k)) (λ _. refl) refl refl once rows (answers.answer Null)
+
 pub progresses_row : (old new : State) (t : Tables) (gsrn last_day : List ℕ) (carry : ℕ) → IsOnce (filter (λ (k : Kept Device). bytes_eq k.1.gsrn gsrn) t.devices) → (r : Result ℕ Error) → Stands old.now t
     → Executes progress_text (Text gsrn ∷ Text last_day ∷ Int (pos carry) ∷ []) old new r → OnOk r (Stands new.now (with_progress t gsrn last_day carry))
 progresses_row old new t gsrn last_day carry once (Err e) it ran = tt
 progresses_row old new t gsrn last_day carry once (Ok count) it ran =
     let params = Text gsrn ∷ Text last_day ∷ Int (pos carry) ∷ [] in
     let made = updates registry_schema 3 _ 4 _ _ _ _ _ refl (λ _ _. refl) progress_text params old new it.schema progress_plain (record { lets = []; body = progress_query }) progress_is count ran in
-    let db = overlay old.now.trees [] in
-    let p = λ (k : Kept Device). bytes_eq k.1.gsrn gsrn in
+    let p = has_gsrn gsrn in
     let f = progressed last_day carry in
-    let source = last_table db 4 device_row kept_key t.devices it.devices.are it.devices.rise (at_end db) in
-    let rows = answer_of_one progress_query db params source p (λ k. last_term (at_texts false Eq k.1.gsrn gsrn)) (λ k. Int k.0 ∷ device_row (f k)) (λ _. refl) refl refl once made.0 (made.1.answer Null) in
+    let rows = progress_shown old t gsrn last_day carry once it.devices made.0 made.1 in
     devices_stand old.now new.now t it made.2.schema_is made.2.applied.tables (update_where p f t.devices) (record {
       are = made.2.applied.rows ∙ updated kept_key device_row (λ _. refl) device (λ k. simp (cast_int, cast_maybe) refl) p f (λ _. refl) old.now.trees t.devices it.devices.are it.devices.rise made.0 rows;
       rise = IsKeyedBy-update_where kept_key p f (λ _. refl) t.devices it.devices.rise;
     })
+
+progress_suits : (gsrn last_day : List ℕ) (carry : ℕ) → is_suited registry_schema progress_text progress_query (progress_params gsrn last_day carry) ≡ true
+unfolding understood everything
+progress_suits gsrn last_day carry = refl
+
+-- the other devices have other numbers
+module _ (gsrn last_day : List ℕ) (carry : ℕ) (ks : List (Kept Device)) (x : Kept Device) (one : filter (has_gsrn gsrn) ks ≡ x ∷ []) where
+  abbrev stays : Row → Bool
+  stays r = not (has_rowid x.0 r)
+
+  abbrev is_other : Row → Type 0
+  is_other r = agree plain (1 ∷ []) r (1 ∷ []) (device_row (progressed last_day carry x)) ≡ false
+
+  x_has : has_gsrn gsrn x ≡ true
+  x_has = (subst (AllByRecursion (λ k. has_gsrn gsrn k ≡ true)) one (kept_pass (has_gsrn gsrn) ks)).0
+
+  same_id : (m n : ℤ) → m ≡ n → is_eq (value_cmp (Int m) (Int n)) ≡ true
+  same_id m n same = ap is_eq (value_cmp-Int m n) ∙ (let e = same in grind (arith, ints))
+
+  other_one : (k : Kept Device) → (has_gsrn gsrn k ≡ true → k.0 ≡ x.0) → stays (device_row k) ≡ true → is_other (device_row k)
+  other_one k only left = ap (λ a. a && true) (same_text k.1.gsrn x.1.gsrn) ∙ one_apart _ (go (bytes_eq k.1.gsrn x.1.gsrn) refl)
+    where
+      go : (b : Bool) → bytes_eq k.1.gsrn x.1.gsrn ≡ b → bytes_eq k.1.gsrn x.1.gsrn ≡ false
+      go false e = e
+      go true e =
+          let has = subst (λ g. bytes_eq g gsrn ≡ true) (sym (same_bytes k.1.gsrn x.1.gsrn e)) x_has in
+          absurd (true≢false (sym left ∙ ap not (same_id k.0 x.0 (only has))))
+
+  others : AllByRecursion is_other (filter stays (map device_row ks))
+  others =
+      let left = filter (λ (k : Kept Device). stays (device_row k)) ks in
+      let only = all_kept (λ k. k.0 ≡ x.0) (has_gsrn gsrn) ks (subst (AllByRecursion (λ k. k.0 ≡ x.0)) (sym one) (refl, tt)) in
+      let each = all_both (λ k. stays (device_row k) ≡ true) (λ k. has_gsrn gsrn k ≡ true → k.0 ≡ x.0) (λ k. is_other (device_row k)) (λ k h g. other_one k g h) left (kept_pass _ ks) (all-filter _ _ ks only) in
+      subst (AllByRecursion is_other) (sym (filter-map stays device_row ks)) (all_map is_other device_row left each)
+
+pub progress_fails : (old new : State) (t : Tables) (gsrn last_day : List ℕ) (carry : ℕ) → IsOnce (filter (has_gsrn gsrn) t.devices) → Stands old.now t → IsLive old → old.step_limit ≡ None
+    → FailsOnly IsTooBigOrFull progress_text (progress_params gsrn last_day carry) old new
+progress_fails old new t gsrn last_day carry once it live unlimited =
+    let keeps = it.devices in
+    let p = has_gsrn gsrn in
+    let f = progressed last_day carry in
+    let trees = old.now.trees in
+    let was = λ (is_open : IsTrue old.is_open). all-slice_get (λ (u : Table). AreUnique u.tree (trees u.tree)) registry_schema.tables 3 device refl (rules_hold old it.schema live is_open) in
+    updating_kept_fails progress_text 3 progress_query refl (λ _ _. refl) progress_plain (progress_params gsrn last_day carry) (progress_suits gsrn last_day carry) old new it.schema unlimited live progress_is
+    (λ is_open rows answers.
+    update_obeys kept_key device_row (λ _. refl) device refl (λ k. simp (cast_int, cast_maybe) refl) p f (λ _. refl) trees t.devices once rows (progress_shown old t gsrn last_day carry once keeps rows answers)
+    (λ k. record { typed = refl; present = refl; checked = refl; keyed = refl }) (was is_open)
+    (λ x one.
+    stays_apart (1 ∷ []) (device_row (f x)) x.0 refl 4 (λ _ _. refl) (without_rowid x.0 (trees 4)) (subst (λ l. AllByRecursion (is_other gsrn last_day carry t.devices x one) (without_rowid x.0 l)) (sym keeps.are) (others gsrn last_day carry t.devices x one))
+    (fewer_unique (1 ∷ []) 4 (λ _ _. refl) _ (trees 4) (was is_open))))
 
 -- ---- device: the whole table, met as it is
 

@@ -1,14 +1,13 @@
 -- Why a change of our tables fails.
-use Rattle.std.proofs.Common.{◌≡◌, ◌⊎◌, inl, inr, ◌/◌, ◌<◌, ◌^◌, ℕ, ℤ, pos, List, [], ◌∷◌, map, length, slice_get, Option, Some, None, find, is_some, Ok, Err, Result, Bool, true, false, not, cond, ◌&&◌, IfErr, IsTrue, refl, sym, ap, ap₂, subst, ◌∙◌, int_eq, int_cmp, true≢false}
-use Rattle.std.specs.List.{AllByRecursion, list_any}
+use Rattle.std.proofs.Common.{◌≡◌, ◌⊎◌, inl, inr, ℕ, ℤ, List, [], ◌∷◌, map, length, slice_get, Option, Some, None, find, is_some, Ok, Err, Result, Bool, true, false, not, cond, ◌&&◌, IfErr, IsTrue, refl, sym, ap, ap₂, subst, ◌∙◌, int_eq, true≢false}
+use Rattle.std.specs.List.{AllByRecursion}
 use Rattle.std.specs.Ordering.{is_eq}
-use Rattle.std.proofs.lemmas.Bool.{lt-ltb}
 use Rattle.sqlite.specs.declared.error.Error.{Error}
 use Rattle.sqlite.specs.declared.types.Value.TheVariants.{Int}
 use Rattle.sqlite.specs.Order.{Row}
 use Rattle.sqlite.specs.Term.{Term}
 use Rattle.sqlite.specs.Table.{Table}
-use Rattle.sqlite.specs.Tree.{Trees, rowid, put_row}
+use Rattle.sqlite.specs.Tree.{Trees, rowid}
 use Rattle.sqlite.specs.Source.TheVariants.{Values}
 use Rattle.sqlite.specs.Command.TheVariants.{Insert}
 use Rattle.sqlite.specs.Edit.{Edit, id_in, next_rowid}
@@ -23,12 +22,11 @@ use Rattle.sqlite.specs.State.{State, mode_of, IsLive, ExecutesInside}
 use Rattle.sqlite_rules.specs.Action.{works}
 use Rattle.sqlite_rules.specs.Edit.{is_taken}
 use Rattle.sqlite_schema.specs.declared.schema.Column.{Column}
-use Rattle.sqlite_schema.specs.declared.schema.Constraint.TheVariants.{Datatype, NotNull, Check, Unique}
+use Rattle.sqlite_schema.specs.declared.schema.Constraint.TheVariants.{Unique}
 use Rattle.sqlite_schema.specs.declared.schema.Keys.TheVariants.{Enforced}
 use Rattle.sqlite_schema.specs.declared.schema.Schema.{Schema}
 use Rattle.sqlite_schema.specs.Rules.{Keeps as KeepsRule, agree, clashes}
 use Rattle.sqlite_typing.specs.Types.{accepts_terms}
-use Rattle.sqlite_trees.specs.View.{is_int}
 use Rattle.sqlite_value.specs.declared.keys.Order.{Order}
 use Rattle.sqlite_value.specs.Order.{value_cmp}
 use Rattle.sqlite_value.proofs.OrderLemmas.{value_cmp-Int}

@@ -1,5 +1,5 @@
 -- What the statements on `lot` do and show.
-use Rattle.std.proofs.Common.{◌≡◌, reverse, slice_get, ℕ, pos, ◌&&◌, List, [], ◌∷◌, map, find, codes, false, Option, option_map, Result, OnOk, refl, ◌∙◌, map-id, int_eq, None, true, ap, ◌<◌, ◌^◌, is_some, ℤ, Some}
+use Rattle.std.proofs.Common.{◌≡◌, reverse, slice_get, ℕ, pos, ◌&&◌, List, [], ◌∷◌, map, find, codes, false, Option, option_map, Result, OnOk, refl, ◌∙◌, map-id, int_eq, None, true, ap, ◌<◌, ◌^◌, is_some, Some}
 use Rattle.std.specs.List.{AllZip}
 use Rattle.sqlite_tied.specs.Compute.{everything}
 use Rattle.sqlite.specs.declared.types.Value.TheVariants.{Null, Int, Text}

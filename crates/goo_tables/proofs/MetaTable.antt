@@ -144,10 +144,10 @@ module _ (sql : List ℕ) (params : Row) (project : List Term) (f : Meta → Met
       → FailsOnly IsTooBig sql params old new
   changing_fails suits stands keeps live unlimited =
       updating_fails sql 0 (unordered 0 at_one project) refl (λ _ _. refl) plain params suits old new it.schema unlimited live is
+      (λ _ rows answers.
+      update_obeys meta_key meta_row (λ _. refl) meta refl (λ m. simp (cast_null, cast_int) refl) (λ _. true) f keeps old.now.trees (t.meta ∷ []) (inr (t.meta, refl)) rows (shows old t rows it (answers.answer Null)) stands (all_of _ (λ _. refl) _) (λ _ _. all_of _ (λ _. refl) _))
       (λ rows answers.
-        update_obeys meta_key meta_row (λ _. refl) meta refl (λ m. simp (cast_null, cast_int) refl) (λ _. true) f keeps old.now.trees (t.meta ∷ []) (inr (t.meta, refl)) rows (shows old t rows it (answers.answer Null)) stands (all_of _ (λ _. refl) _))
-      (λ rows answers.
-        update_small meta_key meta_row (λ _. refl) meta refl (λ m. simp (cast_null, cast_int) refl) (λ _. true) f keeps old.now.trees (t.meta ∷ []) (inr (t.meta, refl)) rows (shows old t rows it (answers.answer Null)) (λ _ _. refl))
+      update_small meta_key meta_row (λ _. refl) meta refl (λ m. simp (cast_null, cast_int) refl) (λ _. true) f keeps old.now.trees (t.meta ∷ []) (inr (t.meta, refl)) rows (shows old t rows it (answers.answer Null)) (λ _ _. refl))
 
 -- ---- the date
 

@@ -66,6 +66,7 @@ pub fn set_progress<S: Alter>(
     ensures changed { HasCleanDisk (state S.Store tx.new.conn.now) → (t : Tables) → Sees (state S.Store tx.old.conn.now) t
         → IsOnce (filter (λ k. bytes_eq k.1.gsrn gsrn.now) t.devices)
         → OnOk result (Sees (state S.Store tx.new.conn.now) (with_progress t gsrn.now last_day.now carry)) }
+    ensures refused { ChangeFailsBy IsTooBigOrFull (state S.Store tx.old.conn.now) (state S.Store tx.new.conn.now) result (λ t. IsOnce (filter (λ k. bytes_eq k.1.gsrn gsrn.now) t.devices)) }
     ensures uncommitted { HasCleanDisk (state S.Store tx.new.conn.now) → KeepsCommit (state S.Store tx.old.conn.now) (state S.Store tx.new.conn.now) }
     ensures survives { Survives (state S.Store tx.old.conn.now) (state S.Store tx.new.conn.now) (λ _. ⊥) }
 {
