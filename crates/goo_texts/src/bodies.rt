@@ -176,8 +176,7 @@ fn read(alloc: Global, body: &[u8]) -> Result<Result<Request, BodyFault>, Fail> 
 #[test]
 fn january(rt: HostRuntime) -> Result<(), Fail> {
     let request = read(rt.alloc(), JANUARY.as_bytes())??;
-    assert!(rt; request.caller.text() == "ISSUER");
-    assert!(rt; request.key.text() == "d1");
+    assert!(rt; request.caller.text() == "ISSUER" && request.key.text() == "d1");
     let text = command_text(rt.alloc(), &request.command)?;
     let wanted = "{\"aux_wh\":34567890,\"command\":\"declare\",\"device\":\"500000000000000012\",\
         \"first_day\":\"2025-01-01\",\"gross_wh\":1234567890,\"last_day\":\"2025-01-31\"}";

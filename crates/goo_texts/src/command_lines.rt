@@ -142,7 +142,7 @@ fn a_registry_in_memory_begins_as_it_is_told(rt: HostRuntime) {
         "999999999999",
     ];
     let opening = opened(read_task(rt.alloc(), words.as_slice()));
-    assert_eq!(rt; opening, Some((7, *b"2025-03-01", 999_999_999_999)));
+    assert!(rt; opening == Some((7, *b"2025-03-01", 999_999_999_999)));
     let words = [
         "goo",
         "run",
@@ -153,12 +153,12 @@ fn a_registry_in_memory_begins_as_it_is_told(rt: HostRuntime) {
         "2025-03-01",
     ];
     let opening = opened(read_task(rt.alloc(), words.as_slice()));
-    assert_eq!(rt; opening, Some((7, *b"2025-03-01", 1)));
+    assert!(rt; opening == Some((7, *b"2025-03-01", 1)));
 }
 
 #[test]
 fn each_fault_of_a_command_line_is_told(rt: HostRuntime) {
     for (words, wanted) in FAULTS {
-        assert_eq!(rt; told(read_task(rt.alloc(), words)), wanted);
+        assert!(rt; told(read_task(rt.alloc(), words)) == wanted);
     }
 }

@@ -96,8 +96,8 @@ fn each_unreadable_line_is_told(rt: HostRuntime) -> Result<(), Fail> {
         };
         let mut writer = Vec::new(rt.alloc());
         let tally = run_lines(rt.alloc(), &mut desk, &mut line.as_bytes(), &mut writer)?;
-        assert_eq!(rt; writer.as_slice(), wanted.as_bytes(), "for {line}");
-        assert_eq!(rt; tally, Tally { good: 0, bad: 1 });
+        assert!(rt; writer.as_slice() == wanted.as_bytes(), "for {line}");
+        assert!(rt; tally == Tally { good: 0, bad: 1 });
     }
     Ok(())
 }
@@ -115,8 +115,7 @@ fn empty_lines_are_passed_over(rt: HostRuntime) -> Result<(), Fail> {
         };
         let mut writer = Vec::new(rt.alloc());
         let tally = run_lines(rt.alloc(), &mut desk, &mut input.as_bytes(), &mut writer)?;
-        assert_eq!(rt; tally, Tally { good: 0, bad });
-        assert_eq!(rt; writer.len(), bad * CALLER.len());
+        assert!(rt; tally == Tally { good: 0, bad } && writer.len() == bad * CALLER.len());
     }
     Ok(())
 }
@@ -132,8 +131,10 @@ fn the_lines_before_a_fault_are_told(rt: HostRuntime) {
         let mut desk = FailingDesk { fault };
         let mut writer = Vec::new(rt.alloc());
         let answered = run_lines(rt.alloc(), &mut desk, &mut input.as_bytes(), &mut writer);
-        assert!(rt; matches!(&answered, Err(fault) if *fault == wanted));
-        assert_eq!(rt; writer.as_slice(), CALLER.as_bytes());
+        assert!(rt;
+            matches!(&answered, Err(fault) if *fault == wanted)
+                && writer.as_slice() == CALLER.as_bytes()
+        );
     }
 }
 
@@ -152,10 +153,10 @@ fn a_beginning_is_written_before_a_write_fault(rt: HostRuntime) {
         &mut b"ISSUER\nSUN {\n".as_slice(),
         &mut writer,
     );
-    assert!(rt; matches!(answered, Err(LinesFault::Write)));
-    assert_eq!(rt;
-        writer.text.as_slice(),
-        b"{\"fault\":\"Caller\",\"outcome\":\"unreadable\"}\n{\"fa".as_slice()
+    assert!(rt;
+        matches!(answered, Err(LinesFault::Write))
+            && writer.text.as_slice()
+                == b"{\"fault\":\"Caller\",\"outcome\":\"unreadable\"}\n{\"fa".as_slice()
     );
 }
 

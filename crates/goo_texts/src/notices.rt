@@ -15,12 +15,18 @@ const NOTICE: &str = "{\"account\":5,\"addressee\":9,\"number\":1,\
 #[test]
 fn exported(rt: HostRuntime) -> Result<(), Fail> {
     let notice = read(rt.alloc(), NOTICE.as_bytes())?;
-    assert!(rt; notice.sender().get() == 7 && notice.addressee().get() == 9);
-    assert!(rt; notice.number().get() == 1 && notice.account().get() == 5);
-    assert!(rt; notice.parts().len() == 1);
+    assert!(rt;
+        notice.sender().get() == 7
+            && notice.addressee().get() == 9
+            && notice.number().get() == 1
+            && notice.account().get() == 5
+            && notice.parts().len() == 1
+    );
     let part = &notice.parts()[0];
-    assert!(rt; part.range.first().write() == *b"07000000000020");
-    assert!(rt; part.range.last().write() == *b"07000000000029");
+    assert!(rt;
+        part.range.first().write() == *b"07000000000020"
+            && part.range.last().write() == *b"07000000000029"
+    );
     assert!(rt;
         part.lot.site().text() == "North field" && part.lot.capacity_w().get() == 2_000_000
     );
@@ -82,8 +88,10 @@ fn changed(rt: HostRuntime) -> Result<(), Fail> {
     }
     let none =
         "{\"account\":5,\"addressee\":9,\"number\":1,\"parts\":[],\"sender\":7,\"version\":1}";
-    assert!(rt; read(rt.alloc(), none.as_bytes()).err() == Some(NoticeFault::Field));
-    assert!(rt; read(rt.alloc(), b"[]").err() == Some(NoticeFault::Shape));
+    assert!(rt;
+        read(rt.alloc(), none.as_bytes()).err() == Some(NoticeFault::Field)
+            && read(rt.alloc(), b"[]").err() == Some(NoticeFault::Shape)
+    );
     Ok(())
 }
 

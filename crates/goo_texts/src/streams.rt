@@ -103,7 +103,7 @@ fn a_thousand_interruptions_are_passed_over_and_one_more_is_a_fault(
 ) -> Result<(), Fail> {
     let mut patient = make_halting(b"ab", 1_000, 10);
     let input = read_whole(rt.alloc(), &mut patient, 10)?;
-    assert_eq!(rt; input.as_slice(), b"ab".as_slice());
+    assert!(rt; input.as_slice() == b"ab".as_slice());
     let mut endless = make_halting(b"ab", 1_001, 10);
     assert!(rt;
         matches!(
@@ -125,7 +125,7 @@ fn a_fault_in_the_middle_and_at_the_limit(rt: HostRuntime) -> Result<(), Fail> {
     );
     let mut whole = b"abc".as_slice();
     let input = read_whole(rt.alloc(), &mut whole, 3)?;
-    assert_eq!(rt; input.as_slice(), b"abc".as_slice());
+    assert!(rt; input.as_slice() == b"abc".as_slice());
     let mut over = b"abcd".as_slice();
     assert!(rt; matches!(read_whole(rt.alloc(), &mut over, 3), Err(ReadFault::Read)));
     Ok(())
@@ -134,18 +134,15 @@ fn a_fault_in_the_middle_and_at_the_limit(rt: HostRuntime) -> Result<(), Fail> {
 #[test]
 fn a_text_is_written_over_a_thousand_interruptions_and_no_more(rt: HostRuntime) {
     let mut patient = make_narrow(4, 1_000, End::Fails);
-    assert!(rt; write_whole(&mut patient, b"text").is_ok());
-    assert_eq!(rt; patient.taken, *b"text");
+    assert!(rt; write_whole(&mut patient, b"text").is_ok() && patient.taken == *b"text");
     let mut endless = make_narrow(4, 1_001, End::Fails);
-    assert!(rt; write_whole(&mut endless, b"text").is_err());
-    assert_eq!(rt; endless.count, 0);
+    assert!(rt; write_whole(&mut endless, b"text").is_err() && endless.count == 0);
 }
 
 #[test]
 fn after_a_fault_a_beginning_is_written(rt: HostRuntime) {
     for end in [End::Fails, End::TakesNothing] {
         let mut writer = make_narrow(2, 0, end);
-        assert!(rt; write_whole(&mut writer, b"STATEMENT").is_err());
-        assert_eq!(rt; writer.taken, *b"ST..");
+        assert!(rt; write_whole(&mut writer, b"STATEMENT").is_err() && writer.taken == *b"ST..");
     }
 }

@@ -72,11 +72,11 @@ impl Desk {
         let issuer = holder_of(ISSUER)?;
         let account = account_of(account)?;
         let runs = self.holdings(&issuer, account)?;
-        assert_eq!(rt; runs.len(), wanted.len());
+        assert!(rt; runs.len() == wanted.len());
         for (run, (first, last, place)) in runs.iter().zip(wanted) {
-            assert_eq!(rt; run.first.serial(), *first);
-            assert_eq!(rt; run.last.serial(), *last);
-            assert_eq!(rt; run.place, *place);
+            assert!(rt;
+                run.first.serial() == *first && run.last.serial() == *last && run.place == *place
+            );
         }
         Ok(())
     }

@@ -164,8 +164,7 @@ fn carries_out(
     let outcome = match desk.apply(request) {
         Ok(outcome) => outcome,
         Err(fault) => {
-            assert_eq!(rt; fault, Fault::Memory);
-            assert!(rt; Sight::of(desk)?.is(&before));
+            assert!(rt; fault == Fault::Memory && Sight::of(desk)?.is(&before));
             desk.apply(request)?
         }
     };
@@ -194,11 +193,11 @@ fn carries_out_all(rt: &impl Abort, desk: &mut Desk, lines: &[Line]) -> Result<(
 /// The issuing body is shown these runs of account 1.
 fn shows(rt: &impl Abort, desk: &mut Desk, wanted: &[(u64, u64, Place)]) -> Result<(), Fail> {
     let runs = runs_of(desk, 1)?;
-    assert_eq!(rt; runs.len(), wanted.len());
+    assert!(rt; runs.len() == wanted.len());
     for (run, (first, last, place)) in runs.iter().zip(wanted) {
-        assert_eq!(rt; run.first.serial(), *first);
-        assert_eq!(rt; run.last.serial(), *last);
-        assert_eq!(rt; run.place, *place);
+        assert!(rt;
+            run.first.serial() == *first && run.last.serial() == *last && run.place == *place
+        );
     }
     Ok(())
 }
@@ -225,7 +224,7 @@ fn runs_again(
         return Err(Fail::new("the run stopped twice"));
     };
     comes_to(rt, &outcomes, stand)?;
-    assert_eq!(rt; outcomes.len(), ENDS.len());
+    assert!(rt; outcomes.len() == ENDS.len());
     Ok(())
 }
 
@@ -242,11 +241,11 @@ fn comes_to(rt: &impl Abort, outcomes: &[Outcome], stand: usize) -> Result<(), F
 fn runs(rt: &impl Abort, desk: &mut Desk, requests: &[Request]) -> Result<(), Fail> {
     match desk.run(requests) {
         Ok(outcomes) => {
-            assert_eq!(rt; outcomes.len(), ENDS.len());
+            assert!(rt; outcomes.len() == ENDS.len());
             comes_to(rt, &outcomes, 0)
         }
         Err(stop) => {
-            assert_eq!(rt; stop.fault, Fault::Memory);
+            assert!(rt; stop.fault == Fault::Memory);
             let stand = stop.done.len();
             assert!(rt; stand < ENDS.len());
             comes_to(rt, &stop.done, 0)?;
@@ -287,7 +286,7 @@ fn shows_end(rt: &impl Abort, desk: &mut Desk) -> Result<(), Fail> {
             (200, 1200, over(1)),
         ],
     )?;
-    assert_eq!(rt; issued_in_all(desk)?, 1200);
+    assert!(rt; issued_in_all(desk)? == 1200);
     Ok(())
 }
 

@@ -32,7 +32,7 @@ fn runs(rt: &impl Abort, desk: &mut Desk, lines: &[Line]) -> Result<(), Fail> {
     let Ok(outcomes) = desk.run(&requests) else {
         return Err("the run stopped".into());
     };
-    assert_eq!(rt; outcomes.len(), lines.len());
+    assert!(rt; outcomes.len() == lines.len());
     for (outcome, (_, _, wanted)) in outcomes.iter().zip(lines) {
         is_outcome(rt, *outcome, wanted);
     }
@@ -55,10 +55,12 @@ fn two_requests_and_none(rt: HostRuntime) -> Result<(), Fail> {
 
 /// What keeps the records of registry 7 in April.
 fn is_of_april<S: Shelf>(rt: &impl Abort, shelf: &mut S) -> Result<(), Fail> {
-    assert!(rt; shelf.code()?.get() == 7);
-    assert!(rt; shelf.today()? == day_of("2025-04-05")?);
-    assert!(rt; shelf.counters()?.serial() == 1202);
-    assert!(rt; shelf.refused_calls() == 0);
+    assert!(rt;
+        shelf.code()?.get() == 7
+            && shelf.today()? == day_of("2025-04-05")?
+            && shelf.counters()?.serial() == 1202
+            && shelf.refused_calls() == 0
+    );
     Ok(())
 }
 

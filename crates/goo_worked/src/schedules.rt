@@ -314,9 +314,13 @@ fn a_thousand_schedules(rt: HostRuntime) -> Result<(), Fail> {
     for seed in 0..SCHEDULES {
         schedule(&rt, rt.alloc(), seed, &mut tally)?;
     }
-    assert!(rt; tally.sent > SCHEDULES && tally.accepted > SCHEDULES);
-    assert!(rt; tally.repeated > SCHEDULES && tally.astray > SCHEDULES / 2);
-    assert!(rt; tally.late > SCHEDULES / 10);
-    assert_eq!(rt; tally.sent, tally.accepted.wrapping_add(tally.late));
+    assert!(rt;
+        tally.sent > SCHEDULES
+            && tally.accepted > SCHEDULES
+            && tally.repeated > SCHEDULES
+            && tally.astray > SCHEDULES / 2
+            && tally.late > SCHEDULES / 10
+            && tally.sent == tally.accepted.wrapping_add(tally.late)
+    );
     Ok(())
 }
