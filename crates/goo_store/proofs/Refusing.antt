@@ -1,5 +1,5 @@
 -- What is looked up before a commit is refused only where the disk failed.
-use Rattle.std.proofs.Common.{◌≡◌, ◌≢◌, ◌≤◌, ◌<◌, ◌^◌, ◌+◌, ◌&&◌, ℕ, ℤ, pos, List, All, find, reverse, slice_get, inl, inr, Bool, true, false, IsTrue, IsSome, IsSomeAnd, IfSome, Option, Some, None, option_map, refl, sym, ap, subst, ◌∙◌, arith, true≢false, Ok, Err, Result, IfOk, IfErr, IsOkUnless}
+use Rattle.std.proofs.Common.{◌≡◌, ◌≢◌, ◌≤◌, ◌<◌, ◌^◌, ◌+◌, ◌&&◌, ℕ, ℤ, pos, List, All, find, reverse, slice_get, inl, inr, Bool, IsTrue, IsSome, IsSomeAnd, IfSome, Option, Some, None, option_map, refl, sym, ap, subst, ◌∙◌, arith, true≢false, Ok, Err, Result, IfOk, IfErr, IsOkUnless}
 use Rattle.std.specs.Cmp.Lexicographic.{nat_list_cmp_total}
 use Rattle.std.specs.FinMap.{get}
 use Rattle.std.specs.List.{Any}
