@@ -218,8 +218,8 @@ pub fn wanted_sights(rt: &impl Abort, alloc: Global) -> Result<Vec<String>, Fail
     Ok(shown)
 }
 
-/// More rounds than any of the loops below needs.
-const ROUNDS: u64 = 1000;
+/// More rounds than any loop over stops or lapses needs.
+pub const ROUNDS: u64 = 1000;
 
 /// The log stops at every fourth call from this one on.
 fn log_stops(rt: &impl Abort, alloc: Global, from: u64) -> Result<(), Fail> {
