@@ -32,6 +32,8 @@ mod script;
 #[cfg(test)]
 mod sight;
 #[cfg(test)]
+mod statements;
+#[cfg(test)]
 mod stops;
 #[cfg(test)]
 mod worked;

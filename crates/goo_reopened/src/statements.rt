@@ -1,0 +1,68 @@
+//! The statements that no shelf makes yet, over the tables of a registry that was asked for a withdrawal.
+
+use crate::registries::{begun, closed, in_march};
+use crate::worked::{Case, answers};
+use goo_tables::declaration::find_declaration;
+use goo_tables::joined::{next_expiring, next_of_account};
+use goo_tables::lot::find_lot_by_id;
+use goo_tables::piece::find_piece;
+use goo_tables::withdrawal::find_withdrawal;
+use sqlite::{Alter, Connection};
+use std::alloc::Global;
+use std::process::Abort;
+use std::test::Fail;
+
+/// The fifth certificate of January is withdrawn. One of March is there too.
+const WITHDRAWN: Case = Case {
+    name: "a withdrawal",
+    serial: 1,
+    begun: 9,
+    asked: &[(
+        "ISSUER",
+        r#"{"command":"withdraw","first":"07000000000005","last":"07000000000005","reason":"meter read twice","key":"k201"}"#,
+        r#"{"outcome":"accepted","reply":{"count":1,"withdrawal":1}}"#,
+    )],
+    shown: "",
+};
+
+/// January's declaration, its lot, the piece that was withdrawn, and the withdrawal.
+fn finds_rows<S: Alter>(
+    rt: &impl Abort,
+    alloc: Global,
+    conn: &mut Connection<S>,
+) -> Result<(), Fail> {
+    assert!(rt;
+        matches!(find_declaration(alloc, conn, "500000000000000012", "2025-01-01"), Ok(Some(row)) if row.gross == 1_234_567_890)
+            && matches!(find_lot_by_id(alloc, conn, 1), Ok(Some(row)) if row.origin == 7)
+            && matches!(find_piece(alloc, conn, 7_000_000_000_005), Ok(Some(row)) if row.last == 7_000_000_000_005)
+            && matches!(find_withdrawal(alloc, conn, 1), Ok(Some(row)) if row.first == 7_000_000_000_005)
+    );
+    Ok(())
+}
+
+/// The piece behind the withdrawn one; those of January expire after the last day of July of the next year, March's doesn't yet.
+fn finds_next<S: Alter>(
+    rt: &impl Abort,
+    alloc: Global,
+    conn: &mut Connection<S>,
+) -> Result<(), Fail> {
+    assert!(rt;
+        matches!(next_of_account(alloc, conn, 1, 7_000_000_000_005), Ok(Some(row)) if row.piece.first == 7_000_000_000_006)
+            && matches!(next_expiring(alloc, conn, "2026-08-01", 7_000_000_000_004), Ok(Some(row)) if row.piece.first == 7_000_000_000_006)
+            && matches!(next_expiring(alloc, conn, "2026-08-01", 7_000_000_000_006), Ok(None))
+            && matches!(next_expiring(alloc, conn, "2026-07-31", 0), Ok(None))
+    );
+    Ok(())
+}
+
+#[test]
+fn by_keys_and_in_order(rt: HostRuntime) -> Result<(), Fail> {
+    let alloc = rt.alloc();
+    let Ok(mut registry) = begun(alloc, Connection::open_in_memory(alloc)?, in_march()?) else {
+        return Err("no registry".into());
+    };
+    let _shown = answers(&rt, alloc, &mut registry, &WITHDRAWN)?;
+    let (mut conn, _) = closed(registry);
+    finds_rows(&rt, alloc, &mut conn)?;
+    finds_next(&rt, alloc, &mut conn)
+}
