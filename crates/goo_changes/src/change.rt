@@ -99,7 +99,10 @@ fn make<S: Alter>(tx: &mut Transaction<'_, S>, change: &Change) -> Result<usize,
 }
 
 /// Makes the changes in turn.
-pub(crate) fn make_all<S: Alter>(tx: &mut Transaction<'_, S>, changes: &[Change]) -> Result<(), Error>
+pub(crate) fn make_all<S: Alter>(
+    tx: &mut Transaction<'_, S>,
+    changes: &[Change],
+) -> Result<(), Error>
     requires { All ChangeFits changes.now }
     ensures same_reference { tx.new.conn.ghost_name ≡ tx.old.conn.ghost_name }
     ensures changed { HasCleanDisk (state S.Store tx.new.conn.now) → (t : Tables) → Sees (state S.Store tx.old.conn.now) t → AreFor t changes.now

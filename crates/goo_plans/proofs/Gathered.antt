@@ -1,5 +1,5 @@
 -- Calls that gather what the tables show, one after another.
-use Rattle.std.proofs.Common.{◌≡◌, inl, inr, false, IsTrue, sym, ap, subst, ◌∙◌, arith, true≢false, Ok, Err, Result, IfOk, OnOk, IsErr}
+use Rattle.std.proofs.Common.{◌≡◌, inl, inr, IsTrue, sym, ap, subst, ◌∙◌, arith, true≢false, Ok, Err, Result, IfOk, OnOk, IsErr}
 use Rattle.sqlite.specs.State.{State, HasCleanDisk, Survives}
 use Rattle.sqlite.specs.Tree.{Trees}
 use Rattle.sqlite.specs.Effect.{Database}
