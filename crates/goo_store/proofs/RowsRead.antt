@@ -29,6 +29,7 @@ use Rattle.goo_kept.specs.Kept.{AreKept}
 use Rattle.goo_kept.specs.Places.{piece_of, rows_of}
 use Rattle.goo_kept.specs.Readable.{is_meta, is_device, is_piece}
 use Rattle.goo_plans.specs.Reading.{IsReadableLot}
+use Rattle.goo_plans.proofs.RowsRead.{found_row, each_so, lots_kept}
 use Rattle.goo_store.specs.Reading.{IsReadablePiece, AreReadablePieces, AreReadableDevices}
 
 -- all rows, read from the table

@@ -10,6 +10,7 @@ use Rattle.goo_columns.specs.declared.joined.JoinedRow.{JoinedRow}
 use Rattle.goo_columns.specs.declared.piece.PieceRow.{PieceRow}
 use Rattle.goo_kept.specs.Places.{piece_of}
 use Rattle.goo_kept.specs.Readable.{is_device, is_piece, is_notice_out}
+use Rattle.goo_plans.specs.Reading.{IsReadableLot}
 
 -- rows of devices, no two of one number
 pub record AreReadableDevices (rows : List DeviceRow) : Type 0 where
