@@ -19,9 +19,10 @@ use Rattle.goo_kept.specs.Places.{rows_of}
 use Rattle.goo_store.specs.Holding.{is_sure, sure}
 use Rattle.goo_store.specs.Moments.{tables_in, IsWell, count, moment}
 use Rattle.goo_store.specs.StoreFaults.{BlamesStore}
-use Rattle.goo_store.specs.Telling.{Accepts, Tells}
-use Rattle.goo_store.specs.declared.trouble.Trouble.{Trouble}
-use Rattle.goo_store.specs.declared.trouble.Trouble.TheVariants.{Memory, Refused}
+use Rattle.goo_plans.specs.Passing.{Accepts}
+use Rattle.goo_store.specs.Telling.{Tells}
+use Rattle.goo_plans.specs.declared.trouble.Trouble.{Trouble}
+use Rattle.goo_plans.specs.declared.trouble.Trouble.TheVariants.{Memory, Refused}
 
 -- once the flag is up, nothing is said
 pub refused_blames : {T : Type 0} (old : State) (a : Bool) (result : Result T Fault) → a ≡ true → BlamesStore old old a result

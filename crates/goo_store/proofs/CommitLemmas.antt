@@ -16,14 +16,14 @@ use Rattle.goo_columns.specs.Columns.{registry_schema}
 use Rattle.goo_columns.specs.Rows.{Tables, tables_of}
 use Rattle.goo_columns.specs.Stands.{Stands, Settled, Holds, doubts}
 use Rattle.goo_columns.proofs.Decoded.{decoded}
-use Rattle.goo_store.specs.declared.change.Change.{Change}
-use Rattle.goo_store.specs.declared.trouble.Trouble.{Trouble}
-use Rattle.goo_store.specs.declared.trouble.Trouble.TheVariants.{Memory, Refused}
-use Rattle.goo_store.specs.Changes.{made_all, AreFor}
+use Rattle.goo_changes.specs.declared.change.Change.{Change}
+use Rattle.goo_plans.specs.declared.trouble.Trouble.{Trouble}
+use Rattle.goo_plans.specs.declared.trouble.Trouble.TheVariants.{Memory, Refused}
+use Rattle.goo_changes.specs.Changes.{made_all, AreFor}
 use Rattle.goo_kept.specs.Kept.{AreKept}
 use Rattle.goo_store.specs.Moments.{tables_in, OpensAs, count, moment, IsWell}
 use Rattle.goo_kept.specs.Places.{rows_of}
-use Rattle.goo_store.specs.Planned.{IsPlanned}
+use Rattle.goo_plans.specs.Planned.{IsPlanned}
 use Rattle.goo_kept.specs.States.{state_of}
 use Rattle.goo_store.specs.Telling.{PassesOn, Tells}
 use Rattle.goo_store.specs.Holding.{is_sure, sure, LeavesCommit, opens_so, left_by}

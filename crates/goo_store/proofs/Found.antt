@@ -1,19 +1,14 @@
 -- What a shelf keeps of its look-ups, as it is found and kept.
-use Rattle.std.proofs.Common.{◌≡◌, inl, inr, refl, sym, ap, subst, ◌∙◌, ◌++◌, ◌∷◌, [], pos, ℕ, ◌||◌, Bool, true, false, cond, true≢false, List, All, map, find, filter, reverse, slice_index_or, is_some, Option, Some, None, option_map, Ok, Err, Result, IfOk, IfSome, IsSomeAnd}
+use Rattle.std.proofs.Common.{◌≡◌, inl, inr, refl, sym, ap, subst, ◌∙◌, ◌∷◌, [], pos, ℕ, Bool, List, All, map, find, filter, reverse, Option, Some, None, option_map, Ok, Err, Result, IfOk, IfSome, IsSomeAnd}
 use Rattle.std.specs.Prelude.{IsOkAnd}
-use Rattle.std.specs.FinMap.{get, contains_key}
-use Rattle.std.specs.Ordering.{eq_by_cmp, int_eq}
-use Rattle.std.specs.Cmp.Lexicographic.{nat_list_cmp_total}
+use Rattle.std.specs.FinMap.{get}
 use Rattle.std.specs.List.{cons_option}
-use Rattle.std.proofs.lemmas.List.Elements.{All-nil, All-cons, All-head, All-tail, All-append, All-filter}
+use Rattle.std.proofs.lemmas.List.Elements.{All-nil, All-cons, All-head, All-filter}
 use Rattle.std.proofs.lemmas.List.Sorted.{All-permutation, IsPermutation-reverse}
 use Rattle.sqlite.specs.State.{State}
 use Rattle.sqlite.specs.declared.error.Error.{Error}
 use Rattle.sqlite_keyed.specs.Keyed.{get_by}
-use Rattle.sqlite_keyed.proofs.SliceLemmas.{is_some-map}
-use Rattle.goo_spec.specs.Lots.{key_of}
-use Rattle.goo_spec.specs.State.{text_cmp}
-use Rattle.goo_spec.proofs.Mapping.{inside, none_some}
+use Rattle.goo_spec.proofs.Mapping.{inside}
 use Rattle.goo_types.specs.declared.lot_fields.LotFields.{LotFields}
 use Rattle.goo_types.specs.declared.piece.Piece.{Piece}
 use Rattle.goo_columns.specs.Beside.{beside, pieces_beside, joined_in}
@@ -25,21 +20,19 @@ use Rattle.goo_columns.specs.declared.lot.LotRow.{LotRow}
 use Rattle.goo_columns.specs.declared.meta.MetaRow.{MetaRow}
 use Rattle.goo_columns.specs.declared.piece.PieceRow.{PieceRow}
 use Rattle.goo_kept.specs.Devices.{device_of}
-use Rattle.goo_kept.specs.States.{known_lot, state_of}
-use Rattle.goo_kept.proofs.Known.{text_same, text_itself, get-known}
+use Rattle.goo_kept.specs.States.{state_of}
 use Rattle.goo_kept.specs.Places.{lot_of, piece_of}
-use Rattle.goo_store.specs.Found.{IsRowOf, IsDeviceOf, IsBeside, IsStated, AreStated, AreNone, Knows, KeepsFound, KeepsDevice, KeepsLot, KeepsLots, KeepsRead, KeepsRow}
+use Rattle.goo_plans.specs.Found.{IsRowOf, IsDeviceOf, IsStated, AreStated, AreNone}
+use Rattle.goo_store.specs.Found.{IsBeside, Knows, KeepsFound, KeepsDevice, KeepsLot, KeepsLots, KeepsRead, KeepsRow}
 use Rattle.goo_store.specs.Holding.{sure}
-use Rattle.goo_store.specs.LotNumbers.{AreWith, IsNumberOf}
-use Rattle.goo_store.specs.LotRows.{is_among}
 use Rattle.goo_store.specs.Moments.{tables_in, IsWell}
-use Rattle.goo_store.specs.NewLots.{known_lots}
-use Rattle.goo_store.specs.declared.findings.Findings.{Findings}
-use Rattle.goo_store.specs.declared.findings.KnownDevice.{KnownDevice}
-use Rattle.goo_store.specs.declared.lot_numbers.NumberedLot.{NumberedLot}
+use Rattle.goo_plans.specs.declared.findings.Findings.{Findings}
+use Rattle.goo_plans.specs.declared.findings.KnownDevice.{KnownDevice}
+use Rattle.goo_plans.specs.declared.lot_numbers.NumberedLot.{NumberedLot}
 use Rattle.goo_store.proofs.Looking.{before, so_still, known}
-use Rattle.goo_store.proofs.RowsGathered.{found_by_key}
-use Rattle.goo_store.proofs.RowsRead.{found_row, unmapped}
+use Rattle.goo_plans.proofs.RowsGathered.{found_by_key}
+use Rattle.goo_plans.proofs.RowsRead.{found_row}
+use Rattle.goo_store.proofs.RowsRead.{unmapped}
 
 -- nothing kept is right of all tables
 pub none_known : (s : State) (findings : Findings) → AreNone findings → Knows s findings
@@ -71,53 +64,6 @@ own_known old new it r looks findings b knows kept none =
       device = (still none).device;
       lots = (still none).lots;
     }
-
--- ---- lots, by the rows that state them
-
--- a lot that a row states has the row's number
-pub stated : (lots : List Lot) (x : NumberedLot) → option_map lot_of (get_by lot_key lots (pos x.number)) ≡ Some x.lot → IsNumberOf lots x.number x.lot
-stated lots x = go (get_by lot_key lots (pos x.number)) refl
-  where
-    go : (o : Option Lot) → get_by lot_key lots (pos x.number) ≡ o → option_map lot_of o ≡ Some x.lot → IsNumberOf lots x.number x.lot
-    go None is states = none_some x.lot states
-    go (Some row) is states = record { row = row; there = is; states = inside _ _ states }
-
--- those that are kept are there beside those that are added
-pub with_found : (before : List Lot) (added found : List NumberedLot) (lots : List Lot) → AreStated before found → AreWith before added lots → AreWith before (added ++ found) lots
-with_found before added found lots are with = record {
-  kept = with.kept;
-  added_are = All-append (λ x. IsNumberOf lots x.number x.lot) added found with.added_are (λ k d low. later (slice_index_or found k d) (stated before (slice_index_or found k d) (are k d low)));
-}
-  where
-    later : (x : NumberedLot) → IsNumberOf before x.number x.lot → IsNumberOf lots x.number x.lot
-    later x is = record { row = is.row; there = with.kept x.number is.row is.there; states = is.states }
-
--- where a row is found, a row that passes another test as well is found by it
-found_too : {X : Type 0} (p q : X → Bool) (xs : List X) (x : X) → find p xs ≡ Some x → q x ≡ true → is_some (find q xs) ≡ true
-found_too p q [] x is passes = none_some x is
-found_too {X} p q (y ∷ ys) x is passes = go (p y) (q y) refl is (λ later. found_too p q ys x later passes)
-  where
-    go : (a b : Bool) → q y ≡ b → cond a (Some y) (find p ys) ≡ Some x → (find p ys ≡ Some x → is_some (find q ys) ≡ true) → is_some (cond b (Some y) (find q ys)) ≡ true
-    go a true same found rest = refl
-    go true false same found rest = absurd (true≢false (sym passes ∙ ap q (sym (inside y x found)) ∙ same))
-    go false false same found rest = rest found
-
--- a lot that a row states is known by its key
-stated_known : (lots : List Lot) (x : NumberedLot) → IsStated lots x.number x.lot → contains_key (known_lots lots) (key_of x.lot) ≡ true
-stated_known lots x states =
-    let it = stated lots x states in
-    let test : Lot → Bool = λ l. eq_by_cmp text_cmp (key_of x.lot) (key_of (lot_of l)) in
-    ap is_some (get-known nat_list_cmp_total known_lot (key_of x.lot) test (λ l. refl) lots) ∙ is_some-map (λ l. (known_lot l).1) (find test lots)
-    ∙ found_too (λ l. int_eq (lot_key l) (pos x.number)) test lots it.row it.there (text_itself (key_of x.lot) (key_of (lot_of it.row)) (ap key_of (sym it.states)))
-
--- a lot that is among those that are kept is known
-pub kept_known : (lots : List Lot) (kept : List NumberedLot) (key : List ℕ) → AreStated lots kept → is_among kept key ≡ true → contains_key (known_lots lots) key ≡ true
-kept_known lots [] key are among = absurd (true≢false (sym among))
-kept_known lots (x ∷ xs) key are among = go (eq_by_cmp text_cmp key (key_of x.lot)) refl among (kept_known lots xs key (All-tail (λ y. IsStated lots y.number y.lot) x xs are))
-  where
-    go : (b : Bool) → eq_by_cmp text_cmp key (key_of x.lot) ≡ b → (b || is_among xs key) ≡ true → (is_among xs key ≡ true → contains_key (known_lots lots) key ≡ true) → contains_key (known_lots lots) key ≡ true
-    go true same here rest = subst (λ k. contains_key (known_lots lots) k ≡ true) (sym (text_same key (key_of x.lot) same)) (stated_known lots x (All-head (λ y. IsStated lots y.number y.lot) x xs are))
-    go false other later rest = rest later
 
 -- ---- what is kept after a device was looked up
 

@@ -9,15 +9,17 @@ use Rattle.goo_shelf.specs.Shelf as shelf
 use Rattle.goo_columns.proofs.Results.{if_ok}
 use Rattle.goo_columns.specs.Rows.{Tables, tables_of}
 use Rattle.goo_columns.specs.Stands.{Stands, Rests, Looks, doubts}
-use Rattle.goo_store.specs.declared.findings.Findings.{Findings}
-use Rattle.goo_store.specs.declared.trouble.Trouble.{Trouble}
-use Rattle.goo_store.specs.declared.trouble.Trouble.TheVariants.{Memory, Refused}
+use Rattle.goo_plans.specs.declared.findings.Findings.{Findings}
+use Rattle.goo_plans.specs.declared.trouble.Trouble.{Trouble}
+use Rattle.goo_plans.specs.declared.trouble.Trouble.TheVariants.{Memory, Refused}
 use Rattle.goo_kept.specs.Kept.{AreKept}
 use Rattle.goo_kept.specs.Places.{rows_of}
 use Rattle.goo_kept.specs.States.{state_of}
-use Rattle.goo_store.specs.Telling.{Passes, Tells}
+use Rattle.goo_plans.specs.Passing.{Passes}
+use Rattle.goo_store.specs.Telling.{Tells}
 use Rattle.goo_store.specs.Moments.{tables_in, count, moment, IsWell}
-use Rattle.goo_store.specs.Found.{AreFindingsOf, Knows}
+use Rattle.goo_plans.specs.Found.{AreFindingsOf}
+use Rattle.goo_store.specs.Found.{Knows}
 use Rattle.goo_store.specs.Holding.{is_sure, sure, LeavesCommit, left_by, safe}
 
 module _ (old new : State) (it : IsWell old) {T : Type 0} (r : Result T Error) (right : Tables → T → Type 0) (looks : Looks old new r right) where

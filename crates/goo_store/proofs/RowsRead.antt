@@ -1,16 +1,13 @@
--- The rows that statements find in tables that keep the rules are rows that are read.
+-- The rows of pieces and devices that statements find in tables that keep the rules are rows that are read.
 use Rattle.std.proofs.Common.{◌≡◌, ◌≤◌, ◌+◌, ◌++◌, ◌&&◌, nat_le, nat_lt, map-id, ℕ, ℤ, pos, Bool, true, false, cond, IsTrue, IfSome, IsSomeAnd, List, [], ◌∷◌, map, filter, find, reverse, length, All, Option, Some, None, option_map, refl, sym, ap, subst, ◌∙◌, arith}
 use Rattle.std.specs.List.{list_all, cons_option}
-use Rattle.std.proofs.lemmas.Iterator.Adapters.{option_map_id}
 use Rattle.std.proofs.lemmas.List.{length-map}
 use Rattle.std.proofs.lemmas.List.Elements.{All-nil, All-cons, All-head, All-tail, All-map, All-filter}
 use Rattle.std.proofs.lemmas.List.Folds.{list_all-map}
 use Rattle.std.proofs.lemmas.List.Sorted.{All-permutation, IsPermutation-reverse}
 use Rattle.sqlite.specs.Effect.{Database}
-use Rattle.sqlite.specs.declared.types.Value.TheVariants.{Int}
 use Rattle.sqlite_keyed.specs.Keyed.{get_by}
 use Rattle.sqlite_keyed.proofs.ListLemmas.{filter-map}
-use Rattle.sqlite_keyed.proofs.RuleLemmas.{first_of_both, second_of_both}
 use Rattle.sqlite_typed.specs.Tests.{bytes_eq}
 use Rattle.goo_types.specs.Piece.{IsRising, IsRisingFrom}
 use Rattle.goo_types.specs.Range.{Numbers}
@@ -20,52 +17,26 @@ use Rattle.goo_store.specs.Near.{reaching}
 use Rattle.goo_store.proofs.Merging.{near_found}
 use Rattle.goo_ranges.proofs.Rising.{rising-weaken}
 use Rattle.goo_columns.specs.Beside.{beside, pieces_beside, joined_columns, joined_in}
-use Rattle.goo_columns.specs.Readable.{meta_readable, numbered_meta_readable, joined_readable, piece_readable, lot_readable}
-use Rattle.goo_columns.specs.Rows.{Tables, Meta, Device, Lot, lot_key, meta_columns, meta_in, device_in, piece_columns, lot_columns}
+use Rattle.goo_columns.specs.Readable.{joined_readable, piece_readable, lot_readable}
+use Rattle.goo_columns.specs.Rows.{Tables, Meta, Device, Lot, lot_key, meta_in, device_in, piece_columns, lot_columns}
 use Rattle.goo_columns.specs.Stands.{Stands}
 use Rattle.goo_columns.specs.declared.device.DeviceRow.{DeviceRow}
 use Rattle.goo_columns.specs.declared.joined.JoinedRow.{JoinedRow}
 use Rattle.goo_columns.specs.declared.meta.MetaRow.{MetaRow}
 use Rattle.goo_columns.specs.declared.piece.PieceRow.{PieceRow}
 use Rattle.goo_opening.specs.Reading.{CanBeRead}
-use Rattle.goo_kept.specs.Kept.{AreKept, IsKeptLot}
+use Rattle.goo_kept.specs.Kept.{AreKept}
 use Rattle.goo_kept.specs.Places.{piece_of, rows_of}
-use Rattle.goo_kept.specs.Readable.{is_meta, is_device, is_lot, is_piece}
-use Rattle.goo_rules.proofs.CanBeRead.{each_with, each_kept}
-use Rattle.goo_store.specs.Reading.{IsReadableLot, IsReadablePiece, AreReadablePieces, AreReadableDevices}
-
--- ---- a row that was found is one of the rows
-
-module _ {A B X : Type 0} (part : A → B) (of : X → B) (Q : B → Type 0) (test : A → Bool) where
-  pub found_part : (xs : List A) → All (λ a. Q (part a)) xs → (row : Option X) → option_map of row ≡ option_map part (find test xs) → IfSome row (λ r. Q (of r))
-  found_part [] all None is = tt
-  found_part [] all (Some r) is = absurd cc
-  found_part (x ∷ xs) all row is = go (test x) row is (found_part xs (All-tail (λ a. Q (part a)) x xs all))
-    where
-      go : (b : Bool) (o : Option X) → option_map of o ≡ option_map part (cond b (Some x) (find test xs)) → ((o : Option X) → option_map of o ≡ option_map part (find test xs) → IfSome o (λ r. Q (of r))) → IfSome o (λ r. Q (of r))
-      go false o same later = later o same
-      go true None same later = tt
-      go true (Some r) same later = let one : part x ≡ of r = cc in subst Q one (All-head (λ a. Q (part a)) x xs all)
-
--- where the rows are found as they are
-pub found_row : {A X : Type 0} (of : X → A) (Q : A → Type 0) (test : A → Bool) (xs : List A) → All Q xs → (row : Option X) → option_map of row ≡ find test xs → IfSome row (λ r. Q (of r))
-found_row of Q test xs all row is = found_part (λ a. a) of Q test xs all row (is ∙ sym (option_map_id (find test xs)))
-
--- rows that pass a test are such rows
-pub each_so : {A : Type 0} (p : A → Bool) (Q : A → Type 0) → ((a : A) → p a ≡ true → Q a) → (xs : List A) → list_all p xs ≡ true → All Q xs
-each_so p Q so [] all = All-nil Q
-each_so p Q so (x ∷ xs) all = All-cons Q x xs (so x (first_of_both (p x) (list_all p xs) all)) (each_so p Q so xs (second_of_both (p x) (list_all p xs) all))
+use Rattle.goo_kept.specs.Readable.{is_meta, is_device, is_piece}
+use Rattle.goo_plans.specs.Reading.{IsReadableLot}
+use Rattle.goo_plans.proofs.RowsRead.{found_row, each_so, lots_kept}
+use Rattle.goo_store.specs.Reading.{IsReadablePiece, AreReadablePieces, AreReadableDevices}
 
 -- all rows, read from the table
 pub listed : {A B X : Type 0} (p : B → Bool) (part : A → B) (of : X → B) (xs : List A) (rows : List X) → map of rows ≡ map part xs → list_all (λ a. p (part a)) xs ≡ true → list_all (λ r. p (of r)) rows ≡ true
 listed p part of xs rows is all = sym (list_all-map p of rows) ∙ ap (list_all p) is ∙ list_all-map p part xs ∙ all
 
--- ---- what `CanBeRead` says of the row of the registry, and of pieces beside their lots
-
-pub meta_read : (t : Tables) → CanBeRead t → meta_readable (meta_columns t.meta)
-meta_read t can =
-    let h : numbered_meta_readable (Int (pos 1) ∷ meta_columns t.meta) = All-head numbered_meta_readable (Int (pos 1) ∷ meta_columns t.meta) [] can.meta in
-    (omega arith, h.2, h.3, h.4, h.5, h.6, h.7, h.8, h.9)
+-- ---- what `CanBeRead` says of pieces beside their lots
 
 pub unmapped : {A B : Type 0} (P : B → Type 0) (f : A → B) (xs : List A) → All P (map f xs) → All (λ a. P (f a)) xs
 unmapped P f [] all = All-nil (λ a. P (f a))
@@ -119,12 +90,9 @@ meta_found m good None is = absurd cc
 meta_found m good (Some r) is = let same : meta_in r ≡ m = cc in ap is_meta same ∙ good
 
 module _ (db : Database) (t : Tables) (stands : Stands db t) (kept : AreKept t) where
-  pub lots_kept : All IsReadableLot t.lots
-  lots_kept = each_with is_lot IsKeptLot IsReadableLot (λ l it good. record { values = good; days = it.valid }) t.lots (each_kept t.lots stands.lots.rise kept.lots) kept.readable.lots
-
   pub pieces_kept : All IsReadablePiece (pieces_beside t)
   pieces_kept =
-      each_beside IsReadableLot (λ p. IsTrue (is_piece p)) IsReadablePiece (λ p l good it. record { values = good; lot = it }) t.lots lots_kept t.pieces
+      each_beside IsReadableLot (λ p. IsTrue (is_piece p)) IsReadablePiece (λ p l good it. record { values = good; lot = it }) t.lots (lots_kept db t stands kept) t.pieces
       (each_so is_piece (λ p. IsTrue (is_piece p)) (λ _ good. good) t.pieces kept.readable.pieces)
 
   pub last_piece : (test : PieceRow × Lot → Bool) (row : Option JoinedRow) → option_map joined_in row ≡ find test (reverse (pieces_beside t)) → IfSome row (λ r. IsReadablePiece (joined_in r))

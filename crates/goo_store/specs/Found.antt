@@ -1,5 +1,5 @@
 -- What a shelf keeps of its look-ups until the next commit.
-use Rattle.std.specs.Prelude.{◌≡◌, ◌⊎◌, ℕ, pos, List, [], All, Option, Some, None, option_map, Result, Ok, Err, IsOkAnd, IsSomeAnd}
+use Rattle.std.specs.Prelude.{◌≡◌, ◌⊎◌, ℕ, pos, List, All, Option, Some, None, Result, Ok, Err, IsOkAnd, IsSomeAnd}
 use Rattle.std.specs.Coded.{Coded, Coded-set, code_by, coded×, coded_list, coded_ℕ}
 use Rattle.std.specs.FinMap.{get}
 use Rattle.std.proofs.Props.{props}
@@ -10,7 +10,7 @@ use Rattle.sqlite_keyed.specs.Keyed.{get_by}
 use Rattle.goo_types.specs.declared.lot_fields.LotFields.{LotFields}
 use Rattle.goo_spec.specs.State.{Device}
 use Rattle.goo_columns.specs.Beside.{joined_in}
-use Rattle.goo_columns.specs.Rows.{Tables, Meta, Lot, device_in, lot_in, lot_key, meta_in}
+use Rattle.goo_columns.specs.Rows.{Tables, Meta, Lot, device_in, lot_in, lot_key}
 use Rattle.goo_columns.specs.Stands.{doubts}
 use Rattle.goo_columns.specs.declared.device.DeviceRow.{DeviceRow}
 use Rattle.goo_columns.specs.declared.joined.JoinedRow.{JoinedRow}
@@ -18,45 +18,16 @@ use Rattle.goo_columns.specs.declared.lot.LotRow.{LotRow}
 use Rattle.goo_columns.specs.declared.meta.MetaRow.{MetaRow}
 use Rattle.goo_columns.specs.declared.piece.PieceRow.{PieceRow}
 use Rattle.goo_kept.specs.Devices.{device_of}
-use Rattle.goo_kept.specs.Places.{lot_of}
 use Rattle.goo_kept.specs.States.{state_of}
+use Rattle.goo_plans.specs.Found.{IsRowOf, IsDeviceOf, AreStated, AreFindingsOf}
 use Rattle.goo_store.specs.Moments.{tables_in}
-use Rattle.goo_store.specs.declared.findings.Findings.{Findings}
-use Rattle.goo_store.specs.declared.findings.KnownDevice.{KnownDevice}
-use Rattle.goo_store.specs.declared.lot_numbers.NumberedLot.{NumberedLot}
-
--- where a row is kept, it is that of the tables
-abbrev pub IsRowOf : Option MetaRow → Tables → Type 0
-IsRowOf None t = Unit {0}
-IsRowOf (Some row) t = t.meta ≡ meta_in row
-
--- where a device is kept, it is registered under its number
-abbrev pub IsDeviceOf : Option KnownDevice → Tables → Type 0
-IsDeviceOf None t = Unit {0}
-IsDeviceOf (Some known) t = get (state_of t).devices known.gsrn ≡ Some known.device
-
--- the row under the number states the lot
-abbrev pub IsStated : List Lot → ℕ → LotFields → Type 0
-IsStated lots n lot = option_map lot_of (get_by lot_key lots (pos n)) ≡ Some lot
-
-abbrev pub AreStated : List Lot → List NumberedLot → Type 0
-AreStated lots xs = All (λ x. IsStated lots x.number x.lot) xs
-
--- all that is kept is so in the tables
-pub record AreFindingsOf (findings : Findings) (t : Tables) : Type 0 where
-  pub own : IsRowOf findings.own t
-  pub device : IsDeviceOf findings.device t
-  pub lots : AreStated t.lots findings.lots.items
+use Rattle.goo_plans.specs.declared.findings.Findings.{Findings}
+use Rattle.goo_plans.specs.declared.findings.KnownDevice.{KnownDevice}
+use Rattle.goo_plans.specs.declared.lot_numbers.NumberedLot.{NumberedLot}
 
 -- it is so while nothing is in doubt
 abbrev pub Knows : State → Findings → Type 0
 Knows s findings = doubts s ≡ 0 → AreFindingsOf findings (tables_in s)
-
--- nothing is kept
-pub record AreNone (findings : Findings) : Type 0 where
-  pub own : findings.own ≡ None
-  pub device : findings.device ≡ None
-  pub lots : findings.lots.items ≡ []
 
 -- what is kept after a row was read: what was kept before, or what was found
 abbrev pub KeepsFound : Result (Option MetaRow) Error → Option MetaRow → Option MetaRow → Type 0

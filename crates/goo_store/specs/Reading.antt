@@ -2,20 +2,15 @@
 use Rattle.std.specs.Prelude.{◌≡◌, ◌≤◌, ℕ, pos, true, IsTrue, List, filter, length, map, All}
 use Rattle.std.specs.List.{list_all}
 use Rattle.sqlite_typed.specs.Tests.{bytes_eq}
-use Rattle.goo_types.specs.Lot.{IsLot}
 use Rattle.goo_types.specs.Piece.{IsRising}
 use Rattle.goo_columns.specs.Beside.{joined_in}
 use Rattle.goo_columns.specs.Rows.{Lot, NoticeOut, device_in}
 use Rattle.goo_columns.specs.declared.device.DeviceRow.{DeviceRow}
 use Rattle.goo_columns.specs.declared.joined.JoinedRow.{JoinedRow}
 use Rattle.goo_columns.specs.declared.piece.PieceRow.{PieceRow}
-use Rattle.goo_kept.specs.Places.{lot_of, piece_of}
-use Rattle.goo_kept.specs.Readable.{is_device, is_lot, is_piece, is_notice_out}
-
--- a lot, by its values and by the rules on its days
-pub record IsReadableLot (l : Lot) : Type 0 where
-  pub values : IsTrue (is_lot l)
-  pub days : IsLot (lot_of l)
+use Rattle.goo_kept.specs.Places.{piece_of}
+use Rattle.goo_kept.specs.Readable.{is_device, is_piece, is_notice_out}
+use Rattle.goo_plans.specs.Reading.{IsReadableLot}
 
 -- rows of devices, no two of one number
 pub record AreReadableDevices (rows : List DeviceRow) : Type 0 where

@@ -1,29 +1,10 @@
--- How an error of the database is passed on, and what is told of it.
-use Rattle.std.specs.Prelude.{◌≡◌, ◌≢◌, Bool, true, Result, Ok, Err, IfOk, IfErr, IsOk, IsErr, IsOkUnless}
+-- How the end of a commit is passed on, and what is told of an error.
+use Rattle.std.specs.Prelude.{◌≡◌, Bool, true, Result, Ok, Err, IsOk, IsErr}
 use Rattle.sqlite.specs.declared.error.Error.{Error}
-use Rattle.sqlite.specs.declared.error.Error.TheVariants.{SqliteFailure}
-use Rattle.sqlite.specs.declared.error.ErrorCode.TheVariants.{OutOfMemory}
 use Rattle.goo_types.specs.declared.fault.Fault.{Fault}
 use Rattle.goo_types.specs.declared.fault.Fault.TheVariants as fault
-use Rattle.goo_opening.specs.declared.fault.OpenFault.{OpenFault}
-use Rattle.goo_opening.specs.declared.fault.OpenFault.TheVariants as opening
-use Rattle.goo_store.specs.declared.trouble.Trouble.{Trouble}
-use Rattle.goo_store.specs.declared.trouble.Trouble.TheVariants.{Memory, Refused}
-
--- want of memory, and any other cause
-abbrev pub IsTroubleOf : Error → Trouble → Type 0
-IsTroubleOf error Memory = error ≡ SqliteFailure OutOfMemory
-IsTroubleOf error Refused = error ≢ SqliteFailure OutOfMemory
-
--- what is read of something found stands in this relation to it, and an error is passed on as one
-abbrev pub Passes : {T U : Type 0} → Result T Error → Result U Trouble → (T → U → Type 0) → Type 0
-Passes (Ok x) read R = IfOk read (R x)
-Passes (Err e) read R = IsErr read
-
--- what was found is refused for want of memory alone, where it can be read
-abbrev pub Accepts : {T U : Type 0} → Result T Error → Result U Trouble → (T → Type 0) → Type 0
-Accepts (Ok x) read IsReadable = IsReadable x → IsOkUnless read Memory
-Accepts (Err e) read IsReadable = IfErr read (IsTroubleOf e)
+use Rattle.goo_plans.specs.declared.trouble.Trouble.{Trouble}
+use Rattle.goo_plans.specs.declared.trouble.Trouble.TheVariants.{Memory, Refused}
 
 -- success is passed on as success, and an error as one
 abbrev pub PassesOn : {T U : Type 0} → Result T Error → Result U Trouble → Type 0
@@ -35,8 +16,3 @@ abbrev pub Tells : {T : Type 0} → Result T Trouble → Result T Fault → Bool
 Tells (Ok x) told old new = (told ≡ Ok x) × (new ≡ old)
 Tells (Err Memory) told old new = (told ≡ Err fault.Memory) × (new ≡ old)
 Tells (Err Refused) told old new = (told ≡ Err fault.Store) × (new ≡ true)
-
--- the same, of a database that was to be opened
-abbrev pub open_fault_of : Trouble → OpenFault
-open_fault_of Memory = opening.Memory
-open_fault_of Refused = opening.Store

@@ -9,12 +9,13 @@ ghost use Rattle.goo_store.specs.Moments.{moment};
 ghost use Rattle.goo_store.specs.StoreFaults.{BlamesStore};
 ghost use Rattle.goo_kept.specs.States.{account_of};
 ghost use Rattle.goo_kept.specs.Readable.{is_account};
-ghost use Rattle.goo_store.specs.Telling.{Accepts, Passes};
+ghost use Rattle.goo_plans.specs.Passing.{Accepts, Passes};
 
 use crate::sql_shelf::SqlShelf;
-use crate::texts;
-use crate::trouble::{Trouble, told};
+use crate::told::told;
 use goo_columns::account::AccountRow;
+use goo_plans::texts;
+use goo_plans::trouble::Trouble;
 use goo_shelf::account::Account;
 use goo_tables::account::find_account;
 use goo_types::account_no::AccountNo;

@@ -9,12 +9,13 @@ ghost use Rattle.goo_store.specs.Moments.{moment};
 ghost use Rattle.goo_store.specs.StoreFaults.{BlamesStore};
 ghost use Rattle.goo_kept.specs.Records.{cancellation_of};
 ghost use Rattle.goo_kept.specs.Readable.{is_cancellation};
-ghost use Rattle.goo_store.specs.Telling.{Accepts, Passes};
+ghost use Rattle.goo_plans.specs.Passing.{Accepts, Passes};
 
 use crate::sql_shelf::SqlShelf;
-use crate::trouble::{Trouble, told};
-use crate::{numbers, texts};
+use crate::told::told;
 use goo_columns::cancellation::CancellationRow;
+use goo_plans::trouble::Trouble;
+use goo_plans::{numbers, texts};
 use goo_shelf::cancel_record::CancelRecord;
 use goo_tables::cancellation::find_cancellation;
 use goo_types::act_no::ActNo;

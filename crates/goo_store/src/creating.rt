@@ -12,9 +12,9 @@ ghost use Rattle.goo_columns.specs.Stands.{Sees, Settled, Holds};
 ghost use Rattle.goo_tables.specs.Changes.{MetaFits, begun};
 ghost use Rattle.goo_store.specs.Creating.{meta_of, IsFirst};
 
-use crate::trouble::Trouble;
 use goo_columns::meta::MetaRow;
 use goo_notice::texts::day_text;
+use goo_plans::trouble::Trouble;
 use goo_tables::create::create_tables;
 use goo_tables::meta::insert_meta;
 use goo_types::day::Day;

@@ -9,13 +9,14 @@ ghost use Rattle.goo_kept.specs.Devices.{declaration_of};
 ghost use Rattle.goo_store.specs.Moments.{moment};
 ghost use Rattle.goo_store.specs.StoreFaults.{BlamesStore};
 ghost use Rattle.goo_kept.specs.Readable.{is_declaration};
-ghost use Rattle.goo_store.specs.Telling.{Accepts, Passes};
-ghost use Rattle.goo_store.specs.declared.trouble.Trouble.TheVariants.{Memory};
+ghost use Rattle.goo_plans.specs.Passing.{Accepts, Passes};
+ghost use Rattle.goo_plans.specs.declared.trouble.Trouble.TheVariants.{Memory};
 
 use crate::sql_shelf::SqlShelf;
-use crate::trouble::{Trouble, told};
-use crate::{numbers, texts};
+use crate::told::told;
 use goo_columns::declaration::DeclarationRow;
+use goo_plans::trouble::Trouble;
+use goo_plans::{numbers, texts};
 use goo_tables::declaration::all_declarations;
 use goo_types::command::Declare;
 use goo_types::fault::Fault;

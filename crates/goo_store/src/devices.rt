@@ -10,42 +10,23 @@ ghost use Rattle.goo_store.specs.Found.{KeepsDevice};
 ghost use Rattle.goo_store.specs.Moments.{moment};
 ghost use Rattle.goo_store.specs.StoreFaults.{BlamesStore};
 ghost use Rattle.goo_kept.specs.Readable.{is_device, is_maybe_day};
-ghost use Rattle.goo_store.specs.Telling.{Accepts, Passes};
+ghost use Rattle.goo_plans.specs.Passing.{Accepts, Passes};
 ghost use Rattle.goo_kept.specs.Texts.{day_of};
 
-use crate::findings::KnownDevice;
-use crate::plants::read_plant;
 use crate::sql_shelf::SqlShelf;
-use crate::trouble::{Trouble, told};
-use crate::{numbers, texts};
+use crate::told::told;
 use goo_columns::device::DeviceRow;
+use goo_plans::devices::device_in_row;
+use goo_plans::findings::KnownDevice;
+use goo_plans::trouble::Trouble;
+use goo_plans::{numbers, texts};
 use goo_shelf::device::Device;
 use goo_shelf::found::{DeviceRecord, Progress};
 use goo_tables::device::find_device;
-use goo_types::command::RegisterDevice;
 use goo_types::day::Day;
 use goo_types::fault::Fault;
 use goo_types::gsrn::Gsrn;
 use sqlite::{Alter, Error};
-
-/// The device in its row.
-pub fn device_in_row(row: &DeviceRow) -> Result<Device, Trouble>
-    ensures value { IfOk result (λ device. device ≡ device_of (device_in row.now)) }
-    ensures accepts { IsTrue (is_device (pos 0, device_in row.now)) → IsOk result }
-{
-    let plant = read_plant(&row.plant)?;
-    Ok(Device::of(&RegisterDevice {
-        device: texts::gsrn(&row.gsrn)?,
-        account: numbers::account_no(row.account)?,
-        country: plant.country,
-        site: plant.site,
-        tech: plant.tech,
-        source: plant.source,
-        capacity_w: plant.capacity_w,
-        commissioned: plant.commissioned,
-        support: plant.support,
-    }))
-}
 
 /// The device, if there is one.
 fn read_device(found: Result<Option<DeviceRow>, Error>) -> Result<Option<Device>, Trouble>

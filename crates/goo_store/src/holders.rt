@@ -8,12 +8,13 @@ ghost use Rattle.goo_shelf.specs.Shelf.{Looks};
 ghost use Rattle.goo_store.specs.Moments.{moment};
 ghost use Rattle.goo_store.specs.StoreFaults.{BlamesStore};
 ghost use Rattle.goo_kept.specs.Readable.{is_holder};
-ghost use Rattle.goo_store.specs.Telling.{Accepts, Passes};
+ghost use Rattle.goo_plans.specs.Passing.{Accepts, Passes};
 
 use crate::sql_shelf::SqlShelf;
-use crate::texts;
-use crate::trouble::{Trouble, told};
+use crate::told::told;
 use goo_columns::holder::HolderRow;
+use goo_plans::texts;
+use goo_plans::trouble::Trouble;
 use goo_tables::holder::find_holder;
 use goo_types::fault::Fault;
 use goo_types::holder_code::HolderCode;

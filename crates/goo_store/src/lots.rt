@@ -1,9 +1,8 @@
 //! Lots, as they are found.
 
-ghost use Rattle.std.specs.Prelude.{◌≡◌, IfOk, IfSome, IsOk, IsOkUnless, option_map};
+ghost use Rattle.std.specs.Prelude.{◌≡◌, IfOk, IfSome, IsOkUnless, option_map};
 ghost use Rattle.std.specs.FinMap.{get};
 ghost use Rattle.sqlite.specs.Held.{state as view};
-ghost use Rattle.goo_types.specs.Day.{IsDay};
 ghost use Rattle.goo_types.specs.Texts.{day_text};
 ghost use Rattle.goo_spec.specs.Lots.{lot_key};
 ghost use Rattle.goo_columns.specs.Rows.{lot_in};
@@ -12,49 +11,25 @@ ghost use Rattle.goo_store.specs.Found.{KeepsLot, KeepsRow};
 ghost use Rattle.goo_store.specs.Moments.{moment};
 ghost use Rattle.goo_store.specs.StoreFaults.{BlamesStore};
 ghost use Rattle.goo_kept.specs.Places.{lot_of};
-ghost use Rattle.goo_store.specs.Reading.{IsReadableLot};
-ghost use Rattle.goo_store.specs.Telling.{Accepts, Passes};
-ghost use Rattle.goo_store.specs.declared.trouble.Trouble.TheVariants.{Memory};
+ghost use Rattle.goo_plans.specs.Reading.{IsReadableLot};
+ghost use Rattle.goo_plans.specs.Passing.{Accepts, Passes};
+ghost use Rattle.goo_plans.specs.declared.trouble.Trouble.TheVariants.{Memory};
 
 use crate::kept_lots::keep_lot;
-use crate::lot_numbers::NumberedLot;
-use crate::plants::read_plant;
 use crate::sql_shelf::SqlShelf;
-use crate::trouble::{Trouble, told};
-use crate::{numbers, texts};
+use crate::told::told;
 use goo_columns::lot::LotRow;
 use goo_notice::texts::day_text;
+use goo_plans::lot_numbers::NumberedLot;
+use goo_plans::lots::read_lot;
+use goo_plans::trouble::Trouble;
 use goo_tables::lot::find_lot;
 use goo_types::day::Day;
 use goo_types::fault::Fault;
 use goo_types::gsrn::Gsrn;
 use goo_types::lot::Lot;
-use goo_types::lot_fields::LotFields;
 use goo_types::registry_code::RegistryCode;
 use sqlite::{Alter, Error};
-
-/// The lot that a row states.
-pub fn read_lot(row: &LotRow) -> Result<Lot, Trouble>
-    ensures value { IfOk result (λ lot. lot ≡ lot_of (lot_in row.now)) }
-    ensures accepts { IsReadableLot (lot_in row.now) → IsOk result }
-{
-    let plant = read_plant(&row.plant)?;
-    let fields = LotFields {
-        origin: numbers::registry_code(row.origin)?,
-        device: texts::gsrn(&row.device)?,
-        country: plant.country,
-        site: plant.site,
-        tech: plant.tech,
-        source: plant.source,
-        capacity_w: plant.capacity_w,
-        commissioned: plant.commissioned,
-        support: plant.support,
-        first_day: texts::day(&row.first_day)?,
-        last_day: texts::day(&row.last_day)?,
-        issued_on: texts::day(&row.issued_on)?,
-    };
-    Lot::new(fields).ok_or(Trouble::Refused)
-}
 
 /// The lot that a row states, which is kept.
 fn read_kept(row: &LotRow, lots: &mut Vec<NumberedLot>) -> Result<Lot, Trouble>

@@ -10,13 +10,14 @@ ghost use Rattle.goo_store.specs.StoreFaults.{BlamesStore};
 ghost use Rattle.goo_kept.specs.Records.{sent_of, arrived_of};
 ghost use Rattle.goo_kept.specs.Readable.{is_notice_in};
 ghost use Rattle.goo_store.specs.Reading.{IsReadableSent};
-ghost use Rattle.goo_store.specs.Telling.{Accepts, Passes};
+ghost use Rattle.goo_plans.specs.Passing.{Accepts, Passes};
 
 use crate::sql_shelf::SqlShelf;
-use crate::trouble::{Trouble, told};
-use crate::{numbers, texts};
+use crate::told::told;
 use goo_columns::notice_in::NoticeInRow;
 use goo_columns::notice_out::NoticeOutRow;
+use goo_plans::trouble::Trouble;
+use goo_plans::{numbers, texts};
 use goo_shelf::found::Arrival;
 use goo_shelf::sent::Sent;
 use goo_tables::notice_in::find_notice_in;

@@ -6,11 +6,12 @@ ghost use Rattle.sqlite.specs.Held.{state as view};
 ghost use Rattle.goo_shelf.specs.Shelf.{Looks};
 ghost use Rattle.goo_store.specs.Moments.{moment};
 ghost use Rattle.goo_store.specs.StoreFaults.{BlamesStore};
-ghost use Rattle.goo_store.specs.Telling.{Accepts, Passes};
+ghost use Rattle.goo_plans.specs.Passing.{Accepts, Passes};
 
 use crate::sql_shelf::SqlShelf;
-use crate::trouble::{Trouble, told};
+use crate::told::told;
 use goo_columns::peer::PeerRow;
+use goo_plans::trouble::Trouble;
 use goo_tables::peer::find_peer;
 use goo_types::fault::Fault;
 use goo_types::registry_code::RegistryCode;

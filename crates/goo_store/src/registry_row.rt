@@ -1,68 +1,32 @@
 //! The registry itself, as its row tells of it.
 
-ghost use Rattle.std.specs.Prelude.{◌≡◌, Some, false, None, option_map, IfErr, IfOk, IsOk, IsSome, IsSomeAnd, IsTrue, OnOk, ⊤};
-ghost use Rattle.sqlite.specs.State.{HasCleanDisk};
+ghost use Rattle.std.specs.Prelude.{◌≡◌, Some, option_map, IfErr, IfOk, IsOk, IsSomeAnd, IsTrue};
 ghost use Rattle.sqlite.specs.Held.{state as view};
 ghost use Rattle.goo_columns.specs.Rows.{Tables, meta_in};
 ghost use Rattle.goo_shelf.specs.Counters.{counters_of};
 ghost use Rattle.goo_shelf.specs.Meta.{meta_of};
 ghost use Rattle.goo_shelf.specs.Shelf.{Looks};
-ghost use Rattle.goo_store.specs.LookingUp.{LooksUp};
 ghost use Rattle.goo_store.specs.Moments.{moment};
-ghost use Rattle.goo_store.specs.Found.{IsRowOf, KeepsFound};
-ghost use Rattle.goo_store.specs.StoreFaults.{BlamesDisk, BlamesStore};
-ghost use Rattle.goo_store.specs.Telling.{Accepts, Passes};
+ghost use Rattle.goo_store.specs.Found.{KeepsFound};
+ghost use Rattle.goo_store.specs.StoreFaults.{BlamesStore};
+ghost use Rattle.goo_plans.specs.Passing.{Accepts, Passes};
 ghost use Rattle.goo_kept.specs.Readable.{is_meta};
-ghost use Rattle.goo_store.specs.declared.trouble.Trouble.TheVariants.{Refused};
+ghost use Rattle.goo_plans.specs.declared.trouble.Trouble.TheVariants.{Refused};
 ghost use Rattle.goo_kept.specs.States.{state_of};
 
 use crate::sql_shelf::SqlShelf;
-use crate::trouble::{Trouble, told};
-use crate::{numbers, texts};
+use crate::told::told;
 use goo_columns::meta::MetaRow;
+use goo_plans::registry_row::row;
+use goo_plans::trouble::Trouble;
+use goo_plans::{numbers, texts};
 use goo_shelf::counters::Counters;
 use goo_shelf::own::Meta;
 use goo_tables::meta::find_meta;
 use goo_types::day::Day;
 use goo_types::fault::Fault;
 use goo_types::registry_code::RegistryCode;
-use sqlite::{Alter, Connection, Error};
-use std::alloc::Global;
-
-/// The row, which is there.
-fn row(found: Result<Option<MetaRow>, Error>) -> Result<MetaRow, Trouble>
-    ensures value { Passes found result (λ found row. found ≡ Some row) }
-    ensures accepts { Accepts found result (λ row. IsSome row) }
-    ensures missing { IfOk found (λ row. row ≡ None → IfErr result (λ trouble. trouble ≡ Refused)) }
-{
-    found?.ok_or(Trouble::Refused)
-}
-
-/// The registry's own row.
-pub fn own_row<S: Alter>(alloc: Global, conn: &mut Connection<S>) -> Result<MetaRow, Trouble>
-    ensures gathers { LooksUp (view S.Store conn.old) (view S.Store conn.new) result (λ t row. t.meta ≡ meta_in row) }
-    ensures works { OnOk result (HasCleanDisk (view S.Store conn.new) → IsTrue (view S.Store conn.new).is_open) }
-    ensures blames { BlamesDisk (view S.Store conn.old) (view S.Store conn.new) result (λ _. ⊤) }
-    ensures outside { conn.old.in_transaction ≡ false → conn.new.in_transaction ≡ false }
-{
-    row(find_meta(alloc, conn))
-}
-
-/// The registry's row: the one that is kept, where one is.
-pub fn known_row<S: Alter>(
-    alloc: Global,
-    conn: &mut Connection<S>,
-    own: Option<MetaRow>,
-) -> Result<MetaRow, Trouble>
-    ensures gathers { LooksUp (view S.Store conn.old) (view S.Store conn.new) result (λ t row. IsRowOf own t → t.meta ≡ meta_in row) }
-    ensures blames { BlamesDisk (view S.Store conn.old) (view S.Store conn.new) result (λ _. ⊤) }
-    ensures outside { conn.old.in_transaction ≡ false → conn.new.in_transaction ≡ false }
-{
-    match own {
-        Some(row) => Ok(row),
-        None => own_row(alloc, conn),
-    }
-}
+use sqlite::{Alter, Error};
 
 /// The next number of each kind.
 #[tactic(auto, unfolding(goo_kept::specs::States::state_of))]

@@ -12,7 +12,7 @@ ghost use Rattle.goo_store.specs.StoreFaults.{BlamesStore};
 
 use crate::pieces::{join_near, read_maybe, read_rising};
 use crate::sql_shelf::SqlShelf;
-use crate::trouble::told;
+use crate::told::told;
 use goo_notice::texts::day_text;
 use goo_tables::joined::{piece_before, pieces_beginning, pieces_expiring, pieces_of_account};
 use goo_types::account_no::AccountNo;

@@ -17,8 +17,8 @@ ghost use Rattle.goo_opening.specs.Found.{IsOutside};
 ghost use Rattle.goo_opening.specs.declared.fault.OpenFault.TheVariants.{AlreadyThere};
 
 use crate::creating::{begin, is_empty};
-use crate::findings::Findings;
 use goo_opening::fault::OpenFault;
+use goo_plans::findings::Findings;
 use goo_types::day::Day;
 use goo_types::registry_code::RegistryCode;
 use goo_types::serial::Serial;

@@ -5,9 +5,9 @@ ghost use Rattle.goo_types.specs.Number.{code_of};
 ghost use Rattle.goo_rows.specs.Certificates.{issued_in};
 ghost use Rattle.goo_rules.specs.Summing.{sum_at};
 ghost use Rattle.goo_store.specs.Summing.{summed_for, HaveSmallSums};
-ghost use Rattle.goo_store.specs.declared.trouble.Trouble.TheVariants.{Memory};
+ghost use Rattle.goo_plans.specs.declared.trouble.Trouble.TheVariants.{Memory};
 
-use crate::trouble::Trouble;
+use goo_plans::trouble::Trouble;
 use goo_rules::sums::{add_to, sum_declared, sum_for};
 use goo_shelf::found::DeviceTotals;
 use goo_types::command::Declare;

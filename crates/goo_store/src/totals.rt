@@ -9,7 +9,7 @@ ghost use Rattle.goo_store.specs.StoreFaults.{BlamesStore};
 
 use crate::sql_shelf::SqlShelf;
 use crate::sums::totals_over;
-use crate::trouble::told;
+use crate::told::told;
 use goo_shelf::found::DeviceTotals;
 use goo_types::fault::Fault;
 use goo_types::gsrn::Gsrn;

@@ -6,7 +6,7 @@ use Rattle.goo_columns.specs.Rows.{device_in}
 use Rattle.goo_kept.specs.Readable.{is_device}
 use Rattle.goo_rules.proofs.LotDevices.{at_true}
 use Rattle.goo_store.proofs.DevicesApart.{number_free}
-use Rattle.goo_store.proofs.Unread.{same_trouble}
+use Rattle.goo_plans.proofs.Unread.{same_trouble}
 use Rattle.goo_store.proofs.device_numbers.note_each.Goals as goal
 
 pub loop-row-init : goal.loop-row-init

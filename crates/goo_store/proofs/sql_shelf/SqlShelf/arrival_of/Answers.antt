@@ -9,7 +9,7 @@ use Rattle.goo_kept.proofs.Known.{known_kept, notice_test, notice_total}
 use Rattle.goo_kept.specs.States.{state_of}
 use Rattle.goo_store.proofs.Looking.{looked, refused_look, well, known}
 use Rattle.goo_store.proofs.Blaming.{blames, refused_blames}
-use Rattle.goo_store.proofs.RowsRead.{found_part, each_so}
+use Rattle.goo_plans.proofs.RowsRead.{found_part, each_so}
 use Rattle.goo_kept.specs.Readable.{is_notice_in}
 use Rattle.goo_store.specs.Moments.{tables_in}
 use Rattle.goo_store.proofs.sql_shelf.SqlShelf.arrival_of.Goals as goal

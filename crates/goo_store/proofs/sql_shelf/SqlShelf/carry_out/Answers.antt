@@ -2,7 +2,7 @@ use Rattle.std.proofs.Common.{◌≡◌, rules, sym, subst}
 use Rattle.sqlite.specs.Held.{state as view}
 use Rattle.goo_columns.specs.Stands.{doubts}
 use Rattle.goo_store.specs.Moments.{moment, tables_in}
-use Rattle.goo_store.specs.Planned.{IsPlanned}
+use Rattle.goo_plans.specs.Planned.{IsPlanned}
 use Rattle.goo_store.proofs.CommitLemmas.{well_after, committed}
 use Rattle.goo_store.proofs.Found.{none_known}
 use Rattle.goo_store.proofs.CommitsAfter.{not_refused, not_committed, as_err, fits_still, commits_after}

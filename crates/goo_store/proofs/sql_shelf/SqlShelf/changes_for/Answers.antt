@@ -1,9 +1,10 @@
 use Rattle.std.proofs.Common.{sym, subst}
 use Rattle.sqlite.specs.Held.{state as view}
-use Rattle.goo_store.specs.Found.{AreNone, Knows}
+use Rattle.goo_plans.specs.Found.{AreNone}
+use Rattle.goo_store.specs.Found.{Knows}
 use Rattle.goo_store.proofs.CommitsAfter.{refused_prepared}
 use Rattle.goo_store.proofs.Found.{none_known}
-use Rattle.goo_store.proofs.Gathered.{well, gathered, found_after, in_order, known}
+use Rattle.goo_store.proofs.Prepared.{well, gathered, found_after, in_order, known}
 use Rattle.goo_store.proofs.sql_shelf.SqlShelf.changes_for.Goals as goal
 
 pub returns-then-self-clause-prepares : goal.returns-then-self-clause-prepares

@@ -11,9 +11,9 @@ use Rattle.goo_kept.specs.States.{state_of}
 use Rattle.goo_store.proofs.Looking.{looked, refused_look, well}
 use Rattle.goo_store.proofs.Found.{lot_known}
 use Rattle.goo_store.proofs.Blaming.{blames, refused_blames}
-use Rattle.goo_store.proofs.RowsRead.{found_row, lots_kept}
+use Rattle.goo_plans.proofs.RowsRead.{found_row, lots_kept}
 use Rattle.goo_columns.specs.Rows.{lot_in}
-use Rattle.goo_store.specs.Reading.{IsReadableLot}
+use Rattle.goo_plans.specs.Reading.{IsReadableLot}
 use Rattle.goo_store.specs.Moments.{tables_in}
 use Rattle.goo_store.proofs.sql_shelf.SqlShelf.known_lot.Goals as goal
 

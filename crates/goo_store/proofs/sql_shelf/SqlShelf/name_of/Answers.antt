@@ -6,7 +6,7 @@ use Rattle.sqlite_typed.specs.Tests.{bytes_eq}
 use Rattle.goo_kept.proofs.Known.{known_kept, text_test}
 use Rattle.goo_store.proofs.Looking.{looked, refused_look, well, known}
 use Rattle.goo_store.proofs.Blaming.{blames, refused_blames}
-use Rattle.goo_store.proofs.RowsRead.{found_part, each_so}
+use Rattle.goo_plans.proofs.RowsRead.{found_part, each_so}
 use Rattle.goo_kept.specs.Readable.{is_holder}
 use Rattle.goo_columns.specs.Rows.{holder_in}
 use Rattle.goo_store.specs.Moments.{tables_in}

@@ -1,0 +1,55 @@
+-- Changes of the tables, one statement each.
+use Rattle.std.specs.Prelude.{◌<◌, ◌^◌, ℕ, List, fold, take, get_or, length, string_bytes}
+use Rattle.std.specs.List.{filter}
+use Rattle.sqlite_typed.specs.Tests.{bytes_eq}
+use Rattle.goo_columns.specs.Once.{IsOnce}
+use Rattle.goo_columns.specs.Rows.{Tables, holder_in, account_in, device_in, declaration_in, lot_in, receipt_in, cancellation_in, withdrawal_in, notice_out_in, notice_in_in}
+use Rattle.goo_tables.specs.Changes.{with_holder, with_account, with_closed, with_device, with_progress, with_declaration, with_lot, with_piece, without_piece, with_peer, with_receipt, with_cancellation, with_withdrawal, with_notice_out, with_notice_in, at_day, with_counters, DeviceFits, DeclarationFits, LotFits, PieceFits, ReceiptFits, CancellationFits, WithdrawalFits, CountersFit}
+use Rattle.goo_changes.specs.declared.change.Change.{Change}
+use Rattle.goo_changes.specs.declared.change.Change.TheVariants.{AddHolder, AddAccount, CloseAccount, AddDevice, AddDeclaration, SetProgress, AddLot, DeletePiece, InsertPiece, AddPeer, AddReceipt, AddCancellation, AddWithdrawal, AddNoticeOut, AddNoticeIn, SetToday, SetCounters}
+
+-- the tables with the change
+abbrev pub made : Tables → Change → Tables
+made t (AddHolder row) = with_holder t (holder_in row)
+made t (AddAccount row) = with_account t (account_in row)
+made t (CloseAccount number) = with_closed t number
+made t (AddDevice row) = with_device t (device_in row)
+made t (AddDeclaration row) = with_declaration t (declaration_in row)
+made t (SetProgress device last_day carry) = with_progress t (string_bytes device) (string_bytes last_day) carry
+made t (AddLot row) = with_lot t (lot_in row)
+made t (DeletePiece first) = without_piece t first
+made t (InsertPiece row) = with_piece t row
+made t (AddPeer row) = with_peer t row
+made t (AddReceipt row) = with_receipt t (receipt_in row)
+made t (AddCancellation row) = with_cancellation t (cancellation_in row)
+made t (AddWithdrawal row) = with_withdrawal t (withdrawal_in row)
+made t (AddNoticeOut row) = with_notice_out t (notice_out_in row)
+made t (AddNoticeIn row) = with_notice_in t (notice_in_in row)
+made t (SetToday day) = at_day t (string_bytes day)
+made t (SetCounters counters) = with_counters t counters
+
+abbrev pub made_all : Tables → List Change → Tables
+made_all t changes = fold made t changes
+
+-- the columns can keep its numbers
+abbrev pub ChangeFits : Change → Type 0
+ChangeFits (AddDevice row) = DeviceFits row
+ChangeFits (AddDeclaration row) = DeclarationFits row
+ChangeFits (SetProgress device last_day carry) = carry < 2 ^ 63
+ChangeFits (AddLot row) = LotFits row
+ChangeFits (DeletePiece first) = first < 2 ^ 63
+ChangeFits (InsertPiece row) = PieceFits row
+ChangeFits (AddReceipt row) = ReceiptFits row
+ChangeFits (AddCancellation row) = CancellationFits row
+ChangeFits (AddWithdrawal row) = WithdrawalFits row
+ChangeFits (SetCounters counters) = CountersFit counters
+ChangeFits _ = Unit {0}
+
+-- a device's progress is set in one row at most
+abbrev pub IsFor : Tables → Change → Type 0
+IsFor t (SetProgress device last_day carry) = IsOnce (filter (λ k. bytes_eq k.1.gsrn (string_bytes device)) t.devices)
+IsFor t _ = Unit {0}
+
+-- each change is one for the tables that those before it leave
+abbrev pub AreFor : Tables → List Change → Type 0
+AreFor t changes = (i : ℕ) (d : Change) → i < length changes → IsFor (made_all t (take i changes)) (get_or changes i d)

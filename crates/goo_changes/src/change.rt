@@ -1,0 +1,117 @@
+//! Changes of the tables, one statement each.
+
+ghost use Rattle.std.specs.Prelude.{◌≡◌, OnOk, All};
+ghost use Rattle.sqlite.specs.State.{HasCleanDisk, KeepsCommit, Survives};
+ghost use Rattle.sqlite.specs.Held.{state};
+ghost use Rattle.goo_columns.specs.Rows.{Tables};
+ghost use Rattle.goo_columns.specs.Stands.{Sees};
+ghost use Rattle.goo_changes.specs.Changes.{made, made_all, ChangeFits, IsFor, AreFor};
+
+use goo_columns::account::AccountRow;
+use goo_columns::cancellation::CancellationRow;
+use goo_columns::declaration::DeclarationRow;
+use goo_columns::device::DeviceRow;
+use goo_columns::holder::HolderRow;
+use goo_columns::lot::LotRow;
+use goo_columns::notice_in::NoticeInRow;
+use goo_columns::notice_out::NoticeOutRow;
+use goo_columns::peer::PeerRow;
+use goo_columns::piece::PieceRow;
+use goo_columns::receipt::ReceiptRow;
+use goo_columns::withdrawal::WithdrawalRow;
+use goo_tables::account::{close_account, insert_account};
+use goo_tables::cancellation::insert_cancellation;
+use goo_tables::counters::Counters;
+use goo_tables::declaration::insert_declaration;
+use goo_tables::device::{insert_device, set_progress};
+use goo_tables::holder::insert_holder;
+use goo_tables::lot::insert_lot;
+use goo_tables::meta::{set_counters, set_today};
+use goo_tables::notice_in::insert_notice_in;
+use goo_tables::notice_out::insert_notice_out;
+use goo_tables::peer::insert_peer;
+use goo_tables::piece::{delete_piece, insert_piece};
+use goo_tables::receipt::insert_receipt;
+use goo_tables::withdrawal::insert_withdrawal;
+use sqlite::{Alter, Error, Transaction};
+
+/// A change of the tables.
+#[derive(Drop)]
+pub enum Change {
+    AddHolder(HolderRow),
+    AddAccount(AccountRow),
+    /// The account with this number.
+    CloseAccount(u32),
+    AddDevice(DeviceRow),
+    AddDeclaration(DeclarationRow),
+    /// The device with this number: the last day of its last accepted period, and its carry in Wh.
+    SetProgress {
+        device: String,
+        last_day: String,
+        carry: u64,
+    },
+    AddLot(LotRow),
+    /// The piece that begins with this number.
+    DeletePiece(u64),
+    InsertPiece(PieceRow),
+    AddPeer(PeerRow),
+    AddReceipt(ReceiptRow),
+    AddCancellation(CancellationRow),
+    AddWithdrawal(WithdrawalRow),
+    AddNoticeOut(NoticeOutRow),
+    AddNoticeIn(NoticeInRow),
+    SetToday(String),
+    SetCounters(Counters),
+}
+
+/// Makes a change.
+fn make<S: Alter>(tx: &mut Transaction<'_, S>, change: &Change) -> Result<usize, Error>
+    requires { ChangeFits change.now }
+    ensures same_reference { tx.new.conn.ghost_name ≡ tx.old.conn.ghost_name }
+    ensures changed { HasCleanDisk (state S.Store tx.new.conn.now) → (t : Tables) → Sees (state S.Store tx.old.conn.now) t → IsFor t change.now
+        → OnOk result (Sees (state S.Store tx.new.conn.now) (made t change.now)) }
+    ensures uncommitted { HasCleanDisk (state S.Store tx.new.conn.now) → KeepsCommit (state S.Store tx.old.conn.now) (state S.Store tx.new.conn.now) }
+    ensures survives { Survives (state S.Store tx.old.conn.now) (state S.Store tx.new.conn.now) (λ _. ⊥) }
+{
+    match change {
+        Change::AddHolder(row) => insert_holder(tx, row),
+        Change::AddAccount(row) => insert_account(tx, row),
+        Change::CloseAccount(number) => close_account(tx, *number),
+        Change::AddDevice(row) => insert_device(tx, row),
+        Change::AddDeclaration(row) => insert_declaration(tx, row),
+        Change::SetProgress {
+            device,
+            last_day,
+            carry,
+        } => set_progress(tx, device, last_day, *carry),
+        Change::AddLot(row) => insert_lot(tx, row),
+        Change::DeletePiece(first) => delete_piece(tx, *first),
+        Change::InsertPiece(row) => insert_piece(tx, row),
+        Change::AddPeer(row) => insert_peer(tx, row),
+        Change::AddReceipt(row) => insert_receipt(tx, row),
+        Change::AddCancellation(row) => insert_cancellation(tx, row),
+        Change::AddWithdrawal(row) => insert_withdrawal(tx, row),
+        Change::AddNoticeOut(row) => insert_notice_out(tx, row),
+        Change::AddNoticeIn(row) => insert_notice_in(tx, row),
+        Change::SetToday(day) => set_today(tx, day),
+        Change::SetCounters(counters) => set_counters(tx, counters),
+    }
+}
+
+/// Makes the changes in turn.
+pub(crate) fn make_all<S: Alter>(
+    tx: &mut Transaction<'_, S>,
+    changes: &[Change],
+) -> Result<(), Error>
+    requires { All ChangeFits changes.now }
+    ensures same_reference { tx.new.conn.ghost_name ≡ tx.old.conn.ghost_name }
+    ensures changed { HasCleanDisk (state S.Store tx.new.conn.now) → (t : Tables) → Sees (state S.Store tx.old.conn.now) t → AreFor t changes.now
+        → OnOk result (Sees (state S.Store tx.new.conn.now) (made_all t changes.now)) }
+    ensures uncommitted { HasCleanDisk (state S.Store tx.new.conn.now) → KeepsCommit (state S.Store tx.old.conn.now) (state S.Store tx.new.conn.now) }
+    ensures survives { Survives (state S.Store tx.old.conn.now) (state S.Store tx.new.conn.now) (λ _. ⊥) }
+{
+    for change in changes {
+        make(tx, change)?;
+    }
+    Ok(())
+}

@@ -1,0 +1,38 @@
+//! Several changes in one transaction.
+
+ghost use Rattle.std.specs.Prelude.{◌≡◌, ◌≤◌, false, IsTrue, All, OnOk, OnErr};
+ghost use Rattle.sqlite.specs.State.{HasCleanDisk, Survives};
+ghost use Rattle.sqlite.specs.Held.{state};
+ghost use Rattle.sqlite_trees.specs.View.{doubt};
+ghost use Rattle.goo_columns.specs.Rows.{Tables};
+ghost use Rattle.goo_columns.specs.Stands.{Stands, Settled, Holds};
+ghost use Rattle.goo_changes.specs.Changes.{made_all, ChangeFits, AreFor};
+
+use crate::change::{Change, make_all};
+use sqlite::{Alter, Connection, Error};
+
+/// Makes all changes and commits them, or none.
+///
+/// # Errors
+///
+/// The first error of a statement, or that of the commit.
+pub fn commit_changes<S: Alter>(conn: &mut Connection<S>, changes: &[Change]) -> Result<(), Error>
+    requires outside { conn.old.in_transaction ≡ false }
+    requires fits { All ChangeFits changes.now }
+    ensures clean { doubt (state S.Store conn.old).is_clean ≤ doubt (state S.Store conn.new).is_clean }
+    ensures outside { conn.new.in_transaction ≡ false }
+    ensures works { OnOk result (HasCleanDisk (state S.Store conn.new) → IsTrue (state S.Store conn.new).is_open) }
+    ensures was_open { HasCleanDisk (state S.Store conn.new) → IsTrue (state S.Store conn.new).is_open → IsTrue (state S.Store conn.old).is_open }
+    ensures done { HasCleanDisk (state S.Store conn.new) → (t : Tables) → Stands (state S.Store conn.old).now t → AreFor t changes.now
+        → OnOk result (Settled (state S.Store conn.new) (made_all t changes.now)) }
+    ensures kept { HasCleanDisk (state S.Store conn.new) → IsTrue (state S.Store conn.new).is_open → (t : Tables) → Stands (state S.Store conn.old).now t → AreFor t changes.now
+        → OnErr result (((state S.Store conn.new).now ≡ (state S.Store conn.old).now) × ((state S.Store conn.new).committed ≡ (state S.Store conn.old).committed)) }
+    ensures crash { (t : Tables) → Stands (state S.Store conn.old).now t → AreFor t changes.now
+        → Survives (state S.Store conn.old) (state S.Store conn.new) (Holds (made_all t changes.now)) }
+{
+    let _settled = conn.is_autocommit();
+    let mut tx = conn.transaction();
+    make_all(&mut tx, changes)?;
+    tx.commit()?;
+    Ok(())
+}

@@ -1,0 +1,5 @@
+//! Changes of the tables of a registry, made all in one transaction or none.
+#![tactic(auto)]
+
+pub mod change;
+pub mod committing;

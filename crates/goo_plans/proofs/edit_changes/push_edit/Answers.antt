@@ -1,0 +1,18 @@
+use Rattle.std.proofs.Common.{◌++◌, append_assoc, map, refl, ap, subst, ◌∙◌}
+use Rattle.goo_plans.specs.EditChanges.{AreRowsOf}
+use Rattle.goo_changes.specs.declared.change.Change.TheVariants.{DeletePiece, InsertPiece}
+use Rattle.goo_plans.proofs.LookUps.{on}
+use Rattle.goo_plans.proofs.edit_changes.push_edit.Goals as goal
+
+pub returns-clause-made : goal.returns-clause-made
+returns-clause-made c =
+    let before = c.args.changes.now.items in
+    let deletes = map (λ k. DeletePiece k) c.args.edit.now.delete.items in
+    let rows = c.in_ok-rows.rows.items in
+    on c.push_inserts.result c.push_inserts.ensures.items (λ is. record {
+      front = deletes ++ map (λ x. InsertPiece x) rows;
+      after_is = is
+          ∙ (λ i. (c.in_ok-push_deletes.ensures.items ∙ ap (λ ks. before ++ map (λ k. DeletePiece k) ks) c.deref-2.ensures.value) i ++ map (λ x. InsertPiece x) (c.deref-3.ensures.value i))
+          ∙ append_assoc before deletes (map (λ x. InsertPiece x) rows);
+      made = λ lots are. record { rows = rows; changes_are = refl; rows_are = subst (AreRowsOf lots rows) c.deref.ensures.value (c.in_ok-rows.ensures.rows lots are) };
+    })
