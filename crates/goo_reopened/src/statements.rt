@@ -49,7 +49,10 @@ fn finds_next<S: Alter>(
     assert!(rt;
         matches!(next_of_account(alloc, conn, 1, 7_000_000_000_005), Ok(Some(row)) if row.piece.first == 7_000_000_000_006)
             && matches!(next_expiring(alloc, conn, "2026-08-01", 7_000_000_000_004), Ok(Some(row)) if row.piece.first == 7_000_000_000_006)
-            && matches!(next_expiring(alloc, conn, "2026-08-01", 7_000_000_000_006), Ok(None))
+            && matches!(
+                next_expiring(alloc, conn, "2026-08-01", 7_000_000_000_006),
+                Ok(None)
+            )
             && matches!(next_expiring(alloc, conn, "2026-07-31", 0), Ok(None))
     );
     Ok(())
