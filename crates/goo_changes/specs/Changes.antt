@@ -56,7 +56,7 @@ IsFor t _ = Unit {0}
 abbrev pub AreFor : Tables → List Change → Type 0
 AreFor t changes = (i : ℕ) (d : Change) → i < length changes → IsFor (made_all t (take i changes)) (get_or changes i d)
 
--- it breaks no rule of the tables: none of them has a row under its key or its number
+-- what the clause `refused` of its statement asks of the tables: none of them has a row under its key or with its unique values, and a row that is changed is the only one
 abbrev pub IsFree : Tables → Change → Type 0
 IsFree t (AddHolder row) = find (λ k. bytes_eq k.1.code (holder_in row).code) t.holders ≡ None
 IsFree t (AddAccount row) = get_by account_key t.accounts (pos row.number) ≡ None

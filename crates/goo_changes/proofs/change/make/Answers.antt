@@ -5,7 +5,7 @@ use Rattle.sqlite_typed.specs.Tests.{bytes_eq}
 use Rattle.goo_columns.specs.Once.{IsOnce}
 use Rattle.goo_columns.specs.Stands.{Sees}
 use Rattle.goo_changes.specs.Changes.{made, IsFor, IsFree}
-use Rattle.goo_changes.proofs.Faults.{or_full, or_big}
+use Rattle.goo_changes.proofs.Endings.{or_full, or_big}
 use Rattle.goo_changes.proofs.change.make.Goals as goal
 
 pub returns-in-SetProgress-clause-changed : goal.returns-in-SetProgress-clause-changed

@@ -5,7 +5,7 @@ use Rattle.goo_columns.specs.Stands.{Sees, Settled, Holds}
 use Rattle.goo_changes.specs.Changes.{made_all}
 use Rattle.goo_columns.proofs.Results.{whenever}
 use Rattle.goo_columns.proofs.Committed.{committed, begins, not_committed, survives_commit}
-use Rattle.goo_changes.proofs.Faults.{committed_live, undone_live}
+use Rattle.goo_changes.proofs.Endings.{committed_live, undone_live}
 use Rattle.goo_changes.proofs.committing.commit_changes.Goals as goal
 
 pub returns-clause-done : goal.returns-clause-done
