@@ -1,9 +1,11 @@
 -- Changes of the tables, one statement each.
-use Rattle.std.specs.Prelude.{◌<◌, ◌^◌, ℕ, List, fold, take, get_or, length, string_bytes}
+use Rattle.std.specs.Prelude.{◌≡◌, ◌<◌, ◌^◌, ◌&&◌, ℕ, pos, List, None, find, fold, take, get_or, length, string_bytes, ⊤}
 use Rattle.std.specs.List.{filter}
+use Rattle.std.specs.Ordering.{int_eq}
 use Rattle.sqlite_typed.specs.Tests.{bytes_eq}
+use Rattle.sqlite_keyed.specs.Keyed.{get_by}
 use Rattle.goo_columns.specs.Once.{IsOnce}
-use Rattle.goo_columns.specs.Rows.{Tables, holder_in, account_in, device_in, declaration_in, lot_in, receipt_in, cancellation_in, withdrawal_in, notice_out_in, notice_in_in}
+use Rattle.goo_columns.specs.Rows.{Tables, holder_in, account_in, device_in, declaration_in, lot_in, receipt_in, cancellation_in, withdrawal_in, notice_out_in, notice_in_in, account_key, declaration_key, lot_key, piece_key, cancellation_key, withdrawal_key, notice_out_key}
 use Rattle.goo_tables.specs.Changes.{with_holder, with_account, with_closed, with_device, with_progress, with_declaration, with_lot, with_piece, without_piece, with_peer, with_receipt, with_cancellation, with_withdrawal, with_notice_out, with_notice_in, at_day, with_counters, DeviceFits, DeclarationFits, LotFits, PieceFits, ReceiptFits, CancellationFits, WithdrawalFits, CountersFit}
 use Rattle.goo_changes.specs.declared.change.Change.{Change}
 use Rattle.goo_changes.specs.declared.change.Change.TheVariants.{AddHolder, AddAccount, CloseAccount, AddDevice, AddDeclaration, SetProgress, AddLot, DeletePiece, InsertPiece, AddPeer, AddReceipt, AddCancellation, AddWithdrawal, AddNoticeOut, AddNoticeIn, SetToday, SetCounters}
@@ -53,3 +55,31 @@ IsFor t _ = Unit {0}
 -- each change is one for the tables that those before it leave
 abbrev pub AreFor : Tables → List Change → Type 0
 AreFor t changes = (i : ℕ) (d : Change) → i < length changes → IsFor (made_all t (take i changes)) (get_or changes i d)
+
+-- what the clause `refused` of its statement asks of the tables: none of them has a row under its key or with its unique values, and a row that is changed is the only one
+abbrev pub IsFree : Tables → Change → Type 0
+IsFree t (AddHolder row) = find (λ k. bytes_eq k.1.code (holder_in row).code) t.holders ≡ None
+IsFree t (AddAccount row) = get_by account_key t.accounts (pos row.number) ≡ None
+IsFree t (CloseAccount number) = ⊤
+IsFree t (AddDevice row) = find (λ k. bytes_eq k.1.gsrn (device_in row).gsrn) t.devices ≡ None
+IsFree t (AddDeclaration row) =
+    (get_by declaration_key t.declarations (pos row.id) ≡ None)
+    × (find (λ x. bytes_eq x.device (declaration_in row).device && bytes_eq x.first_day (declaration_in row).first_day) t.declarations ≡ None)
+IsFree t (SetProgress device last_day carry) = IsOnce (filter (λ k. bytes_eq k.1.gsrn (string_bytes device)) t.devices)
+IsFree t (AddLot row) =
+    (get_by lot_key t.lots (pos row.id) ≡ None)
+    × (find (λ x. int_eq (pos x.origin) (pos row.origin) && (bytes_eq x.device (lot_in row).device && bytes_eq x.first_day (lot_in row).first_day)) t.lots ≡ None)
+IsFree t (DeletePiece first) = ⊤
+IsFree t (InsertPiece row) = get_by piece_key t.pieces (pos row.first) ≡ None
+IsFree t (AddPeer row) = find (λ k. int_eq (pos k.1.code) (pos row.code)) t.peers ≡ None
+IsFree t (AddReceipt row) = find (λ k. bytes_eq k.1.caller (receipt_in row).caller && bytes_eq k.1.key (receipt_in row).key) t.receipts ≡ None
+IsFree t (AddCancellation row) = get_by cancellation_key t.cancellations (pos row.number) ≡ None
+IsFree t (AddWithdrawal row) = get_by withdrawal_key t.withdrawals (pos row.number) ≡ None
+IsFree t (AddNoticeOut row) = get_by notice_out_key t.notices_out (pos row.number) ≡ None
+IsFree t (AddNoticeIn row) = find (λ k. int_eq (pos k.1.sender) (pos row.sender) && int_eq (pos k.1.number) (pos row.number)) t.notices_in ≡ None
+IsFree t (SetToday day) = ⊤
+IsFree t (SetCounters counters) = ⊤
+
+-- each change is free in the tables that those before it leave
+abbrev pub AreFree : Tables → List Change → Type 0
+AreFree t changes = (i : ℕ) (d : Change) → i < length changes → IsFree (made_all t (take i changes)) (get_or changes i d)

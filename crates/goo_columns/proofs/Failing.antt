@@ -141,7 +141,7 @@ module _ (schema : Schema) (refers : (among : Among) (db : Trees) → Refers amo
 
 -- ---- the text is one statement that writes rows
 
-abbrev writes_rows : Command → Bool
+abbrev pub writes_rows : Command → Bool
 writes_rows (Insert at from) = true
 writes_rows (Update at q) = true
 writes_rows (Delete at q) = true

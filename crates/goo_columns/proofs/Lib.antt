@@ -6,6 +6,7 @@ pub mod Read
 pub mod Reading
 pub mod Refusing
 pub mod Failing
+pub mod Living
 pub mod Obeying
 pub mod Distinct
 pub mod Inside

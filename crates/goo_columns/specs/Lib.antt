@@ -12,3 +12,4 @@ pub mod Beside
 pub mod Once
 pub mod Met
 pub mod Refused
+pub mod Lives

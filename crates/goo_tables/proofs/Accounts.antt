@@ -29,6 +29,7 @@ use Rattle.goo_columns.proofs.One.{answer_of_one, one_keyed}
 use Rattle.sqlite_keyed.specs.Lists.{update_where}
 use Rattle.goo_columns.proofs.Typed.{cast_int, cast_null}
 use Rattle.goo_columns.proofs.Alone.{accounts_stand}
+use Rattle.goo_columns.proofs.Living.{KeepsLive, keeps_live}
 use Rattle.goo_columns.proofs.Same.{account_same}
 use Rattle.goo_tables.specs.Changes.{with_account, with_closed}
 use Rattle.goo_tables.proofs.Queries.{in_order, unordered}
@@ -80,6 +81,9 @@ insert_terms = col 0 0 ∷ lit Null ∷ col 0 1 ∷ col 0 2 ∷ []
 insert_adds : Adds insert_text 2 insert_terms 4 3
 unfolding understood everything
 insert_adds = record { is = refl; plain = (refl, refl); whole = refl }
+
+pub insert_live : KeepsLive insert_text
+insert_live = keeps_live insert_text _ insert_adds.is insert_adds.plain refl
 
 pub inserts_row : (old new : State) (t : Tables) (x : Account) (r : Result ℕ Error) → Stands old.now t → Executes insert_text (account_columns x) old new r → OnOk r (Stands new.now (with_account t x))
 inserts_row old new t x r it =
@@ -142,6 +146,9 @@ close_is = refl
 close_plain : IsPlain (understood registry_schema close_text)
 unfolding understood everything
 close_plain = (refl, refl)
+
+pub close_live : KeepsLive close_text
+close_live = keeps_live close_text _ close_is close_plain refl
 
 abbrev closing : Account → Account
 closing a = record a { closed = 1 }

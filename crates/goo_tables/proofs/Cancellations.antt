@@ -22,6 +22,7 @@ use Rattle.goo_columns.specs.Stands.{Stands, Keeps}
 use Rattle.goo_columns.specs.Asked.{FirstZip}
 use Rattle.goo_columns.proofs.Typed.{cast_int, cast_null}
 use Rattle.goo_columns.proofs.Alone.{cancellations_stand}
+use Rattle.goo_columns.proofs.Living.{KeepsLive, keeps_live}
 use Rattle.goo_columns.proofs.Same.{cancellation_same}
 use Rattle.goo_tables.specs.Changes.{with_cancellation}
 use Rattle.goo_tables.proofs.Queries.{in_order}
@@ -68,6 +69,9 @@ insert_terms = col 0 0 ∷ lit Null ∷ col 0 1 ∷ col 0 2 ∷ col 0 3 ∷ col 
 insert_adds : Adds insert_text 9 insert_terms 9 8
 unfolding understood everything
 insert_adds = record { is = refl; plain = (refl, refl); whole = refl }
+
+pub insert_live : KeepsLive insert_text
+insert_live = keeps_live insert_text _ insert_adds.is insert_adds.plain refl
 
 pub inserts_row : (old new : State) (t : Tables) (x : Cancellation) (r : Result ℕ Error) → Stands old.now t → Executes insert_text (cancellation_columns x) old new r → OnOk r (Stands new.now (with_cancellation t x))
 inserts_row old new t x r it =

@@ -33,6 +33,7 @@ use Rattle.goo_columns.proofs.One.{answer_of_one}
 use Rattle.sqlite_keyed.specs.Lists.{update_where}
 use Rattle.goo_columns.proofs.Typed.{cast_int, cast_null, cast_maybe}
 use Rattle.goo_columns.proofs.Alone.{devices_stand}
+use Rattle.goo_columns.proofs.Living.{KeepsLive, keeps_live}
 use Rattle.goo_columns.proofs.Same.{device_same}
 use Rattle.goo_tables.specs.Changes.{with_device, with_progress, progressed}
 use Rattle.goo_tables.proofs.Queries.{in_order, unordered}
@@ -91,6 +92,9 @@ insert_terms = lit Null ∷ col 0 0 ∷ col 0 1 ∷ col 0 2 ∷ col 0 3 ∷ col 
 insert_adds : Adds insert_text 3 insert_terms 12 11
 unfolding understood everything
 insert_adds = record { is = refl; plain = (refl, refl); whole = refl }
+
+pub insert_live : KeepsLive insert_text
+insert_live = keeps_live insert_text _ insert_adds.is insert_adds.plain refl
 
 pub inserts_row : (old new : State) (t : Tables) (x : Device) (r : Result ℕ Error) → Stands old.now t → Executes insert_text (device_columns x) old new r → OnOk r (Stands new.now (with_device t x))
 inserts_row old new t x r it =
@@ -160,6 +164,9 @@ progress_is = refl
 progress_plain : IsPlain (understood registry_schema progress_text)
 unfolding understood everything
 progress_plain = (refl, refl)
+
+pub progress_live : KeepsLive progress_text
+progress_live = keeps_live progress_text _ progress_is progress_plain refl
 
 abbrev has_gsrn : List ℕ → Kept Device → Bool
 has_gsrn gsrn k = bytes_eq k.1.gsrn gsrn

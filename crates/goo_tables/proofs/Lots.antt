@@ -23,6 +23,7 @@ use Rattle.goo_columns.specs.Stands.{Stands, Keeps}
 use Rattle.goo_columns.specs.Asked.{FirstZip}
 use Rattle.goo_columns.proofs.Typed.{cast_int, cast_null, cast_maybe}
 use Rattle.goo_columns.proofs.Alone.{lots_stand}
+use Rattle.goo_columns.proofs.Living.{KeepsLive, keeps_live}
 use Rattle.goo_columns.proofs.Same.{lot_same}
 use Rattle.goo_tables.specs.Changes.{with_lot}
 use Rattle.goo_tables.proofs.Queries.{in_order, last_of}
@@ -73,6 +74,9 @@ insert_terms = col 0 0 ∷ lit Null ∷ col 0 1 ∷ col 0 2 ∷ col 0 3 ∷ col 
 insert_adds : Adds insert_text 5 insert_terms 15 14
 unfolding understood everything
 insert_adds = record { is = refl; plain = (refl, refl); whole = refl }
+
+pub insert_live : KeepsLive insert_text
+insert_live = keeps_live insert_text _ insert_adds.is insert_adds.plain refl
 
 pub inserts_row : (old new : State) (t : Tables) (x : Lot) (r : Result ℕ Error) → Stands old.now t → Executes insert_text (lot_columns x) old new r → OnOk r (Stands new.now (with_lot t x))
 inserts_row old new t x r it =

@@ -33,6 +33,7 @@ use Rattle.goo_columns.proofs.Writing.{inserts, updates}
 use Rattle.goo_columns.proofs.Typed.{cast_int, cast_null, puts}
 use Rattle.goo_columns.proofs.Updating.{updated}
 use Rattle.goo_columns.proofs.Alone.{with_meta_stands, begun_stands}
+use Rattle.goo_columns.proofs.Living.{KeepsLive, keeps_live}
 use Rattle.goo_columns.proofs.One.{answer_of_one}
 use Rattle.goo_columns.proofs.Same.{meta_same}
 use Rattle.goo_tables.specs.Changes.{begun, at_day, with_counters}
@@ -94,6 +95,9 @@ inserts_row old new m (Ok count) it ran =
 insert_adds : Adds insert_text 0 insert_terms 10 8
 unfolding understood everything
 insert_adds = record { is = refl; plain = (refl, refl); whole = refl }
+
+pub insert_live : KeepsLive insert_text
+insert_live = keeps_live insert_text _ insert_adds.is insert_adds.plain refl
 
 pub inserting_fails : (old new : State) (m : Meta) → IsBare old.now → IsLive old → old.step_limit ≡ None → FailsOnly IsTooBig insert_text (meta_columns m) old new
 inserting_fails old new m it live unlimited =
@@ -165,6 +169,9 @@ today_plain : IsPlain (understood registry_schema today_text)
 unfolding understood everything
 today_plain = (refl, refl)
 
+pub today_live : KeepsLive today_text
+today_live = keeps_live today_text _ today_is today_plain refl
+
 today_shows : (today : List ℕ) (old : State) (t : Tables) (rows : List Row) → Stands old.now t → IsAnswer (unordered 0 at_one today_terms) (overlay old.now.trees []) (Text today ∷ []) rows
     → rows ≡ (Int (pos 1) ∷ meta_row (record t.meta { today = today })) ∷ []
 today_shows today old t rows it answer =
@@ -199,6 +206,9 @@ counters_is = refl
 counters_plain : IsPlain (understood registry_schema counters_text)
 unfolding understood everything
 counters_plain = (refl, refl)
+
+pub counters_live : KeepsLive counters_text
+counters_live = keeps_live counters_text _ counters_is counters_plain refl
 
 abbrev pub counters_params : Counters → Row
 counters_params c = Int (pos c.next_serial) ∷ Int (pos c.next_account) ∷ Int (pos c.next_cancellation) ∷ Int (pos c.next_withdrawal) ∷ Int (pos c.next_notice) ∷ []

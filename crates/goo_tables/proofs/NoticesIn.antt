@@ -22,6 +22,7 @@ use Rattle.goo_columns.specs.Stands.{Stands}
 use Rattle.goo_columns.specs.Asked.{FirstZip}
 use Rattle.goo_columns.proofs.Typed.{cast_int, cast_null}
 use Rattle.goo_columns.proofs.Alone.{notices_in_stand}
+use Rattle.goo_columns.proofs.Living.{KeepsLive, keeps_live}
 use Rattle.goo_columns.proofs.Same.{notice_in_same}
 use Rattle.goo_tables.specs.Changes.{with_notice_in}
 use Rattle.goo_tables.proofs.Queries.{in_order}
@@ -68,6 +69,9 @@ insert_terms = lit Null ∷ col 0 0 ∷ col 0 1 ∷ col 0 2 ∷ []
 insert_adds : Adds insert_text 12 insert_terms 4 3
 unfolding understood everything
 insert_adds = record { is = refl; plain = (refl, refl); whole = refl }
+
+pub insert_live : KeepsLive insert_text
+insert_live = keeps_live insert_text _ insert_adds.is insert_adds.plain refl
 
 pub inserts_row : (old new : State) (t : Tables) (x : NoticeIn) (r : Result ℕ Error) → Stands old.now t → Executes insert_text (notice_in_columns x) old new r → OnOk r (Stands new.now (with_notice_in t x))
 inserts_row old new t x r it =

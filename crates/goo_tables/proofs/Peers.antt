@@ -22,6 +22,7 @@ use Rattle.goo_columns.specs.Stands.{Stands}
 use Rattle.goo_columns.specs.Asked.{FirstZip}
 use Rattle.goo_columns.proofs.Typed.{cast_int, cast_null}
 use Rattle.goo_columns.proofs.Alone.{peers_stand}
+use Rattle.goo_columns.proofs.Living.{KeepsLive, keeps_live}
 use Rattle.std.proofs.lemmas.Iterator.Adapters.{option_map_id}
 use Rattle.goo_columns.proofs.Same.{peer_same}
 use Rattle.goo_tables.specs.Changes.{with_peer}
@@ -68,6 +69,9 @@ insert_terms = lit Null ∷ col 0 0 ∷ []
 insert_adds : Adds insert_text 7 insert_terms 2 1
 unfolding understood everything
 insert_adds = record { is = refl; plain = (refl, refl); whole = refl }
+
+pub insert_live : KeepsLive insert_text
+insert_live = keeps_live insert_text _ insert_adds.is insert_adds.plain refl
 
 pub inserts_row : (old new : State) (t : Tables) (x : PeerRow) (r : Result ℕ Error) → Stands old.now t → Executes insert_text (peer_columns x) old new r → OnOk r (Stands new.now (with_peer t x))
 inserts_row old new t x r it =

@@ -35,6 +35,7 @@ use Rattle.goo_columns.proofs.Writing.{deletes}
 use Rattle.goo_columns.proofs.Typed.{cast_int, cast_null, removes}
 use Rattle.goo_columns.proofs.One.{answer_of_one, one_keyed}
 use Rattle.goo_columns.proofs.Alone.{pieces_stand}
+use Rattle.goo_columns.proofs.Living.{KeepsLive, keeps_live}
 use Rattle.goo_tables.specs.Changes.{with_piece, without_piece}
 use Rattle.goo_tables.proofs.Queries.{in_order, unordered}
 use Rattle.goo_columns.specs.Met.{HasOurTables}
@@ -81,6 +82,9 @@ insert_adds : Adds insert_text 6 insert_terms 7 6
 unfolding understood everything
 insert_adds = record { is = refl; plain = (refl, refl); whole = refl }
 
+pub insert_live : KeepsLive insert_text
+insert_live = keeps_live insert_text _ insert_adds.is insert_adds.plain refl
+
 pub inserts_row : (old new : State) (t : Tables) (x : PieceRow) (r : Result ℕ Error) → Stands old.now t → Executes insert_text (piece_columns x) old new r → OnOk r (Stands new.now (with_piece t x))
 inserts_row old new t x r it =
     adds_row insert_adds refl (λ _ _. refl) (piece_columns x) old new piece_row piece_key (λ _. refl) t.pieces x it.pieces it.schema (simp (cast_null, cast_int) refl) (with_piece t x)
@@ -108,6 +112,9 @@ delete_is = refl
 delete_plain : IsPlain (understood registry_schema delete_text)
 unfolding understood everything
 delete_plain = (refl, refl)
+
+pub delete_live : KeepsLive delete_text
+delete_live = keeps_live delete_text _ delete_is delete_plain refl
 
 pub deletes_row : (old new : State) (t : Tables) (first : ℕ) (r : Result ℕ Error) → Stands old.now t → Executes delete_text (Int (pos first) ∷ []) old new r → OnOk r (Stands new.now (without_piece t first))
 deletes_row old new t first (Err e) it ran = tt

@@ -8,6 +8,7 @@ ghost use Rattle.goo_columns.specs.Rows.{Tables, device_in, device_row, device_c
 ghost use Rattle.goo_columns.specs.Once.{IsOnce};
 ghost use Rattle.goo_columns.specs.Readable.{device_readable};
 ghost use Rattle.goo_columns.specs.Refused.{FailsByFault, FailsOnlyByFault, ChangeFailsBy, IsTooBigOrFull};
+ghost use Rattle.goo_columns.specs.Lives.{LeavesLive};
 ghost use Rattle.goo_columns.specs.Stands.{Sees, Looks};
 ghost use Rattle.goo_columns.specs.Met.{HasOurTables, KeepsSome};
 ghost use Rattle.goo_tables.specs.Changes.{with_device, with_progress, DeviceFits};
@@ -30,6 +31,7 @@ pub fn insert_device<S: Alter>(
         → OnOk result (Sees (state S.Store tx.new.conn.now) (with_device t (device_in device.now))) }
     ensures refused { ChangeFailsBy IsTooBigOrFull (state S.Store tx.old.conn.now) (state S.Store tx.new.conn.now) result
         (λ t. find (λ k. bytes_eq k.1.gsrn (device_in device.now).gsrn) t.devices ≡ None) }
+    ensures live { LeavesLive (state S.Store tx.old.conn.now) (state S.Store tx.new.conn.now) result }
     ensures uncommitted { HasCleanDisk (state S.Store tx.new.conn.now) → KeepsCommit (state S.Store tx.old.conn.now) (state S.Store tx.new.conn.now) }
     ensures survives { Survives (state S.Store tx.old.conn.now) (state S.Store tx.new.conn.now) (λ _. ⊥) }
 {
@@ -67,6 +69,7 @@ pub fn set_progress<S: Alter>(
         → IsOnce (filter (λ k. bytes_eq k.1.gsrn gsrn.now) t.devices)
         → OnOk result (Sees (state S.Store tx.new.conn.now) (with_progress t gsrn.now last_day.now carry)) }
     ensures refused { ChangeFailsBy IsTooBigOrFull (state S.Store tx.old.conn.now) (state S.Store tx.new.conn.now) result (λ t. IsOnce (filter (λ k. bytes_eq k.1.gsrn gsrn.now) t.devices)) }
+    ensures live { LeavesLive (state S.Store tx.old.conn.now) (state S.Store tx.new.conn.now) result }
     ensures uncommitted { HasCleanDisk (state S.Store tx.new.conn.now) → KeepsCommit (state S.Store tx.old.conn.now) (state S.Store tx.new.conn.now) }
     ensures survives { Survives (state S.Store tx.old.conn.now) (state S.Store tx.new.conn.now) (λ _. ⊥) }
 {

@@ -7,6 +7,7 @@ ghost use Rattle.sqlite.specs.Held.{state};
 ghost use Rattle.goo_columns.specs.Rows.{Tables, notice_in_in, notice_in_row, notice_in_columns};
 ghost use Rattle.goo_columns.specs.Readable.{notice_in_readable};
 ghost use Rattle.goo_columns.specs.Refused.{FailsByFault, FailsOnlyByFault, ChangeFailsBy, IsTooBigOrFull};
+ghost use Rattle.goo_columns.specs.Lives.{LeavesLive};
 ghost use Rattle.goo_columns.specs.Stands.{Sees, Looks};
 ghost use Rattle.goo_columns.specs.Met.{HasOurTables, KeepsSome};
 ghost use Rattle.goo_tables.specs.Changes.{with_notice_in};
@@ -28,6 +29,7 @@ pub fn insert_notice_in<S: Alter>(
         → OnOk result (Sees (state S.Store tx.new.conn.now) (with_notice_in t (notice_in_in notice.now))) }
     ensures refused { ChangeFailsBy IsTooBigOrFull (state S.Store tx.old.conn.now) (state S.Store tx.new.conn.now) result
         (λ t. find (λ k. int_eq (pos k.1.sender) (pos notice.now.sender) && int_eq (pos k.1.number) (pos notice.now.number)) t.notices_in ≡ None) }
+    ensures live { LeavesLive (state S.Store tx.old.conn.now) (state S.Store tx.new.conn.now) result }
     ensures uncommitted { HasCleanDisk (state S.Store tx.new.conn.now) → KeepsCommit (state S.Store tx.old.conn.now) (state S.Store tx.new.conn.now) }
     ensures survives { Survives (state S.Store tx.old.conn.now) (state S.Store tx.new.conn.now) (λ _. ⊥) }
 {

@@ -7,6 +7,7 @@ ghost use Rattle.sqlite_typed.specs.Tests.{bytes_eq};
 ghost use Rattle.goo_columns.specs.Rows.{Tables, receipt_in, receipt_row, receipt_columns};
 ghost use Rattle.goo_columns.specs.Readable.{receipt_readable};
 ghost use Rattle.goo_columns.specs.Refused.{FailsByFault, FailsOnlyByFault, ChangeFailsBy, IsTooBigOrFull};
+ghost use Rattle.goo_columns.specs.Lives.{LeavesLive};
 ghost use Rattle.goo_columns.specs.Stands.{Sees, Looks};
 ghost use Rattle.goo_columns.specs.Met.{HasOurTables, KeepsSome};
 ghost use Rattle.goo_tables.specs.Changes.{with_receipt, ReceiptFits};
@@ -29,6 +30,7 @@ pub fn insert_receipt<S: Alter>(
         → OnOk result (Sees (state S.Store tx.new.conn.now) (with_receipt t (receipt_in receipt.now))) }
     ensures refused { ChangeFailsBy IsTooBigOrFull (state S.Store tx.old.conn.now) (state S.Store tx.new.conn.now) result
         (λ t. find (λ k. bytes_eq k.1.caller (receipt_in receipt.now).caller && bytes_eq k.1.key (receipt_in receipt.now).key) t.receipts ≡ None) }
+    ensures live { LeavesLive (state S.Store tx.old.conn.now) (state S.Store tx.new.conn.now) result }
     ensures uncommitted { HasCleanDisk (state S.Store tx.new.conn.now) → KeepsCommit (state S.Store tx.old.conn.now) (state S.Store tx.new.conn.now) }
     ensures survives { Survives (state S.Store tx.old.conn.now) (state S.Store tx.new.conn.now) (λ _. ⊥) }
 {

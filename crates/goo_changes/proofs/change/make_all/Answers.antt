@@ -1,4 +1,5 @@
 use Rattle.std.proofs.Common.{◌<◌, ◌∙◌, take, length, sym, ap, subst, arith}
+use Rattle.sqlite.specs.State.{HasCleanDisk}
 use Rattle.sqlite.specs.Held.{state}
 use Rattle.goo_columns.specs.Stands.{Sees}
 use Rattle.goo_columns.proofs.Inside.{keeps_then, survives_both, fold_more}
@@ -20,6 +21,10 @@ loop-change-preserved g c =
           let before = c.loop-change.invariant.changed (omega (arith, clean, c.make.ensures.survives.clean)) t it for in
           let fits = subst (IsFor (made_all t (take i xs))) (sym c.change-item.is) (for i item low) in
           subst (Sees new) (ap (made (made_all t (take i xs))) c.change-item.is ∙ fold_more made t xs i item low) (c.in_ok-make.ensures.changed clean (made_all t (take i xs)) before fits);
+      live = λ clean live t it for.
+          let early : HasCleanDisk mid = omega (arith, clean, c.make.ensures.survives.clean) in
+          let before = c.loop-change.invariant.changed early t it for in
+          c.in_ok-make.ensures.live clean (c.loop-change.invariant.live early live t it for) before.inside before.stands.schema;
       uncommitted = λ clean. keeps_then start mid new (c.loop-change.invariant.uncommitted (omega (arith, clean, c.make.ensures.survives.clean))) (c.make.ensures.uncommitted clean);
       survives = survives_both start mid new c.loop-change.invariant.survives c.make.ensures.survives;
     }

@@ -1,5 +1,5 @@
 use Rattle.std.proofs.Common.{◌≡◌, take}
-use Rattle.sqlite.specs.State.{HasCleanDisk, KeepsCommit, Survives}
+use Rattle.sqlite.specs.State.{HasCleanDisk, IsLive, KeepsCommit, Survives}
 use Rattle.sqlite.specs.Held.{state}
 use Rattle.goo_columns.specs.Rows.{Tables}
 use Rattle.goo_columns.specs.Stands.{Sees}
@@ -10,6 +10,7 @@ abbrev pub invariant-loop-change : goal.invariant-loop-change
 invariant-loop-change g l = record {
   name : l.tx.conn.ghost_name ≡ l.fn.tx.conn.ghost_name;
   changed : HasCleanDisk (state g.S.Store l.tx.conn.now) → (t : Tables) → Sees (state g.S.Store l.fn.tx.conn.now) t → AreFor t l.changes → Sees (state g.S.Store l.tx.conn.now) (made_all t (take l.change-index l.changes));
+  live : HasCleanDisk (state g.S.Store l.tx.conn.now) → IsLive (state g.S.Store l.fn.tx.conn.now) → (t : Tables) → Sees (state g.S.Store l.fn.tx.conn.now) t → AreFor t l.changes → IsLive (state g.S.Store l.tx.conn.now);
   uncommitted : HasCleanDisk (state g.S.Store l.tx.conn.now) → KeepsCommit (state g.S.Store l.fn.tx.conn.now) (state g.S.Store l.tx.conn.now);
   survives : Survives (state g.S.Store l.fn.tx.conn.now) (state g.S.Store l.tx.conn.now) (λ _. ⊥);
 }

@@ -1,7 +1,7 @@
 use Rattle.sqlite.specs.Held.{state}
 use Rattle.goo_columns.proofs.Inside.{sees}
 use Rattle.goo_tables.specs.Changes.{with_counters}
-use Rattle.goo_tables.proofs.MetaTable.{counters_text, counters_params, sets_counters, counters_fails}
+use Rattle.goo_tables.proofs.MetaTable.{counters_text, counters_params, sets_counters, counters_fails, counters_live}
 use Rattle.goo_tables.proofs.meta.set_counters.Goals as goal
 
 pub returns-clause-changed : goal.returns-clause-changed
@@ -16,3 +16,6 @@ pub returns-clause-refused : goal.returns-clause-refused
 returns-clause-refused g c clean live unlimited t it any =
     counters_fails (state g.S.Store c.args.tx.now.conn.now) (state g.S.Store c.put.new.tx.conn.now) t c.args.counters.now it.stands live unlimited c.put.result
     (rw (c.number.ensures, c.small.ensures.value, c.small-2.ensures.value, c.small-3.ensures.value, c.small-4.ensures.value) at (c.put.ensures.runs clean it.inside))
+
+pub returns-clause-live : goal.returns-clause-live
+returns-clause-live g c clean live inside has = counters_live _ (state g.S.Store c.args.tx.now.conn.now) (state g.S.Store c.put.new.tx.conn.now) has live c.put.result (c.put.ensures.runs clean inside)

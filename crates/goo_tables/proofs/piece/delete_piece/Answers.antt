@@ -3,7 +3,7 @@ use Rattle.sqlite.specs.declared.types.Value.TheVariants.{Int}
 use Rattle.sqlite.specs.Held.{state}
 use Rattle.goo_columns.proofs.Inside.{sees}
 use Rattle.goo_tables.specs.Changes.{without_piece}
-use Rattle.goo_tables.proofs.Pieces.{delete_text, deletes_row, deleting_fails}
+use Rattle.goo_tables.proofs.Pieces.{delete_text, deletes_row, deleting_fails, delete_live}
 use Rattle.goo_tables.proofs.piece.delete_piece.Goals as goal
 
 pub returns-clause-changed : goal.returns-clause-changed
@@ -18,3 +18,6 @@ pub returns-clause-refused : goal.returns-clause-refused
 returns-clause-refused g c clean live unlimited t it any =
     deleting_fails (state g.S.Store c.args.tx.now.conn.now) (state g.S.Store c.put.new.tx.conn.now) t c.args.first it.stands live unlimited c.put.result
     (rw (c.number.ensures) at (c.put.ensures.runs clean it.inside))
+
+pub returns-clause-live : goal.returns-clause-live
+returns-clause-live g c clean live inside has = delete_live _ (state g.S.Store c.args.tx.now.conn.now) (state g.S.Store c.put.new.tx.conn.now) has live c.put.result (c.put.ensures.runs clean inside)
