@@ -18,3 +18,4 @@ pub mod Declaring
 pub mod AtHand
 pub mod StoreFaults
 pub mod Needing
+pub mod EditsTaken
