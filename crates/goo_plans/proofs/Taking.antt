@@ -1,5 +1,5 @@
 -- Edits whose pieces have lots among those found.
-use Rattle.std.proofs.Common.{◌≡◌, true, ◌≤◌, ◌<◌, ◌^◌, ◌+◌, ◌++◌, ◌∷◌, [], ℕ, pos, List, All, Some, Err, Result, IsOkUnless, length, map, take, get_or, find, inl, inr, refl, sym, subst, ◌∙◌, ap, arith}
+use Rattle.std.proofs.Common.{◌≡◌, true, ◌<◌, ◌^◌, ◌+◌, ◌++◌, ◌∷◌, [], ℕ, pos, List, All, Err, Result, IsOkUnless, length, map, take, get_or, inl, inr, refl, sym, subst, ◌∙◌, ap, arith}
 use Rattle.std.proofs.lemmas.Bool.{cases_lt}
 use Rattle.std.proofs.lemmas.List.{get_or_default, map-append, take_more}
 use Rattle.std.proofs.lemmas.List.Elements.{All-contains, All-map, All-weaker, Contains-get_or, recursion_from_All}

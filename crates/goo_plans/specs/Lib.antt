@@ -19,3 +19,4 @@ pub mod AtHand
 pub mod StoreFaults
 pub mod Needing
 pub mod EditsTaken
+pub mod PlanNeeds

@@ -1,6 +1,5 @@
 use Rattle.std.proofs.Common.{◌≡◌, ◌∙◌, Err, All, IsOkUnless, sym, subst, rules}
 use Rattle.sqlite.specs.Held.{state}
-use Rattle.goo_columns.specs.Rows.{Tables}
 use Rattle.goo_plans.specs.AtHand.{IsAtHand}
 use Rattle.goo_plans.specs.EditsGathered.{CanBeTaken}
 use Rattle.goo_plans.specs.declared.trouble.Trouble.TheVariants.{Memory}

@@ -1,6 +1,4 @@
-use Rattle.std.proofs.Common.{◌≡◌, ◌≢◌, ◌<◌, ◌^◌, ◌+◌, ◌⊎◌, ℕ, length, get_or, inl, inr, sym, subst, ◌∙◌, ap, arith, rules}
-use Rattle.goo_plans.specs.EditsGathered.{HasNoNumber}
-use Rattle.goo_plans.specs.declared.lot_numbers.NumberedLot.{NumberedLot}
+use Rattle.std.proofs.Common.{◌≡◌, ◌≢◌, ◌<◌, ◌^◌, length, arith, rules}
 use Rattle.goo_plans.proofs.Taking.{none_more}
 use Rattle.goo_plans.proofs.edit_changes.number_between.Goals.{else-is-via-then-is+else-known, else-is-via-else-is}
 use Rattle.goo_plans.proofs.edit_changes.number_between.Goals as goal
