@@ -23,3 +23,4 @@ pub mod Unread
 pub mod Found
 pub mod RowsRead
 pub mod Refusing
+pub mod Taking

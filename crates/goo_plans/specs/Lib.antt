@@ -18,3 +18,5 @@ pub mod Declaring
 pub mod AtHand
 pub mod StoreFaults
 pub mod Needing
+pub mod EditsTaken
+pub mod PlanNeeds

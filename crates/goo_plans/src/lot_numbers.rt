@@ -1,6 +1,6 @@
 //! The numbers of lots in the table.
 
-ghost use Rattle.std.specs.Prelude.{◌≡◌, ◌≢◌, false, All, List, IfOk, IfSome, IsNone, IsSomeAnd, Some, option_map};
+ghost use Rattle.std.specs.Prelude.{◌≡◌, ◌≢◌, false, All, List, IfOk, IfSome, IsNone, IsSomeAnd, Some, map, option_map};
 ghost use Rattle.std.specs.FinMap.{get};
 ghost use Rattle.sqlite.specs.Held.{state};
 ghost use Rattle.goo_columns.specs.Rows.{Lot as RowOfLot, lot_in};
@@ -108,6 +108,7 @@ pub(crate) fn numbers_of<S: Alter>(
 ) -> Result<Vec<NumberedLot>, Trouble>
     ensures looks { LooksUp (state S.Store conn.old) (state S.Store conn.new) result (λ t found. (lots : List RowOfLot) → AreWith t.lots added.now lots → AreNumbered lots found.items) }
     ensures blames { BlamesDisk (state S.Store conn.old) (state S.Store conn.new) result (λ t. All (IsAtHand added.now t) lots.now) }
+    ensures each { IfOk result (λ found. map (λ x. x.lot) found.items ≡ lots.now) }
     ensures outside { conn.old.in_transaction ≡ false → conn.new.in_transaction ≡ false }
 {
     let mut found = Vec::new(alloc);

@@ -1,6 +1,7 @@
 //! The rows of pieces that edits insert.
 
-ghost use Rattle.std.specs.Prelude.{◌≡◌, ◌<◌, ◌^◌, true, IfOk};
+ghost use Rattle.std.specs.Prelude.{◌≡◌, ◌<◌, ◌^◌, true, IfOk, IsOk};
+ghost use Rattle.goo_types.specs.Piece.{IsForward};
 ghost use Rattle.goo_columns.specs.Rows.{Lot as LotOf};
 ghost use Rattle.goo_tables.specs.Changes.{PieceFits};
 ghost use Rattle.goo_kept.specs.Places.{lot_of, piece_of, place_of};
@@ -61,6 +62,7 @@ pub fn piece_row(piece: &Piece, lot: u64) -> Result<PieceRow, Trouble>
     ensures states { IfOk result (λ row. (l : LotOf) → lot_of l ≡ piece.now.lot → piece_of (row, l) ≡ piece.now) }
     ensures reads { IfOk result (λ row. is_piece row ≡ true) }
     ensures fits { IfOk result PieceFits }
+    ensures accepts { IsForward piece.now → IsOk result }
 {
     if !piece.is_forward() {
         return Err(Trouble::Refused);

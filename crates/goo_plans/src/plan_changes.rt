@@ -19,6 +19,7 @@ ghost use Rattle.goo_plans.specs.EditChanges.{AreForEdits};
 ghost use Rattle.goo_plans.specs.LookingUp.{LooksUp};
 ghost use Rattle.goo_plans.specs.Found.{AreFindingsOf, AreStated, IsDeviceOf, IsRowOf};
 ghost use Rattle.goo_plans.specs.Needing.{CanGoByRow};
+ghost use Rattle.goo_plans.specs.PlanNeeds.{CanBePlanned, CanGo};
 ghost use Rattle.goo_plans.specs.Planned.{IsPlanned};
 ghost use Rattle.goo_plans.specs.StoreFaults.{BlamesDisk};
 ghost use Rattle.goo_plans.specs.declared.trouble.Trouble.TheVariants.{Memory};
@@ -129,6 +130,7 @@ fn command_changes<S: Alter>(
     plan: &Plan,
 ) -> Result<Gathered, Trouble>
     ensures gathers { LooksUp (state S.Store conn.old) (state S.Store conn.new) result (λ t gathered. IsRowOf own t → IsDeviceOf device t → AreStated t.lots lots.now → AreKept t → AreInOrder t → Fits (state_of t) (rows_of t) plan.now → CarriesOut t plan.now.request.command gathered) }
+    ensures blames { BlamesDisk (state S.Store conn.old) (state S.Store conn.new) result (λ t. CanGo t own device plan.now plan.now.request.command) }
     ensures outside { conn.old.in_transaction ≡ false → conn.new.in_transaction ≡ false }
     ensures fits { IfOk result (λ gathered. All ChangeFits gathered.changes.items) }
 {
@@ -180,6 +182,7 @@ pub fn plan_changes<S: Alter>(
     plan: &Plan,
 ) -> Result<Vec<Change>, Trouble>
     ensures gathers { LooksUp (state S.Store conn.old) (state S.Store conn.new) result (λ t changes. AreFindingsOf findings t → AreKept t → AreInOrder t → Fits (state_of t) (rows_of t) plan.now → IsPlanned t changes.items plan.now) }
+    ensures blames { BlamesDisk (state S.Store conn.old) (state S.Store conn.new) result (λ t. CanBePlanned t findings plan.now) }
     ensures outside { conn.old.in_transaction ≡ false → conn.new.in_transaction ≡ false }
     ensures fits { IfOk result (λ changes. All ChangeFits changes.items) }
 {

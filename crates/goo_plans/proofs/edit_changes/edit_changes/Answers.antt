@@ -1,4 +1,6 @@
-use Rattle.std.proofs.Common.{◌<◌, ◌+◌, [], ◌++◌, append-nil, drop, length, refl, sym, subst, ◌∙◌, arith}
+use Rattle.std.proofs.Common.{◌≡◌, ◌<◌, ◌+◌, [], ◌++◌, Err, append-nil, drop, length, refl, sym, subst, ◌∙◌, arith, rules}
+use Rattle.goo_plans.specs.EditsGathered.{CanBeTaken}
+use Rattle.goo_plans.proofs.Taking.{handed}
 use Rattle.std.proofs.lemmas.List.{drop_more, drop_all}
 use Rattle.std.proofs.Common.{ap, ◌∷◌}
 use Rattle.goo_plans.specs.EditChanges.{AreForEdits}
@@ -24,3 +26,9 @@ pub returns-clause-made : goal.returns-clause-made
 returns-clause-made c lots are =
     subst (AreForEdits lots c.args.edits.now) (append-nil c.loop-edit.changes.items)
     (c.loop-edit.invariant.made lots are [] (subst (λ es. AreForEdits lots es []) (sym (drop_all c.loop-edit.edit-index c.args.edits.now c.loop-edit-test.false)) refl))
+
+pub returns-in_err-push_edit-clause-memory : goal.returns-in_err-push_edit-clause-memory
+returns-in_err-push_edit-clause-memory c all =
+    let low : c.loop-edit.edit-index < length c.args.edits.now = omega (arith, c.loop-edit-test.true) in
+    let same : c.from_residual.result ≡ Err c.in_err-push_edit.field-0.0 = search rules in
+    handed c.in_err-push_edit.field-0.0 c.from_residual.result same (c.in_err-push_edit.ensures.memory (subst (CanBeTaken c.args.found.now) (sym c.edit-item.is) (all c.loop-edit.edit-index c.edit-item.result low)))

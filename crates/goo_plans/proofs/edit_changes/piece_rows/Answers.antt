@@ -1,4 +1,5 @@
 use Rattle.std.proofs.Common.{◌<◌, ◌+◌, All, length, take, take_all, sym, subst, arith}
+use Rattle.goo_plans.specs.EditsGathered.{HasRowToBe}
 use Rattle.std.specs.List.{AllZip}
 use Rattle.std.proofs.lemmas.List.Elements.{All-push}
 use Rattle.goo_tables.specs.Changes.{PieceFits}
@@ -23,3 +24,15 @@ pub returns-clause-rows : goal.returns-clause-rows
 returns-clause-rows c lots are =
     rows_of_zip lots c.loop-piece.rows.items c.args.pieces.now
     (subst (λ ps. AllZip (λ p x. IsRowOf lots x p) ps c.loop-piece.rows.items) (take_all c.loop-piece.piece-index c.args.pieces.now c.loop-piece-test.false) (c.loop-piece.invariant.rows lots are))
+
+pub returns-in_err-at-clause-memory : goal.returns-in_err-at-clause-memory
+returns-in_err-at-clause-memory c all =
+    let low : c.loop-piece.piece-index < length c.args.pieces.now = omega (arith, c.loop-piece-test.true) in
+    let can : HasRowToBe c.args.found.now c.piece-item.result = subst (HasRowToBe c.args.found.now) (sym c.piece-item.is) (all c.loop-piece.piece-index c.piece-item.result low) in
+    absurd (let ok = c.in_err-at.ensures.finds can.1 in cc)
+
+pub returns-in_err-row-clause-memory : goal.returns-in_err-row-clause-memory
+returns-in_err-row-clause-memory c all =
+    let low : c.loop-piece.piece-index < length c.args.pieces.now = omega (arith, c.loop-piece-test.true) in
+    let can : HasRowToBe c.args.found.now c.piece-item.result = subst (HasRowToBe c.args.found.now) (sym c.piece-item.is) (all c.loop-piece.piece-index c.piece-item.result low) in
+    absurd (let ok = c.in_err-row.ensures.accepts can.0 in cc)

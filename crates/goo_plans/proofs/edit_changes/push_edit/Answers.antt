@@ -1,4 +1,6 @@
-use Rattle.std.proofs.Common.{◌++◌, append_assoc, map, refl, ap, subst, ◌∙◌}
+use Rattle.std.proofs.Common.{◌≡◌, ◌++◌, append_assoc, map, All, Err, refl, ap, sym, subst, ◌∙◌, rules}
+use Rattle.goo_plans.specs.EditsGathered.{HasRowToBe}
+use Rattle.goo_plans.proofs.Taking.{handed}
 use Rattle.goo_plans.specs.EditChanges.{AreRowsOf}
 use Rattle.goo_changes.specs.declared.change.Change.TheVariants.{DeletePiece, InsertPiece}
 use Rattle.goo_plans.proofs.LookUps.{on}
@@ -16,3 +18,8 @@ returns-clause-made c =
           ∙ append_assoc before deletes (map (λ x. InsertPiece x) rows);
       made = λ lots are. record { rows = rows; changes_are = refl; rows_are = subst (AreRowsOf lots rows) c.deref.ensures.value (c.in_ok-rows.ensures.rows lots are) };
     })
+
+pub returns-in_err-rows-clause-memory : goal.returns-in_err-rows-clause-memory
+returns-in_err-rows-clause-memory c all =
+    let same : c.from_residual.result ≡ Err c.in_err-rows.field-0.0 = search rules in
+    handed c.in_err-rows.field-0.0 c.from_residual.result same (c.in_err-rows.ensures.memory (subst (All (HasRowToBe c.args.found.now)) (sym c.deref.ensures.value) all))

@@ -1,4 +1,4 @@
-use Rattle.std.proofs.Common.{◌≡◌, ◌<◌, All, Ok, Err, IsOkUnless, length, sym, subst, arith, rules}
+use Rattle.std.proofs.Common.{◌≡◌, ◌<◌, ◌∙◌, All, Ok, Err, IsOkUnless, ap, length, map, sym, subst, take_all, arith, rules}
 use Rattle.sqlite.specs.Held.{state}
 use Rattle.std.proofs.lemmas.List.Elements.{All-push}
 use Rattle.goo_plans.specs.LotNumbers.{IsNumberOf, AreNumbered}
@@ -7,6 +7,7 @@ use Rattle.goo_columns.specs.Rows.{Tables}
 use Rattle.goo_plans.specs.declared.trouble.Trouble.TheVariants.{Memory}
 use Rattle.goo_plans.specs.AtHand.{IsAtHand}
 use Rattle.goo_plans.proofs.Refusing.{blames_err, blames_made, blames_then}
+use Rattle.goo_plans.proofs.Taking.{one_more}
 use Rattle.goo_plans.proofs.lot_numbers.numbers_of.Goals as goal
 
 pub loop-lot-preserved : goal.loop-lot-preserved
@@ -25,6 +26,7 @@ loop-lot-preserved g c =
           Needs (blames_then s0 s1 s2 c.loop-lot.found _ c.loop-lot.invariant.looks _ c.loop-lot.invariant.blames (Ok c.in_ok-number.number) _ c.in_ok-number.ensures.looks _ c.in_ok-number.ensures.blames Needs
           (λ t stands kept all first. subst (IsAtHand c.args.added.now t) (sym c.lot-item.is) (all i c.lot-item.result low)))
           (Ok c.extend_from_slice.new.self) _ (λ t stands kept all first. tt);
+      each = ap (map (λ x. x.lot)) c.in_ok-extend_from_slice.ensures.items ∙ one_more (λ x. x.lot) c.loop-lot.found.items lots i _ low c.lot-item.is c.loop-lot.invariant.each;
       outside = λ none. c.number_of.ensures.outside (c.loop-lot.invariant.outside none);
     }
 
@@ -55,3 +57,6 @@ returns-in_err-extend_from_slice-clause-blames g c =
     Needs (blames_then s0 s1 s2 c.loop-lot.found _ c.loop-lot.invariant.looks _ c.loop-lot.invariant.blames (Ok c.in_ok-number.number) _ c.in_ok-number.ensures.looks _ c.in_ok-number.ensures.blames Needs
     (λ t stands kept all first. subst (IsAtHand c.args.added.now t) (sym c.lot-item.is) (all i c.lot-item.result low)))
     c.from_residual-in_err-extend_from_slice.result _ (λ t stands kept all first. memory)
+
+pub returns-clause-each : goal.returns-clause-each
+returns-clause-each g c = c.loop-lot.invariant.each ∙ take_all c.loop-lot.lot-index c.args.lots.now c.loop-lot-test.false

@@ -1,4 +1,4 @@
-use Rattle.std.proofs.Common.{◌≡◌, List, All, Ok, false}
+use Rattle.std.proofs.Common.{◌≡◌, List, All, Ok, false, map, take}
 use Rattle.sqlite.specs.Held.{state}
 use Rattle.goo_columns.specs.Rows.{Lot}
 use Rattle.goo_plans.specs.AtHand.{IsAtHand}
@@ -11,5 +11,6 @@ abbrev pub invariant-loop-lot : goal.invariant-loop-lot
 invariant-loop-lot g l = record {
   looks : LooksUp (state g.S.Store l.fn.conn) (state g.S.Store l.conn) (Ok l.found) (λ t found. (lots : List Lot) → AreWith t.lots l.added lots → AreNumbered lots found.items);
   blames : BlamesDisk (state g.S.Store l.fn.conn) (state g.S.Store l.conn) (Ok l.found) (λ t. All (IsAtHand l.added t) l.lots);
+  each : map (λ x. x.lot) l.found.items ≡ take l.lot-index l.lots;
   outside : l.fn.conn.in_transaction ≡ false → l.conn.in_transaction ≡ false;
 }

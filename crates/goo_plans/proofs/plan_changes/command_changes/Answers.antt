@@ -1,4 +1,7 @@
+use Rattle.std.proofs.Common.{subst}
 use Rattle.sqlite.specs.Held.{state}
+use Rattle.goo_plans.specs.PlanNeeds.{CanGo}
+use Rattle.goo_plans.proofs.Refusing.{blames_so}
 use Rattle.goo_columns.proofs.Results.{if_ok}
 use Rattle.goo_plans.proofs.LookUps.{looks_none, looks_so}
 use Rattle.goo_plans.proofs.plan_changes.command_changes.Goals as goal
@@ -16,3 +19,8 @@ returns-in_default-clause-gathers g c =
 pub returns-in-OpenAccount-clause-gathers : goal.returns-in-OpenAccount-clause-gathers
 returns-in-OpenAccount-clause-gathers g c =
     looks_so (state g.S.Store c.args.conn.now) (state g.S.Store c.by_own_row.new.conn) c.by_own_row.result _ _ c.by_own_row.ensures.gathers (λ t it gathered carries known device are kept order fits. carries known device kept order fits)
+
+pub returns-in-Import-clause-blames : goal.returns-in-Import-clause-blames
+returns-in-Import-clause-blames g c =
+    blames_so (state g.S.Store c.args.conn.now) (state g.S.Store c.import_changes.new.conn) c.import_changes.result _ _ c.import_changes.ensures.blames
+    (λ t stands kept can. subst (CanGo t c.args.own c.args.device c.args.plan.now) c.in-Import.is can)

@@ -1,0 +1,40 @@
+-- What the changes of a plan need of the tables.
+use Rattle.std.specs.Prelude.{◌++◌, length, Option}
+use Rattle.goo_types.specs.declared.command.Command.{Command}
+use Rattle.goo_types.specs.declared.command.Command.TheVariants.{OpenAccount, Declare, Cancel, Withdraw, Export, Import}
+use Rattle.goo_shelf.specs.Plan.{Fits}
+use Rattle.goo_shelf.specs.declared.plan.Plan.{Plan}
+use Rattle.goo_columns.specs.Rows.{Tables, lot_key}
+use Rattle.goo_columns.specs.declared.meta.MetaRow.{MetaRow}
+use Rattle.goo_kept.specs.Places.{rows_of}
+use Rattle.goo_kept.specs.States.{state_of}
+use Rattle.goo_plans.specs.Acted.{HasKeptNumbers}
+use Rattle.goo_plans.specs.AtHand.{HasRoom}
+use Rattle.goo_plans.specs.Carried.{AreInOrder}
+use Rattle.goo_plans.specs.Carrying.{CarriesOut}
+use Rattle.goo_plans.specs.EditsTaken.{CanTakeEdits}
+use Rattle.goo_plans.specs.Found.{AreFindingsOf}
+use Rattle.goo_plans.specs.Needing.{CanGoByRow}
+use Rattle.goo_plans.specs.declared.findings.Findings.{Findings}
+use Rattle.goo_plans.specs.declared.findings.KnownDevice.{KnownDevice}
+use Rattle.goo_plans.specs.declared.gathered_lots.Gathered.{Gathered}
+
+-- an import has room for the lots of its parts, and a command that needs the registry's row can go by it
+abbrev pub CanGo : Tables → Option MetaRow → Option KnownDevice → Plan → Command → Type 0
+CanGo t own kept plan (Import x) = HasRoom (length x.notice.parts) lot_key t.lots
+CanGo t own kept plan (OpenAccount x) = CanGoByRow t own kept plan
+CanGo t own kept plan (Declare x) = CanGoByRow t own kept plan
+CanGo t own kept plan (Cancel x) = CanGoByRow t own kept plan
+CanGo t own kept plan (Withdraw x) = CanGoByRow t own kept plan
+CanGo t own kept plan (Export x) = CanGoByRow t own kept plan
+CanGo t own kept plan _ = Unit {0}
+
+-- What was kept is so in the tables, in which the plan may be committed. Its command can go; whatever is gathered that carries it
+-- out, the edits can be taken then; and a receipt can keep the numbers of its reply.
+pub record CanBePlanned (t : Tables) (findings : Findings) (plan : Plan) : Type 0 where
+  pub found : AreFindingsOf findings t
+  pub order : AreInOrder t
+  pub fits : Fits (state_of t) (rows_of t) plan
+  pub command : CanGo t findings.own findings.device plan plan.request.command
+  pub edits : (gathered : Gathered) → CarriesOut t plan.request.command gathered → CanTakeEdits (gathered.added.items ++ findings.lots.items) t plan.edits.items
+  pub reply : HasKeptNumbers plan.reply
