@@ -1,11 +1,12 @@
 -- What the changes of a plan need of the tables.
-use Rattle.std.specs.Prelude.{◌++◌, length, Option}
+use Rattle.std.specs.Prelude.{◌++◌, length, All, Option}
 use Rattle.goo_types.specs.declared.command.Command.{Command}
 use Rattle.goo_types.specs.declared.command.Command.TheVariants.{OpenAccount, Declare, Cancel, Withdraw, Export, Import}
 use Rattle.goo_shelf.specs.Plan.{Fits}
 use Rattle.goo_shelf.specs.declared.plan.Plan.{Plan}
 use Rattle.goo_columns.specs.Rows.{Tables, lot_key}
 use Rattle.goo_columns.specs.declared.meta.MetaRow.{MetaRow}
+use Rattle.goo_changes.specs.Changes.{ChangeFits}
 use Rattle.goo_kept.specs.Places.{rows_of}
 use Rattle.goo_kept.specs.States.{state_of}
 use Rattle.goo_plans.specs.Acted.{HasKeptNumbers}
@@ -30,11 +31,12 @@ CanGo t own kept plan (Export x) = CanGoByRow t own kept plan
 CanGo t own kept plan _ = Unit {0}
 
 -- What was kept is so in the tables, in which the plan may be committed. Its command can go; whatever is gathered that carries it
--- out, the edits can be taken then; and a receipt can keep the numbers of its reply.
+-- out in rows that columns can keep, the edits can be taken then; and a receipt can keep the numbers of its reply.
+-- Where lots are put in, this asks more than can be had: `CarriesOut` doesn't say that each of them is among those added.
 pub record CanBePlanned (t : Tables) (findings : Findings) (plan : Plan) : Type 0 where
   pub found : AreFindingsOf findings t
   pub order : AreInOrder t
   pub fits : Fits (state_of t) (rows_of t) plan
   pub command : CanGo t findings.own findings.device plan plan.request.command
-  pub edits : (gathered : Gathered) → CarriesOut t plan.request.command gathered → CanTakeEdits (gathered.added.items ++ findings.lots.items) t plan.edits.items
+  pub edits : (gathered : Gathered) → CarriesOut t plan.request.command gathered → All ChangeFits gathered.changes.items → CanTakeEdits (gathered.added.items ++ findings.lots.items) t plan.edits.items
   pub reply : HasKeptNumbers plan.reply
