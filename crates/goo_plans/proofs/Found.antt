@@ -1,5 +1,5 @@
 -- Lots that are kept, by the rows that state them.
-use Rattle.std.proofs.Common.{◌≡◌, refl, sym, ap, subst, ◌∙◌, ◌++◌, ◌∷◌, [], pos, ℕ, ◌||◌, Bool, true, false, cond, true≢false, List, find, slice_index_or, is_some, Option, Some, None, option_map}
+use Rattle.std.proofs.Common.{◌≡◌, inl, inr, ⊎_elim, refl, sym, ap, subst, ◌∙◌, ◌++◌, ◌∷◌, [], pos, ℕ, ◌||◌, Bool, true, false, cond, true≢false, List, find, slice_index_or, is_some, Option, Some, None, option_map}
 use Rattle.std.specs.FinMap.{contains_key}
 use Rattle.std.specs.Ordering.{eq_by_cmp, int_eq}
 use Rattle.std.specs.Cmp.Lexicographic.{nat_list_cmp_total}
@@ -18,6 +18,7 @@ use Rattle.goo_plans.specs.LotNumbers.{AreWith, IsNumberOf}
 use Rattle.goo_plans.specs.LotRows.{is_among}
 use Rattle.goo_plans.specs.NewLots.{known_lots}
 use Rattle.goo_plans.specs.declared.lot_numbers.NumberedLot.{NumberedLot}
+use Rattle.goo_plans.proofs.Gathering.{any_more}
 
 -- a lot that a row states has the row's number
 pub stated : (lots : List Lot) (x : NumberedLot) → option_map lot_of (get_by lot_key lots (pos x.number)) ≡ Some x.lot → IsNumberOf lots x.number x.lot
@@ -32,6 +33,7 @@ pub with_found : (before : List Lot) (added found : List NumberedLot) (lots : Li
 with_found before added found lots are with = record {
   kept = with.kept;
   added_are = All-append (λ x. IsNumberOf lots x.number x.lot) added found with.added_are (λ k d low. later (slice_index_or found k d) (stated before (slice_index_or found k d) (are k d low)));
+  only = λ lot is. ⊎_elim (λ there. inl (any_more (λ (x : NumberedLot). x.lot ≡ lot) added found there)) inr (with.only lot is);
 }
   where
     later : (x : NumberedLot) → IsNumberOf before x.number x.lot → IsNumberOf lots x.number x.lot

@@ -1,7 +1,8 @@
 -- Lots that are gathered part by part.
-use Rattle.std.proofs.Common.{◌≡◌, ℕ, ◌+◌, ℤ, pos, ◌+ℤ◌, ◌&&◌, ◌||◌, List, [], ◌∷◌, ◌++◌, append_assoc, Bool, true, false, IsTrue, cond, find, option_map, reverse, fold, is_some, slice_get, inl, inr, Option, Some, None, refl, ap, sym, subst, ◌∙◌, true≢false}
+use Rattle.std.proofs.Common.{◌≡◌, ◌⊎◌, ⊎_elim, arith, ℕ, ◌+◌, ℤ, pos, ◌+ℤ◌, ◌&&◌, ◌||◌, List, [], ◌∷◌, ◌++◌, append_assoc, Bool, true, false, IsTrue, cond, find, option_map, reverse, fold, is_some, slice_get, inl, inr, Option, Some, None, refl, ap, sym, subst, ◌∙◌, true≢false}
 use Rattle.std.specs.Prelude.{◌↔◌}
 use Rattle.std.specs.FinMap.{FinMap, get, insert, get-insert, contains_key}
+use Rattle.std.specs.List.{Any}
 use Rattle.std.specs.Ordering.{eq_by_cmp, int_eq}
 use Rattle.std.specs.Cmp.Lexicographic.{nat_list_cmp_total}
 use Rattle.std.proofs.lemmas.Cmp.{int_eq_equiv}
@@ -9,6 +10,8 @@ use Rattle.std.proofs.lemmas.List.{reverse-append}
 use Rattle.std.proofs.lemmas.List.Sums.{fold-append}
 use Rattle.std.proofs.lemmas.List.Folds.{list_any-append}
 use Rattle.std.proofs.lemmas.List.Elements.{All-nil, All-push, All-weaker}
+use Rattle.std.proofs.lemmas.List.Quantifiers.{Any-push}
+use Rattle.std.proofs.lemmas.Grind.{common_steps}
 use Rattle.sqlite_keyed.specs.Keyed.{IsKeyedBy, get_by, has_key, insert_by, next_key}
 use Rattle.sqlite_keyed.proofs.KeyedLemmas.{same_int, next_key_is_free, IsKeyedBy-insert_by}
 use Rattle.sqlite_keyed.proofs.SliceLemmas.{insert_next, is_some-map}
@@ -21,6 +24,7 @@ use Rattle.goo_types.specs.declared.part.Part.{Part}
 use Rattle.goo_spec.specs.Lots.{key_of}
 use Rattle.goo_spec.specs.Lots as lots_of
 use Rattle.goo_spec.specs.State.{text_cmp}
+use Rattle.goo_spec.proofs.Mapping.{inside}
 use Rattle.goo_columns.specs.Rows as row
 use Rattle.goo_columns.specs.Rows.{Lot, lot_key, lot_in, declaration_key}
 use Rattle.goo_columns.specs.declared.lot.LotRow.{LotRow}
@@ -30,12 +34,12 @@ use Rattle.goo_kept.specs.Readable.{is_lot}
 use Rattle.goo_kept.specs.States.{known_lot}
 use Rattle.goo_kept.proofs.Inserted.{map_inserted}
 use Rattle.goo_kept.proofs.Known.{text_same, text_itself, lot_test, get-known}
-use Rattle.goo_plans.specs.LotNumbers.{IsNumberOf, AreWith}
+use Rattle.goo_plans.specs.LotNumbers.{IsNumberOf, IsKnownBy, AreWith}
 use Rattle.goo_plans.specs.LotRows.{next_lot, next_declaration, with_rows, is_among, AreGathered}
 use Rattle.goo_plans.specs.NewLots.{known_lots, IsNewLot, AreNewLots}
 use Rattle.goo_plans.specs.declared.lot_numbers.NumberedLot.{NumberedLot}
 use Rattle.goo_plans.proofs.CommandsActed.{texts_apart}
-use Rattle.goo_plans.proofs.RegisteringActed.{find_put}
+use Rattle.goo_plans.proofs.RegisteringActed.{find_put, find_either}
 use Rattle.goo_plans.proofs.ImportingActed.{known_as}
 
 -- ---- the next number
@@ -59,6 +63,10 @@ next_lot_is lots = go (slice_get (reverse lots) 0) ∙ sym (last_next lot_key (p
     go None = refl
     go (Some l) = refl
 
+-- what is there is there with more behind
+pub any_more : {X : Type 0} (P : X → Type 0) (xs ys : List X) → Any P xs → Any P (xs ++ ys)
+any_more P xs ys (k, x, low, is, has) = (k, x, grind (arith, common_steps), grind (arith, common_steps), has)
+
 -- ---- a row more
 
 module _ (xs : List Lot) (l : Lot) (fresh : has_key lot_key xs (lot_key l) ≡ false) where
@@ -78,6 +86,17 @@ module _ (xs : List Lot) (l : Lot) (fresh : has_key lot_key xs (lot_key l) ≡ f
       go true same = absurd (true≢false (sym (ap is_some is) ∙ sym (ap (has_key lot_key xs) (same_int (lot_key l) (pos n) same)) ∙ fresh))
       go false other = is
 
+  -- the lot that is known is the new one, or was known
+  known_more : (before : List Lot) (added : List NumberedLot) (x : NumberedLot) → AreWith before added xs → lot_of l ≡ x.lot
+      → (lot : LotFields) → IsKnownBy (insert_by lot_key xs l) lot → Any (λ y. y.lot ≡ lot) (added ++ x ∷ []) ⊎ IsKnownBy before lot
+  known_more before added x it states lot is =
+      let test : Lot → Bool = λ y. eq_by_cmp text_cmp (key_of lot) (key_of (lot_of y)) in
+      let P : Option Lot → Type 0 = λ o. option_map (λ y. (known_lot y).1) o ≡ Some lot in
+      ⊎_elim
+      (λ new. inl (Any-push (λ (y : NumberedLot). y.lot ≡ lot) added x (sym states ∙ inside (lot_of l) lot new)))
+      (λ old. ⊎_elim (λ there. inl (any_more (λ (y : NumberedLot). y.lot ≡ lot) added (x ∷ []) there)) inr (it.only lot (get-known nat_list_cmp_total known_lot (key_of lot) test (λ y. refl) xs ∙ old)))
+      (find_either lot_key test l P xs fresh (sym (get-known nat_list_cmp_total known_lot (key_of lot) test (λ y. refl) (insert_by lot_key xs l)) ∙ is))
+
   -- one lot more, under its number
   pub with_more : (before : List Lot) (added : List NumberedLot) (x : NumberedLot) → AreWith before added xs → l.id ≡ x.number → lot_of l ≡ x.lot → AreWith before (added ++ x ∷ []) (insert_by lot_key xs l)
   with_more before added x it number states = record {
@@ -89,10 +108,11 @@ module _ (xs : List Lot) (l : Lot) (fresh : has_key lot_key xs (lot_key l) ≡ f
           there = found_more (pos x.number) ∙ ap (λ b. cond b (Some l) (get_by lot_key xs (pos x.number))) (ap (λ n. int_eq (pos n) (pos x.number)) number ∙ int_eq_equiv.refl (pos x.number));
           states = states;
         });
+    only = known_more before added x it states;
   }
 
 pub with_none : (lots : List Lot) → AreWith lots [] lots
-with_none lots = record { kept = λ n row is. is; added_are = All-nil (λ y. IsNumberOf lots y.number y.lot) }
+with_none lots = record { kept = λ n row is. is; added_are = All-nil (λ y. IsNumberOf lots y.number y.lot); only = λ lot is. inr is }
 
 -- ---- part by part
 

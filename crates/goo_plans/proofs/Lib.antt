@@ -24,3 +24,4 @@ pub mod Found
 pub mod RowsRead
 pub mod Refusing
 pub mod Taking
+pub mod EditsAtHand

@@ -1,5 +1,5 @@
 -- What registering a device changes in the tables.
-use Rattle.std.proofs.Common.{◌≡◌, ℕ, ℤ, pos, ◌≤◌, List, [], ◌∷◌, Bool, true, false, cond, map, find, length, Option, Some, None, option_map, refl, ap, sym, subst, ◌∙◌, arith, true≢false}
+use Rattle.std.proofs.Common.{◌≡◌, ◌⊎◌, inl, inr, ℕ, ℤ, pos, ◌≤◌, List, [], ◌∷◌, Bool, true, false, cond, map, find, length, Option, Some, None, option_map, refl, ap, sym, subst, ◌∙◌, arith, true≢false}
 use Rattle.std.specs.FinMap.{get, insert, from_entries, IsAntisymmetric, slice_cmp-IsAntisymmetric, nat_cmp-IsAntisymmetric}
 use Rattle.std.specs.Cmp.Lexicographic.{nat_list_cmp_total}
 use Rattle.std.specs.List.{filter}
@@ -35,6 +35,10 @@ module _ {A : Type 0} (key : A → ℤ) (test : A → Bool) (x : A) where
       go true is = absurd cc
       go false is = (refl, is)
 
+  either : (P : Option A → Type 0) (b : Bool) (rest : Option A) → P (cond b (Some x) rest) → P (Some x) ⊎ P rest
+  either P true rest is = inl is
+  either P false rest is = inr is
+
   -- a row more is found by a test that no other row passes
   pub find_put : (xs : List A) → has_key key xs (key x) ≡ false → (test x ≡ true → find test xs ≡ None) → find test (insert_by key xs x) ≡ cond (test x) (Some x) (find test xs)
   find_put [] fresh none = refl
@@ -49,6 +53,22 @@ module _ {A : Type 0} (key : A → ℤ) (test : A → Bool) (x : A) where
           ∙ swapped (test y) (test x) (Some y) (Some x) (find test ys) (λ one two. true≢false (sym one ∙ (none_further y ys (none two)).0))
       go Equal not_eq rest = absurd (true≢false not_eq)
       go Greater not_eq rest = refl
+
+  -- any test finds the row more, or what it found
+  pub find_either : (P : Option A → Type 0) (xs : List A) → has_key key xs (key x) ≡ false → P (find test (insert_by key xs x)) → P (Some x) ⊎ P (find test xs)
+  find_either P [] fresh is = either P (test x) None is
+  find_either P (y ∷ ys) fresh is =
+      let parts = here_too (int_eq (key y) (key x)) y (find (λ a. int_eq (key a) (key x)) ys) fresh in
+      go (int_cmp (key y) (key x)) parts.0 (find_either P ys parts.1) is
+    where
+      go : (r : Ordering) → is_eq r ≡ false → (P (find test (insert_by key ys x)) → P (Some x) ⊎ P (find test ys)) → P (find test (match_ordering r (y ∷ insert_by key ys x) (x ∷ ys) (x ∷ y ∷ ys))) → P (Some x) ⊎ P (find test (y ∷ ys))
+      go Less not_eq rest is = later (test y) rest is
+        where
+          later : (b : Bool) → (P (find test (insert_by key ys x)) → P (Some x) ⊎ P (find test ys)) → P (cond b (Some y) (find test (insert_by key ys x))) → P (Some x) ⊎ P (cond b (Some y) (find test ys))
+          later true rest is = inr is
+          later false rest is = rest is
+      go Equal not_eq rest is = absurd (true≢false not_eq)
+      go Greater not_eq rest is = either P (test x) (find test (y ∷ ys)) is
 
   -- and it is one row more that passes
   pub count_put : (xs : List A) → has_key key xs (key x) ≡ false → length (filter test (insert_by key xs x)) ≡ length (filter test (x ∷ xs))

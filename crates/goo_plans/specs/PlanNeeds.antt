@@ -1,24 +1,22 @@
 -- What the changes of a plan need of the tables.
-use Rattle.std.specs.Prelude.{◌++◌, length, All, Option}
+use Rattle.std.specs.Prelude.{length, Option}
 use Rattle.goo_types.specs.declared.command.Command.{Command}
 use Rattle.goo_types.specs.declared.command.Command.TheVariants.{OpenAccount, Declare, Cancel, Withdraw, Export, Import}
+use Rattle.goo_spec.specs.Step.{accept}
 use Rattle.goo_shelf.specs.Plan.{Fits}
 use Rattle.goo_shelf.specs.declared.plan.Plan.{Plan}
 use Rattle.goo_columns.specs.Rows.{Tables, lot_key}
 use Rattle.goo_columns.specs.declared.meta.MetaRow.{MetaRow}
-use Rattle.goo_changes.specs.Changes.{ChangeFits}
 use Rattle.goo_kept.specs.Places.{rows_of}
 use Rattle.goo_kept.specs.States.{state_of}
 use Rattle.goo_plans.specs.Acted.{HasKeptNumbers}
 use Rattle.goo_plans.specs.AtHand.{HasRoom}
 use Rattle.goo_plans.specs.Carried.{AreInOrder}
-use Rattle.goo_plans.specs.Carrying.{CarriesOut}
-use Rattle.goo_plans.specs.EditsTaken.{CanTakeEdits}
+use Rattle.goo_plans.specs.EditsTaken.{HaveKeptNumbers, HaveKnownLots}
 use Rattle.goo_plans.specs.Found.{AreFindingsOf}
 use Rattle.goo_plans.specs.Needing.{CanGoByRow}
 use Rattle.goo_plans.specs.declared.findings.Findings.{Findings}
 use Rattle.goo_plans.specs.declared.findings.KnownDevice.{KnownDevice}
-use Rattle.goo_plans.specs.declared.gathered_lots.Gathered.{Gathered}
 
 -- an import has room for the lots of its parts, and a command that needs the registry's row can go by it
 abbrev pub CanGo : Tables → Option MetaRow → Option KnownDevice → Plan → Command → Type 0
@@ -30,13 +28,13 @@ CanGo t own kept plan (Withdraw x) = CanGoByRow t own kept plan
 CanGo t own kept plan (Export x) = CanGoByRow t own kept plan
 CanGo t own kept plan _ = Unit {0}
 
--- What was kept is so in the tables, in which the plan may be committed. Its command can go; whatever is gathered that carries it
--- out in rows that columns can keep, the edits can be taken then; and a receipt can keep the numbers of its reply.
--- Where lots are put in, this asks more than can be had: `CarriesOut` doesn't say that each of them is among those added.
+-- What was kept is so in the tables, in which the plan may be committed. Its command can go; the registry knows the lots of the pieces
+-- that the edits insert, once the request is accepted; columns keep the numbers of the lots that are there, and a receipt those of the reply.
 pub record CanBePlanned (t : Tables) (findings : Findings) (plan : Plan) : Type 0 where
   pub found : AreFindingsOf findings t
   pub order : AreInOrder t
   pub fits : Fits (state_of t) (rows_of t) plan
   pub command : CanGo t findings.own findings.device plan plan.request.command
-  pub edits : (gathered : Gathered) → CarriesOut t plan.request.command gathered → All ChangeFits gathered.changes.items → CanTakeEdits (gathered.added.items ++ findings.lots.items) t plan.edits.items
+  pub edits : HaveKnownLots (accept (state_of t) plan.request) plan.edits.items
+  pub lots : HaveKeptNumbers t.lots
   pub reply : HasKeptNumbers plan.reply
