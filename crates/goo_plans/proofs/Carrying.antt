@@ -38,18 +38,21 @@ use Rattle.goo_columns.specs.declared.peer.PeerRow.{PeerRow}
 use Rattle.goo_columns.specs.declared.withdrawal.WithdrawalRow.{WithdrawalRow}
 use Rattle.goo_tables.specs.Changes.{at_day}
 use Rattle.goo_tables.specs.declared.counters.Counters.{Counters}
-use Rattle.goo_kept.specs.Devices.{progress_in}
+use Rattle.goo_kept.specs.Devices.{device_of as device_in_row, progress_in}
+use Rattle.goo_kept.specs.Records as record_of
 use Rattle.goo_kept.specs.Readable.{is_holder, is_account, is_device, is_peer, is_cancellation, is_withdrawal, is_notice_out, reads}
-use Rattle.goo_kept.specs.States.{state_of, known_holder, known_account, known_device, known_peer, known_cancellation, known_withdrawal, known_sent}
+use Rattle.goo_kept.specs.States.{state_of, known_holder, known_account, known_device, known_peer, known_cancellation, known_withdrawal, known_sent, account_of}
 use Rattle.goo_kept.specs.Texts.{day_of}
 use Rattle.goo_plans.specs.Acted.{IsActed}
 use Rattle.goo_plans.specs.Carried.{Does, counters_in}
-use Rattle.goo_changes.specs.Changes.{made, made_all, IsFor, AreFor}
+use Rattle.goo_changes.specs.Changes.{made, made_all, IsFor, AreFor, IsFree}
 use Rattle.goo_changes.specs.declared.change.Change.{Change}
 use Rattle.goo_changes.specs.declared.change.Change.TheVariants as change
 use Rattle.goo_plans.proofs.ActsActed.{numbers, account_acted, cancellation_acted, withdrawal_acted, export_acted, advance_acted}
 use Rattle.goo_plans.proofs.ClosingActed.{closing_acted}
 use Rattle.goo_plans.proofs.CommandsActed.{transfer_acted, holder_acted, peer_acted}
+use Rattle.goo_plans.proofs.FreeChanges.{no_text, no_number, free_none, free_one, free_two}
+use Rattle.goo_plans.proofs.Numbering.{next_free}
 use Rattle.goo_plans.proofs.RegisteringActed.{registering_acted}
 
 -- ---- lists of one and two changes
@@ -98,38 +101,44 @@ module _ (t : Tables) where
   s = state_of t
 
   pub transfers : (x : Transferring) → Does t (Transfer x) []
-  transfers x kept order caller accepted = record { for = calm t [] (All-nil IsCalm); acted = transfer_acted t kept x; lots = refl }
+  transfers x kept order caller accepted = record { for = calm t [] (All-nil IsCalm); free = free_none t; acted = transfer_acted t kept x; lots = refl }
 
   pub names : (x : Naming) (h : HolderRow) → known_holder (pos 0, holder_in h) ≡ (x.holder, x.name) → is_holder (pos 0, holder_in h) ≡ true → Does t (OpenHolder x) (change.AddHolder h ∷ [])
+  unfolding state_of
   names x h states read kept order caller accepted = record {
     for = calm_one t (change.AddHolder h) (λ u. tt);
-    acted = holder_acted t kept x (holder_in h) (λ k. states) (λ k. read) order.holders (unnamed s caller x accepted);
+    free = free_one t (change.AddHolder h) (no_text (λ k. k.1.name) (λ k. k.1.code) (holder_in h).code t.holders (ap (λ e. get (state_of t).holders e.0) states ∙ unnamed (state_of t) caller x accepted));
+    acted = holder_acted t kept x (holder_in h) (λ k. states) (λ k. read) order.holders (unnamed (state_of t) caller x accepted);
     lots = refl;
   }
 
   pub closes : (x : Closing) → Does t (CloseAccount x) (change.CloseAccount x.account ∷ [])
-  closes x kept order caller accepted = record { for = calm_one t (change.CloseAccount x.account) (λ u. tt); acted = closing_acted t kept x; lots = refl }
+  closes x kept order caller accepted = record { for = calm_one t (change.CloseAccount x.account) (λ u. tt); free = free_one t (change.CloseAccount x.account) tt; acted = closing_acted t kept x; lots = refl }
 
   pub registers : (x : Registering) (d : DeviceRow) → known_device (pos 0, device_in d) ≡ (x.device, device_of x) → progress_in (Some (device_in d)) ≡ progress_in None → is_device (pos 0, device_in d) ≡ true
       → Does t (RegisterDevice x) (change.AddDevice d ∷ [])
   unfolding state_of
   registers x d states begins read kept order caller accepted = record {
     for = calm_one t (change.AddDevice d) (λ u. tt);
+    free = free_one t (change.AddDevice d) (no_text (λ k. device_in_row k.1) (λ k. k.1.gsrn) (device_in d).gsrn t.devices (ap (λ e. get (state_of t).devices e.0) states ∙ unregistered (state_of t) caller x accepted));
     acted = registering_acted t kept x (device_in d) (λ k. states) begins (λ k. read) order.devices (unregistered (state_of t) caller x accepted);
     lots = refl;
   }
 
   pub peers : (x : Peering) (p : PeerRow) → known_peer (pos 0, p) ≡ (x.peer, tt) → is_peer (pos 0, p) ≡ true → Does t (AddPeer x) (change.AddPeer p ∷ [])
+  unfolding state_of
   peers x p states read kept order caller accepted = record {
     for = calm_one t (change.AddPeer p) (λ u. tt);
-    acted = peer_acted t kept x p (λ k. states) (λ k. read) order.peers (unknown s caller x accepted);
+    free = free_one t (change.AddPeer p) (no_number (λ k. tt) (λ k. k.1.code) p.code t.peers (ap (λ e. get (state_of t).peers e.0) states ∙ unknown (state_of t) caller x accepted));
+    acted = peer_acted t kept x p (λ k. states) (λ k. read) order.peers (unknown (state_of t) caller x accepted);
     lots = refl;
   }
 
   -- a change that sets the date
-  pub advances : (x : Advancing) (d : Change) (today : List ℕ) → made t d ≡ at_day t today → IsCalm d → day_of today ≡ x.day → reads (day_reading today) ≡ true → Does t (Advance x) (d ∷ [])
-  advances x d today sets is states read kept order caller accepted = record {
+  pub advances : (x : Advancing) (d : Change) (today : List ℕ) → made t d ≡ at_day t today → IsCalm d → IsFree t d → day_of today ≡ x.day → reads (day_reading today) ≡ true → Does t (Advance x) (d ∷ [])
+  advances x d today sets is free states read kept order caller accepted = record {
     for = calm_one t d is;
+    free = free_one t d free;
     acted = subst (λ u. IsActed t u (changed s (Advance x))) (sym sets) (advance_acted t kept x today states read);
     lots = ap (λ (u : Tables). u.lots) sets;
   }
@@ -139,13 +148,17 @@ module _ (t : Tables) where
   module _ (m : MetaRow) (told : t.meta ≡ meta_in m) (n : ℕ) (left : n ≤ last_act) (c : Counters) where
     pub opens : (x : Opening) (a : AccountRow) → n ≡ m.next_account → c ≡ record (counters_in m) { next_account = n + 1 } → known_account (account_in a) ≡ (n, record { holder = x.holder; closed = false }) → is_account (account_in a) ≡ true
         → Does t (OpenAccount x) (change.AddAccount a ∷ change.SetCounters c ∷ [])
+    unfolding state_of
     opens x a next counters states read kept order caller accepted =
         let same : n ≡ t.meta.next_account = next ∙ sym (ap (λ (k : Meta). k.next_account) told) in
         let after : numbers t.meta.next_serial (t.meta.next_account + 1) t.meta.next_cancellation t.meta.next_withdrawal t.meta.next_notice ≡ c =
         (λ i. numbers (told i).next_serial (sym same i + 1) (told i).next_cancellation (told i).next_withdrawal (told i).next_notice) ∙ sym counters in
         record {
           for = calm_two t (change.AddAccount a) (change.SetCounters c) (λ u. tt) (λ u. tt);
-          acted = subst (λ k. IsActed t (made_all t (change.AddAccount a ∷ change.SetCounters k ∷ [])) (changed s (OpenAccount x))) after
+          free =
+              free_two t (change.AddAccount a) (change.SetCounters c)
+              (no_number account_of (λ b. b.number) (account_in a).number t.accounts (ap (λ e. get (state_of t).accounts e.0) states ∙ ap (get (state_of t).accounts) same ∙ next_free t.meta.next_account _ kept.sound.account_numbers)) tt;
+          acted = subst (λ k. IsActed t (made_all t (change.AddAccount a ∷ change.SetCounters k ∷ [])) (changed (state_of t) (OpenAccount x))) after
               (account_acted t kept x (account_in a) (states ∙ ap (λ (k : ℕ). (k, record { holder = x.holder; closed = false })) same) read (subst (λ k. k ≤ last_act) same left));
           lots = refl;
         }
@@ -160,6 +173,9 @@ module _ (t : Tables) where
         (λ i. numbers (told i).next_serial (told i).next_account (sym same i + 1) (told i).next_withdrawal (told i).next_notice) ∙ sym counters in
         record {
           for = calm_two t (change.AddCancellation a) (change.SetCounters c) (λ u. tt) (λ u. tt);
+          free =
+              free_two t (change.AddCancellation a) (change.SetCounters c)
+              (no_number record_of.cancellation_of (λ b. b.number) (cancellation_in a).number t.cancellations (ap (λ e. get (state_of t).cancellations e.0) states ∙ ap (get (state_of t).cancellations) same ∙ next_free t.meta.next_cancellation _ kept.sound.cancellation_numbers)) tt;
           acted = subst (λ k. IsActed t (made_all t (change.AddCancellation a ∷ change.SetCounters k ∷ [])) (changed (state_of t) (Cancel x))) after
               (cancellation_acted t kept x (cancellation_in a) (states ∙ (λ i. (same i, cancellation_on (on i) x))) read (subst (λ k. k ≤ last_act) same left));
           lots = refl;
@@ -175,6 +191,9 @@ module _ (t : Tables) where
         (λ i. numbers (told i).next_serial (told i).next_account (told i).next_cancellation (sym same i + 1) (told i).next_notice) ∙ sym counters in
         record {
           for = calm_two t (change.AddWithdrawal a) (change.SetCounters c) (λ u. tt) (λ u. tt);
+          free =
+              free_two t (change.AddWithdrawal a) (change.SetCounters c)
+              (no_number record_of.withdrawal_of (λ b. b.number) (withdrawal_in a).number t.withdrawals (ap (λ e. get (state_of t).withdrawals e.0) states ∙ ap (get (state_of t).withdrawals) same ∙ next_free t.meta.next_withdrawal _ kept.sound.withdrawal_numbers)) tt;
           acted = subst (λ k. IsActed t (made_all t (change.AddWithdrawal a ∷ change.SetCounters k ∷ [])) (changed (state_of t) (Withdraw x))) after
               (withdrawal_acted t kept x (withdrawal_in a) (states ∙ (λ i. (same i, record { range = x.range; reason = x.reason; day = on i }))) read (subst (λ k. k ≤ last_act) same left));
           lots = refl;
@@ -191,6 +210,9 @@ module _ (t : Tables) where
         let own : notice.sender ≡ t.meta.code = ap (λ (k : NoticeContents). k.sender) sent in
         record {
           for = calm_two t (change.AddNoticeOut a) (change.SetCounters c) (λ u. tt) (λ u. tt);
+          free =
+              free_two t (change.AddNoticeOut a) (change.SetCounters c)
+              (no_number record_of.sent_of (λ b. b.number) (notice_out_in a).number t.notices_out (ap (λ e. get (state_of t).sent e.0) states ∙ ap (get (state_of t).sent) same ∙ next_free t.meta.next_notice _ kept.sound.notice_numbers)) tt;
           acted = subst (λ k. IsActed t (made_all t (change.AddNoticeOut a ∷ change.SetCounters k ∷ [])) (changed (state_of t) (Export x))) after
               (export_acted t kept x (notice_out_in a) (states ∙ (λ i. (same i, record { account = x.giver; notice = sent i }))) (subst (λ k. is_notice_out k (notice_out_in a) ≡ true) own (read numbered)) (subst (λ k. k ≤ last_act) same left));
           lots = refl;

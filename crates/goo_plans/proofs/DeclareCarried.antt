@@ -1,9 +1,10 @@
 -- An accepted declaration, carried out by changes.
 use Rattle.std.proofs.Common.{◌≡◌, ◌≤◌, ◌==◌, inl, inr, ℕ, zero, suc, ◌+◌, ◌-◌, pos, List, [], ◌∷◌, ◌++◌, Bool, true, false, cond, length, take, Option, Some, None, All, refl, ap, sym, subst, ◌∙◌, arith}
 use Rattle.std.specs.Prelude.{string_bytes, filter}
+use Rattle.std.specs.FinMap.{get}
 use Rattle.std.proofs.lemmas.Bool.{eqb-true, eq-eqb, false≢true}
 use Rattle.std.proofs.lemmas.List.Elements.{All-cons, All-nil}
-use Rattle.sqlite_keyed.specs.Keyed.{next_key, has_key, insert_by}
+use Rattle.sqlite_keyed.specs.Keyed.{next_key, has_key, get_by, insert_by}
 use Rattle.sqlite_keyed.proofs.KeyedLemmas.{next_key_is_free}
 use Rattle.sqlite_typed.specs.Tests.{bytes_eq}
 use Rattle.goo_types.specs.Range.{Numbers, range_of}
@@ -14,6 +15,7 @@ use Rattle.goo_types.specs.declared.reply.Reply.TheVariants.{Declared}
 use Rattle.goo_types.specs.declared.request.Request.{Request}
 use Rattle.goo_spec.specs.Declare.{with_declaration, earned, next_number, declare_refusal, declare_reply, with_issue}
 use Rattle.goo_spec.specs.Energy as energy
+use Rattle.goo_spec.specs.Lots.{key_of}
 use Rattle.goo_spec.specs.State.{State}
 use Rattle.goo_spec.specs.Step.{refusal, reply_to}
 use Rattle.goo_spec.proofs.Again.{accepted_reply}
@@ -24,19 +26,23 @@ use Rattle.goo_columns.specs.Rows.{Tables, Lot, lot_key, lot_in, declaration_key
 use Rattle.goo_columns.specs.declared.meta.MetaRow.{MetaRow}
 use Rattle.goo_tables.specs.Changes as change
 use Rattle.goo_tables.specs.declared.counters.Counters.{Counters}
+use Rattle.goo_kept.specs.Places.{lot_of}
 use Rattle.goo_kept.specs.States.{state_of}
 use Rattle.goo_kept.specs.Texts.{day_of}
 use Rattle.goo_plans.specs.Acted.{IsActed}
 use Rattle.goo_plans.specs.Carrying.{CarriesOut}
-use Rattle.goo_changes.specs.Changes.{made, made_all, IsFor, AreFor}
+use Rattle.goo_changes.specs.Changes.{made, made_all, IsFor, AreFor, IsFree, AreFree}
 use Rattle.goo_plans.specs.Declaring.{Begins, Issues, IsDue}
 use Rattle.goo_plans.specs.LotNumbers.{AreWith}
+use Rattle.goo_plans.specs.NewLots.{known_lots}
 use Rattle.goo_changes.specs.declared.change.Change.{Change}
 use Rattle.goo_changes.specs.declared.change.Change.TheVariants.{AddDeclaration, AddLot, SetCounters}
 use Rattle.goo_plans.specs.declared.gathered_lots.Gathered.{Gathered}
 use Rattle.goo_plans.specs.declared.standing.Standing.{Standing}
 use Rattle.goo_plans.proofs.ActsActed.{numbers}
-use Rattle.goo_plans.proofs.DeclaringActed.{declaring_acted, issuing_acted}
+use Rattle.goo_plans.proofs.DeclaringActed.{none_in_row, new_key, declaring_acted, issuing_acted}
+use Rattle.goo_plans.proofs.FreeChanges.{free_cons, free_two, free_lot}
+use Rattle.goo_plans.proofs.LotsAdded.{none_there}
 use Rattle.goo_plans.proofs.Gathering.{with_more, with_none}
 
 once_from : {X : Type 0} (xs : List X) → length xs ≤ 1 → IsOnce xs
@@ -95,6 +101,13 @@ module _ (t : Tables) (q : Request) (reply : Reply) (meta : MetaRow) (x : Declar
   numbered : declaration_key d ≡ next_key declaration_key t.declarations
   numbered = ap pos begins.id ∙ due.standing.number
 
+  -- the declaration comes where neither its number nor its first day is taken
+  declaration_free : IsFree t (AddDeclaration begins.row)
+  declaration_free = (
+    none_there (get_by declaration_key t.declarations (pos begins.row.id)) (ap (has_key declaration_key t.declarations) numbered ∙ next_key_is_free declaration_key t.declarations due.declarations_rise),
+    none_in_row t due.accepted.kept q.caller x found.device due.standing.device refused d begins.states,
+  )
+
   abbrev declared : Tables
   declared = change.with_progress (change.with_declaration t d) x.device begins.sets.last_day carry
 
@@ -121,6 +134,10 @@ module _ (t : Tables) (q : Request) (reply : Reply) (meta : MetaRow) (x : Declar
             subst (AreFor t) (sym changes_are)
             (second_for t (AddDeclaration begins.row) begins.progress (SetCounters counters ∷ []) (λ u. tt) (begins.sets.for (change.with_declaration t d) once)
             (All-cons (λ c. (u : Tables) → IsFor u c) (SetCounters counters) [] (λ u. tt) (All-nil (λ c. (u : Tables) → IsFor u c))));
+        free =
+            subst (AreFree t) (sym changes_are)
+            (free_cons t (AddDeclaration begins.row) (begins.progress ∷ SetCounters counters ∷ []) declaration_free
+            (free_two (change.with_declaration t d) begins.progress (SetCounters counters) (begins.sets.free (change.with_declaration t d) once) tt));
         acted =
             subst (λ u. IsActed t u (with_issue s x)) (sym all_made)
             (declaring_acted t due.accepted.kept q.caller x found.device due.standing.device refused d begins.states begins.reads_row numbered due.declarations_rise begins.sets.last_day begins.sets.ends begins.sets.ends_read carry (sym parts.0) nothing);
@@ -141,6 +158,7 @@ module _ (t : Tables) (q : Request) (reply : Reply) (meta : MetaRow) (x : Declar
   some_carried : (r : Numbers) (g1 g2 : Gathered) (count : ℕ) (counters : Counters) → issued ≡ Some r → Issues meta x found (Some r) first g1 count
       → counters ≡ numbers (meta.next_serial + count) meta.next_account meta.next_cancellation meta.next_withdrawal meta.next_notice → g2.changes.items ≡ g1.changes.items ++ SetCounters counters ∷ [] → g2.added.items ≡ g1.added.items
       → CarriesOut t (command.Declare x) g2
+  unfolding state_of
   some_carried r g1 g2 count counters some issues counters_are changes added =
       let lot = issues.0 in
       let adds = issues.1 in
@@ -148,6 +166,7 @@ module _ (t : Tables) (q : Request) (reply : Reply) (meta : MetaRow) (x : Declar
       let made_some = some_issued (next_number s) (earned s x) r (earned s x == 0) refl (parts.1 ∙ some) in
       let count_is : count ≡ earned s x = issues.2 ∙ made_some.1 in
       let fresh : has_key lot_key t.lots (lot_key l) ≡ false = ap (has_key lot_key t.lots) (ap pos (adds.id ∙ begins.next) ∙ due.standing.next_lot) ∙ next_key_is_free lot_key t.lots due.lots_rise in
+      let unknown : get (known_lots t.lots) (key_of (lot_of l)) ≡ None = ap (λ k. get s.lots (key_of k)) (adds.states ∙ issues.3 s own_is today_is) ∙ new_key t due.accepted.kept q.caller x found.device due.standing.device refused in
       let changes_are : g2.changes.items ≡ AddDeclaration begins.row ∷ begins.progress ∷ AddLot adds.row ∷ SetCounters counters ∷ [] =
       changes ∙ ap (λ cs. cs ++ SetCounters counters ∷ []) (adds.changes ∙ ap (λ cs. cs ++ AddLot adds.row ∷ []) begins.changes) in
       let all_made : made_all t g2.changes.items ≡ change.with_counters (change.with_lot declared l) counted =
@@ -156,6 +175,12 @@ module _ (t : Tables) (q : Request) (reply : Reply) (meta : MetaRow) (x : Declar
             subst (AreFor t) (sym changes_are)
             (second_for t (AddDeclaration begins.row) begins.progress (AddLot adds.row ∷ SetCounters counters ∷ []) (λ u. tt) (begins.sets.for (change.with_declaration t d) once)
             (All-cons (λ c. (u : Tables) → IsFor u c) (AddLot adds.row) (SetCounters counters ∷ []) (λ u. tt) (All-cons (λ c. (u : Tables) → IsFor u c) (SetCounters counters) [] (λ u. tt) (All-nil (λ c. (u : Tables) → IsFor u c)))));
+        free =
+            subst (AreFree t) (sym changes_are)
+            (free_cons t (AddDeclaration begins.row) (begins.progress ∷ AddLot adds.row ∷ SetCounters counters ∷ []) declaration_free
+            (free_cons (change.with_declaration t d) begins.progress (AddLot adds.row ∷ SetCounters counters ∷ []) (begins.sets.free (change.with_declaration t d) once)
+            (free_two (made (change.with_declaration t d) begins.progress) (AddLot adds.row) (SetCounters counters)
+            (subst (λ u. IsFree u (AddLot adds.row)) (sym (begins.sets.made_is (change.with_declaration t d))) (free_lot declared adds.row fresh unknown)) tt)));
         acted =
             subst (λ u. IsActed t u (with_issue s x)) (sym all_made)
             (issuing_acted t due.accepted.kept q.caller x found.device due.standing.device refused d begins.states begins.reads_row numbered due.declarations_rise begins.sets.last_day begins.sets.ends begins.sets.ends_read carry (sym parts.0)

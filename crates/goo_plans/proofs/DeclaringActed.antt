@@ -38,6 +38,7 @@ use Rattle.goo_plans.proofs.ActsActed.{numbers}
 use Rattle.goo_plans.proofs.CommandsActed.{progress_same, texts_apart}
 use Rattle.goo_kept.proofs.Inserted.{all_inserted, map_inserted}
 use Rattle.goo_kept.proofs.Known.{get-known, text_test, text_same}
+use Rattle.goo_plans.proofs.FreeChanges.{no_declaration}
 use Rattle.goo_plans.proofs.LotsAdded.{AreLotsOf, lots_before, lot_more}
 use Rattle.goo_plans.proofs.Numbering.{counters_read}
 use Rattle.goo_plans.proofs.ProgressSet.{is_of, find_passes, moved, all_moved, all_known, found_moved, count_moved, read_moved, told_here, told_there, progress_here, progress_there}
@@ -59,16 +60,26 @@ module _ (t : Tables) (kept : AreKept t) (caller : List ℕ) (x : Declare) (devi
   abbrev lot : LotFields
   lot = declaring.lot_of s x device
 
-  -- no declaration of the device has this first day, and a lot of this key would have been declared
+  -- no declaration of the device has this first day
+  none_declared : list_any (λ y. str.bytes_eq y.device x.device && same_day y.first_day x.first_day) s.declarations ≡ false
+  none_declared =
+      list_any-filter (λ y. str.bytes_eq y.device x.device) (λ y. same_day y.first_day x.first_day) s.declarations
+      ∙ none_begins None (declared_by x.device s.declarations) x.first_day (kept.sound.declarations.rising x.device) late
+
+  -- so it has no row
+  pub none_in_row : (d : row.Declaration) → declaration_of d ≡ x → find (λ y. bytes_eq y.device d.device && bytes_eq y.first_day d.first_day) t.declarations ≡ None
+  unfolding state_of
+  none_in_row d states = no_declaration x d states t.declarations none_declared
+
+  -- and a lot of this key would have been declared
   undeclared : (l : LotFields) → key_of l ≡ key_of lot → list_any (declares l) s.declarations ≡ false
   undeclared l same =
       let of : l.device ≡ x.device = ap (drop 4) same in
       let day : l.first_day ≡ x.first_day = λ i. record { year = slice_index (same i) 1; month = slice_index (same i) 2; day = slice_index (same i) 3 } in
       (λ i. list_any (λ y. str.bytes_eq y.device (of i) && same_day y.first_day (day i)) s.declarations)
-      ∙ list_any-filter (λ y. str.bytes_eq y.device x.device) (λ y. same_day y.first_day x.first_day) s.declarations
-      ∙ none_begins None (declared_by x.device s.declarations) x.first_day (kept.sound.declarations.rising x.device) late
+      ∙ none_declared
 
-  new_key : get s.lots (key_of lot) ≡ None
+  pub new_key : get s.lots (key_of lot) ≡ None
   new_key = go (get s.lots (key_of lot)) refl
     where
       go : (o : Option LotFields) → get s.lots (key_of lot) ≡ o → o ≡ None

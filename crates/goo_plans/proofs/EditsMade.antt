@@ -3,7 +3,7 @@ use Rattle.std.proofs.Common.{◌≡◌, ℕ, pos, ◌∷◌, [], ◌++◌, List
 use Rattle.std.specs.List.{list_all, filter}
 use Rattle.std.specs.Ordering.{int_eq}
 use Rattle.std.proofs.lemmas.List.Sums.{fold-append}
-use Rattle.sqlite_keyed.specs.Keyed.{IsKeyedBy, has_key, insert_by}
+use Rattle.sqlite_keyed.specs.Keyed.{IsKeyedBy, has_key, get_by, insert_by}
 use Rattle.sqlite_keyed.specs.Lists.{delete_where}
 use Rattle.sqlite_keyed.proofs.KeyedLemmas.{IsKeyedBy-insert_by, IsKeyedBy-delete_where}
 use Rattle.sqlite_keyed.proofs.RuleLemmas.{first_of_both, second_of_both}
@@ -15,12 +15,14 @@ use Rattle.goo_shelf.specs.Plan.{StayRising}
 use Rattle.goo_columns.specs.Rows.{Tables, Lot, lot_key, piece_key}
 use Rattle.goo_columns.specs.declared.piece.PieceRow.{PieceRow}
 use Rattle.goo_tables.specs.Changes.{without_piece, with_piece}
-use Rattle.goo_changes.specs.Changes.{made_all}
+use Rattle.goo_changes.specs.Changes.{made_all, AreFree}
 use Rattle.goo_plans.specs.EditChanges.{AreRowsOf, AreForEdit, AreForEdits}
 use Rattle.goo_kept.specs.Readable.{is_piece}
 use Rattle.goo_changes.specs.declared.change.Change.{Change}
 use Rattle.goo_changes.specs.declared.change.Change.TheVariants.{DeletePiece, InsertPiece}
 use Rattle.goo_kept.proofs.Inserted.{all_inserted}
+use Rattle.goo_plans.proofs.FreeChanges.{free_none, free_cons, free_append}
+use Rattle.goo_plans.proofs.LotsAdded.{none_there}
 use Rattle.goo_plans.proofs.RowChanges.{rows_for, HaveLots, begins_at, new_row, number_free, row_inserted, row_removed}
 
 pub all_filtered : {A : Type 0} (p q : A → Bool) (xs : List A) → list_all p xs ≡ true → list_all p (filter q xs) ≡ true
@@ -38,10 +40,11 @@ module _ (lots : List Lot) where
     pub rise : IsKeyedBy piece_key ps
     pub read : list_all is_piece ps ≡ true
 
-  -- only the pieces change, to such with these rows
-  pub record Leave (t after : Tables) (rows : List Piece) : Type 0 where
+  -- the changes are free, and only the pieces change, to such with these rows
+  pub record Leave (t : Tables) (changes : List Change) (rows : List Piece) : Type 0 where
     pub pieces : List PieceRow
-    pub tables : after ≡ record t { pieces = pieces }
+    pub tables : made_all t changes ≡ record t { pieces = pieces }
+    pub free : AreFree t changes
     pub rows_are : rows_for lots pieces ≡ rows
     pub good : AreGood pieces
 
@@ -52,19 +55,20 @@ module _ (lots : List Lot) where
     read = all_filtered is_piece (λ p. not (int_eq (piece_key p) (pos k))) ps good.read;
   }
 
-  deletes_made : (ks : List ℕ) (t : Tables) → AreGood t.pieces → Leave t (made_all t (map (λ k. DeletePiece k) ks)) (without_each ks (rows_for lots t.pieces))
-  deletes_made [] t good = record { pieces = t.pieces; tables = refl; rows_are = refl; good = good }
+  deletes_made : (ks : List ℕ) (t : Tables) → AreGood t.pieces → Leave t (map (λ k. DeletePiece k) ks) (without_each ks (rows_for lots t.pieces))
+  deletes_made [] t good = record { pieces = t.pieces; tables = refl; free = free_none t; rows_are = refl; good = good }
   deletes_made (k ∷ ks) t good =
       let rest = deletes_made ks (without_piece t k) (good_without k t.pieces good) in record {
         pieces = rest.pieces;
         tables = rest.tables;
+        free = free_cons t (DeletePiece k) (map (λ n. DeletePiece n) ks) tt rest.free;
         rows_are = rest.rows_are ∙ ap (without_each ks) (row_removed lots k t.pieces good.have good.rise);
         good = rest.good;
       }
 
   inserts_made : (xs : List PieceRow) (ps : List Piece) → AreRowsOf lots xs ps → (t : Tables) → AreGood t.pieces → IsRising (with_each ps (rows_for lots t.pieces))
-      → Leave t (made_all t (map (λ x. InsertPiece x) xs)) (with_each ps (rows_for lots t.pieces))
-  inserts_made [] [] are t good rising = record { pieces = t.pieces; tables = refl; rows_are = refl; good = good }
+      → Leave t (map (λ x. InsertPiece x) xs) (with_each ps (rows_for lots t.pieces))
+  inserts_made [] [] are t good rising = record { pieces = t.pieces; tables = refl; free = free_none t; rows_are = refl; good = good }
   inserts_made [] (p ∷ ps) are t good rising = absurd are
   inserts_made (x ∷ xs) [] are t good rising = absurd are
   inserts_made (x ∷ xs) (p ∷ ps) are t good rising =
@@ -82,6 +86,7 @@ module _ (lots : List Lot) where
       let rest = inserts_made xs ps are.1 (with_piece t x) good_after (subst (λ rows. IsRising (with_each ps rows)) (sym put) rising) in record {
         pieces = rest.pieces;
         tables = rest.tables;
+        free = free_cons t (InsertPiece x) (map (λ y. InsertPiece y) xs) (none_there (get_by piece_key t.pieces (pos x.first)) fresh) rest.free;
         rows_are = rest.rows_are ∙ ap (with_each ps) put;
         good = rest.good;
       }
@@ -90,7 +95,7 @@ module _ (lots : List Lot) where
   made_then t front back = fold-append _ t front back
 
   edit_made : (e : Edit) (changes : List Change) → AreForEdit lots e changes → (t : Tables) → AreGood t.pieces → IsRising (edited e (rows_for lots t.pieces))
-      → Leave t (made_all t changes) (edited e (rows_for lots t.pieces))
+      → Leave t changes (edited e (rows_for lots t.pieces))
   unfolding edited
   edit_made e changes for t good rising =
       let out = deletes_made e.delete.items t good in
@@ -98,6 +103,9 @@ module _ (lots : List Lot) where
       let into = inserts_made for.rows e.insert.items for.rows_are mid out.good (subst (λ rows. IsRising (with_each e.insert.items rows)) (sym out.rows_are) rising) in record {
         pieces = into.pieces;
         tables = ap (made_all t) for.changes_are ∙ made_then t (map (λ k. DeletePiece k) e.delete.items) (map (λ x. InsertPiece x) for.rows) ∙ ap (λ u. made_all u (map (λ x. InsertPiece x) for.rows)) out.tables ∙ into.tables;
+        free =
+            subst (AreFree t) (sym for.changes_are)
+            (free_append t (map (λ k. DeletePiece k) e.delete.items) (map (λ x. InsertPiece x) for.rows) out.free (subst (λ u. AreFree u (map (λ x. InsertPiece x) for.rows)) (sym out.tables) into.free));
         rows_are = into.rows_are ∙ ap (with_each e.insert.items) out.rows_are;
         good = into.good;
       }
@@ -108,14 +116,15 @@ module _ (lots : List Lot) where
 
   -- all edits, one after another
   pub edits_made : (es : List Edit) (changes : List Change) → AreForEdits lots es changes → (t : Tables) → AreGood t.pieces → StayRising es (rows_for lots t.pieces)
-      → Leave t (made_all t changes) (edited_all es (rows_for lots t.pieces))
-  edits_made [] changes none t good rising = record { pieces = t.pieces; tables = ap (made_all t) none; rows_are = refl; good = good }
+      → Leave t changes (edited_all es (rows_for lots t.pieces))
+  edits_made [] changes none t good rising = record { pieces = t.pieces; tables = ap (made_all t) none; free = subst (AreFree t) (sym none) (free_none t); rows_are = refl; good = good }
   edits_made (e ∷ es) changes for t good rising =
       let one = edit_made e for.0 for.3 t good (rising_first es (edited e (rows_for lots t.pieces)) rising.1) in
       let mid : Tables = record t { pieces = one.pieces } in
       let rest = edits_made es for.1 for.4 mid one.good (subst (StayRising es) (sym one.rows_are) rising.1) in record {
         pieces = rest.pieces;
         tables = ap (made_all t) for.2 ∙ made_then t for.0 for.1 ∙ ap (λ u. made_all u for.1) one.tables ∙ rest.tables;
+        free = subst (AreFree t) (sym for.2) (free_append t for.0 for.1 one.free (subst (λ u. AreFree u for.1) (sym one.tables) rest.free));
         rows_are = rest.rows_are ∙ ap (edited_all es) one.rows_are;
         good = rest.good;
       }

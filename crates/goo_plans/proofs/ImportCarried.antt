@@ -1,5 +1,5 @@
 -- An accepted import, carried out by changes that put its lots and its notice in.
-use Rattle.std.proofs.Common.{◌≡◌, ℤ, true, List, [], ◌∷◌, ◌++◌, append-nil, map, take, fold, Option, Some, None, All, refl, ap, sym, subst, ◌∙◌}
+use Rattle.std.proofs.Common.{◌≡◌, ℤ, pos, true, List, [], ◌∷◌, ◌++◌, append-nil, map, take, fold, Option, Some, None, All, refl, ap, sym, subst, ◌∙◌}
 use Rattle.std.specs.FinMap.{get}
 use Rattle.std.proofs.lemmas.List.Sums.{fold-append}
 use Rattle.std.proofs.lemmas.List.Elements.{All-map, All-push}
@@ -15,14 +15,15 @@ use Rattle.goo_spec.specs.Import.{import_refusal, import_repeats, with_import}
 use Rattle.goo_spec.specs.State.{State}
 use Rattle.goo_spec.specs.Step.{refusal, reply_to, repeats, fresh_outcome}
 use Rattle.goo_spec.proofs.Stepping.{accepted_passes, not_kept}
-use Rattle.goo_columns.specs.Rows.{Tables, Lot, kept_key, lot_in, notice_in_in}
+use Rattle.goo_columns.specs.Rows.{Tables, Lot, Kept, NoticeIn, kept_key, lot_in, notice_in_in}
 use Rattle.goo_columns.specs.declared.notice_in.NoticeInRow.{NoticeInRow}
 use Rattle.goo_tables.specs.Changes.{with_lot, with_notice_in}
 use Rattle.goo_kept.specs.Readable.{is_notice_in}
+use Rattle.goo_kept.specs.Records.{arrived_of}
 use Rattle.goo_kept.specs.States.{state_of, known_arrival}
 use Rattle.goo_plans.specs.Acted.{IsActed}
 use Rattle.goo_plans.specs.Carrying.{CarriesOut, IsAccepted}
-use Rattle.goo_changes.specs.Changes.{made, made_all, IsFor, AreFor}
+use Rattle.goo_changes.specs.Changes.{made, made_all, IsFor, AreFor, IsFree, AreFree}
 use Rattle.goo_plans.specs.GatheredLots.{ArePutIn}
 use Rattle.goo_plans.specs.LotNumbers.{AreWith}
 use Rattle.goo_plans.specs.LotRows.{with_rows}
@@ -30,7 +31,8 @@ use Rattle.goo_plans.specs.NewLots.{AreNewLots}
 use Rattle.goo_changes.specs.declared.change.Change.{Change}
 use Rattle.goo_changes.specs.declared.change.Change.TheVariants.{AddLot, AddNoticeIn}
 use Rattle.goo_plans.specs.declared.gathered_lots.Gathered.{Gathered}
-use Rattle.goo_plans.proofs.ImportingActed.{importing_acted, lots_made}
+use Rattle.goo_plans.proofs.FreeChanges.{no_notice, free_append, free_one, free_lots}
+use Rattle.goo_plans.proofs.ImportingActed.{absent, importing_acted, lots_made, lots_put}
 
 -- changes that are for any tables
 pub all_for : (changes : List Change) → All (λ c. (u : Tables) → IsFor u c) changes → (t : Tables) → AreFor t changes
@@ -78,9 +80,23 @@ module _ (t : Tables) (x : importing.Import) (q : Request) (reply : Reply) (is :
       subst (All (λ c. (u : Tables) → IsFor u c)) (sym changes_are)
       (All-push (λ c. (u : Tables) → IsFor u c) (map (λ r. AddLot r) put.rows) (AddNoticeIn n) (All-map (λ c. (u : Tables) → IsFor u c) (λ r. AddLot r) put.rows (λ k d low u. tt)) (λ u. tt))
 
+  -- the lots come where they aren't known, and the notice where it hasn't arrived
+  all_free : AreFree t after.changes.items
+  unfolding state_of
+  all_free =
+      let front = map (λ r. AddLot r) put.rows in
+      let i = notice_in_in n in
+      let none : get (state_of t).arrived (x.notice.sender, x.notice.number) ≡ None = absent t it.kept q.caller x whole accepted new_one new lots i states reads rise in
+      let missing : IsFree t (AddNoticeIn n) = no_notice (λ (k : Kept NoticeIn). arrived_of k.1) (λ k. k.1.sender) (λ k. k.1.number) i.sender i.number t.notices_in (ap (λ e. get (state_of t).arrived e.0) (states (pos 0)) ∙ none) in
+      let same : (made_all t front).notices_in ≡ t.notices_in = ap (λ (u : Tables). u.notices_in) (lots_made put.rows t ∙ lots_put new t) in
+      subst (AreFree t) (sym changes_are)
+      (free_append t front (AddNoticeIn n ∷ []) (free_lots x.notice.parts put.rows t lots)
+      (free_one (made_all t front) (AddNoticeIn n) (subst (λ xs. IsFree (record t { notices_in = xs }) (AddNoticeIn n)) (sym same) missing)))
+
   pub import_carried : CarriesOut t q.command after
   import_carried = subst (λ c. CarriesOut t c after) (sym is) (record {
     for = all_for after.changes.items for_any t;
+    free = all_free;
     acted = subst (λ u. IsActed t u (with_import s x)) (sym all_made) (importing_acted t it.kept q.caller x whole accepted new_one new lots (notice_in_in n) states reads rise);
     lots =
         subst (λ xs. AreWith t.lots xs (made_all t after.changes.items).lots) (sym added)

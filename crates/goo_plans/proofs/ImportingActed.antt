@@ -140,7 +140,7 @@ pub lots_made : (rows : List LotRow) (t : Tables) → made_all t (map (λ r. Add
 lots_made [] t = refl
 lots_made (r ∷ rows) t = lots_made rows (change.with_lot t (lot_in r))
 
-lots_put : (new : List Lot) (t : Tables) → fold change.with_lot t new ≡ record t { lots = fold (insert_by lot_key) t.lots new }
+pub lots_put : (new : List Lot) (t : Tables) → fold change.with_lot t new ≡ record t { lots = fold (insert_by lot_key) t.lots new }
 lots_put [] t = refl
 lots_put (l ∷ new) t = lots_put new (change.with_lot t l)
 
@@ -165,7 +165,8 @@ module _ (t : Tables) (kept : AreKept t) (caller : List ℕ) (x : Import) (whole
       let part = get_or x.notice.parts k d in
       same_known part.lot (get s.lots (key_of part.lot)) l (or_parts _ _ (firsts_fail (differs s) x.notice.parts none_apart whole.ranges k d h)).1 is
 
-  absent : get s.arrived (x.notice.sender, x.notice.number) ≡ None
+  -- no notice of this sender has this number
+  pub absent : get s.arrived (x.notice.sender, x.notice.number) ≡ None
   unfolding import_refusal import_repeats
   absent =
       let met = none_fail (import_checks s caller x) accepted in

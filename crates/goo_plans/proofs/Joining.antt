@@ -16,7 +16,7 @@ use Rattle.goo_kept.specs.States.{state_of}
 use Rattle.goo_plans.specs.Acted.{IsActed, IsReceiptOf}
 use Rattle.goo_plans.specs.Carried.{AreInOrder, Carry}
 use Rattle.goo_plans.specs.Carrying.{CarriesOut}
-use Rattle.goo_changes.specs.Changes.{made, made_all, IsFor, AreFor}
+use Rattle.goo_changes.specs.Changes.{made, made_all, IsFor, AreFor, AreFree}
 use Rattle.goo_plans.specs.EditChanges.{AreForEdit, AreForEdits}
 use Rattle.goo_plans.specs.LotNumbers.{AreWith}
 use Rattle.goo_plans.specs.Planned.{IsPlanned}
@@ -47,16 +47,17 @@ edits_calm lots (e ∷ es) changes it =
     subst (All IsCalm) (sym it.2) (All-append IsCalm it.0 it.1 (edit_calm lots e it.0 it.3) (edits_calm lots es it.1 it.4))
 
 -- so all of them carry out the plan
-pub joined : (t : Tables) → AreKept t → AreInOrder t → (plan : Plan) → Fits (state_of t) (rows_of t) plan → Obeys plan.request.command → (act edits : List Change) → AreFor t act → IsActed t (made_all t act) (changed (state_of t) plan.request.command)
+pub joined : (t : Tables) → AreKept t → AreInOrder t → (plan : Plan) → Fits (state_of t) (rows_of t) plan → Obeys plan.request.command → (act edits : List Change) → AreFor t act → AreFree t act → IsActed t (made_all t act) (changed (state_of t) plan.request.command)
     → AreForEdits (made_all t act).lots plan.edits.items edits → (r : ReceiptRow) → IsReceiptOf plan.request plan.reply (receipt_in r) → IsPlanned t (act ++ (edits ++ AddReceipt r ∷ [])) plan
-joined t kept order plan fits obeys act edits for acted edit r receipt =
+joined t kept order plan fits obeys act edits for free acted edit r receipt =
     planned t kept plan fits obeys order.pieces order.receipts act edits acted edit r receipt
-    (for_both t act (edits ++ AddReceipt r ∷ []) for (All-append IsCalm edits (AddReceipt r ∷ []) (edits_calm (made_all t act).lots plan.edits.items edits edit) (all_one IsCalm (AddReceipt r) (λ u. tt))))
+    (for_both t act (edits ++ AddReceipt r ∷ []) for (All-append IsCalm edits (AddReceipt r ∷ []) (edits_calm (made_all t act).lots plan.edits.items edits edit) (all_one IsCalm (AddReceipt r) (λ u. tt)))) free
 
 -- changes that put no lot in carry a command out as they are
 pub carried_without : (t : Tables) (command : Command) (changes : List Change) (g : Gathered) → g.changes.items ≡ changes → g.added.items ≡ [] → Carry t command changes → CarriesOut t command g
 carried_without t command changes g same none it = record {
   for = subst (AreFor t) (sym same) it.for;
+  free = subst (AreFree t) (sym same) it.free;
   acted = subst (λ xs. IsActed t (made_all t xs) (changed (state_of t) command)) (sym same) it.acted;
   lots = subst (λ xs. AreWith t.lots g.added.items (made_all t xs).lots) (sym same)
       (subst (AreWith t.lots g.added.items) (sym it.lots) (subst (λ added. AreWith t.lots added t.lots) (sym none) (with_none t.lots)));

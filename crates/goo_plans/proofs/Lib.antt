@@ -7,6 +7,7 @@ pub mod ActsActed
 pub mod ClosingActed
 pub mod RegisteringActed
 pub mod LotsAdded
+pub mod FreeChanges
 pub mod ProgressSet
 pub mod DeclaringActed
 pub mod ImportingActed

@@ -14,7 +14,7 @@ use Rattle.goo_kept.specs.Readable.{is_lot}
 use Rattle.goo_kept.proofs.Inserted.{all_inserted}
 use Rattle.goo_plans.proofs.RegisteringActed.{find_put}
 
-none_there : {X : Type 0} (o : Option X) → is_some o ≡ false → o ≡ None
+pub none_there : {X : Type 0} (o : Option X) → is_some o ≡ false → o ≡ None
 none_there None is = refl
 none_there (Some x) is = absurd (true≢false is)
 

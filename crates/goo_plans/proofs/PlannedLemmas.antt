@@ -3,7 +3,8 @@ use Rattle.std.proofs.Common.{◌≡◌, ℕ, List, [], ◌∷◌, ◌++◌, Opt
 use Rattle.std.specs.FinMap.{FinMap, get, insert, from_entries, IsAntisymmetric, slice_cmp-IsAntisymmetric, nat_cmp-IsAntisymmetric}
 use Rattle.std.specs.List.{list_all}
 use Rattle.std.proofs.lemmas.List.Sums.{fold-append}
-use Rattle.std.specs.Prelude.{map}
+use Rattle.std.specs.Prelude.{◌&&◌, map, find}
+use Rattle.sqlite_typed.specs.Tests.{bytes_eq}
 use Rattle.sqlite_keyed.specs.Keyed.{IsKeyedBy, next_key}
 use Rattle.sqlite_keyed.proofs.KeyedLemmas.{next_key_is_free}
 use Rattle.goo_types.specs.Obeys.{Obeys}
@@ -33,18 +34,20 @@ use Rattle.goo_columns.specs.Rows.{receipt_in}
 use Rattle.goo_columns.specs.declared.receipt.ReceiptRow.{ReceiptRow}
 use Rattle.goo_tables.specs.Changes.{added, with_receipt}
 use Rattle.goo_plans.specs.Acted.{IsActed, IsReceiptOf}
-use Rattle.goo_changes.specs.Changes.{made, made_all, AreFor}
+use Rattle.goo_changes.specs.Changes.{made, made_all, AreFor, IsFree, AreFree}
 use Rattle.goo_plans.specs.EditChanges.{AreForEdits}
 use Rattle.goo_kept.specs.Kept.{AreKept}
 use Rattle.goo_kept.specs.Places.{rows_of}
 use Rattle.goo_plans.specs.Planned.{IsPlanned}
 use Rattle.goo_kept.specs.Readable.{is_receipt}
+use Rattle.goo_kept.specs.Replies.{receipt_of}
 use Rattle.goo_kept.specs.States.{state_of, known_receipt}
 use Rattle.goo_changes.specs.declared.change.Change.{Change}
 use Rattle.goo_changes.specs.declared.change.Change.TheVariants.{AddReceipt}
 use Rattle.goo_plans.proofs.EditsMade.{AreGood, edits_made}
 use Rattle.goo_kept.proofs.Inserted.{all_inserted, map_inserted}
 use Rattle.goo_kept.proofs.Known.{receipt_total}
+use Rattle.goo_plans.proofs.FreeChanges.{no_receipt, free_append, free_one}
 use Rattle.goo_plans.proofs.RowChanges.{rows_for}
 
 receipts_apart : IsAntisymmetric receipt_cmp
@@ -89,7 +92,7 @@ module _ (t : Tables) (kept : AreKept t) (plan : Plan) (fits : Fits (state_of t)
   unfolding rows_of
   rows_before = ap (rows_for t1.lots) acted.pieces ∙ acted.rows
 
-  leave : Rattle.goo_plans.proofs.EditsMade.Leave t1.lots t1 (made_all t1 edits) (edited_all plan.edits.items (rows_for t1.lots t1.pieces))
+  leave : Rattle.goo_plans.proofs.EditsMade.Leave t1.lots t1 edits (edited_all plan.edits.items (rows_for t1.lots t1.pieces))
   leave = edits_made t1.lots plan.edits.items edits edit t1 good (subst (StayRising plan.edits.items) (sym rows_before) fits.rising)
 
   abbrev t3 : Tables
@@ -145,10 +148,23 @@ module _ (t : Tables) (kept : AreKept t) (plan : Plan) (fits : Fits (state_of t)
     sound = subst IsSound (sym state_after) (sound_accept s q plan.reply obeys fits.accepted fits.sound);
   }
 
+  -- the receipt comes where nothing is kept under its key
+  receipt_free : IsFree (record t1 { pieces = leave.pieces }) (AddReceipt kept_as)
+  unfolding state_of
+  receipt_free =
+      subst (λ xs. find (λ k. bytes_eq k.1.caller r.caller && bytes_eq k.1.key r.key) xs ≡ None) (sym acted.receipts)
+      (no_receipt (λ (k : Kept row.Receipt). receipt_of k.1) (λ k. k.1.caller) (λ k. k.1.key) r.caller r.key t.receipts (ap (λ e. get s.receipts e.0) receipt.states ∙ none_kept))
+
+  free_after : AreFree t act → AreFree t all_changes
+  free_after free =
+      free_append t act (edits ++ AddReceipt kept_as ∷ []) free
+      (free_append t1 edits (AddReceipt kept_as ∷ []) leave.free (free_one (made_all t1 edits) (AddReceipt kept_as) (subst (λ u. IsFree u (AddReceipt kept_as)) (sym leave.tables) receipt_free)))
+
   -- so they carry it out
-  pub planned : AreFor t all_changes → IsPlanned t all_changes plan
-  planned for = record {
+  pub planned : AreFor t all_changes → AreFree t act → IsPlanned t all_changes plan
+  planned for free = record {
     for = for;
+    free = free_after free;
     state = ap state_of all_made ∙ state_after;
     rows = ap rows_of all_made ∙ rows_after;
     kept = subst AreKept (sym all_made) kept_after;

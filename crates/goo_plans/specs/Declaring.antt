@@ -23,7 +23,7 @@ use Rattle.goo_kept.specs.Readable.{is_declaration, is_meta, reads}
 use Rattle.goo_kept.specs.Texts.{day_of}
 use Rattle.goo_plans.specs.AtHand.{HasStanding}
 use Rattle.goo_plans.specs.Carrying.{IsAccepted}
-use Rattle.goo_changes.specs.Changes.{made, IsFor}
+use Rattle.goo_changes.specs.Changes.{made, IsFor, IsFree}
 use Rattle.goo_plans.specs.Found.{IsDeviceOf}
 use Rattle.goo_plans.specs.GatheredLots.{AddsLot}
 use Rattle.goo_plans.specs.Standing.{IsStanding}
@@ -38,6 +38,7 @@ pub record SetsProgress (x : Declare) (carry : ℕ) (c : Change) : Type 0 where
   pub last_day : List ℕ
   pub made_is : (t : Tables) → made t c ≡ with_progress t x.device last_day carry
   pub for : (t : Tables) → IsOnce (filter (λ k. bytes_eq k.1.gsrn x.device) t.devices) → IsFor t c
+  pub free : (t : Tables) → IsOnce (filter (λ k. bytes_eq k.1.gsrn x.device) t.devices) → IsFree t c
   pub ends : day_of last_day ≡ x.last_day
   pub ends_read : reads (day_reading last_day) ≡ true
 

@@ -9,4 +9,4 @@ use Rattle.goo_plans.proofs.act_changes.advance.Goals as goal
 pub returns-clause-does : goal.returns-clause-does
 returns-clause-does c t =
     subst (Does t (command.Advance c.args.accepted.now)) (sym c.in_ok-vec.ensures.items)
-    (advances t c.args.accepted.now (change.SetToday c.in_ok-today.today) (string_bytes c.in_ok-today.today) refl (λ u. tt) c.in_ok-today.ensures.states c.in_ok-today.ensures.reads)
+    (advances t c.args.accepted.now (change.SetToday c.in_ok-today.today) (string_bytes c.in_ok-today.today) refl (λ u. tt) tt c.in_ok-today.ensures.states c.in_ok-today.ensures.reads)

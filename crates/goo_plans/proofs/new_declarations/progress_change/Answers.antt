@@ -12,6 +12,7 @@ returns-clause-sets c =
       last_day = string_bytes c.in_ok-last_day.last_day;
       made_is = λ t. ap (λ d. with_progress t d (string_bytes c.in_ok-last_day.last_day) c.args.carry) device;
       for = λ t once. subst (λ d. IsOnce (filter (λ k. bytes_eq k.1.gsrn d) t.devices)) (sym device) once;
+      free = λ t once. subst (λ d. IsOnce (filter (λ k. bytes_eq k.1.gsrn d) t.devices)) (sym device) once;
       ends = c.in_ok-last_day.ensures.states;
       ends_read = c.in_ok-last_day.ensures.reads;
     }
