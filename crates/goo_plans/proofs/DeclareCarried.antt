@@ -33,7 +33,7 @@ use Rattle.goo_plans.specs.Acted.{IsActed}
 use Rattle.goo_plans.specs.Carrying.{CarriesOut}
 use Rattle.goo_changes.specs.Changes.{made, made_all, IsFor, AreFor, IsFree, AreFree}
 use Rattle.goo_plans.specs.Declaring.{Begins, Issues, IsDue}
-use Rattle.goo_plans.specs.LotNumbers.{AreWith}
+use Rattle.goo_plans.specs.LotNumbers.{AreJustWith}
 use Rattle.goo_plans.specs.NewLots.{known_lots}
 use Rattle.goo_changes.specs.declared.change.Change.{Change}
 use Rattle.goo_changes.specs.declared.change.Change.TheVariants.{AddDeclaration, AddLot, SetCounters}
@@ -142,8 +142,8 @@ module _ (t : Tables) (q : Request) (reply : Reply) (meta : MetaRow) (x : Declar
             subst (λ u. IsActed t u (with_issue s x)) (sym all_made)
             (declaring_acted t due.accepted.kept q.caller x found.device due.standing.device refused d begins.states begins.reads_row numbered due.declarations_rise begins.sets.last_day begins.sets.ends begins.sets.ends_read carry (sym parts.0) nothing);
         lots =
-            subst (λ ls. AreWith t.lots g2.added.items ls) (sym (ap (λ (u : Tables). u.lots) all_made))
-            (subst (λ xs. AreWith t.lots xs t.lots) (sym (added ∙ ap (λ (g : Gathered). g.added.items) same ∙ begins.added)) (with_none t.lots));
+            subst (λ ls. AreJustWith t.lots g2.added.items ls) (sym (ap (λ (u : Tables). u.lots) all_made))
+            (subst (λ xs. AreJustWith t.lots xs t.lots) (sym (added ∙ ap (λ (g : Gathered). g.added.items) same ∙ begins.added)) (with_none t.lots));
       }
 
   own_is : s.own ≡ meta.code
@@ -186,8 +186,8 @@ module _ (t : Tables) (q : Request) (reply : Reply) (meta : MetaRow) (x : Declar
             (issuing_acted t due.accepted.kept q.caller x found.device due.standing.device refused d begins.states begins.reads_row numbered due.declarations_rise begins.sets.last_day begins.sets.ends begins.sets.ends_read carry (sym parts.0)
             made_some.0 l (adds.states ∙ issues.3 s own_is today_is) fresh adds.reads adds.kept);
         lots =
-            subst (λ ls. AreWith t.lots g2.added.items ls) (sym (ap (λ (u : Tables). u.lots) all_made))
-            (subst (λ xs. AreWith t.lots xs (insert_by lot_key t.lots l)) (sym (added ∙ adds.added ∙ ap (λ xs. xs ++ record { number = first.next; lot = lot } ∷ []) begins.added))
+            subst (λ ls. AreJustWith t.lots g2.added.items ls) (sym (ap (λ (u : Tables). u.lots) all_made))
+            (subst (λ xs. AreJustWith t.lots xs (insert_by lot_key t.lots l)) (sym (added ∙ adds.added ∙ ap (λ xs. xs ++ record { number = first.next; lot = lot } ∷ []) begins.added))
             (with_more t.lots l fresh t.lots [] (record { number = first.next; lot = lot }) (with_none t.lots) adds.id adds.states));
       }
 

@@ -120,12 +120,12 @@ pub edits_at_hand : (t : Tables) (plan : Plan) (gathered : Gathered) (found : Li
 unfolding state_of
 edits_at_hand t plan gathered found fits carries fit stated known low =
     let after : List Lot = (made_all t gathered.changes.items).lots in
-    let with = with_found t.lots gathered.added.items found after stated carries.lots in
+    let all = with_found t.lots gathered.added.items found after stated carries.lots in
     let forward = all_forward plan.edits.items (rows_of t) fits.rising in
     let at_hand : (p : Piece) → get (accept (state_of t) plan.request).lots (key_of p.lot) ≡ Some p.lot → IsAtHand (gathered.added.items ++ found) t p.lot =
-    λ p is. with.only p.lot (ap (λ lots. get lots (key_of p.lot)) (lots_after t plan gathered carries) ∙ is) in record {
+    λ p is. all.only p.lot (ap (λ lots. get lots (key_of p.lot)) (lots_after t plan gathered carries) ∙ is) in record {
       pieces = λ i e low_e j p low_p. (forward i e low_e j p low_p, at_hand (get_or (get_or plan.edits.items i e).insert.items j p) (known i e low_e j p low_p));
       lots = after;
-      with = with;
+      with = all.with;
       numbers = All-from_recursion (λ l. l.id < 2 ^ 63) after (low_after t gathered.changes.items fit (recursion_from_All (λ l. l.id < 2 ^ 63) t.lots low));
     }

@@ -14,7 +14,7 @@ use Rattle.goo_kept.specs.States.{known_lot}
 use Rattle.goo_kept.proofs.Known.{text_same, text_itself, get-known}
 use Rattle.goo_kept.specs.Places.{lot_of}
 use Rattle.goo_plans.specs.Found.{IsStated, AreStated}
-use Rattle.goo_plans.specs.LotNumbers.{AreWith, IsNumberOf}
+use Rattle.goo_plans.specs.LotNumbers.{AreJustWith, IsNumberOf}
 use Rattle.goo_plans.specs.LotRows.{is_among}
 use Rattle.goo_plans.specs.NewLots.{known_lots}
 use Rattle.goo_plans.specs.declared.lot_numbers.NumberedLot.{NumberedLot}
@@ -29,15 +29,17 @@ stated lots x = go (get_by lot_key lots (pos x.number)) refl
     go (Some row) is states = record { row = row; there = is; states = inside _ _ states }
 
 -- those that are kept are there beside those that are added
-pub with_found : (before : List Lot) (added found : List NumberedLot) (lots : List Lot) → AreStated before found → AreWith before added lots → AreWith before (added ++ found) lots
-with_found before added found lots are with = record {
-  kept = with.kept;
-  added_are = All-append (λ x. IsNumberOf lots x.number x.lot) added found with.added_are (λ k d low. later (slice_index_or found k d) (stated before (slice_index_or found k d) (are k d low)));
-  only = λ lot is. ⊎_elim (λ there. inl (any_more (λ (x : NumberedLot). x.lot ≡ lot) added found there)) inr (with.only lot is);
+pub with_found : (before : List Lot) (added found : List NumberedLot) (lots : List Lot) → AreStated before found → AreJustWith before added lots → AreJustWith before (added ++ found) lots
+with_found before added found lots are it = record {
+  with = record {
+    kept = it.with.kept;
+    added_are = All-append (λ x. IsNumberOf lots x.number x.lot) added found it.with.added_are (λ k d low. later (slice_index_or found k d) (stated before (slice_index_or found k d) (are k d low)));
+  };
+  only = λ lot is. ⊎_elim (λ there. inl (any_more (λ (x : NumberedLot). x.lot ≡ lot) added found there)) inr (it.only lot is);
 }
   where
     later : (x : NumberedLot) → IsNumberOf before x.number x.lot → IsNumberOf lots x.number x.lot
-    later x is = record { row = is.row; there = with.kept x.number is.row is.there; states = is.states }
+    later x is = record { row = is.row; there = it.with.kept x.number is.row is.there; states = is.states }
 
 -- where a row is found, a row that passes another test as well is found by it
 found_too : {X : Type 0} (p q : X → Bool) (xs : List X) (x : X) → find p xs ≡ Some x → q x ≡ true → is_some (find q xs) ≡ true

@@ -34,7 +34,7 @@ use Rattle.goo_kept.specs.Readable.{is_lot}
 use Rattle.goo_kept.specs.States.{known_lot}
 use Rattle.goo_kept.proofs.Inserted.{map_inserted}
 use Rattle.goo_kept.proofs.Known.{text_same, text_itself, lot_test, get-known}
-use Rattle.goo_plans.specs.LotNumbers.{IsNumberOf, IsKnownBy, AreWith}
+use Rattle.goo_plans.specs.LotNumbers.{IsNumberOf, IsKnownBy, AreJustWith}
 use Rattle.goo_plans.specs.LotRows.{next_lot, next_declaration, with_rows, is_among, AreGathered}
 use Rattle.goo_plans.specs.NewLots.{known_lots, IsNewLot, AreNewLots}
 use Rattle.goo_plans.specs.declared.lot_numbers.NumberedLot.{NumberedLot}
@@ -87,7 +87,7 @@ module _ (xs : List Lot) (l : Lot) (fresh : has_key lot_key xs (lot_key l) ≡ f
       go false other = is
 
   -- the lot that is known is the new one, or was known
-  known_more : (before : List Lot) (added : List NumberedLot) (x : NumberedLot) → AreWith before added xs → lot_of l ≡ x.lot
+  known_more : (before : List Lot) (added : List NumberedLot) (x : NumberedLot) → AreJustWith before added xs → lot_of l ≡ x.lot
       → (lot : LotFields) → IsKnownBy (insert_by lot_key xs l) lot → Any (λ y. y.lot ≡ lot) (added ++ x ∷ []) ⊎ IsKnownBy before lot
   known_more before added x it states lot is =
       let test : Lot → Bool = λ y. eq_by_cmp text_cmp (key_of lot) (key_of (lot_of y)) in
@@ -98,21 +98,23 @@ module _ (xs : List Lot) (l : Lot) (fresh : has_key lot_key xs (lot_key l) ≡ f
       (find_either lot_key test l P xs fresh (sym (get-known nat_list_cmp_total known_lot (key_of lot) test (λ y. refl) (insert_by lot_key xs l)) ∙ is))
 
   -- one lot more, under its number
-  pub with_more : (before : List Lot) (added : List NumberedLot) (x : NumberedLot) → AreWith before added xs → l.id ≡ x.number → lot_of l ≡ x.lot → AreWith before (added ++ x ∷ []) (insert_by lot_key xs l)
+  pub with_more : (before : List Lot) (added : List NumberedLot) (x : NumberedLot) → AreJustWith before added xs → l.id ≡ x.number → lot_of l ≡ x.lot → AreJustWith before (added ++ x ∷ []) (insert_by lot_key xs l)
   with_more before added x it number states = record {
-    kept = λ n row is. still_there n row (it.kept n row is);
-    added_are = All-push (λ y. IsNumberOf (insert_by lot_key xs l) y.number y.lot) added x
-        (All-weaker (λ y. IsNumberOf xs y.number y.lot) (λ y. IsNumberOf (insert_by lot_key xs l) y.number y.lot) (λ y h. record { row = h.row; there = still_there y.number h.row h.there; states = h.states }) added it.added_are)
-        (record {
-          row = l;
-          there = found_more (pos x.number) ∙ ap (λ b. cond b (Some l) (get_by lot_key xs (pos x.number))) (ap (λ n. int_eq (pos n) (pos x.number)) number ∙ int_eq_equiv.refl (pos x.number));
-          states = states;
-        });
+    with = record {
+      kept = λ n row is. still_there n row (it.with.kept n row is);
+      added_are = All-push (λ y. IsNumberOf (insert_by lot_key xs l) y.number y.lot) added x
+          (All-weaker (λ y. IsNumberOf xs y.number y.lot) (λ y. IsNumberOf (insert_by lot_key xs l) y.number y.lot) (λ y h. record { row = h.row; there = still_there y.number h.row h.there; states = h.states }) added it.with.added_are)
+          (record {
+            row = l;
+            there = found_more (pos x.number) ∙ ap (λ b. cond b (Some l) (get_by lot_key xs (pos x.number))) (ap (λ n. int_eq (pos n) (pos x.number)) number ∙ int_eq_equiv.refl (pos x.number));
+            states = states;
+          });
+    };
     only = known_more before added x it states;
   }
 
-pub with_none : (lots : List Lot) → AreWith lots [] lots
-with_none lots = record { kept = λ n row is. is; added_are = All-nil (λ y. IsNumberOf lots y.number y.lot); only = λ lot is. inr is }
+pub with_none : (lots : List Lot) → AreJustWith lots [] lots
+with_none lots = record { with = record { kept = λ n row is. is; added_are = All-nil (λ y. IsNumberOf lots y.number y.lot) }; only = λ lot is. inr is }
 
 -- ---- part by part
 
@@ -188,7 +190,7 @@ module _ (lots : List Lot) (all left : List Part) (p : Part) (new : List Lot) (n
     rise = subst (IsKeyedBy lot_key) (sym rows_are) (IsKeyedBy-insert_by lot_key xs l it.rise);
     next_is = sym (ap (next_key lot_key) rows_are ∙ next_after);
     members = λ k. ap (λ ys. contains_key (known_lots ys) k) rows_are ∙ members_after k;
-    numbers = subst (AreWith lots (numbered ++ x ∷ [])) (sym rows_are) (with_more xs l fresh lots numbered x it.numbers (id ∙ sym number) (states ∙ sym lot));
+    numbers = subst (AreJustWith lots (numbered ++ x ∷ [])) (sym rows_are) (with_more xs l fresh lots numbered x it.numbers (id ∙ sym number) (states ∙ sym lot));
     done = λ more are. subst (AreNewLots lots all) (sym (append_assoc new (l ∷ []) more)) (it.done (l ∷ more) (inr (l, more, refl, is_new, subst (λ ys. AreNewLots ys left more) rows_are are)));
   }
 

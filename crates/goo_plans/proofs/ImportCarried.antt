@@ -25,7 +25,7 @@ use Rattle.goo_plans.specs.Acted.{IsActed}
 use Rattle.goo_plans.specs.Carrying.{CarriesOut, IsAccepted}
 use Rattle.goo_changes.specs.Changes.{made, made_all, IsFor, AreFor, IsFree, AreFree}
 use Rattle.goo_plans.specs.GatheredLots.{ArePutIn}
-use Rattle.goo_plans.specs.LotNumbers.{AreWith}
+use Rattle.goo_plans.specs.LotNumbers.{AreJustWith}
 use Rattle.goo_plans.specs.LotRows.{with_rows}
 use Rattle.goo_plans.specs.NewLots.{AreNewLots}
 use Rattle.goo_changes.specs.declared.change.Change.{Change}
@@ -99,6 +99,6 @@ module _ (t : Tables) (x : importing.Import) (q : Request) (reply : Reply) (is :
     free = all_free;
     acted = subst (λ u. IsActed t u (with_import s x)) (sym all_made) (importing_acted t it.kept q.caller x whole accepted new_one new lots (notice_in_in n) states reads rise);
     lots =
-        subst (λ xs. AreWith t.lots xs (made_all t after.changes.items).lots) (sym added)
-        (subst (AreWith t.lots g.added.items) (sym (ap (λ (u : Tables). u.lots) all_made ∙ lots_after new t)) put.gathered.numbers);
+        subst (λ xs. AreJustWith t.lots xs (made_all t after.changes.items).lots) (sym added)
+        (subst (AreJustWith t.lots g.added.items) (sym (ap (λ (u : Tables). u.lots) all_made ∙ lots_after new t)) put.gathered.numbers);
   })

@@ -18,7 +18,7 @@ use Rattle.goo_plans.specs.Carried.{AreInOrder, Carry}
 use Rattle.goo_plans.specs.Carrying.{CarriesOut}
 use Rattle.goo_changes.specs.Changes.{made, made_all, IsFor, AreFor, AreFree}
 use Rattle.goo_plans.specs.EditChanges.{AreForEdit, AreForEdits}
-use Rattle.goo_plans.specs.LotNumbers.{AreWith}
+use Rattle.goo_plans.specs.LotNumbers.{AreJustWith}
 use Rattle.goo_plans.specs.Planned.{IsPlanned}
 use Rattle.goo_changes.specs.declared.change.Change.{Change}
 use Rattle.goo_plans.specs.declared.gathered_lots.Gathered.{Gathered}
@@ -59,6 +59,6 @@ carried_without t command changes g same none it = record {
   for = subst (AreFor t) (sym same) it.for;
   free = subst (AreFree t) (sym same) it.free;
   acted = subst (λ xs. IsActed t (made_all t xs) (changed (state_of t) command)) (sym same) it.acted;
-  lots = subst (λ xs. AreWith t.lots g.added.items (made_all t xs).lots) (sym same)
-      (subst (AreWith t.lots g.added.items) (sym it.lots) (subst (λ added. AreWith t.lots added t.lots) (sym none) (with_none t.lots)));
+  lots = subst (λ xs. AreJustWith t.lots g.added.items (made_all t xs).lots) (sym same)
+      (subst (AreJustWith t.lots g.added.items) (sym it.lots) (subst (λ added. AreJustWith t.lots added t.lots) (sym none) (with_none t.lots)));
 }

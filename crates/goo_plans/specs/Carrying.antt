@@ -10,7 +10,7 @@ use Rattle.goo_kept.specs.Kept.{AreKept}
 use Rattle.goo_kept.specs.States.{state_of}
 use Rattle.goo_plans.specs.Acted.{IsActed}
 use Rattle.goo_changes.specs.Changes.{made_all, AreFor, AreFree}
-use Rattle.goo_plans.specs.LotNumbers.{AreWith}
+use Rattle.goo_plans.specs.LotNumbers.{AreJustWith}
 use Rattle.goo_plans.specs.declared.gathered_lots.Gathered.{Gathered}
 
 -- the changes make of the tables what the command does, and put its lots in under their numbers
@@ -18,7 +18,7 @@ pub record CarriesOut (t : Tables) (c : Command) (g : Gathered) : Type 0 where
   pub for : AreFor t g.changes.items
   pub free : AreFree t g.changes.items
   pub acted : IsActed t (made_all t g.changes.items) (changed (state_of t) c)
-  pub lots : AreWith t.lots g.added.items (made_all t g.changes.items).lots
+  pub lots : AreJustWith t.lots g.added.items (made_all t g.changes.items).lots
 
 -- the tables keep the rules, and this request is accepted with this reply
 pub record IsAccepted (t : Tables) (q : Request) (reply : Reply) : Type 0 where

@@ -19,14 +19,18 @@ pub record IsNumberOf (lots : List Lot) (n : ℕ) (lot : LotFields) : Type 0 whe
 abbrev pub AreNumbered : List Lot → List NumberedLot → Type 0
 AreNumbered lots xs = All (λ x. IsNumberOf lots x.number x.lot) xs
 
+-- the rows that were there are there, and those of the lots that are added
+pub record AreWith (before : List Lot) (added : List NumberedLot) (lots : List Lot) : Type 0 where
+  pub kept : (n : ℕ) (row : Lot) → get_by lot_key before (pos n) ≡ Some row → get_by lot_key lots (pos n) ≡ Some row
+  pub added_are : AreNumbered lots added
+
 -- the rows make the lot known
 abbrev pub IsKnownBy : List Lot → LotFields → Type 0
 IsKnownBy lots lot = get (known_lots lots) (key_of lot) ≡ Some lot
 
--- the rows that were there are there, and those of the lots that are added; no other lot is known by them
-pub record AreWith (before : List Lot) (added : List NumberedLot) (lots : List Lot) : Type 0 where
-  pub kept : (n : ℕ) (row : Lot) → get_by lot_key before (pos n) ≡ Some row → get_by lot_key lots (pos n) ≡ Some row
-  pub added_are : AreNumbered lots added
+-- so they are, and no other lot is known by them
+pub record AreJustWith (before : List Lot) (added : List NumberedLot) (lots : List Lot) : Type 0 where
+  pub with : AreWith before added lots
   pub only : (lot : LotFields) → IsKnownBy lots lot → Any (λ x. x.lot ≡ lot) added ⊎ IsKnownBy before lot
 
 -- a row was found, it has the number, and it states the lot

@@ -11,7 +11,7 @@ use Rattle.goo_columns.specs.Rows as row
 use Rattle.goo_columns.specs.Rows.{Lot, lot_key}
 use Rattle.goo_kept.specs.Places.{lot_of}
 use Rattle.goo_kept.specs.Texts.{day_of, support_of}
-use Rattle.goo_plans.specs.LotNumbers.{AreWith}
+use Rattle.goo_plans.specs.LotNumbers.{AreJustWith}
 use Rattle.goo_plans.specs.NewLots.{known_lots, AreNewLots}
 use Rattle.goo_plans.specs.declared.lot_numbers.NumberedLot.{NumberedLot}
 use Rattle.goo_plans.specs.declared.plants.Plant.{Plant}
@@ -55,5 +55,5 @@ pub record AreGathered (lots : List Lot) (all left : List Part) (new : List Lot)
   pub rise : IsKeyedBy lot_key (with_rows lots new)
   pub next_is : pos next ≡ next_key lot_key (with_rows lots new)
   pub members : (k : List ℕ) → contains_key (known_lots (with_rows lots new)) k ≡ (contains_key (known_lots lots) k || is_among numbered k)
-  pub numbers : AreWith lots numbered (with_rows lots new)
+  pub numbers : AreJustWith lots numbered (with_rows lots new)
   pub done : (more : List Lot) → AreNewLots (with_rows lots new) left more → AreNewLots lots all (new ++ more)

@@ -39,7 +39,7 @@ returns-clause-gathers g c =
     let carries = both.0 known.own known.device (subst (AreStated t.lots) (sym c.deref.ensures.value) known.lots) kept order fits in
     let lots = (made_all t act.changes.items).lots in
     is t kept order fits act refl carries
-    (subst (λ es. AreForEdits lots es c.in_ok-edits.edits.items) c.deref-4.ensures.value (both.1 lots (subst (λ xs. AreWith t.lots xs lots) (sym (c.deref-3.ensures.value ∙ c.in_ok-extend_from_slice.ensures.items ∙ ap (λ xs. act.added.items ++ xs) c.deref-2.ensures.value)) (with_found t.lots act.added.items c.args.findings.lots.items lots known.lots carries.lots))))))
+    (subst (λ es. AreForEdits lots es c.in_ok-edits.edits.items) c.deref-4.ensures.value (both.1 lots (subst (λ xs. AreWith t.lots xs lots) (sym (c.deref-3.ensures.value ∙ c.in_ok-extend_from_slice.ensures.items ∙ ap (λ xs. act.added.items ++ xs) c.deref-2.ensures.value)) (with_found t.lots act.added.items c.args.findings.lots.items lots known.lots carries.lots).with)))))
 
 pub returns-in_err-act-clause-blames : goal.returns-in_err-act-clause-blames
 returns-in_err-act-clause-blames g c =
