@@ -26,15 +26,16 @@ pub fn commit_changes<S: Alter>(conn: &mut Connection<S>, changes: &[Change]) ->
     ensures was_open { HasCleanDisk (state S.Store conn.new) → IsTrue (state S.Store conn.new).is_open → IsTrue (state S.Store conn.old).is_open }
     ensures done { HasCleanDisk (state S.Store conn.new) → (t : Tables) → Stands (state S.Store conn.old).now t → AreFor t changes.now
         → OnOk result (Settled (state S.Store conn.new) (made_all t changes.now)) }
-    ensures refused { HasCleanDisk (state S.Store conn.new) → IsLive (state S.Store conn.old) → (state S.Store conn.old).step_limit ≡ None → (t : Tables) → Stands (state S.Store conn.old).now t
+    ensures refused { HasCleanDisk (state S.Store conn.new) → (state S.Store conn.old).step_limit ≡ None → (t : Tables) → Stands (state S.Store conn.old).now t
         → AreFor t changes.now → AreFree t changes.now → IfErr result (λ e. IsFault (state S.Store conn.old) (state S.Store conn.new) e ⊎ IsTooBigOrFull e) }
-    ensures live { HasCleanDisk (state S.Store conn.new) → IsLive (state S.Store conn.old) → (t : Tables) → Stands (state S.Store conn.old).now t → AreFor t changes.now → IsLive (state S.Store conn.new) }
+    ensures live { HasCleanDisk (state S.Store conn.new) → (t : Tables) → Stands (state S.Store conn.old).now t → AreFor t changes.now → IsLive (state S.Store conn.new) }
     ensures kept { HasCleanDisk (state S.Store conn.new) → IsTrue (state S.Store conn.new).is_open → (t : Tables) → Stands (state S.Store conn.old).now t → AreFor t changes.now
         → OnErr result (((state S.Store conn.new).now ≡ (state S.Store conn.old).now) × ((state S.Store conn.new).committed ≡ (state S.Store conn.old).committed)) }
     ensures crash { (t : Tables) → Stands (state S.Store conn.old).now t → AreFor t changes.now
         → Survives (state S.Store conn.old) (state S.Store conn.new) (Holds (made_all t changes.now)) }
 {
     let _settled = conn.is_autocommit();
+    let _known = conn.schema();
     let mut tx = conn.transaction();
     make_all(&mut tx, changes)?;
     tx.commit()?;

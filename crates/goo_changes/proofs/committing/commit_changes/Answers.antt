@@ -61,19 +61,19 @@ returns-in_err-commit-clause-kept g c clean live t it for =
     (subst (λ h. ((state g.S.Store h).now ≡ (state g.S.Store c.args.conn.now).now) × ((state g.S.Store h).committed ≡ (state g.S.Store c.args.conn.now).committed)) same back)
 
 pub returns-clause-live : goal.returns-clause-live
-returns-clause-live g c clean live t it for =
+returns-clause-live g c clean t it for =
     let mid = state g.S.Store c.make_all.new.tx.conn.now in
     let end = c.commit.new.self.0 in
     let same : end ≡ c.conn-2-1.given.0 = search rules in
     let late : HasCleanDisk (state g.S.Store end) = search rules in
     let early : HasCleanDisk mid = omega (arith, c.commit.ensures.survives.clean) in
     let first : Sees (state g.S.Store c.transaction-tx.result.conn.now) t = subst (λ h. Sees (state g.S.Store h) t) (sym c.transaction-tx.ensures.begun) (begins g.S.Store c.args.conn.now t it) in
-    let begun : IsLive (state g.S.Store c.transaction-tx.result.conn.now) = subst (λ h. IsLive (state g.S.Store h)) (sym c.transaction-tx.ensures.begun) live in
+    let begun : IsLive (state g.S.Store c.transaction-tx.result.conn.now) = subst (λ h. IsLive (state g.S.Store h)) (sym c.transaction-tx.ensures.begun) c.schema-known.ensures.live in
     let lives : IsLive mid = c.in_ok-make_all.ensures.live early begun t first for in
     subst (λ h. IsLive (state g.S.Store h)) same (committed_live mid (state g.S.Store end) lives (c.in_ok-commit.ensures.ok late).1)
 
 pub returns-in_err-commit-clause-live : goal.returns-in_err-commit-clause-live
-returns-in_err-commit-clause-live g c clean live t it for =
+returns-in_err-commit-clause-live g c clean t it for =
     let then = made_all t c.args.changes.now in
     let mid = state g.S.Store c.make_all.new.tx.conn.now in
     let end = c.commit.new.self.0 in
@@ -81,7 +81,7 @@ returns-in_err-commit-clause-live g c clean live t it for =
     let late : HasCleanDisk (state g.S.Store end) = search rules in
     let early : HasCleanDisk mid = omega (arith, c.commit.ensures.survives.clean) in
     let first : Sees (state g.S.Store c.transaction-tx.result.conn.now) t = subst (λ h. Sees (state g.S.Store h) t) (sym c.transaction-tx.ensures.begun) (begins g.S.Store c.args.conn.now t it) in
-    let begun : IsLive (state g.S.Store c.transaction-tx.result.conn.now) = subst (λ h. IsLive (state g.S.Store h)) (sym c.transaction-tx.ensures.begun) live in
+    let begun : IsLive (state g.S.Store c.transaction-tx.result.conn.now) = subst (λ h. IsLive (state g.S.Store h)) (sym c.transaction-tx.ensures.begun) c.schema-known.ensures.live in
     let lives : IsLive mid = c.in_ok-make_all.ensures.live early begun t first for in
     let seen : Sees mid then = c.in_ok-make_all.ensures.changed early t first for in
     subst (λ h. IsLive (state g.S.Store h)) same (undone_live mid (state g.S.Store end) then _ lives seen (c.in_err-commit.ensures.err late))
