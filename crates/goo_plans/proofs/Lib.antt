@@ -24,3 +24,7 @@ pub mod Found
 pub mod RowsRead
 pub mod Refusing
 pub mod Taking
+pub mod NeedsNumbers
+pub mod NeedsDeclaring
+pub mod NeedsReply
+pub mod Needs

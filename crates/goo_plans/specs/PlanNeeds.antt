@@ -4,12 +4,11 @@ use Rattle.goo_types.specs.declared.command.Command.{Command}
 use Rattle.goo_types.specs.declared.command.Command.TheVariants.{OpenAccount, Declare, Cancel, Withdraw, Export, Import}
 use Rattle.goo_shelf.specs.Plan.{Fits}
 use Rattle.goo_shelf.specs.declared.plan.Plan.{Plan}
-use Rattle.goo_columns.specs.Rows.{Tables, lot_key}
+use Rattle.goo_columns.specs.Rows.{Tables, declaration_key, lot_key}
 use Rattle.goo_columns.specs.declared.meta.MetaRow.{MetaRow}
 use Rattle.goo_changes.specs.Changes.{ChangeFits}
 use Rattle.goo_kept.specs.Places.{rows_of}
 use Rattle.goo_kept.specs.States.{state_of}
-use Rattle.goo_plans.specs.Acted.{HasKeptNumbers}
 use Rattle.goo_plans.specs.AtHand.{HasRoom}
 use Rattle.goo_plans.specs.Carried.{AreInOrder}
 use Rattle.goo_plans.specs.Carrying.{CarriesOut}
@@ -30,13 +29,18 @@ CanGo t own kept plan (Withdraw x) = CanGoByRow t own kept plan
 CanGo t own kept plan (Export x) = CanGoByRow t own kept plan
 CanGo t own kept plan _ = Unit {0}
 
--- What was kept is so in the tables, in which the plan may be committed. Its command can go; whatever is gathered that carries it
--- out in rows that columns can keep, the edits can be taken then; and a receipt can keep the numbers of its reply.
+-- what the command puts in under a number gets one that a column keeps: a declaration and its lot, and the lots of an import's parts
+abbrev pub HasRoomFor : Tables → Command → Type 0
+HasRoomFor t (Declare x) = HasRoom 1 declaration_key t.declarations × HasRoom 1 lot_key t.lots
+HasRoomFor t (Import x) = HasRoom (length x.notice.parts) lot_key t.lots
+HasRoomFor t _ = Unit {0}
+
+-- What was kept is so in the tables, in which the plan may be committed, and they have room for its command; whatever is gathered
+-- that carries it out in rows that columns can keep, the edits can be taken then.
 -- Where lots are put in, this asks more than can be had: `CarriesOut` doesn't say that each of them is among those added.
 pub record CanBePlanned (t : Tables) (findings : Findings) (plan : Plan) : Type 0 where
   pub found : AreFindingsOf findings t
   pub order : AreInOrder t
   pub fits : Fits (state_of t) (rows_of t) plan
-  pub command : CanGo t findings.own findings.device plan plan.request.command
+  pub room : HasRoomFor t plan.request.command
   pub edits : (gathered : Gathered) → CarriesOut t plan.request.command gathered → All ChangeFits gathered.changes.items → CanTakeEdits (gathered.added.items ++ findings.lots.items) t plan.edits.items
-  pub reply : HasKeptNumbers plan.reply
