@@ -1,6 +1,5 @@
 -- An accepted request has what its changes need of the tables, where the rows that it puts in get numbers.
-use Rattle.std.proofs.Common.{◌≡◌, ◌≢◌, ℕ, List, IsTrue, IsSome, Option, Some, None, refl, ap, sym, subst, ◌∙◌}
-use Rattle.std.specs.Prelude.{is_some}
+use Rattle.std.proofs.Common.{◌≡◌, ◌≢◌, ℕ, IsTrue, Option, None, refl, ap, sym, subst, ◌∙◌}
 use Rattle.goo_types.specs.Obeys.{Obeys}
 use Rattle.goo_types.specs.declared.command.Command.{Command}
 use Rattle.goo_types.specs.declared.command.Command.TheVariants.{OpenHolder, OpenAccount, CloseAccount, RegisterDevice, Declare, Transfer, Cancel, Withdraw, Advance, AddPeer, Export, Import}

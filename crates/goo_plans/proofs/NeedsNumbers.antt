@@ -1,5 +1,5 @@
 -- A command that is accepted has a number left.
-use Rattle.std.proofs.Common.{◌≡◌, ◌≤◌, ℕ, List, None, IsTrue, ap, sym, ◌∙◌}
+use Rattle.std.proofs.Common.{◌≡◌, ◌≤◌, ℕ, List, None, IsTrue}
 use Rattle.std.specs.Prelude.{nat_le, nat_lt, false}
 use Rattle.std.proofs.lemmas.Bool.{and_from, le-leb, ltb-false}
 use Rattle.goo_types.specs.declared.command.Cancel.{Cancel}

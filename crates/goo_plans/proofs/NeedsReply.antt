@@ -1,10 +1,10 @@
 -- A receipt can keep the numbers of an accepted command's reply.
-use Rattle.std.proofs.Common.{◌≡◌, ◌≤◌, ◌<◌, ◌^◌, ◌*◌, ◌+◌, ◌-◌, ◌&&◌, ℕ, pos, zero, suc, get_or, List, [], ◌∷◌, length, map, All, Bool, true, false, cond, Option, Some, None, option_map, refl, ap, sym, subst, ◌∙◌, arith}
+use Rattle.std.proofs.Common.{◌≡◌, ◌≤◌, ◌<◌, ◌^◌, ◌+◌, ◌-◌, ℕ, pos, zero, suc, get_or, List, [], ◌∷◌, length, map, All, Bool, true, false, cond, Option, Some, None, option_map, refl, ap, ◌∙◌, arith}
 use Rattle.std.specs.Prelude.{nat_le, is_some, count_by}
 use Rattle.std.specs.FinMap.{get, insert, entries}
 use Rattle.std.specs.Ordering.{nat_cmp}
 use Rattle.std.specs.List.{list_all, cons_option}
-use Rattle.std.proofs.lemmas.Bool.{and_parts, and_from, leb-true, leb-false, le-leb, not-false}
+use Rattle.std.proofs.lemmas.Bool.{and_parts, and_from, leb-true, leb-false, le-leb}
 use Rattle.std.proofs.lemmas.List.Sums.{sum_by-le}
 use Rattle.sqlite_keyed.specs.Keyed.{get_by}
 use Rattle.goo_types.specs.Number.{code_of, is_number}
@@ -41,7 +41,7 @@ use Rattle.goo_spec.proofs.Counting.{count-insert}
 use Rattle.goo_spec.proofs.Creating.{no_entries}
 use Rattle.goo_spec.proofs.Naming.{length_numbered}
 use Rattle.goo_spec.proofs.Numbers.{one_within}
-use Rattle.goo_spec.proofs.Placing.{is_one_of, passed_over}
+use Rattle.goo_spec.proofs.Placing.{passed_over}
 use Rattle.goo_rows.specs.Certificates.{numbers_of, certificates_of}
 use Rattle.goo_rows.proofs.CertificateLemmas.{certificates-rows}
 use Rattle.goo_columns.specs.Beside.{beside}
