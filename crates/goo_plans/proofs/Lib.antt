@@ -26,3 +26,7 @@ pub mod RowsRead
 pub mod Refusing
 pub mod Taking
 pub mod EditsAtHand
+pub mod NeedsNumbers
+pub mod NeedsDeclaring
+pub mod NeedsReply
+pub mod Needs

@@ -5,11 +5,10 @@ use Rattle.goo_types.specs.declared.command.Command.TheVariants.{OpenAccount, De
 use Rattle.goo_spec.specs.Step.{accept}
 use Rattle.goo_shelf.specs.Plan.{Fits}
 use Rattle.goo_shelf.specs.declared.plan.Plan.{Plan}
-use Rattle.goo_columns.specs.Rows.{Tables, lot_key}
+use Rattle.goo_columns.specs.Rows.{Tables, declaration_key, lot_key}
 use Rattle.goo_columns.specs.declared.meta.MetaRow.{MetaRow}
 use Rattle.goo_kept.specs.Places.{rows_of}
 use Rattle.goo_kept.specs.States.{state_of}
-use Rattle.goo_plans.specs.Acted.{HasKeptNumbers}
 use Rattle.goo_plans.specs.AtHand.{HasRoom}
 use Rattle.goo_plans.specs.Carried.{AreInOrder}
 use Rattle.goo_plans.specs.EditsTaken.{HaveKeptNumbers, HaveKnownLots}
@@ -28,13 +27,18 @@ CanGo t own kept plan (Withdraw x) = CanGoByRow t own kept plan
 CanGo t own kept plan (Export x) = CanGoByRow t own kept plan
 CanGo t own kept plan _ = Unit {0}
 
--- What was kept is so in the tables, in which the plan may be committed. Its command can go; the registry knows the lots of the pieces
--- that the edits insert, once the request is accepted; columns keep the numbers of the lots that are there, and a receipt those of the reply.
+-- what the command puts in under a number gets one that a column keeps: a declaration and its lot, and the lots of an import's parts
+abbrev pub HasRoomFor : Tables → Command → Type 0
+HasRoomFor t (Declare x) = HasRoom 1 declaration_key t.declarations × HasRoom 1 lot_key t.lots
+HasRoomFor t (Import x) = HasRoom (length x.notice.parts) lot_key t.lots
+HasRoomFor t _ = Unit {0}
+
+-- What was kept is so in the tables, in which the plan may be committed, and they have room for its command. The registry knows the
+-- lots of the pieces that the edits insert, once the request is accepted; and columns keep the numbers of the lots that are there.
 pub record CanBePlanned (t : Tables) (findings : Findings) (plan : Plan) : Type 0 where
   pub found : AreFindingsOf findings t
   pub order : AreInOrder t
   pub fits : Fits (state_of t) (rows_of t) plan
-  pub command : CanGo t findings.own findings.device plan plan.request.command
+  pub room : HasRoomFor t plan.request.command
   pub edits : HaveKnownLots (accept (state_of t) plan.request) plan.edits.items
   pub lots : HaveKeptNumbers t.lots
-  pub reply : HasKeptNumbers plan.reply

@@ -2,6 +2,7 @@
 
 ghost use Rattle.std.specs.Prelude.{◌≡◌, ◌++◌, [], ◌∷◌, false, All, IfOk, IsOkUnless, IsTrue};
 ghost use Rattle.sqlite.specs.Held.{state};
+ghost use Rattle.goo_types.specs.Obeys.{Obeys};
 ghost use Rattle.goo_types.specs.declared.request.Request.{Request};
 ghost use Rattle.goo_plans.specs.declared.gathered_lots.Gathered.{Gathered as Given};
 ghost use Rattle.goo_shelf.specs.Plan.{Fits};
@@ -156,7 +157,7 @@ fn joined(
     requires edits { All ChangeFits edits.items }
     ensures planned { IfOk result (λ changes. (t : Tables) → AreKept t → AreInOrder t → Fits (state_of t) (rows_of t) plan.now → (gathered : Given) → gathered.changes.items ≡ act.items → CarriesOut t plan.now.request.command gathered → AreForEdits (made_all t act.items).lots plan.now.edits.items edits.items → IsPlanned t changes.items plan.now) }
     ensures fits { IfOk result (λ changes. All ChangeFits changes.items) }
-    ensures memory { HasKeptNumbers plan.now.reply → IsOkUnless result Memory }
+    ensures memory { (Obeys plan.now.request.command → HasKeptNumbers plan.now.reply) → IsOkUnless result Memory }
 {
     // A request in hand has a command within its limits: it comes with that fact.
     let _ = plan.request.command();

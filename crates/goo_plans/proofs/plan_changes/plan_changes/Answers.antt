@@ -19,6 +19,7 @@ use Rattle.goo_plans.specs.EditsTaken.{CanTakeEdits}
 use Rattle.goo_plans.specs.PlanNeeds.{CanBePlanned}
 use Rattle.goo_plans.specs.declared.trouble.Trouble.TheVariants.{Memory}
 use Rattle.goo_plans.proofs.LookUps.{looks_then}
+use Rattle.goo_plans.proofs.Needs.{can_go, kept_numbers}
 use Rattle.goo_plans.proofs.Refusing.{blames_err, blames_made, blames_so, blames_then}
 use Rattle.goo_plans.proofs.plan_changes.plan_changes.Goals as goal
 
@@ -46,7 +47,7 @@ returns-in_err-act-clause-blames g c =
     let s0 = state g.S.Store c.args.conn.now in
     let s1 = state g.S.Store c.command_changes.new.conn in
     let same : c.from_residual.result ≡ Err c.in_err-act.field-0.0 = search rules in
-    blames_err s0 s1 c.in_err-act.field-0.0 c.from_residual.result _ same (blames_so s0 s1 (Err c.in_err-act.field-0.0) _ _ c.in_err-act.ensures.blames (λ t stands kept can. can.command))
+    blames_err s0 s1 c.in_err-act.field-0.0 c.from_residual.result _ same (blames_so s0 s1 (Err c.in_err-act.field-0.0) _ _ c.in_err-act.ensures.blames (λ t stands kept can. can_go t kept c.args.plan.now can.fits c.args.findings.own can.found.own c.args.findings.device can.found.device can.room))
 
 pub returns-in_err-extend_from_slice-clause-blames : goal.returns-in_err-extend_from_slice-clause-blames
 returns-in_err-extend_from_slice-clause-blames g c =
@@ -84,4 +85,4 @@ returns-clause-blames g c =
     let carries = carry can.found.own can.found.device (subst (AreStated t.lots) (sym c.deref.ensures.value) can.found.lots) kept can.order can.fits in
     subst (λ xs. CanTakeEdits xs t c.deref-4.result.now) (sym (c.deref-3.ensures.value ∙ c.in_ok-extend_from_slice.ensures.items ∙ ap (λ xs. act.added.items ++ xs) c.deref-2.ensures.value))
     (subst (CanTakeEdits (act.added.items ++ lots) t) (sym c.deref-4.ensures.value) (edits_at_hand t c.args.plan.now act lots can.fits carries c.in_ok-act.ensures.fits can.found.lots can.edits can.lots))))
-    c.joined.result _ (λ t stands kept can first. c.joined.ensures.memory can.reply)
+    c.joined.result _ (λ t stands kept can first. c.joined.ensures.memory (kept_numbers t kept c.args.plan.now can.fits))
