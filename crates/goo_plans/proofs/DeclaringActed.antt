@@ -47,15 +47,15 @@ module _ (t : Tables) (kept : AreKept t) (caller : List ℕ) (x : Declare) (devi
   abbrev s : State
   s = state_of t
 
-  not_refused : device_refusal s x (Some device) ≡ None
+  pub not_refused : device_refusal s x (Some device) ≡ None
   unfolding declare_refusal
   not_refused = ap (device_refusal s x) (sym known) ∙ (none_fail (declare_checks s caller x) accepted).1.0
 
   late : begins_too_early (last_end None (declared_by x.device s.declarations)) x.first_day ≡ false
   late = passes _ _ (none_fail (device_checks s x device) not_refused).1.1.1.1.0
 
-  fits : s.next_serial + earned s x ≤ serials
-  fits = ltb-false serials (s.next_serial + earned s x) (passes _ _ (none_fail (device_checks s x device) not_refused).1.1.1.1.1.1.1.1.0)
+  pub serials_left : s.next_serial + earned s x ≤ serials
+  serials_left = ltb-false serials (s.next_serial + earned s x) (passes _ _ (none_fail (device_checks s x device) not_refused).1.1.1.1.1.1.1.1.0)
 
   abbrev lot : LotFields
   lot = declaring.lot_of s x device
@@ -152,7 +152,7 @@ module _ (t : Tables) (kept : AreKept t) (caller : List ℕ) (x : Declare) (devi
       readable = record {
         version = kept.readable.version;
         meta = counters_read m kept.readable.meta (m.next_serial + earned s x) m.next_account m.next_cancellation m.next_withdrawal m.next_notice
-            (omega (arith, kept.sound.limits.serial.0), omega (arith, fits)) kept.sound.limits.account kept.sound.limits.cancellation kept.sound.limits.withdrawal kept.sound.limits.notice;
+            (omega (arith, kept.sound.limits.serial.0), omega (arith, serials_left)) kept.sound.limits.account kept.sound.limits.cancellation kept.sound.limits.withdrawal kept.sound.limits.notice;
         holders = kept.readable.holders;
         accounts = kept.readable.accounts;
         devices = read_moved x.device last_day left ends_read left_most t.devices kept.readable.devices;

@@ -37,11 +37,6 @@ module _ (t : Tables) (kept : AreKept t) (plan : Plan) (fits : Fits (state_of t)
   pub kept_numbers : Obeys plan.request.command → HasKeptNumbers plan.reply
   kept_numbers obeys = subst HasKeptNumbers reply_is (replying.kept_numbers t kept plan.request.caller plan.request.command obeys none)
 
-  -- a command that takes a number
-  taken : (meta : MetaRow) → t.meta ≡ meta_in meta → (c : Command) → plan.request.command ≡ c → CanTakeNumber meta c (notice_sent (state_of t) c) → CanTakeNumber meta plan.request.command plan.notice
-  taken meta same c is can =
-      subst (CanTakeNumber meta plan.request.command) (sym fits.sent) (subst (λ d. CanTakeNumber meta d (notice_sent (state_of t) d)) (sym is) can)
-
   refused_none : (c : Command) → plan.request.command ≡ c → refusal (state_of t) plan.request.caller c ≡ None
   refused_none c is = subst (λ d. refusal (state_of t) plan.request.caller d ≡ None) is none
 
@@ -58,13 +53,18 @@ module _ (t : Tables) (kept : AreKept t) (plan : Plan) (fits : Fits (state_of t)
       takes = takes;
     }
 
+    -- a command that takes a number, by the registry's row
+    numbered : (c : Command) → plan.request.command ≡ c → HasRoomFor t c → ((meta : MetaRow) → t.meta ≡ meta_in meta → CanTakeNumber meta c (notice_sent (state_of t) c)) → CanGoByRow t own device plan
+    numbered c is room takes = by_row (subst (HasRoomFor t) (sym is) room)
+        (λ meta same other. subst (CanTakeNumber meta plan.request.command) (sym fits.sent) (subst (λ d. CanTakeNumber meta d (notice_sent (state_of t) d)) (sym is) (takes meta same)))
+
     so : (c : Command) → plan.request.command ≡ c → HasRoomFor t c → CanGo t own device plan c
     unfolding state_of
-    so (OpenAccount x) is room = by_row (subst (HasRoomFor t) (sym is) room) (λ meta same other. taken meta same (OpenAccount x) is (numbers_are (λ m. m.next_account) meta same (account_left (state_of t) kept.sound plan.request.caller x (refused_none (OpenAccount x) is))))
+    so (OpenAccount x) is room = numbered (OpenAccount x) is room (λ meta same. numbers_are (λ m. m.next_account) meta same (account_left (state_of t) kept.sound plan.request.caller x (refused_none (OpenAccount x) is)))
     so (Declare x) is room = by_row (subst (HasRoomFor t) (sym is) room) (λ meta same other. absurd (other x is))
-    so (Cancel x) is room = by_row (subst (HasRoomFor t) (sym is) room) (λ meta same other. taken meta same (Cancel x) is (numbers_are (λ m. m.next_cancellation) meta same (cancellation_left (state_of t) kept.sound plan.request.caller x (refused_none (Cancel x) is))))
-    so (Withdraw x) is room = by_row (subst (HasRoomFor t) (sym is) room) (λ meta same other. taken meta same (Withdraw x) is (numbers_are (λ m. m.next_withdrawal) meta same (withdrawal_left (state_of t) kept.sound plan.request.caller x (refused_none (Withdraw x) is))))
-    so (Export x) is room = by_row (subst (HasRoomFor t) (sym is) room) (λ meta same other. taken meta same (Export x) is (numbers_are (λ m. m.next_notice) meta same (notice_left (state_of t) kept.sound plan.request.caller x (refused_none (Export x) is)), refl))
+    so (Cancel x) is room = numbered (Cancel x) is room (λ meta same. numbers_are (λ m. m.next_cancellation) meta same (cancellation_left (state_of t) kept.sound plan.request.caller x (refused_none (Cancel x) is)))
+    so (Withdraw x) is room = numbered (Withdraw x) is room (λ meta same. numbers_are (λ m. m.next_withdrawal) meta same (withdrawal_left (state_of t) kept.sound plan.request.caller x (refused_none (Withdraw x) is)))
+    so (Export x) is room = numbered (Export x) is room (λ meta same. (numbers_are (λ m. m.next_notice) meta same (notice_left (state_of t) kept.sound plan.request.caller x (refused_none (Export x) is)), refl))
     so (Import x) is room = room
     so (OpenHolder x) is room = tt
     so (CloseAccount x) is room = tt

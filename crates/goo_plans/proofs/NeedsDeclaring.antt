@@ -10,7 +10,7 @@ use Rattle.goo_types.specs.declared.reply.Reply.{Reply}
 use Rattle.goo_spec.specs.Days.{is_before, are_in_one_month}
 use Rattle.goo_spec.specs.Declare.{range_of, with_declaration, earned, next_number, device_checks, device_refusal, declare_checks, declare_refusal, declare_reply}
 use Rattle.goo_spec.specs.Energy.{carry}
-use Rattle.goo_spec.specs.State.{State, Device, serials}
+use Rattle.goo_spec.specs.State.{State, Device}
 use Rattle.goo_spec.proofs.Checking.{none_fail, passes, holds}
 use Rattle.goo_spec.proofs.Mapping.{none_some}
 use Rattle.goo_columns.specs.Rows as row
@@ -26,6 +26,7 @@ use Rattle.goo_plans.specs.Found.{IsDeviceOf}
 use Rattle.goo_plans.specs.Standing.{IsStanding}
 use Rattle.goo_plans.specs.declared.findings.KnownDevice.{KnownDevice}
 use Rattle.goo_plans.specs.declared.standing.Standing.{Standing}
+use Rattle.goo_plans.proofs.DeclaringActed.{not_refused, serials_left}
 
 is_known : (s : State) (x : Declare) (o : Option Device) → device_refusal s x o ≡ None → IsSome o
 is_known s x None none = none_some _ (sym none)
@@ -44,9 +45,9 @@ module _ (t : Tables) (kept : AreKept t) (caller : List ℕ) (x : Declare) (none
   abbrev s : State
   s = state_of t
 
-  not_refused : device_refusal s x (get s.devices x.device) ≡ None
+  accepted : device_refusal s x (get s.devices x.device) ≡ None
   unfolding declare_refusal
-  not_refused = (none_fail (declare_checks s caller x) none).1.0
+  accepted = (none_fail (declare_checks s caller x) none).1.0
 
   serial_is : s.next_serial ≡ meta.next_serial
   unfolding state_of
@@ -56,24 +57,17 @@ module _ (t : Tables) (kept : AreKept t) (caller : List ℕ) (x : Declare) (none
   unfolding state_of
   today_is = ap (λ (m : row.Meta). day_of m.today) same
 
-  module _ (device : Device) (is : get s.devices x.device ≡ Some device) where
-    checked : device_refusal s x (Some device) ≡ None
-    checked = ap (device_refusal s x) (sym is) ∙ not_refused
-
-    serials_left : s.next_serial + earned s x ≤ serials
-    serials_left = ltb-false serials (s.next_serial + earned s x) (passes _ _ (none_fail (device_checks s x device) checked).1.1.1.1.1.1.1.1.0)
-
-    lot_valid : IsLot (lot_stated meta x device)
-    lot_valid =
-        let met = none_fail (device_checks s x device) checked in
-        let span = or_parts (is_before x.last_day x.first_day) (not (are_in_one_month x.first_day x.last_day)) (passes _ _ met.1.0) in
-        let month = and_parts (x.first_day.year == x.last_day.year) (x.first_day.month == x.last_day.month) (not-false _ span.1) in
-        record {
-          commissioned = ltb-false (day_number x.first_day) (day_number device.commissioned) (passes _ _ met.1.1.1.0);
-          rising = ltb-false (day_number x.last_day) (day_number x.first_day) span.0;
-          issued = subst (λ day. day_number x.last_day < day_number day) today_is (ltb-true (day_number x.last_day) (day_number s.today) (holds _ _ met.1.1.0));
-          month = (eqb-true _ _ month.0, eqb-true _ _ month.1);
-        }
+  lot_valid : (device : Device) → get s.devices x.device ≡ Some device → IsLot (lot_stated meta x device)
+  lot_valid device is =
+      let met = none_fail (device_checks s x device) (not_refused t kept caller x device is none) in
+      let span = or_parts (is_before x.last_day x.first_day) (not (are_in_one_month x.first_day x.last_day)) (passes _ _ met.1.0) in
+      let month = and_parts (x.first_day.year == x.last_day.year) (x.first_day.month == x.last_day.month) (not-false _ span.1) in
+      record {
+        commissioned = ltb-false (day_number x.first_day) (day_number device.commissioned) (passes _ _ met.1.1.1.0);
+        rising = ltb-false (day_number x.last_day) (day_number x.first_day) span.0;
+        issued = subst (λ day. day_number x.last_day < day_number day) today_is (ltb-true (day_number x.last_day) (day_number s.today) (holds _ _ met.1.1.0));
+        month = (eqb-true _ _ month.0, eqb-true _ _ month.1);
+      }
 
   within : HasRoom 1 declaration_key t.declarations → HasRoom 1 lot_key t.lots → (found : Standing) → IsStanding t x.device found
       → IsWithinLimits meta x (carry (with_declaration s x) x.device) (range_of (next_number s) (earned s x)) found
@@ -82,7 +76,7 @@ module _ (t : Tables) (kept : AreKept t) (caller : List ℕ) (x : Declare) (none
     carry_fits = carry_fits (with_declaration s x) x.device;
     declaration_fits = let left = declarations found.number standing.number in omega (arith, left);
     lot_fits = let left = lots found.next_lot standing.next_lot in omega (arith, left);
-    serial_fits = let left = serials_left found.device standing.device in let few = counted (next_number s) (earned s x) in omega (arith, left, few, serial_is);
+    serial_fits = let left = serials_left t kept caller x found.device standing.device none in let few = counted (next_number s) (earned s x) in omega (arith, left, few, serial_is);
     lot = lot_valid found.device standing.device;
   }
 
@@ -95,7 +89,7 @@ module _ (t : Tables) (kept : AreKept t) (caller : List ℕ) (x : Declare) (none
     can = record {
       kept_is = is;
       standing = record {
-        device = is_known s x (get s.devices x.device) not_refused;
+        device = is_known s x (get s.devices x.device) accepted;
         declarations = λ n next. let left = declarations n next in omega (arith, left);
         lots = λ n next. let left = lots n next in omega (arith, left);
       };
