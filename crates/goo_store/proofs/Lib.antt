@@ -10,3 +10,4 @@ pub mod DevicesApart
 pub mod Found
 pub mod RowsRead
 pub mod Blaming
+pub mod Gathering

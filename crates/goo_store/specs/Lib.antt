@@ -9,3 +9,4 @@ pub mod Creating
 pub mod Preparing
 pub mod Opening
 pub mod StoreFaults
+pub mod Gathering

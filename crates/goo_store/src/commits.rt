@@ -8,6 +8,7 @@ ghost use Rattle.goo_plans.specs.Found.{AreNone};
 ghost use Rattle.goo_store.specs.Moments.{moment, tables_in};
 ghost use Rattle.goo_plans.specs.Planned.{IsPlanned};
 ghost use Rattle.goo_store.specs.Preparing.{Prepares};
+ghost use Rattle.goo_store.specs.Gathering.{BlamesGathering};
 ghost use Rattle.goo_plans.specs.Passing.{IsTroubleOf};
 ghost use Rattle.goo_store.specs.Telling.{PassesOn};
 
@@ -43,6 +44,7 @@ impl<S: Alter> SqlShelf<S> {
         ensures planned { (moment (view S.Store self.new.conn) self.new.refused).doubts ≡ 0 → IfOk result (λ changes. Fits (moment (view S.Store self.new.conn) self.new.refused).state (moment (view S.Store self.new.conn) self.new.refused).rows plan.now → IsPlanned (tables_in (view S.Store self.new.conn)) changes.items plan.now) }
         ensures fits { IfOk result (λ changes. All ChangeFits changes.items) }
         ensures taken { IfOk result (λ _. AreNone self.new.findings) }
+        ensures store { BlamesGathering (view S.Store self.old.conn) (view S.Store self.new.conn) self.old.refused result plan.now }
     {
         if self.refused {
             return Err(Fault::Store);

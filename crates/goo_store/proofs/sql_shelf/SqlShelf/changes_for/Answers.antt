@@ -4,6 +4,7 @@ use Rattle.goo_plans.specs.Found.{AreNone}
 use Rattle.goo_store.specs.Found.{Knows}
 use Rattle.goo_store.proofs.CommitsAfter.{refused_prepared}
 use Rattle.goo_store.proofs.Found.{none_known}
+use Rattle.goo_store.proofs.Gathering.{refused_gathering, gathering}
 use Rattle.goo_store.proofs.Prepared.{well, gathered, found_after, in_order, known}
 use Rattle.goo_store.proofs.sql_shelf.SqlShelf.changes_for.Goals as goal
 
@@ -29,3 +30,12 @@ returns-clause-planned g c =
     let after = well old new c.args.self.now.well c.plan_changes-changes.result _ c.plan_changes-changes.ensures.gathers in
     found_after old new c.args.self.now.well c.plan_changes-changes.result _ c.plan_changes-changes.ensures.gathers _ c.args.self.now.refused c.told.new.refused c.told.result c.told.ensures
     (λ none changes is fits. is (subst (λ o. Knows new o) (sym c.replace-findings.ensures.value) (known old new c.args.self.now.well c.plan_changes-changes.result _ c.plan_changes-changes.ensures.gathers c.args.self.now.findings c.args.self.now.known) none) (after.kept none) (in_order new.now _ (after.stands none)) fits)
+
+pub returns-then-self-clause-store : goal.returns-then-self-clause-store
+returns-then-self-clause-store g c = refused_gathering (view g.S.Store c.args.self.now.conn) c.args.self.now.refused _ c.args.plan.now c.if-self.true
+
+pub returns-clause-store : goal.returns-clause-store
+returns-clause-store g c =
+    let old = view g.S.Store c.args.self.now.conn in
+    gathering old (view g.S.Store c.plan_changes-changes.new.conn) c.args.self.now.well c.plan_changes-changes.result _ c.plan_changes-changes.ensures.gathers
+    _ (subst (λ o. Knows old o) (sym c.replace-findings.ensures.value) c.args.self.now.known) c.args.plan.now c.args.self.now.refused c.told.new.refused c.told.result c.plan_changes-changes.ensures.blames c.told.ensures

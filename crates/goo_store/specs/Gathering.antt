@@ -1,0 +1,30 @@
+-- When what is gathered for a commit may be refused.
+use Rattle.std.specs.Prelude.{◌≡◌, ◌≤◌, Bool, false, None, Result, IfErr, IsTrue}
+use Rattle.sqlite_disk.specs.Disk.{MoreFaults}
+use Rattle.sqlite.specs.State.{State, HasCleanDisk}
+use Rattle.goo_types.specs.declared.fault.Fault.{Fault}
+use Rattle.goo_types.specs.declared.fault.Fault.TheVariants.{Store}
+use Rattle.goo_spec.specs.Step.{accept}
+use Rattle.goo_shelf.specs.Plan.{Fits}
+use Rattle.goo_shelf.specs.declared.plan.Plan.{Plan}
+use Rattle.goo_columns.specs.Rows.{Tables}
+use Rattle.goo_kept.specs.Places.{rows_of}
+use Rattle.goo_kept.specs.States.{state_of}
+use Rattle.goo_plans.specs.EditsTaken.{HaveKeptNumbers, HaveKnownLots}
+use Rattle.goo_plans.specs.PlanNeeds.{HasRoomFor}
+use Rattle.goo_store.specs.Moments.{tables_in}
+
+-- The plan may be committed in the tables, which have room for its command. The registry knows the lots of the pieces that the edits
+-- insert, once the request is accepted; and columns keep the numbers of the lots that are there.
+pub record HaveWhatItNeeds (t : Tables) (plan : Plan) : Type 0 where
+  pub fits : Fits (state_of t) (rows_of t) plan
+  pub room : HasRoomFor t plan.request.command
+  pub edits : HaveKnownLots (accept (state_of t) plan.request) plan.edits.items
+  pub lots : HaveKeptNumbers t.lots
+
+-- As of a look-up, over tables that have what the plan needs: `Store` is answered only where the disk failed in this call.
+pub record BlamesGathering {T : Type 0} (old new : State) (refused : Bool) (result : Result T Fault) (plan : Plan) : Type 0 where
+  pub limit : HasCleanDisk new → IsTrue old.is_open → new.step_limit ≡ old.step_limit
+  pub counts : HasCleanDisk new → IsTrue old.is_open → old.faults ≤ new.faults
+  pub store : HasCleanDisk new → IsTrue old.is_open → old.step_limit ≡ None → refused ≡ false → HaveWhatItNeeds (tables_in old) plan
+      → IfErr result (λ fault. fault ≡ Store → MoreFaults old.faults new.faults)
