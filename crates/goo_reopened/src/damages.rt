@@ -1,11 +1,11 @@
 //! Tables that were damaged, one value at a time.
 
 use crate::asking::{plays, plays_one};
-use crate::disks::{blank, database_on, edited, files_of, judged};
-use crate::registries::{begun, closed, in_march};
+use crate::disks::{blank, edited, files_of, judged};
+use crate::registries::{begun_on, closed, in_march};
 use crate::script::{APRIL, CANCELLATION, SCRIPT};
 use goo_opening::fault::OpenFault;
-use sqlite::{Alter, Connection, Files};
+use sqlite::Files;
 use sqlite_disk::Disk;
 use std::alloc::Global;
 use std::process::Abort;
@@ -127,30 +127,18 @@ const DAMAGES: [Damage; 22] = [
     ),
 ];
 
-/// A new registry in a database: that of April, with a cancellation.
-fn cancels<S: Alter + Drop>(
-    rt: &impl Abort,
-    alloc: Global,
-    conn: Connection<S>,
-) -> Result<Connection<S>, Fail> {
-    let Ok(mut registry) = begun(alloc, conn, in_march()?) else {
-        return Err("no registry".into());
-    };
-    let april = SCRIPT.get(..APRIL).ok_or("so many requests")?;
-    plays(rt, alloc, &mut registry, april, 0)?;
-    let cancellation = SCRIPT.get(CANCELLATION).ok_or("no cancellation")?;
-    plays_one(rt, alloc, &mut registry, cancellation, "accepted")?;
-    Ok(closed(registry).0)
-}
-
-/// The same on disks.
+/// A new registry on disks: that of April, with a cancellation.
 fn cancels_on<D: Disk + Drop>(
     rt: &impl Abort,
     alloc: Global,
     files: Files<D>,
 ) -> Result<Files<D>, Fail> {
-    let conn = database_on(alloc, files)?;
-    Ok(files_of(cancels(rt, alloc, conn)?))
+    let mut registry = begun_on(alloc, files, in_march()?)?;
+    let april = SCRIPT.get(..APRIL).ok_or("so many requests")?;
+    plays(rt, alloc, &mut registry, april, 0)?;
+    let cancellation = SCRIPT.get(CANCELLATION).ok_or("no cancellation")?;
+    plays_one(rt, alloc, &mut registry, cancellation, "accepted")?;
+    Ok(files_of(closed(registry).0))
 }
 
 /// Tables that are damaged are not opened, for this reason, and are opened once that is undone.

@@ -14,12 +14,10 @@ use sqlite_disk::{Crash, Disk, Fuse, Memory};
 use std::alloc::Global;
 use std::test::Fail;
 
-/// Two empty disks in memory.
-pub fn blank(alloc: Global) -> Files<Memory> {
-    Files {
-        log: Memory::new(alloc),
-        db: Memory::new(alloc),
-    }
+/// Two empty disks in memory. They are of one type with those that stop, so that registries are compiled for one type of disk
+/// fewer.
+pub fn blank(alloc: Global) -> Files<Fuse<Memory>> {
+    stopping(alloc, u64::MAX, u64::MAX)
 }
 
 /// Two empty disks in memory, each of which stops after so many calls.

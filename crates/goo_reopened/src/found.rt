@@ -1,6 +1,7 @@
 //! What a shelf finds, over tables and over lists: nothing in a new registry, and then what was asked for.
 
-use crate::registries::{begun, begun_in_lists, in_march_from};
+use crate::disks::blank;
+use crate::registries::{begun_in_lists, begun_on, in_march_from};
 use crate::worked::{Case, answers};
 use goo_registry::Registry;
 use goo_shelf::shelf::Shelf;
@@ -12,7 +13,6 @@ use goo_types::holder_code::HolderCode;
 use goo_types::number::Number;
 use goo_types::range::Range;
 use goo_types::registry_code::RegistryCode;
-use sqlite::Connection;
 use std::alloc::Global;
 use std::process::Abort;
 use std::test::Fail;
@@ -216,10 +216,7 @@ fn finds_members<S: Shelf + Drop>(
 fn in_a_new_registry(rt: HostRuntime) -> Result<(), Fail> {
     let alloc = rt.alloc();
     let beginning = in_march_from(LAST)?;
-    let Ok(tables) = begun(alloc, Connection::open_in_memory(alloc)?, beginning) else {
-        return Err("no registry".into());
-    };
-    finds_nothing(&rt, alloc, tables)?;
+    finds_nothing(&rt, alloc, begun_on(alloc, blank(alloc), beginning)?)?;
     finds_nothing(&rt, alloc, begun_in_lists(alloc, beginning))
 }
 
@@ -227,9 +224,6 @@ fn in_a_new_registry(rt: HostRuntime) -> Result<(), Fail> {
 fn among_members(rt: HostRuntime) -> Result<(), Fail> {
     let alloc = rt.alloc();
     let beginning = in_march_from(1)?;
-    let Ok(tables) = begun(alloc, Connection::open_in_memory(alloc)?, beginning) else {
-        return Err("no registry".into());
-    };
-    finds_members(&rt, alloc, tables)?;
+    finds_members(&rt, alloc, begun_on(alloc, blank(alloc), beginning)?)?;
     finds_members(&rt, alloc, begun_in_lists(alloc, beginning))
 }

@@ -5,6 +5,7 @@ ghost use Rattle.sqlite.specs.Held.{state};
 ghost use Rattle.sqlite.specs.State.{HasCleanDisk};
 ghost use Rattle.goo_columns.specs.Met.{IsInKeyOrder};
 
+use crate::disks::database_on;
 use goo_list::list_shelf::ListShelf;
 use goo_opening::fault::OpenFault;
 use goo_registry::Registry;
@@ -13,7 +14,8 @@ use goo_store::sql_shelf::SqlShelf;
 use goo_types::day::Day;
 use goo_types::registry_code::RegistryCode;
 use goo_types::serial::Serial;
-use sqlite::{Alter, Connection};
+use sqlite::{Alter, Connection, FileStore, Files};
+use sqlite_disk::Disk;
 use std::alloc::Global;
 use std::test::Fail;
 
@@ -56,6 +58,19 @@ pub fn begun<S: Alter>(alloc: Global, conn: Connection<S>, beginning: Beginning)
     ) {
         Ok(shelf) => Ok(Registry::new(shelf)),
         Err(refused) => Err(refused),
+    }
+}
+
+/// A new registry on disks.
+pub fn begun_on<D: Disk + Drop>(
+    alloc: Global,
+    files: Files<D>,
+    beginning: Beginning,
+) -> Result<Registry<SqlShelf<FileStore<D>>>, Fail> {
+    let conn = database_on(alloc, files)?;
+    match begun(alloc, conn, beginning) {
+        Ok(registry) => Ok(registry),
+        Err(_) => Err("no registry".into()),
     }
 }
 

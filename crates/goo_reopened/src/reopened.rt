@@ -1,12 +1,8 @@
-//! Registries that are closed and opened again, in memory and on disks in memory.
-
-ghost use Rattle.sqlite.specs.Held.{state};
-ghost use Rattle.sqlite.specs.State.{HasCleanDisk};
-ghost use Rattle.goo_columns.specs.Met.{IsInKeyOrder};
+//! Registries that are closed and opened again, on disks in memory.
 
 use crate::asking::plays;
 use crate::disks::{blank, database_on, files_of};
-use crate::registries::{begun, closed, in_march, opened, opened_again};
+use crate::registries::{begun, begun_on, closed, in_march, opened, opened_again};
 use crate::script::{APRIL, Line, SCRIPT};
 use crate::sight::sight;
 use goo_opening::fault::OpenFault;
@@ -60,21 +56,6 @@ pub fn shows<S: Alter>(
     Ok(())
 }
 
-/// The registry that a database holds shows this.
-pub fn shows_there<S: Alter + Drop>(
-    rt: &impl Abort,
-    alloc: Global,
-    conn: Connection<S>,
-    wanted: &str,
-) -> Result<(), Fail>
-    requires ordered { HasCleanDisk (state S.Store conn) → IsInKeyOrder (state S.Store conn).now }
-{
-    let Ok(mut registry) = opened(alloc, conn) else {
-        return Err("not opened".into());
-    };
-    shows(rt, alloc, &mut registry, wanted)
-}
-
 /// A registry is closed and opened again: it shows what it showed, and knows the requests.
 fn comes_back<S: Alter + Drop>(
     rt: &impl Abort,
@@ -94,22 +75,6 @@ fn comes_back<S: Alter + Drop>(
     Ok(conn)
 }
 
-/// A new registry in a database, which is sent the requests, closed and opened again.
-fn stays<S: Alter + Drop>(
-    rt: &impl Abort,
-    alloc: Global,
-    conn: Connection<S>,
-    lines: &[Line],
-    wanted: &str,
-) -> Result<Connection<S>, Fail> {
-    let Ok(mut registry) = begun(alloc, conn, in_march()?) else {
-        return Err("no registry".into());
-    };
-    plays(rt, alloc, &mut registry, lines, 0)?;
-    shows(rt, alloc, &mut registry, wanted)?;
-    comes_back(rt, alloc, registry, lines, wanted)
-}
-
 /// No other registry is begun where there is one.
 fn is_taken<S: Alter + Drop>(
     rt: &impl Abort,
@@ -125,7 +90,7 @@ fn is_taken<S: Alter + Drop>(
     }
 }
 
-/// The same on disks, and no other registry is begun there.
+/// A new registry on disks, which is sent the requests, closed and opened again; no other registry is begun there.
 fn stays_on<D: Disk + Drop>(
     rt: &impl Abort,
     alloc: Global,
@@ -133,10 +98,11 @@ fn stays_on<D: Disk + Drop>(
     lines: &[Line],
     wanted: &str,
 ) -> Result<Files<D>, Fail> {
-    let conn = database_on(alloc, files)?;
-    let conn = stays(rt, alloc, conn, lines, wanted)?;
-    let conn = is_taken(rt, alloc, conn)?;
-    Ok(files_of(conn))
+    let mut registry = begun_on(alloc, files, in_march()?)?;
+    plays(rt, alloc, &mut registry, lines, 0)?;
+    shows(rt, alloc, &mut registry, wanted)?;
+    let conn = comes_back(rt, alloc, registry, lines, wanted)?;
+    Ok(files_of(is_taken(rt, alloc, conn)?))
 }
 
 /// The registry on disks shows this.
@@ -147,16 +113,10 @@ fn shows_on<D: Disk + Drop>(
     wanted: &str,
 ) -> Result<(), Fail> {
     let conn = database_on(alloc, files)?;
-    shows_there(rt, alloc, conn, wanted)
-}
-
-#[test]
-fn in_memory(rt: HostRuntime) -> Result<(), Fail> {
-    let alloc = rt.alloc();
-    let conn = Connection::open_in_memory(alloc)?;
-    let april = SCRIPT.get(..APRIL).ok_or("so many requests")?;
-    let _conn = stays(&rt, alloc, conn, april, APRIL_SHOWN)?;
-    Ok(())
+    let Ok(mut registry) = opened(alloc, conn) else {
+        return Err("not opened".into());
+    };
+    shows(rt, alloc, &mut registry, wanted)
 }
 
 #[test]

@@ -1,13 +1,15 @@
 //! The statements that no shelf makes yet, over the tables of a registry that was asked for a withdrawal.
 
-use crate::registries::{begun, closed, in_march};
+use crate::disks::blank;
+use crate::registries::{begun_on, closed, in_march};
 use crate::worked::{Case, answers};
 use goo_tables::declaration::find_declaration;
 use goo_tables::joined::{next_expiring, next_of_account};
 use goo_tables::lot::find_lot_by_id;
 use goo_tables::piece::find_piece;
 use goo_tables::withdrawal::find_withdrawal;
-use sqlite::{Alter, Connection};
+use sqlite::{Alter, Connection, Files};
+use sqlite_disk::Disk;
 use std::alloc::Global;
 use std::process::Abort;
 use std::test::Fail;
@@ -58,14 +60,21 @@ fn finds_next<S: Alter>(
     Ok(())
 }
 
+/// A registry on disks is asked for the withdrawal, and its tables are asked for rows.
+fn finds_withdrawn<D: Disk + Drop>(
+    rt: &impl Abort,
+    alloc: Global,
+    files: Files<D>,
+) -> Result<(), Fail> {
+    let mut registry = begun_on(alloc, files, in_march()?)?;
+    let _shown = answers(rt, alloc, &mut registry, &WITHDRAWN)?;
+    let (mut conn, _) = closed(registry);
+    finds_rows(rt, alloc, &mut conn)?;
+    finds_next(rt, alloc, &mut conn)
+}
+
 #[test]
 fn by_keys_and_in_order(rt: HostRuntime) -> Result<(), Fail> {
     let alloc = rt.alloc();
-    let Ok(mut registry) = begun(alloc, Connection::open_in_memory(alloc)?, in_march()?) else {
-        return Err("no registry".into());
-    };
-    let _shown = answers(&rt, alloc, &mut registry, &WITHDRAWN)?;
-    let (mut conn, _) = closed(registry);
-    finds_rows(&rt, alloc, &mut conn)?;
-    finds_next(&rt, alloc, &mut conn)
+    finds_withdrawn(&rt, alloc, blank(alloc))
 }

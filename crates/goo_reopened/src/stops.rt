@@ -6,8 +6,8 @@ ghost use Rattle.sqlite.specs.State.{HasCleanDisk};
 ghost use Rattle.goo_columns.specs.Met.{IsInKeyOrder};
 
 use crate::asking::{asks, is_outcome, plays, plays_one};
-use crate::disks::{crashed, database_on, files_of, stopping};
-use crate::registries::{begun, closed, in_march, opened};
+use crate::disks::{blank, crashed, database_on, files_of, stopping};
+use crate::registries::{begun, begun_on, closed, in_march, opened};
 use crate::reopened::{END_SHOWN, shows};
 use crate::script::SCRIPT;
 use crate::sight::sight;
@@ -23,15 +23,13 @@ use std::alloc::Global;
 use std::process::Abort;
 use std::test::Fail;
 
-/// What a new registry in a database shows before the first request, and after each.
-fn sights<S: Alter + Drop>(
+/// What a new registry on disks shows before the first request, and after each.
+fn sights<D: Disk + Drop>(
     rt: &impl Abort,
     alloc: Global,
-    conn: Connection<S>,
+    files: Files<D>,
 ) -> Result<Vec<String>, Fail> {
-    let Ok(mut registry) = begun(alloc, conn, in_march()?) else {
-        return Err("no registry".into());
-    };
+    let mut registry = begun_on(alloc, files, in_march()?)?;
     let mut shown = Vec::new(alloc);
     shown.push(sight(alloc, &mut registry)?)?;
     for line in &SCRIPT {
@@ -210,8 +208,7 @@ fn stops_on<D: Crash + Drop>(
 
 /// What the registry shows without a stop, request by request: no two neighbours are alike.
 pub fn wanted_sights(rt: &impl Abort, alloc: Global) -> Result<Vec<String>, Fail> {
-    let conn = Connection::open_in_memory(alloc)?;
-    let shown = sights(rt, alloc, conn)?;
+    let shown = sights(rt, alloc, blank(alloc))?;
     for (text, next) in shown.iter().zip(shown.iter().skip(1)) {
         assert!(rt; text.as_str() != next.as_str());
     }

@@ -2,7 +2,8 @@
 
 use crate::asking::{asks, plays};
 use crate::cases::{FIFTH, FIRST, FOURTH, SECOND, SIXTH, THIRD};
-use crate::registries::{begun, begun_in_lists, closed, in_march_from, opened_again};
+use crate::disks::blank;
+use crate::registries::{begun_in_lists, begun_on, in_march_from, opened_again};
 use crate::script::{Line, SCRIPT};
 use crate::sight::{sight, tell_certificates};
 use goo_body::read_command;
@@ -11,7 +12,8 @@ use goo_registry::Registry;
 use goo_shelf::shelf::Shelf;
 use goo_types::holder_code::HolderCode;
 use goo_types::request::Request;
-use sqlite::{Alter, Connection};
+use sqlite::Files;
+use sqlite_disk::Disk;
 use std::alloc::Global;
 use std::process::Abort;
 use std::test::Fail;
@@ -100,17 +102,15 @@ pub fn runs<S: Shelf>(
     ends(rt, alloc, registry, case)
 }
 
-/// What a registry in a database shows after a case, in a list or one request at a time, and again once it is opened again.
-fn shown_by<S: Alter + Drop>(
+/// What a registry on disks shows after a case, in a list or one request at a time, and again once it is opened again.
+fn shown_by_tables<D: Disk + Drop>(
     rt: &impl Abort,
     alloc: Global,
-    conn: Connection<S>,
+    files: Files<D>,
     case: &Case,
     is_list: bool,
-) -> Result<(String, Connection<S>), Fail> {
-    let Ok(mut registry) = begun(alloc, conn, in_march_from(case.serial)?) else {
-        return Err("no registry".into());
-    };
+) -> Result<String, Fail> {
+    let mut registry = begun_on(alloc, files, in_march_from(case.serial)?)?;
     let shown = if is_list {
         runs(rt, alloc, &mut registry, case)?
     } else {
@@ -125,7 +125,7 @@ fn shown_by<S: Alter + Drop>(
         "{} opened again",
         case.name
     );
-    Ok((shown, closed(registry).0))
+    Ok(shown)
 }
 
 /// What a registry in plain lists shows after a case.
@@ -134,23 +134,11 @@ fn shown_by_lists(rt: &impl Abort, alloc: Global, case: &Case) -> Result<String,
     answers(rt, alloc, &mut lists, case)
 }
 
-/// What a registry in tables in memory shows after a case.
-fn shown_by_tables(
-    rt: &impl Abort,
-    alloc: Global,
-    case: &Case,
-    is_list: bool,
-) -> Result<String, Fail> {
-    let conn = Connection::open_in_memory(alloc)?;
-    let (shown, _conn) = shown_by(rt, alloc, conn, case, is_list)?;
-    Ok(shown)
-}
-
 /// A case over lists, over tables, and over tables in a list: all show the same.
 fn is_alike(rt: &impl Abort, alloc: Global, case: &Case) -> Result<(), Fail> {
     let wanted = shown_by_lists(rt, alloc, case)?;
     for is_list in [false, true] {
-        let shown = shown_by_tables(rt, alloc, case, is_list)?;
+        let shown = shown_by_tables(rt, alloc, blank(alloc), case, is_list)?;
         assert!(rt; shown.as_str() == wanted.as_str(), "{}", case.name);
     }
     Ok(())
