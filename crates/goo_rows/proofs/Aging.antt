@@ -16,7 +16,7 @@ use Rattle.goo_spec.specs.Days.{is_over}
 use Rattle.goo_spec.specs.Lots.{Certificates, is_held, is_expired}
 use Rattle.goo_spec.specs.Maps.{place_each}
 use Rattle.goo_spec.specs.Advance.{expires, aged}
-use Rattle.goo_spec.proofs.Moving.{aged_again}
+use Rattle.goo_spec.proofs.Advancing.{aged_again}
 use Rattle.goo_spec.proofs.Placing.{is_one_of, replaced, get-place_each}
 use Rattle.goo_ranges.specs.declared.edits.Edit.{Edit}
 use Rattle.goo_rows.specs.Rows.{AreRowsOf}

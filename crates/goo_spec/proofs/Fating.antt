@@ -31,7 +31,7 @@ use Rattle.goo_spec.specs.Run.{applied}
 use Rattle.goo_spec.specs.Fate.{issued_one, moved_one, taken_one, fate, fates}
 use Rattle.goo_spec.proofs.Placing.{is_one_of, get-place_each, get-give_each}
 use Rattle.goo_spec.proofs.Numbers.{one_between, one_within}
-use Rattle.goo_spec.proofs.Moving.{aged_again, is_key}
+use Rattle.goo_spec.proofs.Advancing.{aged_again, is_key}
 
 pub fate_issued : (s : State) (x : declare.Declare) (o : Option Device) (n : ℕ) → get (issued_for s x o).at n ≡ issued_one s x o n (get s.at n)
 fate_issued s x None n = refl
