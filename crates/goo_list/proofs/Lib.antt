@@ -1,6 +1,5 @@
 pub mod NearLemmas
 pub mod ProductionLemmas
-pub mod AllowedLemmas
 pub mod ReceiptLemmas
 pub mod LookLemmas
 pub mod SumLemmas
