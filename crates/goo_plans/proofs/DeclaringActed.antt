@@ -5,7 +5,7 @@ use Rattle.std.specs.Str as str
 use Rattle.std.specs.FinMap.{get, insert, from_entries}
 use Rattle.std.specs.Cmp.Lexicographic.{nat_list_cmp_total, texts_ties}
 use Rattle.std.specs.List.{list_any}
-use Rattle.std.proofs.lemmas.Bool.{ltb-false, le-leb}
+use Rattle.std.proofs.lemmas.Bool.{le-leb}
 use Rattle.std.proofs.lemmas.List.{map-append}
 use Rattle.sqlite_keyed.specs.Keyed.{IsKeyedBy, next_key, insert_by, has_key}
 use Rattle.sqlite_keyed.proofs.SliceLemmas.{insert_next}
@@ -13,12 +13,13 @@ use Rattle.sqlite_typed.specs.Tests.{bytes_eq}
 use Rattle.goo_types.specs.Day.{day_reading}
 use Rattle.goo_types.specs.declared.command.Declare.{Declare}
 use Rattle.goo_types.specs.declared.lot_fields.LotFields.{LotFields}
-use Rattle.goo_spec.specs.Declare.{with_declaration, earned, declared_by, last_end, begins_too_early, device_checks, device_refusal, declare_checks, declare_refusal, with_lot, issued_for, with_issue}
+use Rattle.goo_spec.specs.Declare.{with_declaration, earned, declared_by, last_end, begins_too_early, device_checks, declare_refusal, with_lot, issued_for, with_issue}
 use Rattle.goo_spec.specs.Declare as declaring
 use Rattle.goo_spec.specs.Energy.{carry}
 use Rattle.goo_spec.specs.Lots.{key_of, same_day}
 use Rattle.goo_spec.specs.Sound.{declares}
-use Rattle.goo_spec.specs.State.{State, Device, serials, text_cmp}
+use Rattle.goo_spec.specs.State.{State, Device, text_cmp}
+use Rattle.goo_spec.proofs.Allowed.{not_refused, serials_left}
 use Rattle.goo_spec.proofs.Checking.{none_fail, passes}
 use Rattle.goo_spec.proofs.Rising.{list_any-filter, none_begins}
 use Rattle.goo_shelf.specs.Shelf.{progress_of}
@@ -47,15 +48,8 @@ module _ (t : Tables) (kept : AreKept t) (caller : List ℕ) (x : Declare) (devi
   abbrev s : State
   s = state_of t
 
-  pub not_refused : device_refusal s x (Some device) ≡ None
-  unfolding declare_refusal
-  not_refused = ap (device_refusal s x) (sym known) ∙ (none_fail (declare_checks s caller x) accepted).1.0
-
   late : begins_too_early (last_end None (declared_by x.device s.declarations)) x.first_day ≡ false
-  late = passes _ _ (none_fail (device_checks s x device) not_refused).1.1.1.1.0
-
-  pub serials_left : s.next_serial + earned s x ≤ serials
-  serials_left = ltb-false serials (s.next_serial + earned s x) (passes _ _ (none_fail (device_checks s x device) not_refused).1.1.1.1.1.1.1.1.0)
+  late = passes _ _ (none_fail (device_checks s x device) (not_refused s caller x accepted device known)).1.1.1.1.0
 
   abbrev lot : LotFields
   lot = declaring.lot_of s x device
@@ -152,7 +146,7 @@ module _ (t : Tables) (kept : AreKept t) (caller : List ℕ) (x : Declare) (devi
       readable = record {
         version = kept.readable.version;
         meta = counters_read m kept.readable.meta (m.next_serial + earned s x) m.next_account m.next_cancellation m.next_withdrawal m.next_notice
-            (omega (arith, kept.sound.limits.serial.0), omega (arith, serials_left)) kept.sound.limits.account kept.sound.limits.cancellation kept.sound.limits.withdrawal kept.sound.limits.notice;
+            (omega (arith, kept.sound.limits.serial.0), omega (arith, serials_left s caller x accepted)) kept.sound.limits.account kept.sound.limits.cancellation kept.sound.limits.withdrawal kept.sound.limits.notice;
         holders = kept.readable.holders;
         accounts = kept.readable.accounts;
         devices = read_moved x.device last_day left ends_read left_most t.devices kept.readable.devices;

@@ -1,17 +1,16 @@
 -- A declaration that is accepted can be answered, where its row and its lot's get numbers.
-use Rattle.std.proofs.Common.{◌≡◌, ◌≤◌, ◌<◌, ◌+◌, ◌-◌, ◌^◌, ◌==◌, ℕ, zero, suc, List, cond, not, IsSome, Option, Some, None, refl, ap, sym, subst, ◌∙◌, arith}
+use Rattle.std.proofs.Common.{◌≡◌, ◌≤◌, ◌<◌, ◌+◌, ◌-◌, ◌^◌, ℕ, zero, suc, List, cond, IsSome, Option, Some, None, refl, ap, sym, subst, ◌∙◌, arith}
 use Rattle.std.specs.Prelude.{string_bytes}
 use Rattle.std.specs.FinMap.{get}
-use Rattle.std.proofs.lemmas.Bool.{and_parts, or_parts, not-false, ltb-false, ltb-true, eqb-true, ne_eqb}
+use Rattle.std.proofs.lemmas.Bool.{ne_eqb}
 use Rattle.goo_types.specs.Day.{day_number}
 use Rattle.goo_types.specs.Lot.{IsLot}
 use Rattle.goo_types.specs.declared.command.Declare.{Declare}
 use Rattle.goo_types.specs.declared.reply.Reply.{Reply}
-use Rattle.goo_spec.specs.Days.{is_before, are_in_one_month}
-use Rattle.goo_spec.specs.Declare.{range_of, with_declaration, earned, next_number, device_checks, device_refusal, declare_checks, declare_refusal, declare_reply}
+use Rattle.goo_spec.specs.Declare.{range_of, with_declaration, earned, next_number, device_refusal, declare_refusal, declare_reply}
 use Rattle.goo_spec.specs.Energy.{carry}
 use Rattle.goo_spec.specs.State.{State, Device}
-use Rattle.goo_spec.proofs.Checking.{none_fail, passes, holds}
+use Rattle.goo_spec.proofs.Allowed.{known_device, serials_left, lot_fits}
 use Rattle.goo_spec.proofs.Mapping.{none_some}
 use Rattle.goo_columns.specs.Rows as row
 use Rattle.goo_columns.specs.Rows.{Tables, meta_in, lot_key, declaration_key}
@@ -26,7 +25,6 @@ use Rattle.goo_plans.specs.Found.{IsDeviceOf}
 use Rattle.goo_plans.specs.Standing.{IsStanding}
 use Rattle.goo_plans.specs.declared.findings.KnownDevice.{KnownDevice}
 use Rattle.goo_plans.specs.declared.standing.Standing.{Standing}
-use Rattle.goo_plans.proofs.DeclaringActed.{not_refused, serials_left}
 
 is_known : (s : State) (x : Declare) (o : Option Device) → device_refusal s x o ≡ None → IsSome o
 is_known s x None none = none_some _ (sym none)
@@ -46,8 +44,7 @@ module _ (t : Tables) (kept : AreKept t) (caller : List ℕ) (x : Declare) (none
   s = state_of t
 
   accepted : device_refusal s x (get s.devices x.device) ≡ None
-  unfolding declare_refusal
-  accepted = (none_fail (declare_checks s caller x) none).1.0
+  accepted = known_device s caller x none
 
   serial_is : s.next_serial ≡ meta.next_serial
   unfolding state_of
@@ -59,14 +56,12 @@ module _ (t : Tables) (kept : AreKept t) (caller : List ℕ) (x : Declare) (none
 
   lot_valid : (device : Device) → get s.devices x.device ≡ Some device → IsLot (lot_stated meta x device)
   lot_valid device is =
-      let met = none_fail (device_checks s x device) (not_refused t kept caller x device is none) in
-      let span = or_parts (is_before x.last_day x.first_day) (not (are_in_one_month x.first_day x.last_day)) (passes _ _ met.1.0) in
-      let month = and_parts (x.first_day.year == x.last_day.year) (x.first_day.month == x.last_day.month) (not-false _ span.1) in
+      let lot = lot_fits s caller x none device is in
       record {
-        commissioned = ltb-false (day_number x.first_day) (day_number device.commissioned) (passes _ _ met.1.1.1.0);
-        rising = ltb-false (day_number x.last_day) (day_number x.first_day) span.0;
-        issued = subst (λ day. day_number x.last_day < day_number day) today_is (ltb-true (day_number x.last_day) (day_number s.today) (holds _ _ met.1.1.0));
-        month = (eqb-true _ _ month.0, eqb-true _ _ month.1);
+        commissioned = lot.commissioned;
+        rising = lot.rising;
+        issued = subst (λ day. day_number x.last_day < day_number day) today_is lot.issued;
+        month = lot.month;
       }
 
   within : HasRoom 1 declaration_key t.declarations → HasRoom 1 lot_key t.lots → (found : Standing) → IsStanding t x.device found
@@ -76,7 +71,7 @@ module _ (t : Tables) (kept : AreKept t) (caller : List ℕ) (x : Declare) (none
     carry_fits = carry_fits (with_declaration s x) x.device;
     declaration_fits = let left = declarations found.number standing.number in omega (arith, left);
     lot_fits = let left = lots found.next_lot standing.next_lot in omega (arith, left);
-    serial_fits = let left = serials_left t kept caller x found.device standing.device none in let few = counted (next_number s) (earned s x) in omega (arith, left, few, serial_is);
+    serial_fits = let left = serials_left s caller x none in let few = counted (next_number s) (earned s x) in omega (arith, left, few, serial_is);
     lot = lot_valid found.device standing.device;
   }
 
