@@ -9,6 +9,8 @@ use crate::worked::Exchange;
 use goo_outcome::outcome_text;
 use goo_registry::Registry;
 use goo_shelf::shelf::Shelf;
+use sqlite::Files;
+use sqlite_disk::Disk;
 use std::alloc::Global;
 use std::process::Abort;
 use std::test::Fail;
@@ -84,10 +86,20 @@ fn shown_by<S: Shelf + Drop>(
     sight(alloc, &mut registry)
 }
 
+/// The same of a new registry on disks.
+fn shown_on<D: Disk + Drop>(
+    rt: &impl Abort,
+    alloc: Global,
+    files: Files<D>,
+) -> Result<String, Fail> {
+    let registry = begun_on(alloc, files, in_march()?)?;
+    shown_by(rt, alloc, registry)
+}
+
 #[test]
 fn a_notice_has_a_hundred_parts_at_most(rt: HostRuntime) -> Result<(), Fail> {
     let alloc = rt.alloc();
-    let shown = shown_by(&rt, alloc, begun_on(alloc, blank(alloc), in_march()?)?)?;
+    let shown = shown_on(&rt, alloc, blank(alloc))?;
     let wanted = shown_by(&rt, alloc, begun_in_lists(alloc, in_march()?))?;
     assert!(rt; shown.as_str() == wanted.as_str());
     Ok(())
