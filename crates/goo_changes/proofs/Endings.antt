@@ -1,5 +1,6 @@
 -- What a change may answer, under fewer words, and what the end of a transaction leaves.
 use Rattle.std.proofs.Common.{◌⊎◌, inl, inr, false, Ok, Err, Result, IfErr, sym, subst, ◌∙◌, true≢false}
+use Rattle.std.specs.Prelude.{⊤}
 use Rattle.sqlite.specs.declared.error.Error.{Error}
 use Rattle.sqlite.specs.Effect.{IsDatabase}
 use Rattle.sqlite.specs.State.{State, IsLive, Shows}
@@ -8,15 +9,27 @@ use Rattle.goo_columns.specs.Refused.{IsTooBig, IsTooBigOrFull}
 use Rattle.goo_columns.specs.Rows.{Tables}
 use Rattle.goo_columns.specs.Stands.{Sees}
 
-pub or_full : {X : Type 0} (P : Error → Type 0) (r : Result X Error) → IfErr r (λ e. P e ⊎ IsTooBig e) → IfErr r (λ e. P e ⊎ IsTooBigOrFull e)
-or_full P (Ok x) h = tt
-or_full P (Err e) (inl fault) = inl fault
-or_full P (Err e) (inr big) = inr (inl big)
+module _ {X : Type 0} (P : Error → Type 0) (r : Result X Error) (Room Left : Type 0) (leaves : Room → Left) where
+  pub or_less : IfErr r (λ e. P e ⊎ (IsTooBigOrFull e × (Left → ⊥))) → IfErr r (λ e. P e ⊎ (IsTooBigOrFull e × (Room → ⊥)))
+  or_less h = go r h
+    where
+      go : (q : Result X Error) → IfErr q (λ e. P e ⊎ (IsTooBigOrFull e × (Left → ⊥))) → IfErr q (λ e. P e ⊎ (IsTooBigOrFull e × (Room → ⊥)))
+      go (Ok x) h = tt
+      go (Err e) (inl fault) = inl fault
+      go (Err e) (inr none) = inr (none.0, λ room. none.1 (leaves room))
 
-pub or_big : {X : Type 0} (P : Error → Type 0) (r : Result X Error) → IfErr r (λ e. P e ⊎ ⊥) → IfErr r (λ e. P e ⊎ IsTooBigOrFull e)
-or_big P (Ok x) h = tt
-or_big P (Err e) (inl fault) = inl fault
-or_big P (Err e) (inr none) = absurd none
+  pub or_full : IfErr r (λ e. P e ⊎ (IsTooBig e × (Left → ⊥))) → IfErr r (λ e. P e ⊎ (IsTooBigOrFull e × (Room → ⊥)))
+  or_full h = go r h
+    where
+      go : (q : Result X Error) → IfErr q (λ e. P e ⊎ (IsTooBig e × (Left → ⊥))) → IfErr q (λ e. P e ⊎ (IsTooBigOrFull e × (Room → ⊥)))
+      go (Ok x) h = tt
+      go (Err e) (inl fault) = inl fault
+      go (Err e) (inr big) = inr (inl big.0, λ room. big.1 (leaves room))
+
+pub or_big : {X : Type 0} (P : Error → Type 0) (r : Result X Error) (Room : Type 0) → IfErr r (λ e. P e ⊎ (⊥ × (⊤ → ⊥))) → IfErr r (λ e. P e ⊎ (IsTooBigOrFull e × (Room → ⊥)))
+or_big P (Ok x) Room h = tt
+or_big P (Err e) Room (inl fault) = inl fault
+or_big P (Err e) Room (inr none) = absurd none.0
 
 -- ---- the end of a transaction
 

@@ -1,12 +1,13 @@
 -- Changes of the tables, one statement each.
-use Rattle.std.specs.Prelude.{◌≡◌, ◌<◌, ◌^◌, ◌&&◌, ℕ, pos, List, None, find, fold, take, get_or, length, string_bytes, ⊤}
+use Rattle.std.specs.Prelude.{◌≡◌, ◌<◌, ◌^◌, ◌&&◌, ℕ, pos, List, All, None, find, fold, take, get_or, length, string_bytes, ⊤}
 use Rattle.std.specs.List.{filter}
 use Rattle.std.specs.Ordering.{int_eq}
 use Rattle.sqlite_typed.specs.Tests.{bytes_eq}
 use Rattle.sqlite_keyed.specs.Keyed.{get_by}
 use Rattle.goo_columns.specs.Once.{IsOnce}
-use Rattle.goo_columns.specs.Rows.{Tables, holder_in, account_in, device_in, declaration_in, lot_in, receipt_in, cancellation_in, withdrawal_in, notice_out_in, notice_in_in, account_key, declaration_key, lot_key, piece_key, cancellation_key, withdrawal_key, notice_out_key}
-use Rattle.goo_tables.specs.Changes.{with_holder, with_account, with_closed, with_device, with_progress, with_declaration, with_lot, with_piece, without_piece, with_peer, with_receipt, with_cancellation, with_withdrawal, with_notice_out, with_notice_in, at_day, with_counters, DeviceFits, DeclarationFits, LotFits, PieceFits, ReceiptFits, CancellationFits, WithdrawalFits, CountersFit}
+use Rattle.goo_columns.specs.Refused.{IsSmall, CanBeKept, HasRoomFor}
+use Rattle.goo_columns.specs.Rows.{Tables, meta_row, holder_in, holder_row, account_in, account_row, device_in, device_row, declaration_in, declaration_row, lot_in, lot_row, piece_row, peer_row, receipt_in, receipt_row, cancellation_in, cancellation_row, withdrawal_in, withdrawal_row, notice_out_in, notice_out_row, notice_in_in, notice_in_row, account_key, declaration_key, lot_key, piece_key, cancellation_key, withdrawal_key, notice_out_key}
+use Rattle.goo_tables.specs.Changes.{with_holder, with_account, with_closed, with_device, with_progress, progressed, with_declaration, with_lot, with_piece, without_piece, with_peer, with_receipt, with_cancellation, with_withdrawal, with_notice_out, with_notice_in, at_day, with_counters, DeviceFits, DeclarationFits, LotFits, PieceFits, ReceiptFits, CancellationFits, WithdrawalFits, CountersFit}
 use Rattle.goo_changes.specs.declared.change.Change.{Change}
 use Rattle.goo_changes.specs.declared.change.Change.TheVariants.{AddHolder, AddAccount, CloseAccount, AddDevice, AddDeclaration, SetProgress, AddLot, DeletePiece, InsertPiece, AddPeer, AddReceipt, AddCancellation, AddWithdrawal, AddNoticeOut, AddNoticeIn, SetToday, SetCounters}
 
@@ -83,3 +84,28 @@ IsFree t (SetCounters counters) = ⊤
 -- each change is free in the tables that those before it leave
 abbrev pub AreFree : Tables → List Change → Type 0
 AreFree t changes = (i : ℕ) (d : Change) → i < length changes → IsFree (made_all t (take i changes)) (get_or changes i d)
+
+-- there is room for the change: each row that it makes is small, and a rowid that its table chooses is below 2 ^ 63
+abbrev pub HasRoom : Tables → Change → Type 0
+HasRoom t (AddHolder row) = HasRoomFor holder_row t.holders (holder_in row)
+HasRoom t (AddAccount row) = IsSmall (account_row (account_in row))
+HasRoom t (CloseAccount number) = All (λ a. IsSmall (account_row (record a { closed = 1 }))) (filter (λ a. int_eq (account_key a) (pos number)) t.accounts)
+HasRoom t (AddDevice row) = HasRoomFor device_row t.devices (device_in row)
+HasRoom t (AddDeclaration row) = IsSmall (declaration_row (declaration_in row))
+HasRoom t (SetProgress device last_day carry) =
+    All (λ k. CanBeKept (device_row (progressed (string_bytes last_day) carry k))) (filter (λ k. bytes_eq k.1.gsrn (string_bytes device)) t.devices)
+HasRoom t (AddLot row) = IsSmall (lot_row (lot_in row))
+HasRoom t (DeletePiece first) = ⊤
+HasRoom t (InsertPiece row) = IsSmall (piece_row row)
+HasRoom t (AddPeer row) = HasRoomFor peer_row t.peers row
+HasRoom t (AddReceipt row) = HasRoomFor receipt_row t.receipts (receipt_in row)
+HasRoom t (AddCancellation row) = IsSmall (cancellation_row (cancellation_in row))
+HasRoom t (AddWithdrawal row) = IsSmall (withdrawal_row (withdrawal_in row))
+HasRoom t (AddNoticeOut row) = IsSmall (notice_out_row (notice_out_in row))
+HasRoom t (AddNoticeIn row) = HasRoomFor notice_in_row t.notices_in (notice_in_in row)
+HasRoom t (SetToday day) = IsSmall (meta_row (at_day t (string_bytes day)).meta)
+HasRoom t (SetCounters counters) = IsSmall (meta_row (with_counters t counters).meta)
+
+-- there is room for each change in the tables that those before it leave
+abbrev pub HaveRoom : Tables → List Change → Type 0
+HaveRoom t changes = (i : ℕ) (d : Change) → i < length changes → HasRoom (made_all t (take i changes)) (get_or changes i d)

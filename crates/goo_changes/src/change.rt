@@ -7,7 +7,7 @@ ghost use Rattle.goo_columns.specs.Rows.{Tables};
 ghost use Rattle.goo_columns.specs.Refused.{ChangeFailsBy, IsTooBigOrFull};
 ghost use Rattle.goo_columns.specs.Lives.{LeavesLive};
 ghost use Rattle.goo_columns.specs.Stands.{Sees};
-ghost use Rattle.goo_changes.specs.Changes.{made, made_all, ChangeFits, IsFor, AreFor, IsFree, AreFree};
+ghost use Rattle.goo_changes.specs.Changes.{made, made_all, ChangeFits, IsFor, AreFor, IsFree, AreFree, HasRoom, HaveRoom};
 
 use goo_columns::account::AccountRow;
 use goo_columns::cancellation::CancellationRow;
@@ -72,7 +72,7 @@ fn make<S: Alter>(tx: &mut Transaction<'_, S>, change: &Change) -> Result<usize,
     ensures same_reference { tx.new.conn.ghost_name ≡ tx.old.conn.ghost_name }
     ensures changed { HasCleanDisk (state S.Store tx.new.conn.now) → (t : Tables) → Sees (state S.Store tx.old.conn.now) t → IsFor t change.now
         → OnOk result (Sees (state S.Store tx.new.conn.now) (made t change.now)) }
-    ensures refused { ChangeFailsBy IsTooBigOrFull (state S.Store tx.old.conn.now) (state S.Store tx.new.conn.now) result (λ t. IsFree t change.now) }
+    ensures refused { ChangeFailsBy IsTooBigOrFull (λ t. HasRoom t change.now) (state S.Store tx.old.conn.now) (state S.Store tx.new.conn.now) result (λ t. IsFree t change.now) }
     ensures live { LeavesLive (state S.Store tx.old.conn.now) (state S.Store tx.new.conn.now) result }
     ensures uncommitted { HasCleanDisk (state S.Store tx.new.conn.now) → KeepsCommit (state S.Store tx.old.conn.now) (state S.Store tx.new.conn.now) }
     ensures survives { Survives (state S.Store tx.old.conn.now) (state S.Store tx.new.conn.now) (λ _. ⊥) }
@@ -111,7 +111,7 @@ pub(crate) fn make_all<S: Alter>(
     ensures same_reference { tx.new.conn.ghost_name ≡ tx.old.conn.ghost_name }
     ensures changed { HasCleanDisk (state S.Store tx.new.conn.now) → (t : Tables) → Sees (state S.Store tx.old.conn.now) t → AreFor t changes.now
         → OnOk result (Sees (state S.Store tx.new.conn.now) (made_all t changes.now)) }
-    ensures refused { ChangeFailsBy IsTooBigOrFull (state S.Store tx.old.conn.now) (state S.Store tx.new.conn.now) result (λ t. AreFor t changes.now × AreFree t changes.now) }
+    ensures refused { ChangeFailsBy IsTooBigOrFull (λ t. HaveRoom t changes.now) (state S.Store tx.old.conn.now) (state S.Store tx.new.conn.now) result (λ t. AreFor t changes.now × AreFree t changes.now) }
     ensures live { HasCleanDisk (state S.Store tx.new.conn.now) → IsLive (state S.Store tx.old.conn.now) → (t : Tables) → Sees (state S.Store tx.old.conn.now) t → AreFor t changes.now
         → OnOk result (IsLive (state S.Store tx.new.conn.now)) }
     ensures uncommitted { HasCleanDisk (state S.Store tx.new.conn.now) → KeepsCommit (state S.Store tx.old.conn.now) (state S.Store tx.new.conn.now) }

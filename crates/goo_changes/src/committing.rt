@@ -7,7 +7,7 @@ ghost use Rattle.sqlite_trees.specs.View.{doubt};
 ghost use Rattle.goo_columns.specs.Rows.{Tables};
 ghost use Rattle.goo_columns.specs.Refused.{IsFault, IsTooBigOrFull};
 ghost use Rattle.goo_columns.specs.Stands.{Stands, Settled, Holds};
-ghost use Rattle.goo_changes.specs.Changes.{made_all, ChangeFits, AreFor, AreFree};
+ghost use Rattle.goo_changes.specs.Changes.{made_all, ChangeFits, AreFor, AreFree, HaveRoom};
 
 use crate::change::{Change, make_all};
 use sqlite::{Alter, Connection, Error};
@@ -27,7 +27,7 @@ pub fn commit_changes<S: Alter>(conn: &mut Connection<S>, changes: &[Change]) ->
     ensures done { HasCleanDisk (state S.Store conn.new) → (t : Tables) → Stands (state S.Store conn.old).now t → AreFor t changes.now
         → OnOk result (Settled (state S.Store conn.new) (made_all t changes.now)) }
     ensures refused { HasCleanDisk (state S.Store conn.new) → (state S.Store conn.old).step_limit ≡ None → (t : Tables) → Stands (state S.Store conn.old).now t
-        → AreFor t changes.now → AreFree t changes.now → IfErr result (λ e. IsFault (state S.Store conn.old) (state S.Store conn.new) e ⊎ IsTooBigOrFull e) }
+        → AreFor t changes.now → AreFree t changes.now → IfErr result (λ e. IsFault (state S.Store conn.old) (state S.Store conn.new) e ⊎ (IsTooBigOrFull e × (HaveRoom t changes.now → ⊥))) }
     ensures live { HasCleanDisk (state S.Store conn.new) → (t : Tables) → Stands (state S.Store conn.old).now t → AreFor t changes.now → IsLive (state S.Store conn.new) }
     ensures kept { HasCleanDisk (state S.Store conn.new) → IsTrue (state S.Store conn.new).is_open → (t : Tables) → Stands (state S.Store conn.old).now t → AreFor t changes.now
         → OnErr result (((state S.Store conn.new).now ≡ (state S.Store conn.old).now) × ((state S.Store conn.new).committed ≡ (state S.Store conn.old).committed)) }

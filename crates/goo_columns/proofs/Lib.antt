@@ -6,6 +6,8 @@ pub mod Read
 pub mod Reading
 pub mod Refusing
 pub mod Failing
+pub mod Small
+pub mod Stored
 pub mod Living
 pub mod Obeying
 pub mod Distinct

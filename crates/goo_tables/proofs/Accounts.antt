@@ -1,5 +1,6 @@
 -- What the statements on `account` do and show.
-use Rattle.std.proofs.Common.{◌≡◌, Bool, true, filter, sym, subst, ◌<◌, ◌^◌, None, ℕ, pos, List, [], ◌∷◌, map, find, codes, false, Option, option_map, Ok, Err, Result, OnOk, refl, ◌∙◌, map-id, int_eq}
+use Rattle.std.proofs.lemmas.List.Elements.{recursion_from_All}
+use Rattle.std.proofs.Common.{All, ◌≡◌, Bool, true, filter, sym, subst, ◌<◌, ◌^◌, None, ℕ, pos, List, [], ◌∷◌, map, find, codes, false, Option, option_map, Ok, Err, Result, OnOk, refl, ◌∙◌, map-id, int_eq}
 use Rattle.std.specs.List.{AllZip}
 use Rattle.sqlite_tied.specs.Compute.{everything}
 use Rattle.sqlite.specs.declared.types.Value.TheVariants.{Null, Int}
@@ -40,13 +41,14 @@ use Rattle.std.proofs.lemmas.Iterator.Adapters.{option_map_id}
 use Rattle.std.proofs.lemmas.Bool.{lt-ltb}
 use Rattle.sqlite_keyed.specs.Keyed.{get_by}
 use Rattle.sqlite_keyed.proofs.ListLemmas.{all_of}
-use Rattle.goo_columns.specs.Refused.{IsTooBig, is_suited}
+use Rattle.goo_columns.proofs.Stored.{account_stored}
+use Rattle.goo_columns.specs.Refused.{IsTooBig, IsSmall, is_suited}
 use Rattle.goo_tables.proofs.Adding.{Adds, adds_row}
 use Rattle.sqlite.specs.Effect.{Answers}
 use Rattle.sqlite.specs.Ops.{fits_i64}
 use Rattle.sqlite_keyed.proofs.KeyedLemmas.{same_int}
 use Rattle.goo_columns.proofs.Failing.{whole_query}
-use Rattle.goo_tables.proofs.Altering.{updating_fails, update_obeys, update_small}
+use Rattle.goo_tables.proofs.Altering.{updating_fails, update_obeys, update_small, update_stored}
 use Rattle.goo_tables.proofs.Failing.{FailsOnly, not_there, adding_fails}
 use Rattle.goo_tables.proofs.AnyTable.{TableOf, shown, shows_each, finds_one, IsListed, meets_listed}
 use Rattle.goo_tables.proofs.Asking.{Asks, Tells, Says}
@@ -91,11 +93,11 @@ inserts_row old new t x r it =
     (λ schema others. accounts_stand old.now new.now t it schema others _) r
 
 pub inserting_fails : (old new : State) (t : Tables) (x : Account) → x.number < 2 ^ 63 → Stands old.now t → IsLive old → old.step_limit ≡ None → get_by account_key t.accounts (pos x.number) ≡ None
-    → FailsOnly IsTooBig insert_text (account_columns x) old new
+    → FailsOnly (λ e. IsTooBig e × (IsSmall (account_row x) → ⊥)) insert_text (account_columns x) old new
 inserting_fails old new t x small it live unlimited free =
     adding_fails insert_adds refl (λ _ _. refl) (account_columns x) refl refl old new it.schema unlimited live (account_row x) (simp (cast_null, cast_int) refl)
     (λ _. record { typed = refl; present = refl; checked = refl; free = not_there account_row account_key (λ _. refl) (old.now.trees 3) t.accounts x it.accounts.are free; unique = all_of _ (λ _. refl) _; keyed = refl })
-    (lt-ltb _ _ small)
+    (account_stored x) (lt-ltb _ _ small)
 
 -- ---- account: the row with a key
 
@@ -180,7 +182,8 @@ close_suits : (number : ℕ) → is_suited registry_schema close_text close_quer
 unfolding understood everything
 close_suits number = refl
 
-pub closing_fails : (old new : State) (t : Tables) (number : ℕ) → number < 2 ^ 63 → Stands old.now t → IsLive old → old.step_limit ≡ None → FailsOnly IsTooBig close_text (Int (pos number) ∷ []) old new
+pub closing_fails : (old new : State) (t : Tables) (number : ℕ) → number < 2 ^ 63 → Stands old.now t → IsLive old → old.step_limit ≡ None
+    → FailsOnly (λ e. IsTooBig e × (All (λ a. IsSmall (account_row (closing a))) (filter (has_number number) t.accounts) → ⊥)) close_text (Int (pos number) ∷ []) old new
 closing_fails old new t number small it live unlimited =
     let keeps = it.accounts in
     let p = has_number number in
@@ -189,6 +192,10 @@ closing_fails old new t number small it live unlimited =
     (λ _ rows answers.
     update_obeys account_key account_row (λ _. refl) account refl (λ a. simp (cast_null, cast_int) refl) p closing (λ _. refl) old.now.trees t.accounts once rows (closed_shown old t number keeps rows answers)
     (λ a. record { typed = refl; present = refl; checked = refl; keyed = refl }) (all_of _ (λ _. refl) _) (λ _ _. all_of _ (λ _. refl) _))
+    (All (λ a. IsSmall (account_row (closing a))) (filter p t.accounts))
+    (λ room rows answers.
+    update_stored account_key account_row (λ _. refl) account refl (λ a. simp (cast_null, cast_int) refl) p closing (λ _. refl) old.now.trees t.accounts once rows (closed_shown old t number keeps rows answers)
+    (λ a. account_stored (closing a)) (recursion_from_All (λ a. IsSmall (account_row (closing a))) (filter p t.accounts) room))
     (λ rows answers.
     update_small account_key account_row (λ _. refl) account refl (λ a. simp (cast_null, cast_int) refl) p closing (λ _. refl) old.now.trees t.accounts once rows (closed_shown old t number keeps rows answers)
     (λ a has. subst (λ n. fits_i64 n ≡ true) (sym (same_int (account_key a) (pos number) has)) (lt-ltb _ _ small)))

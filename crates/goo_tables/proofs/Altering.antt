@@ -1,5 +1,6 @@
 -- Why an UPDATE or a DELETE of our tables fails, whose query finds one row at most.
 use Rattle.std.proofs.Common.{◌≡◌, inl, inr, ℕ, ℤ, List, [], ◌∷◌, map, filter, cond, slice_get, Option, Some, None, Ok, Err, Bool, true, false, IsTrue, refl, sym, ap, subst, subst₂, ◌∙◌, true≢false}
+use Rattle.std.specs.Prelude.{⊤}
 use Rattle.std.specs.List.{AllByRecursion}
 use Rattle.std.proofs.lemmas.Bool.{and_parts}
 use Rattle.sqlite.specs.declared.error.Error.{Error}
@@ -22,13 +23,17 @@ use Rattle.sqlite.specs.State.{State, mode_of, IsLive, ExecutesInside}
 use Rattle.sqlite.proofs.Callers.{IsPlain, command_of}
 use Rattle.sqlite_rules.specs.Action.{works}
 use Rattle.sqlite_rules.specs.Calls.{ids_of}
+use Rattle.sqlite_rules.specs.Lists.{Has}
+use Rattle.sqlite_rules.specs.Edit.{IsOversized}
+use Rattle.sqlite_rules.proofs.ListLemmas.{all_has, test_from}
+use Rattle.sqlite_keyed.proofs.ListLemmas.{all_map, all_weaker}
 use Rattle.sqlite_rules.specs.Cast.{cast_row}
 use Rattle.sqlite_schema.specs.declared.schema.Column.{Column}
 use Rattle.sqlite_schema.specs.declared.schema.Keys.TheVariants.{Enforced}
 use Rattle.sqlite_value.specs.declared.keys.Order.{Order}
 use Rattle.goo_columns.specs.Columns.{registry_schema, strict_table}
 use Rattle.goo_columns.specs.Once.{IsOnce}
-use Rattle.goo_columns.specs.Refused.{IsTooBig, IsTooBigOrFull, is_suited}
+use Rattle.goo_columns.specs.Refused.{IsTooBig, IsTooBigOrFull, IsSmall, is_suited}
 use Rattle.goo_columns.proofs.Failing.{EndsBy, StopsAt, whole_query, updated, deleted, on_rows, failed}
 use Rattle.goo_columns.proofs.Updating.{shown_update, ids_gone, rows_put}
 use Rattle.goo_columns.proofs.Obeying.{Obeys, MayStand, AreUnique, no_references, leaves, replaces, only_for_rowid, have_small_rowids}
@@ -76,6 +81,18 @@ module _ {X : Type 0} (key : X → ℤ) (to_row : X → Row) (keyed : (x : X) �
           let small : fits_i64 (id_in (rowid (to_row (f x)))) ≡ true = rw (keyed (f x), keeps x) (fits x (subst (AllByRecursion (λ y. p y ≡ true)) one pass).0) in
           rw (one, small) refl
 
+  -- each row is small as it will be
+  pub update_stored : ((x : X) → IsSmall (to_row (f x)) → ¬ IsOversized registry_schema table (to_row (f x))) → AllByRecursion (λ x. IsSmall (to_row (f x))) (filter p xs) → (r : Row) → Has update_edit.news r → ¬ IsOversized registry_schema table r
+  update_stored stored small r has =
+      let fits : Row → Type 0 = λ r. ¬ IsOversized registry_schema table r in
+      all_has fits update_edit.news r (on_those (λ gone news. AllByRecursion fits news) (all_map fits to_row _ (all_map (λ y. fits (to_row y)) f _ (all_weaker (λ x. IsSmall (to_row (f x))) (λ x. fits (to_row (f x))) stored _ small)))) has
+
+  -- each rowid is one that a column keeps
+  pub update_kept : AllByRecursion (λ x. fits_i64 (id_in (rowid (to_row (f x)))) ≡ true) (filter p xs) → have_small_rowids update_edit.news ≡ true
+  update_kept fit =
+      let fits : Row → Type 0 = λ r. fits_i64 (id_in (rowid r)) ≡ true in
+      test_from (λ r. fits_i64 (id_in (rowid r))) update_edit.news (λ r has. all_has fits update_edit.news r (on_those (λ gone news. AllByRecursion fits news) (all_map fits to_row _ (all_map (λ y. fits (to_row y)) f _ fit))) has)
+
 -- ---- the statements
 
 module _ (sql : List ℕ) (at : ℕ) (q : Query) {tree : ℕ} {name : List ℕ} {key_column : Option ℕ} {primary : List ℕ} {uniques : List (List ℕ)} {orders : List Order} {columns : List Column}
@@ -116,22 +133,26 @@ module _ (sql : List ℕ) (at : ℕ) (q : Query) {tree : ℕ} {name : List ℕ} 
     updating_ends : (e : Error) → ExecutesInside 0 sql params old new (Err e) → EndsBy old new (Stopped updating) e
     updating_ends = failed registry_schema sql params old new has plain (and_parts _ _ suits).0 (Update at (whole_query q)) is refl (Stopped updating) update_stops
 
-    module _ (obeys : IsTrue old.is_open → (rows : List Row) → Asked rows → Obeys trees (updating rows)) where
-      pub updating_fails : ((rows : List Row) → Asked rows → have_small_rowids (updating rows).news ≡ true) → FailsOnly IsTooBig sql params old new
+    module _ (obeys : IsTrue old.is_open → (rows : List Row) → Asked rows → Obeys trees (updating rows)) (Room : Type 0)
+        (stored : Room → (rows : List Row) → Asked rows → (r : Row) → Has (updating rows).news r → ¬ IsOversized registry_schema table r) where
+      too_big : Stopped updating None → Room → ⊥
+      too_big h room = stored room h.0 h.1 h.2.0 h.2.1 h.2.2
+
+      pub updating_fails : ((rows : List Row) → Asked rows → have_small_rowids (updating rows).news ≡ true) → FailsOnly (λ e. IsTooBig e × (Room → ⊥)) sql params old new
       updating_fails small (Ok count) ran = tt
       updating_fails small (Err e) ran = elim (updating_ends e ran) [
         | inl fault ↦ inl fault
-        | inr (inl big) ↦ inr big.0
+        | inr (inl big) ↦ inr (big.0, too_big big.1)
         | inr (inr broken) ↦ absurd (true≢false (sym (small broken.1.0 broken.1.1) ∙ (refused updating obeys e broken.0 broken.1).1))
       ]
 
-      -- whatever rowid the row has
-      pub updating_kept_fails : FailsOnly IsTooBigOrFull sql params old new
-      updating_kept_fails (Ok count) ran = tt
-      updating_kept_fails (Err e) ran = elim (updating_ends e ran) [
+      -- under a rowid that a column may not keep
+      pub updating_kept_fails : (Room → (rows : List Row) → Asked rows → have_small_rowids (updating rows).news ≡ true) → FailsOnly (λ e. IsTooBigOrFull e × (Room → ⊥)) sql params old new
+      updating_kept_fails small (Ok count) ran = tt
+      updating_kept_fails small (Err e) ran = elim (updating_ends e ran) [
         | inl fault ↦ inl fault
-        | inr (inl big) ↦ inr (inl big.0)
-        | inr (inr broken) ↦ inr (inr (refused updating obeys e broken.0 broken.1).0)
+        | inr (inl big) ↦ inr (inl big.0, too_big big.1)
+        | inr (inr broken) ↦ let why = refused updating obeys e broken.0 broken.1 in inr (inr why.0, λ room. true≢false (sym (small room broken.1.0 broken.1.1) ∙ why.1))
       ]
 
   module _ (is : command_of (understood registry_schema sql) ≡ Delete at (whole_query q)) where
@@ -150,7 +171,7 @@ module _ (sql : List ℕ) (at : ℕ) (q : Query) {tree : ℕ} {name : List ℕ} 
     deleting_ends : (e : Error) → ExecutesInside 0 sql params old new (Err e) → EndsBy old new (Stopped deleting) e
     deleting_ends = failed registry_schema sql params old new has plain (and_parts _ _ suits).0 (Delete at (whole_query q)) is refl (Stopped deleting) delete_stops
 
-    pub deleting_fails : ((rows : List Row) → AreUnique tree (edited trees (deleting rows))) → FailsOnly (λ _. ⊥) sql params old new
+    pub deleting_fails : ((rows : List Row) → AreUnique tree (edited trees (deleting rows))) → FailsOnly (λ _. ⊥ × (⊤ → ⊥)) sql params old new
     deleting_fails unique (Ok count) ran = tt
     deleting_fails unique (Err e) ran = elim (deleting_ends e ran) [
       | inl fault ↦ inl fault

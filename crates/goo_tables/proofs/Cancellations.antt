@@ -33,7 +33,8 @@ use Rattle.std.proofs.lemmas.Iterator.Adapters.{option_map_id}
 use Rattle.std.proofs.lemmas.Bool.{lt-ltb}
 use Rattle.sqlite_keyed.specs.Keyed.{get_by}
 use Rattle.sqlite_keyed.proofs.ListLemmas.{all_of}
-use Rattle.goo_columns.specs.Refused.{IsTooBig}
+use Rattle.goo_columns.proofs.Stored.{cancellation_stored}
+use Rattle.goo_columns.specs.Refused.{IsTooBig, IsSmall}
 use Rattle.goo_tables.proofs.Adding.{Adds, adds_row}
 use Rattle.goo_tables.proofs.Failing.{FailsOnly, not_there, adding_fails}
 use Rattle.goo_tables.proofs.AnyTable.{TableOf, shown, shows_each, finds_one, IsListed, meets_listed}
@@ -79,11 +80,11 @@ inserts_row old new t x r it =
     (λ schema others. cancellations_stand old.now new.now t it schema others _) r
 
 pub inserting_fails : (old new : State) (t : Tables) (x : Cancellation) → x.number < 2 ^ 63 → Stands old.now t → IsLive old → old.step_limit ≡ None → get_by cancellation_key t.cancellations (pos x.number) ≡ None
-    → FailsOnly IsTooBig insert_text (cancellation_columns x) old new
+    → FailsOnly (λ e. IsTooBig e × (IsSmall (cancellation_row x) → ⊥)) insert_text (cancellation_columns x) old new
 inserting_fails old new t x small it live unlimited free =
     adding_fails insert_adds refl (λ _ _. refl) (cancellation_columns x) refl refl old new it.schema unlimited live (cancellation_row x) (simp (cast_null, cast_int) refl)
     (λ _. record { typed = refl; present = refl; checked = refl; free = not_there cancellation_row cancellation_key (λ _. refl) (old.now.trees 15) t.cancellations x it.cancellations.are free; unique = all_of _ (λ _. refl) _; keyed = refl })
-    (lt-ltb _ _ small)
+    (cancellation_stored x) (lt-ltb _ _ small)
 
 -- ---- cancellation: the row with a key
 

@@ -33,7 +33,8 @@ use Rattle.std.specs.Prelude.{⊤}
 use Rattle.std.proofs.lemmas.Iterator.Adapters.{option_map_id}
 use Rattle.std.proofs.lemmas.Bool.{lt-ltb}
 use Rattle.sqlite_keyed.specs.Keyed.{get_by}
-use Rattle.goo_columns.specs.Refused.{IsTooBig}
+use Rattle.goo_columns.proofs.Stored.{declaration_stored}
+use Rattle.goo_columns.specs.Refused.{IsTooBig, IsSmall}
 use Rattle.goo_columns.proofs.Distinct.{same_text, two_apart}
 use Rattle.goo_tables.proofs.Failing.{FailsOnly, distinct_fails}
 use Rattle.goo_tables.proofs.Adding.{Adds, adds_row}
@@ -80,11 +81,11 @@ inserts_row old new t x r it =
     (λ schema others. declarations_stand old.now new.now t it schema others _) r
 
 pub inserting_fails : (old new : State) (t : Tables) (x : Declaration) → x.id < 2 ^ 63 → Stands old.now t → IsLive old → old.step_limit ≡ None → get_by declaration_key t.declarations (pos x.id) ≡ None → find (λ (y : Declaration). bytes_eq y.device x.device && bytes_eq y.first_day x.first_day) t.declarations ≡ None
-    → FailsOnly IsTooBig insert_text (declaration_columns x) old new
+    → FailsOnly (λ e. IsTooBig e × (IsSmall (declaration_row x) → ⊥)) insert_text (declaration_columns x) old new
 inserting_fails old new t x small it live unlimited free unmet =
     distinct_fails insert_adds refl (λ _ _. refl) (declaration_columns x) refl refl old new it.schema unlimited live (2 ∷ 3 ∷ []) (λ _ _. refl) declaration_row declaration_key (λ _. refl) t.declarations it.declarations (λ (y : Declaration). bytes_eq y.device x.device && bytes_eq y.first_day x.first_day) unmet
     x (simp (cast_null, cast_int) refl) (λ z h. ap₂ (λ a b. a && (b && true)) (same_text z.device x.device) (same_text z.first_day x.first_day) ∙ two_apart _ _ h)
-    (record { typed = refl; present = refl; checked = refl; keyed = refl }) (ap is_some free) (lt-ltb _ _ small)
+    (record { typed = refl; present = refl; checked = refl; keyed = refl }) (ap is_some free) (declaration_stored x) (lt-ltb _ _ small)
 
 -- ---- declaration: the row with a key
 

@@ -1,5 +1,6 @@
 -- What the statements on `device` do and show.
-use Rattle.std.proofs.Common.{◌≡◌, ℕ, pos, filter, List, [], ◌∷◌, map, find, codes, false, Option, option_map, Ok, Err, Result, OnOk, refl, ◌∙◌, None, true, ◌&&◌, ap, ℤ, Some, Bool, not, sym, subst, IsTrue, arith, true≢false}
+use Rattle.std.proofs.lemmas.List.Elements.{recursion_from_All}
+use Rattle.std.proofs.Common.{All, ◌≡◌, ℕ, pos, filter, List, [], ◌∷◌, map, find, codes, false, Option, option_map, Ok, Err, Result, OnOk, refl, ◌∙◌, None, true, ◌&&◌, ap, ℤ, Some, Bool, not, sym, subst, IsTrue, arith, true≢false}
 use Rattle.std.specs.List.{AllZip, AllByRecursion}
 use Rattle.std.specs.Ordering.{is_eq}
 use Rattle.std.proofs.lemmas.Int.{ints}
@@ -42,9 +43,12 @@ use Rattle.goo_columns.proofs.Meeting.{type_rules, shape_rules, no_number}
 use Rattle.std.specs.Prelude.{⊤}
 use Rattle.sqlite_keyed.specs.Keyed.{next_key}
 use Rattle.sqlite_keyed.proofs.KeyedLemmas.{next_key_is_free}
-use Rattle.goo_columns.specs.Refused.{IsTooBigOrFull, is_suited}
+use Rattle.goo_columns.proofs.Stored.{device_stored}
+use Rattle.goo_columns.specs.Refused.{IsTooBigOrFull, IsSmall, CanBeKept, HasRoomFor, is_suited}
 use Rattle.goo_columns.proofs.Distinct.{same_text, one_apart, stays_apart, fewer_unique}
-use Rattle.sqlite.specs.Tree.{Trees, has_rowid, without_rowid}
+use Rattle.sqlite.specs.Tree.{Trees, rowid, has_rowid, without_rowid}
+use Rattle.sqlite.specs.Edit.{id_in}
+use Rattle.sqlite.specs.Ops.{fits_i64}
 use Rattle.sqlite_typing.specs.Types.{accepts_terms}
 use Rattle.sqlite_schema.specs.declared.schema.Constraint.TheVariants.{Datatype}
 use Rattle.sqlite_schema.specs.Rules.{passes, agree}
@@ -53,10 +57,10 @@ use Rattle.sqlite.specs.Effect.{Answers}
 use Rattle.sqlite_value.specs.Keys.{plain}
 use Rattle.sqlite_value.specs.Order.{value_cmp}
 use Rattle.sqlite_value.proofs.OrderLemmas.{value_cmp-Int}
-use Rattle.sqlite_keyed.proofs.ListLemmas.{all_both, all-filter, all_kept, all_map, all-slice_get, filter-map}
+use Rattle.sqlite_keyed.proofs.ListLemmas.{all_both, all_weaker, all-filter, all_kept, all_map, all-slice_get, filter-map}
 use Rattle.goo_columns.proofs.Failing.{whole_query}
 use Rattle.goo_columns.proofs.Obeying.{AreUnique}
-use Rattle.goo_tables.proofs.Altering.{updating_kept_fails, update_obeys, kept_pass}
+use Rattle.goo_tables.proofs.Altering.{updating_kept_fails, update_obeys, update_stored, update_kept, kept_pass}
 use Rattle.goo_tables.proofs.Failing.{FailsOnly, rules_hold, distinct_kept_fails, next_row}
 use Rattle.goo_tables.proofs.Adding.{Adds, adds_kept}
 use Rattle.goo_tables.proofs.AnyTable.{TableOf, shown, shows_each, finds_one, IsKept, meets_kept}
@@ -108,11 +112,11 @@ insert_typed : (db : Trees) (n : ℤ) (x : Device) → passes Datatype registry_
 insert_typed db n x = elim x.last_day as (λ o. passes Datatype registry_schema db device (device_row (n, (record x { last_day = o }))) ≡ true) [ None ↦ refl | Some day ↦ refl ]
 
 pub inserting_fails : (old new : State) (t : Tables) (x : Device) → Stands old.now t → IsLive old → old.step_limit ≡ None → find (λ (k : Kept Device). bytes_eq k.1.gsrn x.gsrn) t.devices ≡ None
-    → FailsOnly IsTooBigOrFull insert_text (device_columns x) old new
+    → FailsOnly (λ e. IsTooBigOrFull e × (HasRoomFor device_row t.devices x → ⊥)) insert_text (device_columns x) old new
 inserting_fails old new t x it live unlimited unmet =
     distinct_kept_fails insert_adds refl (λ _ _. refl) (device_columns x) refl (insert_fits x) old new it.schema unlimited live (1 ∷ []) (λ _ _. refl) device_row kept_key (λ _. refl) t.devices it.devices (λ (k : Kept Device). bytes_eq k.1.gsrn x.gsrn) unmet
     (next_key kept_key t.devices, x) (simp (cast_null, cast_int, cast_maybe) refl ∙ next_row device_columns (old.now.trees 4) t.devices x it.devices.are) (λ z h. ap (λ a. a && true) (same_text z.1.gsrn x.gsrn) ∙ one_apart _ h)
-    (record { typed = insert_typed old.now.trees (next_key kept_key t.devices) x; present = refl; checked = refl; keyed = refl }) (next_key_is_free kept_key t.devices it.devices.rise)
+    (record { typed = insert_typed old.now.trees (next_key kept_key t.devices) x; present = refl; checked = refl; keyed = refl }) (next_key_is_free kept_key t.devices it.devices.rise) (device_stored (next_key kept_key t.devices, x))
 
 -- ---- device: the row with a key
 
@@ -231,7 +235,7 @@ module _ (gsrn last_day : List ℕ) (carry : ℕ) (ks : List (Kept Device)) (x :
       subst (AllByRecursion is_other) (sym (filter-map stays device_row ks)) (all_map is_other device_row left each)
 
 pub progress_fails : (old new : State) (t : Tables) (gsrn last_day : List ℕ) (carry : ℕ) → IsOnce (filter (has_gsrn gsrn) t.devices) → Stands old.now t → IsLive old → old.step_limit ≡ None
-    → FailsOnly IsTooBigOrFull progress_text (progress_params gsrn last_day carry) old new
+    → FailsOnly (λ e. IsTooBigOrFull e × (All (λ k. CanBeKept (device_row (progressed last_day carry k))) (filter (has_gsrn gsrn) t.devices) → ⊥)) progress_text (progress_params gsrn last_day carry) old new
 progress_fails old new t gsrn last_day carry once it live unlimited =
     let keeps = it.devices in
     let p = has_gsrn gsrn in
@@ -245,6 +249,13 @@ progress_fails old new t gsrn last_day carry once it live unlimited =
     (λ x one.
     stays_apart (1 ∷ []) (device_row (f x)) x.0 refl 4 (λ _ _. refl) (without_rowid x.0 (trees 4)) (subst (λ l. AllByRecursion (is_other gsrn last_day carry t.devices x one) (without_rowid x.0 l)) (sym keeps.are) (others gsrn last_day carry t.devices x one))
     (fewer_unique (1 ∷ []) 4 (λ _ _. refl) _ (trees 4) (was is_open))))
+    (All (λ k. CanBeKept (device_row (f k))) (filter p t.devices))
+    (λ room rows answers.
+    update_stored kept_key device_row (λ _. refl) device refl (λ k. simp (cast_int, cast_maybe) refl) p f (λ _. refl) trees t.devices once rows (progress_shown old t gsrn last_day carry once keeps rows answers) (λ k. device_stored (f k))
+    (all_weaker (λ k. CanBeKept (device_row (f k))) (λ k. IsSmall (device_row (f k))) (λ _ h. h.0) _ (recursion_from_All (λ k. CanBeKept (device_row (f k))) (filter p t.devices) room)))
+    (λ room rows answers.
+    update_kept kept_key device_row (λ _. refl) device refl (λ k. simp (cast_int, cast_maybe) refl) p f (λ _. refl) trees t.devices once rows (progress_shown old t gsrn last_day carry once keeps rows answers)
+    (all_weaker (λ k. CanBeKept (device_row (f k))) (λ k. fits_i64 (id_in (rowid (device_row (f k)))) ≡ true) (λ _ h. h.1) _ (recursion_from_All (λ k. CanBeKept (device_row (f k))) (filter p t.devices) room)))
 
 -- ---- device: the whole table, met as it is
 

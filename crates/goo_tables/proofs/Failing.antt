@@ -20,7 +20,8 @@ use Rattle.sqlite.specs.declared.error.Error.TheVariants.{SqliteFailure}
 use Rattle.sqlite.specs.declared.error.ErrorCode.TheVariants.{NoRowid}
 use Rattle.sqlite.specs.State.{State, mode_of, IsLive, ExecutesInside}
 use Rattle.sqlite_rules.specs.Action.{works}
-use Rattle.sqlite_rules.specs.Edit.{is_taken}
+use Rattle.sqlite_rules.specs.Lists.{Has}
+use Rattle.sqlite_rules.specs.Edit.{is_taken, IsOversized}
 use Rattle.sqlite_schema.specs.declared.schema.Column.{Column}
 use Rattle.sqlite_schema.specs.declared.schema.Constraint.TheVariants.{Unique}
 use Rattle.sqlite_schema.specs.declared.schema.Keys.TheVariants.{Enforced}
@@ -34,7 +35,7 @@ use Rattle.sqlite_keyed.specs.Keyed.{get_by, has_key, next_key}
 use Rattle.sqlite_keyed.proofs.ListLemmas.{all_map, all_weaker, all-slice_get}
 use Rattle.sqlite_value.specs.Keys.{plain}
 use Rattle.goo_columns.specs.Columns.{registry_schema, strict_table}
-use Rattle.goo_columns.specs.Refused.{IsFault, IsTooBig, IsTooBigOrFull, is_whole}
+use Rattle.goo_columns.specs.Refused.{IsFault, IsTooBig, IsTooBigOrFull, IsSmall, CanBeKept, is_whole}
 use Rattle.goo_columns.proofs.Failing.{EndsBy, Stops, inserting, inserted, on_rows, failed}
 use Rattle.goo_columns.proofs.Obeying.{Obeys, MayJoin, MayStand, unique_among, AreUnique, no_references, joins, only_for_rowid, have_small_rowids}
 use Rattle.goo_columns.proofs.Distinct.{stays_apart}
@@ -108,7 +109,8 @@ module _ {sql : List ℕ} {terms : List Term} {at width given : ℕ} (adds : Add
   adding_ends =
       failed registry_schema sql params old new has adds.plain (subst (λ n. is_whole (length sql) n (understood registry_schema sql) ≡ true) (sym are_given) adds.whole) (Insert at (Values terms width)) adds.is refl Stopped insert_stops
 
-  module _ (live : IsLive old) (row : Row) (new_row : (inserting registry_schema no_references trees old.step_limit unlimited name tree key_column primary uniques orders columns params childless terms width).news ≡ row ∷ []) (joining : IsTrue old.is_open → MayJoin trees table row) where
+  module _ (live : IsLive old) (row : Row) (new_row : (inserting registry_schema no_references trees old.step_limit unlimited name tree key_column primary uniques orders columns params childless terms width).news ≡ row ∷ []) (joining : IsTrue old.is_open → MayJoin trees table row)
+      (stored : IsSmall row → ¬ IsOversized registry_schema table row) where
     abbrev adding : List Row → Edit
     adding news = record { table = table; gone = []; news = news }
 
@@ -117,29 +119,33 @@ module _ {sql : List ℕ} {terms : List Term} {at width given : ℕ} (adds : Add
         let why = only_for_rowid trees (adding _) (rules_hold old has live is_open) (subst (λ news. Obeys trees (adding news)) (sym new_row) (joins trees table row refl (joining is_open))) h.0 h.2 in
         (h.1 ∙ ap edit_error why.0, subst (λ news. have_small_rowids news ≡ false) new_row why.1)
 
+    too_big : Stopped None → IsSmall row → ⊥
+    too_big h small = elim (subst (λ news. Has news h.0) new_row h.1) [ inl same ↦ stored small (subst (IsOversized registry_schema table) same h.2) | inr none ↦ none ]
+
     -- under a rowid that a column keeps
-    pub adding_fails : fits_i64 (id_in (rowid row)) ≡ true → FailsOnly IsTooBig sql params old new
+    pub adding_fails : fits_i64 (id_in (rowid row)) ≡ true → FailsOnly (λ e. IsTooBig e × (IsSmall row → ⊥)) sql params old new
     adding_fails small (Ok count) ran = tt
     adding_fails small (Err e) ran = elim (adding_ends e ran) [
       | inl fault ↦ inl fault
-      | inr (inl big) ↦ inr big.0
+      | inr (inl big) ↦ inr (big.0, too_big big.1)
       | inr (inr broken) ↦ absurd (true≢false (sym (rw small refl) ∙ (refused e broken.0 broken.1).1))
     ]
 
     -- under the next rowid
-    pub keeping_fails : FailsOnly IsTooBigOrFull sql params old new
+    pub keeping_fails : FailsOnly (λ e. IsTooBigOrFull e × (CanBeKept row → ⊥)) sql params old new
     keeping_fails (Ok count) ran = tt
     keeping_fails (Err e) ran = elim (adding_ends e ran) [
       | inl fault ↦ inl fault
-      | inr (inl big) ↦ inr (inl big.0)
-      | inr (inr broken) ↦ inr (inr (refused e broken.0 broken.1).0)
+      | inr (inl big) ↦ inr (inl big.0, λ room. too_big big.1 room.0)
+      | inr (inr broken) ↦ let why = refused e broken.0 broken.1 in inr (inr why.0, λ room. true≢false (sym (rw room.1 refl) ∙ why.1))
     ]
 
   -- into a table with one unique index, where no row has these values in its columns
   module _ (live : IsLive old) (places : List ℕ) (indexed : (rows : List Row) (r : Row) → unique_among rows tree r ≡ (not (clashes plain places rows r) && true)) {Y : Type 0} (to_row : Y → Row) (key : Y → ℤ)
       (keyed : (y : Y) → rowid (to_row y) ≡ Int (key y)) (ys : List Y) (keeps : Keeps (trees tree) to_row key ys) (p : Y → Bool) (unmet : find p ys ≡ None) where
     module _ (y : Y) (new_row : (inserting registry_schema no_references trees old.step_limit unlimited name tree key_column primary uniques orders columns params childless terms width).news ≡ to_row y ∷ [])
-        (apart : (z : Y) → p z ≡ false → agree plain places (to_row z) places (to_row y) ≡ false) (stands : MayStand trees table (to_row y)) (free : has_key key ys (key y) ≡ false) where
+        (apart : (z : Y) → p z ≡ false → agree plain places (to_row z) places (to_row y) ≡ false) (stands : MayStand trees table (to_row y)) (free : has_key key ys (key y) ≡ false)
+        (stored : IsSmall (to_row y) → ¬ IsOversized registry_schema table (to_row y)) where
       joining : IsTrue old.is_open → MayJoin trees table (to_row y)
       joining is_open = record {
         typed = stands.typed;
@@ -151,11 +157,11 @@ module _ {sql : List ℕ} {terms : List Term} {at width given : ℕ} (adds : Add
         keyed = stands.keyed;
       }
 
-      pub distinct_fails : fits_i64 (key y) ≡ true → FailsOnly IsTooBig sql params old new
-      distinct_fails small = adding_fails live (to_row y) new_row joining (rw (keyed y) small)
+      pub distinct_fails : fits_i64 (key y) ≡ true → FailsOnly (λ e. IsTooBig e × (IsSmall (to_row y) → ⊥)) sql params old new
+      distinct_fails small = adding_fails live (to_row y) new_row joining stored (rw (keyed y) small)
 
-      pub distinct_kept_fails : FailsOnly IsTooBigOrFull sql params old new
-      distinct_kept_fails = keeping_fails live (to_row y) new_row joining
+      pub distinct_kept_fails : FailsOnly (λ e. IsTooBigOrFull e × (CanBeKept (to_row y) → ⊥)) sql params old new
+      distinct_kept_fails = keeping_fails live (to_row y) new_row joining stored
 
 -- the row under the next rowid
 pub next_row : {X : Type 0} (shown : X → Row) (rows : List Row) (ks : List (Kept X)) (x : X) → rows ≡ map (λ (k : Kept X). Int k.0 ∷ shown k.1) ks → (Int (next_rowid rows) ∷ shown x) ∷ [] ≡ (Int (next_key kept_key ks) ∷ shown x) ∷ []

@@ -32,7 +32,8 @@ use Rattle.goo_columns.proofs.Meeting.{type_rules, shape_rules, no_text}
 use Rattle.std.specs.Prelude.{⊤}
 use Rattle.sqlite_keyed.specs.Keyed.{next_key}
 use Rattle.sqlite_keyed.proofs.KeyedLemmas.{next_key_is_free}
-use Rattle.goo_columns.specs.Refused.{IsTooBigOrFull}
+use Rattle.goo_columns.proofs.Stored.{holder_stored}
+use Rattle.goo_columns.specs.Refused.{IsTooBigOrFull, HasRoomFor}
 use Rattle.goo_columns.proofs.Distinct.{same_text, one_apart}
 use Rattle.goo_tables.proofs.Failing.{FailsOnly, distinct_kept_fails, next_row}
 use Rattle.goo_tables.proofs.Adding.{Adds, adds_kept}
@@ -79,11 +80,11 @@ inserts_row old new t x r it =
     (λ schema others. holders_stand old.now new.now t it schema others _) r
 
 pub inserting_fails : (old new : State) (t : Tables) (x : Holder) → Stands old.now t → IsLive old → old.step_limit ≡ None → find (λ (k : Kept Holder). bytes_eq k.1.code x.code) t.holders ≡ None
-    → FailsOnly IsTooBigOrFull insert_text (holder_columns x) old new
+    → FailsOnly (λ e. IsTooBigOrFull e × (HasRoomFor holder_row t.holders x → ⊥)) insert_text (holder_columns x) old new
 inserting_fails old new t x it live unlimited unmet =
     distinct_kept_fails insert_adds refl (λ _ _. refl) (holder_columns x) refl refl old new it.schema unlimited live (1 ∷ []) (λ _ _. refl) holder_row kept_key (λ _. refl) t.holders it.holders (λ (k : Kept Holder). bytes_eq k.1.code x.code) unmet
     (next_key kept_key t.holders, x) (simp (cast_null) refl ∙ next_row holder_columns (old.now.trees 1) t.holders x it.holders.are) (λ z h. ap (λ a. a && true) (same_text z.1.code x.code) ∙ one_apart _ h)
-    (record { typed = refl; present = refl; checked = refl; keyed = refl }) (next_key_is_free kept_key t.holders it.holders.rise)
+    (record { typed = refl; present = refl; checked = refl; keyed = refl }) (next_key_is_free kept_key t.holders it.holders.rise) (holder_stored (next_key kept_key t.holders, x))
 
 -- ---- holder: the row with a key
 

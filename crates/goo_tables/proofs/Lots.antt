@@ -33,7 +33,8 @@ use Rattle.std.specs.Prelude.{⊤}
 use Rattle.std.proofs.lemmas.Iterator.Adapters.{option_map_id}
 use Rattle.std.proofs.lemmas.Bool.{lt-ltb}
 use Rattle.sqlite_keyed.specs.Keyed.{get_by}
-use Rattle.goo_columns.specs.Refused.{IsTooBig}
+use Rattle.goo_columns.proofs.Stored.{lot_stored}
+use Rattle.goo_columns.specs.Refused.{IsTooBig, IsSmall}
 use Rattle.goo_columns.proofs.Distinct.{same_text, same_number, three_apart}
 use Rattle.sqlite.specs.Tree.{Trees}
 use Rattle.sqlite_typing.specs.Types.{accepts_terms}
@@ -90,11 +91,11 @@ insert_typed : (db : Trees) (x : Lot) → passes Datatype registry_schema db lot
 insert_typed db x = elim x.expires_on as (λ o. passes Datatype registry_schema db lot (lot_row (record x { expires_on = o })) ≡ true) [ None ↦ refl | Some day ↦ refl ]
 
 pub inserting_fails : (old new : State) (t : Tables) (x : Lot) → x.id < 2 ^ 63 → Stands old.now t → IsLive old → old.step_limit ≡ None → get_by lot_key t.lots (pos x.id) ≡ None → find (λ (y : Lot). int_eq (pos y.origin) (pos x.origin) && (bytes_eq y.device x.device && bytes_eq y.first_day x.first_day)) t.lots ≡ None
-    → FailsOnly IsTooBig insert_text (lot_columns x) old new
+    → FailsOnly (λ e. IsTooBig e × (IsSmall (lot_row x) → ⊥)) insert_text (lot_columns x) old new
 inserting_fails old new t x small it live unlimited free unmet =
     distinct_fails insert_adds refl (λ _ _. refl) (lot_columns x) refl (insert_fits x) old new it.schema unlimited live (2 ∷ 3 ∷ 11 ∷ []) (λ _ _. refl) lot_row lot_key (λ _. refl) t.lots it.lots (λ (y : Lot). int_eq (pos y.origin) (pos x.origin) && (bytes_eq y.device x.device && bytes_eq y.first_day x.first_day)) unmet
     x (simp (cast_null, cast_int, cast_maybe) refl) (λ z h. (λ i. (same_number (pos z.origin) (pos x.origin)) i && ((same_text z.device x.device) i && ((same_text z.first_day x.first_day) i && true))) ∙ three_apart (int_eq (pos z.origin) (pos x.origin)) (bytes_eq z.device x.device) (bytes_eq z.first_day x.first_day) h)
-    (record { typed = insert_typed old.now.trees x; present = refl; checked = refl; keyed = refl }) (ap is_some free) (lt-ltb _ _ small)
+    (record { typed = insert_typed old.now.trees x; present = refl; checked = refl; keyed = refl }) (ap is_some free) (lot_stored x) (lt-ltb _ _ small)
 
 -- ---- lot: the row with a key
 

@@ -41,11 +41,12 @@ use Rattle.goo_tables.specs.declared.counters.Counters.{Counters}
 use Rattle.goo_tables.proofs.Queries.{in_order, unordered}
 use Rattle.std.specs.Prelude.{⊤}
 use Rattle.sqlite_keyed.proofs.ListLemmas.{all_of}
-use Rattle.goo_columns.specs.Refused.{IsTooBig, is_suited}
+use Rattle.goo_columns.proofs.Stored.{meta_stored}
+use Rattle.goo_columns.specs.Refused.{IsTooBig, IsSmall, is_suited}
 use Rattle.goo_columns.proofs.Obeying.{MayStand}
 use Rattle.goo_tables.proofs.Adding.{Adds}
 use Rattle.goo_tables.proofs.Failing.{FailsOnly, not_there, adding_fails}
-use Rattle.goo_tables.proofs.Altering.{updating_fails, update_obeys, update_small}
+use Rattle.goo_tables.proofs.Altering.{updating_fails, update_obeys, update_small, update_stored}
 use Rattle.goo_tables.proofs.AnyTable.{TableOf, finds_one, readable_among, shown, shows_each, IsListed, meets_listed}
 use Rattle.goo_tables.proofs.Asking.{Asks, Says, Tells}
 use Rattle.goo_tables.proofs.Values.{whole_is, null_at_key}
@@ -99,11 +100,11 @@ insert_adds = record { is = refl; plain = (refl, refl); whole = refl }
 pub insert_live : KeepsLive insert_text
 insert_live = keeps_live insert_text _ insert_adds.is insert_adds.plain refl
 
-pub inserting_fails : (old new : State) (m : Meta) → IsBare old.now → IsLive old → old.step_limit ≡ None → FailsOnly IsTooBig insert_text (meta_columns m) old new
+pub inserting_fails : (old new : State) (m : Meta) → IsBare old.now → IsLive old → old.step_limit ≡ None → FailsOnly (λ e. IsTooBig e × (IsSmall (meta_row m) → ⊥)) insert_text (meta_columns m) old new
 inserting_fails old new m it live unlimited =
     adding_fails insert_adds refl (λ _ _. refl) (meta_columns m) refl refl old new it.schema unlimited live (meta_row m) (simp (cast_null, cast_int) refl)
     (λ _. record { typed = refl; present = refl; checked = refl; free = not_there meta_row meta_key (λ _. refl) (old.now.trees 0) [] m it.meta refl; unique = all_of _ (λ _. refl) _; keyed = refl })
-    refl
+    (meta_stored m) refl
 
 -- ---- the row is read
 
@@ -145,11 +146,14 @@ module _ (sql : List ℕ) (params : Row) (project : List Term) (f : Meta → Met
 
   -- and why that fails
   pub changing_fails : is_suited registry_schema sql (unordered 0 at_one project) params ≡ true → ((m : Meta) → MayStand old.now.trees meta (meta_row (f m))) → ((m : Meta) → meta_key (f m) ≡ meta_key m) → IsLive old → old.step_limit ≡ None
-      → FailsOnly IsTooBig sql params old new
+      → FailsOnly (λ e. IsTooBig e × (IsSmall (meta_row (f t.meta)) → ⊥)) sql params old new
   changing_fails suits stands keeps live unlimited =
       updating_fails sql 0 (unordered 0 at_one project) refl (λ _ _. refl) plain params suits old new it.schema unlimited live is
       (λ _ rows answers.
       update_obeys meta_key meta_row (λ _. refl) meta refl (λ m. simp (cast_null, cast_int) refl) (λ _. true) f keeps old.now.trees (t.meta ∷ []) (inr (t.meta, refl)) rows (shows old t rows it (answers.answer Null)) stands (all_of _ (λ _. refl) _) (λ _ _. all_of _ (λ _. refl) _))
+      (IsSmall (meta_row (f t.meta)))
+      (λ room rows answers.
+      update_stored meta_key meta_row (λ _. refl) meta refl (λ m. simp (cast_null, cast_int) refl) (λ _. true) f keeps old.now.trees (t.meta ∷ []) (inr (t.meta, refl)) rows (shows old t rows it (answers.answer Null)) (λ m. meta_stored (f m)) (room, tt))
       (λ rows answers.
       update_small meta_key meta_row (λ _. refl) meta refl (λ m. simp (cast_null, cast_int) refl) (λ _. true) f keeps old.now.trees (t.meta ∷ []) (inr (t.meta, refl)) rows (shows old t rows it (answers.answer Null)) (λ _ _. refl))
 
@@ -186,7 +190,7 @@ today_suits : (today : List ℕ) → is_suited registry_schema today_text (unord
 unfolding understood everything
 today_suits today = refl
 
-pub today_fails : (old new : State) (t : Tables) (today : List ℕ) → Stands old.now t → IsLive old → old.step_limit ≡ None → FailsOnly IsTooBig today_text (Text today ∷ []) old new
+pub today_fails : (old new : State) (t : Tables) (today : List ℕ) → Stands old.now t → IsLive old → old.step_limit ≡ None → FailsOnly (λ e. IsTooBig e × (IsSmall (meta_row (at_day t today).meta) → ⊥)) today_text (Text today ∷ []) old new
 today_fails old new t today it =
     changing_fails today_text (Text today ∷ []) today_terms (λ m. record m { today = today }) today_is today_plain (today_shows today) old new t it (today_suits today)
     (λ m. record { typed = refl; present = refl; checked = refl; keyed = refl }) (λ _. refl)
@@ -236,7 +240,7 @@ counters_suits : (c : Counters) → is_suited registry_schema counters_text (uno
 unfolding understood everything
 counters_suits c = refl
 
-pub counters_fails : (old new : State) (t : Tables) (c : Counters) → Stands old.now t → IsLive old → old.step_limit ≡ None → FailsOnly IsTooBig counters_text (counters_params c) old new
+pub counters_fails : (old new : State) (t : Tables) (c : Counters) → Stands old.now t → IsLive old → old.step_limit ≡ None → FailsOnly (λ e. IsTooBig e × (IsSmall (meta_row (with_counters t c).meta) → ⊥)) counters_text (counters_params c) old new
 counters_fails old new t c it =
     changing_fails counters_text (counters_params c) counters_terms (counted c) counters_is counters_plain (counters_shows c) old new t it (counters_suits c)
     (λ m. record { typed = refl; present = refl; checked = refl; keyed = refl }) (λ _. refl)

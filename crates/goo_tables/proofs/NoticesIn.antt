@@ -32,7 +32,8 @@ use Rattle.std.proofs.lemmas.Bool.{and_parts}
 use Rattle.std.specs.Prelude.{⊤}
 use Rattle.sqlite_keyed.specs.Keyed.{next_key}
 use Rattle.sqlite_keyed.proofs.KeyedLemmas.{next_key_is_free}
-use Rattle.goo_columns.specs.Refused.{IsTooBigOrFull}
+use Rattle.goo_columns.proofs.Stored.{notice_in_stored}
+use Rattle.goo_columns.specs.Refused.{IsTooBigOrFull, HasRoomFor}
 use Rattle.goo_columns.proofs.Distinct.{same_number, two_apart}
 use Rattle.goo_tables.proofs.Failing.{FailsOnly, distinct_kept_fails, next_row}
 use Rattle.goo_tables.proofs.Adding.{Adds, adds_kept}
@@ -79,11 +80,11 @@ inserts_row old new t x r it =
     (λ schema others. notices_in_stand old.now new.now t it schema others _) r
 
 pub inserting_fails : (old new : State) (t : Tables) (x : NoticeIn) → Stands old.now t → IsLive old → old.step_limit ≡ None → find (λ (k : Kept NoticeIn). int_eq (pos k.1.sender) (pos x.sender) && int_eq (pos k.1.number) (pos x.number)) t.notices_in ≡ None
-    → FailsOnly IsTooBigOrFull insert_text (notice_in_columns x) old new
+    → FailsOnly (λ e. IsTooBigOrFull e × (HasRoomFor notice_in_row t.notices_in x → ⊥)) insert_text (notice_in_columns x) old new
 inserting_fails old new t x it live unlimited unmet =
     distinct_kept_fails insert_adds refl (λ _ _. refl) (notice_in_columns x) refl refl old new it.schema unlimited live (1 ∷ 2 ∷ []) (λ _ _. refl) notice_in_row kept_key (λ _. refl) t.notices_in it.notices_in (λ (k : Kept NoticeIn). int_eq (pos k.1.sender) (pos x.sender) && int_eq (pos k.1.number) (pos x.number)) unmet
     (next_key kept_key t.notices_in, x) (simp (cast_null, cast_int) refl ∙ next_row notice_in_columns (old.now.trees 18) t.notices_in x it.notices_in.are) (λ z h. ap₂ (λ a b. a && (b && true)) (same_number (pos z.1.sender) (pos x.sender)) (same_number (pos z.1.number) (pos x.number)) ∙ two_apart _ _ h)
-    (record { typed = refl; present = refl; checked = refl; keyed = refl }) (next_key_is_free kept_key t.notices_in it.notices_in.rise)
+    (record { typed = refl; present = refl; checked = refl; keyed = refl }) (next_key_is_free kept_key t.notices_in it.notices_in.rise) (notice_in_stored (next_key kept_key t.notices_in, x))
 
 -- ---- notice_in: the row with a key
 

@@ -32,7 +32,8 @@ use Rattle.goo_columns.proofs.Meeting.{type_rules, shape_rules, no_number}
 use Rattle.std.specs.Prelude.{⊤}
 use Rattle.sqlite_keyed.specs.Keyed.{next_key}
 use Rattle.sqlite_keyed.proofs.KeyedLemmas.{next_key_is_free}
-use Rattle.goo_columns.specs.Refused.{IsTooBigOrFull}
+use Rattle.goo_columns.proofs.Stored.{peer_stored}
+use Rattle.goo_columns.specs.Refused.{IsTooBigOrFull, HasRoomFor}
 use Rattle.goo_columns.proofs.Distinct.{same_number, one_apart}
 use Rattle.goo_tables.proofs.Failing.{FailsOnly, distinct_kept_fails, next_row}
 use Rattle.goo_tables.proofs.Adding.{Adds, adds_kept}
@@ -79,11 +80,11 @@ inserts_row old new t x r it =
     (λ schema others. peers_stand old.now new.now t it schema others _) r
 
 pub inserting_fails : (old new : State) (t : Tables) (x : PeerRow) → Stands old.now t → IsLive old → old.step_limit ≡ None → find (λ (k : Kept PeerRow). int_eq (pos k.1.code) (pos x.code)) t.peers ≡ None
-    → FailsOnly IsTooBigOrFull insert_text (peer_columns x) old new
+    → FailsOnly (λ e. IsTooBigOrFull e × (HasRoomFor peer_row t.peers x → ⊥)) insert_text (peer_columns x) old new
 inserting_fails old new t x it live unlimited unmet =
     distinct_kept_fails insert_adds refl (λ _ _. refl) (peer_columns x) refl refl old new it.schema unlimited live (1 ∷ []) (λ _ _. refl) peer_row kept_key (λ _. refl) t.peers it.peers (λ (k : Kept PeerRow). int_eq (pos k.1.code) (pos x.code)) unmet
     (next_key kept_key t.peers, x) (simp (cast_null, cast_int) refl ∙ next_row peer_columns (old.now.trees 11) t.peers x it.peers.are) (λ z h. ap (λ a. a && true) (same_number (pos z.1.code) (pos x.code)) ∙ one_apart _ h)
-    (record { typed = refl; present = refl; checked = refl; keyed = refl }) (next_key_is_free kept_key t.peers it.peers.rise)
+    (record { typed = refl; present = refl; checked = refl; keyed = refl }) (next_key_is_free kept_key t.peers it.peers.rise) (peer_stored (next_key kept_key t.peers, x))
 
 -- ---- peer: the row with a key
 

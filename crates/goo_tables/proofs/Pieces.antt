@@ -44,7 +44,8 @@ use Rattle.std.specs.Prelude.{⊤}
 use Rattle.std.proofs.lemmas.Bool.{lt-ltb}
 use Rattle.sqlite_keyed.specs.Keyed.{get_by}
 use Rattle.sqlite_keyed.proofs.ListLemmas.{all_of}
-use Rattle.goo_columns.specs.Refused.{IsTooBig, is_suited}
+use Rattle.goo_columns.proofs.Stored.{piece_stored}
+use Rattle.goo_columns.specs.Refused.{IsTooBig, IsSmall, is_suited}
 use Rattle.goo_tables.proofs.Adding.{Adds, adds_row}
 use Rattle.goo_tables.proofs.Altering as any
 use Rattle.goo_tables.proofs.Failing.{FailsOnly, not_there, adding_fails}
@@ -91,11 +92,11 @@ inserts_row old new t x r it =
     (λ schema others. pieces_stand old.now new.now t it schema others _) r
 
 pub inserting_fails : (old new : State) (t : Tables) (x : PieceRow) → x.first < 2 ^ 63 → Stands old.now t → IsLive old → old.step_limit ≡ None → get_by piece_key t.pieces (pos x.first) ≡ None
-    → FailsOnly IsTooBig insert_text (piece_columns x) old new
+    → FailsOnly (λ e. IsTooBig e × (IsSmall (piece_row x) → ⊥)) insert_text (piece_columns x) old new
 inserting_fails old new t x small it live unlimited free =
     adding_fails insert_adds refl (λ _ _. refl) (piece_columns x) refl refl old new it.schema unlimited live (piece_row x) (simp (cast_null, cast_int) refl)
     (λ _. record { typed = refl; present = refl; checked = refl; free = not_there piece_row piece_key (λ _. refl) (old.now.trees 10) t.pieces x it.pieces.are free; unique = all_of _ (λ _. refl) _; keyed = refl })
-    (lt-ltb _ _ small)
+    (piece_stored x) (lt-ltb _ _ small)
 
 -- ---- piece: a row is taken out
 
@@ -136,7 +137,7 @@ delete_suits : (first : ℕ) → is_suited registry_schema delete_text delete_qu
 unfolding understood everything
 delete_suits first = refl
 
-pub deleting_fails : (old new : State) (t : Tables) (first : ℕ) → Stands old.now t → IsLive old → old.step_limit ≡ None → FailsOnly (λ _. ⊥) delete_text (Int (pos first) ∷ []) old new
+pub deleting_fails : (old new : State) (t : Tables) (first : ℕ) → Stands old.now t → IsLive old → old.step_limit ≡ None → FailsOnly (λ _. ⊥ × (⊤ → ⊥)) delete_text (Int (pos first) ∷ []) old new
 deleting_fails old new t first it live unlimited =
     any.deleting_fails delete_text 6 delete_query refl (λ _ _. refl) delete_plain (Int (pos first) ∷ []) (delete_suits first) old new it.schema unlimited live delete_is (λ _. all_of _ (λ _. refl) _)
 

@@ -33,7 +33,8 @@ use Rattle.std.proofs.lemmas.Bool.{and_parts}
 use Rattle.std.specs.Prelude.{⊤}
 use Rattle.sqlite_keyed.specs.Keyed.{next_key}
 use Rattle.sqlite_keyed.proofs.KeyedLemmas.{next_key_is_free}
-use Rattle.goo_columns.specs.Refused.{IsTooBigOrFull}
+use Rattle.goo_columns.proofs.Stored.{receipt_stored}
+use Rattle.goo_columns.specs.Refused.{IsTooBigOrFull, HasRoomFor}
 use Rattle.goo_columns.proofs.Distinct.{same_text, two_apart}
 use Rattle.goo_tables.proofs.Failing.{FailsOnly, distinct_kept_fails, next_row}
 use Rattle.goo_tables.proofs.Adding.{Adds, adds_kept}
@@ -80,11 +81,11 @@ inserts_row old new t x r it =
     (λ schema others. receipts_stand old.now new.now t it schema others _) r
 
 pub inserting_fails : (old new : State) (t : Tables) (x : Receipt) → Stands old.now t → IsLive old → old.step_limit ≡ None → find (λ (k : Kept Receipt). bytes_eq k.1.caller x.caller && bytes_eq k.1.key x.key) t.receipts ≡ None
-    → FailsOnly IsTooBigOrFull insert_text (receipt_columns x) old new
+    → FailsOnly (λ e. IsTooBigOrFull e × (HasRoomFor receipt_row t.receipts x → ⊥)) insert_text (receipt_columns x) old new
 inserting_fails old new t x it live unlimited unmet =
     distinct_kept_fails insert_adds refl (λ _ _. refl) (receipt_columns x) refl refl old new it.schema unlimited live (1 ∷ 2 ∷ []) (λ _ _. refl) receipt_row kept_key (λ _. refl) t.receipts it.receipts (λ (k : Kept Receipt). bytes_eq k.1.caller x.caller && bytes_eq k.1.key x.key) unmet
     (next_key kept_key t.receipts, x) (simp (cast_null, cast_int) refl ∙ next_row receipt_columns (old.now.trees 13) t.receipts x it.receipts.are) (λ z h. ap₂ (λ a b. a && (b && true)) (same_text z.1.caller x.caller) (same_text z.1.key x.key) ∙ two_apart _ _ h)
-    (record { typed = refl; present = refl; checked = refl; keyed = refl }) (next_key_is_free kept_key t.receipts it.receipts.rise)
+    (record { typed = refl; present = refl; checked = refl; keyed = refl }) (next_key_is_free kept_key t.receipts it.receipts.rise) (receipt_stored (next_key kept_key t.receipts, x))
 
 -- ---- receipt: the row with a key
 

@@ -1,12 +1,13 @@
 //! The statements on `account`.
 
-ghost use Rattle.std.specs.Prelude.{◌≡◌, ⊤, None, false, pos, map, IfOk, OnOk, option_map, All};
+ghost use Rattle.std.specs.Prelude.{◌≡◌, ⊤, None, false, pos, map, filter, IfOk, OnOk, option_map, All};
+ghost use Rattle.std.specs.Ordering.{int_eq};
 ghost use Rattle.sqlite.specs.State.{HasCleanDisk, KeepsCommit, Survives};
 ghost use Rattle.sqlite.specs.Held.{state};
 ghost use Rattle.sqlite_keyed.specs.Keyed.{get_by};
 ghost use Rattle.goo_columns.specs.Rows.{Tables, account_in, account_key, account_row, account_columns};
 ghost use Rattle.goo_columns.specs.Readable.{account_readable};
-ghost use Rattle.goo_columns.specs.Refused.{FailsByFault, FailsOnlyByFault, ChangeFailsBy, IsTooBig};
+ghost use Rattle.goo_columns.specs.Refused.{FailsByFault, FailsOnlyByFault, ChangeFailsBy, IsTooBig, IsSmall};
 ghost use Rattle.goo_columns.specs.Lives.{LeavesLive};
 ghost use Rattle.goo_columns.specs.Stands.{Sees, Looks, Keeps};
 ghost use Rattle.goo_columns.specs.Met.{HasOurTables};
@@ -27,7 +28,7 @@ pub fn insert_account<S: Alter>(
     ensures same_reference { tx.new.conn.ghost_name ≡ tx.old.conn.ghost_name }
     ensures changed { HasCleanDisk (state S.Store tx.new.conn.now) → (t : Tables) → Sees (state S.Store tx.old.conn.now) t
         → OnOk result (Sees (state S.Store tx.new.conn.now) (with_account t (account_in account.now))) }
-    ensures refused { ChangeFailsBy IsTooBig (state S.Store tx.old.conn.now) (state S.Store tx.new.conn.now) result (λ t. get_by account_key t.accounts (pos account.now.number) ≡ None) }
+    ensures refused { ChangeFailsBy IsTooBig (λ _. IsSmall (account_row (account_in account.now))) (state S.Store tx.old.conn.now) (state S.Store tx.new.conn.now) result (λ t. get_by account_key t.accounts (pos account.now.number) ≡ None) }
     ensures live { LeavesLive (state S.Store tx.old.conn.now) (state S.Store tx.new.conn.now) result }
     ensures uncommitted { HasCleanDisk (state S.Store tx.new.conn.now) → KeepsCommit (state S.Store tx.old.conn.now) (state S.Store tx.new.conn.now) }
     ensures survives { Survives (state S.Store tx.old.conn.now) (state S.Store tx.new.conn.now) (λ _. ⊥) }
@@ -48,7 +49,7 @@ pub fn close_account<S: Alter>(tx: &mut Transaction<'_, S>, number: u32) -> Resu
     ensures same_reference { tx.new.conn.ghost_name ≡ tx.old.conn.ghost_name }
     ensures changed { HasCleanDisk (state S.Store tx.new.conn.now) → (t : Tables) → Sees (state S.Store tx.old.conn.now) t
         → OnOk result (Sees (state S.Store tx.new.conn.now) (with_closed t number)) }
-    ensures refused { ChangeFailsBy IsTooBig (state S.Store tx.old.conn.now) (state S.Store tx.new.conn.now) result (λ _. ⊤) }
+    ensures refused { ChangeFailsBy IsTooBig (λ t. All (λ a. IsSmall (account_row (record a { closed = 1 }))) (filter (λ a. int_eq (account_key a) (pos number)) t.accounts)) (state S.Store tx.old.conn.now) (state S.Store tx.new.conn.now) result (λ _. ⊤) }
     ensures live { LeavesLive (state S.Store tx.old.conn.now) (state S.Store tx.new.conn.now) result }
     ensures uncommitted { HasCleanDisk (state S.Store tx.new.conn.now) → KeepsCommit (state S.Store tx.old.conn.now) (state S.Store tx.new.conn.now) }
     ensures survives { Survives (state S.Store tx.old.conn.now) (state S.Store tx.new.conn.now) (λ _. ⊥) }

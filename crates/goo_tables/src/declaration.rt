@@ -7,7 +7,7 @@ ghost use Rattle.sqlite_typed.specs.Tests.{bytes_eq};
 ghost use Rattle.sqlite_keyed.specs.Keyed.{get_by};
 ghost use Rattle.goo_columns.specs.Rows.{Tables, declaration_in, declaration_row, declaration_key, declaration_columns};
 ghost use Rattle.goo_columns.specs.Readable.{declaration_readable};
-ghost use Rattle.goo_columns.specs.Refused.{FailsByFault, FailsOnlyByFault, ChangeFailsBy, IsTooBig};
+ghost use Rattle.goo_columns.specs.Refused.{FailsByFault, FailsOnlyByFault, ChangeFailsBy, IsTooBig, IsSmall};
 ghost use Rattle.goo_columns.specs.Lives.{LeavesLive};
 ghost use Rattle.goo_columns.specs.Stands.{Sees, Looks, Keeps};
 ghost use Rattle.goo_columns.specs.Met.{HasOurTables};
@@ -29,7 +29,7 @@ pub fn insert_declaration<S: Alter>(
     ensures same_reference { tx.new.conn.ghost_name ≡ tx.old.conn.ghost_name }
     ensures changed { HasCleanDisk (state S.Store tx.new.conn.now) → (t : Tables) → Sees (state S.Store tx.old.conn.now) t
         → OnOk result (Sees (state S.Store tx.new.conn.now) (with_declaration t (declaration_in declaration.now))) }
-    ensures refused { ChangeFailsBy IsTooBig (state S.Store tx.old.conn.now) (state S.Store tx.new.conn.now) result
+    ensures refused { ChangeFailsBy IsTooBig (λ _. IsSmall (declaration_row (declaration_in declaration.now))) (state S.Store tx.old.conn.now) (state S.Store tx.new.conn.now) result
         (λ t. (get_by declaration_key t.declarations (pos declaration.now.id) ≡ None) × (find (λ x. bytes_eq x.device (declaration_in declaration.now).device && bytes_eq x.first_day (declaration_in declaration.now).first_day) t.declarations ≡ None)) }
     ensures live { LeavesLive (state S.Store tx.old.conn.now) (state S.Store tx.new.conn.now) result }
     ensures uncommitted { HasCleanDisk (state S.Store tx.new.conn.now) → KeepsCommit (state S.Store tx.old.conn.now) (state S.Store tx.new.conn.now) }

@@ -7,11 +7,11 @@ ghost use Rattle.sqlite_typed.specs.Tests.{bytes_eq};
 ghost use Rattle.goo_columns.specs.Rows.{Tables, device_in, device_row, device_columns};
 ghost use Rattle.goo_columns.specs.Once.{IsOnce};
 ghost use Rattle.goo_columns.specs.Readable.{device_readable};
-ghost use Rattle.goo_columns.specs.Refused.{FailsByFault, FailsOnlyByFault, ChangeFailsBy, IsTooBigOrFull};
+ghost use Rattle.goo_columns.specs.Refused.{FailsByFault, FailsOnlyByFault, ChangeFailsBy, IsTooBigOrFull, CanBeKept, HasRoomFor};
 ghost use Rattle.goo_columns.specs.Lives.{LeavesLive};
 ghost use Rattle.goo_columns.specs.Stands.{Sees, Looks};
 ghost use Rattle.goo_columns.specs.Met.{HasOurTables, KeepsSome};
-ghost use Rattle.goo_tables.specs.Changes.{with_device, with_progress, DeviceFits};
+ghost use Rattle.goo_tables.specs.Changes.{with_device, with_progress, progressed, DeviceFits};
 
 use goo_columns::ask::{ask_all, ask_first};
 use goo_columns::device::DeviceRow;
@@ -29,7 +29,7 @@ pub fn insert_device<S: Alter>(
     ensures same_reference { tx.new.conn.ghost_name ≡ tx.old.conn.ghost_name }
     ensures changed { HasCleanDisk (state S.Store tx.new.conn.now) → (t : Tables) → Sees (state S.Store tx.old.conn.now) t
         → OnOk result (Sees (state S.Store tx.new.conn.now) (with_device t (device_in device.now))) }
-    ensures refused { ChangeFailsBy IsTooBigOrFull (state S.Store tx.old.conn.now) (state S.Store tx.new.conn.now) result
+    ensures refused { ChangeFailsBy IsTooBigOrFull (λ t. HasRoomFor device_row t.devices (device_in device.now)) (state S.Store tx.old.conn.now) (state S.Store tx.new.conn.now) result
         (λ t. find (λ k. bytes_eq k.1.gsrn (device_in device.now).gsrn) t.devices ≡ None) }
     ensures live { LeavesLive (state S.Store tx.old.conn.now) (state S.Store tx.new.conn.now) result }
     ensures uncommitted { HasCleanDisk (state S.Store tx.new.conn.now) → KeepsCommit (state S.Store tx.old.conn.now) (state S.Store tx.new.conn.now) }
@@ -68,7 +68,7 @@ pub fn set_progress<S: Alter>(
     ensures changed { HasCleanDisk (state S.Store tx.new.conn.now) → (t : Tables) → Sees (state S.Store tx.old.conn.now) t
         → IsOnce (filter (λ k. bytes_eq k.1.gsrn gsrn.now) t.devices)
         → OnOk result (Sees (state S.Store tx.new.conn.now) (with_progress t gsrn.now last_day.now carry)) }
-    ensures refused { ChangeFailsBy IsTooBigOrFull (state S.Store tx.old.conn.now) (state S.Store tx.new.conn.now) result (λ t. IsOnce (filter (λ k. bytes_eq k.1.gsrn gsrn.now) t.devices)) }
+    ensures refused { ChangeFailsBy IsTooBigOrFull (λ t. All (λ k. CanBeKept (device_row (progressed last_day.now carry k))) (filter (λ k. bytes_eq k.1.gsrn gsrn.now) t.devices)) (state S.Store tx.old.conn.now) (state S.Store tx.new.conn.now) result (λ t. IsOnce (filter (λ k. bytes_eq k.1.gsrn gsrn.now) t.devices)) }
     ensures live { LeavesLive (state S.Store tx.old.conn.now) (state S.Store tx.new.conn.now) result }
     ensures uncommitted { HasCleanDisk (state S.Store tx.new.conn.now) → KeepsCommit (state S.Store tx.old.conn.now) (state S.Store tx.new.conn.now) }
     ensures survives { Survives (state S.Store tx.old.conn.now) (state S.Store tx.new.conn.now) (λ _. ⊥) }

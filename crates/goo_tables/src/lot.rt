@@ -8,7 +8,7 @@ ghost use Rattle.sqlite_typed.specs.Tests.{bytes_eq};
 ghost use Rattle.sqlite_keyed.specs.Keyed.{get_by};
 ghost use Rattle.goo_columns.specs.Rows.{Tables, lot_in, lot_row, lot_key, lot_columns};
 ghost use Rattle.goo_columns.specs.Readable.{lot_readable};
-ghost use Rattle.goo_columns.specs.Refused.{FailsByFault, FailsOnlyByFault, ChangeFailsBy, IsTooBig};
+ghost use Rattle.goo_columns.specs.Refused.{FailsByFault, FailsOnlyByFault, ChangeFailsBy, IsTooBig, IsSmall};
 ghost use Rattle.goo_columns.specs.Lives.{LeavesLive};
 ghost use Rattle.goo_columns.specs.Stands.{Sees, Looks, Keeps};
 ghost use Rattle.goo_columns.specs.Met.{HasOurTables};
@@ -27,7 +27,7 @@ pub fn insert_lot<S: Alter>(tx: &mut Transaction<'_, S>, lot: &LotRow) -> Result
     ensures same_reference { tx.new.conn.ghost_name ≡ tx.old.conn.ghost_name }
     ensures changed { HasCleanDisk (state S.Store tx.new.conn.now) → (t : Tables) → Sees (state S.Store tx.old.conn.now) t
         → OnOk result (Sees (state S.Store tx.new.conn.now) (with_lot t (lot_in lot.now))) }
-    ensures refused { ChangeFailsBy IsTooBig (state S.Store tx.old.conn.now) (state S.Store tx.new.conn.now) result
+    ensures refused { ChangeFailsBy IsTooBig (λ _. IsSmall (lot_row (lot_in lot.now))) (state S.Store tx.old.conn.now) (state S.Store tx.new.conn.now) result
         (λ t. (get_by lot_key t.lots (pos lot.now.id) ≡ None) × (find (λ x. int_eq (pos x.origin) (pos lot.now.origin) && (bytes_eq x.device (lot_in lot.now).device && bytes_eq x.first_day (lot_in lot.now).first_day)) t.lots ≡ None)) }
     ensures live { LeavesLive (state S.Store tx.old.conn.now) (state S.Store tx.new.conn.now) result }
     ensures uncommitted { HasCleanDisk (state S.Store tx.new.conn.now) → KeepsCommit (state S.Store tx.old.conn.now) (state S.Store tx.new.conn.now) }

@@ -4,9 +4,9 @@ ghost use Rattle.std.specs.Prelude.{◌≡◌, ◌⊎◌, ⊤, None, IfErr, [], 
 ghost use Rattle.sqlite.specs.State.{HasCleanDisk, IsLive, KeepsCommit, Survives};
 ghost use Rattle.sqlite.specs.Held.{state};
 ghost use Rattle.sqlite.specs.declared.types.Value.TheVariants.{Int};
-ghost use Rattle.goo_columns.specs.Rows.{Tables, meta_in, numbered_in, numbered_key, numbered_row, meta_columns};
+ghost use Rattle.goo_columns.specs.Rows.{Tables, meta_in, numbered_in, numbered_key, numbered_row, meta_row, meta_columns};
 ghost use Rattle.goo_columns.specs.Readable.{meta_readable, numbered_meta_readable};
-ghost use Rattle.goo_columns.specs.Refused.{FailsByFault, FailsOnlyByFault, ChangeFailsBy, IsFault, IsTooBig};
+ghost use Rattle.goo_columns.specs.Refused.{FailsByFault, FailsOnlyByFault, ChangeFailsBy, IsFault, IsTooBig, IsSmall};
 ghost use Rattle.goo_columns.specs.Lives.{LeavesLive};
 ghost use Rattle.goo_columns.specs.Stands.{Sees, Looks, IsBare, Keeps};
 ghost use Rattle.goo_columns.specs.Met.{HasOurTables};
@@ -29,7 +29,7 @@ pub fn insert_meta<S: Alter>(tx: &mut Transaction<'_, S>, meta: &MetaRow) -> Res
         → OnOk result (Sees (state S.Store tx.new.conn.now) (begun (meta_in meta.now))) }
     ensures refused { HasCleanDisk (state S.Store tx.new.conn.now) → IsLive (state S.Store tx.old.conn.now) → (state S.Store tx.old.conn.now).step_limit ≡ None
         → IsTrue (state S.Store tx.old.conn.now).in_transaction → IsBare (state S.Store tx.old.conn.now).now
-        → IfErr result (λ e. IsFault (state S.Store tx.old.conn.now) (state S.Store tx.new.conn.now) e ⊎ IsTooBig e) }
+        → IfErr result (λ e. IsFault (state S.Store tx.old.conn.now) (state S.Store tx.new.conn.now) e ⊎ (IsTooBig e × (IsSmall (meta_row (meta_in meta.now)) → ⊥))) }
     ensures live { LeavesLive (state S.Store tx.old.conn.now) (state S.Store tx.new.conn.now) result }
     ensures uncommitted { HasCleanDisk (state S.Store tx.new.conn.now) → KeepsCommit (state S.Store tx.old.conn.now) (state S.Store tx.new.conn.now) }
     ensures survives { Survives (state S.Store tx.old.conn.now) (state S.Store tx.new.conn.now) (λ _. ⊥) }
@@ -73,7 +73,7 @@ pub fn set_today<S: Alter>(tx: &mut Transaction<'_, S>, today: &str) -> Result<u
     ensures same_reference { tx.new.conn.ghost_name ≡ tx.old.conn.ghost_name }
     ensures changed { HasCleanDisk (state S.Store tx.new.conn.now) → (t : Tables) → Sees (state S.Store tx.old.conn.now) t
         → OnOk result (Sees (state S.Store tx.new.conn.now) (at_day t today.now)) }
-    ensures refused { ChangeFailsBy IsTooBig (state S.Store tx.old.conn.now) (state S.Store tx.new.conn.now) result (λ _. ⊤) }
+    ensures refused { ChangeFailsBy IsTooBig (λ t. IsSmall (meta_row (at_day t today.now).meta)) (state S.Store tx.old.conn.now) (state S.Store tx.new.conn.now) result (λ _. ⊤) }
     ensures live { LeavesLive (state S.Store tx.old.conn.now) (state S.Store tx.new.conn.now) result }
     ensures uncommitted { HasCleanDisk (state S.Store tx.new.conn.now) → KeepsCommit (state S.Store tx.old.conn.now) (state S.Store tx.new.conn.now) }
     ensures survives { Survives (state S.Store tx.old.conn.now) (state S.Store tx.new.conn.now) (λ _. ⊥) }
@@ -94,7 +94,7 @@ pub fn set_counters<S: Alter>(
     ensures same_reference { tx.new.conn.ghost_name ≡ tx.old.conn.ghost_name }
     ensures changed { HasCleanDisk (state S.Store tx.new.conn.now) → (t : Tables) → Sees (state S.Store tx.old.conn.now) t
         → OnOk result (Sees (state S.Store tx.new.conn.now) (with_counters t counters.now)) }
-    ensures refused { ChangeFailsBy IsTooBig (state S.Store tx.old.conn.now) (state S.Store tx.new.conn.now) result (λ _. ⊤) }
+    ensures refused { ChangeFailsBy IsTooBig (λ t. IsSmall (meta_row (with_counters t counters.now).meta)) (state S.Store tx.old.conn.now) (state S.Store tx.new.conn.now) result (λ _. ⊤) }
     ensures live { LeavesLive (state S.Store tx.old.conn.now) (state S.Store tx.new.conn.now) result }
     ensures uncommitted { HasCleanDisk (state S.Store tx.new.conn.now) → KeepsCommit (state S.Store tx.old.conn.now) (state S.Store tx.new.conn.now) }
     ensures survives { Survives (state S.Store tx.old.conn.now) (state S.Store tx.new.conn.now) (λ _. ⊥) }

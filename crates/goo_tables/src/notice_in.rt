@@ -6,7 +6,7 @@ ghost use Rattle.sqlite.specs.State.{HasCleanDisk, KeepsCommit, Survives};
 ghost use Rattle.sqlite.specs.Held.{state};
 ghost use Rattle.goo_columns.specs.Rows.{Tables, notice_in_in, notice_in_row, notice_in_columns};
 ghost use Rattle.goo_columns.specs.Readable.{notice_in_readable};
-ghost use Rattle.goo_columns.specs.Refused.{FailsByFault, FailsOnlyByFault, ChangeFailsBy, IsTooBigOrFull};
+ghost use Rattle.goo_columns.specs.Refused.{FailsByFault, FailsOnlyByFault, ChangeFailsBy, IsTooBigOrFull, HasRoomFor};
 ghost use Rattle.goo_columns.specs.Lives.{LeavesLive};
 ghost use Rattle.goo_columns.specs.Stands.{Sees, Looks};
 ghost use Rattle.goo_columns.specs.Met.{HasOurTables, KeepsSome};
@@ -27,7 +27,7 @@ pub fn insert_notice_in<S: Alter>(
     ensures same_reference { tx.new.conn.ghost_name ≡ tx.old.conn.ghost_name }
     ensures changed { HasCleanDisk (state S.Store tx.new.conn.now) → (t : Tables) → Sees (state S.Store tx.old.conn.now) t
         → OnOk result (Sees (state S.Store tx.new.conn.now) (with_notice_in t (notice_in_in notice.now))) }
-    ensures refused { ChangeFailsBy IsTooBigOrFull (state S.Store tx.old.conn.now) (state S.Store tx.new.conn.now) result
+    ensures refused { ChangeFailsBy IsTooBigOrFull (λ t. HasRoomFor notice_in_row t.notices_in (notice_in_in notice.now)) (state S.Store tx.old.conn.now) (state S.Store tx.new.conn.now) result
         (λ t. find (λ k. int_eq (pos k.1.sender) (pos notice.now.sender) && int_eq (pos k.1.number) (pos notice.now.number)) t.notices_in ≡ None) }
     ensures live { LeavesLive (state S.Store tx.old.conn.now) (state S.Store tx.new.conn.now) result }
     ensures uncommitted { HasCleanDisk (state S.Store tx.new.conn.now) → KeepsCommit (state S.Store tx.old.conn.now) (state S.Store tx.new.conn.now) }

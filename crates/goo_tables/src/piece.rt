@@ -6,7 +6,7 @@ ghost use Rattle.sqlite.specs.Held.{state};
 ghost use Rattle.sqlite_keyed.specs.Keyed.{get_by};
 ghost use Rattle.goo_columns.specs.Rows.{Tables, piece_row, piece_key, piece_columns};
 ghost use Rattle.goo_columns.specs.Readable.{piece_readable};
-ghost use Rattle.goo_columns.specs.Refused.{FailsByFault, FailsOnlyByFault, ChangeFailsBy, IsTooBig};
+ghost use Rattle.goo_columns.specs.Refused.{FailsByFault, FailsOnlyByFault, ChangeFailsBy, IsTooBig, IsSmall};
 ghost use Rattle.goo_columns.specs.Lives.{LeavesLive};
 ghost use Rattle.goo_columns.specs.Stands.{Sees, Looks, Keeps};
 ghost use Rattle.goo_columns.specs.Met.{HasOurTables};
@@ -25,7 +25,7 @@ pub fn insert_piece<S: Alter>(tx: &mut Transaction<'_, S>, piece: &PieceRow) -> 
     ensures same_reference { tx.new.conn.ghost_name ≡ tx.old.conn.ghost_name }
     ensures changed { HasCleanDisk (state S.Store tx.new.conn.now) → (t : Tables) → Sees (state S.Store tx.old.conn.now) t
         → OnOk result (Sees (state S.Store tx.new.conn.now) (with_piece t piece.now)) }
-    ensures refused { ChangeFailsBy IsTooBig (state S.Store tx.old.conn.now) (state S.Store tx.new.conn.now) result (λ t. get_by piece_key t.pieces (pos piece.now.first) ≡ None) }
+    ensures refused { ChangeFailsBy IsTooBig (λ _. IsSmall (piece_row piece.now)) (state S.Store tx.old.conn.now) (state S.Store tx.new.conn.now) result (λ t. get_by piece_key t.pieces (pos piece.now.first) ≡ None) }
     ensures live { LeavesLive (state S.Store tx.old.conn.now) (state S.Store tx.new.conn.now) result }
     ensures uncommitted { HasCleanDisk (state S.Store tx.new.conn.now) → KeepsCommit (state S.Store tx.old.conn.now) (state S.Store tx.new.conn.now) }
     ensures survives { Survives (state S.Store tx.old.conn.now) (state S.Store tx.new.conn.now) (λ _. ⊥) }
@@ -50,7 +50,7 @@ pub fn delete_piece<S: Alter>(tx: &mut Transaction<'_, S>, first: u64) -> Result
     ensures same_reference { tx.new.conn.ghost_name ≡ tx.old.conn.ghost_name }
     ensures changed { HasCleanDisk (state S.Store tx.new.conn.now) → (t : Tables) → Sees (state S.Store tx.old.conn.now) t
         → OnOk result (Sees (state S.Store tx.new.conn.now) (without_piece t first)) }
-    ensures refused { ChangeFailsBy (λ _. ⊥) (state S.Store tx.old.conn.now) (state S.Store tx.new.conn.now) result (λ _. ⊤) }
+    ensures refused { ChangeFailsBy (λ _. ⊥) (λ _. ⊤) (state S.Store tx.old.conn.now) (state S.Store tx.new.conn.now) result (λ _. ⊤) }
     ensures live { LeavesLive (state S.Store tx.old.conn.now) (state S.Store tx.new.conn.now) result }
     ensures uncommitted { HasCleanDisk (state S.Store tx.new.conn.now) → KeepsCommit (state S.Store tx.old.conn.now) (state S.Store tx.new.conn.now) }
     ensures survives { Survives (state S.Store tx.old.conn.now) (state S.Store tx.new.conn.now) (λ _. ⊥) }
