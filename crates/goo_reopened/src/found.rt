@@ -1,7 +1,7 @@
 //! What a shelf finds, over tables and over lists: nothing in a new registry, and then what was asked for.
 
 use crate::disks::blank;
-use crate::registries::{Beginning, begun_in_lists, begun_on, in_march_from};
+use crate::registries::{begun_in_lists, begun_on, in_march_from};
 use crate::worked::{Case, answers};
 use goo_registry::Registry;
 use goo_shelf::shelf::Shelf;
@@ -170,9 +170,9 @@ fn finds_nothing_on<D: Disk + Drop>(
     rt: &impl Abort,
     alloc: Global,
     files: Files<D>,
-    beginning: Beginning,
+    serial: u64,
 ) -> Result<(), Fail> {
-    let registry = begun_on(alloc, files, beginning)?;
+    let registry = begun_on(alloc, files, in_march_from(serial)?)?;
     finds_nothing(rt, alloc, registry)
 }
 
@@ -230,24 +230,22 @@ fn finds_members_on<D: Disk + Drop>(
     rt: &impl Abort,
     alloc: Global,
     files: Files<D>,
-    beginning: Beginning,
+    serial: u64,
 ) -> Result<(), Fail> {
-    let registry = begun_on(alloc, files, beginning)?;
+    let registry = begun_on(alloc, files, in_march_from(serial)?)?;
     finds_members(rt, alloc, registry)
 }
 
 #[test]
 fn in_a_new_registry(rt: HostRuntime) -> Result<(), Fail> {
     let alloc = rt.alloc();
-    let beginning = in_march_from(LAST)?;
-    finds_nothing_on(&rt, alloc, blank(alloc), beginning)?;
-    finds_nothing(&rt, alloc, begun_in_lists(alloc, beginning))
+    finds_nothing_on(&rt, alloc, blank(alloc), LAST)?;
+    finds_nothing(&rt, alloc, begun_in_lists(alloc, in_march_from(LAST)?))
 }
 
 #[test]
 fn among_members(rt: HostRuntime) -> Result<(), Fail> {
     let alloc = rt.alloc();
-    let beginning = in_march_from(1)?;
-    finds_members_on(&rt, alloc, blank(alloc), beginning)?;
-    finds_members(&rt, alloc, begun_in_lists(alloc, beginning))
+    finds_members_on(&rt, alloc, blank(alloc), 1)?;
+    finds_members(&rt, alloc, begun_in_lists(alloc, in_march_from(1)?))
 }
