@@ -1,7 +1,6 @@
 //! What a shelf finds, over tables and over lists: nothing in a new registry, and then what was asked for.
 
-use crate::disks::blank;
-use crate::registries::{begun_in_lists, begun_on, in_march_from};
+use crate::registries::{begun, begun_in_lists, in_march_from};
 use crate::worked::{Case, answers};
 use goo_registry::Registry;
 use goo_shelf::shelf::Shelf;
@@ -13,8 +12,7 @@ use goo_types::holder_code::HolderCode;
 use goo_types::number::Number;
 use goo_types::range::Range;
 use goo_types::registry_code::RegistryCode;
-use sqlite::Files;
-use sqlite_disk::Disk;
+use sqlite::Connection;
 use std::alloc::Global;
 use std::process::Abort;
 use std::test::Fail;
@@ -165,17 +163,6 @@ fn finds_nothing<S: Shelf + Drop>(
     is_empty(rt, alloc, &mut shelf)
 }
 
-/// The same of one on disks.
-fn finds_nothing_on<D: Disk + Drop>(
-    rt: &impl Abort,
-    alloc: Global,
-    files: Files<D>,
-    serial: u64,
-) -> Result<(), Fail> {
-    let registry = begun_on(alloc, files, in_march_from(serial)?)?;
-    finds_nothing(rt, alloc, registry)
-}
-
 /// The holder with an open account and a closed one.
 fn has_accounts<S: Shelf>(rt: &impl Abort, shelf: &mut S) -> Result<(), Fail> {
     let holder = HolderCode::read(b"SUN")?;
@@ -225,27 +212,24 @@ fn finds_members<S: Shelf + Drop>(
     has_a_peer(rt, &mut shelf)
 }
 
-/// The same of one on disks.
-fn finds_members_on<D: Disk + Drop>(
-    rt: &impl Abort,
-    alloc: Global,
-    files: Files<D>,
-    serial: u64,
-) -> Result<(), Fail> {
-    let registry = begun_on(alloc, files, in_march_from(serial)?)?;
-    finds_members(rt, alloc, registry)
-}
-
 #[test]
 fn in_a_new_registry(rt: HostRuntime) -> Result<(), Fail> {
     let alloc = rt.alloc();
-    finds_nothing_on(&rt, alloc, blank(alloc), LAST)?;
-    finds_nothing(&rt, alloc, begun_in_lists(alloc, in_march_from(LAST)?))
+    let beginning = in_march_from(LAST)?;
+    let Ok(tables) = begun(alloc, Connection::open_in_memory(alloc)?, beginning) else {
+        return Err("no registry".into());
+    };
+    finds_nothing(&rt, alloc, tables)?;
+    finds_nothing(&rt, alloc, begun_in_lists(alloc, beginning))
 }
 
 #[test]
 fn among_members(rt: HostRuntime) -> Result<(), Fail> {
     let alloc = rt.alloc();
-    finds_members_on(&rt, alloc, blank(alloc), 1)?;
-    finds_members(&rt, alloc, begun_in_lists(alloc, in_march_from(1)?))
+    let beginning = in_march_from(1)?;
+    let Ok(tables) = begun(alloc, Connection::open_in_memory(alloc)?, beginning) else {
+        return Err("no registry".into());
+    };
+    finds_members(&rt, alloc, tables)?;
+    finds_members(&rt, alloc, begun_in_lists(alloc, beginning))
 }

@@ -1,16 +1,14 @@
 //! A certificate of each of a hundred and one lots, over tables and over lists: no notice names them all.
 
 use crate::asking::{asks, plays};
-use crate::disks::blank;
-use crate::registries::{begun_in_lists, begun_on, in_march};
+use crate::registries::{begun, begun_in_lists, in_march};
 use crate::script::SCRIPT;
 use crate::sight::{sight, tell_audit};
 use crate::worked::Exchange;
 use goo_outcome::outcome_text;
 use goo_registry::Registry;
 use goo_shelf::shelf::Shelf;
-use sqlite::Files;
-use sqlite_disk::Disk;
+use sqlite::Connection;
 use std::alloc::Global;
 use std::process::Abort;
 use std::test::Fail;
@@ -86,20 +84,14 @@ fn shown_by<S: Shelf + Drop>(
     sight(alloc, &mut registry)
 }
 
-/// The same of a new registry on disks.
-fn shown_on<D: Disk + Drop>(
-    rt: &impl Abort,
-    alloc: Global,
-    files: Files<D>,
-) -> Result<String, Fail> {
-    let registry = begun_on(alloc, files, in_march()?)?;
-    shown_by(rt, alloc, registry)
-}
-
 #[test]
 fn a_notice_has_a_hundred_parts_at_most(rt: HostRuntime) -> Result<(), Fail> {
     let alloc = rt.alloc();
-    let shown = shown_on(&rt, alloc, blank(alloc))?;
+    let conn = Connection::open_in_memory(alloc)?;
+    let Ok(tables) = begun(alloc, conn, in_march()?) else {
+        return Err("no registry".into());
+    };
+    let shown = shown_by(&rt, alloc, tables)?;
     let wanted = shown_by(&rt, alloc, begun_in_lists(alloc, in_march()?))?;
     assert!(rt; shown.as_str() == wanted.as_str());
     Ok(())
