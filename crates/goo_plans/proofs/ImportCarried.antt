@@ -30,7 +30,6 @@ use Rattle.goo_plans.specs.LotNumbers.{AreJustWith}
 use Rattle.goo_plans.specs.LotRows.{with_rows}
 use Rattle.goo_plans.specs.NewLots.{AreNewLots}
 use Rattle.goo_plans.specs.Room.{HaveRowids}
-use Rattle.goo_changes.specs.declared.change.Change.{Change}
 use Rattle.goo_changes.specs.declared.change.Change.TheVariants.{AddLot, AddNoticeIn}
 use Rattle.goo_plans.specs.declared.gathered_lots.Gathered.{Gathered}
 use Rattle.goo_plans.proofs.FreeChanges.{no_notice, free_lots}

@@ -7,7 +7,7 @@ use Rattle.sqlite.specs.Ops.{fits_i64}
 use Rattle.sqlite.specs.declared.types.Value.TheVariants.{Text}
 use Rattle.sqlite_keyed.proofs.RuleLemmas.{first_of_both, second_of_both}
 use Rattle.sqlite_typed.specs.Columns.{or_null}
-use Rattle.goo_types.specs.Codes.{holder_reading, name_reading, key_reading, country_reading, tech_reading, source_reading}
+use Rattle.goo_types.specs.Codes.{holder_reading, name_reading, country_reading, tech_reading, source_reading}
 use Rattle.goo_types.specs.Day.{day_reading, months_after}
 use Rattle.goo_types.specs.Gsrn.{gsrn_reading}
 use Rattle.goo_types.specs.declared.command.Command.{Command}
