@@ -1,5 +1,5 @@
 -- A commit fails as the store's fault only where the disk failed.
-use Rattle.std.proofs.Common.{◌≡◌, ◌⊎◌, ◌≤◌, ℕ, inl, inr, Bool, false, IsTrue, List, None, sym, subst, ◌∙◌, arith, true≢false, Ok, Err, Result, IfErr}
+use Rattle.std.proofs.Common.{◌≡◌, ◌⊎◌, ◌≤◌, inl, inr, Bool, IsTrue, List, None, sym, subst, ◌∙◌, arith, true≢false, Ok, Err, Result, IfErr}
 use Rattle.sqlite_disk.specs.Disk.{MoreFaults}
 use Rattle.sqlite_trees.specs.View.{doubt}
 use Rattle.sqlite.specs.State.{State, HasCleanDisk, Survives}

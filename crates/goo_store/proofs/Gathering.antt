@@ -1,5 +1,5 @@
 -- What is gathered for a commit is refused only where the disk failed.
-use Rattle.std.proofs.Common.{◌≡◌, Bool, true, false, IsTrue, refl, sym, subst, ◌∙◌, arith, true≢false, Ok, Err, Result, IfErr}
+use Rattle.std.proofs.Common.{◌≡◌, Bool, true, IsTrue, refl, sym, subst, ◌∙◌, arith, true≢false, Ok, Err, Result, IfErr}
 use Rattle.sqlite_disk.specs.Disk.{MoreFaults}
 use Rattle.sqlite.specs.State.{State, HasCleanDisk}
 use Rattle.goo_types.specs.declared.fault.Fault.{Fault}
