@@ -1,10 +1,11 @@
 -- Changes that carry out a command, row by row.
-use Rattle.std.proofs.Common.{◌≡◌, ◌≤◌, ℕ, ◌+◌, pos, take, List, [], ◌∷◌, true, false, is_some, Option, Some, None, refl, ap, sym, subst, ◌∙◌, true≢false}
+use Rattle.std.proofs.Common.{◌≡◌, ◌≤◌, ℕ, ◌+◌, pos, List, [], ◌∷◌, true, false, is_some, Option, Some, None, refl, ap, sym, subst, ◌∙◌, arith, true≢false}
 use Rattle.std.specs.Prelude.{All, string_bytes}
 use Rattle.std.specs.Str.{bytes_eq}
 use Rattle.std.specs.FinMap.{get, contains_key}
 use Rattle.std.proofs.lemmas.Bool.{or_parts}
 use Rattle.std.proofs.lemmas.List.Elements.{All-nil, All-cons}
+use Rattle.sqlite_keyed.specs.Keyed.{next_key}
 use Rattle.goo_types.specs.Day.{CalendarDay, day_reading}
 use Rattle.goo_types.specs.Notice.{NoticeContents}
 use Rattle.goo_types.specs.declared.command.AddPeer.{AddPeer as Peering}
@@ -27,7 +28,7 @@ use Rattle.goo_spec.specs.State.{State, last_act}
 use Rattle.goo_spec.specs.Step.{changed}
 use Rattle.goo_spec.proofs.Checking.{none_fail, passes}
 use Rattle.goo_shelf.specs.Shelf.{cancellation_on}
-use Rattle.goo_columns.specs.Rows.{Tables, Meta, meta_in, holder_in, account_in, device_in, cancellation_in, withdrawal_in, notice_out_in}
+use Rattle.goo_columns.specs.Rows.{Tables, kept_key, Meta, meta_in, holder_in, account_in, device_in, cancellation_in, withdrawal_in, notice_out_in}
 use Rattle.goo_columns.specs.declared.account.AccountRow.{AccountRow}
 use Rattle.goo_columns.specs.declared.cancellation.CancellationRow.{CancellationRow}
 use Rattle.goo_columns.specs.declared.device.DeviceRow.{DeviceRow}
@@ -45,15 +46,18 @@ use Rattle.goo_kept.specs.States.{state_of, known_holder, known_account, known_d
 use Rattle.goo_kept.specs.Texts.{day_of}
 use Rattle.goo_plans.specs.Acted.{IsActed}
 use Rattle.goo_plans.specs.Carried.{Does, counters_in}
-use Rattle.goo_changes.specs.Changes.{made, made_all, IsFor, AreFor, IsFree}
+use Rattle.goo_changes.specs.Changes.{made, made_all, IsFor, IsFree, HasRoom}
 use Rattle.goo_changes.specs.declared.change.Change.{Change}
 use Rattle.goo_changes.specs.declared.change.Change.TheVariants as change
 use Rattle.goo_plans.proofs.ActsActed.{numbers, account_acted, cancellation_acted, withdrawal_acted, export_acted, advance_acted}
 use Rattle.goo_plans.proofs.ClosingActed.{closing_acted}
 use Rattle.goo_plans.proofs.CommandsActed.{transfer_acted, holder_acted, peer_acted}
-use Rattle.goo_plans.proofs.FreeChanges.{no_text, no_number, free_none, free_one, free_two}
+use Rattle.goo_plans.proofs.FreeChanges.{no_text, no_number}
+use Rattle.goo_plans.proofs.InTurn.{none_in_turn, one_in_turn, two_in_turn}
 use Rattle.goo_plans.proofs.Numbering.{next_free}
 use Rattle.goo_plans.proofs.RegisteringActed.{registering_acted}
+use Rattle.goo_plans.proofs.RoomChanges.{closed_room, counters_room}
+use Rattle.goo_plans.proofs.SmallRows.{small_holder, small_account, small_device, small_cancellation, small_withdrawal, small_notice_out}
 
 -- ---- lists of one and two changes
 
@@ -66,15 +70,6 @@ all_two P x y p q = All-cons P x (y ∷ []) p (all_one P y q)
 -- a change that is one for any tables
 abbrev pub IsCalm : Change → Type 0
 IsCalm d = (t : Tables) → IsFor t d
-
-pub calm : (t : Tables) (changes : List Change) → All IsCalm changes → AreFor t changes
-calm t changes all i d low = all i d low (made_all t (take i changes))
-
-calm_one : (t : Tables) (a : Change) → IsCalm a → AreFor t (a ∷ [])
-calm_one t a is = calm t (a ∷ []) (all_one IsCalm a is)
-
-calm_two : (t : Tables) (a b : Change) → IsCalm a → IsCalm b → AreFor t (a ∷ b ∷ [])
-calm_two t a b is are = calm t (a ∷ b ∷ []) (all_two IsCalm a b is are)
 
 -- ---- what an accepted command's checks say
 
@@ -101,26 +96,34 @@ module _ (t : Tables) where
   s = state_of t
 
   pub transfers : (x : Transferring) → Does t (Transfer x) []
-  transfers x kept order caller accepted = record { for = calm t [] (All-nil IsCalm); free = free_none t; acted = transfer_acted t kept x; lots = refl }
+  transfers x kept order caller accepted = record { for = none_in_turn IsFor t; free = none_in_turn IsFree t; room = λ can. none_in_turn HasRoom t; acted = transfer_acted t kept x; lots = refl }
 
   pub names : (x : Naming) (h : HolderRow) → known_holder (pos 0, holder_in h) ≡ (x.holder, x.name) → is_holder (pos 0, holder_in h) ≡ true → Does t (OpenHolder x) (change.AddHolder h ∷ [])
   unfolding state_of
   names x h states read kept order caller accepted = record {
-    for = calm_one t (change.AddHolder h) (λ u. tt);
-    free = free_one t (change.AddHolder h) (no_text (λ k. k.1.name) (λ k. k.1.code) (holder_in h).code t.holders (ap (λ e. get (state_of t).holders e.0) states ∙ unnamed (state_of t) caller x accepted));
+    for = one_in_turn IsFor t (change.AddHolder h) tt;
+    free = one_in_turn IsFree t (change.AddHolder h) (no_text (λ k. k.1.name) (λ k. k.1.code) (holder_in h).code t.holders (ap (λ e. get (state_of t).holders e.0) states ∙ unnamed (state_of t) caller x accepted));
+    room = λ can. one_in_turn HasRoom t (change.AddHolder h) (small_holder (next_key kept_key t.holders, holder_in h) read, can.holders);
     acted = holder_acted t kept x (holder_in h) (λ k. states) (λ k. read) order.holders (unnamed (state_of t) caller x accepted);
     lots = refl;
   }
 
   pub closes : (x : Closing) → Does t (CloseAccount x) (change.CloseAccount x.account ∷ [])
-  closes x kept order caller accepted = record { for = calm_one t (change.CloseAccount x.account) (λ u. tt); free = free_one t (change.CloseAccount x.account) tt; acted = closing_acted t kept x; lots = refl }
+  closes x kept order caller accepted = record {
+    for = one_in_turn IsFor t (change.CloseAccount x.account) tt;
+    free = one_in_turn IsFree t (change.CloseAccount x.account) tt;
+    room = λ can. one_in_turn HasRoom t (change.CloseAccount x.account) (closed_room t x.account kept.readable.accounts);
+    acted = closing_acted t kept x;
+    lots = refl;
+  }
 
   pub registers : (x : Registering) (d : DeviceRow) → known_device (pos 0, device_in d) ≡ (x.device, device_of x) → progress_in (Some (device_in d)) ≡ progress_in None → is_device (pos 0, device_in d) ≡ true
       → Does t (RegisterDevice x) (change.AddDevice d ∷ [])
   unfolding state_of
   registers x d states begins read kept order caller accepted = record {
-    for = calm_one t (change.AddDevice d) (λ u. tt);
-    free = free_one t (change.AddDevice d) (no_text (λ k. device_in_row k.1) (λ k. k.1.gsrn) (device_in d).gsrn t.devices (ap (λ e. get (state_of t).devices e.0) states ∙ unregistered (state_of t) caller x accepted));
+    for = one_in_turn IsFor t (change.AddDevice d) tt;
+    free = one_in_turn IsFree t (change.AddDevice d) (no_text (λ k. device_in_row k.1) (λ k. k.1.gsrn) (device_in d).gsrn t.devices (ap (λ e. get (state_of t).devices e.0) states ∙ unregistered (state_of t) caller x accepted));
+    room = λ can. one_in_turn HasRoom t (change.AddDevice d) (small_device (next_key kept_key t.devices, device_in d) read, can.devices);
     acted = registering_acted t kept x (device_in d) (λ k. states) begins (λ k. read) order.devices (unregistered (state_of t) caller x accepted);
     lots = refl;
   }
@@ -128,17 +131,19 @@ module _ (t : Tables) where
   pub peers : (x : Peering) (p : PeerRow) → known_peer (pos 0, p) ≡ (x.peer, tt) → is_peer (pos 0, p) ≡ true → Does t (AddPeer x) (change.AddPeer p ∷ [])
   unfolding state_of
   peers x p states read kept order caller accepted = record {
-    for = calm_one t (change.AddPeer p) (λ u. tt);
-    free = free_one t (change.AddPeer p) (no_number (λ k. tt) (λ k. k.1.code) p.code t.peers (ap (λ e. get (state_of t).peers e.0) states ∙ unknown (state_of t) caller x accepted));
+    for = one_in_turn IsFor t (change.AddPeer p) tt;
+    free = one_in_turn IsFree t (change.AddPeer p) (no_number (λ k. tt) (λ k. k.1.code) p.code t.peers (ap (λ e. get (state_of t).peers e.0) states ∙ unknown (state_of t) caller x accepted));
+    room = λ can. one_in_turn HasRoom t (change.AddPeer p) (omega arith, can.peers);
     acted = peer_acted t kept x p (λ k. states) (λ k. read) order.peers (unknown (state_of t) caller x accepted);
     lots = refl;
   }
 
   -- a change that sets the date
-  pub advances : (x : Advancing) (d : Change) (today : List ℕ) → made t d ≡ at_day t today → IsCalm d → IsFree t d → day_of today ≡ x.day → reads (day_reading today) ≡ true → Does t (Advance x) (d ∷ [])
-  advances x d today sets is free states read kept order caller accepted = record {
-    for = calm_one t d is;
-    free = free_one t d free;
+  pub advances : (x : Advancing) (d : Change) (today : List ℕ) → made t d ≡ at_day t today → IsCalm d → IsFree t d → HasRoom t d → day_of today ≡ x.day → reads (day_reading today) ≡ true → Does t (Advance x) (d ∷ [])
+  advances x d today sets is free room states read kept order caller accepted = record {
+    for = one_in_turn IsFor t d (is t);
+    free = one_in_turn IsFree t d free;
+    room = λ can. one_in_turn HasRoom t d room;
     acted = subst (λ u. IsActed t u (changed s (Advance x))) (sym sets) (advance_acted t kept x today states read);
     lots = ap (λ (u : Tables). u.lots) sets;
   }
@@ -154,10 +159,11 @@ module _ (t : Tables) where
         let after : numbers t.meta.next_serial (t.meta.next_account + 1) t.meta.next_cancellation t.meta.next_withdrawal t.meta.next_notice ≡ c =
         (λ i. numbers (told i).next_serial (sym same i + 1) (told i).next_cancellation (told i).next_withdrawal (told i).next_notice) ∙ sym counters in
         record {
-          for = calm_two t (change.AddAccount a) (change.SetCounters c) (λ u. tt) (λ u. tt);
+          for = two_in_turn IsFor t (change.AddAccount a) (change.SetCounters c) tt tt;
           free =
-              free_two t (change.AddAccount a) (change.SetCounters c)
+              two_in_turn IsFree t (change.AddAccount a) (change.SetCounters c)
               (no_number account_of (λ b. b.number) (account_in a).number t.accounts (ap (λ e. get (state_of t).accounts e.0) states ∙ ap (get (state_of t).accounts) same ∙ next_free t.meta.next_account _ kept.sound.account_numbers)) tt;
+          room = λ can. two_in_turn HasRoom t (change.AddAccount a) (change.SetCounters c) (small_account (account_in a) read) (counters_room (made t (change.AddAccount a)) c kept.readable.meta);
           acted = subst (λ k. IsActed t (made_all t (change.AddAccount a ∷ change.SetCounters k ∷ [])) (changed (state_of t) (OpenAccount x))) after
               (account_acted t kept x (account_in a) (states ∙ ap (λ (k : ℕ). (k, record { holder = x.holder; closed = false })) same) read (subst (λ k. k ≤ last_act) same left));
           lots = refl;
@@ -172,10 +178,11 @@ module _ (t : Tables) where
         let after : numbers t.meta.next_serial t.meta.next_account (t.meta.next_cancellation + 1) t.meta.next_withdrawal t.meta.next_notice ≡ c =
         (λ i. numbers (told i).next_serial (told i).next_account (sym same i + 1) (told i).next_withdrawal (told i).next_notice) ∙ sym counters in
         record {
-          for = calm_two t (change.AddCancellation a) (change.SetCounters c) (λ u. tt) (λ u. tt);
+          for = two_in_turn IsFor t (change.AddCancellation a) (change.SetCounters c) tt tt;
           free =
-              free_two t (change.AddCancellation a) (change.SetCounters c)
+              two_in_turn IsFree t (change.AddCancellation a) (change.SetCounters c)
               (no_number record_of.cancellation_of (λ b. b.number) (cancellation_in a).number t.cancellations (ap (λ e. get (state_of t).cancellations e.0) states ∙ ap (get (state_of t).cancellations) same ∙ next_free t.meta.next_cancellation _ kept.sound.cancellation_numbers)) tt;
+          room = λ can. two_in_turn HasRoom t (change.AddCancellation a) (change.SetCounters c) (small_cancellation (cancellation_in a) read) (counters_room (made t (change.AddCancellation a)) c kept.readable.meta);
           acted = subst (λ k. IsActed t (made_all t (change.AddCancellation a ∷ change.SetCounters k ∷ [])) (changed (state_of t) (Cancel x))) after
               (cancellation_acted t kept x (cancellation_in a) (states ∙ (λ i. (same i, cancellation_on (on i) x))) read (subst (λ k. k ≤ last_act) same left));
           lots = refl;
@@ -190,10 +197,11 @@ module _ (t : Tables) where
         let after : numbers t.meta.next_serial t.meta.next_account t.meta.next_cancellation (t.meta.next_withdrawal + 1) t.meta.next_notice ≡ c =
         (λ i. numbers (told i).next_serial (told i).next_account (told i).next_cancellation (sym same i + 1) (told i).next_notice) ∙ sym counters in
         record {
-          for = calm_two t (change.AddWithdrawal a) (change.SetCounters c) (λ u. tt) (λ u. tt);
+          for = two_in_turn IsFor t (change.AddWithdrawal a) (change.SetCounters c) tt tt;
           free =
-              free_two t (change.AddWithdrawal a) (change.SetCounters c)
+              two_in_turn IsFree t (change.AddWithdrawal a) (change.SetCounters c)
               (no_number record_of.withdrawal_of (λ b. b.number) (withdrawal_in a).number t.withdrawals (ap (λ e. get (state_of t).withdrawals e.0) states ∙ ap (get (state_of t).withdrawals) same ∙ next_free t.meta.next_withdrawal _ kept.sound.withdrawal_numbers)) tt;
+          room = λ can. two_in_turn HasRoom t (change.AddWithdrawal a) (change.SetCounters c) (small_withdrawal (withdrawal_in a) read) (counters_room (made t (change.AddWithdrawal a)) c kept.readable.meta);
           acted = subst (λ k. IsActed t (made_all t (change.AddWithdrawal a ∷ change.SetCounters k ∷ [])) (changed (state_of t) (Withdraw x))) after
               (withdrawal_acted t kept x (withdrawal_in a) (states ∙ (λ i. (same i, record { range = x.range; reason = x.reason; day = on i }))) read (subst (λ k. k ≤ last_act) same left));
           lots = refl;
@@ -209,10 +217,11 @@ module _ (t : Tables) where
         let numbered : notice.number ≡ n = ap (λ (k : NoticeContents). k.number) sent ∙ sym same in
         let own : notice.sender ≡ t.meta.code = ap (λ (k : NoticeContents). k.sender) sent in
         record {
-          for = calm_two t (change.AddNoticeOut a) (change.SetCounters c) (λ u. tt) (λ u. tt);
+          for = two_in_turn IsFor t (change.AddNoticeOut a) (change.SetCounters c) tt tt;
           free =
-              free_two t (change.AddNoticeOut a) (change.SetCounters c)
+              two_in_turn IsFree t (change.AddNoticeOut a) (change.SetCounters c)
               (no_number record_of.sent_of (λ b. b.number) (notice_out_in a).number t.notices_out (ap (λ e. get (state_of t).sent e.0) states ∙ ap (get (state_of t).sent) same ∙ next_free t.meta.next_notice _ kept.sound.notice_numbers)) tt;
+          room = λ can. two_in_turn HasRoom t (change.AddNoticeOut a) (change.SetCounters c) (small_notice_out notice.sender (notice_out_in a) (read numbered)) (counters_room (made t (change.AddNoticeOut a)) c kept.readable.meta);
           acted = subst (λ k. IsActed t (made_all t (change.AddNoticeOut a ∷ change.SetCounters k ∷ [])) (changed (state_of t) (Export x))) after
               (export_acted t kept x (notice_out_in a) (states ∙ (λ i. (same i, record { account = x.giver; notice = sent i }))) (subst (λ k. is_notice_out k (notice_out_in a) ≡ true) own (read numbered)) (subst (λ k. k ≤ last_act) same left));
           lots = refl;

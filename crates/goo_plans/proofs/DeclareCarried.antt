@@ -27,23 +27,28 @@ use Rattle.goo_columns.specs.declared.meta.MetaRow.{MetaRow}
 use Rattle.goo_tables.specs.Changes as change
 use Rattle.goo_tables.specs.declared.counters.Counters.{Counters}
 use Rattle.goo_kept.specs.Places.{lot_of}
+use Rattle.goo_kept.specs.Readable.{is_meta}
 use Rattle.goo_kept.specs.States.{state_of}
 use Rattle.goo_kept.specs.Texts.{day_of}
 use Rattle.goo_plans.specs.Acted.{IsActed}
 use Rattle.goo_plans.specs.Carrying.{CarriesOut}
-use Rattle.goo_changes.specs.Changes.{made, made_all, IsFor, AreFor, IsFree, AreFree}
+use Rattle.goo_changes.specs.Changes.{made, made_all, IsFor, AreFor, IsFree, AreFree, HasRoom, HaveRoom}
 use Rattle.goo_plans.specs.Declaring.{Begins, Issues, IsDue}
 use Rattle.goo_plans.specs.LotNumbers.{AreJustWith}
 use Rattle.goo_plans.specs.NewLots.{known_lots}
+use Rattle.goo_plans.specs.Room.{HaveRowids}
 use Rattle.goo_changes.specs.declared.change.Change.{Change}
 use Rattle.goo_changes.specs.declared.change.Change.TheVariants.{AddDeclaration, AddLot, SetCounters}
 use Rattle.goo_plans.specs.declared.gathered_lots.Gathered.{Gathered}
 use Rattle.goo_plans.specs.declared.standing.Standing.{Standing}
 use Rattle.goo_plans.proofs.ActsActed.{numbers}
 use Rattle.goo_plans.proofs.DeclaringActed.{none_in_row, new_key, declaring_acted, issuing_acted}
-use Rattle.goo_plans.proofs.FreeChanges.{free_cons, free_two, free_lot}
+use Rattle.goo_plans.proofs.FreeChanges.{free_lot}
+use Rattle.goo_plans.proofs.InTurn.{first_in_turn, two_in_turn}
 use Rattle.goo_plans.proofs.LotsAdded.{none_there}
 use Rattle.goo_plans.proofs.Gathering.{with_more, with_none}
+use Rattle.goo_plans.proofs.RoomChanges.{counters_room}
+use Rattle.goo_plans.proofs.SmallRows.{progressed_kept, small_declaration, small_lot}
 
 once_from : {X : Type 0} (xs : List X) → length xs ≤ 1 → IsOnce xs
 once_from [] few = inl refl
@@ -120,6 +125,13 @@ module _ (t : Tables) (q : Request) (reply : Reply) (meta : MetaRow) (x : Declar
   counted_is : (count : ℕ) → count ≡ earned s x → numbers (meta.next_serial + count) meta.next_account meta.next_cancellation meta.next_withdrawal meta.next_notice ≡ counted
   counted_is count is = λ i. let m : row.Meta = sym due.meta_is i in numbers (m.next_serial + is i) m.next_account m.next_cancellation m.next_withdrawal m.next_notice
 
+  -- the device's row has room for its progress, and the registry's for what is counted then
+  progress_room : HaveRowids t → HasRoom (change.with_declaration t d) begins.progress
+  progress_room can = begins.sets.room (change.with_declaration t d) (progressed_kept begins.sets.last_day carry begins.sets.ends_read t.devices due.accepted.kept.readable.devices can.devices_there)
+
+  meta_read : is_meta t.meta ≡ true
+  meta_read = due.accepted.kept.readable.meta
+
   -- no certificate is issued
   none_carried : (g1 g2 : Gathered) (count : ℕ) (counters : Counters) → issued ≡ None → g1 ≡ first → count ≡ 0 → counters ≡ numbers (meta.next_serial + count) meta.next_account meta.next_cancellation meta.next_withdrawal meta.next_notice
       → g2.changes.items ≡ g1.changes.items ++ SetCounters counters ∷ [] → g2.added.items ≡ g1.added.items → CarriesOut t (command.Declare x) g2
@@ -136,8 +148,13 @@ module _ (t : Tables) (q : Request) (reply : Reply) (meta : MetaRow) (x : Declar
             (All-cons (λ c. (u : Tables) → IsFor u c) (SetCounters counters) [] (λ u. tt) (All-nil (λ c. (u : Tables) → IsFor u c))));
         free =
             subst (AreFree t) (sym changes_are)
-            (free_cons t (AddDeclaration begins.row) (begins.progress ∷ SetCounters counters ∷ []) declaration_free
-            (free_two (change.with_declaration t d) begins.progress (SetCounters counters) (begins.sets.free (change.with_declaration t d) once) tt));
+            (first_in_turn IsFree t (AddDeclaration begins.row) (begins.progress ∷ SetCounters counters ∷ []) declaration_free
+            (two_in_turn IsFree (change.with_declaration t d) begins.progress (SetCounters counters) (begins.sets.free (change.with_declaration t d) once) tt));
+        room = λ can.
+            subst (HaveRoom t) (sym changes_are)
+            (first_in_turn HasRoom t (AddDeclaration begins.row) (begins.progress ∷ SetCounters counters ∷ []) (small_declaration d begins.reads_row)
+            (two_in_turn HasRoom (change.with_declaration t d) begins.progress (SetCounters counters) (progress_room can)
+            (subst (λ u. HasRoom u (SetCounters counters)) (sym (begins.sets.made_is (change.with_declaration t d))) (counters_room declared counters meta_read))));
         acted =
             subst (λ u. IsActed t u (with_issue s x)) (sym all_made)
             (declaring_acted t due.accepted.kept q.caller x found.device due.standing.device refused d begins.states begins.reads_row numbered due.declarations_rise begins.sets.last_day begins.sets.ends begins.sets.ends_read carry (sym parts.0) nothing);
@@ -177,10 +194,16 @@ module _ (t : Tables) (q : Request) (reply : Reply) (meta : MetaRow) (x : Declar
             (All-cons (λ c. (u : Tables) → IsFor u c) (AddLot adds.row) (SetCounters counters ∷ []) (λ u. tt) (All-cons (λ c. (u : Tables) → IsFor u c) (SetCounters counters) [] (λ u. tt) (All-nil (λ c. (u : Tables) → IsFor u c)))));
         free =
             subst (AreFree t) (sym changes_are)
-            (free_cons t (AddDeclaration begins.row) (begins.progress ∷ AddLot adds.row ∷ SetCounters counters ∷ []) declaration_free
-            (free_cons (change.with_declaration t d) begins.progress (AddLot adds.row ∷ SetCounters counters ∷ []) (begins.sets.free (change.with_declaration t d) once)
-            (free_two (made (change.with_declaration t d) begins.progress) (AddLot adds.row) (SetCounters counters)
+            (first_in_turn IsFree t (AddDeclaration begins.row) (begins.progress ∷ AddLot adds.row ∷ SetCounters counters ∷ []) declaration_free
+            (first_in_turn IsFree (change.with_declaration t d) begins.progress (AddLot adds.row ∷ SetCounters counters ∷ []) (begins.sets.free (change.with_declaration t d) once)
+            (two_in_turn IsFree (made (change.with_declaration t d) begins.progress) (AddLot adds.row) (SetCounters counters)
             (subst (λ u. IsFree u (AddLot adds.row)) (sym (begins.sets.made_is (change.with_declaration t d))) (free_lot declared adds.row fresh unknown)) tt)));
+        room = λ can.
+            subst (HaveRoom t) (sym changes_are)
+            (first_in_turn HasRoom t (AddDeclaration begins.row) (begins.progress ∷ AddLot adds.row ∷ SetCounters counters ∷ []) (small_declaration d begins.reads_row)
+            (first_in_turn HasRoom (change.with_declaration t d) begins.progress (AddLot adds.row ∷ SetCounters counters ∷ []) (progress_room can)
+            (two_in_turn HasRoom (made (change.with_declaration t d) begins.progress) (AddLot adds.row) (SetCounters counters) (small_lot l adds.reads adds.kept)
+            (subst (λ u. HasRoom (made u (AddLot adds.row)) (SetCounters counters)) (sym (begins.sets.made_is (change.with_declaration t d))) (counters_room (change.with_lot declared l) counters meta_read)))));
         acted =
             subst (λ u. IsActed t u (with_issue s x)) (sym all_made)
             (issuing_acted t due.accepted.kept q.caller x found.device due.standing.device refused d begins.states begins.reads_row numbered due.declarations_rise begins.sets.last_day begins.sets.ends begins.sets.ends_read carry (sym parts.0)

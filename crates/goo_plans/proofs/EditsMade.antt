@@ -15,13 +15,13 @@ use Rattle.goo_shelf.specs.Plan.{StayRising}
 use Rattle.goo_columns.specs.Rows.{Tables, Lot, lot_key, piece_key}
 use Rattle.goo_columns.specs.declared.piece.PieceRow.{PieceRow}
 use Rattle.goo_tables.specs.Changes.{without_piece, with_piece}
-use Rattle.goo_changes.specs.Changes.{made_all, AreFree}
+use Rattle.goo_changes.specs.Changes.{made_all, IsFree, AreFree}
 use Rattle.goo_plans.specs.EditChanges.{AreRowsOf, AreForEdit, AreForEdits}
 use Rattle.goo_kept.specs.Readable.{is_piece}
 use Rattle.goo_changes.specs.declared.change.Change.{Change}
 use Rattle.goo_changes.specs.declared.change.Change.TheVariants.{DeletePiece, InsertPiece}
 use Rattle.goo_kept.proofs.Inserted.{all_inserted}
-use Rattle.goo_plans.proofs.FreeChanges.{free_none, free_cons, free_append}
+use Rattle.goo_plans.proofs.InTurn.{none_in_turn, first_in_turn, both_in_turn}
 use Rattle.goo_plans.proofs.LotsAdded.{none_there}
 use Rattle.goo_plans.proofs.RowChanges.{rows_for, HaveLots, begins_at, new_row, number_free, row_inserted, row_removed}
 
@@ -56,19 +56,19 @@ module _ (lots : List Lot) where
   }
 
   deletes_made : (ks : List ℕ) (t : Tables) → AreGood t.pieces → Leave t (map (λ k. DeletePiece k) ks) (without_each ks (rows_for lots t.pieces))
-  deletes_made [] t good = record { pieces = t.pieces; tables = refl; free = free_none t; rows_are = refl; good = good }
+  deletes_made [] t good = record { pieces = t.pieces; tables = refl; free = none_in_turn IsFree t; rows_are = refl; good = good }
   deletes_made (k ∷ ks) t good =
       let rest = deletes_made ks (without_piece t k) (good_without k t.pieces good) in record {
         pieces = rest.pieces;
         tables = rest.tables;
-        free = free_cons t (DeletePiece k) (map (λ n. DeletePiece n) ks) tt rest.free;
+        free = first_in_turn IsFree t (DeletePiece k) (map (λ n. DeletePiece n) ks) tt rest.free;
         rows_are = rest.rows_are ∙ ap (without_each ks) (row_removed lots k t.pieces good.have good.rise);
         good = rest.good;
       }
 
   inserts_made : (xs : List PieceRow) (ps : List Piece) → AreRowsOf lots xs ps → (t : Tables) → AreGood t.pieces → IsRising (with_each ps (rows_for lots t.pieces))
       → Leave t (map (λ x. InsertPiece x) xs) (with_each ps (rows_for lots t.pieces))
-  inserts_made [] [] are t good rising = record { pieces = t.pieces; tables = refl; free = free_none t; rows_are = refl; good = good }
+  inserts_made [] [] are t good rising = record { pieces = t.pieces; tables = refl; free = none_in_turn IsFree t; rows_are = refl; good = good }
   inserts_made [] (p ∷ ps) are t good rising = absurd are
   inserts_made (x ∷ xs) [] are t good rising = absurd are
   inserts_made (x ∷ xs) (p ∷ ps) are t good rising =
@@ -86,7 +86,7 @@ module _ (lots : List Lot) where
       let rest = inserts_made xs ps are.1 (with_piece t x) good_after (subst (λ rows. IsRising (with_each ps rows)) (sym put) rising) in record {
         pieces = rest.pieces;
         tables = rest.tables;
-        free = free_cons t (InsertPiece x) (map (λ y. InsertPiece y) xs) (none_there (get_by piece_key t.pieces (pos x.first)) fresh) rest.free;
+        free = first_in_turn IsFree t (InsertPiece x) (map (λ y. InsertPiece y) xs) (none_there (get_by piece_key t.pieces (pos x.first)) fresh) rest.free;
         rows_are = rest.rows_are ∙ ap (with_each ps) put;
         good = rest.good;
       }
@@ -105,7 +105,7 @@ module _ (lots : List Lot) where
         tables = ap (made_all t) for.changes_are ∙ made_then t (map (λ k. DeletePiece k) e.delete.items) (map (λ x. InsertPiece x) for.rows) ∙ ap (λ u. made_all u (map (λ x. InsertPiece x) for.rows)) out.tables ∙ into.tables;
         free =
             subst (AreFree t) (sym for.changes_are)
-            (free_append t (map (λ k. DeletePiece k) e.delete.items) (map (λ x. InsertPiece x) for.rows) out.free (subst (λ u. AreFree u (map (λ x. InsertPiece x) for.rows)) (sym out.tables) into.free));
+            (both_in_turn IsFree t (map (λ k. DeletePiece k) e.delete.items) (map (λ x. InsertPiece x) for.rows) out.free (subst (λ u. AreFree u (map (λ x. InsertPiece x) for.rows)) (sym out.tables) into.free));
         rows_are = into.rows_are ∙ ap (with_each e.insert.items) out.rows_are;
         good = into.good;
       }
@@ -117,14 +117,14 @@ module _ (lots : List Lot) where
   -- all edits, one after another
   pub edits_made : (es : List Edit) (changes : List Change) → AreForEdits lots es changes → (t : Tables) → AreGood t.pieces → StayRising es (rows_for lots t.pieces)
       → Leave t changes (edited_all es (rows_for lots t.pieces))
-  edits_made [] changes none t good rising = record { pieces = t.pieces; tables = ap (made_all t) none; free = subst (AreFree t) (sym none) (free_none t); rows_are = refl; good = good }
+  edits_made [] changes none t good rising = record { pieces = t.pieces; tables = ap (made_all t) none; free = subst (AreFree t) (sym none) (none_in_turn IsFree t); rows_are = refl; good = good }
   edits_made (e ∷ es) changes for t good rising =
       let one = edit_made e for.0 for.3 t good (rising_first es (edited e (rows_for lots t.pieces)) rising.1) in
       let mid : Tables = record t { pieces = one.pieces } in
       let rest = edits_made es for.1 for.4 mid one.good (subst (StayRising es) (sym one.rows_are) rising.1) in record {
         pieces = rest.pieces;
         tables = ap (made_all t) for.2 ∙ made_then t for.0 for.1 ∙ ap (λ u. made_all u for.1) one.tables ∙ rest.tables;
-        free = subst (AreFree t) (sym for.2) (free_append t for.0 for.1 one.free (subst (λ u. AreFree u for.1) (sym one.tables) rest.free));
+        free = subst (AreFree t) (sym for.2) (both_in_turn IsFree t for.0 for.1 one.free (subst (λ u. AreFree u for.1) (sym one.tables) rest.free));
         rows_are = rest.rows_are ∙ ap (edited_all es) one.rows_are;
         good = rest.good;
       }

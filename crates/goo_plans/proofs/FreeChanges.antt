@@ -1,5 +1,5 @@
 -- Changes that are free, since what they put in isn't there yet.
-use Rattle.std.proofs.Common.{◌≡◌, ℕ, zero, suc, pos, ◌&&◌, List, [], ◌∷◌, ◌++◌, Bool, true, false, cond, map, find, Some, None, refl, ap, sym, subst, ◌∙◌, arith, true≢false, inl, inr}
+use Rattle.std.proofs.Common.{◌≡◌, ℕ, pos, ◌&&◌, List, [], ◌∷◌, Bool, true, false, cond, map, find, Some, None, refl, ap, sym, subst, ◌∙◌, true≢false, inl, inr}
 use Rattle.std.specs.Str as str
 use Rattle.std.specs.Cmp.{IsTotalOrder, nat_cmp_total}
 use Rattle.std.specs.Cmp.Lexicographic.{nat_list_cmp_total}
@@ -23,8 +23,7 @@ use Rattle.goo_columns.specs.Rows as row
 use Rattle.goo_columns.specs.Rows.{Tables, Lot, lot_key, lot_in}
 use Rattle.goo_columns.specs.declared.lot.LotRow.{LotRow}
 use Rattle.goo_tables.specs.Changes.{with_lot}
-use Rattle.goo_changes.specs.Changes.{made, made_all, IsFree, AreFree}
-use Rattle.goo_changes.specs.declared.change.Change.{Change}
+use Rattle.goo_changes.specs.Changes.{IsFree, AreFree}
 use Rattle.goo_changes.specs.declared.change.Change.TheVariants.{AddLot}
 use Rattle.goo_kept.specs.Devices.{declaration_of}
 use Rattle.goo_kept.specs.Places.{lot_of}
@@ -32,6 +31,7 @@ use Rattle.goo_kept.specs.States.{known_lot}
 use Rattle.goo_kept.specs.Texts.{day_of}
 use Rattle.goo_kept.proofs.Known.{text_test, text_same, text_itself, number_test, number_is, receipt_total, receipt_test, notice_total, notice_test}
 use Rattle.goo_plans.specs.NewLots.{known_lots, AreNewLots}
+use Rattle.goo_plans.proofs.InTurn.{none_in_turn, first_in_turn}
 use Rattle.goo_plans.proofs.LotsAdded.{none_there}
 
 -- ---- where nothing is known under a key, no row is found by it
@@ -93,24 +93,7 @@ no_declaration x d states (y ∷ ds) none =
         let day : day_of y.first_day ≡ x.first_day = ap day_of (text_same y.first_day d.first_day (second_of_both (bytes_eq y.device d.device) _ is)) ∙ ap (λ (k : Declare). k.first_day) states in
         absurd (true≢false (sym (λ i. (bytes_eq-Decides y.device x.device).1 device i && (Decides-same_day (day_of y.first_day) x.first_day).1 day i) ∙ other))
 
--- ---- lists of free changes
-
-pub free_none : (t : Tables) → AreFree t []
-free_none t i d low = absurd (omega (arith, low))
-
-pub free_cons : (t : Tables) (a : Change) (xs : List Change) → IsFree t a → AreFree (made t a) xs → AreFree t (a ∷ xs)
-free_cons t a xs one rest zero d low = one
-free_cons t a xs one rest (suc i) d low = rest i d (omega (arith, low))
-
-pub free_one : (t : Tables) (a : Change) → IsFree t a → AreFree t (a ∷ [])
-free_one t a one = free_cons t a [] one (free_none (made t a))
-
-pub free_two : (t : Tables) (a b : Change) → IsFree t a → IsFree (made t a) b → AreFree t (a ∷ b ∷ [])
-free_two t a b one two = free_cons t a (b ∷ []) one (free_one (made t a) b two)
-
-pub free_append : (t : Tables) (xs ys : List Change) → AreFree t xs → AreFree (made_all t xs) ys → AreFree t (xs ++ ys)
-free_append t [] ys free rest = rest
-free_append t (x ∷ xs) ys free rest = free_cons t x (xs ++ ys) (free 0 x (omega arith)) (free_append (made t x) xs ys (λ i d low. free (suc i) d (omega (arith, low))) rest)
+-- ---- lots that become known
 
 -- a row of a lot that isn't known, under a number that no lot has
 pub free_lot : (t : Tables) (r : LotRow) → has_key lot_key t.lots (lot_key (lot_in r)) ≡ false → get (known_lots t.lots) (key_of (lot_of (lot_in r))) ≡ None → IsFree t (AddLot r)
@@ -118,18 +101,18 @@ free_lot t r fresh unknown = (none_there (get_by lot_key t.lots (lot_key (lot_in
 
 -- the lots of a notice's parts, one after another
 pub free_lots : (ps : List Part) (rows : List LotRow) (t : Tables) → AreNewLots t.lots ps (map lot_in rows) → AreFree t (map (λ r. AddLot r) rows)
-free_lots [] [] t are = free_none t
+free_lots [] [] t are = none_in_turn IsFree t
 free_lots [] (r ∷ rows) t are = absurd cc
 free_lots (p ∷ ps) rows t are = go rows are (free_lots ps)
   where
     go : (more : List LotRow) → AreNewLots t.lots (p ∷ ps) (map lot_in more) → ((others : List LotRow) (u : Tables) → AreNewLots u.lots ps (map lot_in others) → AreFree u (map (λ r. AddLot r) others)) → AreFree t (map (λ r. AddLot r) more)
     go more (inl known) later = later more t known.1
-    go [] (inr put) later = free_none t
+    go [] (inr put) later = none_in_turn IsFree t
     go (r ∷ more) (inr put) later =
         let is : lot_in r ∷ map lot_in more ≡ put.0 ∷ put.1 = put.2 in
         let first : put.0 ≡ lot_in r = cc in
         let rest : put.1 ≡ map lot_in more = cc in
         let it = put.3 in
-        free_cons t (AddLot r) (map (λ k. AddLot k) more)
+        first_in_turn IsFree t (AddLot r) (map (λ k. AddLot k) more)
         (free_lot t r (subst (λ (l : Lot). has_key lot_key t.lots (lot_key l) ≡ false) first it.fresh) (subst (λ (l : Lot). get (known_lots t.lots) (key_of (lot_of l)) ≡ None) first (ap (λ k. get (known_lots t.lots) (key_of k)) it.states ∙ it.unknown)))
         (later more (with_lot t (lot_in r)) (subst (λ (l : Lot). AreNewLots (insert_by lot_key t.lots l) ps (map lot_in more)) first (subst (AreNewLots (insert_by lot_key t.lots put.0) ps) rest put.4)))

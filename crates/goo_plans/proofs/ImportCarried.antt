@@ -1,9 +1,9 @@
 -- An accepted import, carried out by changes that put its lots and its notice in.
-use Rattle.std.proofs.Common.{◌≡◌, ℤ, pos, true, List, [], ◌∷◌, ◌++◌, append-nil, map, take, fold, Option, Some, None, All, refl, ap, sym, subst, ◌∙◌}
+use Rattle.std.proofs.Common.{◌≡◌, ℤ, pos, true, List, [], ◌∷◌, ◌++◌, append-nil, map, fold, Option, Some, None, All, refl, ap, sym, subst, ◌∙◌}
 use Rattle.std.specs.FinMap.{get}
 use Rattle.std.proofs.lemmas.List.Sums.{fold-append}
 use Rattle.std.proofs.lemmas.List.Elements.{All-map, All-push}
-use Rattle.sqlite_keyed.specs.Keyed.{IsKeyedBy}
+use Rattle.sqlite_keyed.specs.Keyed.{IsKeyedBy, next_key}
 use Rattle.goo_types.specs.Notice.{IsWhole}
 use Rattle.goo_types.specs.declared.command.Command.TheVariants.{Import}
 use Rattle.goo_types.specs.declared.command.Import as importing
@@ -15,7 +15,8 @@ use Rattle.goo_spec.specs.Import.{import_refusal, import_repeats, with_import}
 use Rattle.goo_spec.specs.State.{State}
 use Rattle.goo_spec.specs.Step.{refusal, reply_to, repeats, fresh_outcome}
 use Rattle.goo_spec.proofs.Stepping.{accepted_passes, not_kept}
-use Rattle.goo_columns.specs.Rows.{Tables, Lot, Kept, NoticeIn, kept_key, lot_in, notice_in_in}
+use Rattle.goo_columns.specs.Refused.{HasRoomFor}
+use Rattle.goo_columns.specs.Rows.{Tables, Lot, Kept, NoticeIn, kept_key, lot_in, notice_in_in, notice_in_row}
 use Rattle.goo_columns.specs.declared.notice_in.NoticeInRow.{NoticeInRow}
 use Rattle.goo_tables.specs.Changes.{with_lot, with_notice_in}
 use Rattle.goo_kept.specs.Readable.{is_notice_in}
@@ -23,20 +24,19 @@ use Rattle.goo_kept.specs.Records.{arrived_of}
 use Rattle.goo_kept.specs.States.{state_of, known_arrival}
 use Rattle.goo_plans.specs.Acted.{IsActed}
 use Rattle.goo_plans.specs.Carrying.{CarriesOut, IsAccepted}
-use Rattle.goo_changes.specs.Changes.{made, made_all, IsFor, AreFor, IsFree, AreFree}
+use Rattle.goo_changes.specs.Changes.{made, made_all, IsFor, IsFree, AreFree, HasRoom, HaveRoom}
 use Rattle.goo_plans.specs.GatheredLots.{ArePutIn}
 use Rattle.goo_plans.specs.LotNumbers.{AreJustWith}
 use Rattle.goo_plans.specs.LotRows.{with_rows}
 use Rattle.goo_plans.specs.NewLots.{AreNewLots}
-use Rattle.goo_changes.specs.declared.change.Change.{Change}
+use Rattle.goo_plans.specs.Room.{HaveRowids}
 use Rattle.goo_changes.specs.declared.change.Change.TheVariants.{AddLot, AddNoticeIn}
 use Rattle.goo_plans.specs.declared.gathered_lots.Gathered.{Gathered}
-use Rattle.goo_plans.proofs.FreeChanges.{no_notice, free_append, free_one, free_lots}
+use Rattle.goo_plans.proofs.FreeChanges.{no_notice, free_lots}
 use Rattle.goo_plans.proofs.ImportingActed.{absent, importing_acted, lots_made, lots_put}
-
--- changes that are for any tables
-pub all_for : (changes : List Change) → All (λ c. (u : Tables) → IsFor u c) changes → (t : Tables) → AreFor t changes
-all_for changes all t i d low = all i d low (made_all t (take i changes))
+use Rattle.goo_plans.proofs.InTurn.{one_in_turn, both_in_turn, always_in_turn}
+use Rattle.goo_plans.proofs.RoomChanges.{lots_room}
+use Rattle.goo_plans.proofs.SmallRows.{small_notice_in}
 
 lots_after : (new : List Lot) (t : Tables) → (fold with_lot t new).lots ≡ with_rows t.lots new
 lots_after [] t = refl
@@ -80,6 +80,9 @@ module _ (t : Tables) (x : importing.Import) (q : Request) (reply : Reply) (is :
       subst (All (λ c. (u : Tables) → IsFor u c)) (sym changes_are)
       (All-push (λ c. (u : Tables) → IsFor u c) (map (λ r. AddLot r) put.rows) (AddNoticeIn n) (All-map (λ c. (u : Tables) → IsFor u c) (λ r. AddLot r) put.rows (λ k d low u. tt)) (λ u. tt))
 
+  notices_same : (made_all t (map (λ r. AddLot r) put.rows)).notices_in ≡ t.notices_in
+  notices_same = ap (λ (u : Tables). u.notices_in) (lots_made put.rows t ∙ lots_put new t)
+
   -- the lots come where they aren't known, and the notice where it hasn't arrived
   all_free : AreFree t after.changes.items
   unfolding state_of
@@ -88,15 +91,26 @@ module _ (t : Tables) (x : importing.Import) (q : Request) (reply : Reply) (is :
       let i = notice_in_in n in
       let none : get (state_of t).arrived (x.notice.sender, x.notice.number) ≡ None = absent t it.kept q.caller x whole accepted new_one new lots i states reads rise in
       let missing : IsFree t (AddNoticeIn n) = no_notice (λ (k : Kept NoticeIn). arrived_of k.1) (λ k. k.1.sender) (λ k. k.1.number) i.sender i.number t.notices_in (ap (λ e. get (state_of t).arrived e.0) (states (pos 0)) ∙ none) in
-      let same : (made_all t front).notices_in ≡ t.notices_in = ap (λ (u : Tables). u.notices_in) (lots_made put.rows t ∙ lots_put new t) in
       subst (AreFree t) (sym changes_are)
-      (free_append t front (AddNoticeIn n ∷ []) (free_lots x.notice.parts put.rows t lots)
-      (free_one (made_all t front) (AddNoticeIn n) (subst (λ xs. IsFree (record t { notices_in = xs }) (AddNoticeIn n)) (sym same) missing)))
+      (both_in_turn IsFree t front (AddNoticeIn n ∷ []) (free_lots x.notice.parts put.rows t lots)
+      (one_in_turn IsFree (made_all t front) (AddNoticeIn n) (subst (λ xs. IsFree (record t { notices_in = xs }) (AddNoticeIn n)) (sym notices_same) missing)))
+
+  -- and have room, where rowids are left
+  all_room : HaveRowids t → HaveRoom t after.changes.items
+  all_room can =
+      let front = map (λ r. AddLot r) put.rows in
+      let i = notice_in_in n in
+      let key = next_key kept_key t.notices_in in
+      let kept : HasRoomFor notice_in_row t.notices_in i = (small_notice_in (key, i) (reads key), can.notices_in) in
+      subst (HaveRoom t) (sym changes_are)
+      (both_in_turn HasRoom t front (AddNoticeIn n ∷ []) (always_in_turn HasRoom t front (lots_room x.notice.parts put.rows t.lots lots))
+      (one_in_turn HasRoom (made_all t front) (AddNoticeIn n) (subst (λ xs. HasRoomFor notice_in_row xs i) (sym notices_same) kept)))
 
   pub import_carried : CarriesOut t q.command after
   import_carried = subst (λ c. CarriesOut t c after) (sym is) (record {
-    for = all_for after.changes.items for_any t;
+    for = always_in_turn IsFor t after.changes.items for_any;
     free = all_free;
+    room = all_room;
     acted = subst (λ u. IsActed t u (with_import s x)) (sym all_made) (importing_acted t it.kept q.caller x whole accepted new_one new lots (notice_in_in n) states reads rise);
     lots =
         subst (λ xs. AreJustWith t.lots xs (made_all t after.changes.items).lots) (sym added)

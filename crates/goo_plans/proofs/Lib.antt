@@ -7,7 +7,12 @@ pub mod ActsActed
 pub mod ClosingActed
 pub mod RegisteringActed
 pub mod LotsAdded
+pub mod InTurn
 pub mod FreeChanges
+pub mod ShortTexts
+pub mod BriefTexts
+pub mod SmallRows
+pub mod RoomChanges
 pub mod ProgressSet
 pub mod DeclaringActed
 pub mod ImportingActed

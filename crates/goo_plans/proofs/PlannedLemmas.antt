@@ -30,15 +30,17 @@ use Rattle.goo_rows.specs.Certificates.{certificates_of}
 use Rattle.goo_rows.proofs.CertificateLemmas.{certificates-same}
 use Rattle.goo_columns.specs.Rows.{Tables, Kept, kept_key, piece_key}
 use Rattle.goo_columns.specs.Rows as row
-use Rattle.goo_columns.specs.Rows.{receipt_in}
+use Rattle.goo_columns.specs.Rows.{receipt_in, receipt_row}
+use Rattle.goo_columns.specs.Refused.{HasRoomFor}
 use Rattle.goo_columns.specs.declared.receipt.ReceiptRow.{ReceiptRow}
 use Rattle.goo_tables.specs.Changes.{added, with_receipt}
 use Rattle.goo_plans.specs.Acted.{IsActed, IsReceiptOf}
-use Rattle.goo_changes.specs.Changes.{made, made_all, AreFor, IsFree, AreFree}
+use Rattle.goo_changes.specs.Changes.{made, made_all, AreFor, IsFree, AreFree, HasRoom, HaveRoom}
 use Rattle.goo_plans.specs.EditChanges.{AreForEdits}
 use Rattle.goo_kept.specs.Kept.{AreKept}
 use Rattle.goo_kept.specs.Places.{rows_of}
 use Rattle.goo_plans.specs.Planned.{IsPlanned}
+use Rattle.goo_plans.specs.Room.{HaveRowids}
 use Rattle.goo_kept.specs.Readable.{is_receipt}
 use Rattle.goo_kept.specs.Replies.{receipt_of}
 use Rattle.goo_kept.specs.States.{state_of, known_receipt}
@@ -47,7 +49,9 @@ use Rattle.goo_changes.specs.declared.change.Change.TheVariants.{AddReceipt}
 use Rattle.goo_plans.proofs.EditsMade.{AreGood, edits_made}
 use Rattle.goo_kept.proofs.Inserted.{all_inserted, map_inserted}
 use Rattle.goo_kept.proofs.Known.{receipt_total}
-use Rattle.goo_plans.proofs.FreeChanges.{no_receipt, free_append, free_one}
+use Rattle.goo_plans.proofs.FreeChanges.{no_receipt}
+use Rattle.goo_plans.proofs.InTurn.{one_in_turn, both_in_turn}
+use Rattle.goo_plans.proofs.RoomChanges.{receipt_room}
 use Rattle.goo_plans.proofs.RowChanges.{rows_for}
 
 receipts_apart : IsAntisymmetric receipt_cmp
@@ -157,14 +161,22 @@ module _ (t : Tables) (kept : AreKept t) (plan : Plan) (fits : Fits (state_of t)
 
   free_after : AreFree t act → AreFree t all_changes
   free_after free =
-      free_append t act (edits ++ AddReceipt kept_as ∷ []) free
-      (free_append t1 edits (AddReceipt kept_as ∷ []) leave.free (free_one (made_all t1 edits) (AddReceipt kept_as) (subst (λ u. IsFree u (AddReceipt kept_as)) (sym leave.tables) receipt_free)))
+      both_in_turn IsFree t act (edits ++ AddReceipt kept_as ∷ []) free
+      (both_in_turn IsFree t1 edits (AddReceipt kept_as ∷ []) leave.free (one_in_turn IsFree (made_all t1 edits) (AddReceipt kept_as) (subst (λ u. IsFree u (AddReceipt kept_as)) (sym leave.tables) receipt_free)))
+
+  -- and has room, where rowids are left
+  room_after : (HaveRowids t → HaveRoom t act) → HaveRoom t1 edits → HaveRowids t → HaveRoom t all_changes
+  room_after room rest can =
+      let kept_too = subst (λ rows. HasRoomFor receipt_row rows r) (sym acted.receipts) (receipt_room q plan.reply r receipt t.receipts can.receipts) in
+      both_in_turn HasRoom t act (edits ++ AddReceipt kept_as ∷ []) (room can)
+      (both_in_turn HasRoom t1 edits (AddReceipt kept_as ∷ []) rest (one_in_turn HasRoom (made_all t1 edits) (AddReceipt kept_as) (subst (λ u. HasRoom u (AddReceipt kept_as)) (sym leave.tables) kept_too)))
 
   -- so they carry it out
-  pub planned : AreFor t all_changes → AreFree t act → IsPlanned t all_changes plan
-  planned for free = record {
+  pub planned : AreFor t all_changes → AreFree t act → (HaveRowids t → HaveRoom t act) → HaveRoom t1 edits → IsPlanned t all_changes plan
+  planned for free room rest = record {
     for = for;
     free = free_after free;
+    room = room_after room rest;
     state = ap state_of all_made ∙ state_after;
     rows = ap rows_of all_made ∙ rows_after;
     kept = subst AreKept (sym all_made) kept_after;

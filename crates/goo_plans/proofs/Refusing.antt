@@ -42,7 +42,7 @@ use Rattle.goo_plans.specs.declared.trouble.Trouble.TheVariants.{Memory, Refused
 
 -- ---- one statement, whose answer was read
 
-more_faults : (old new : State) (e : Error) → IsTrue old.is_open → e ≢ SqliteFailure OutOfMemory → IsFault old new e → MoreFaults old.faults new.faults
+pub more_faults : (old new : State) (e : Error) → IsTrue old.is_open → e ≢ SqliteFailure OutOfMemory → IsFault old new e → MoreFaults old.faults new.faults
 more_faults old new e live other (inl memory) = absurd (other memory)
 more_faults old new e live other (inr (named, inl more)) = more
 more_faults old new e live other (inr (named, inr shut)) = absurd (true≢false (sym live ∙ shut))

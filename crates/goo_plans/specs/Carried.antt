@@ -12,7 +12,8 @@ use Rattle.goo_kept.specs.Kept.{AreKept}
 use Rattle.goo_kept.specs.Readable.{is_act}
 use Rattle.goo_kept.specs.States.{state_of}
 use Rattle.goo_plans.specs.Acted.{IsActed}
-use Rattle.goo_changes.specs.Changes.{made_all, AreFor, AreFree}
+use Rattle.goo_plans.specs.Room.{HaveRowids}
+use Rattle.goo_changes.specs.Changes.{made_all, AreFor, AreFree, HaveRoom}
 use Rattle.goo_changes.specs.declared.change.Change.{Change}
 
 -- the rows of each table come in the order of their keys
@@ -30,10 +31,11 @@ pub record AreInOrder (t : Tables) : Type 0 where
   pub notices_out : IsKeyedBy notice_out_key t.notices_out
   pub notices_in : IsKeyedBy kept_key t.notices_in
 
--- they can be made in turn, each where it is free, they change what the command does, and they put no lot in
+-- they can be made in turn, each where it is free and has room, they change what the command does, and they put no lot in
 pub record Carry (t : Tables) (command : Command) (changes : List Change) : Type 0 where
   pub for : AreFor t changes
   pub free : AreFree t changes
+  pub room : HaveRowids t → HaveRoom t changes
   pub acted : IsActed t (made_all t changes) (changed (state_of t) command)
   pub lots : (made_all t changes).lots ≡ t.lots
 

@@ -9,14 +9,16 @@ use Rattle.goo_columns.specs.Rows.{Tables}
 use Rattle.goo_kept.specs.Kept.{AreKept}
 use Rattle.goo_kept.specs.States.{state_of}
 use Rattle.goo_plans.specs.Acted.{IsActed}
-use Rattle.goo_changes.specs.Changes.{made_all, AreFor, AreFree}
+use Rattle.goo_changes.specs.Changes.{made_all, AreFor, AreFree, HaveRoom}
 use Rattle.goo_plans.specs.LotNumbers.{AreJustWith}
+use Rattle.goo_plans.specs.Room.{HaveRowids}
 use Rattle.goo_plans.specs.declared.gathered_lots.Gathered.{Gathered}
 
 -- the changes make of the tables what the command does, and put its lots in under their numbers
 pub record CarriesOut (t : Tables) (c : Command) (g : Gathered) : Type 0 where
   pub for : AreFor t g.changes.items
   pub free : AreFree t g.changes.items
+  pub room : HaveRowids t → HaveRoom t g.changes.items
   pub acted : IsActed t (made_all t g.changes.items) (changed (state_of t) c)
   pub lots : AreJustWith t.lots g.added.items (made_all t g.changes.items).lots
 

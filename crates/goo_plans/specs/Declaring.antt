@@ -1,5 +1,5 @@
 -- The changes that a declaration takes.
-use Rattle.std.specs.Prelude.{◌≡◌, ℕ, ◌+◌, ◌-◌, ◌<◌, ◌^◌, true, IsTrue, List, [], ◌∷◌, filter, string_bytes, Option, Some, None}
+use Rattle.std.specs.Prelude.{◌≡◌, ℕ, ◌+◌, ◌-◌, ◌<◌, ◌^◌, true, All, IsTrue, List, [], ◌∷◌, filter, string_bytes, Option, Some, None}
 use Rattle.sqlite_keyed.specs.Keyed.{IsKeyedBy}
 use Rattle.sqlite_typed.specs.Tests.{bytes_eq}
 use Rattle.goo_types.specs.Day.{day_reading}
@@ -14,16 +14,17 @@ use Rattle.goo_types.specs.declared.request.Request.{Request}
 use Rattle.goo_spec.specs.Declare.{lot_of}
 use Rattle.goo_spec.specs.State.{State, Device}
 use Rattle.goo_columns.specs.Once.{IsOnce}
-use Rattle.goo_columns.specs.Rows.{Tables, declaration_in, declaration_key, lot_key, meta_in}
+use Rattle.goo_columns.specs.Refused.{CanBeKept}
+use Rattle.goo_columns.specs.Rows.{Tables, declaration_in, declaration_key, device_row, lot_key, meta_in}
 use Rattle.goo_columns.specs.declared.declaration.DeclarationRow.{DeclarationRow}
 use Rattle.goo_columns.specs.declared.meta.MetaRow.{MetaRow}
-use Rattle.goo_tables.specs.Changes.{with_progress}
+use Rattle.goo_tables.specs.Changes.{progressed, with_progress}
 use Rattle.goo_kept.specs.Devices.{declaration_of}
 use Rattle.goo_kept.specs.Readable.{is_declaration, is_meta, reads}
 use Rattle.goo_kept.specs.Texts.{day_of}
 use Rattle.goo_plans.specs.AtHand.{HasStanding}
 use Rattle.goo_plans.specs.Carrying.{IsAccepted}
-use Rattle.goo_changes.specs.Changes.{made, IsFor, IsFree}
+use Rattle.goo_changes.specs.Changes.{made, IsFor, IsFree, HasRoom}
 use Rattle.goo_plans.specs.Found.{IsDeviceOf}
 use Rattle.goo_plans.specs.GatheredLots.{AddsLot}
 use Rattle.goo_plans.specs.Standing.{IsStanding}
@@ -39,6 +40,7 @@ pub record SetsProgress (x : Declare) (carry : ℕ) (c : Change) : Type 0 where
   pub made_is : (t : Tables) → made t c ≡ with_progress t x.device last_day carry
   pub for : (t : Tables) → IsOnce (filter (λ k. bytes_eq k.1.gsrn x.device) t.devices) → IsFor t c
   pub free : (t : Tables) → IsOnce (filter (λ k. bytes_eq k.1.gsrn x.device) t.devices) → IsFree t c
+  pub room : (t : Tables) → All (λ k. CanBeKept (device_row (progressed last_day carry k))) t.devices → HasRoom t c
   pub ends : day_of last_day ≡ x.last_day
   pub ends_read : reads (day_reading last_day) ≡ true
 

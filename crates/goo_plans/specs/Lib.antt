@@ -2,6 +2,7 @@ pub mod Found
 pub mod Passing
 pub mod Reading
 pub mod Plants
+pub mod Room
 pub mod Planned
 pub mod EditChanges
 pub mod Acted

@@ -4,16 +4,18 @@ use Rattle.goo_spec.specs.Step.{accept}
 use Rattle.goo_rows.specs.Rows.{edited_all}
 use Rattle.goo_shelf.specs.declared.plan.Plan.{Plan}
 use Rattle.goo_columns.specs.Rows.{Tables}
-use Rattle.goo_changes.specs.Changes.{made_all, AreFor, AreFree}
+use Rattle.goo_changes.specs.Changes.{made_all, AreFor, AreFree, HaveRoom}
 use Rattle.goo_kept.specs.Kept.{AreKept}
 use Rattle.goo_kept.specs.Places.{rows_of}
 use Rattle.goo_kept.specs.States.{state_of}
 use Rattle.goo_changes.specs.declared.change.Change.{Change}
+use Rattle.goo_plans.specs.Room.{HaveRowids}
 
--- they can be made in turn, each where it is free, they leave the state after the plan's request and the rows after its edits, and the rules are kept
+-- they can be made in turn, each where it is free and has room, they leave the state after the plan's request and the rows after its edits, and the rules are kept
 pub record IsPlanned (t : Tables) (changes : List Change) (plan : Plan) : Type 0 where
   pub for : AreFor t changes
   pub free : AreFree t changes
+  pub room : HaveRowids t → HaveRoom t changes
   pub state : state_of (made_all t changes) ≡ accept (state_of t) plan.request
   pub rows : rows_of (made_all t changes) ≡ edited_all plan.edits.items (rows_of t)
   pub kept : AreKept (made_all t changes)

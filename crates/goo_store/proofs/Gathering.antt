@@ -1,5 +1,5 @@
 -- What is gathered for a commit is refused only where the disk failed.
-use Rattle.std.proofs.Common.{◌≡◌, Bool, true, false, IsTrue, refl, sym, subst, ◌∙◌, arith, true≢false, Ok, Err, Result, IfErr}
+use Rattle.std.proofs.Common.{◌≡◌, Bool, true, IsTrue, refl, sym, subst, ◌∙◌, arith, true≢false, Ok, Err, Result, IfErr}
 use Rattle.sqlite_disk.specs.Disk.{MoreFaults}
 use Rattle.sqlite.specs.State.{State, HasCleanDisk}
 use Rattle.goo_types.specs.declared.fault.Fault.{Fault}
@@ -14,19 +14,25 @@ use Rattle.goo_plans.specs.declared.findings.Findings.{Findings}
 use Rattle.goo_plans.specs.declared.trouble.Trouble.{Trouble}
 use Rattle.goo_plans.specs.declared.trouble.Trouble.TheVariants.{Memory, Refused}
 use Rattle.goo_store.specs.Found.{Knows}
-use Rattle.goo_store.specs.Gathering.{BlamesGathering, HaveWhatItNeeds}
+use Rattle.goo_store.specs.Gathering.{BlamesCommit, HaveWhatItNeeds}
 use Rattle.goo_store.specs.Holding.{is_sure}
 use Rattle.goo_store.specs.Moments.{tables_in, IsWell}
 use Rattle.goo_store.specs.Telling.{Tells}
 use Rattle.goo_store.proofs.Prepared.{in_order}
 
 -- once the flag is up, nothing is said
-pub refused_gathering : {T : Type 0} (old : State) (a : Bool) (result : Result T Fault) (plan : Plan) → a ≡ true → BlamesGathering old old a result plan
-refused_gathering old a result plan has = record {
+pub refused_gathering : {T : Type 0} (old : State) (a : Bool) (result : Result T Fault) (HaveNeeds : Tables → Type 0) → a ≡ true → BlamesCommit old old a result HaveNeeds
+refused_gathering old a result HaveNeeds has = record {
   limit = λ _ _. refl;
   counts = λ _ _. omega arith;
   store = λ _ _ _ ready _. absurd (true≢false (sym has ∙ ready));
 }
+
+-- a trouble is told as the store's fault only where it is a refusal
+pub told_so : {T : Type 0} (More : Type 0) (q : Result T Trouble) (a b : Bool) (result : Result T Fault) → Tells q result a b → IfErr q (λ trouble. trouble ≡ Refused → More) → IfErr result (λ f. f ≡ fault.Store → More)
+told_so {T = T} More (Ok x) a b result told more = subst (λ (z : Result T Fault). IfErr z (λ f. f ≡ fault.Store → More)) (sym told.0) tt
+told_so {T = T} More (Err Memory) a b result told more = subst (λ (z : Result T Fault). IfErr z (λ f. f ≡ fault.Store → More)) (sym told.0) (λ is. absurd cc)
+told_so {T = T} More (Err Refused) a b result told more = subst (λ (z : Result T Fault). IfErr z (λ f. f ≡ fault.Store → More)) (sym told.0) (λ _. more refl)
 
 module _ (old new : State) (it : IsWell old) {T : Type 0} (read : Result T Trouble) (right : Tables → T → Type 0) (gathers : LooksUp old new read right) where
   fine : HasCleanDisk new → IsTrue old.is_open → doubts old ≡ 0
@@ -35,21 +41,14 @@ module _ (old new : State) (it : IsWell old) {T : Type 0} (read : Result T Troub
   ours : doubts old ≡ 0 → IsOurs old
   ours none = ((it.stands none).schema, λ _. it.settled none)
 
-  -- a trouble is told as the store's fault only where it is a refusal
-  told_so : (q : Result T Trouble) (a b : Bool) (result : Result T Fault) → Tells q result a b → IfErr q (λ trouble. trouble ≡ Refused → MoreFaults old.faults new.faults)
-      → IfErr result (λ f. f ≡ fault.Store → MoreFaults old.faults new.faults)
-  told_so (Ok x) a b result told more = subst (λ (z : Result T Fault). IfErr z (λ f. f ≡ fault.Store → MoreFaults old.faults new.faults)) (sym told.0) tt
-  told_so (Err Memory) a b result told more = subst (λ (z : Result T Fault). IfErr z (λ f. f ≡ fault.Store → MoreFaults old.faults new.faults)) (sym told.0) (λ is. absurd cc)
-  told_so (Err Refused) a b result told more = subst (λ (z : Result T Fault). IfErr z (λ f. f ≡ fault.Store → MoreFaults old.faults new.faults)) (sym told.0) (λ _. more refl)
-
   pub gathering : (findings : Findings) → Knows old findings → (plan : Plan) (a b : Bool) (result : Result T Fault)
-      → BlamesDisk old new read (λ t. CanBePlanned t findings plan) → Tells read result a b → BlamesGathering old new a result plan
+      → BlamesDisk old new read (λ t. CanBePlanned t findings plan) → Tells read result a b → BlamesCommit old new a result (λ t. HaveWhatItNeeds t plan)
   gathering findings knows plan a b result blames told = record {
     limit = λ clean live. blames.limit clean (ours (fine clean live)) live;
     counts = λ clean live. blames.counts clean (ours (fine clean live)) live;
     store = λ clean live unlimited _ has.
         let none = fine clean live in
         let stands = it.stands none in
-        told_so read a b result told (blames.refused clean (ours none) live unlimited (tables_in old) stands (it.kept none)
+        told_so (MoreFaults old.faults new.faults) read a b result told (blames.refused clean (ours none) live unlimited (tables_in old) stands (it.kept none)
         (record { found = knows none; order = in_order old.now (tables_in old) stands; fits = has.fits; room = has.room; edits = has.edits; lots = has.lots }));
   }

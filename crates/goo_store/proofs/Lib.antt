@@ -11,3 +11,4 @@ pub mod Found
 pub mod RowsRead
 pub mod Blaming
 pub mod Gathering
+pub mod CommitBlamed

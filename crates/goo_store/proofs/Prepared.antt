@@ -51,7 +51,7 @@ module _ {T : Type 0} (old new : State) (it : IsWell old) (r : Result T Trouble)
   now_same : doubts new ≡ 0 → new.now ≡ old.now
   now_same none = (rests none).now (sure new none).1
 
-  tables_same : doubts new ≡ 0 → tables_in new ≡ tables_in old
+  pub tables_same : doubts new ≡ 0 → tables_in new ≡ tables_in old
   tables_same none = ap (λ (d : Database). tables_of d.trees) (now_same none)
 
   -- the shelf stays well

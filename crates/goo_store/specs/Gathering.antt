@@ -1,4 +1,4 @@
--- When what is gathered for a commit may be refused.
+-- When a commit, and what is gathered for it, may be refused.
 use Rattle.std.specs.Prelude.{◌≡◌, ◌≤◌, Bool, false, None, Result, IfErr, IsTrue}
 use Rattle.sqlite_disk.specs.Disk.{MoreFaults}
 use Rattle.sqlite.specs.State.{State, HasCleanDisk}
@@ -12,6 +12,7 @@ use Rattle.goo_kept.specs.Places.{rows_of}
 use Rattle.goo_kept.specs.States.{state_of}
 use Rattle.goo_plans.specs.EditsTaken.{HaveKeptNumbers, HaveKnownLots}
 use Rattle.goo_plans.specs.PlanNeeds.{HasRoomFor}
+use Rattle.goo_plans.specs.Room.{HaveRowids}
 use Rattle.goo_store.specs.Moments.{tables_in}
 
 -- The plan may be committed in the tables, which have room for its command. The registry knows the lots of the pieces that the edits
@@ -22,9 +23,14 @@ pub record HaveWhatItNeeds (t : Tables) (plan : Plan) : Type 0 where
   pub edits : HaveKnownLots (accept (state_of t) plan.request) plan.edits.items
   pub lots : HaveKeptNumbers t.lots
 
--- As of a look-up, over tables that have what the plan needs: `Store` is answered only where the disk failed in this call.
-pub record BlamesGathering {T : Type 0} (old new : State) (refused : Bool) (result : Result T Fault) (plan : Plan) : Type 0 where
+-- so they have, and rowids are left
+pub record CanCarryOut (t : Tables) (plan : Plan) : Type 0 where
+  pub needs : HaveWhatItNeeds t plan
+  pub rowids : HaveRowids t
+
+-- As of a look-up, over tables that have what is needed: `Store` is answered only where the disk failed in this call.
+pub record BlamesCommit {T : Type 0} (old new : State) (refused : Bool) (result : Result T Fault) (HaveNeeds : Tables → Type 0) : Type 0 where
   pub limit : HasCleanDisk new → IsTrue old.is_open → new.step_limit ≡ old.step_limit
   pub counts : HasCleanDisk new → IsTrue old.is_open → old.faults ≤ new.faults
-  pub store : HasCleanDisk new → IsTrue old.is_open → old.step_limit ≡ None → refused ≡ false → HaveWhatItNeeds (tables_in old) plan
+  pub store : HasCleanDisk new → IsTrue old.is_open → old.step_limit ≡ None → refused ≡ false → HaveNeeds (tables_in old)
       → IfErr result (λ fault. fault ≡ Store → MoreFaults old.faults new.faults)

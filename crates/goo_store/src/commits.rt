@@ -8,7 +8,7 @@ ghost use Rattle.goo_plans.specs.Found.{AreNone};
 ghost use Rattle.goo_store.specs.Moments.{moment, tables_in};
 ghost use Rattle.goo_plans.specs.Planned.{IsPlanned};
 ghost use Rattle.goo_store.specs.Preparing.{Prepares};
-ghost use Rattle.goo_store.specs.Gathering.{BlamesGathering};
+ghost use Rattle.goo_store.specs.Gathering.{BlamesCommit, CanCarryOut, HaveWhatItNeeds};
 ghost use Rattle.goo_plans.specs.Passing.{IsTroubleOf};
 ghost use Rattle.goo_store.specs.Telling.{PassesOn};
 
@@ -44,7 +44,8 @@ impl<S: Alter> SqlShelf<S> {
         ensures planned { (moment (view S.Store self.new.conn) self.new.refused).doubts ≡ 0 → IfOk result (λ changes. Fits (moment (view S.Store self.new.conn) self.new.refused).state (moment (view S.Store self.new.conn) self.new.refused).rows plan.now → IsPlanned (tables_in (view S.Store self.new.conn)) changes.items plan.now) }
         ensures fits { IfOk result (λ changes. All ChangeFits changes.items) }
         ensures taken { IfOk result (λ _. AreNone self.new.findings) }
-        ensures store { BlamesGathering (view S.Store self.old.conn) (view S.Store self.new.conn) self.old.refused result plan.now }
+        ensures same { (moment (view S.Store self.new.conn) self.new.refused).doubts ≡ 0 → tables_in (view S.Store self.new.conn) ≡ tables_in (view S.Store self.old.conn) }
+        ensures store { BlamesCommit (view S.Store self.old.conn) (view S.Store self.new.conn) self.old.refused result (λ t. HaveWhatItNeeds t plan.now) }
     {
         if self.refused {
             return Err(Fault::Store);
@@ -57,7 +58,8 @@ impl<S: Alter> SqlShelf<S> {
     /// Carries out the whole change of a plan, or none.
     pub(crate) fn carry_out(&mut self, alloc: Global, plan: &Plan) -> Result<(), Fault>
         requires { (moment (view S.Store self.old.conn) self.old.refused).doubts ≡ 0 → Fits (moment (view S.Store self.old.conn) self.old.refused).state (moment (view S.Store self.old.conn) self.old.refused).rows plan.now }
-        ensures { Commits (moment (view S.Store self.old.conn) self.old.refused) (moment (view S.Store self.new.conn) self.new.refused) result plan.now }
+        ensures commits { Commits (moment (view S.Store self.old.conn) self.old.refused) (moment (view S.Store self.new.conn) self.new.refused) result plan.now }
+        ensures store { BlamesCommit (view S.Store self.old.conn) (view S.Store self.new.conn) self.old.refused result (λ t. CanCarryOut t plan.now) }
     {
         let changes = self.changes_for(alloc, plan)?;
         let made = commit_changes(&mut self.conn, &changes);

@@ -38,6 +38,8 @@ impl<S: Alter> Shelf for SqlShelf<S> {
     ghost use Rattle.goo_shelf.specs.Meta.{meta_of};
     ghost use Rattle.goo_shelf.specs.Rows.{expiring_on, naming_account};
     ghost use Rattle.goo_shelf.specs.Shelf.{Looks, progress_of, IsRecordOf, receipt_of, arrival_of, totals_of};
+    ghost use Rattle.goo_shelf.specs.Plan.{Fits, Commits};
+    ghost use Rattle.goo_store.specs.Gathering.{BlamesCommit, CanCarryOut};
     ghost use Rattle.goo_store.specs.Moments.{moment};
     ghost use Rattle.goo_store.specs.StoreFaults.{BlamesStore};
     ghost use Rattle.goo_store.specs.Holding.{safe};
@@ -195,7 +197,11 @@ impl<S: Alter> Shelf for SqlShelf<S> {
         self.all_totals(alloc)
     }
 
-    fn commit(&mut self, alloc: Global, plan: &Plan) -> Result<(), Fault> {
+    fn commit(&mut self, alloc: Global, plan: &Plan) -> Result<(), Fault>
+        requires { (moment (view S.Store self.old.conn) self.old.refused).doubts ≡ 0 → Fits (moment (view S.Store self.old.conn) self.old.refused).state (moment (view S.Store self.old.conn) self.old.refused).rows plan.now }
+        ensures commits { Commits (moment (view S.Store self.old.conn) self.old.refused) (moment (view S.Store self.new.conn) self.new.refused) result plan.now }
+        ensures store { BlamesCommit (view S.Store self.old.conn) (view S.Store self.new.conn) self.old.refused result (λ t. CanCarryOut t plan.now) }
+    {
         self.carry_out(alloc, plan)
     }
 

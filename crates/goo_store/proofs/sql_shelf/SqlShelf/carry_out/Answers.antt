@@ -1,18 +1,24 @@
-use Rattle.std.proofs.Common.{◌≡◌, rules, sym, subst}
+use Rattle.std.proofs.Common.{◌≡◌, Err, rules, sym, subst}
 use Rattle.sqlite.specs.Held.{state as view}
 use Rattle.goo_columns.specs.Stands.{doubts}
 use Rattle.goo_store.specs.Moments.{moment, tables_in}
 use Rattle.goo_plans.specs.Planned.{IsPlanned}
+use Rattle.goo_store.proofs.CommitBlamed.{blamed, blamed_before}
 use Rattle.goo_store.proofs.CommitLemmas.{well_after, committed}
 use Rattle.goo_store.proofs.Found.{none_known}
 use Rattle.goo_store.proofs.CommitsAfter.{not_refused, not_committed, as_err, fits_still, commits_after}
 use Rattle.goo_store.proofs.sql_shelf.SqlShelf.carry_out.Goals as goal
 
-pub returns-in_err-changes : goal.returns-in_err-changes
-returns-in_err-changes g c =
+pub returns-in_err-changes-clause-commits : goal.returns-in_err-changes-clause-commits
+returns-in_err-changes-clause-commits g c =
     let old = moment (view g.S.Store c.args.self.now.conn) c.args.self.now.refused in
     let new = moment (view g.S.Store c.changes_for.new.self.conn) c.changes_for.new.self.refused in
     as_err old new c.args.plan.now c.from_residual.result c.in_err-changes.field-0.0 (search rules) (not_committed old new c.args.plan.now c.in_err-changes.field-0.0 c.in_err-changes.ensures.prepares)
+
+pub returns-in_err-changes-clause-store : goal.returns-in_err-changes-clause-store
+returns-in_err-changes-clause-store g c =
+    let same : c.from_residual.result ≡ Err c.in_err-changes.field-0.0 = search rules in
+    blamed_before (view g.S.Store c.args.self.now.conn) (view g.S.Store c.changes_for.new.self.conn) c.args.self.now.refused c.in_err-changes.field-0.0 c.args.plan.now c.in_err-changes.ensures.store c.from_residual.result same
 
 pub invariant_of-self : goal.invariant_of-self
 invariant_of-self g c =
@@ -28,8 +34,8 @@ invariant_of-self g c =
       known = none_known (view g.S.Store c.commit_changes-made.new.conn) shelf.findings c.in_ok-changes.ensures.taken;
     }
 
-pub returns : goal.returns
-returns g c =
+pub returns-clause-commits : goal.returns-clause-commits
+returns-clause-commits g c =
     let old = moment (view g.S.Store c.args.self.now.conn) c.args.self.now.refused in
     let shelf = c.changes_for.new.self in
     let mid = view g.S.Store shelf.conn in
@@ -42,3 +48,17 @@ returns g c =
     commits_after old (moment mid shelf.refused) plan (moment new c.told.new.refused) c.in_ok-changes.changes looks c.told.result
     (committed mid new shelf.well c.deref.result.now plan planned c.commit_changes-made.result it.clean it.was_open it.works it.done it.kept it.crash c.ending.result shelf.refused c.told.new.refused c.told.result
     (λ live db may. g.met.S.Store.settled shelf.conn.store db live may) (not_refused shelf.refused looks.told) c.ending.ensures.passes c.told.ensures)
+
+pub returns-clause-store : goal.returns-clause-store
+returns-clause-store g c =
+    let start = view g.S.Store c.args.self.now.conn in
+    let old = moment start c.args.self.now.refused in
+    let shelf = c.changes_for.new.self in
+    let mid = view g.S.Store shelf.conn in
+    let plan = c.args.plan.now in
+    let it = c.commit_changes-made.ensures in
+    let looks = c.in_ok-changes.ensures.prepares in
+    let planned : doubts mid ≡ 0 → IsPlanned (tables_in mid) c.deref.result.now plan =
+    λ none. subst (λ xs. IsPlanned (tables_in mid) xs plan) (sym c.deref.ensures.value) (c.in_ok-changes.ensures.planned none (fits_still old (moment mid shelf.refused) plan _ looks c.requires none)) in
+    blamed start mid (view g.S.Store c.commit_changes-made.new.conn) c.args.self.now.refused shelf.refused c.told.new.refused plan c.in_ok-changes.changes looks c.in_ok-changes.ensures.store
+    shelf.well c.in_ok-changes.ensures.same c.deref.result.now planned c.commit_changes-made.result it.clean it.crash it.refused c.ending.result c.ending.ensures.passes c.ending.ensures.cause c.told.result c.told.ensures

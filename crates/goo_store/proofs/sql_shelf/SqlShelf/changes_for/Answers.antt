@@ -2,10 +2,11 @@ use Rattle.std.proofs.Common.{sym, subst}
 use Rattle.sqlite.specs.Held.{state as view}
 use Rattle.goo_plans.specs.Found.{AreNone}
 use Rattle.goo_store.specs.Found.{Knows}
+use Rattle.goo_store.specs.Gathering.{HaveWhatItNeeds}
 use Rattle.goo_store.proofs.CommitsAfter.{refused_prepared}
 use Rattle.goo_store.proofs.Found.{none_known}
 use Rattle.goo_store.proofs.Gathering.{refused_gathering, gathering}
-use Rattle.goo_store.proofs.Prepared.{well, gathered, found_after, in_order, known}
+use Rattle.goo_store.proofs.Prepared.{well, gathered, found_after, in_order, known, tables_same}
 use Rattle.goo_store.proofs.sql_shelf.SqlShelf.changes_for.Goals as goal
 
 pub returns-then-self-clause-prepares : goal.returns-then-self-clause-prepares
@@ -32,7 +33,10 @@ returns-clause-planned g c =
     (λ none changes is fits. is (subst (λ o. Knows new o) (sym c.replace-findings.ensures.value) (known old new c.args.self.now.well c.plan_changes-changes.result _ c.plan_changes-changes.ensures.gathers c.args.self.now.findings c.args.self.now.known) none) (after.kept none) (in_order new.now _ (after.stands none)) fits)
 
 pub returns-then-self-clause-store : goal.returns-then-self-clause-store
-returns-then-self-clause-store g c = refused_gathering (view g.S.Store c.args.self.now.conn) c.args.self.now.refused _ c.args.plan.now c.if-self.true
+returns-then-self-clause-store g c = refused_gathering (view g.S.Store c.args.self.now.conn) c.args.self.now.refused _ (λ t. HaveWhatItNeeds t c.args.plan.now) c.if-self.true
+
+pub returns-clause-same : goal.returns-clause-same
+returns-clause-same g c = tables_same (view g.S.Store c.args.self.now.conn) (view g.S.Store c.plan_changes-changes.new.conn) c.args.self.now.well c.plan_changes-changes.result _ c.plan_changes-changes.ensures.gathers
 
 pub returns-clause-store : goal.returns-clause-store
 returns-clause-store g c =
