@@ -1,7 +1,7 @@
 //! What a shelf finds, over tables and over lists: nothing in a new registry, and then what was asked for.
 
 use crate::disks::blank;
-use crate::registries::{begun_in_lists, begun_on, in_march_from};
+use crate::registries::{begun_in_lists, begun_on, in_march, in_march_from};
 use crate::worked::{Case, answers};
 use goo_shelf::shelf::Shelf;
 use goo_types::account_no::AccountNo;
@@ -165,7 +165,7 @@ fn finds_nothing_on<D: Disk + Drop>(
     alloc: Global,
     files: Files<D>,
 ) -> Result<(), Fail> {
-    let registry = begun_on(alloc, files, in_march_from(LAST)?)?;
+    let registry = begun_on(alloc, files, LAST)?;
     let mut shelf = registry.into_shelf();
     finds_nothing(rt, alloc, &mut shelf)
 }
@@ -218,7 +218,7 @@ fn finds_members_on<D: Disk + Drop>(
     alloc: Global,
     files: Files<D>,
 ) -> Result<(), Fail> {
-    let mut registry = begun_on(alloc, files, in_march_from(1)?)?;
+    let mut registry = begun_on(alloc, files, 1)?;
     let _shown = answers(rt, alloc, &mut registry, &MEMBERS)?;
     let mut shelf = registry.into_shelf();
     finds_members(rt, &mut shelf)
@@ -236,7 +236,7 @@ fn in_a_new_registry(rt: HostRuntime) -> Result<(), Fail> {
 fn among_members(rt: HostRuntime) -> Result<(), Fail> {
     let alloc = rt.alloc();
     finds_members_on(&rt, alloc, blank(alloc))?;
-    let mut lists = begun_in_lists(alloc, in_march_from(1)?);
+    let mut lists = begun_in_lists(alloc, in_march()?);
     let _shown = answers(&rt, alloc, &mut lists, &MEMBERS)?;
     let mut shelf = lists.into_shelf();
     finds_members(&rt, &mut shelf)

@@ -91,7 +91,7 @@ fn shown_on<D: Disk + Drop>(
     alloc: Global,
     files: Files<D>,
 ) -> Result<String, Fail> {
-    let mut registry = begun_on(alloc, files, in_march()?)?;
+    let mut registry = begun_on(alloc, files, 1)?;
     shown_by(rt, alloc, &mut registry)
 }
 

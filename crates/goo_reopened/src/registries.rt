@@ -44,8 +44,11 @@ pub fn in_march_from(serial: u64) -> Result<Beginning, Fail> {
 /// A registry, or the database that holds none, and why.
 pub type Entered<S> = Result<Registry<SqlShelf<S>>, (Connection<S>, OpenFault)>;
 
-/// A new registry in a database.
-pub fn begun<S: Alter>(alloc: Global, conn: Connection<S>, beginning: Beginning) -> Entered<S> {
+/// A new registry in a database: registry 7 on 1 March 2025, with this next serial.
+pub fn begun<S: Alter>(alloc: Global, conn: Connection<S>, serial: u64) -> Entered<S> {
+    let Ok(beginning) = in_march_from(serial) else {
+        return Err((conn, OpenFault::Store));
+    };
     if !conn.is_autocommit() {
         return Err((conn, OpenFault::Store));
     }
@@ -61,14 +64,14 @@ pub fn begun<S: Alter>(alloc: Global, conn: Connection<S>, beginning: Beginning)
     }
 }
 
-/// A new registry on disks.
+/// A new registry on disks: registry 7 on 1 March 2025, with this next serial.
 pub fn begun_on<D: Disk + Drop>(
     alloc: Global,
     files: Files<D>,
-    beginning: Beginning,
+    serial: u64,
 ) -> Result<Registry<SqlShelf<FileStore<D>>>, Fail> {
     let conn = database_on(alloc, files)?;
-    match begun(alloc, conn, beginning) {
+    match begun(alloc, conn, serial) {
         Ok(registry) => Ok(registry),
         Err(_) => Err("no registry".into()),
     }

@@ -54,9 +54,7 @@ fn no_place(desk: &mut Desk, caller: &str, number: Number) -> Result<Option<Read
 fn shows_a_place(rt: &impl Abort, desk: &mut Desk) -> Result<(), Fail> {
     let (lot, place) = place(desk, SUN, number(1))??;
     assert!(rt;
-        place == held(1)
-            && lot.is(&lot_of(&JANUARY)?)
-            && no_place(desk, ISSUER, number(1))? == None
+        place == held(1) && lot.is(&lot_of(&JANUARY)?) && no_place(desk, ISSUER, number(1))? == None
     );
     Ok(())
 }
