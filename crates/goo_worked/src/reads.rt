@@ -148,21 +148,34 @@ fn after_a_cancellation(rt: &impl Abort, alloc: Global) -> Result<Desk, Fail> {
     Ok(desk)
 }
 
+/// It is shown to its holder, and to the issuing body.
+fn shows_a_cancellation(rt: &impl Abort, desk: &mut Desk) -> Result<(), Fail> {
+    for caller in [SUN, ISSUER] {
+        let statement = cancellation(desk, caller, 1)??;
+        states_ten(rt, &statement)?;
+    }
+    Ok(())
+}
+
 #[test]
 fn a_cancellation(rt: HostRuntime) -> Result<(), Fail> {
     let mut desk = after_a_cancellation(&rt, rt.alloc())?;
-    states_ten(&rt, &cancellation(&mut desk, SUN, 1)??)?;
-    states_ten(&rt, &cancellation(&mut desk, ISSUER, 1)??)
+    shows_a_cancellation(&rt, &mut desk)
+}
+
+/// Who isn't shown a cancellation, and why.
+fn hides_cancellations(rt: &impl Abort, desk: &mut Desk) -> Result<(), Fail> {
+    for (caller, number, wanted) in HIDDEN {
+        let kept = cancellation(desk, caller, number)?.err();
+        assert!(rt; kept == Some(wanted), "{caller} {number}");
+    }
+    Ok(())
 }
 
 #[test]
 fn cancellations_that_are_not_shown(rt: HostRuntime) -> Result<(), Fail> {
     let mut desk = after_a_cancellation(&rt, rt.alloc())?;
-    for (caller, number, wanted) in HIDDEN {
-        let kept = cancellation(&mut desk, caller, number)?.err();
-        assert!(rt; kept == Some(wanted), "{caller} {number}");
-    }
-    Ok(())
+    hides_cancellations(&rt, &mut desk)
 }
 
 /// The notice of ten certificates of January for account 5 of registry 9.
@@ -193,21 +206,34 @@ fn after_an_export(rt: &impl Abort, alloc: Global) -> Result<Desk, Fail> {
     Ok(desk)
 }
 
+/// It is shown to its holder, and to the issuing body.
+fn shows_a_notice(rt: &impl Abort, desk: &mut Desk) -> Result<(), Fail> {
+    for caller in [SUN, ISSUER] {
+        let sent = notice(desk, caller, 1)??;
+        names_ten(rt, &sent)?;
+    }
+    Ok(())
+}
+
 #[test]
 fn a_notice(rt: HostRuntime) -> Result<(), Fail> {
     let mut desk = after_an_export(&rt, rt.alloc())?;
-    names_ten(&rt, &notice(&mut desk, SUN, 1)??)?;
-    names_ten(&rt, &notice(&mut desk, ISSUER, 1)??)
+    shows_a_notice(&rt, &mut desk)
+}
+
+/// Who isn't shown a notice, and why.
+fn hides_notices(rt: &impl Abort, desk: &mut Desk) -> Result<(), Fail> {
+    for (caller, number, wanted) in HIDDEN {
+        let kept = notice(desk, caller, number)?.err();
+        assert!(rt; kept == Some(wanted), "{caller} {number}");
+    }
+    Ok(())
 }
 
 #[test]
 fn notices_that_are_not_shown(rt: HostRuntime) -> Result<(), Fail> {
     let mut desk = after_an_export(&rt, rt.alloc())?;
-    for (caller, number, wanted) in HIDDEN {
-        let kept = notice(&mut desk, caller, number)?.err();
-        assert!(rt; kept == Some(wanted), "{caller} {number}");
-    }
-    Ok(())
+    hides_notices(&rt, &mut desk)
 }
 
 /// The audit, as a caller is shown it.
