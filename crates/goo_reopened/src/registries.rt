@@ -34,10 +34,15 @@ pub fn in_march() -> Result<Beginning, Fail> {
 
 /// Registry 7 on 1 March 2025, with this next serial.
 pub fn in_march_from(serial: u64) -> Result<Beginning, Fail> {
-    Ok(Beginning {
-        code: RegistryCode::new(7).ok_or("no code")?,
-        serial: Serial::new(serial).ok_or("no serial")?,
-        today: Day::read(b"2025-03-01")?,
+    Ok(march_from(serial).ok_or("no serial")?)
+}
+
+/// The same, or none where there is no such serial.
+fn march_from(serial: u64) -> Option<Beginning> {
+    Some(Beginning {
+        code: RegistryCode::new(7)?,
+        serial: Serial::new(serial)?,
+        today: Day::read(b"2025-03-01").ok()?,
     })
 }
 
@@ -46,7 +51,7 @@ pub type Entered<S> = Result<Registry<SqlShelf<S>>, (Connection<S>, OpenFault)>;
 
 /// A new registry in a database: registry 7 on 1 March 2025, with this next serial.
 pub fn begun<S: Alter>(alloc: Global, conn: Connection<S>, serial: u64) -> Entered<S> {
-    let Ok(beginning) = in_march_from(serial) else {
+    let Some(beginning) = march_from(serial) else {
         return Err((conn, OpenFault::Store));
     };
     if !conn.is_autocommit() {
