@@ -149,7 +149,8 @@ fn cancels_on<D: Disk + Drop>(
 ) -> Result<Files<D>, Fail> {
     let mut registry = begun_on(alloc, files, 1)?;
     cancels(rt, alloc, &mut registry)?;
-    Ok(files_of(closed(registry).0))
+    let (conn, _) = closed(registry);
+    Ok(files_of(conn))
 }
 
 /// Tables that are damaged are not opened, for this reason, and are opened once that is undone.

@@ -49,6 +49,14 @@ fn march_from(serial: u64) -> Option<Beginning> {
 /// A registry, or the database that holds none, and why.
 pub type Entered<S> = Result<Registry<SqlShelf<S>>, (Connection<S>, OpenFault)>;
 
+/// The registry that was entered.
+pub fn entered<S: Alter + Drop>(found: Entered<S>) -> Result<Registry<SqlShelf<S>>, Fail> {
+    match found {
+        Ok(registry) => Ok(registry),
+        Err(_) => Err("no registry".into()),
+    }
+}
+
 /// A new registry in a database: registry 7 on 1 March 2025, with this next serial.
 pub fn begun<S: Alter>(alloc: Global, conn: Connection<S>, serial: u64) -> Entered<S> {
     let Some(beginning) = march_from(serial) else {
@@ -76,10 +84,7 @@ pub fn begun_on<D: Disk + Drop>(
     serial: u64,
 ) -> Result<Registry<SqlShelf<FileStore<D>>>, Fail> {
     let conn = database_on(alloc, files)?;
-    match begun(alloc, conn, serial) {
-        Ok(registry) => Ok(registry),
-        Err(_) => Err("no registry".into()),
-    }
+    entered(begun(alloc, conn, serial))
 }
 
 /// A new registry in plain lists.

@@ -2,7 +2,7 @@
 
 use crate::asking::plays;
 use crate::disks::{blank, database_on, files_of};
-use crate::registries::{begun, begun_on, closed, opened, opened_again};
+use crate::registries::{begun, begun_on, closed, entered, opened, opened_again};
 use crate::script::{APRIL, Line, SCRIPT};
 use crate::sight::sight;
 use goo_opening::fault::OpenFault;
@@ -77,9 +77,7 @@ fn comes_back<S: Alter + Drop>(
     lines: &[Line],
     wanted: &str,
 ) -> Result<Connection<S>, Fail> {
-    let Ok(mut registry) = opened_again(alloc, registry) else {
-        return Err("not opened again".into());
-    };
+    let mut registry = entered(opened_again(alloc, registry))?;
     is_as_it_was(rt, alloc, &mut registry, lines, wanted)?;
     let (conn, refused) = closed(registry);
     assert!(rt; refused == 0);
@@ -135,9 +133,7 @@ fn shows_on<D: Disk + Drop>(
     wanted: &str,
 ) -> Result<(), Fail> {
     let conn = database_on(alloc, files)?;
-    let Ok(mut registry) = opened(alloc, conn) else {
-        return Err("not opened".into());
-    };
+    let mut registry = entered(opened(alloc, conn))?;
     shows(rt, alloc, &mut registry, wanted)
 }
 

@@ -7,7 +7,7 @@ ghost use Rattle.goo_columns.specs.Met.{IsInKeyOrder};
 
 use crate::asking::{asks, is_outcome, plays, plays_one};
 use crate::disks::{blank, crashed, database_on, files_of, stopping};
-use crate::registries::{begun, begun_on, closed, opened};
+use crate::registries::{begun, begun_on, closed, entered, opened};
 use crate::reopened::{END_SHOWN, shows};
 use crate::script::SCRIPT;
 use crate::sight::sight;
@@ -205,9 +205,7 @@ fn starts_over<S: Alter + Drop>(
     answered: usize,
 ) -> Result<(), Fail> {
     assert!(rt; answered == 0);
-    let Ok(mut registry) = begun(alloc, conn, 1) else {
-        return Err("no registry after a stop".into());
-    };
+    let mut registry = entered(begun(alloc, conn, 1))?;
     ends(rt, alloc, &mut registry, 0)
 }
 

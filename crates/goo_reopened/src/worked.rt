@@ -3,7 +3,7 @@
 use crate::asking::{asks, plays};
 use crate::cases::{FIFTH, FIRST, FOURTH, SECOND, SIXTH, THIRD};
 use crate::disks::blank;
-use crate::registries::{begun_in_lists, begun_on, in_march_from, opened_again};
+use crate::registries::{begun_in_lists, begun_on, entered, in_march_from, opened_again};
 use crate::script::{Line, SCRIPT};
 use crate::sight::{sight, tell_certificates};
 use goo_body::read_command;
@@ -140,9 +140,7 @@ fn shown_by_tables<D: Disk + Drop>(
 ) -> Result<String, Fail> {
     let mut registry = begun_on(alloc, files, case.serial)?;
     let shown = shown_by(rt, alloc, &mut registry, case, is_list)?;
-    let Ok(mut registry) = opened_again(alloc, registry) else {
-        return Err("not opened again".into());
-    };
+    let mut registry = entered(opened_again(alloc, registry))?;
     shows_again(rt, alloc, &mut registry, case, &shown)?;
     Ok(shown)
 }
