@@ -2,8 +2,8 @@
 //!
 //! It has tests alone. A test says what is asked and what must come of it, and takes that from the rules of the
 //! registry, worked out by hand. `desk` has a registry, `asking` sends it requests as texts and compares what they are answered, `stages` has
-//! the registries that tests begin with, `values` and `places` the values that they compare with. The worked requests of each command
-//! are in `cases/`, and goo_reopened plays them.
+//! the registries that tests begin with, `three` those of the schedules, `values` and `places` the values that they compare
+//! with. The worked requests of each command are in `cases/`, and goo_reopened plays them.
 #![tactic(auto)]
 
 #[cfg(test)]
@@ -28,6 +28,8 @@ mod running;
 mod schedules;
 #[cfg(test)]
 mod stages;
+#[cfg(test)]
+mod three;
 #[cfg(test)]
 mod values;
 #[cfg(test)]

@@ -290,13 +290,18 @@ fn shows_end(rt: &impl Abort, desk: &mut Desk) -> Result<(), Fail> {
     Ok(())
 }
 
+/// All requests in order, and what is shown in between and in the end.
+fn carries_on(rt: &impl Abort, desk: &mut Desk) -> Result<(), Fail> {
+    carries_out_all(rt, desk, &BEGINS)?;
+    carries_out_all(rt, desk, &TRADES)?;
+    shows_trades(rt, desk)?;
+    carries_out_all(rt, desk, &RETURN)?;
+    ends(rt, desk)?;
+    shows_end(rt, desk)
+}
+
 #[test]
 fn each_request_stands_or_changed_nothing(rt: HostRuntime) -> Result<(), Fail> {
     let mut desk = Desk::new(rt.alloc(), 7, "2025-03-01")?;
-    carries_out_all(&rt, &mut desk, &BEGINS)?;
-    carries_out_all(&rt, &mut desk, &TRADES)?;
-    shows_trades(&rt, &mut desk)?;
-    carries_out_all(&rt, &mut desk, &RETURN)?;
-    ends(&rt, &mut desk)?;
-    shows_end(&rt, &mut desk)
+    carries_on(&rt, &mut desk)
 }

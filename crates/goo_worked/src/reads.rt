@@ -50,21 +50,23 @@ fn no_place(desk: &mut Desk, caller: &str, number: Number) -> Result<Option<Read
     Ok(place(desk, caller, number)?.err())
 }
 
-#[test]
-fn a_place(rt: HostRuntime) -> Result<(), Fail> {
-    let mut desk = april(&rt, rt.alloc())?;
-    let (lot, place) = place(&mut desk, SUN, number(1))??;
+/// The first certificate is shown to its holder, and to the issuing body.
+fn shows_a_place(rt: &impl Abort, desk: &mut Desk) -> Result<(), Fail> {
+    let (lot, place) = place(desk, SUN, number(1))??;
     assert!(rt;
-        place == held(1)
-            && lot.is(&lot_of(&JANUARY)?)
-            && no_place(&mut desk, ISSUER, number(1))? == None
+        place == held(1) && lot.is(&lot_of(&JANUARY)?) && no_place(desk, ISSUER, number(1))? == None
     );
     Ok(())
 }
 
 #[test]
-fn places_that_are_not_shown(rt: HostRuntime) -> Result<(), Fail> {
+fn a_place(rt: HostRuntime) -> Result<(), Fail> {
     let mut desk = april(&rt, rt.alloc())?;
+    shows_a_place(&rt, &mut desk)
+}
+
+/// Who isn't shown which certificate, and why.
+fn hides_places(rt: &impl Abort, desk: &mut Desk) -> Result<(), Fail> {
     for (caller, serial, wanted) in [
         (VOLT, 1, ReadFault::Unknown),
         (VOLT, 1202, ReadFault::Unknown),
@@ -72,10 +74,16 @@ fn places_that_are_not_shown(rt: HostRuntime) -> Result<(), Fail> {
         ("NOBODY", 1, ReadFault::NotAllowed),
         ("NOBODY", 1202, ReadFault::NotAllowed),
     ] {
-        let kept = no_place(&mut desk, caller, number(serial))?;
+        let kept = no_place(desk, caller, number(serial))?;
         assert!(rt; kept == Some(wanted), "{caller} {serial}");
     }
     Ok(())
+}
+
+#[test]
+fn places_that_are_not_shown(rt: HostRuntime) -> Result<(), Fail> {
+    let mut desk = april(&rt, rt.alloc())?;
+    hides_places(&rt, &mut desk)
 }
 
 /// Why a caller isn't shown the certificates of an account.
@@ -85,9 +93,8 @@ fn no_holdings(desk: &mut Desk, caller: &str, account: u32) -> Result<Option<Rea
     Ok(desk.holdings(&caller, account).err())
 }
 
-#[test]
-fn holdings(rt: HostRuntime) -> Result<(), Fail> {
-    let mut desk = april(&rt, rt.alloc())?;
+/// Who is shown the certificates of which account, and why not.
+fn shows_holdings(rt: &impl Abort, desk: &mut Desk) -> Result<(), Fail> {
     for (caller, account, wanted) in [
         (SUN, 1, None),
         (ISSUER, 1, None),
@@ -95,10 +102,16 @@ fn holdings(rt: HostRuntime) -> Result<(), Fail> {
         (VOLT, 3, Some(ReadFault::NotAllowed)),
         (ISSUER, 3, Some(ReadFault::Unknown)),
     ] {
-        let kept = no_holdings(&mut desk, caller, account)?;
+        let kept = no_holdings(desk, caller, account)?;
         assert!(rt; kept == wanted, "{caller} {account}");
     }
     Ok(())
+}
+
+#[test]
+fn holdings(rt: HostRuntime) -> Result<(), Fail> {
+    let mut desk = april(&rt, rt.alloc())?;
+    shows_holdings(&rt, &mut desk)
 }
 
 /// A cancellation, as a caller is shown it.
@@ -135,21 +148,34 @@ fn after_a_cancellation(rt: &impl Abort, alloc: Global) -> Result<Desk, Fail> {
     Ok(desk)
 }
 
+/// It is shown to its holder, and to the issuing body.
+fn shows_a_cancellation(rt: &impl Abort, desk: &mut Desk) -> Result<(), Fail> {
+    for caller in [SUN, ISSUER] {
+        let statement = cancellation(desk, caller, 1)??;
+        states_ten(rt, &statement)?;
+    }
+    Ok(())
+}
+
 #[test]
 fn a_cancellation(rt: HostRuntime) -> Result<(), Fail> {
     let mut desk = after_a_cancellation(&rt, rt.alloc())?;
-    states_ten(&rt, &cancellation(&mut desk, SUN, 1)??)?;
-    states_ten(&rt, &cancellation(&mut desk, ISSUER, 1)??)
+    shows_a_cancellation(&rt, &mut desk)
+}
+
+/// Who isn't shown a cancellation, and why.
+fn hides_cancellations(rt: &impl Abort, desk: &mut Desk) -> Result<(), Fail> {
+    for (caller, number, wanted) in HIDDEN {
+        let kept = cancellation(desk, caller, number)?.err();
+        assert!(rt; kept == Some(wanted), "{caller} {number}");
+    }
+    Ok(())
 }
 
 #[test]
 fn cancellations_that_are_not_shown(rt: HostRuntime) -> Result<(), Fail> {
     let mut desk = after_a_cancellation(&rt, rt.alloc())?;
-    for (caller, number, wanted) in HIDDEN {
-        let kept = cancellation(&mut desk, caller, number)?.err();
-        assert!(rt; kept == Some(wanted), "{caller} {number}");
-    }
-    Ok(())
+    hides_cancellations(&rt, &mut desk)
 }
 
 /// The notice of ten certificates of January for account 5 of registry 9.
@@ -180,21 +206,34 @@ fn after_an_export(rt: &impl Abort, alloc: Global) -> Result<Desk, Fail> {
     Ok(desk)
 }
 
+/// It is shown to its holder, and to the issuing body.
+fn shows_a_notice(rt: &impl Abort, desk: &mut Desk) -> Result<(), Fail> {
+    for caller in [SUN, ISSUER] {
+        let sent = notice(desk, caller, 1)??;
+        names_ten(rt, &sent)?;
+    }
+    Ok(())
+}
+
 #[test]
 fn a_notice(rt: HostRuntime) -> Result<(), Fail> {
     let mut desk = after_an_export(&rt, rt.alloc())?;
-    names_ten(&rt, &notice(&mut desk, SUN, 1)??)?;
-    names_ten(&rt, &notice(&mut desk, ISSUER, 1)??)
+    shows_a_notice(&rt, &mut desk)
+}
+
+/// Who isn't shown a notice, and why.
+fn hides_notices(rt: &impl Abort, desk: &mut Desk) -> Result<(), Fail> {
+    for (caller, number, wanted) in HIDDEN {
+        let kept = notice(desk, caller, number)?.err();
+        assert!(rt; kept == Some(wanted), "{caller} {number}");
+    }
+    Ok(())
 }
 
 #[test]
 fn notices_that_are_not_shown(rt: HostRuntime) -> Result<(), Fail> {
     let mut desk = after_an_export(&rt, rt.alloc())?;
-    for (caller, number, wanted) in HIDDEN {
-        let kept = notice(&mut desk, caller, number)?.err();
-        assert!(rt; kept == Some(wanted), "{caller} {number}");
-    }
-    Ok(())
+    hides_notices(&rt, &mut desk)
 }
 
 /// The audit, as a caller is shown it.
@@ -203,10 +242,9 @@ fn audit(desk: &mut Desk, caller: &str) -> Shown<Vec<DeviceTotals>> {
     Ok(desk.audit(&caller))
 }
 
-#[test]
-fn an_audit(rt: HostRuntime) -> Result<(), Fail> {
-    let mut desk = april(&rt, rt.alloc())?;
-    let totals = audit(&mut desk, ISSUER)??;
+/// The issuing body is shown the energy and the certificates of the one device.
+fn shows_totals(rt: &impl Abort, desk: &mut Desk) -> Result<(), Fail> {
+    let totals = audit(desk, ISSUER)??;
     assert!(rt; totals.len() == 1);
     let device = &totals[0];
     assert!(rt;
@@ -219,11 +257,22 @@ fn an_audit(rt: HostRuntime) -> Result<(), Fail> {
 }
 
 #[test]
-fn audits_that_are_not_shown(rt: HostRuntime) -> Result<(), Fail> {
+fn an_audit(rt: HostRuntime) -> Result<(), Fail> {
     let mut desk = april(&rt, rt.alloc())?;
+    shows_totals(&rt, &mut desk)
+}
+
+/// Nobody else is.
+fn hides_totals(rt: &impl Abort, desk: &mut Desk) -> Result<(), Fail> {
     for caller in [SUN, "NOBODY"] {
-        let kept = audit(&mut desk, caller)?.err();
+        let kept = audit(desk, caller)?.err();
         assert!(rt; kept == Some(ReadFault::NotAllowed), "{caller}");
     }
     Ok(())
+}
+
+#[test]
+fn audits_that_are_not_shown(rt: HostRuntime) -> Result<(), Fail> {
+    let mut desk = april(&rt, rt.alloc())?;
+    hides_totals(&rt, &mut desk)
 }

@@ -1,10 +1,10 @@
 //! Notices that are lost, repeated, late or sent astray, by chance, among three registries: after each event each
 //! certificate has one home, or is on one road, and one lot wherever it is known.
 
-use crate::asking::{Line, SUN};
-use crate::desk::Desk;
+use crate::asking::SUN;
 use crate::dice::Dice;
 use crate::lots::{Batch, lot_of};
+use crate::three::{CERTIFICATES, three};
 use crate::values::{account_of, code_of, day_of, range_of};
 use crate::world::World;
 use goo_types::command::{Cancel, Command, Export};
@@ -21,8 +21,6 @@ use std::test::Fail;
 const SCHEDULES: u64 = 1000;
 /// How many events a schedule has.
 const EVENTS: u64 = 24;
-/// How many certificates each issues.
-const CERTIFICATES: u64 = 3;
 
 /// How often notices were sent and accepted, and what else became of them.
 #[derive(Clone, Copy)]
@@ -32,114 +30,6 @@ struct Tally {
     repeated: u64,
     astray: u64,
     late: u64,
-}
-
-/// What each registry is asked first: a holder, an account and a device.
-const MEMBERS: [Line; 3] = [
-    (
-        "ISSUER",
-        r#"{"command":"open_holder","holder":"SUN","key":"a","name":"Sun Power"}"#,
-        r#"{"outcome":"accepted","reply":{}}"#,
-    ),
-    (
-        "ISSUER",
-        r#"{"command":"open_account","holder":"SUN","key":"b"}"#,
-        r#"{"outcome":"accepted","reply":{"account":1}}"#,
-    ),
-    (
-        "ISSUER",
-        r#"{"account":1,"capacity_w":2000000,"command":"register_device","commissioned":"2020-06-15","country":"DE","device":"500000000000000012","key":"c","site":"North field","source":"F01010100","support":"none","tech":"T010000"}"#,
-        r#"{"outcome":"accepted","reply":{}}"#,
-    ),
-];
-
-/// What registry 7 is asked then: two certificates of one lot, one of another, and the other registries.
-const SEVEN: [Line; 4] = [
-    (
-        "ISSUER",
-        r#"{"aux_wh":0,"command":"declare","device":"500000000000000012","first_day":"2025-01-01","gross_wh":2000000,"key":"d","last_day":"2025-01-15"}"#,
-        r#"{"outcome":"accepted","reply":{"carry":0,"count":2,"first":"07000000000001","last":"07000000000002"}}"#,
-    ),
-    (
-        "ISSUER",
-        r#"{"aux_wh":0,"command":"declare","device":"500000000000000012","first_day":"2025-01-16","gross_wh":1000000,"key":"e","last_day":"2025-01-31"}"#,
-        r#"{"outcome":"accepted","reply":{"carry":0,"count":1,"first":"07000000000003","last":"07000000000003"}}"#,
-    ),
-    (
-        "ISSUER",
-        r#"{"command":"add_peer","key":"f","peer":8}"#,
-        r#"{"outcome":"accepted","reply":{}}"#,
-    ),
-    (
-        "ISSUER",
-        r#"{"command":"add_peer","key":"g","peer":9}"#,
-        r#"{"outcome":"accepted","reply":{}}"#,
-    ),
-];
-
-/// What registry 8 is asked then: two certificates of one lot, one of another, and the other registries.
-const EIGHT: [Line; 4] = [
-    (
-        "ISSUER",
-        r#"{"aux_wh":0,"command":"declare","device":"500000000000000012","first_day":"2025-01-01","gross_wh":2000000,"key":"d","last_day":"2025-01-15"}"#,
-        r#"{"outcome":"accepted","reply":{"carry":0,"count":2,"first":"08000000000001","last":"08000000000002"}}"#,
-    ),
-    (
-        "ISSUER",
-        r#"{"aux_wh":0,"command":"declare","device":"500000000000000012","first_day":"2025-01-16","gross_wh":1000000,"key":"e","last_day":"2025-01-31"}"#,
-        r#"{"outcome":"accepted","reply":{"carry":0,"count":1,"first":"08000000000003","last":"08000000000003"}}"#,
-    ),
-    (
-        "ISSUER",
-        r#"{"command":"add_peer","key":"f","peer":7}"#,
-        r#"{"outcome":"accepted","reply":{}}"#,
-    ),
-    (
-        "ISSUER",
-        r#"{"command":"add_peer","key":"g","peer":9}"#,
-        r#"{"outcome":"accepted","reply":{}}"#,
-    ),
-];
-
-/// What registry 9 is asked then: two certificates of one lot, one of another, and the other registries.
-const NINE: [Line; 4] = [
-    (
-        "ISSUER",
-        r#"{"aux_wh":0,"command":"declare","device":"500000000000000012","first_day":"2025-01-01","gross_wh":2000000,"key":"d","last_day":"2025-01-15"}"#,
-        r#"{"outcome":"accepted","reply":{"carry":0,"count":2,"first":"09000000000001","last":"09000000000002"}}"#,
-    ),
-    (
-        "ISSUER",
-        r#"{"aux_wh":0,"command":"declare","device":"500000000000000012","first_day":"2025-01-16","gross_wh":1000000,"key":"e","last_day":"2025-01-31"}"#,
-        r#"{"outcome":"accepted","reply":{"carry":0,"count":1,"first":"09000000000003","last":"09000000000003"}}"#,
-    ),
-    (
-        "ISSUER",
-        r#"{"command":"add_peer","key":"f","peer":7}"#,
-        r#"{"outcome":"accepted","reply":{}}"#,
-    ),
-    (
-        "ISSUER",
-        r#"{"command":"add_peer","key":"g","peer":8}"#,
-        r#"{"outcome":"accepted","reply":{}}"#,
-    ),
-];
-
-/// A registry of three certificates that knows two others.
-fn registry(rt: &impl Abort, alloc: Global, code: u8, own: &[Line]) -> Result<Desk, Fail> {
-    let mut desk = Desk::new(alloc, code, "2025-03-01")?;
-    desk.plays(rt, &MEMBERS)?;
-    desk.plays(rt, own)?;
-    Ok(desk)
-}
-
-/// Three registries, each of which knows the others.
-fn three(rt: &impl Abort, alloc: Global) -> Result<World, Fail> {
-    let mut world = World::new(alloc);
-    world.adds(registry(rt, alloc, 7, &SEVEN)?)?;
-    world.adds(registry(rt, alloc, 8, &EIGHT)?)?;
-    world.adds(registry(rt, alloc, 9, &NINE)?)?;
-    Ok(world)
 }
 
 /// A registry by chance.
