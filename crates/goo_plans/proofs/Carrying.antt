@@ -59,13 +59,10 @@ use Rattle.goo_plans.proofs.RegisteringActed.{registering_acted}
 use Rattle.goo_plans.proofs.RoomChanges.{closed_room, counters_room}
 use Rattle.goo_plans.proofs.SmallRows.{small_holder, small_account, small_device, small_cancellation, small_withdrawal, small_notice_out}
 
--- ---- lists of one and two changes
+-- ---- lists of one change
 
 pub all_one : {X : Type 0} (P : X → Type 0) (x : X) → P x → All P (x ∷ [])
 all_one P x p = All-cons P x [] p (All-nil P)
-
-pub all_two : {X : Type 0} (P : X → Type 0) (x y : X) → P x → P y → All P (x ∷ y ∷ [])
-all_two P x y p q = All-cons P x (y ∷ []) p (all_one P y q)
 
 -- a change that is one for any tables
 abbrev pub IsCalm : Change → Type 0
