@@ -2,11 +2,9 @@
 
 use crate::asking::{plays, plays_one};
 use crate::disks::{blank, edited, files_of, judged};
-use crate::registries::{begun_on, closed};
+use crate::registries::{begun_on, closed, in_march};
 use crate::script::{APRIL, CANCELLATION, SCRIPT};
 use goo_opening::fault::OpenFault;
-use goo_registry::Registry;
-use goo_shelf::shelf::Shelf;
 use sqlite::Files;
 use sqlite_disk::Disk;
 use std::alloc::Global;
@@ -129,28 +127,18 @@ const DAMAGES: [Damage; 22] = [
     ),
 ];
 
-/// A new registry becomes that of April, with a cancellation.
-fn cancels<S: Shelf>(
-    rt: &impl Abort,
-    alloc: Global,
-    registry: &mut Registry<S>,
-) -> Result<(), Fail> {
-    let april = SCRIPT.get(..APRIL).ok_or("so many requests")?;
-    plays(rt, alloc, registry, april, 0)?;
-    let cancellation = SCRIPT.get(CANCELLATION).ok_or("no cancellation")?;
-    plays_one(rt, alloc, registry, cancellation, "accepted")
-}
-
 /// A new registry on disks: that of April, with a cancellation.
 fn cancels_on<D: Disk + Drop>(
     rt: &impl Abort,
     alloc: Global,
     files: Files<D>,
 ) -> Result<Files<D>, Fail> {
-    let mut registry = begun_on(alloc, files, 1)?;
-    cancels(rt, alloc, &mut registry)?;
-    let (conn, _) = closed(registry);
-    Ok(files_of(conn))
+    let mut registry = begun_on(alloc, files, in_march()?)?;
+    let april = SCRIPT.get(..APRIL).ok_or("so many requests")?;
+    plays(rt, alloc, &mut registry, april, 0)?;
+    let cancellation = SCRIPT.get(CANCELLATION).ok_or("no cancellation")?;
+    plays_one(rt, alloc, &mut registry, cancellation, "accepted")?;
+    Ok(files_of(closed(registry).0))
 }
 
 /// Tables that are damaged are not opened, for this reason, and are opened once that is undone.

@@ -71,10 +71,7 @@ fn word_of<S: Alter>(alloc: Global, conn: Connection<S>) -> (Option<OpenFault>, 
     requires ordered { HasCleanDisk (state S.Store conn) → IsInKeyOrder (state S.Store conn).now }
 {
     match opened(alloc, conn) {
-        Ok(registry) => {
-            let (conn, _) = closed(registry);
-            (None, conn)
-        }
+        Ok(registry) => (None, closed(registry).0),
         Err((conn, fault)) => (Some(fault), conn),
     }
 }

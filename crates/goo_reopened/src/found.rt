@@ -1,8 +1,8 @@
 //! What a shelf finds, over tables and over lists: nothing in a new registry, and then what was asked for.
 
-use crate::disks::blank;
-use crate::registries::{begun_in_lists, begun_on, in_march, in_march_from};
+use crate::registries::{begun, begun_in_lists, in_march_from};
 use crate::worked::{Case, answers};
+use goo_registry::Registry;
 use goo_shelf::shelf::Shelf;
 use goo_types::account_no::AccountNo;
 use goo_types::act_no::ActNo;
@@ -12,8 +12,7 @@ use goo_types::holder_code::HolderCode;
 use goo_types::number::Number;
 use goo_types::range::Range;
 use goo_types::registry_code::RegistryCode;
-use sqlite::Files;
-use sqlite_disk::Disk;
+use sqlite::Connection;
 use std::alloc::Global;
 use std::process::Abort;
 use std::test::Fail;
@@ -150,24 +149,18 @@ fn is_empty<S: Shelf>(rt: &impl Abort, alloc: Global, shelf: &mut S) -> Result<(
     Ok(())
 }
 
-/// The shelf of a new registry finds nothing.
-fn finds_nothing<S: Shelf>(rt: &impl Abort, alloc: Global, shelf: &mut S) -> Result<(), Fail> {
-    has_its_own(rt, shelf)?;
-    has_nobody(rt, shelf)?;
-    has_no_act(rt, alloc, shelf)?;
-    has_no_device(rt, shelf)?;
-    is_empty(rt, alloc, shelf)
-}
-
-/// A new registry on disks finds nothing.
-fn finds_nothing_on<D: Disk + Drop>(
+/// A new registry finds nothing.
+fn finds_nothing<S: Shelf + Drop>(
     rt: &impl Abort,
     alloc: Global,
-    files: Files<D>,
+    registry: Registry<S>,
 ) -> Result<(), Fail> {
-    let registry = begun_on(alloc, files, LAST)?;
     let mut shelf = registry.into_shelf();
-    finds_nothing(rt, alloc, &mut shelf)
+    has_its_own(rt, &mut shelf)?;
+    has_nobody(rt, &mut shelf)?;
+    has_no_act(rt, alloc, &mut shelf)?;
+    has_no_device(rt, &mut shelf)?;
+    is_empty(rt, alloc, &mut shelf)
 }
 
 /// The holder with an open account and a closed one.
@@ -205,39 +198,38 @@ fn has_a_peer<S: Shelf>(rt: &impl Abort, shelf: &mut S) -> Result<(), Fail> {
     Ok(())
 }
 
-/// The shelf of a registry that was asked for its members finds them.
-fn finds_members<S: Shelf>(rt: &impl Abort, shelf: &mut S) -> Result<(), Fail> {
-    has_accounts(rt, shelf)?;
-    has_a_device(rt, shelf)?;
-    has_a_peer(rt, shelf)
-}
-
-/// A new registry on disks finds its members once they were asked for.
-fn finds_members_on<D: Disk + Drop>(
+/// A new registry finds its members once they were asked for.
+fn finds_members<S: Shelf + Drop>(
     rt: &impl Abort,
     alloc: Global,
-    files: Files<D>,
+    registry: Registry<S>,
 ) -> Result<(), Fail> {
-    let mut registry = begun_on(alloc, files, 1)?;
+    let mut registry = registry;
     let _shown = answers(rt, alloc, &mut registry, &MEMBERS)?;
     let mut shelf = registry.into_shelf();
-    finds_members(rt, &mut shelf)
+    has_accounts(rt, &mut shelf)?;
+    has_a_device(rt, &mut shelf)?;
+    has_a_peer(rt, &mut shelf)
 }
 
 #[test]
 fn in_a_new_registry(rt: HostRuntime) -> Result<(), Fail> {
     let alloc = rt.alloc();
-    finds_nothing_on(&rt, alloc, blank(alloc))?;
-    let mut lists = begun_in_lists(alloc, in_march_from(LAST)?).into_shelf();
-    finds_nothing(&rt, alloc, &mut lists)
+    let beginning = in_march_from(LAST)?;
+    let Ok(tables) = begun(alloc, Connection::open_in_memory(alloc)?, beginning) else {
+        return Err("no registry".into());
+    };
+    finds_nothing(&rt, alloc, tables)?;
+    finds_nothing(&rt, alloc, begun_in_lists(alloc, beginning))
 }
 
 #[test]
 fn among_members(rt: HostRuntime) -> Result<(), Fail> {
     let alloc = rt.alloc();
-    finds_members_on(&rt, alloc, blank(alloc))?;
-    let mut lists = begun_in_lists(alloc, in_march()?);
-    let _shown = answers(&rt, alloc, &mut lists, &MEMBERS)?;
-    let mut shelf = lists.into_shelf();
-    finds_members(&rt, &mut shelf)
+    let beginning = in_march_from(1)?;
+    let Ok(tables) = begun(alloc, Connection::open_in_memory(alloc)?, beginning) else {
+        return Err("no registry".into());
+    };
+    finds_members(&rt, alloc, tables)?;
+    finds_members(&rt, alloc, begun_in_lists(alloc, beginning))
 }

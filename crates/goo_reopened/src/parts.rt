@@ -1,16 +1,14 @@
 //! A certificate of each of a hundred and one lots, over tables and over lists: no notice names them all.
 
 use crate::asking::{asks, plays};
-use crate::disks::blank;
-use crate::registries::{begun_in_lists, begun_on, in_march};
+use crate::registries::{begun, begun_in_lists, in_march};
 use crate::script::SCRIPT;
 use crate::sight::{sight, tell_audit};
 use crate::worked::Exchange;
 use goo_outcome::outcome_text;
 use goo_registry::Registry;
 use goo_shelf::shelf::Shelf;
-use sqlite::Files;
-use sqlite_disk::Disk;
+use sqlite::Connection;
 use std::alloc::Global;
 use std::process::Abort;
 use std::test::Fail;
@@ -63,44 +61,38 @@ fn declares_days<S: Shelf>(
 }
 
 /// What a new registry shows once a hundred parts were sent.
-fn shown_by<S: Shelf>(
+fn shown_by<S: Shelf + Drop>(
     rt: &impl Abort,
     alloc: Global,
-    registry: &mut Registry<S>,
+    registry: Registry<S>,
 ) -> Result<String, Fail> {
+    let mut registry = registry;
     let first = SCRIPT.get(..DEVICE).ok_or("so many requests")?;
-    plays(rt, alloc, registry, first, 0)?;
-    declares_days(rt, alloc, registry, "2024-10", 31, 0)?;
-    declares_days(rt, alloc, registry, "2024-11", 30, 31)?;
-    declares_days(rt, alloc, registry, "2024-12", 31, 61)?;
-    declares_days(rt, alloc, registry, "2025-01", 9, 92)?;
+    plays(rt, alloc, &mut registry, first, 0)?;
+    declares_days(rt, alloc, &mut registry, "2024-10", 31, 0)?;
+    declares_days(rt, alloc, &mut registry, "2024-11", 30, 31)?;
+    declares_days(rt, alloc, &mut registry, "2024-12", 31, 61)?;
+    declares_days(rt, alloc, &mut registry, "2025-01", 9, 92)?;
     let mut audit = String::new(alloc);
-    tell_audit(alloc, registry, &mut audit)?;
+    tell_audit(alloc, &mut registry, &mut audit)?;
     assert!(rt; audit.as_str() == "500000000000000012 101000000 101 0\n");
     for (caller, body, wanted) in &EXPORTS {
-        let outcome = asks(alloc, registry, caller, body)??;
+        let outcome = asks(alloc, &mut registry, caller, body)??;
         let text = outcome_text(outcome);
         assert!(rt; text.as_str() == *wanted, "to {body}");
     }
-    sight(alloc, registry)
-}
-
-/// What a new registry on disks shows once a hundred parts were sent.
-fn shown_on<D: Disk + Drop>(
-    rt: &impl Abort,
-    alloc: Global,
-    files: Files<D>,
-) -> Result<String, Fail> {
-    let mut registry = begun_on(alloc, files, 1)?;
-    shown_by(rt, alloc, &mut registry)
+    sight(alloc, &mut registry)
 }
 
 #[test]
 fn a_notice_has_a_hundred_parts_at_most(rt: HostRuntime) -> Result<(), Fail> {
     let alloc = rt.alloc();
-    let shown = shown_on(&rt, alloc, blank(alloc))?;
-    let mut lists = begun_in_lists(alloc, in_march()?);
-    let wanted = shown_by(&rt, alloc, &mut lists)?;
+    let conn = Connection::open_in_memory(alloc)?;
+    let Ok(tables) = begun(alloc, conn, in_march()?) else {
+        return Err("no registry".into());
+    };
+    let shown = shown_by(&rt, alloc, tables)?;
+    let wanted = shown_by(&rt, alloc, begun_in_lists(alloc, in_march()?))?;
     assert!(rt; shown.as_str() == wanted.as_str());
     Ok(())
 }

@@ -34,34 +34,18 @@ pub fn in_march() -> Result<Beginning, Fail> {
 
 /// Registry 7 on 1 March 2025, with this next serial.
 pub fn in_march_from(serial: u64) -> Result<Beginning, Fail> {
-    Ok(march_from(serial).ok_or("no serial")?)
-}
-
-/// The same, or none where there is no such serial.
-fn march_from(serial: u64) -> Option<Beginning> {
-    Some(Beginning {
-        code: RegistryCode::new(7)?,
-        serial: Serial::new(serial)?,
-        today: Day::read(b"2025-03-01").ok()?,
+    Ok(Beginning {
+        code: RegistryCode::new(7).ok_or("no code")?,
+        serial: Serial::new(serial).ok_or("no serial")?,
+        today: Day::read(b"2025-03-01")?,
     })
 }
 
 /// A registry, or the database that holds none, and why.
 pub type Entered<S> = Result<Registry<SqlShelf<S>>, (Connection<S>, OpenFault)>;
 
-/// The registry that was entered.
-pub fn entered<S: Alter + Drop>(found: Entered<S>) -> Result<Registry<SqlShelf<S>>, Fail> {
-    match found {
-        Ok(registry) => Ok(registry),
-        Err(_) => Err("no registry".into()),
-    }
-}
-
-/// A new registry in a database: registry 7 on 1 March 2025, with this next serial.
-pub fn begun<S: Alter>(alloc: Global, conn: Connection<S>, serial: u64) -> Entered<S> {
-    let Some(beginning) = march_from(serial) else {
-        return Err((conn, OpenFault::Store));
-    };
+/// A new registry in a database.
+pub fn begun<S: Alter>(alloc: Global, conn: Connection<S>, beginning: Beginning) -> Entered<S> {
     if !conn.is_autocommit() {
         return Err((conn, OpenFault::Store));
     }
@@ -77,14 +61,17 @@ pub fn begun<S: Alter>(alloc: Global, conn: Connection<S>, serial: u64) -> Enter
     }
 }
 
-/// A new registry on disks: registry 7 on 1 March 2025, with this next serial.
+/// A new registry on disks.
 pub fn begun_on<D: Disk + Drop>(
     alloc: Global,
     files: Files<D>,
-    serial: u64,
+    beginning: Beginning,
 ) -> Result<Registry<SqlShelf<FileStore<D>>>, Fail> {
     let conn = database_on(alloc, files)?;
-    entered(begun(alloc, conn, serial))
+    match begun(alloc, conn, beginning) {
+        Ok(registry) => Ok(registry),
+        Err(_) => Err("no registry".into()),
+    }
 }
 
 /// A new registry in plain lists.

@@ -2,7 +2,7 @@
 
 use crate::asking::plays;
 use crate::disks::{blank, database_on, files_of};
-use crate::registries::{begun, begun_on, closed, entered, opened, opened_again};
+use crate::registries::{begun, begun_on, closed, in_march, opened, opened_again};
 use crate::script::{APRIL, Line, SCRIPT};
 use crate::sight::sight;
 use goo_opening::fault::OpenFault;
@@ -56,20 +56,7 @@ pub fn shows<S: Alter>(
     Ok(())
 }
 
-/// A registry that was opened again shows what it showed, and knows the requests.
-fn is_as_it_was<S: Alter>(
-    rt: &impl Abort,
-    alloc: Global,
-    registry: &mut Registry<SqlShelf<S>>,
-    lines: &[Line],
-    wanted: &str,
-) -> Result<(), Fail> {
-    shows(rt, alloc, registry, wanted)?;
-    plays(rt, alloc, registry, lines, lines.len())?;
-    shows(rt, alloc, registry, wanted)
-}
-
-/// A registry is closed and opened again, and is as it was.
+/// A registry is closed and opened again: it shows what it showed, and knows the requests.
 fn comes_back<S: Alter + Drop>(
     rt: &impl Abort,
     alloc: Global,
@@ -77,8 +64,12 @@ fn comes_back<S: Alter + Drop>(
     lines: &[Line],
     wanted: &str,
 ) -> Result<Connection<S>, Fail> {
-    let mut registry = entered(opened_again(alloc, registry))?;
-    is_as_it_was(rt, alloc, &mut registry, lines, wanted)?;
+    let Ok(mut registry) = opened_again(alloc, registry) else {
+        return Err("not opened again".into());
+    };
+    shows(rt, alloc, &mut registry, wanted)?;
+    plays(rt, alloc, &mut registry, lines, lines.len())?;
+    shows(rt, alloc, &mut registry, wanted)?;
     let (conn, refused) = closed(registry);
     assert!(rt; refused == 0);
     Ok(conn)
@@ -90,25 +81,13 @@ fn is_taken<S: Alter + Drop>(
     alloc: Global,
     conn: Connection<S>,
 ) -> Result<Connection<S>, Fail> {
-    match begun(alloc, conn, 1) {
+    match begun(alloc, conn, in_march()?) {
         Ok(_) => Err("another registry".into()),
         Err((conn, fault)) => {
             assert!(rt; fault == OpenFault::AlreadyThere);
             Ok(conn)
         }
     }
-}
-
-/// A registry is sent the requests, and shows this then.
-fn comes_to<S: Alter>(
-    rt: &impl Abort,
-    alloc: Global,
-    registry: &mut Registry<SqlShelf<S>>,
-    lines: &[Line],
-    wanted: &str,
-) -> Result<(), Fail> {
-    plays(rt, alloc, registry, lines, 0)?;
-    shows(rt, alloc, registry, wanted)
 }
 
 /// A new registry on disks, which is sent the requests, closed and opened again; no other registry is begun there.
@@ -119,8 +98,9 @@ fn stays_on<D: Disk + Drop>(
     lines: &[Line],
     wanted: &str,
 ) -> Result<Files<D>, Fail> {
-    let mut registry = begun_on(alloc, files, 1)?;
-    comes_to(rt, alloc, &mut registry, lines, wanted)?;
+    let mut registry = begun_on(alloc, files, in_march()?)?;
+    plays(rt, alloc, &mut registry, lines, 0)?;
+    shows(rt, alloc, &mut registry, wanted)?;
     let conn = comes_back(rt, alloc, registry, lines, wanted)?;
     Ok(files_of(is_taken(rt, alloc, conn)?))
 }
@@ -133,7 +113,9 @@ fn shows_on<D: Disk + Drop>(
     wanted: &str,
 ) -> Result<(), Fail> {
     let conn = database_on(alloc, files)?;
-    let mut registry = entered(opened(alloc, conn))?;
+    let Ok(mut registry) = opened(alloc, conn) else {
+        return Err("not opened".into());
+    };
     shows(rt, alloc, &mut registry, wanted)
 }
 

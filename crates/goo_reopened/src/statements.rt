@@ -1,7 +1,7 @@
 //! The statements that no shelf makes yet, over the tables of a registry that was asked for a withdrawal.
 
 use crate::disks::blank;
-use crate::registries::{begun_on, closed};
+use crate::registries::{begun_on, closed, in_march};
 use crate::worked::{Case, answers};
 use goo_tables::declaration::find_declaration;
 use goo_tables::joined::{next_expiring, next_of_account};
@@ -60,26 +60,17 @@ fn finds_next<S: Alter>(
     Ok(())
 }
 
-/// All rows that were asked for.
-fn finds_all<S: Alter>(
-    rt: &impl Abort,
-    alloc: Global,
-    conn: &mut Connection<S>,
-) -> Result<(), Fail> {
-    finds_rows(rt, alloc, conn)?;
-    finds_next(rt, alloc, conn)
-}
-
 /// A registry on disks is asked for the withdrawal, and its tables are asked for rows.
 fn finds_withdrawn<D: Disk + Drop>(
     rt: &impl Abort,
     alloc: Global,
     files: Files<D>,
 ) -> Result<(), Fail> {
-    let mut registry = begun_on(alloc, files, 1)?;
+    let mut registry = begun_on(alloc, files, in_march()?)?;
     let _shown = answers(rt, alloc, &mut registry, &WITHDRAWN)?;
     let (mut conn, _) = closed(registry);
-    finds_all(rt, alloc, &mut conn)
+    finds_rows(rt, alloc, &mut conn)?;
+    finds_next(rt, alloc, &mut conn)
 }
 
 #[test]

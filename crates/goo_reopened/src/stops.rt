@@ -7,7 +7,7 @@ ghost use Rattle.goo_columns.specs.Met.{IsInKeyOrder};
 
 use crate::asking::{asks, is_outcome, plays, plays_one};
 use crate::disks::{blank, crashed, database_on, files_of, stopping};
-use crate::registries::{begun, begun_on, closed, entered, opened};
+use crate::registries::{begun, begun_on, closed, in_march, opened};
 use crate::reopened::{END_SHOWN, shows};
 use crate::script::SCRIPT;
 use crate::sight::sight;
@@ -23,29 +23,20 @@ use std::alloc::Global;
 use std::process::Abort;
 use std::test::Fail;
 
-/// What a new registry shows before the first request, and after each.
-fn sights_of<S: Alter>(
-    rt: &impl Abort,
-    alloc: Global,
-    registry: &mut Registry<SqlShelf<S>>,
-) -> Result<Vec<String>, Fail> {
-    let mut shown = Vec::new(alloc);
-    shown.push(sight(alloc, registry)?)?;
-    for line in &SCRIPT {
-        plays_one(rt, alloc, registry, line, "accepted")?;
-        shown.push(sight(alloc, registry)?)?;
-    }
-    Ok(shown)
-}
-
 /// What a new registry on disks shows before the first request, and after each.
 fn sights<D: Disk + Drop>(
     rt: &impl Abort,
     alloc: Global,
     files: Files<D>,
 ) -> Result<Vec<String>, Fail> {
-    let mut registry = begun_on(alloc, files, 1)?;
-    sights_of(rt, alloc, &mut registry)
+    let mut registry = begun_on(alloc, files, in_march()?)?;
+    let mut shown = Vec::new(alloc);
+    shown.push(sight(alloc, &mut registry)?)?;
+    for line in &SCRIPT {
+        plays_one(rt, alloc, &mut registry, line, "accepted")?;
+        shown.push(sight(alloc, &mut registry)?)?;
+    }
+    Ok(shown)
 }
 
 /// How many requests are answered: all, or those up to the first `Store`, and then each is answered so.
@@ -80,31 +71,22 @@ fn is_silent<S: Alter>(
     Ok(())
 }
 
-/// How many requests are answered; where it isn't all, nothing is shown any more.
-fn answers_or_stops<S: Alter>(
-    rt: &impl Abort,
-    alloc: Global,
-    registry: &mut Registry<SqlShelf<S>>,
-) -> Result<usize, Fail> {
-    let answered = answered_by(rt, alloc, registry)?;
-    if answered < SCRIPT.len() {
-        is_silent(rt, alloc, registry)?;
-    }
-    Ok(answered)
-}
-
 /// How many requests a new registry in a database answers, and the database.
 fn runs<S: Alter + Drop>(
     rt: &impl Abort,
     alloc: Global,
     conn: Connection<S>,
 ) -> Result<(usize, Connection<S>), Fail> {
-    match begun(alloc, conn, 1) {
+    match begun(alloc, conn, in_march()?) {
         Ok(registry) => {
             let mut registry = registry;
-            let answered = answers_or_stops(rt, alloc, &mut registry)?;
+            let answered = answered_by(rt, alloc, &mut registry)?;
+            let is_stopped = answered < SCRIPT.len();
+            if is_stopped {
+                is_silent(rt, alloc, &mut registry)?;
+            }
             let (conn, refused) = closed(registry);
-            assert!(rt; refused == u64::from(answered < SCRIPT.len()));
+            assert!(rt; refused == u64::from(is_stopped));
             Ok((answered, conn))
         }
         Err((conn, fault)) => {
@@ -162,20 +144,7 @@ fn kept_of(rt: &impl Abort, shown: &str, answered: usize, wanted: &[String]) -> 
     more
 }
 
-/// A registry that was opened after a stop has kept the requests answered, or one more, and goes on from there.
-fn goes_on_from<S: Alter>(
-    rt: &impl Abort,
-    alloc: Global,
-    registry: &mut Registry<SqlShelf<S>>,
-    answered: usize,
-    wanted: &[String],
-) -> Result<(), Fail> {
-    let shown = sight(alloc, registry)?;
-    let kept = kept_of(rt, &shown, answered, wanted);
-    ends(rt, alloc, registry, kept)
-}
-
-/// The registry that a database holds after a stop goes on. One is begun where there is none.
+/// The registry that a database holds after a stop has kept the requests answered, or one more. One is begun where there is none.
 fn returns<S: Alter + Drop>(
     rt: &impl Abort,
     alloc: Global,
@@ -188,7 +157,9 @@ fn returns<S: Alter + Drop>(
     match opened(alloc, conn) {
         Ok(registry) => {
             let mut registry = registry;
-            goes_on_from(rt, alloc, &mut registry, answered, wanted)
+            let shown = sight(alloc, &mut registry)?;
+            let kept = kept_of(rt, &shown, answered, wanted);
+            ends(rt, alloc, &mut registry, kept)
         }
         Err((conn, fault)) => {
             assert!(rt; fault == OpenFault::NotARegistry);
@@ -205,7 +176,9 @@ fn starts_over<S: Alter + Drop>(
     answered: usize,
 ) -> Result<(), Fail> {
     assert!(rt; answered == 0);
-    let mut registry = entered(begun(alloc, conn, 1))?;
+    let Ok(mut registry) = begun(alloc, conn, in_march()?) else {
+        return Err("no registry after a stop".into());
+    };
     ends(rt, alloc, &mut registry, 0)
 }
 

@@ -3,7 +3,7 @@
 use crate::asking::{asks, plays};
 use crate::cases::{FIFTH, FIRST, FOURTH, SECOND, SIXTH, THIRD};
 use crate::disks::blank;
-use crate::registries::{begun_in_lists, begun_on, entered, in_march_from, opened_again};
+use crate::registries::{begun_in_lists, begun_on, in_march_from, opened_again};
 use crate::script::{Line, SCRIPT};
 use crate::sight::{sight, tell_certificates};
 use goo_body::read_command;
@@ -102,35 +102,7 @@ pub fn runs<S: Shelf>(
     ends(rt, alloc, registry, case)
 }
 
-/// What a registry shows after a case, in a list or one request at a time.
-fn shown_by<S: Shelf>(
-    rt: &impl Abort,
-    alloc: Global,
-    registry: &mut Registry<S>,
-    case: &Case,
-    is_list: bool,
-) -> Result<String, Fail> {
-    if is_list {
-        runs(rt, alloc, registry, case)
-    } else {
-        answers(rt, alloc, registry, case)
-    }
-}
-
-/// A registry that was opened again shows what it showed.
-fn shows_again<S: Shelf>(
-    rt: &impl Abort,
-    alloc: Global,
-    registry: &mut Registry<S>,
-    case: &Case,
-    shown: &str,
-) -> Result<(), Fail> {
-    let again = sight(alloc, registry)?;
-    assert!(rt; again.as_str() == shown, "{} opened again", case.name);
-    Ok(())
-}
-
-/// What a registry on disks shows after a case, and again once it is opened again.
+/// What a registry on disks shows after a case, in a list or one request at a time, and again once it is opened again.
 fn shown_by_tables<D: Disk + Drop>(
     rt: &impl Abort,
     alloc: Global,
@@ -138,10 +110,21 @@ fn shown_by_tables<D: Disk + Drop>(
     case: &Case,
     is_list: bool,
 ) -> Result<String, Fail> {
-    let mut registry = begun_on(alloc, files, case.serial)?;
-    let shown = shown_by(rt, alloc, &mut registry, case, is_list)?;
-    let mut registry = entered(opened_again(alloc, registry))?;
-    shows_again(rt, alloc, &mut registry, case, &shown)?;
+    let mut registry = begun_on(alloc, files, in_march_from(case.serial)?)?;
+    let shown = if is_list {
+        runs(rt, alloc, &mut registry, case)?
+    } else {
+        answers(rt, alloc, &mut registry, case)?
+    };
+    let Ok(mut registry) = opened_again(alloc, registry) else {
+        return Err("not opened again".into());
+    };
+    let again = sight(alloc, &mut registry)?;
+    assert!(rt;
+        again.as_str() == shown.as_str(),
+        "{} opened again",
+        case.name
+    );
     Ok(shown)
 }
 
