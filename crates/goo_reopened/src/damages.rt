@@ -1,9 +1,7 @@
 //! Tables that were damaged, one value at a time.
 
-use crate::asking::{plays, plays_one};
-use crate::disks::{blank, edited, files_of, judged};
-use crate::registries::{begun_on, closed, in_march};
-use crate::script::{APRIL, CANCELLATION, SCRIPT};
+use crate::disks::{blank, edited, judged, sent_on};
+use crate::script::{CANCELLATION, SCRIPT};
 use goo_opening::fault::OpenFault;
 use sqlite::Files;
 use sqlite_disk::Disk;
@@ -127,20 +125,6 @@ const DAMAGES: [Damage; 22] = [
     ),
 ];
 
-/// A new registry on disks: that of April, with a cancellation.
-fn cancels_on<D: Disk + Drop>(
-    rt: &impl Abort,
-    alloc: Global,
-    files: Files<D>,
-) -> Result<Files<D>, Fail> {
-    let mut registry = begun_on(alloc, files, in_march()?)?;
-    let april = SCRIPT.get(..APRIL).ok_or("so many requests")?;
-    plays(rt, alloc, &mut registry, april, 0)?;
-    let cancellation = SCRIPT.get(CANCELLATION).ok_or("no cancellation")?;
-    plays_one(rt, alloc, &mut registry, cancellation, "accepted")?;
-    Ok(files_of(closed(registry).0))
-}
-
 /// Tables that are damaged are not opened, for this reason, and are opened once that is undone.
 fn is_refused<D: Disk + Drop>(
     rt: &impl Abort,
@@ -160,7 +144,8 @@ fn is_refused<D: Disk + Drop>(
 #[test]
 fn damages_are_met(rt: HostRuntime) -> Result<(), Fail> {
     let alloc = rt.alloc();
-    let mut files = cancels_on(&rt, alloc, blank(alloc))?;
+    let cancelled = SCRIPT.get(..=CANCELLATION).ok_or("no cancellation")?;
+    let mut files = sent_on(&rt, alloc, blank(alloc), cancelled)?;
     for damage in &DAMAGES {
         files = is_refused(&rt, alloc, files, damage)?;
     }

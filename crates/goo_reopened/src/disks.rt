@@ -6,12 +6,14 @@ ghost use Rattle.sqlite.specs.Held.{state};
 ghost use Rattle.sqlite.specs.State.{HasCleanDisk};
 ghost use Rattle.goo_columns.specs.Met.{IsInKeyOrder};
 
-use crate::registries::{closed, opened};
+use crate::registries::{closed, opened, sent};
+use crate::script::Line;
 use goo_opening::connecting::open_ordered;
 use goo_opening::fault::OpenFault;
 use sqlite::{Alter, Connection, FileStore, Files, Options};
 use sqlite_disk::{Crash, Disk, Fuse, Memory};
 use std::alloc::Global;
+use std::process::Abort;
 use std::test::Fail;
 
 /// Two empty disks in memory. They are of one type with those that stop, so that registries are compiled for one type of disk
@@ -57,6 +59,17 @@ pub fn database_on<D: Disk + Drop>(
     }
 }
 
+/// The disks, after a new registry on them was sent requests, each of which was accepted.
+pub fn sent_on<D: Disk + Drop>(
+    rt: &impl Abort,
+    alloc: Global,
+    files: Files<D>,
+    lines: &[Line],
+) -> Result<Files<D>, Fail> {
+    let conn = database_on(alloc, files)?;
+    Ok(files_of(sent(rt, alloc, conn, lines)?))
+}
+
 /// The disks, after a text was run on their database.
 pub fn edited<D: Disk + Drop>(alloc: Global, files: Files<D>, sql: &str) -> Result<Files<D>, Fail> {
     let mut conn = database_on(alloc, files)?;
@@ -71,7 +84,10 @@ fn word_of<S: Alter>(alloc: Global, conn: Connection<S>) -> (Option<OpenFault>, 
     requires ordered { HasCleanDisk (state S.Store conn) → IsInKeyOrder (state S.Store conn).now }
 {
     match opened(alloc, conn) {
-        Ok(registry) => (None, closed(registry).0),
+        Ok(registry) => {
+            let (conn, _) = closed(registry);
+            (None, conn)
+        }
         Err((conn, fault)) => (Some(fault), conn),
     }
 }

@@ -1,8 +1,7 @@
 //! What a shelf finds, over tables and over lists: nothing in a new registry, and then what was asked for.
 
-use crate::registries::{begun, begun_in_lists, in_march_from};
-use crate::worked::{Case, answers};
-use goo_registry::Registry;
+use crate::registries::{begun, begun_in_lists, entered, in_march, in_march_from};
+use crate::worked::{Case, is_answered};
 use goo_shelf::shelf::Shelf;
 use goo_types::account_no::AccountNo;
 use goo_types::act_no::ActNo;
@@ -12,7 +11,7 @@ use goo_types::holder_code::HolderCode;
 use goo_types::number::Number;
 use goo_types::range::Range;
 use goo_types::registry_code::RegistryCode;
-use sqlite::Connection;
+use sqlite::{Alter, Connection};
 use std::alloc::Global;
 use std::process::Abort;
 use std::test::Fail;
@@ -149,18 +148,24 @@ fn is_empty<S: Shelf>(rt: &impl Abort, alloc: Global, shelf: &mut S) -> Result<(
     Ok(())
 }
 
-/// A new registry finds nothing.
-fn finds_nothing<S: Shelf + Drop>(
+/// The shelf of a new registry finds nothing.
+fn finds_nothing<S: Shelf>(rt: &impl Abort, alloc: Global, shelf: &mut S) -> Result<(), Fail> {
+    has_its_own(rt, shelf)?;
+    has_nobody(rt, shelf)?;
+    has_no_act(rt, alloc, shelf)?;
+    has_no_device(rt, shelf)?;
+    is_empty(rt, alloc, shelf)
+}
+
+/// A new registry in a database finds nothing.
+fn finds_nothing_in<S: Alter + Drop>(
     rt: &impl Abort,
     alloc: Global,
-    registry: Registry<S>,
+    conn: Connection<S>,
 ) -> Result<(), Fail> {
+    let registry = entered(begun(alloc, conn, LAST))?;
     let mut shelf = registry.into_shelf();
-    has_its_own(rt, &mut shelf)?;
-    has_nobody(rt, &mut shelf)?;
-    has_no_act(rt, alloc, &mut shelf)?;
-    has_no_device(rt, &mut shelf)?;
-    is_empty(rt, alloc, &mut shelf)
+    finds_nothing(rt, alloc, &mut shelf)
 }
 
 /// The holder with an open account and a closed one.
@@ -198,38 +203,39 @@ fn has_a_peer<S: Shelf>(rt: &impl Abort, shelf: &mut S) -> Result<(), Fail> {
     Ok(())
 }
 
-/// A new registry finds its members once they were asked for.
-fn finds_members<S: Shelf + Drop>(
+/// The shelf of a registry that was asked for its members finds them.
+fn finds_members<S: Shelf>(rt: &impl Abort, shelf: &mut S) -> Result<(), Fail> {
+    has_accounts(rt, shelf)?;
+    has_a_device(rt, shelf)?;
+    has_a_peer(rt, shelf)
+}
+
+/// A new registry in a database finds its members once they were asked for.
+fn finds_members_in<S: Alter + Drop>(
     rt: &impl Abort,
     alloc: Global,
-    registry: Registry<S>,
+    conn: Connection<S>,
 ) -> Result<(), Fail> {
-    let mut registry = registry;
-    let _shown = answers(rt, alloc, &mut registry, &MEMBERS)?;
+    let mut registry = entered(begun(alloc, conn, 1))?;
+    is_answered(rt, alloc, &mut registry, &MEMBERS)?;
     let mut shelf = registry.into_shelf();
-    has_accounts(rt, &mut shelf)?;
-    has_a_device(rt, &mut shelf)?;
-    has_a_peer(rt, &mut shelf)
+    finds_members(rt, &mut shelf)
 }
 
 #[test]
 fn in_a_new_registry(rt: HostRuntime) -> Result<(), Fail> {
     let alloc = rt.alloc();
-    let beginning = in_march_from(LAST)?;
-    let Ok(tables) = begun(alloc, Connection::open_in_memory(alloc)?, beginning) else {
-        return Err("no registry".into());
-    };
-    finds_nothing(&rt, alloc, tables)?;
-    finds_nothing(&rt, alloc, begun_in_lists(alloc, beginning))
+    finds_nothing_in(&rt, alloc, Connection::open_in_memory(alloc)?)?;
+    let mut lists = begun_in_lists(alloc, in_march_from(LAST)?).into_shelf();
+    finds_nothing(&rt, alloc, &mut lists)
 }
 
 #[test]
 fn among_members(rt: HostRuntime) -> Result<(), Fail> {
     let alloc = rt.alloc();
-    let beginning = in_march_from(1)?;
-    let Ok(tables) = begun(alloc, Connection::open_in_memory(alloc)?, beginning) else {
-        return Err("no registry".into());
-    };
-    finds_members(&rt, alloc, tables)?;
-    finds_members(&rt, alloc, begun_in_lists(alloc, beginning))
+    finds_members_in(&rt, alloc, Connection::open_in_memory(alloc)?)?;
+    let mut lists = begun_in_lists(alloc, in_march()?);
+    is_answered(&rt, alloc, &mut lists, &MEMBERS)?;
+    let mut shelf = lists.into_shelf();
+    finds_members(&rt, &mut shelf)
 }

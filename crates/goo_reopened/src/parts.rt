@@ -1,14 +1,14 @@
 //! A certificate of each of a hundred and one lots, over tables and over lists: no notice names them all.
 
 use crate::asking::{asks, plays};
-use crate::registries::{begun, begun_in_lists, in_march};
+use crate::registries::{begun, begun_in_lists, entered, in_march};
 use crate::script::SCRIPT;
 use crate::sight::{sight, tell_audit};
 use crate::worked::Exchange;
 use goo_outcome::outcome_text;
 use goo_registry::Registry;
 use goo_shelf::shelf::Shelf;
-use sqlite::Connection;
+use sqlite::{Alter, Connection};
 use std::alloc::Global;
 use std::process::Abort;
 use std::test::Fail;
@@ -61,38 +61,49 @@ fn declares_days<S: Shelf>(
 }
 
 /// What a new registry shows once a hundred parts were sent.
-fn shown_by<S: Shelf + Drop>(
+fn shown_by<S: Shelf>(
     rt: &impl Abort,
     alloc: Global,
-    registry: Registry<S>,
+    registry: &mut Registry<S>,
 ) -> Result<String, Fail> {
-    let mut registry = registry;
     let first = SCRIPT.get(..DEVICE).ok_or("so many requests")?;
-    plays(rt, alloc, &mut registry, first, 0)?;
-    declares_days(rt, alloc, &mut registry, "2024-10", 31, 0)?;
-    declares_days(rt, alloc, &mut registry, "2024-11", 30, 31)?;
-    declares_days(rt, alloc, &mut registry, "2024-12", 31, 61)?;
-    declares_days(rt, alloc, &mut registry, "2025-01", 9, 92)?;
+    plays(rt, alloc, registry, first, 0)?;
+    declares_days(rt, alloc, registry, "2024-10", 31, 0)?;
+    declares_days(rt, alloc, registry, "2024-11", 30, 31)?;
+    declares_days(rt, alloc, registry, "2024-12", 31, 61)?;
+    declares_days(rt, alloc, registry, "2025-01", 9, 92)?;
     let mut audit = String::new(alloc);
-    tell_audit(alloc, &mut registry, &mut audit)?;
+    tell_audit(alloc, registry, &mut audit)?;
     assert!(rt; audit.as_str() == "500000000000000012 101000000 101 0\n");
     for (caller, body, wanted) in &EXPORTS {
-        let outcome = asks(alloc, &mut registry, caller, body)??;
+        let outcome = asks(alloc, registry, caller, body)??;
         let text = outcome_text(outcome);
         assert!(rt; text.as_str() == *wanted, "to {body}");
     }
-    sight(alloc, &mut registry)
+    sight(alloc, registry)
+}
+
+/// What a new registry in a database shows then.
+fn shown_in<S: Alter + Drop>(
+    rt: &impl Abort,
+    alloc: Global,
+    conn: Connection<S>,
+) -> Result<String, Fail> {
+    let mut registry = entered(begun(alloc, conn, 1))?;
+    shown_by(rt, alloc, &mut registry)
+}
+
+/// The same of a new registry in plain lists.
+fn shown_in_lists(rt: &impl Abort, alloc: Global) -> Result<String, Fail> {
+    let mut lists = begun_in_lists(alloc, in_march()?);
+    shown_by(rt, alloc, &mut lists)
 }
 
 #[test]
 fn a_notice_has_a_hundred_parts_at_most(rt: HostRuntime) -> Result<(), Fail> {
     let alloc = rt.alloc();
-    let conn = Connection::open_in_memory(alloc)?;
-    let Ok(tables) = begun(alloc, conn, in_march()?) else {
-        return Err("no registry".into());
-    };
-    let shown = shown_by(&rt, alloc, tables)?;
-    let wanted = shown_by(&rt, alloc, begun_in_lists(alloc, in_march()?))?;
+    let shown = shown_in(&rt, alloc, Connection::open_in_memory(alloc)?)?;
+    let wanted = shown_in_lists(&rt, alloc)?;
     assert!(rt; shown.as_str() == wanted.as_str());
     Ok(())
 }

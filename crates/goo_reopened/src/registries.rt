@@ -5,7 +5,8 @@ ghost use Rattle.sqlite.specs.Held.{state};
 ghost use Rattle.sqlite.specs.State.{HasCleanDisk};
 ghost use Rattle.goo_columns.specs.Met.{IsInKeyOrder};
 
-use crate::disks::database_on;
+use crate::asking::plays;
+use crate::script::Line;
 use goo_list::list_shelf::ListShelf;
 use goo_opening::fault::OpenFault;
 use goo_registry::Registry;
@@ -14,9 +15,9 @@ use goo_store::sql_shelf::SqlShelf;
 use goo_types::day::Day;
 use goo_types::registry_code::RegistryCode;
 use goo_types::serial::Serial;
-use sqlite::{Alter, Connection, FileStore, Files};
-use sqlite_disk::Disk;
+use sqlite::{Alter, Connection};
 use std::alloc::Global;
+use std::process::Abort;
 use std::test::Fail;
 
 /// What a registry begins with.
@@ -34,18 +35,34 @@ pub fn in_march() -> Result<Beginning, Fail> {
 
 /// Registry 7 on 1 March 2025, with this next serial.
 pub fn in_march_from(serial: u64) -> Result<Beginning, Fail> {
-    Ok(Beginning {
-        code: RegistryCode::new(7).ok_or("no code")?,
-        serial: Serial::new(serial).ok_or("no serial")?,
-        today: Day::read(b"2025-03-01")?,
+    Ok(march_from(serial).ok_or("no serial")?)
+}
+
+/// The same, or none where there is no such serial.
+fn march_from(serial: u64) -> Option<Beginning> {
+    Some(Beginning {
+        code: RegistryCode::new(7)?,
+        serial: Serial::new(serial)?,
+        today: Day::read(b"2025-03-01").ok()?,
     })
 }
 
 /// A registry, or the database that holds none, and why.
 pub type Entered<S> = Result<Registry<SqlShelf<S>>, (Connection<S>, OpenFault)>;
 
-/// A new registry in a database.
-pub fn begun<S: Alter>(alloc: Global, conn: Connection<S>, beginning: Beginning) -> Entered<S> {
+/// The registry that was entered.
+pub fn entered<S: Alter + Drop>(found: Entered<S>) -> Result<Registry<SqlShelf<S>>, Fail> {
+    match found {
+        Ok(registry) => Ok(registry),
+        Err(_) => Err("no registry".into()),
+    }
+}
+
+/// A new registry in a database: registry 7 on 1 March 2025, with this next serial.
+pub fn begun<S: Alter>(alloc: Global, conn: Connection<S>, serial: u64) -> Entered<S> {
+    let Some(beginning) = march_from(serial) else {
+        return Err((conn, OpenFault::Store));
+    };
     if !conn.is_autocommit() {
         return Err((conn, OpenFault::Store));
     }
@@ -58,19 +75,6 @@ pub fn begun<S: Alter>(alloc: Global, conn: Connection<S>, beginning: Beginning)
     ) {
         Ok(shelf) => Ok(Registry::new(shelf)),
         Err(refused) => Err(refused),
-    }
-}
-
-/// A new registry on disks.
-pub fn begun_on<D: Disk + Drop>(
-    alloc: Global,
-    files: Files<D>,
-    beginning: Beginning,
-) -> Result<Registry<SqlShelf<FileStore<D>>>, Fail> {
-    let conn = database_on(alloc, files)?;
-    match begun(alloc, conn, beginning) {
-        Ok(registry) => Ok(registry),
-        Err(_) => Err("no registry".into()),
     }
 }
 
@@ -97,6 +101,19 @@ pub fn closed<S: Alter>(registry: Registry<SqlShelf<S>>) -> (Connection<S>, u64)
     let shelf = registry.into_shelf();
     let refused = shelf.refused_calls();
     (shelf.into_connection(), refused)
+}
+
+/// The database, after a new registry in it was sent requests, each of which was accepted.
+pub fn sent<S: Alter + Drop>(
+    rt: &impl Abort,
+    alloc: Global,
+    conn: Connection<S>,
+    lines: &[Line],
+) -> Result<Connection<S>, Fail> {
+    let mut registry = entered(begun(alloc, conn, 1))?;
+    plays(rt, alloc, &mut registry, lines, 0)?;
+    let (conn, _) = closed(registry);
+    Ok(conn)
 }
 
 /// The registry closed, and opened again over the same connection.

@@ -1,8 +1,12 @@
-//! Registries that are closed and opened again, on disks in memory.
+//! Registries that are closed and opened again, in memory and on disks in memory.
+
+ghost use Rattle.sqlite.specs.Held.{state};
+ghost use Rattle.sqlite.specs.State.{HasCleanDisk};
+ghost use Rattle.goo_columns.specs.Met.{IsInKeyOrder};
 
 use crate::asking::plays;
-use crate::disks::{blank, database_on, files_of};
-use crate::registries::{begun, begun_on, closed, in_march, opened, opened_again};
+use crate::disks::{blank, database_on, sent_on};
+use crate::registries::{begun, closed, entered, opened, opened_again};
 use crate::script::{APRIL, Line, SCRIPT};
 use crate::sight::sight;
 use goo_opening::fault::OpenFault;
@@ -56,7 +60,20 @@ pub fn shows<S: Alter>(
     Ok(())
 }
 
-/// A registry is closed and opened again: it shows what it showed, and knows the requests.
+/// A registry that was opened again shows what it showed, and knows the requests.
+fn is_as_it_was<S: Alter>(
+    rt: &impl Abort,
+    alloc: Global,
+    registry: &mut Registry<SqlShelf<S>>,
+    lines: &[Line],
+    wanted: &str,
+) -> Result<(), Fail> {
+    shows(rt, alloc, registry, wanted)?;
+    plays(rt, alloc, registry, lines, lines.len())?;
+    shows(rt, alloc, registry, wanted)
+}
+
+/// A registry is closed and opened again, and is as it was.
 fn comes_back<S: Alter + Drop>(
     rt: &impl Abort,
     alloc: Global,
@@ -64,12 +81,8 @@ fn comes_back<S: Alter + Drop>(
     lines: &[Line],
     wanted: &str,
 ) -> Result<Connection<S>, Fail> {
-    let Ok(mut registry) = opened_again(alloc, registry) else {
-        return Err("not opened again".into());
-    };
-    shows(rt, alloc, &mut registry, wanted)?;
-    plays(rt, alloc, &mut registry, lines, lines.len())?;
-    shows(rt, alloc, &mut registry, wanted)?;
+    let mut registry = entered(opened_again(alloc, registry))?;
+    is_as_it_was(rt, alloc, &mut registry, lines, wanted)?;
     let (conn, refused) = closed(registry);
     assert!(rt; refused == 0);
     Ok(conn)
@@ -80,49 +93,72 @@ fn is_taken<S: Alter + Drop>(
     rt: &impl Abort,
     alloc: Global,
     conn: Connection<S>,
-) -> Result<Connection<S>, Fail> {
-    match begun(alloc, conn, in_march()?) {
+) -> Result<(), Fail> {
+    match begun(alloc, conn, 1) {
         Ok(_) => Err("another registry".into()),
-        Err((conn, fault)) => {
+        Err((_, fault)) => {
             assert!(rt; fault == OpenFault::AlreadyThere);
-            Ok(conn)
+            Ok(())
         }
     }
 }
 
-/// A new registry on disks, which is sent the requests, closed and opened again; no other registry is begun there.
-fn stays_on<D: Disk + Drop>(
+/// A registry is sent the requests, and shows this then.
+fn comes_to<S: Alter>(
     rt: &impl Abort,
     alloc: Global,
-    files: Files<D>,
+    registry: &mut Registry<SqlShelf<S>>,
     lines: &[Line],
     wanted: &str,
-) -> Result<Files<D>, Fail> {
-    let mut registry = begun_on(alloc, files, in_march()?)?;
-    plays(rt, alloc, &mut registry, lines, 0)?;
-    shows(rt, alloc, &mut registry, wanted)?;
+) -> Result<(), Fail> {
+    plays(rt, alloc, registry, lines, 0)?;
+    shows(rt, alloc, registry, wanted)
+}
+
+/// A new registry in a database, which is sent the requests, closed and opened again; no other registry is begun there.
+fn stays<S: Alter + Drop>(
+    rt: &impl Abort,
+    alloc: Global,
+    conn: Connection<S>,
+    lines: &[Line],
+    wanted: &str,
+) -> Result<(), Fail> {
+    let mut registry = entered(begun(alloc, conn, 1))?;
+    comes_to(rt, alloc, &mut registry, lines, wanted)?;
     let conn = comes_back(rt, alloc, registry, lines, wanted)?;
-    Ok(files_of(is_taken(rt, alloc, conn)?))
+    is_taken(rt, alloc, conn)
+}
+
+/// The registry that a database holds shows this.
+fn is_shown<S: Alter + Drop>(
+    rt: &impl Abort,
+    alloc: Global,
+    conn: Connection<S>,
+    wanted: &str,
+) -> Result<(), Fail>
+    requires ordered { HasCleanDisk (state S.Store conn) → IsInKeyOrder (state S.Store conn).now }
+{
+    let mut registry = entered(opened(alloc, conn))?;
+    shows(rt, alloc, &mut registry, wanted)
 }
 
 /// The registry on disks shows this.
-fn shows_on<D: Disk + Drop>(
+fn is_shown_on<D: Disk + Drop>(
     rt: &impl Abort,
     alloc: Global,
     files: Files<D>,
     wanted: &str,
 ) -> Result<(), Fail> {
     let conn = database_on(alloc, files)?;
-    let Ok(mut registry) = opened(alloc, conn) else {
-        return Err("not opened".into());
-    };
-    shows(rt, alloc, &mut registry, wanted)
+    is_shown(rt, alloc, conn, wanted)
 }
 
 #[test]
-fn on_disks(rt: HostRuntime) -> Result<(), Fail> {
+fn in_memory_and_on_disks(rt: HostRuntime) -> Result<(), Fail> {
     let alloc = rt.alloc();
     let april = SCRIPT.get(..APRIL).ok_or("so many requests")?;
-    let files = stays_on(&rt, alloc, blank(alloc), april, APRIL_SHOWN)?;
-    shows_on(&rt, alloc, files, APRIL_SHOWN)
+    let conn = Connection::open_in_memory(alloc)?;
+    stays(&rt, alloc, conn, april, APRIL_SHOWN)?;
+    let files = sent_on(&rt, alloc, blank(alloc), april)?;
+    is_shown_on(&rt, alloc, files, APRIL_SHOWN)
 }

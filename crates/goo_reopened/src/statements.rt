@@ -1,15 +1,13 @@
 //! The statements that no shelf makes yet, over the tables of a registry that was asked for a withdrawal.
 
-use crate::disks::blank;
-use crate::registries::{begun_on, closed, in_march};
-use crate::worked::{Case, answers};
+use crate::registries::{begun, closed, entered};
+use crate::worked::{Case, is_answered};
 use goo_tables::declaration::find_declaration;
 use goo_tables::joined::{next_expiring, next_of_account};
 use goo_tables::lot::find_lot_by_id;
 use goo_tables::piece::find_piece;
 use goo_tables::withdrawal::find_withdrawal;
-use sqlite::{Alter, Connection, Files};
-use sqlite_disk::Disk;
+use sqlite::{Alter, Connection};
 use std::alloc::Global;
 use std::process::Abort;
 use std::test::Fail;
@@ -60,21 +58,30 @@ fn finds_next<S: Alter>(
     Ok(())
 }
 
-/// A registry on disks is asked for the withdrawal, and its tables are asked for rows.
-fn finds_withdrawn<D: Disk + Drop>(
+/// All rows that were asked for.
+fn finds_all<S: Alter>(
     rt: &impl Abort,
     alloc: Global,
-    files: Files<D>,
+    conn: &mut Connection<S>,
 ) -> Result<(), Fail> {
-    let mut registry = begun_on(alloc, files, in_march()?)?;
-    let _shown = answers(rt, alloc, &mut registry, &WITHDRAWN)?;
+    finds_rows(rt, alloc, conn)?;
+    finds_next(rt, alloc, conn)
+}
+
+/// A registry in a database is asked for the withdrawal, and its tables are asked for rows.
+fn finds_withdrawn<S: Alter + Drop>(
+    rt: &impl Abort,
+    alloc: Global,
+    conn: Connection<S>,
+) -> Result<(), Fail> {
+    let mut registry = entered(begun(alloc, conn, 1))?;
+    is_answered(rt, alloc, &mut registry, &WITHDRAWN)?;
     let (mut conn, _) = closed(registry);
-    finds_rows(rt, alloc, &mut conn)?;
-    finds_next(rt, alloc, &mut conn)
+    finds_all(rt, alloc, &mut conn)
 }
 
 #[test]
 fn by_keys_and_in_order(rt: HostRuntime) -> Result<(), Fail> {
     let alloc = rt.alloc();
-    finds_withdrawn(&rt, alloc, blank(alloc))
+    finds_withdrawn(&rt, alloc, Connection::open_in_memory(alloc)?)
 }

@@ -6,8 +6,8 @@ ghost use Rattle.sqlite.specs.State.{HasCleanDisk};
 ghost use Rattle.goo_columns.specs.Met.{IsInKeyOrder};
 
 use crate::asking::{asks, is_outcome, plays, plays_one};
-use crate::disks::{blank, crashed, database_on, files_of, stopping};
-use crate::registries::{begun, begun_on, closed, in_march, opened};
+use crate::disks::{crashed, database_on, files_of, stopping};
+use crate::registries::{begun, closed, entered, opened};
 use crate::reopened::{END_SHOWN, shows};
 use crate::script::SCRIPT;
 use crate::sight::sight;
@@ -23,20 +23,29 @@ use std::alloc::Global;
 use std::process::Abort;
 use std::test::Fail;
 
-/// What a new registry on disks shows before the first request, and after each.
-fn sights<D: Disk + Drop>(
+/// What a new registry shows before the first request, and after each.
+fn sights_of<S: Alter>(
     rt: &impl Abort,
     alloc: Global,
-    files: Files<D>,
+    registry: &mut Registry<SqlShelf<S>>,
 ) -> Result<Vec<String>, Fail> {
-    let mut registry = begun_on(alloc, files, in_march()?)?;
     let mut shown = Vec::new(alloc);
-    shown.push(sight(alloc, &mut registry)?)?;
+    shown.push(sight(alloc, registry)?)?;
     for line in &SCRIPT {
-        plays_one(rt, alloc, &mut registry, line, "accepted")?;
-        shown.push(sight(alloc, &mut registry)?)?;
+        plays_one(rt, alloc, registry, line, "accepted")?;
+        shown.push(sight(alloc, registry)?)?;
     }
     Ok(shown)
+}
+
+/// What a new registry in a database shows before the first request, and after each.
+fn sights<S: Alter + Drop>(
+    rt: &impl Abort,
+    alloc: Global,
+    conn: Connection<S>,
+) -> Result<Vec<String>, Fail> {
+    let mut registry = entered(begun(alloc, conn, 1))?;
+    sights_of(rt, alloc, &mut registry)
 }
 
 /// How many requests are answered: all, or those up to the first `Store`, and then each is answered so.
@@ -71,22 +80,31 @@ fn is_silent<S: Alter>(
     Ok(())
 }
 
+/// How many requests are answered; where it isn't all, nothing is shown any more.
+fn answers_or_stops<S: Alter>(
+    rt: &impl Abort,
+    alloc: Global,
+    registry: &mut Registry<SqlShelf<S>>,
+) -> Result<usize, Fail> {
+    let answered = answered_by(rt, alloc, registry)?;
+    if answered < SCRIPT.len() {
+        is_silent(rt, alloc, registry)?;
+    }
+    Ok(answered)
+}
+
 /// How many requests a new registry in a database answers, and the database.
 fn runs<S: Alter + Drop>(
     rt: &impl Abort,
     alloc: Global,
     conn: Connection<S>,
 ) -> Result<(usize, Connection<S>), Fail> {
-    match begun(alloc, conn, in_march()?) {
+    match begun(alloc, conn, 1) {
         Ok(registry) => {
             let mut registry = registry;
-            let answered = answered_by(rt, alloc, &mut registry)?;
-            let is_stopped = answered < SCRIPT.len();
-            if is_stopped {
-                is_silent(rt, alloc, &mut registry)?;
-            }
+            let answered = answers_or_stops(rt, alloc, &mut registry)?;
             let (conn, refused) = closed(registry);
-            assert!(rt; refused == u64::from(is_stopped));
+            assert!(rt; refused == u64::from(answered < SCRIPT.len()));
             Ok((answered, conn))
         }
         Err((conn, fault)) => {
@@ -144,7 +162,20 @@ fn kept_of(rt: &impl Abort, shown: &str, answered: usize, wanted: &[String]) -> 
     more
 }
 
-/// The registry that a database holds after a stop has kept the requests answered, or one more. One is begun where there is none.
+/// A registry that was opened after a stop has kept the requests answered, or one more, and goes on from there.
+fn goes_on_from<S: Alter>(
+    rt: &impl Abort,
+    alloc: Global,
+    registry: &mut Registry<SqlShelf<S>>,
+    answered: usize,
+    wanted: &[String],
+) -> Result<(), Fail> {
+    let shown = sight(alloc, registry)?;
+    let kept = kept_of(rt, &shown, answered, wanted);
+    ends(rt, alloc, registry, kept)
+}
+
+/// The registry that a database holds after a stop goes on. One is begun where there is none.
 fn returns<S: Alter + Drop>(
     rt: &impl Abort,
     alloc: Global,
@@ -157,9 +188,7 @@ fn returns<S: Alter + Drop>(
     match opened(alloc, conn) {
         Ok(registry) => {
             let mut registry = registry;
-            let shown = sight(alloc, &mut registry)?;
-            let kept = kept_of(rt, &shown, answered, wanted);
-            ends(rt, alloc, &mut registry, kept)
+            goes_on_from(rt, alloc, &mut registry, answered, wanted)
         }
         Err((conn, fault)) => {
             assert!(rt; fault == OpenFault::NotARegistry);
@@ -176,9 +205,7 @@ fn starts_over<S: Alter + Drop>(
     answered: usize,
 ) -> Result<(), Fail> {
     assert!(rt; answered == 0);
-    let Ok(mut registry) = begun(alloc, conn, in_march()?) else {
-        return Err("no registry after a stop".into());
-    };
+    let mut registry = entered(begun(alloc, conn, 1))?;
     ends(rt, alloc, &mut registry, 0)
 }
 
@@ -208,7 +235,7 @@ fn stops_on<D: Crash + Drop>(
 
 /// What the registry shows without a stop, request by request: no two neighbours are alike.
 pub fn wanted_sights(rt: &impl Abort, alloc: Global) -> Result<Vec<String>, Fail> {
-    let shown = sights(rt, alloc, blank(alloc))?;
+    let shown = sights(rt, alloc, Connection::open_in_memory(alloc)?)?;
     for (text, next) in shown.iter().zip(shown.iter().skip(1)) {
         assert!(rt; text.as_str() != next.as_str());
     }

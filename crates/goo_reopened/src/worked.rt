@@ -2,8 +2,7 @@
 
 use crate::asking::{asks, plays};
 use crate::cases::{FIFTH, FIRST, FOURTH, SECOND, SIXTH, THIRD};
-use crate::disks::blank;
-use crate::registries::{begun_in_lists, begun_on, in_march_from, opened_again};
+use crate::registries::{begun, begun_in_lists, entered, in_march_from, opened_again};
 use crate::script::{Line, SCRIPT};
 use crate::sight::{sight, tell_certificates};
 use goo_body::read_command;
@@ -12,8 +11,7 @@ use goo_registry::Registry;
 use goo_shelf::shelf::Shelf;
 use goo_types::holder_code::HolderCode;
 use goo_types::request::Request;
-use sqlite::Files;
-use sqlite_disk::Disk;
+use sqlite::{Alter, Connection};
 use std::alloc::Global;
 use std::process::Abort;
 use std::test::Fail;
@@ -72,6 +70,17 @@ pub fn answers<S: Shelf>(
     ends(rt, alloc, registry, case)
 }
 
+/// A case, one request at a time.
+pub fn is_answered<S: Shelf>(
+    rt: &impl Abort,
+    alloc: Global,
+    registry: &mut Registry<S>,
+    case: &Case,
+) -> Result<(), Fail> {
+    let _shown = answers(rt, alloc, registry, case)?;
+    Ok(())
+}
+
 /// The requests of a case in a list.
 fn requests_of(alloc: Global, case: &Case) -> Result<Vec<Request>, Fail> {
     let mut requests = Vec::new(alloc);
@@ -102,30 +111,50 @@ pub fn runs<S: Shelf>(
     ends(rt, alloc, registry, case)
 }
 
-/// What a registry on disks shows after a case, in a list or one request at a time, and again once it is opened again.
-fn shown_by_tables<D: Disk + Drop>(
+/// A registry shows this after a case, in a list or one request at a time.
+fn comes_to<S: Shelf>(
     rt: &impl Abort,
     alloc: Global,
-    files: Files<D>,
+    registry: &mut Registry<S>,
     case: &Case,
     is_list: bool,
-) -> Result<String, Fail> {
-    let mut registry = begun_on(alloc, files, in_march_from(case.serial)?)?;
+    wanted: &str,
+) -> Result<(), Fail> {
     let shown = if is_list {
-        runs(rt, alloc, &mut registry, case)?
+        runs(rt, alloc, registry, case)?
     } else {
-        answers(rt, alloc, &mut registry, case)?
+        answers(rt, alloc, registry, case)?
     };
-    let Ok(mut registry) = opened_again(alloc, registry) else {
-        return Err("not opened again".into());
-    };
-    let again = sight(alloc, &mut registry)?;
-    assert!(rt;
-        again.as_str() == shown.as_str(),
-        "{} opened again",
-        case.name
-    );
-    Ok(shown)
+    assert!(rt; shown.as_str() == wanted, "{}", case.name);
+    Ok(())
+}
+
+/// A registry that was opened again shows this.
+fn shows_again<S: Shelf>(
+    rt: &impl Abort,
+    alloc: Global,
+    registry: &mut Registry<S>,
+    case: &Case,
+    wanted: &str,
+) -> Result<(), Fail> {
+    let shown = sight(alloc, registry)?;
+    assert!(rt; shown.as_str() == wanted, "{} opened again", case.name);
+    Ok(())
+}
+
+/// A registry in a database shows this after a case, and again once it is opened again.
+fn is_shown_in<S: Alter + Drop>(
+    rt: &impl Abort,
+    alloc: Global,
+    conn: Connection<S>,
+    case: &Case,
+    is_list: bool,
+    wanted: &str,
+) -> Result<(), Fail> {
+    let mut registry = entered(begun(alloc, conn, case.serial))?;
+    comes_to(rt, alloc, &mut registry, case, is_list, wanted)?;
+    let mut registry = entered(opened_again(alloc, registry))?;
+    shows_again(rt, alloc, &mut registry, case, wanted)
 }
 
 /// What a registry in plain lists shows after a case.
@@ -138,8 +167,8 @@ fn shown_by_lists(rt: &impl Abort, alloc: Global, case: &Case) -> Result<String,
 fn is_alike(rt: &impl Abort, alloc: Global, case: &Case) -> Result<(), Fail> {
     let wanted = shown_by_lists(rt, alloc, case)?;
     for is_list in [false, true] {
-        let shown = shown_by_tables(rt, alloc, blank(alloc), case, is_list)?;
-        assert!(rt; shown.as_str() == wanted.as_str(), "{}", case.name);
+        let conn = Connection::open_in_memory(alloc)?;
+        is_shown_in(rt, alloc, conn, case, is_list, &wanted)?;
     }
     Ok(())
 }
