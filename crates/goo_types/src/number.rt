@@ -6,7 +6,7 @@ use arrayvec::ArrayString;
 use std::marker::Model;
 
 /// Why a text is no certificate number. Where several hold, the first one is told.
-#[derive(Clone, Copy, Debug, PartialEq, Eq, Hash)]
+#[derive(Clone, Copy, Debug, PartialEq, Eq)]
 pub enum NumberFault {
     /// It has not fourteen bytes.
     Length,
@@ -21,7 +21,7 @@ const SERIALS: u64 = 1_000_000_000_000;
 
 /// The number of a certificate, `code * 1,000,000,000,000 + serial`: the code of the registry that
 /// issued it, 1 to 99, and a serial, 1 to 999,999,999,999.
-#[derive(Clone, Copy, Debug, PartialEq, Eq, PartialOrd, Ord, Hash)]
+#[derive(Clone, Copy, Debug, PartialEq, Eq, PartialOrd, Ord)]
 pub struct Number {
     value: u64,
 }
