@@ -10,7 +10,7 @@ ghost use Rattle.goo_spec.specs.Declare.{declare_refusal, declare_reply, with_is
 ghost use Rattle.goo_rows.specs.Rows.{AreRowsOf};
 ghost use Rattle.goo_shelf.specs.Shelf.{Looks, IsReady};
 ghost use Rattle.goo_core.specs.Ruling.{IsRuling, plain_meaning};
-ghost use Rattle.goo_core.specs.Issue.{IsStandingIf, IsStanding, appraisal_of, appraisal_with, terms_of, lot_on, energy_checks};
+ghost use Rattle.goo_core.specs.Issue.{IsStandingIf, IsStanding, appraisal_of, appraisal_with, terms_of, energy_checks};
 
 use crate::callers::is_issuer;
 use crate::days::{is_before, is_over};
@@ -27,7 +27,6 @@ use goo_types::fault::Fault;
 use goo_types::gsrn::Gsrn;
 use goo_types::holder_code::HolderCode;
 use goo_types::lot::Lot;
-use goo_types::lot_fields::LotFields;
 use goo_types::refusal::Refusal;
 use goo_types::reply::Reply;
 use std::alloc::Global;
@@ -86,22 +85,12 @@ fn lot_of(declaration: &Declare, standing: &Standing) -> Lot
     requires commissioned { before_test declaration.now.first_day standing.now.device.commissioned ≡ false }
     ensures { (s : State) → IsStanding s declaration.now.device standing.now → result ≡ lot_def s declaration.now standing.now.device }
 {
-    let device = &standing.device;
-    Lot::new(LotFields {
-        origin: standing.meta.code,
-        device: declaration.device,
-        country: device.country(),
-        site: device.site(),
-        tech: device.tech(),
-        source: device.source(),
-        capacity_w: device.capacity_w(),
-        commissioned: device.commissioned(),
-        support: device.support(),
-        first_day: declaration.first_day,
-        last_day: declaration.last_day,
-        issued_on: standing.meta.today,
-    })
-    .unwrap()
+    let fields = standing.device.lot_fields(
+        standing.meta.code,
+        declaration,
+        standing.meta.today,
+    );
+    Lot::new(fields).unwrap()
 }
 
 /// The most energy in Wh that a device can have produced in a period; the one hour more is for the

@@ -11,7 +11,7 @@ use Rattle.goo_types.specs.declared.lot_fields.LotFields.{LotFields}
 use Rattle.goo_types.specs.declared.reply.Reply.{Reply}
 use Rattle.goo_types.specs.declared.reply.Reply.TheVariants.{Declared}
 use Rattle.goo_types.specs.declared.request.Request.{Request}
-use Rattle.goo_spec.specs.Declare.{lot_of}
+use Rattle.goo_spec.specs.Declare.{lot_of, lot_on}
 use Rattle.goo_spec.specs.State.{State, Device}
 use Rattle.goo_columns.specs.Once.{IsOnce}
 use Rattle.goo_columns.specs.Refused.{CanBeKept}
@@ -77,20 +77,7 @@ pub record IsDue (t : Tables) (q : Request) (reply : Reply) (meta : MetaRow) (x 
 
 -- what the certificates of the declaration have in common, by the registry's row and the device that was found
 abbrev pub lot_stated : MetaRow → Declare → Device → LotFields
-lot_stated meta x device = record {
-  origin = meta.code;
-  device = x.device;
-  country = device.country;
-  site = device.site;
-  tech = device.tech;
-  source = device.source;
-  capacity_w = device.capacity_w;
-  commissioned = device.commissioned;
-  support = device.support;
-  first_day = x.first_day;
-  last_day = x.last_day;
-  issued_on = day_of (string_bytes meta.today);
-}
+lot_stated meta = lot_on meta.code (day_of (string_bytes meta.today))
 
 -- how many certificates these are
 abbrev pub count_of : Option Numbers → ℕ

@@ -34,7 +34,6 @@ use goo_shelf::device::Device;
 use goo_tables::counters::Counters;
 use goo_types::command::{Command, Declare};
 use goo_types::lot::Lot;
-use goo_types::lot_fields::LotFields;
 use goo_types::range::Range;
 use sqlite::{Alter, Connection};
 use std::alloc::Global;
@@ -69,20 +68,9 @@ fn issued_lot(meta: &MetaRow, declared: &Declare, device: &Device) -> Result<Lot
     ensures value { IfOk result (λ lot. (s : State) → s.own ≡ meta.now.code → s.today ≡ day_of (string_bytes meta.now.today) → lot ≡ lot_for s declared.now device.now) }
     ensures accepts { IsTrue (is_meta (meta_in meta.now)) → IsLot (lot_stated meta.now declared.now device.now) → IsOk result }
 {
-    let fields = LotFields {
-        origin: numbers::registry_code(meta.code)?,
-        device: declared.device,
-        country: device.country(),
-        site: device.site(),
-        tech: device.tech(),
-        source: device.source(),
-        capacity_w: device.capacity_w(),
-        commissioned: device.commissioned(),
-        support: device.support(),
-        first_day: declared.first_day,
-        last_day: declared.last_day,
-        issued_on: texts::day(&meta.today)?,
-    };
+    let own = numbers::registry_code(meta.code)?;
+    let today = texts::day(&meta.today)?;
+    let fields = device.lot_fields(own, declared, today);
     Lot::new(fields).ok_or(Trouble::Refused)
 }
 
