@@ -85,11 +85,9 @@ fn lot_of(declaration: &Declare, standing: &Standing) -> Lot
     requires commissioned { before_test declaration.now.first_day standing.now.device.commissioned ≡ false }
     ensures { (s : State) → IsStanding s declaration.now.device standing.now → result ≡ lot_def s declaration.now standing.now.device }
 {
-    let fields = standing.device.lot_fields(
-        standing.meta.code,
-        declaration,
-        standing.meta.today,
-    );
+    let fields = standing
+        .device
+        .lot_fields(standing.meta.code, declaration, standing.meta.today);
     Lot::new(fields).unwrap()
 }
 
