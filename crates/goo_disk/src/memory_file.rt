@@ -1,5 +1,5 @@
 //! A file in memory.
-ghost use Rattle.std.specs.Prelude.{◌≡◌, [], refl, is_ok, length, IfErr, OnOk, true, false};
+ghost use Rattle.std.specs.Prelude.{◌≡◌, ◌-◌, ◌++◌, [], refl, is_ok, length, take, replicate, IfErr, OnOk, true, false};
 ghost use Rattle.std.specs.IoError.{error_kind};
 ghost use Rattle.std.specs.declared.io.ErrorKind.TheVariants.{OutOfMemory};
 ghost use Rattle.sqlite_disk.specs.Disk.{Holds, Torn, Cut, CountsFault};
@@ -121,6 +121,7 @@ fn count(outcome: Result<(), AllocError>, faults: &mut u64) -> io::Result<()>
 /// Cuts a file, or fills it up with zeros.
 fn resize(file: &mut Vec<u8>, len: usize) -> Result<(), AllocError>
     ensures len { OnOk result (length file.new.items ≡ len) }
+    ensures zeros { OnOk result (file.new.items ≡ take len file.old.items ++ replicate (len - length file.old.items) 0) }
     ensures others { Cut len file.old.items file.new.items }
 {
     file.resize(len, 0)
