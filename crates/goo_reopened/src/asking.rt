@@ -10,32 +10,27 @@ use goo_types::holder_code::HolderCode;
 use goo_types::outcome::Outcome;
 use std::alloc::Global;
 use std::process::Abort;
-use std::test::Fail;
 
 /// What a request of a caller comes to.
 pub fn asks<S: Shelf>(
+    rt: &impl Abort,
     alloc: Global,
     registry: &mut Registry<S>,
     caller: &str,
     body: &str,
-) -> Result<Result<Outcome, Fault>, Fail> {
-    let caller = HolderCode::read(caller.as_bytes())?;
-    let request = read_command(alloc, &caller, body.as_bytes())?;
-    Ok(registry.apply(alloc, &request))
+) -> Result<Outcome, Fault> {
+    let caller = HolderCode::read(caller.as_bytes()).expect(rt, "a holder");
+    let request = read_command(alloc, &caller, body.as_bytes()).expect(rt, "a request");
+    registry.apply(alloc, &request)
 }
 
 /// An outcome is that of a line, in this word.
-pub fn is_outcome(
-    rt: &impl Abort,
-    alloc: Global,
-    outcome: Outcome,
-    word: &str,
-    line: &Line,
-) -> Result<(), Fail> {
+pub fn is_outcome(rt: &impl Abort, alloc: Global, outcome: Outcome, word: &str, line: &Line) {
     let text = outcome_text(outcome);
-    let wanted = format!(in alloc; "{{\"outcome\":\"{word}\",\"reply\":{}}}", line.2)?;
+    let wanted = format!(in alloc; "{{\"outcome\":\"{word}\",\"reply\":{}}}", line.2).expect(
+        rt, "memory",
+    );
     assert!(rt; text.as_str() == wanted.as_str(), "to {}", line.1);
-    Ok(())
 }
 
 /// The request of a line comes to its reply, in this word.
@@ -45,8 +40,8 @@ pub fn plays_one<S: Shelf>(
     registry: &mut Registry<S>,
     line: &Line,
     word: &str,
-) -> Result<(), Fail> {
-    let outcome = asks(alloc, registry, line.0, line.1)??;
+) {
+    let outcome = asks(rt, alloc, registry, line.0, line.1).expect(rt, "an outcome");
     is_outcome(rt, alloc, outcome, word, line)
 }
 
@@ -57,10 +52,9 @@ pub fn plays<S: Shelf>(
     registry: &mut Registry<S>,
     lines: &[Line],
     kept: usize,
-) -> Result<(), Fail> {
+) {
     for (at, line) in lines.iter().enumerate() {
         let word = if at < kept { "repeated" } else { "accepted" };
-        plays_one(rt, alloc, registry, line, word)?;
+        plays_one(rt, alloc, registry, line, word);
     }
-    Ok(())
 }

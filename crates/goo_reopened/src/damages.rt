@@ -7,7 +7,6 @@ use sqlite::Files;
 use sqlite_disk::Disk;
 use std::alloc::Global;
 use std::process::Abort;
-use std::test::Fail;
 
 /// What is done to the tables, how it is undone, and why they are not opened in between.
 type Damage = (&'static str, &'static str, OpenFault);
@@ -131,23 +130,22 @@ fn is_refused<D: Disk + Drop>(
     alloc: Global,
     files: Files<D>,
     damage: &Damage,
-) -> Result<Files<D>, Fail> {
-    let files = edited(alloc, files, damage.0)?;
-    let (word, files) = judged(alloc, files)?;
+) -> Files<D> {
+    let files = edited(rt, alloc, files, damage.0);
+    let (word, files) = judged(rt, alloc, files);
     assert!(rt; word == Some(damage.2), "after {}", damage.0);
-    let files = edited(alloc, files, damage.1)?;
-    let (word, files) = judged(alloc, files)?;
+    let files = edited(rt, alloc, files, damage.1);
+    let (word, files) = judged(rt, alloc, files);
     assert!(rt; word == None, "after {}", damage.1);
-    Ok(files)
+    files
 }
 
 #[test]
-fn damages_are_met(rt: HostRuntime) -> Result<(), Fail> {
+fn damages_are_met(rt: HostRuntime) {
     let alloc = rt.alloc();
-    let cancelled = SCRIPT.get(..=CANCELLATION).ok_or("no cancellation")?;
-    let mut files = sent_on(&rt, alloc, blank(alloc), cancelled)?;
+    let cancelled = SCRIPT.get(..=CANCELLATION).expect(&rt, "no cancellation");
+    let mut files = sent_on(&rt, alloc, blank(alloc), cancelled);
     for damage in &DAMAGES {
-        files = is_refused(&rt, alloc, files, damage)?;
+        files = is_refused(&rt, alloc, files, damage);
     }
-    Ok(())
 }

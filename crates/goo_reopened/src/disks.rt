@@ -1,6 +1,5 @@
 //! Disks in memory, and databases on them.
 
-ghost use Rattle.std.specs.Prelude.{IfOk};
 ghost use Rattle.sqlite.specs.Files.{file_state};
 ghost use Rattle.sqlite.specs.Held.{state};
 ghost use Rattle.sqlite.specs.State.{HasCleanDisk};
@@ -14,7 +13,6 @@ use sqlite::{Alter, Connection, FileStore, Files, Options};
 use sqlite_disk::{Crash, Disk, Fuse, Memory};
 use std::alloc::Global;
 use std::process::Abort;
-use std::test::Fail;
 
 /// Two empty disks in memory. They are of one type with those that stop, so that registries are compiled for one type of disk
 /// fewer.
@@ -45,17 +43,18 @@ pub fn files_of<D: Disk + Drop>(conn: Connection<FileStore<D>>) -> Files<D> {
 
 /// The database on disks.
 pub fn database_on<D: Disk + Drop>(
+    rt: &impl Abort,
     alloc: Global,
     files: Files<D>,
-) -> Result<Connection<FileStore<D>>, Fail>
-    ensures ordered { IfOk result (λ conn. HasCleanDisk (file_state conn) → IsInKeyOrder (file_state conn).now) }
+) -> Connection<FileStore<D>>
+    ensures ordered { HasCleanDisk (file_state result) → IsInKeyOrder (file_state result).now }
 {
     if !files.may_be_used() {
-        return Err("disks that may not be used".into());
+        panic!(rt; "disks that may not be used");
     }
     match open_ordered(alloc, files, Options::new(7)) {
-        Ok(conn) => Ok(conn),
-        Err(_) => Err("a database that isn't opened".into()),
+        Ok(conn) => conn,
+        Err(_) => panic!(rt; "a database that isn't opened"),
     }
 }
 
@@ -65,18 +64,23 @@ pub fn sent_on<D: Disk + Drop>(
     alloc: Global,
     files: Files<D>,
     lines: &[Line],
-) -> Result<Files<D>, Fail> {
-    let conn = database_on(alloc, files)?;
-    Ok(files_of(sent(rt, alloc, conn, lines)?))
+) -> Files<D> {
+    let conn = database_on(rt, alloc, files);
+    files_of(sent(rt, alloc, conn, lines))
 }
 
 /// The disks, after a text was run on their database.
-pub fn edited<D: Disk + Drop>(alloc: Global, files: Files<D>, sql: &str) -> Result<Files<D>, Fail> {
-    let mut conn = database_on(alloc, files)?;
+pub fn edited<D: Disk + Drop>(
+    rt: &impl Abort,
+    alloc: Global,
+    files: Files<D>,
+    sql: &str,
+) -> Files<D> {
+    let mut conn = database_on(rt, alloc, files);
     let done = conn.execute_batch(sql);
     let files = files_of(conn);
-    done?;
-    Ok(files)
+    done.expect(rt, "an edit");
+    files
 }
 
 /// Why a database is not opened, if so, and the database as that leaves it.
@@ -94,10 +98,11 @@ fn word_of<S: Alter>(alloc: Global, conn: Connection<S>) -> (Option<OpenFault>, 
 
 /// Why no registry is opened on the disks, if none is, and the disks as that leaves them.
 pub fn judged<D: Disk + Drop>(
+    rt: &impl Abort,
     alloc: Global,
     files: Files<D>,
-) -> Result<(Option<OpenFault>, Files<D>), Fail> {
-    let conn = database_on(alloc, files)?;
+) -> (Option<OpenFault>, Files<D>) {
+    let conn = database_on(rt, alloc, files);
     let (word, conn) = word_of(alloc, conn);
-    Ok((word, files_of(conn)))
+    (word, files_of(conn))
 }

@@ -6,7 +6,6 @@ use sqlite::Files;
 use sqlite_disk::Disk;
 use std::alloc::Global;
 use std::process::Abort;
-use std::test::Fail;
 
 /// A text that is run on a database, and why it is refused then, if it is.
 type Row = (&'static str, Option<OpenFault>);
@@ -39,27 +38,21 @@ fn is_told<D: Disk + Drop>(
     files: Files<D>,
     sql: &str,
     word: Option<OpenFault>,
-) -> Result<Files<D>, Fail> {
-    let files = edited(alloc, files, sql)?;
-    let (told, files) = judged(alloc, files)?;
+) -> Files<D> {
+    let files = edited(rt, alloc, files, sql);
+    let (told, files) = judged(rt, alloc, files);
     assert!(rt; told == word, "after {sql}");
-    let (told, files) = judged(alloc, files)?;
+    let (told, files) = judged(rt, alloc, files);
     assert!(rt; told == word, "again after {sql}");
-    Ok(files)
+    files
 }
 
 /// Texts that are run on disks in turn, and the word after each.
-fn are_told<D: Disk + Drop>(
-    rt: &impl Abort,
-    alloc: Global,
-    files: Files<D>,
-    rows: &[Row],
-) -> Result<(), Fail> {
+fn are_told<D: Disk + Drop>(rt: &impl Abort, alloc: Global, files: Files<D>, rows: &[Row]) {
     let mut files = files;
     for (sql, word) in rows {
-        files = is_told(rt, alloc, files, sql, *word)?;
+        files = is_told(rt, alloc, files, sql, *word);
     }
-    Ok(())
 }
 
 /// A table of somebody else, and his own `meta`.
@@ -112,20 +105,19 @@ const OURS: [Row; 10] = [
 ];
 
 #[test]
-fn tables_of_somebody_else_and_ours(rt: HostRuntime) -> Result<(), Fail> {
+fn tables_of_somebody_else_and_ours(rt: HostRuntime) {
     let alloc = rt.alloc();
-    are_told(&rt, alloc, blank(alloc), &SOMEBODY_ELSES)?;
+    are_told(&rt, alloc, blank(alloc), &SOMEBODY_ELSES);
     are_told(&rt, alloc, blank(alloc), &OURS)
 }
 
 #[test]
-fn a_meta_alone_and_behind_another_table(rt: HostRuntime) -> Result<(), Fail> {
+fn a_meta_alone_and_behind_another_table(rt: HostRuntime) {
     let alloc = rt.alloc();
     for first in ["", PLAN] {
-        let files = is_told(&rt, alloc, blank(alloc), first, NONE)?;
-        are_told(&rt, alloc, files, &VERSIONS)?;
+        let files = is_told(&rt, alloc, blank(alloc), first, NONE);
+        are_told(&rt, alloc, files, &VERSIONS);
     }
-    Ok(())
 }
 
 /// Tables of accounts, ours and others, and why all tables are refused then, if they are.
@@ -173,7 +165,7 @@ const ACCOUNTS: [Row; 10] = [
 ];
 
 #[test]
-fn another_table_of_accounts(rt: HostRuntime) -> Result<(), Fail> {
+fn another_table_of_accounts(rt: HostRuntime) {
     let alloc = rt.alloc();
     for (account, word) in ACCOUNTS {
         let rows = [
@@ -182,7 +174,6 @@ fn another_table_of_accounts(rt: HostRuntime) -> Result<(), Fail> {
             (AFTER_ACCOUNT, NONE),
             (BEGINNING, word),
         ];
-        are_told(&rt, alloc, blank(alloc), &rows)?;
+        are_told(&rt, alloc, blank(alloc), &rows);
     }
-    Ok(())
 }

@@ -14,7 +14,6 @@ use goo_types::registry_code::RegistryCode;
 use sqlite::{Alter, Connection};
 use std::alloc::Global;
 use std::process::Abort;
-use std::test::Fail;
 
 /// The last serial of all.
 const LAST: u64 = 999_999_999_999;
@@ -80,9 +79,9 @@ const MEMBERS: Case = Case {
 };
 
 /// A new registry's code, date and next numbers.
-fn has_its_own<S: Shelf>(rt: &impl Abort, shelf: &mut S) -> Result<(), Fail> {
-    let today = Day::read(b"2025-03-01")?;
-    let counters = shelf.counters()?;
+fn has_its_own<S: Shelf>(rt: &impl Abort, shelf: &mut S) {
+    let today = Day::read(b"2025-03-01").expect(rt, "a day");
+    let counters = shelf.counters().expect(rt, "counters");
     assert!(rt;
         matches!(shelf.code(), Ok(code) if code.get() == 7)
             && shelf.today() == Ok(today)
@@ -93,149 +92,147 @@ fn has_its_own<S: Shelf>(rt: &impl Abort, shelf: &mut S) -> Result<(), Fail> {
             && counters.withdrawal() == 1
             && shelf.refused_calls() == 0
     );
-    Ok(())
 }
 
 /// A new registry's shelf has no members.
-fn has_nobody<S: Shelf>(rt: &impl Abort, shelf: &mut S) -> Result<(), Fail> {
-    let holder = HolderCode::read(b"SUN")?;
-    let account = AccountNo::new(1).ok_or("no account")?;
-    let code = RegistryCode::new(7).ok_or("no code")?;
+fn has_nobody<S: Shelf>(rt: &impl Abort, shelf: &mut S) {
+    let holder = HolderCode::read(b"SUN").expect(rt, "a holder");
+    let account = AccountNo::new(1).expect(rt, "no account");
+    let code = RegistryCode::new(7).expect(rt, "no code");
     assert!(rt;
         matches!(shelf.holder(&holder), Ok(None))
             && matches!(shelf.account(account), Ok(None))
             && matches!(shelf.peer(code), Ok(false))
     );
-    Ok(())
 }
 
 /// A new registry's shelf has no acts.
-fn has_no_act<S: Shelf>(rt: &impl Abort, alloc: Global, shelf: &mut S) -> Result<(), Fail> {
-    let act = ActNo::new(1).ok_or("no act")?;
+fn has_no_act<S: Shelf>(rt: &impl Abort, alloc: Global, shelf: &mut S) {
+    let act = ActNo::new(1).expect(rt, "no act");
     assert!(rt;
         matches!(shelf.cancelled(act), Ok(None)) && matches!(shelf.sent(alloc, act), Ok(None))
     );
-    Ok(())
 }
 
 /// A new registry's shelf has neither devices nor lots.
-fn has_no_device<S: Shelf>(rt: &impl Abort, shelf: &mut S) -> Result<(), Fail> {
-    let device = Gsrn::read(b"500000000000000012")?;
-    let code = RegistryCode::new(7).ok_or("no code")?;
-    let first = Day::read(b"2025-01-01")?;
-    let progress = shelf.progress(&device)?;
+fn has_no_device<S: Shelf>(rt: &impl Abort, shelf: &mut S) {
+    let device = Gsrn::read(b"500000000000000012").expect(rt, "a device");
+    let code = RegistryCode::new(7).expect(rt, "no code");
+    let first = Day::read(b"2025-01-01").expect(rt, "a day");
+    let progress = shelf.progress(&device).expect(rt, "progress");
     assert!(rt;
         matches!(shelf.device(&device), Ok(None))
             && matches!(shelf.lot(code, &device, first), Ok(None))
             && progress.last_day.is_none()
             && progress.carry.get() == 0
     );
-    Ok(())
 }
 
 /// A new registry's shelf has no rows.
-fn is_empty<S: Shelf>(rt: &impl Abort, alloc: Global, shelf: &mut S) -> Result<(), Fail> {
-    let first = Number::new(7, 1).ok_or("no number")?;
-    let range = Range::new(first, first).ok_or("no range")?;
-    let account = AccountNo::new(1).ok_or("no account")?;
-    let last_day = Day::read(b"2099-12-31")?;
+fn is_empty<S: Shelf>(rt: &impl Abort, alloc: Global, shelf: &mut S) {
+    let first = Number::new(7, 1).expect(rt, "no number");
+    let range = Range::new(first, first).expect(rt, "no range");
+    let account = AccountNo::new(1).expect(rt, "no account");
+    let last_day = Day::read(b"2099-12-31").expect(rt, "a day");
     assert!(rt;
-        shelf.meeting(alloc, range)?.is_empty()
-            && shelf.expiring(alloc, last_day)?.is_empty()
-            && shelf.pieces_of(alloc, account)?.is_empty()
-            && shelf.totals(alloc)?.is_empty()
+        shelf.meeting(alloc, range).expect(rt, "rows").is_empty()
+            && shelf
+                .expiring(alloc, last_day)
+                .expect(rt, "rows")
+                .is_empty()
+            && shelf
+                .pieces_of(alloc, account)
+                .expect(rt, "rows")
+                .is_empty()
+            && shelf.totals(alloc).expect(rt, "totals").is_empty()
     );
-    Ok(())
 }
 
 /// The shelf of a new registry finds nothing.
-fn finds_nothing<S: Shelf>(rt: &impl Abort, alloc: Global, shelf: &mut S) -> Result<(), Fail> {
-    has_its_own(rt, shelf)?;
-    has_nobody(rt, shelf)?;
-    has_no_act(rt, alloc, shelf)?;
-    has_no_device(rt, shelf)?;
+fn finds_nothing<S: Shelf>(rt: &impl Abort, alloc: Global, shelf: &mut S) {
+    has_its_own(rt, shelf);
+    has_nobody(rt, shelf);
+    has_no_act(rt, alloc, shelf);
+    has_no_device(rt, shelf);
     is_empty(rt, alloc, shelf)
 }
 
 /// A new registry in a database finds nothing.
-fn finds_nothing_in<S: Alter + Drop>(
-    rt: &impl Abort,
-    alloc: Global,
-    conn: Connection<S>,
-) -> Result<(), Fail> {
-    let registry = entered(begun(alloc, conn, LAST))?;
+fn finds_nothing_in<S: Alter + Drop>(rt: &impl Abort, alloc: Global, conn: Connection<S>) {
+    let registry = entered(rt, begun(alloc, conn, LAST));
     let mut shelf = registry.into_shelf();
     finds_nothing(rt, alloc, &mut shelf)
 }
 
 /// The holder with an open account and a closed one.
-fn has_accounts<S: Shelf>(rt: &impl Abort, shelf: &mut S) -> Result<(), Fail> {
-    let holder = HolderCode::read(b"SUN")?;
-    let open = AccountNo::new(1).ok_or("no number")?;
-    let shut = AccountNo::new(2).ok_or("no number")?;
+fn has_accounts<S: Shelf>(rt: &impl Abort, shelf: &mut S) {
+    let holder = HolderCode::read(b"SUN").expect(rt, "a holder");
+    let open = AccountNo::new(1).expect(rt, "no number");
+    let shut = AccountNo::new(2).expect(rt, "no number");
     assert!(rt;
         matches!(shelf.holder(&holder), Ok(Some(name)) if name.text() == "Sun Power")
             && matches!(shelf.account(open), Ok(Some(account)) if !account.is_closed())
             && matches!(shelf.account(shut), Ok(Some(account)) if account.is_closed())
     );
-    Ok(())
 }
 
 /// The device, which has declared nothing.
-fn has_a_device<S: Shelf>(rt: &impl Abort, shelf: &mut S) -> Result<(), Fail> {
-    let gsrn = Gsrn::read(b"500000000000000012")?;
+fn has_a_device<S: Shelf>(rt: &impl Abort, shelf: &mut S) {
+    let gsrn = Gsrn::read(b"500000000000000012").expect(rt, "a device");
     assert!(rt;
         matches!(shelf.device(&gsrn), Ok(Some(device)) if device.capacity_w().get() == 2_000_000)
             && matches!(shelf.progress(&gsrn), Ok(progress) if progress.last_day.is_none())
     );
-    Ok(())
 }
 
 /// The other registry, the number of the next account, and the date.
-fn has_a_peer<S: Shelf>(rt: &impl Abort, shelf: &mut S) -> Result<(), Fail> {
-    let nine = RegistryCode::new(9).ok_or("no code")?;
-    let today = Day::read(b"2025-04-01")?;
+fn has_a_peer<S: Shelf>(rt: &impl Abort, shelf: &mut S) {
+    let nine = RegistryCode::new(9).expect(rt, "no code");
+    let today = Day::read(b"2025-04-01").expect(rt, "a day");
     assert!(rt;
         matches!(shelf.peer(nine), Ok(true))
             && matches!(shelf.counters(), Ok(counters) if counters.account() == 3)
             && shelf.today() == Ok(today)
     );
-    Ok(())
 }
 
 /// The shelf of a registry that was asked for its members finds them.
-fn finds_members<S: Shelf>(rt: &impl Abort, shelf: &mut S) -> Result<(), Fail> {
-    has_accounts(rt, shelf)?;
-    has_a_device(rt, shelf)?;
+fn finds_members<S: Shelf>(rt: &impl Abort, shelf: &mut S) {
+    has_accounts(rt, shelf);
+    has_a_device(rt, shelf);
     has_a_peer(rt, shelf)
 }
 
 /// A new registry in a database finds its members once they were asked for.
-fn finds_members_in<S: Alter + Drop>(
-    rt: &impl Abort,
-    alloc: Global,
-    conn: Connection<S>,
-) -> Result<(), Fail> {
-    let mut registry = entered(begun(alloc, conn, 1))?;
-    is_answered(rt, alloc, &mut registry, &MEMBERS)?;
+fn finds_members_in<S: Alter + Drop>(rt: &impl Abort, alloc: Global, conn: Connection<S>) {
+    let mut registry = entered(rt, begun(alloc, conn, 1));
+    is_answered(rt, alloc, &mut registry, &MEMBERS);
     let mut shelf = registry.into_shelf();
     finds_members(rt, &mut shelf)
 }
 
 #[test]
-fn in_a_new_registry(rt: HostRuntime) -> Result<(), Fail> {
+fn in_a_new_registry(rt: HostRuntime) {
     let alloc = rt.alloc();
-    finds_nothing_in(&rt, alloc, Connection::open_in_memory(alloc)?)?;
-    let mut lists = begun_in_lists(alloc, in_march_from(LAST)?).into_shelf();
+    finds_nothing_in(
+        &rt,
+        alloc,
+        Connection::open_in_memory(alloc).expect(&rt, "a database"),
+    );
+    let mut lists = begun_in_lists(alloc, in_march_from(&rt, LAST)).into_shelf();
     finds_nothing(&rt, alloc, &mut lists)
 }
 
 #[test]
-fn among_members(rt: HostRuntime) -> Result<(), Fail> {
+fn among_members(rt: HostRuntime) {
     let alloc = rt.alloc();
-    finds_members_in(&rt, alloc, Connection::open_in_memory(alloc)?)?;
-    let mut lists = begun_in_lists(alloc, in_march()?);
-    is_answered(&rt, alloc, &mut lists, &MEMBERS)?;
+    finds_members_in(
+        &rt,
+        alloc,
+        Connection::open_in_memory(alloc).expect(&rt, "a database"),
+    );
+    let mut lists = begun_in_lists(alloc, in_march(&rt));
+    is_answered(&rt, alloc, &mut lists, &MEMBERS);
     let mut shelf = lists.into_shelf();
     finds_members(&rt, &mut shelf)
 }

@@ -12,7 +12,6 @@ use sqlite_disk::{Disk, Memory, Tally};
 use std::alloc::Global;
 use std::io;
 use std::process::Abort;
-use std::test::Fail;
 
 /// A disk that refuses one write.
 #[derive(Drop)]
@@ -119,24 +118,24 @@ fn lapses_on<D: Disk + Drop>(
     alloc: Global,
     files: Files<D>,
     wanted: &[String],
-) -> Result<bool, Fail> {
-    let (answered, files) = runs_on(rt, alloc, files)?;
-    goes_on(rt, alloc, files, answered, wanted)?;
-    Ok(answered < SCRIPT.len())
+) -> bool {
+    let (answered, files) = runs_on(rt, alloc, files);
+    goes_on(rt, alloc, files, answered, wanted);
+    answered < SCRIPT.len()
 }
 
 #[test]
-fn the_log_refuses_one_write(rt: HostRuntime) -> Result<(), Fail> {
+fn the_log_refuses_one_write(rt: HostRuntime) {
     let alloc = rt.alloc();
-    let wanted = wanted_sights(&rt, alloc)?;
+    let wanted = wanted_sights(&rt, alloc);
     for round in 0..ROUNDS {
         let files = Files {
             log: lapsing(alloc, 7 * round),
             db: lapsing(alloc, u64::MAX),
         };
-        if !lapses_on(&rt, alloc, files, &wanted)? {
-            return Ok(());
+        if !lapses_on(&rt, alloc, files, &wanted) {
+            return;
         }
     }
-    Err("a lapse at each write".into())
+    panic!(&rt; "a lapse at each write")
 }

@@ -11,7 +11,6 @@ use goo_shelf::shelf::Shelf;
 use sqlite::{Alter, Connection};
 use std::alloc::Global;
 use std::process::Abort;
-use std::test::Fail;
 
 /// How many of the script's requests come first.
 const DEVICE: usize = 5;
@@ -43,67 +42,61 @@ fn declares_days<S: Shelf>(
     month: &str,
     days: u32,
     before: u64,
-) -> Result<(), Fail> {
+) {
     for number in 1..=days {
-        let day = format!(in alloc; "{month}-{number:02}")?;
+        let day = format!(in alloc; "{month}-{number:02}").expect(rt, "memory");
         let body = format!(in alloc;
             "{{\"aux_wh\":0,\"command\":\"declare\",\"device\":\"500000000000000012\",\"first_day\":\"{day}\",\"gross_wh\":1000000,\"key\":\"{day}\",\"last_day\":\"{day}\"}}"
-        )?;
+        ).expect(rt, "memory");
         let serial = before.wrapping_add(u64::from(number));
         let wanted = format!(in alloc;
             "{{\"outcome\":\"accepted\",\"reply\":{{\"carry\":0,\"count\":1,\"first\":\"07{serial:012}\",\"last\":\"07{serial:012}\"}}}}"
-        )?;
-        let outcome = asks(alloc, registry, "ISSUER", &body)??;
+        ).expect(rt, "memory");
+        let outcome = asks(rt, alloc, registry, "ISSUER", &body).expect(rt, "an outcome");
         let text = outcome_text(outcome);
         assert!(rt; text.as_str() == wanted.as_str(), "on {day}");
     }
-    Ok(())
 }
 
 /// What a new registry shows once a hundred parts were sent.
-fn shown_by<S: Shelf>(
-    rt: &impl Abort,
-    alloc: Global,
-    registry: &mut Registry<S>,
-) -> Result<String, Fail> {
-    let first = SCRIPT.get(..DEVICE).ok_or("so many requests")?;
-    plays(rt, alloc, registry, first, 0)?;
-    declares_days(rt, alloc, registry, "2024-10", 31, 0)?;
-    declares_days(rt, alloc, registry, "2024-11", 30, 31)?;
-    declares_days(rt, alloc, registry, "2024-12", 31, 61)?;
-    declares_days(rt, alloc, registry, "2025-01", 9, 92)?;
+fn shown_by<S: Shelf>(rt: &impl Abort, alloc: Global, registry: &mut Registry<S>) -> String {
+    let first = SCRIPT.get(..DEVICE).expect(rt, "so many requests");
+    plays(rt, alloc, registry, first, 0);
+    declares_days(rt, alloc, registry, "2024-10", 31, 0);
+    declares_days(rt, alloc, registry, "2024-11", 30, 31);
+    declares_days(rt, alloc, registry, "2024-12", 31, 61);
+    declares_days(rt, alloc, registry, "2025-01", 9, 92);
     let mut audit = String::new(alloc);
-    tell_audit(alloc, registry, &mut audit)?;
+    tell_audit(rt, alloc, registry, &mut audit);
     assert!(rt; audit.as_str() == "500000000000000012 101000000 101 0\n");
     for (caller, body, wanted) in &EXPORTS {
-        let outcome = asks(alloc, registry, caller, body)??;
+        let outcome = asks(rt, alloc, registry, caller, body).expect(rt, "an outcome");
         let text = outcome_text(outcome);
         assert!(rt; text.as_str() == *wanted, "to {body}");
     }
-    sight(alloc, registry)
+    sight(rt, alloc, registry)
 }
 
 /// What a new registry in a database shows then.
-fn shown_in<S: Alter + Drop>(
-    rt: &impl Abort,
-    alloc: Global,
-    conn: Connection<S>,
-) -> Result<String, Fail> {
-    let mut registry = entered(begun(alloc, conn, 1))?;
+fn shown_in<S: Alter + Drop>(rt: &impl Abort, alloc: Global, conn: Connection<S>) -> String {
+    let mut registry = entered(rt, begun(alloc, conn, 1));
     shown_by(rt, alloc, &mut registry)
 }
 
 /// The same of a new registry in plain lists.
-fn shown_in_lists(rt: &impl Abort, alloc: Global) -> Result<String, Fail> {
-    let mut lists = begun_in_lists(alloc, in_march()?);
+fn shown_in_lists(rt: &impl Abort, alloc: Global) -> String {
+    let mut lists = begun_in_lists(alloc, in_march(rt));
     shown_by(rt, alloc, &mut lists)
 }
 
 #[test]
-fn a_notice_has_a_hundred_parts_at_most(rt: HostRuntime) -> Result<(), Fail> {
+fn a_notice_has_a_hundred_parts_at_most(rt: HostRuntime) {
     let alloc = rt.alloc();
-    let shown = shown_in(&rt, alloc, Connection::open_in_memory(alloc)?)?;
-    let wanted = shown_in_lists(&rt, alloc)?;
+    let shown = shown_in(
+        &rt,
+        alloc,
+        Connection::open_in_memory(alloc).expect(&rt, "a database"),
+    );
+    let wanted = shown_in_lists(&rt, alloc);
     assert!(rt; shown.as_str() == wanted.as_str());
-    Ok(())
 }

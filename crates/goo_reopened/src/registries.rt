@@ -18,7 +18,6 @@ use goo_types::serial::Serial;
 use sqlite::{Alter, Connection};
 use std::alloc::Global;
 use std::process::Abort;
-use std::test::Fail;
 
 /// What a registry begins with.
 #[derive(Clone, Copy)]
@@ -29,13 +28,13 @@ pub struct Beginning {
 }
 
 /// Registry 7 on 1 March 2025, with the first serial.
-pub fn in_march() -> Result<Beginning, Fail> {
-    in_march_from(1)
+pub fn in_march(rt: &impl Abort) -> Beginning {
+    in_march_from(rt, 1)
 }
 
 /// Registry 7 on 1 March 2025, with this next serial.
-pub fn in_march_from(serial: u64) -> Result<Beginning, Fail> {
-    Ok(march_from(serial).ok_or("no serial")?)
+pub fn in_march_from(rt: &impl Abort, serial: u64) -> Beginning {
+    march_from(serial).expect(rt, "no serial")
 }
 
 /// The same, or none where there is no such serial.
@@ -51,10 +50,10 @@ fn march_from(serial: u64) -> Option<Beginning> {
 pub type Entered<S> = Result<Registry<SqlShelf<S>>, (Connection<S>, OpenFault)>;
 
 /// The registry that was entered.
-pub fn entered<S: Alter + Drop>(found: Entered<S>) -> Result<Registry<SqlShelf<S>>, Fail> {
+pub fn entered<S: Alter + Drop>(rt: &impl Abort, found: Entered<S>) -> Registry<SqlShelf<S>> {
     match found {
-        Ok(registry) => Ok(registry),
-        Err(_) => Err("no registry".into()),
+        Ok(registry) => registry,
+        Err(_) => panic!(rt; "no registry"),
     }
 }
 
@@ -109,11 +108,11 @@ pub fn sent<S: Alter + Drop>(
     alloc: Global,
     conn: Connection<S>,
     lines: &[Line],
-) -> Result<Connection<S>, Fail> {
-    let mut registry = entered(begun(alloc, conn, 1))?;
-    plays(rt, alloc, &mut registry, lines, 0)?;
+) -> Connection<S> {
+    let mut registry = entered(rt, begun(alloc, conn, 1));
+    plays(rt, alloc, &mut registry, lines, 0);
     let (conn, _) = closed(registry);
-    Ok(conn)
+    conn
 }
 
 /// The registry closed, and opened again over the same connection.

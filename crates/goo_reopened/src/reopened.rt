@@ -16,7 +16,6 @@ use sqlite::{Alter, Connection, Files};
 use sqlite_disk::Disk;
 use std::alloc::Global;
 use std::process::Abort;
-use std::test::Fail;
 
 /// What the registry of April shows: both accounts, the audit, and neither a cancellation nor a notice.
 const APRIL_SHOWN: &str = "{\"code\":11,\"name\":\"PeriodOrder\",\"outcome\":\"refused\"}
@@ -54,10 +53,9 @@ pub fn shows<S: Alter>(
     alloc: Global,
     registry: &mut Registry<SqlShelf<S>>,
     wanted: &str,
-) -> Result<(), Fail> {
-    let shown = sight(alloc, registry)?;
+) {
+    let shown = sight(rt, alloc, registry);
     assert!(rt; shown.as_str() == wanted);
-    Ok(())
 }
 
 /// A registry that was opened again shows what it showed, and knows the requests.
@@ -67,9 +65,9 @@ fn is_as_it_was<S: Alter>(
     registry: &mut Registry<SqlShelf<S>>,
     lines: &[Line],
     wanted: &str,
-) -> Result<(), Fail> {
-    shows(rt, alloc, registry, wanted)?;
-    plays(rt, alloc, registry, lines, lines.len())?;
+) {
+    shows(rt, alloc, registry, wanted);
+    plays(rt, alloc, registry, lines, lines.len());
     shows(rt, alloc, registry, wanted)
 }
 
@@ -80,25 +78,20 @@ fn comes_back<S: Alter + Drop>(
     registry: Registry<SqlShelf<S>>,
     lines: &[Line],
     wanted: &str,
-) -> Result<Connection<S>, Fail> {
-    let mut registry = entered(opened_again(alloc, registry))?;
-    is_as_it_was(rt, alloc, &mut registry, lines, wanted)?;
+) -> Connection<S> {
+    let mut registry = entered(rt, opened_again(alloc, registry));
+    is_as_it_was(rt, alloc, &mut registry, lines, wanted);
     let (conn, refused) = closed(registry);
     assert!(rt; refused == 0);
-    Ok(conn)
+    conn
 }
 
 /// No other registry is begun where there is one.
-fn is_taken<S: Alter + Drop>(
-    rt: &impl Abort,
-    alloc: Global,
-    conn: Connection<S>,
-) -> Result<(), Fail> {
+fn is_taken<S: Alter + Drop>(rt: &impl Abort, alloc: Global, conn: Connection<S>) {
     match begun(alloc, conn, 1) {
-        Ok(_) => Err("another registry".into()),
+        Ok(_) => panic!(rt; "another registry"),
         Err((_, fault)) => {
             assert!(rt; fault == OpenFault::AlreadyThere);
-            Ok(())
         }
     }
 }
@@ -110,8 +103,8 @@ fn comes_to<S: Alter>(
     registry: &mut Registry<SqlShelf<S>>,
     lines: &[Line],
     wanted: &str,
-) -> Result<(), Fail> {
-    plays(rt, alloc, registry, lines, 0)?;
+) {
+    plays(rt, alloc, registry, lines, 0);
     shows(rt, alloc, registry, wanted)
 }
 
@@ -122,43 +115,33 @@ fn stays<S: Alter + Drop>(
     conn: Connection<S>,
     lines: &[Line],
     wanted: &str,
-) -> Result<(), Fail> {
-    let mut registry = entered(begun(alloc, conn, 1))?;
-    comes_to(rt, alloc, &mut registry, lines, wanted)?;
-    let conn = comes_back(rt, alloc, registry, lines, wanted)?;
+) {
+    let mut registry = entered(rt, begun(alloc, conn, 1));
+    comes_to(rt, alloc, &mut registry, lines, wanted);
+    let conn = comes_back(rt, alloc, registry, lines, wanted);
     is_taken(rt, alloc, conn)
 }
 
 /// The registry that a database holds shows this.
-fn is_shown<S: Alter + Drop>(
-    rt: &impl Abort,
-    alloc: Global,
-    conn: Connection<S>,
-    wanted: &str,
-) -> Result<(), Fail>
+fn is_shown<S: Alter + Drop>(rt: &impl Abort, alloc: Global, conn: Connection<S>, wanted: &str)
     requires ordered { HasCleanDisk (state S.Store conn) → IsInKeyOrder (state S.Store conn).now }
 {
-    let mut registry = entered(opened(alloc, conn))?;
+    let mut registry = entered(rt, opened(alloc, conn));
     shows(rt, alloc, &mut registry, wanted)
 }
 
 /// The registry on disks shows this.
-fn is_shown_on<D: Disk + Drop>(
-    rt: &impl Abort,
-    alloc: Global,
-    files: Files<D>,
-    wanted: &str,
-) -> Result<(), Fail> {
-    let conn = database_on(alloc, files)?;
+fn is_shown_on<D: Disk + Drop>(rt: &impl Abort, alloc: Global, files: Files<D>, wanted: &str) {
+    let conn = database_on(rt, alloc, files);
     is_shown(rt, alloc, conn, wanted)
 }
 
 #[test]
-fn in_memory_and_on_disks(rt: HostRuntime) -> Result<(), Fail> {
+fn in_memory_and_on_disks(rt: HostRuntime) {
     let alloc = rt.alloc();
-    let april = SCRIPT.get(..APRIL).ok_or("so many requests")?;
-    let conn = Connection::open_in_memory(alloc)?;
-    stays(&rt, alloc, conn, april, APRIL_SHOWN)?;
-    let files = sent_on(&rt, alloc, blank(alloc), april)?;
+    let april = SCRIPT.get(..APRIL).expect(&rt, "so many requests");
+    let conn = Connection::open_in_memory(alloc).expect(&rt, "a database");
+    stays(&rt, alloc, conn, april, APRIL_SHOWN);
+    let files = sent_on(&rt, alloc, blank(alloc), april);
     is_shown_on(&rt, alloc, files, APRIL_SHOWN)
 }

@@ -10,7 +10,6 @@ use goo_tables::withdrawal::find_withdrawal;
 use sqlite::{Alter, Connection};
 use std::alloc::Global;
 use std::process::Abort;
-use std::test::Fail;
 
 /// The fifth certificate of January is withdrawn. One of March is there too.
 const WITHDRAWN: Case = Case {
@@ -26,26 +25,17 @@ const WITHDRAWN: Case = Case {
 };
 
 /// January's declaration, its lot, the piece that was withdrawn, and the withdrawal.
-fn finds_rows<S: Alter>(
-    rt: &impl Abort,
-    alloc: Global,
-    conn: &mut Connection<S>,
-) -> Result<(), Fail> {
+fn finds_rows<S: Alter>(rt: &impl Abort, alloc: Global, conn: &mut Connection<S>) {
     assert!(rt;
         matches!(find_declaration(alloc, conn, "500000000000000012", "2025-01-01"), Ok(Some(row)) if row.gross == 1_234_567_890)
             && matches!(find_lot_by_id(alloc, conn, 1), Ok(Some(row)) if row.origin == 7)
             && matches!(find_piece(alloc, conn, 7_000_000_000_005), Ok(Some(row)) if row.last == 7_000_000_000_005)
             && matches!(find_withdrawal(alloc, conn, 1), Ok(Some(row)) if row.first == 7_000_000_000_005)
     );
-    Ok(())
 }
 
 /// The piece behind the withdrawn one; those of January expire after the last day of July of the next year, March's doesn't yet.
-fn finds_next<S: Alter>(
-    rt: &impl Abort,
-    alloc: Global,
-    conn: &mut Connection<S>,
-) -> Result<(), Fail> {
+fn finds_next<S: Alter>(rt: &impl Abort, alloc: Global, conn: &mut Connection<S>) {
     assert!(rt;
         matches!(next_of_account(alloc, conn, 1, 7_000_000_000_005), Ok(Some(row)) if row.piece.first == 7_000_000_000_006)
             && matches!(next_expiring(alloc, conn, "2026-08-01", 7_000_000_000_004), Ok(Some(row)) if row.piece.first == 7_000_000_000_006)
@@ -55,33 +45,28 @@ fn finds_next<S: Alter>(
             )
             && matches!(next_expiring(alloc, conn, "2026-07-31", 0), Ok(None))
     );
-    Ok(())
 }
 
 /// All rows that were asked for.
-fn finds_all<S: Alter>(
-    rt: &impl Abort,
-    alloc: Global,
-    conn: &mut Connection<S>,
-) -> Result<(), Fail> {
-    finds_rows(rt, alloc, conn)?;
+fn finds_all<S: Alter>(rt: &impl Abort, alloc: Global, conn: &mut Connection<S>) {
+    finds_rows(rt, alloc, conn);
     finds_next(rt, alloc, conn)
 }
 
 /// A registry in a database is asked for the withdrawal, and its tables are asked for rows.
-fn finds_withdrawn<S: Alter + Drop>(
-    rt: &impl Abort,
-    alloc: Global,
-    conn: Connection<S>,
-) -> Result<(), Fail> {
-    let mut registry = entered(begun(alloc, conn, 1))?;
-    is_answered(rt, alloc, &mut registry, &WITHDRAWN)?;
+fn finds_withdrawn<S: Alter + Drop>(rt: &impl Abort, alloc: Global, conn: Connection<S>) {
+    let mut registry = entered(rt, begun(alloc, conn, 1));
+    is_answered(rt, alloc, &mut registry, &WITHDRAWN);
     let (mut conn, _) = closed(registry);
     finds_all(rt, alloc, &mut conn)
 }
 
 #[test]
-fn by_keys_and_in_order(rt: HostRuntime) -> Result<(), Fail> {
+fn by_keys_and_in_order(rt: HostRuntime) {
     let alloc = rt.alloc();
-    finds_withdrawn(&rt, alloc, Connection::open_in_memory(alloc)?)
+    finds_withdrawn(
+        &rt,
+        alloc,
+        Connection::open_in_memory(alloc).expect(&rt, "a database"),
+    )
 }

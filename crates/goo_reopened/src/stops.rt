@@ -21,30 +21,25 @@ use sqlite::{Alter, Connection, Files, Options};
 use sqlite_disk::{Crash, Disk};
 use std::alloc::Global;
 use std::process::Abort;
-use std::test::Fail;
 
 /// What a new registry shows before the first request, and after each.
 fn sights_of<S: Alter>(
     rt: &impl Abort,
     alloc: Global,
     registry: &mut Registry<SqlShelf<S>>,
-) -> Result<Vec<String>, Fail> {
+) -> Vec<String> {
     let mut shown = Vec::new(alloc);
-    shown.push(sight(alloc, registry)?)?;
+    shown.push(sight(rt, alloc, registry)).expect(rt, "memory");
     for line in &SCRIPT {
-        plays_one(rt, alloc, registry, line, "accepted")?;
-        shown.push(sight(alloc, registry)?)?;
+        plays_one(rt, alloc, registry, line, "accepted");
+        shown.push(sight(rt, alloc, registry)).expect(rt, "memory");
     }
-    Ok(shown)
+    shown
 }
 
 /// What a new registry in a database shows before the first request, and after each.
-fn sights<S: Alter + Drop>(
-    rt: &impl Abort,
-    alloc: Global,
-    conn: Connection<S>,
-) -> Result<Vec<String>, Fail> {
-    let mut registry = entered(begun(alloc, conn, 1))?;
+fn sights<S: Alter + Drop>(rt: &impl Abort, alloc: Global, conn: Connection<S>) -> Vec<String> {
+    let mut registry = entered(rt, begun(alloc, conn, 1));
     sights_of(rt, alloc, &mut registry)
 }
 
@@ -53,31 +48,26 @@ fn answered_by<S: Alter>(
     rt: &impl Abort,
     alloc: Global,
     registry: &mut Registry<SqlShelf<S>>,
-) -> Result<usize, Fail> {
+) -> usize {
     let mut answered = 0usize;
     for (at, line) in SCRIPT.iter().enumerate() {
-        match asks(alloc, registry, line.0, line.1)? {
+        match asks(rt, alloc, registry, line.0, line.1) {
             Ok(outcome) => {
                 assert!(rt; answered == at);
-                is_outcome(rt, alloc, outcome, "accepted", line)?;
+                is_outcome(rt, alloc, outcome, "accepted", line);
                 answered = at.saturating_add(1);
             }
             Err(fault) => assert!(rt; fault == Fault::Store),
         }
     }
-    Ok(answered)
+    answered
 }
 
 /// Nothing is shown any more.
-fn is_silent<S: Alter>(
-    rt: &impl Abort,
-    alloc: Global,
-    registry: &mut Registry<SqlShelf<S>>,
-) -> Result<(), Fail> {
-    let issuer = HolderCode::read(b"ISSUER")?;
+fn is_silent<S: Alter>(rt: &impl Abort, alloc: Global, registry: &mut Registry<SqlShelf<S>>) {
+    let issuer = HolderCode::read(b"ISSUER").expect(rt, "a holder");
     let read = registry.audit(alloc, &issuer).err();
     assert!(rt; read == Some(ReadFault::Store));
-    Ok(())
 }
 
 /// How many requests are answered; where it isn't all, nothing is shown any more.
@@ -85,12 +75,12 @@ fn answers_or_stops<S: Alter>(
     rt: &impl Abort,
     alloc: Global,
     registry: &mut Registry<SqlShelf<S>>,
-) -> Result<usize, Fail> {
-    let answered = answered_by(rt, alloc, registry)?;
+) -> usize {
+    let answered = answered_by(rt, alloc, registry);
     if answered < SCRIPT.len() {
-        is_silent(rt, alloc, registry)?;
+        is_silent(rt, alloc, registry);
     }
-    Ok(answered)
+    answered
 }
 
 /// How many requests a new registry in a database answers, and the database.
@@ -98,18 +88,18 @@ fn runs<S: Alter + Drop>(
     rt: &impl Abort,
     alloc: Global,
     conn: Connection<S>,
-) -> Result<(usize, Connection<S>), Fail> {
+) -> (usize, Connection<S>) {
     match begun(alloc, conn, 1) {
         Ok(registry) => {
             let mut registry = registry;
-            let answered = answers_or_stops(rt, alloc, &mut registry)?;
+            let answered = answers_or_stops(rt, alloc, &mut registry);
             let (conn, refused) = closed(registry);
             assert!(rt; refused == u64::from(answered < SCRIPT.len()));
-            Ok((answered, conn))
+            (answered, conn)
         }
         Err((conn, fault)) => {
             assert!(rt; fault == OpenFault::Store);
-            Ok((0, conn))
+            (0, conn)
         }
     }
 }
@@ -119,16 +109,16 @@ pub fn runs_on<D: Disk + Drop>(
     rt: &impl Abort,
     alloc: Global,
     files: Files<D>,
-) -> Result<(usize, Files<D>), Fail> {
+) -> (usize, Files<D>) {
     if !files.may_be_used() {
-        return Err("disks that may not be used".into());
+        panic!(rt; "disks that may not be used");
     }
     match open_ordered(alloc, files, Options::new(7)) {
         Ok(conn) => {
-            let (answered, conn) = runs(rt, alloc, conn)?;
-            Ok((answered, files_of(conn)))
+            let (answered, conn) = runs(rt, alloc, conn);
+            (answered, files_of(conn))
         }
-        Err((_, left)) => Ok((0, left.into_files())),
+        Err((_, left)) => (0, left.into_files()),
     }
 }
 
@@ -138,8 +128,8 @@ fn ends<S: Alter>(
     alloc: Global,
     registry: &mut Registry<SqlShelf<S>>,
     kept: usize,
-) -> Result<(), Fail> {
-    plays(rt, alloc, registry, &SCRIPT, kept)?;
+) {
+    plays(rt, alloc, registry, &SCRIPT, kept);
     shows(rt, alloc, registry, END_SHOWN)
 }
 
@@ -169,8 +159,8 @@ fn goes_on_from<S: Alter>(
     registry: &mut Registry<SqlShelf<S>>,
     answered: usize,
     wanted: &[String],
-) -> Result<(), Fail> {
-    let shown = sight(alloc, registry)?;
+) {
+    let shown = sight(rt, alloc, registry);
     let kept = kept_of(rt, &shown, answered, wanted);
     ends(rt, alloc, registry, kept)
 }
@@ -182,7 +172,7 @@ fn returns<S: Alter + Drop>(
     conn: Connection<S>,
     answered: usize,
     wanted: &[String],
-) -> Result<(), Fail>
+)
     requires ordered { HasCleanDisk (state S.Store conn) → IsInKeyOrder (state S.Store conn).now }
 {
     match opened(alloc, conn) {
@@ -203,9 +193,9 @@ fn starts_over<S: Alter + Drop>(
     alloc: Global,
     conn: Connection<S>,
     answered: usize,
-) -> Result<(), Fail> {
+) {
     assert!(rt; answered == 0);
-    let mut registry = entered(begun(alloc, conn, 1))?;
+    let mut registry = entered(rt, begun(alloc, conn, 1));
     ends(rt, alloc, &mut registry, 0)
 }
 
@@ -216,8 +206,8 @@ pub fn goes_on<D: Disk + Drop>(
     files: Files<D>,
     answered: usize,
     wanted: &[String],
-) -> Result<(), Fail> {
-    let conn = database_on(alloc, files)?;
+) {
+    let conn = database_on(rt, alloc, files);
     returns(rt, alloc, conn, answered, wanted)
 }
 
@@ -227,64 +217,68 @@ fn stops_on<D: Crash + Drop>(
     alloc: Global,
     files: Files<D>,
     wanted: &[String],
-) -> Result<bool, Fail> {
-    let (answered, files) = runs_on(rt, alloc, files)?;
-    goes_on(rt, alloc, crashed(files), answered, wanted)?;
-    Ok(answered < SCRIPT.len())
+) -> bool {
+    let (answered, files) = runs_on(rt, alloc, files);
+    goes_on(rt, alloc, crashed(files), answered, wanted);
+    answered < SCRIPT.len()
 }
 
 /// What the registry shows without a stop, request by request: no two neighbours are alike.
-pub fn wanted_sights(rt: &impl Abort, alloc: Global) -> Result<Vec<String>, Fail> {
-    let shown = sights(rt, alloc, Connection::open_in_memory(alloc)?)?;
+pub fn wanted_sights(rt: &impl Abort, alloc: Global) -> Vec<String> {
+    let shown = sights(
+        rt,
+        alloc,
+        Connection::open_in_memory(alloc).expect(rt, "a database"),
+    );
     for (text, next) in shown.iter().zip(shown.iter().skip(1)) {
         assert!(rt; text.as_str() != next.as_str());
     }
-    Ok(shown)
+    shown
 }
 
 /// More rounds than any loop over stops or lapses needs.
 pub const ROUNDS: u64 = 1000;
 
 /// The log stops at every fourth call from this one on.
-fn log_stops(rt: &impl Abort, alloc: Global, from: u64) -> Result<(), Fail> {
-    let wanted = wanted_sights(rt, alloc)?;
+fn log_stops(rt: &impl Abort, alloc: Global, from: u64) {
+    let wanted = wanted_sights(rt, alloc);
     for round in 0..ROUNDS {
         let calls = from.saturating_add(4 * round);
-        if !stops_on(rt, alloc, stopping(alloc, calls, u64::MAX), &wanted)? {
-            return Ok(());
+        if !stops_on(rt, alloc, stopping(alloc, calls, u64::MAX), &wanted) {
+            return;
         }
     }
-    Err("a stop at each call".into())
+    panic!(rt; "a stop at each call")
 }
 
 #[test]
-fn the_log_stops_at_the_first_call(rt: HostRuntime) -> Result<(), Fail> {
+fn the_log_stops_at_the_first_call(rt: HostRuntime) {
     log_stops(&rt, rt.alloc(), 0)
 }
 
 #[test]
-fn the_log_stops_at_the_second_call(rt: HostRuntime) -> Result<(), Fail> {
+fn the_log_stops_at_the_second_call(rt: HostRuntime) {
     log_stops(&rt, rt.alloc(), 1)
 }
 
 #[test]
-fn the_log_stops_at_the_third_call(rt: HostRuntime) -> Result<(), Fail> {
+fn the_log_stops_at_the_third_call(rt: HostRuntime) {
     log_stops(&rt, rt.alloc(), 2)
 }
 
 #[test]
-fn the_log_stops_at_the_fourth_call(rt: HostRuntime) -> Result<(), Fail> {
+fn the_log_stops_at_the_fourth_call(rt: HostRuntime) {
     log_stops(&rt, rt.alloc(), 3)
 }
 
 #[test]
-fn the_database_file_stops(rt: HostRuntime) -> Result<(), Fail> {
+fn the_database_file_stops(rt: HostRuntime) {
     let alloc = rt.alloc();
-    let wanted = wanted_sights(&rt, alloc)?;
+    let wanted = wanted_sights(&rt, alloc);
     for calls in 0..ROUNDS {
-        if !stops_on(&rt, alloc, stopping(alloc, u64::MAX, calls), &wanted)? {
-            return Ok(());
+        if !stops_on(&rt, alloc, stopping(alloc, u64::MAX, calls), &wanted) {
+            return;
         }
     }
-    Err("a stop at each call".into())
+    panic!(&rt; "a stop at each call")
 }

@@ -14,7 +14,6 @@ use goo_types::request::Request;
 use sqlite::{Alter, Connection};
 use std::alloc::Global;
 use std::process::Abort;
-use std::test::Fail;
 
 /// Who asks what, and what that is answered.
 pub type Exchange = (&'static str, &'static str, &'static str);
@@ -35,8 +34,8 @@ pub struct Case {
 }
 
 /// The requests that come first in a case.
-fn first_of(case: &Case) -> Result<&'static [Line], Fail> {
-    Ok(SCRIPT.get(..case.begun).ok_or("so many requests")?)
+fn first_of(rt: &impl Abort, case: &Case) -> &'static [Line] {
+    SCRIPT.get(..case.begun).expect(rt, "so many requests")
 }
 
 /// What a registry shows after a case: its certificates are those that are written down.
@@ -45,13 +44,13 @@ fn ends<S: Shelf>(
     alloc: Global,
     registry: &mut Registry<S>,
     case: &Case,
-) -> Result<String, Fail> {
+) -> String {
     if !case.shown.is_empty() {
         let mut shown = String::new(alloc);
-        tell_certificates(alloc, registry, &mut shown)?;
+        tell_certificates(rt, alloc, registry, &mut shown);
         assert!(rt; shown.as_str() == case.shown, "{}", case.name);
     }
-    sight(alloc, registry)
+    sight(rt, alloc, registry)
 }
 
 /// A case, one request at a time, and what the registry shows then.
@@ -60,10 +59,10 @@ pub fn answers<S: Shelf>(
     alloc: Global,
     registry: &mut Registry<S>,
     case: &Case,
-) -> Result<String, Fail> {
-    plays(rt, alloc, registry, first_of(case)?, 0)?;
+) -> String {
+    plays(rt, alloc, registry, first_of(rt, case), 0);
     for (caller, body, wanted) in case.asked {
-        let outcome = asks(alloc, registry, caller, body)??;
+        let outcome = asks(rt, alloc, registry, caller, body).expect(rt, "an outcome");
         let text = outcome_text(outcome);
         assert!(rt; text.as_str() == *wanted, "{}: {body}", case.name);
     }
@@ -76,19 +75,20 @@ pub fn is_answered<S: Shelf>(
     alloc: Global,
     registry: &mut Registry<S>,
     case: &Case,
-) -> Result<(), Fail> {
-    let _shown = answers(rt, alloc, registry, case)?;
-    Ok(())
+) {
+    let _shown = answers(rt, alloc, registry, case);
 }
 
 /// The requests of a case in a list.
-fn requests_of(alloc: Global, case: &Case) -> Result<Vec<Request>, Fail> {
+fn requests_of(rt: &impl Abort, alloc: Global, case: &Case) -> Vec<Request> {
     let mut requests = Vec::new(alloc);
     for (caller, body, _) in case.asked {
-        let caller = HolderCode::read(caller.as_bytes())?;
-        requests.push(read_command(alloc, &caller, body.as_bytes())?)?;
+        let caller = HolderCode::read(caller.as_bytes()).expect(rt, "a holder");
+        requests
+            .push(read_command(alloc, &caller, body.as_bytes()).expect(rt, "a request"))
+            .expect(rt, "memory");
     }
-    Ok(requests)
+    requests
 }
 
 /// A case, its requests in one list, and what the registry shows then.
@@ -97,11 +97,11 @@ pub fn runs<S: Shelf>(
     alloc: Global,
     registry: &mut Registry<S>,
     case: &Case,
-) -> Result<String, Fail> {
-    plays(rt, alloc, registry, first_of(case)?, 0)?;
-    let requests = requests_of(alloc, case)?;
+) -> String {
+    plays(rt, alloc, registry, first_of(rt, case), 0);
+    let requests = requests_of(rt, alloc, case);
     let Ok(outcomes) = registry.run(alloc, &requests) else {
-        return Err("the run stopped".into());
+        panic!(rt; "the run stopped");
     };
     assert!(rt; outcomes.len() == case.asked.len());
     for (outcome, (_, body, wanted)) in outcomes.iter().zip(case.asked) {
@@ -119,14 +119,13 @@ fn comes_to<S: Shelf>(
     case: &Case,
     is_list: bool,
     wanted: &str,
-) -> Result<(), Fail> {
+) {
     let shown = if is_list {
-        runs(rt, alloc, registry, case)?
+        runs(rt, alloc, registry, case)
     } else {
-        answers(rt, alloc, registry, case)?
+        answers(rt, alloc, registry, case)
     };
     assert!(rt; shown.as_str() == wanted, "{}", case.name);
-    Ok(())
 }
 
 /// A registry that was opened again shows this.
@@ -136,10 +135,9 @@ fn shows_again<S: Shelf>(
     registry: &mut Registry<S>,
     case: &Case,
     wanted: &str,
-) -> Result<(), Fail> {
-    let shown = sight(alloc, registry)?;
+) {
+    let shown = sight(rt, alloc, registry);
     assert!(rt; shown.as_str() == wanted, "{} opened again", case.name);
-    Ok(())
 }
 
 /// A registry in a database shows this after a case, and again once it is opened again.
@@ -150,63 +148,61 @@ fn is_shown_in<S: Alter + Drop>(
     case: &Case,
     is_list: bool,
     wanted: &str,
-) -> Result<(), Fail> {
-    let mut registry = entered(begun(alloc, conn, case.serial))?;
-    comes_to(rt, alloc, &mut registry, case, is_list, wanted)?;
-    let mut registry = entered(opened_again(alloc, registry))?;
+) {
+    let mut registry = entered(rt, begun(alloc, conn, case.serial));
+    comes_to(rt, alloc, &mut registry, case, is_list, wanted);
+    let mut registry = entered(rt, opened_again(alloc, registry));
     shows_again(rt, alloc, &mut registry, case, wanted)
 }
 
 /// What a registry in plain lists shows after a case.
-fn shown_by_lists(rt: &impl Abort, alloc: Global, case: &Case) -> Result<String, Fail> {
-    let mut lists = begun_in_lists(alloc, in_march_from(case.serial)?);
+fn shown_by_lists(rt: &impl Abort, alloc: Global, case: &Case) -> String {
+    let mut lists = begun_in_lists(alloc, in_march_from(rt, case.serial));
     answers(rt, alloc, &mut lists, case)
 }
 
 /// A case over lists, over tables, and over tables in a list: all show the same.
-fn is_alike(rt: &impl Abort, alloc: Global, case: &Case) -> Result<(), Fail> {
-    let wanted = shown_by_lists(rt, alloc, case)?;
+fn is_alike(rt: &impl Abort, alloc: Global, case: &Case) {
+    let wanted = shown_by_lists(rt, alloc, case);
     for is_list in [false, true] {
-        let conn = Connection::open_in_memory(alloc)?;
-        is_shown_in(rt, alloc, conn, case, is_list, &wanted)?;
+        let conn = Connection::open_in_memory(alloc).expect(rt, "a database");
+        is_shown_in(rt, alloc, conn, case, is_list, &wanted);
     }
-    Ok(())
 }
 
 /// All of these cases.
-fn are_alike(rt: &impl Abort, alloc: Global, cases: &[Case]) -> Result<(), Fail> {
+fn are_alike(rt: &impl Abort, alloc: Global, cases: &[Case]) {
     for case in cases {
-        is_alike(rt, alloc, case)?;
+        is_alike(rt, alloc, case);
     }
-    Ok(())
 }
 
 #[test]
-fn the_first_cases(rt: HostRuntime) -> Result<(), Fail> {
+fn the_first_cases(rt: HostRuntime) {
     are_alike(&rt, rt.alloc(), &FIRST)
 }
 
 #[test]
-fn the_second_cases(rt: HostRuntime) -> Result<(), Fail> {
+fn the_second_cases(rt: HostRuntime) {
     are_alike(&rt, rt.alloc(), &SECOND)
 }
 
 #[test]
-fn the_third_cases(rt: HostRuntime) -> Result<(), Fail> {
+fn the_third_cases(rt: HostRuntime) {
     are_alike(&rt, rt.alloc(), &THIRD)
 }
 
 #[test]
-fn the_fourth_cases(rt: HostRuntime) -> Result<(), Fail> {
+fn the_fourth_cases(rt: HostRuntime) {
     are_alike(&rt, rt.alloc(), &FOURTH)
 }
 
 #[test]
-fn the_fifth_cases(rt: HostRuntime) -> Result<(), Fail> {
+fn the_fifth_cases(rt: HostRuntime) {
     are_alike(&rt, rt.alloc(), &FIFTH)
 }
 
 #[test]
-fn the_sixth_cases(rt: HostRuntime) -> Result<(), Fail> {
+fn the_sixth_cases(rt: HostRuntime) {
     are_alike(&rt, rt.alloc(), &SIXTH)
 }
