@@ -1,11 +1,14 @@
-ghost use Rattle.std.specs.Prelude.{◌≡◌, None, IfOk, IfErr};
+ghost use Rattle.std.specs.Prelude.{◌≡◌, ◌≤◌, None, length, IfOk, IfErr};
 ghost use Rattle.goo_types.specs.Piece.{at_of, IsRising};
 ghost use Rattle.goo_types.specs.declared.fault.Fault.TheVariants.{Memory};
+ghost use Rattle.goo_types.specs.declared.place.Place.TheVariants.{Exported};
+ghost use Rattle.goo_ranges.specs.Change.{moved};
 ghost use Rattle.goo_spec.specs.Checks.{first_refusal};
 ghost use Rattle.goo_spec.specs.Export.{export_refusal, export_reply, with_export, notice_of};
 ghost use Rattle.goo_spec.specs.Sound.{IsSound};
 ghost use Rattle.goo_rows.specs.Rows.{AreRowsOf};
 ghost use Rattle.goo_shelf.specs.Shelf.{Looks, IsReady};
+ghost use Rattle.goo_core.specs.Changes.{AreEditsFor};
 ghost use Rattle.goo_core.specs.Export.{entry_checks, sending_checks, notice_with, IsUnsendable, IsExportRuling, export_meaning};
 ghost use Rattle.goo_core.specs.Ruling.{IsRuling};
 
@@ -14,7 +17,7 @@ use crate::change::move_met;
 use crate::parts::parts_in;
 use crate::range_checks::trade_refusal;
 use crate::ruling::{Change, Ruling};
-use goo_ranges::Book;
+use goo_ranges::{Book, Edit};
 use goo_shelf::own::Meta;
 use goo_shelf::shelf::Shelf;
 use goo_types::act_no::ActNo;
@@ -66,6 +69,21 @@ fn write_notice(meta: &Meta, export: &Export, parts: Vec<Part>) -> Result<Notice
     }
 }
 
+/// The edits that send the range of an export away with the notice of this number.
+fn sending_edits(
+    alloc: Global,
+    book: Book,
+    export: &Export,
+    number: ActNo,
+) -> Result<Vec<Edit>, Fault>
+    requires { IsRising book }
+    ensures edits { IfOk result (λ edits. (export.now.range.first ≤ export.now.range.last) × AreEditsFor export.now.range book (moved export.now.range.first export.now.range.last (Exported export.now.giver number)) edits.items × (length edits.items ≤ 1)) }
+    ensures memory { IfErr result (λ fault. fault ≡ Memory) }
+{
+    let place = Place::Exported(export.giver, number);
+    move_met(alloc, book, export.range, place)
+}
+
 /// What an export comes to on the rows that its range meets.
 fn send_certificates(
     alloc: Global,
@@ -89,7 +107,7 @@ fn send_certificates(
         Err(refusal) => return Ok(Ruling::Refused(refusal)),
     };
     let number = notice.number();
-    let edits = move_met(alloc, book, range, Place::Exported(export.giver, number))?;
+    let edits = sending_edits(alloc, book, export, number)?;
     Ok(Ruling::Passed(Change {
         reply: Reply::Exported {
             notice: number,

@@ -4,7 +4,7 @@ ghost use Rattle.std.specs.Prelude.{◌≡◌, not};
 ghost use Rattle.goo_types.specs.Piece.{at_of};
 ghost use Rattle.goo_spec.specs.Days.{is_closed as closed_test};
 ghost use Rattle.goo_spec.specs.Lots.{is_held as held_test, is_held_by as held_by_test};
-ghost use Rattle.goo_spec.specs.Maps.{each, least_failing};
+ghost use Rattle.goo_spec.specs.Maps.{each, least_absent, least_failing};
 ghost use Rattle.goo_spec.specs.Checks.{first_refusal};
 ghost use Rattle.goo_core.specs.Trade.{trade_checks};
 
@@ -73,12 +73,19 @@ pub fn least_closed(book: &Book, range: Range, today: Day) -> Option<Number>
     )
 }
 
+/// The least number of the range that isn't there.
+fn least_missing(book: &Book, range: Range) -> Option<Number>
+    ensures { result ≡ least_absent (at_of book.now) (each range) }
+{
+    book.least_missing(range)
+}
+
 /// The first check that fails of those over a range whose certificates an account gives away: each is
 /// there, it holds each, and the trade in none is closed.
 pub fn trade_refusal(book: &Book, range: Range, giver: AccountNo, today: Day) -> Option<Refusal>
     ensures { result ≡ first_refusal (trade_checks (at_of book.now) range giver today) }
 {
-    if let Some(number) = book.least_missing(range) {
+    if let Some(number) = least_missing(book, range) {
         return Some(Refusal::UnknownNumber(number));
     }
     if let Some(number) = least_not_held_by(book, range, giver) {

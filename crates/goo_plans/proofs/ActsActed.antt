@@ -19,8 +19,8 @@ use Rattle.goo_spec.specs.Withdraw.{with_withdrawal, withdrawal_of}
 use Rattle.goo_rows.specs.Certificates.{beside}
 use Rattle.goo_columns.specs.Rows.{Tables, account_key, cancellation_key, withdrawal_key, notice_out_key}
 use Rattle.goo_columns.specs.Rows as row
-use Rattle.goo_tables.specs.Changes as change
-use Rattle.goo_tables.specs.declared.counters.Counters.{Counters}
+use Rattle.goo_held.specs.Changes as change
+use Rattle.goo_held.specs.declared.counters.Counters.{Counters}
 use Rattle.goo_plans.specs.Acted.{IsActed}
 use Rattle.goo_kept.specs.Kept.{AreKept}
 use Rattle.goo_kept.specs.Readable.{is_account, is_cancellation, is_withdrawal, is_notice_out, reads}

@@ -37,8 +37,8 @@ use Rattle.goo_columns.specs.declared.meta.MetaRow.{MetaRow}
 use Rattle.goo_columns.specs.declared.notice_out.NoticeOutRow.{NoticeOutRow}
 use Rattle.goo_columns.specs.declared.peer.PeerRow.{PeerRow}
 use Rattle.goo_columns.specs.declared.withdrawal.WithdrawalRow.{WithdrawalRow}
-use Rattle.goo_tables.specs.Changes.{at_day}
-use Rattle.goo_tables.specs.declared.counters.Counters.{Counters}
+use Rattle.goo_held.specs.Changes.{at_day}
+use Rattle.goo_held.specs.declared.counters.Counters.{Counters}
 use Rattle.goo_kept.specs.Devices.{device_of as device_in_row, progress_in}
 use Rattle.goo_kept.specs.Records as record_of
 use Rattle.goo_kept.specs.Readable.{is_holder, is_account, is_device, is_peer, is_cancellation, is_withdrawal, is_notice_out, reads}

@@ -13,7 +13,7 @@ use Rattle.goo_spec.specs.CloseAccount.{shut, with_closed}
 use Rattle.goo_spec.specs.State as registry
 use Rattle.goo_rows.specs.Certificates.{beside}
 use Rattle.goo_columns.specs.Rows.{Tables, Account, account_key}
-use Rattle.goo_tables.specs.Changes as change
+use Rattle.goo_held.specs.Changes as change
 use Rattle.goo_plans.specs.Acted.{IsActed}
 use Rattle.goo_kept.specs.Kept.{AreKept}
 use Rattle.goo_kept.specs.Readable.{is_account, is_act, reads}

@@ -24,8 +24,8 @@ use Rattle.goo_columns.specs.Once.{IsOnce}
 use Rattle.goo_columns.specs.Rows as row
 use Rattle.goo_columns.specs.Rows.{Tables, Lot, lot_key, lot_in, declaration_key, declaration_in, meta_in}
 use Rattle.goo_columns.specs.declared.meta.MetaRow.{MetaRow}
-use Rattle.goo_tables.specs.Changes as change
-use Rattle.goo_tables.specs.declared.counters.Counters.{Counters}
+use Rattle.goo_held.specs.Changes as change
+use Rattle.goo_held.specs.declared.counters.Counters.{Counters}
 use Rattle.goo_kept.specs.Places.{lot_of}
 use Rattle.goo_kept.specs.Readable.{is_meta}
 use Rattle.goo_kept.specs.States.{state_of}

@@ -26,8 +26,8 @@ use Rattle.goo_shelf.specs.Shelf.{progress_of}
 use Rattle.goo_rows.specs.Certificates.{beside}
 use Rattle.goo_columns.specs.Rows.{Tables, Kept, Lot, lot_key, declaration_key}
 use Rattle.goo_columns.specs.Rows as row
-use Rattle.goo_tables.specs.Changes as change
-use Rattle.goo_tables.specs.Changes.{progressed}
+use Rattle.goo_held.specs.Changes as change
+use Rattle.goo_held.specs.Changes.{progressed}
 use Rattle.goo_plans.specs.Acted.{IsActed}
 use Rattle.goo_kept.specs.Devices.{declaration_of, device_row, progress_in}
 use Rattle.goo_kept.specs.Kept.{AreKept, IsKeptLot}

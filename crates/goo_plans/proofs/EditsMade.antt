@@ -14,7 +14,7 @@ use Rattle.goo_rows.specs.Rows.{with, with_each, without_each, edited, edited_al
 use Rattle.goo_shelf.specs.Plan.{StayRising}
 use Rattle.goo_columns.specs.Rows.{Tables, Lot, lot_key, piece_key}
 use Rattle.goo_columns.specs.declared.piece.PieceRow.{PieceRow}
-use Rattle.goo_tables.specs.Changes.{without_piece, with_piece}
+use Rattle.goo_held.specs.Changes.{without_piece, with_piece}
 use Rattle.goo_changes.specs.Changes.{made_all, IsFree, AreFree}
 use Rattle.goo_plans.specs.EditChanges.{AreRowsOf, AreForEdit, AreForEdits}
 use Rattle.goo_kept.specs.Readable.{is_piece}

@@ -22,7 +22,7 @@ use Rattle.goo_spec.specs.State.{text_cmp, receipt_cmp, notice_cmp}
 use Rattle.goo_columns.specs.Rows as row
 use Rattle.goo_columns.specs.Rows.{Tables, Lot, lot_key, lot_in}
 use Rattle.goo_columns.specs.declared.lot.LotRow.{LotRow}
-use Rattle.goo_tables.specs.Changes.{with_lot}
+use Rattle.goo_held.specs.Changes.{with_lot}
 use Rattle.goo_changes.specs.Changes.{IsFree, AreFree}
 use Rattle.goo_changes.specs.declared.change.Change.TheVariants.{AddLot}
 use Rattle.goo_kept.specs.Devices.{declaration_of}

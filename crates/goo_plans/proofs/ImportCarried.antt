@@ -18,7 +18,7 @@ use Rattle.goo_spec.proofs.Stepping.{accepted_passes, not_kept}
 use Rattle.goo_columns.specs.Refused.{HasRoomFor}
 use Rattle.goo_columns.specs.Rows.{Tables, Lot, Kept, NoticeIn, kept_key, lot_in, notice_in_in, notice_in_row}
 use Rattle.goo_columns.specs.declared.notice_in.NoticeInRow.{NoticeInRow}
-use Rattle.goo_tables.specs.Changes.{with_lot, with_notice_in}
+use Rattle.goo_held.specs.Changes.{with_lot, with_notice_in}
 use Rattle.goo_kept.specs.Readable.{is_notice_in}
 use Rattle.goo_kept.specs.Records.{arrived_of}
 use Rattle.goo_kept.specs.States.{state_of, known_arrival}

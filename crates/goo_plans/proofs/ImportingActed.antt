@@ -27,8 +27,8 @@ use Rattle.goo_rows.specs.Certificates.{beside}
 use Rattle.goo_columns.specs.Rows.{Tables, Lot, lot_key, lot_in, kept_key}
 use Rattle.goo_columns.specs.Rows as row
 use Rattle.goo_columns.specs.declared.lot.LotRow.{LotRow}
-use Rattle.goo_tables.specs.Changes as change
-use Rattle.goo_tables.specs.Changes.{added}
+use Rattle.goo_held.specs.Changes as change
+use Rattle.goo_held.specs.Changes.{added}
 use Rattle.goo_plans.specs.Acted.{IsActed}
 use Rattle.goo_changes.specs.Changes.{made_all}
 use Rattle.goo_kept.specs.Kept.{AreKept}

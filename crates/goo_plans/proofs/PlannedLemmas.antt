@@ -33,7 +33,7 @@ use Rattle.goo_columns.specs.Rows as row
 use Rattle.goo_columns.specs.Rows.{receipt_in, receipt_row}
 use Rattle.goo_columns.specs.Refused.{HasRoomFor}
 use Rattle.goo_columns.specs.declared.receipt.ReceiptRow.{ReceiptRow}
-use Rattle.goo_tables.specs.Changes.{added, with_receipt}
+use Rattle.goo_held.specs.Changes.{added, with_receipt}
 use Rattle.goo_plans.specs.Acted.{IsActed, IsReceiptOf}
 use Rattle.goo_changes.specs.Changes.{made, made_all, AreFor, IsFree, AreFree, HasRoom, HaveRoom}
 use Rattle.goo_plans.specs.EditChanges.{AreForEdits}

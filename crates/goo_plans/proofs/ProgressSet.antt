@@ -18,7 +18,7 @@ use Rattle.goo_spec.proofs.Declaring.{total_with}
 use Rattle.goo_shelf.specs.Shelf.{progress_of}
 use Rattle.goo_columns.specs.Rows.{Tables, Kept, Lot, lot_key, declaration_key}
 use Rattle.goo_columns.specs.Rows as row
-use Rattle.goo_tables.specs.Changes.{progressed}
+use Rattle.goo_held.specs.Changes.{progressed}
 use Rattle.goo_kept.specs.Devices.{progress_in}
 use Rattle.goo_kept.specs.Readable.{is_device, is_act, is_plant, reads}
 use Rattle.goo_kept.specs.States.{known_device}

@@ -16,8 +16,8 @@ use Rattle.goo_shelf.specs.Shelf.{progress_of}
 use Rattle.goo_rows.specs.Certificates.{beside}
 use Rattle.goo_columns.specs.Rows.{Tables, Kept, kept_key}
 use Rattle.goo_columns.specs.Rows as row
-use Rattle.goo_tables.specs.Changes as change
-use Rattle.goo_tables.specs.Changes.{added}
+use Rattle.goo_held.specs.Changes as change
+use Rattle.goo_held.specs.Changes.{added}
 use Rattle.goo_plans.specs.Acted.{IsActed}
 use Rattle.goo_kept.specs.Devices.{device_row, progress_in}
 use Rattle.goo_kept.specs.Kept.{AreKept}

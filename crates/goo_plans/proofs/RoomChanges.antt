@@ -13,8 +13,8 @@ use Rattle.goo_types.specs.declared.request.Request.{Request}
 use Rattle.goo_columns.specs.Refused.{IsSmall, HasRoomFor}
 use Rattle.goo_columns.specs.Rows.{Tables, Kept, Lot, Receipt, kept_key, account_key, account_row, lot_key, lot_in, lot_row, receipt_row}
 use Rattle.goo_columns.specs.declared.lot.LotRow.{LotRow}
-use Rattle.goo_tables.specs.declared.counters.Counters.{Counters}
-use Rattle.goo_tables.specs.Changes.{with_counters}
+use Rattle.goo_held.specs.declared.counters.Counters.{Counters}
+use Rattle.goo_held.specs.Changes.{with_counters}
 use Rattle.goo_kept.specs.Readable.{is_code, is_account, is_meta}
 use Rattle.goo_changes.specs.Changes.{HasRoom}
 use Rattle.goo_changes.specs.declared.change.Change.TheVariants.{AddLot, CloseAccount, SetCounters}

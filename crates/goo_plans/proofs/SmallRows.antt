@@ -15,7 +15,7 @@ use Rattle.goo_notice.specs.Law.{command_in}
 use Rattle.goo_notice.specs.NoticeText.{notice_in}
 use Rattle.goo_columns.specs.Refused.{IsSmall, CanBeKept}
 use Rattle.goo_columns.specs.Rows.{Kept, kept_key, Plant, Meta, meta_row, Holder, holder_row, Account, account_row, Device, device_row, Declaration, declaration_row, Lot, lot_row, Receipt, receipt_row, Cancellation, cancellation_row, Withdrawal, withdrawal_row, NoticeOut, notice_out_row, NoticeIn, notice_in_row}
-use Rattle.goo_tables.specs.Changes.{progressed}
+use Rattle.goo_held.specs.Changes.{progressed}
 use Rattle.goo_kept.specs.Kept.{IsKeptLot}
 use Rattle.goo_kept.specs.Readable.{reads, is_between, is_code, is_act, are_ends, is_holder, is_account, is_plant, is_device, is_declaration, is_lot, is_receipt, is_cancellation, is_withdrawal, is_notice_of, is_notice_out, is_notice_in}
 use Rattle.goo_kept.specs.Texts.{day_of}

@@ -7,7 +7,7 @@ use Rattle.goo_types.specs.declared.command.Command.TheVariants.{OpenAccount, De
 use Rattle.goo_spec.specs.Step.{refusal, changed}
 use Rattle.goo_columns.specs.Rows.{Tables, kept_key, account_key, declaration_key, lot_key, piece_key, cancellation_key, withdrawal_key, notice_out_key}
 use Rattle.goo_columns.specs.declared.meta.MetaRow.{MetaRow}
-use Rattle.goo_tables.specs.declared.counters.Counters.{Counters}
+use Rattle.goo_held.specs.declared.counters.Counters.{Counters}
 use Rattle.goo_kept.specs.Kept.{AreKept}
 use Rattle.goo_kept.specs.Readable.{is_act}
 use Rattle.goo_kept.specs.States.{state_of}

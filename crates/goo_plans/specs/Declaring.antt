@@ -18,7 +18,7 @@ use Rattle.goo_columns.specs.Refused.{CanBeKept}
 use Rattle.goo_columns.specs.Rows.{Tables, declaration_in, declaration_key, device_row, lot_key, meta_in}
 use Rattle.goo_columns.specs.declared.declaration.DeclarationRow.{DeclarationRow}
 use Rattle.goo_columns.specs.declared.meta.MetaRow.{MetaRow}
-use Rattle.goo_tables.specs.Changes.{progressed, with_progress}
+use Rattle.goo_held.specs.Changes.{progressed, with_progress}
 use Rattle.goo_kept.specs.Devices.{declaration_of}
 use Rattle.goo_kept.specs.Readable.{is_declaration, is_meta, reads}
 use Rattle.goo_kept.specs.Texts.{day_of}

@@ -17,7 +17,7 @@ use crate::trouble::Trouble;
 use crate::{numbers, texts};
 use goo_changes::change::Change;
 use goo_columns::meta::MetaRow;
-use goo_tables::counters::Counters;
+use goo_held::counters::Counters;
 use goo_types::command::{Advance, Cancel, Export, Withdraw};
 use goo_types::notice::Notice;
 use std::alloc::Global;

@@ -5,7 +5,7 @@ ghost use Rattle.std.specs.List.{Any, Contains};
 ghost use Rattle.goo_types.specs.declared.lot_fields.LotFields.{LotFields};
 ghost use Rattle.sqlite.specs.Held.{state};
 ghost use Rattle.goo_columns.specs.Rows.{Lot as RowOfLot};
-ghost use Rattle.goo_tables.specs.Changes.{PieceFits};
+ghost use Rattle.goo_held.specs.Changes.{PieceFits};
 ghost use Rattle.goo_changes.specs.Changes.{ChangeFits};
 ghost use Rattle.goo_plans.specs.EditChanges.{AreForEdits, AreRowsOf};
 ghost use Rattle.goo_plans.specs.EditsGathered.{AddsEdit, CanBeTaken, HasNoNumber, HasRowToBe};

@@ -15,7 +15,7 @@ use crate::numbers;
 use crate::trouble::Trouble;
 use goo_changes::change::Change;
 use goo_columns::meta::MetaRow;
-use goo_tables::counters::Counters;
+use goo_held::counters::Counters;
 use goo_types::command::{AddPeer, CloseAccount, OpenAccount, OpenHolder, RegisterDevice};
 use std::alloc::Global;
 

@@ -3,7 +3,7 @@
 ghost use Rattle.std.specs.Prelude.{◌≡◌, true, pos, Some, None, IfOk};
 ghost use Rattle.goo_spec.specs.RegisterDevice.{device_of};
 ghost use Rattle.goo_columns.specs.Rows.{device_in, plant_in};
-ghost use Rattle.goo_tables.specs.Changes.{DeviceFits};
+ghost use Rattle.goo_held.specs.Changes.{DeviceFits};
 ghost use Rattle.goo_kept.specs.Devices.{progress_in};
 ghost use Rattle.goo_plans.specs.Plants.{IsRegistered};
 ghost use Rattle.goo_kept.specs.Readable.{is_device, is_plant};

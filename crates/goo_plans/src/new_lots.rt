@@ -8,7 +8,7 @@ ghost use Rattle.goo_kept.specs.Places.{lot_of};
 ghost use Rattle.goo_kept.specs.Readable.{is_lot, is_plant};
 ghost use Rattle.goo_plans.specs.LotRows.{IsRowOfPlant};
 ghost use Rattle.goo_plans.specs.declared.trouble.Trouble.TheVariants.{Memory};
-ghost use Rattle.goo_tables.specs.Changes.{LotFits};
+ghost use Rattle.goo_held.specs.Changes.{LotFits};
 
 use crate::new_rows::day_string;
 use crate::plants::Plant;

@@ -3,7 +3,7 @@
 ghost use Rattle.std.specs.Prelude.{◌≡◌, ◌<◌, ◌^◌, true, IfOk, IsOk};
 ghost use Rattle.goo_types.specs.Piece.{IsForward};
 ghost use Rattle.goo_columns.specs.Rows.{Lot as LotOf};
-ghost use Rattle.goo_tables.specs.Changes.{PieceFits};
+ghost use Rattle.goo_held.specs.Changes.{PieceFits};
 ghost use Rattle.goo_kept.specs.Places.{lot_of, piece_of, place_of};
 ghost use Rattle.goo_kept.specs.Readable.{is_act, is_piece, names_act};
 

@@ -2,7 +2,7 @@
 
 ghost use Rattle.std.specs.Prelude.{◌≡◌, ◌<◌, ◌^◌, true, nat_lt, pos, Some, is_ok, IfOk, IsOk, IsOkUnless};
 ghost use Rattle.goo_columns.specs.Rows.{receipt_in};
-ghost use Rattle.goo_tables.specs.Changes.{ReceiptFits};
+ghost use Rattle.goo_held.specs.Changes.{ReceiptFits};
 ghost use Rattle.goo_plans.specs.Acted.{HasKeptNumbers, IsReceiptOf};
 ghost use Rattle.goo_plans.specs.declared.trouble.Trouble.TheVariants.{Memory};
 ghost use Rattle.goo_kept.specs.Readable.{is_reply};

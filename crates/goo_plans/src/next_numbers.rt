@@ -2,13 +2,13 @@
 
 ghost use Rattle.std.specs.Prelude.{◌≡◌, IfOk, IsOk, IsTrue};
 ghost use Rattle.goo_columns.specs.Rows.{meta_in};
-ghost use Rattle.goo_tables.specs.Changes.{CountersFit};
+ghost use Rattle.goo_held.specs.Changes.{CountersFit};
 ghost use Rattle.goo_kept.specs.Readable.{is_meta};
 ghost use Rattle.goo_plans.specs.Carried.{counters_in};
 
 use crate::trouble::Trouble;
 use goo_columns::meta::MetaRow;
-use goo_tables::counters::Counters;
+use goo_held::counters::Counters;
 
 /// One above the last number that a column keeps.
 const COLUMN_END: u64 = 1 << 63;

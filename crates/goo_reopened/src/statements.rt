@@ -2,10 +2,10 @@
 
 use crate::registries::{begun, closed, entered};
 use crate::worked::{Case, is_answered};
+use goo_held::joined::{next_expiring, next_of_account};
+use goo_held::piece::find_piece;
 use goo_tables::declaration::find_declaration;
-use goo_tables::joined::{next_expiring, next_of_account};
 use goo_tables::lot::find_lot_by_id;
-use goo_tables::piece::find_piece;
 use goo_tables::withdrawal::find_withdrawal;
 use sqlite::{Alter, Connection};
 use std::alloc::Global;

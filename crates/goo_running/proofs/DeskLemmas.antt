@@ -5,7 +5,7 @@ use Rattle.sqlite_trees.specs.View.{doubt}
 use Rattle.goo_types.specs.declared.fault.Fault.{Fault}
 use Rattle.goo_types.specs.declared.outcome.Outcome.{Outcome}
 use Rattle.goo_types.specs.declared.request.Request.{Request}
-use Rattle.goo_store.specs.Moments.{moment}
+use Rattle.goo_lookups.specs.Moments.{moment}
 use Rattle.goo_registry.specs.Applying.{Applies}
 use Rattle.goo_shelf.specs.Shelf.{IsReady}
 use Rattle.goo_spec.specs.State as registry

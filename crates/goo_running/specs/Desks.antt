@@ -1,7 +1,7 @@
 -- A desk over tables in memory, at one moment.
 use Rattle.std.specs.Prelude.{Bool}
 use Rattle.sqlite.specs.State.{State}
-use Rattle.goo_store.specs.Moments.{moment}
+use Rattle.goo_lookups.specs.Moments.{moment}
 use Rattle.goo_lines.specs.Desk.{Seen}
 
 -- memory tells no lie, so what a desk does holds without that premise

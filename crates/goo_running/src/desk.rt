@@ -24,6 +24,7 @@ use std::alloc::Global;
 const SALT: u64 = 7;
 
 /// A registry whose records are tables in memory, and are gone when the program ends.
+#[derive(Drop)]
 pub struct MemoryDesk {
     registry: Registry<SqlShelf<FileStore<MemoryFile>>>,
 }
@@ -84,12 +85,6 @@ impl MemoryDesk {
             }),
             Err((_conn, fault)) => Err(fault_of(fault)),
         }
-    }
-
-    /// Lets the registry go, with all that it knows.
-    pub fn close(self) {
-        let MemoryDesk { registry } = self;
-        let _shelf = registry.into_shelf();
     }
 }
 

@@ -34,7 +34,7 @@ pub fn run_in_memory<R: Read, W: Write>(
         Err(fault) => return Ending::Failed(Failure::from(fault)),
     };
     let answered = run_lines(alloc, &mut desk, reader, writer);
-    desk.close();
+    drop(desk);
     let flushed = writer.flush().is_ok();
     Ending::of_run(answered, flushed)
 }

@@ -18,10 +18,10 @@ use Rattle.goo_plans.specs.declared.trouble.Trouble.{Trouble}
 use Rattle.goo_plans.specs.declared.trouble.Trouble.TheVariants.{Memory, Refused}
 use Rattle.goo_plans.proofs.Refusing.{more_faults}
 use Rattle.goo_store.specs.Gathering.{BlamesCommit, CanCarryOut, HaveWhatItNeeds}
-use Rattle.goo_store.specs.Holding.{is_sure, sure}
-use Rattle.goo_store.specs.Moments.{moment, tables_in, IsWell}
+use Rattle.goo_lookups.specs.Holding.{is_sure, sure}
+use Rattle.goo_lookups.specs.Moments.{moment, tables_in, IsWell}
 use Rattle.goo_store.specs.Preparing.{Prepares}
-use Rattle.goo_store.specs.Telling.{PassesOn, Tells}
+use Rattle.goo_lookups.specs.Telling.{PassesOn, Tells}
 use Rattle.goo_store.proofs.Gathering.{told_so}
 
 -- what is gathered is refused, and nothing is committed

@@ -21,12 +21,12 @@ use Rattle.goo_plans.specs.declared.trouble.Trouble.{Trouble}
 use Rattle.goo_plans.specs.declared.trouble.Trouble.TheVariants.{Memory, Refused}
 use Rattle.goo_changes.specs.Changes.{made_all, AreFor}
 use Rattle.goo_kept.specs.Kept.{AreKept}
-use Rattle.goo_store.specs.Moments.{tables_in, OpensAs, count, moment, IsWell}
+use Rattle.goo_lookups.specs.Moments.{tables_in, OpensAs, count, moment, IsWell}
 use Rattle.goo_kept.specs.Places.{rows_of}
 use Rattle.goo_plans.specs.Planned.{IsPlanned}
 use Rattle.goo_kept.specs.States.{state_of}
-use Rattle.goo_store.specs.Telling.{PassesOn, Tells}
-use Rattle.goo_store.specs.Holding.{is_sure, sure, LeavesCommit, opens_so, left_by}
+use Rattle.goo_lookups.specs.Telling.{PassesOn, Tells}
+use Rattle.goo_lookups.specs.Holding.{is_sure, sure, LeavesCommit, opens_so, left_by}
 
 -- trees that hold these tables are read as them
 held_tables : (t : Tables) (db : Trees) → Holds t db → tables_of db ≡ t

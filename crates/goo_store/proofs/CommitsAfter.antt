@@ -9,10 +9,10 @@ use Rattle.goo_rows.specs.Rows.{edited_all}
 use Rattle.goo_shelf.specs.Plan.{Fits, Commits, IsEither}
 use Rattle.goo_shelf.specs.Shelf.{Moment, Looks, IsTold}
 use Rattle.goo_shelf.specs.declared.plan.Plan.{Plan}
-use Rattle.goo_store.specs.Holding.{LeavesCommit}
-use Rattle.goo_store.specs.Moments.{count, moment, IsWell}
+use Rattle.goo_lookups.specs.Holding.{LeavesCommit}
+use Rattle.goo_lookups.specs.Moments.{count, moment, IsWell}
 use Rattle.goo_store.specs.Preparing.{Prepares}
-use Rattle.goo_store.proofs.Looking.{refused_look}
+use Rattle.goo_lookups.proofs.Looking.{refused_look}
 
 -- the flag of a shelf that answers is down
 pub not_refused : (f : Bool) → count f ≡ 0 → f ≡ false

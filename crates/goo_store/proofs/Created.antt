@@ -11,14 +11,14 @@ use Rattle.goo_spec.proofs.Creating.{created_is_sound}
 use Rattle.goo_rows.specs.Certificates.{certificates_of}
 use Rattle.goo_columns.specs.Stands.{Stands, Settled, doubts}
 use Rattle.goo_columns.proofs.Decoded.{decoded}
-use Rattle.goo_tables.specs.Changes.{begun}
+use Rattle.goo_held.specs.Changes.{begun}
 use Rattle.goo_store.specs.Creating.{meta_of, IsFirst}
 use Rattle.goo_kept.specs.Kept.{AreKept}
-use Rattle.goo_store.specs.Moments.{IsWell, tables_in}
+use Rattle.goo_lookups.specs.Moments.{IsWell, tables_in}
 use Rattle.goo_kept.specs.Places.{rows_of}
 use Rattle.goo_kept.specs.Readable.{is_meta, reads}
 use Rattle.goo_kept.specs.States.{state_of}
-use Rattle.goo_store.specs.Holding.{sure}
+use Rattle.goo_lookups.specs.Holding.{sure}
 use Rattle.goo_kept.proofs.Known.{day_back}
 
 module _ (code : ℕ) (today : CalendarDay) (next_serial : ℕ) (it : IsFirst code today next_serial) where

@@ -24,12 +24,12 @@ use Rattle.goo_kept.specs.States.{state_of}
 use Rattle.goo_kept.specs.Places.{lot_of, piece_of}
 use Rattle.goo_plans.specs.Found.{IsRowOf, IsDeviceOf, IsStated, AreStated, AreNone}
 use Rattle.goo_store.specs.Found.{IsBeside, Knows, KeepsFound, KeepsDevice, KeepsLot, KeepsLots, KeepsRead, KeepsRow}
-use Rattle.goo_store.specs.Holding.{sure}
-use Rattle.goo_store.specs.Moments.{tables_in, IsWell}
+use Rattle.goo_lookups.specs.Holding.{sure}
+use Rattle.goo_lookups.specs.Moments.{tables_in, IsWell}
 use Rattle.goo_plans.specs.declared.findings.Findings.{Findings}
 use Rattle.goo_plans.specs.declared.findings.KnownDevice.{KnownDevice}
 use Rattle.goo_plans.specs.declared.lot_numbers.NumberedLot.{NumberedLot}
-use Rattle.goo_store.proofs.Looking.{before, so_still, known}
+use Rattle.goo_lookups.proofs.Looking.{before, so_still, known}
 use Rattle.goo_plans.proofs.RowsGathered.{found_by_key}
 use Rattle.goo_plans.proofs.RowsRead.{found_row}
 use Rattle.goo_store.proofs.RowsRead.{unmapped}

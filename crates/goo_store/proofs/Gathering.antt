@@ -15,9 +15,9 @@ use Rattle.goo_plans.specs.declared.trouble.Trouble.{Trouble}
 use Rattle.goo_plans.specs.declared.trouble.Trouble.TheVariants.{Memory, Refused}
 use Rattle.goo_store.specs.Found.{Knows}
 use Rattle.goo_store.specs.Gathering.{BlamesCommit, HaveWhatItNeeds}
-use Rattle.goo_store.specs.Holding.{is_sure}
-use Rattle.goo_store.specs.Moments.{tables_in, IsWell}
-use Rattle.goo_store.specs.Telling.{Tells}
+use Rattle.goo_lookups.specs.Holding.{is_sure}
+use Rattle.goo_lookups.specs.Moments.{tables_in, IsWell}
+use Rattle.goo_lookups.specs.Telling.{Tells}
 use Rattle.goo_store.proofs.Prepared.{in_order}
 
 -- once the flag is up, nothing is said

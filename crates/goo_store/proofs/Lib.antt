@@ -1,14 +1,11 @@
-pub mod Looking
 pub mod WholeLemmas
 pub mod Merging
 pub mod Created
 pub mod CommitLemmas
 pub mod Prepared
 pub mod CommitsAfter
-pub mod Judging
 pub mod DevicesApart
 pub mod Found
 pub mod RowsRead
-pub mod Blaming
 pub mod Gathering
 pub mod CommitBlamed

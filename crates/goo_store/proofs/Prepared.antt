@@ -11,15 +11,15 @@ use Rattle.goo_kept.specs.Places.{rows_of}
 use Rattle.goo_kept.specs.States.{state_of}
 use Rattle.goo_plans.specs.Carried.{AreInOrder}
 use Rattle.goo_plans.specs.LookingUp.{LooksUp, IsOurs}
-use Rattle.goo_store.specs.Moments.{tables_in, count, moment, IsWell}
+use Rattle.goo_lookups.specs.Moments.{tables_in, count, moment, IsWell}
 use Rattle.goo_plans.specs.Found.{AreFindingsOf}
 use Rattle.goo_store.specs.Found.{Knows}
 use Rattle.goo_store.specs.Preparing.{Prepares}
-use Rattle.goo_store.specs.Telling.{Tells}
+use Rattle.goo_lookups.specs.Telling.{Tells}
 use Rattle.goo_plans.specs.declared.findings.Findings.{Findings}
 use Rattle.goo_plans.specs.declared.trouble.Trouble.{Trouble}
 use Rattle.goo_plans.specs.declared.trouble.Trouble.TheVariants.{Memory, Refused}
-use Rattle.goo_store.specs.Holding.{is_sure, sure, LeavesCommit, left_by}
+use Rattle.goo_lookups.specs.Holding.{is_sure, sure, LeavesCommit, left_by}
 
 -- tables that stand are in the order of their keys
 pub in_order : (d : Database) (t : Tables) → Stands d t → AreInOrder t

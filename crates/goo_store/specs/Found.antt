@@ -20,7 +20,7 @@ use Rattle.goo_columns.specs.declared.piece.PieceRow.{PieceRow}
 use Rattle.goo_kept.specs.Devices.{device_of}
 use Rattle.goo_kept.specs.States.{state_of}
 use Rattle.goo_plans.specs.Found.{IsRowOf, IsDeviceOf, AreStated, AreFindingsOf}
-use Rattle.goo_store.specs.Moments.{tables_in}
+use Rattle.goo_lookups.specs.Moments.{tables_in}
 use Rattle.goo_plans.specs.declared.findings.Findings.{Findings}
 use Rattle.goo_plans.specs.declared.findings.KnownDevice.{KnownDevice}
 use Rattle.goo_plans.specs.declared.lot_numbers.NumberedLot.{NumberedLot}

@@ -13,7 +13,7 @@ use Rattle.goo_kept.specs.States.{state_of}
 use Rattle.goo_plans.specs.EditsTaken.{HaveKeptNumbers, HaveKnownLots}
 use Rattle.goo_plans.specs.PlanNeeds.{HasRoomFor}
 use Rattle.goo_plans.specs.Room.{HaveRowids}
-use Rattle.goo_store.specs.Moments.{tables_in}
+use Rattle.goo_lookups.specs.Moments.{tables_in}
 
 -- The plan may be committed in the tables, which have room for its command. The registry knows the lots of the pieces that the edits
 -- insert, once the request is accepted; and columns keep the numbers of the lots that are there.

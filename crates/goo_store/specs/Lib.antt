@@ -1,12 +1,7 @@
-pub mod Moments
 pub mod Found
-pub mod Holding
-pub mod Telling
 pub mod Reading
 pub mod Summing
 pub mod Near
 pub mod Creating
 pub mod Preparing
-pub mod Opening
-pub mod StoreFaults
 pub mod Gathering

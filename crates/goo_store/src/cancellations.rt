@@ -5,15 +5,15 @@ ghost use Rattle.std.specs.FinMap.{get};
 ghost use Rattle.sqlite.specs.Held.{state as view};
 ghost use Rattle.goo_columns.specs.Rows.{cancellation_in};
 ghost use Rattle.goo_shelf.specs.Shelf.{Looks};
-ghost use Rattle.goo_store.specs.Moments.{moment};
-ghost use Rattle.goo_store.specs.StoreFaults.{BlamesStore};
+ghost use Rattle.goo_lookups.specs.Moments.{moment};
+ghost use Rattle.goo_lookups.specs.StoreFaults.{BlamesStore};
 ghost use Rattle.goo_kept.specs.Records.{cancellation_of};
 ghost use Rattle.goo_kept.specs.Readable.{is_cancellation};
 ghost use Rattle.goo_plans.specs.Passing.{Accepts, Passes};
 
 use crate::sql_shelf::SqlShelf;
-use crate::told::told;
 use goo_columns::cancellation::CancellationRow;
+use goo_lookups::told::told;
 use goo_plans::trouble::Trouble;
 use goo_plans::{numbers, texts};
 use goo_shelf::cancel_record::CancelRecord;

@@ -9,7 +9,7 @@ ghost use Rattle.goo_types.specs.Day.{IsDay};
 ghost use Rattle.goo_columns.specs.Columns.{no_schema};
 ghost use Rattle.goo_columns.specs.Rows.{meta_in};
 ghost use Rattle.goo_columns.specs.Stands.{Sees, Settled, Holds};
-ghost use Rattle.goo_tables.specs.Changes.{MetaFits, begun};
+ghost use Rattle.goo_held.specs.Changes.{MetaFits, begun};
 ghost use Rattle.goo_store.specs.Creating.{meta_of, IsFirst};
 
 use goo_columns::meta::MetaRow;

@@ -6,15 +6,15 @@ ghost use Rattle.sqlite.specs.Held.{state as view};
 ghost use Rattle.goo_columns.specs.Rows.{declaration_in};
 ghost use Rattle.goo_shelf.specs.Shelf.{Looks};
 ghost use Rattle.goo_kept.specs.Devices.{declaration_of};
-ghost use Rattle.goo_store.specs.Moments.{moment};
-ghost use Rattle.goo_store.specs.StoreFaults.{BlamesStore};
+ghost use Rattle.goo_lookups.specs.Moments.{moment};
+ghost use Rattle.goo_lookups.specs.StoreFaults.{BlamesStore};
 ghost use Rattle.goo_kept.specs.Readable.{is_declaration};
 ghost use Rattle.goo_plans.specs.Passing.{Accepts, Passes};
 ghost use Rattle.goo_plans.specs.declared.trouble.Trouble.TheVariants.{Memory};
 
 use crate::sql_shelf::SqlShelf;
-use crate::told::told;
 use goo_columns::declaration::DeclarationRow;
+use goo_lookups::told::told;
 use goo_plans::trouble::Trouble;
 use goo_plans::{numbers, texts};
 use goo_tables::declaration::all_declarations;

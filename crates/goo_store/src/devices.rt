@@ -7,15 +7,15 @@ ghost use Rattle.goo_columns.specs.Rows.{device_in};
 ghost use Rattle.goo_shelf.specs.Shelf.{Looks, progress_of, IsRecordOf};
 ghost use Rattle.goo_kept.specs.Devices.{device_of, progress_in, record_in};
 ghost use Rattle.goo_store.specs.Found.{KeepsDevice};
-ghost use Rattle.goo_store.specs.Moments.{moment};
-ghost use Rattle.goo_store.specs.StoreFaults.{BlamesStore};
+ghost use Rattle.goo_lookups.specs.Moments.{moment};
+ghost use Rattle.goo_lookups.specs.StoreFaults.{BlamesStore};
 ghost use Rattle.goo_kept.specs.Readable.{is_device, is_maybe_day};
 ghost use Rattle.goo_plans.specs.Passing.{Accepts, Passes};
 ghost use Rattle.goo_kept.specs.Texts.{day_of};
 
 use crate::sql_shelf::SqlShelf;
-use crate::told::told;
 use goo_columns::device::DeviceRow;
+use goo_lookups::told::told;
 use goo_plans::devices::device_in_row;
 use goo_plans::findings::KnownDevice;
 use goo_plans::trouble::Trouble;

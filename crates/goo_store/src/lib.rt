@@ -21,5 +21,4 @@ mod rows;
 mod shelf;
 pub mod sql_shelf;
 mod sums;
-mod told;
 mod totals;

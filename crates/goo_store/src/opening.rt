@@ -15,31 +15,16 @@ ghost use Rattle.goo_opening.specs.Foreign.{LacksMeta, TellsVersion, IsForeignWo
 ghost use Rattle.goo_rows.specs.Rows.{AreRowsOf};
 ghost use Rattle.goo_spec.specs.Sound.{IsSound};
 ghost use Rattle.goo_shelf.specs.Shelf.{IsReady};
-ghost use Rattle.goo_store.specs.Moments.{moment};
-ghost use Rattle.goo_store.specs.Opening.{IsRefusal, Judges};
+ghost use Rattle.goo_lookups.specs.Moments.{moment};
+ghost use Rattle.goo_lookups.specs.Opening.{IsRefusal};
 
 use crate::sql_shelf::SqlShelf;
+use goo_lookups::judge::judge;
 use goo_opening::fault::OpenFault;
-use goo_opening::finding::find_tables;
 use goo_opening::foreign::foreign_fault;
 use goo_opening::our_schema::has_our_schema;
-use goo_rules::judging::keeps_rules;
 use sqlite::{Alter, Connection};
 use std::alloc::Global;
-
-/// Whether a database holds the tables of a registry, and they keep the rules: `Damaged` where they break one.
-fn judge<S: Alter>(alloc: Global, conn: &mut Connection<S>) -> Result<(), OpenFault>
-    ensures { Judges (view S.Store conn.old) (view S.Store conn.new) result }
-{
-    match find_tables(alloc, conn) {
-        Ok(found) => match keeps_rules(alloc, &found) {
-            Ok(true) => Ok(()),
-            Ok(false) => Err(OpenFault::Damaged),
-            Err(_) => Err(OpenFault::Memory),
-        },
-        Err(fault) => Err(fault),
-    }
-}
 
 impl<S: Alter> SqlShelf<S> {
     /// The registry that a database holds, whatever its tables are.

@@ -4,13 +4,13 @@ ghost use Rattle.std.specs.Prelude.{◌≡◌, is_some, option_map, ⊤};
 ghost use Rattle.std.specs.FinMap.{contains_key};
 ghost use Rattle.sqlite.specs.Held.{state as view};
 ghost use Rattle.goo_shelf.specs.Shelf.{Looks};
-ghost use Rattle.goo_store.specs.Moments.{moment};
-ghost use Rattle.goo_store.specs.StoreFaults.{BlamesStore};
+ghost use Rattle.goo_lookups.specs.Moments.{moment};
+ghost use Rattle.goo_lookups.specs.StoreFaults.{BlamesStore};
 ghost use Rattle.goo_plans.specs.Passing.{Accepts, Passes};
 
 use crate::sql_shelf::SqlShelf;
-use crate::told::told;
 use goo_columns::peer::PeerRow;
+use goo_lookups::told::told;
 use goo_plans::trouble::Trouble;
 use goo_tables::peer::find_peer;
 use goo_types::fault::Fault;

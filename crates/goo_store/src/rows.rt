@@ -7,14 +7,14 @@ ghost use Rattle.goo_types.specs.Piece.{IsRising};
 ghost use Rattle.goo_rows.specs.Rows.{meeting as near};
 ghost use Rattle.goo_shelf.specs.Rows.{naming_account, expiring_on};
 ghost use Rattle.goo_shelf.specs.Shelf.{Looks};
-ghost use Rattle.goo_store.specs.Moments.{moment};
-ghost use Rattle.goo_store.specs.StoreFaults.{BlamesStore};
+ghost use Rattle.goo_lookups.specs.Moments.{moment};
+ghost use Rattle.goo_lookups.specs.StoreFaults.{BlamesStore};
 
 use crate::pieces::{join_near, read_maybe, read_rising};
 use crate::sql_shelf::SqlShelf;
-use crate::told::told;
+use goo_held::joined::{piece_before, pieces_beginning, pieces_expiring, pieces_of_account};
+use goo_lookups::told::told;
 use goo_notice::texts::day_text;
-use goo_tables::joined::{piece_before, pieces_beginning, pieces_expiring, pieces_of_account};
 use goo_types::account_no::AccountNo;
 use goo_types::day::Day;
 use goo_types::fault::Fault;

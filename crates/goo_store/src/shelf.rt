@@ -40,9 +40,9 @@ impl<S: Alter> Shelf for SqlShelf<S> {
     ghost use Rattle.goo_shelf.specs.Shelf.{Looks, progress_of, IsRecordOf, receipt_of, arrival_of, totals_of};
     ghost use Rattle.goo_shelf.specs.Plan.{Fits, Commits};
     ghost use Rattle.goo_store.specs.Gathering.{BlamesCommit, CanCarryOut};
-    ghost use Rattle.goo_store.specs.Moments.{moment};
-    ghost use Rattle.goo_store.specs.StoreFaults.{BlamesStore};
-    ghost use Rattle.goo_store.specs.Holding.{safe};
+    ghost use Rattle.goo_lookups.specs.Moments.{moment};
+    ghost use Rattle.goo_lookups.specs.StoreFaults.{BlamesStore};
+    ghost use Rattle.goo_lookups.specs.Holding.{safe};
 
     ghost seen = { λ s. moment (view S.Store s.conn) s.refused };
 

@@ -4,12 +4,12 @@ ghost use Rattle.std.specs.Prelude.{◌≡◌};
 ghost use Rattle.std.specs.FinMap.{keys as keys_of};
 ghost use Rattle.sqlite.specs.Held.{state as view};
 ghost use Rattle.goo_shelf.specs.Shelf.{Looks, totals_of};
-ghost use Rattle.goo_store.specs.Moments.{moment};
-ghost use Rattle.goo_store.specs.StoreFaults.{BlamesStore};
+ghost use Rattle.goo_lookups.specs.Moments.{moment};
+ghost use Rattle.goo_lookups.specs.StoreFaults.{BlamesStore};
 
 use crate::sql_shelf::SqlShelf;
 use crate::sums::totals_over;
-use crate::told::told;
+use goo_lookups::told::told;
 use goo_shelf::found::DeviceTotals;
 use goo_types::fault::Fault;
 use goo_types::gsrn::Gsrn;

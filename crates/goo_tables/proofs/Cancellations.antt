@@ -24,8 +24,8 @@ use Rattle.goo_columns.proofs.Typed.{cast_int, cast_null}
 use Rattle.goo_columns.proofs.Alone.{cancellations_stand}
 use Rattle.goo_columns.proofs.Living.{KeepsLive, keeps_live}
 use Rattle.goo_columns.proofs.Same.{cancellation_same}
-use Rattle.goo_tables.specs.Changes.{with_cancellation}
-use Rattle.goo_tables.proofs.Queries.{in_order}
+use Rattle.goo_held.specs.Changes.{with_cancellation}
+use Rattle.goo_held.proofs.Queries.{in_order}
 use Rattle.goo_columns.specs.Met.{HasOurTables}
 use Rattle.goo_columns.proofs.Meeting.{type_rules, shape_rules, no_text, int_same}
 use Rattle.std.specs.Prelude.{⊤}
@@ -35,11 +35,11 @@ use Rattle.sqlite_keyed.specs.Keyed.{get_by}
 use Rattle.sqlite_keyed.proofs.ListLemmas.{all_of}
 use Rattle.goo_columns.proofs.Stored.{cancellation_stored}
 use Rattle.goo_columns.specs.Refused.{IsTooBig, IsSmall}
-use Rattle.goo_tables.proofs.Adding.{Adds, adds_row}
-use Rattle.goo_tables.proofs.Failing.{FailsOnly, not_there, adding_fails}
-use Rattle.goo_tables.proofs.AnyTable.{TableOf, shown, shows_each, finds_one, IsListed, meets_listed}
-use Rattle.goo_tables.proofs.Asking.{Asks, Tells, Says}
-use Rattle.goo_tables.proofs.Values.{whole_is, null_at_key}
+use Rattle.goo_held.proofs.Adding.{Adds, adds_row}
+use Rattle.goo_held.proofs.Failing.{FailsOnly, not_there, adding_fails}
+use Rattle.goo_held.proofs.AnyTable.{TableOf, shown, shows_each, finds_one, IsListed, meets_listed}
+use Rattle.goo_held.proofs.Asking.{Asks, Tells, Says}
+use Rattle.goo_held.proofs.Values.{whole_is, null_at_key}
 
 -- ---- cancellation: the table
 

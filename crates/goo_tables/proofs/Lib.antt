@@ -1,16 +1,6 @@
-pub mod Queries
-pub mod Adding
-pub mod Failing
-pub mod Altering
-pub mod AnyTable
-pub mod Asking
-pub mod Values
-pub mod Holders
-pub mod Accounts
 pub mod Devices
 pub mod Declarations
 pub mod Lots
-pub mod Pieces
 pub mod Peers
 pub mod Receipts
 pub mod Cancellations
@@ -18,5 +8,4 @@ pub mod Withdrawals
 pub mod NoticesOut
 pub mod NoticesIn
 pub mod MetaTable
-pub mod PiecesBeside
 pub mod Creating

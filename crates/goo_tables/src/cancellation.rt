@@ -10,7 +10,7 @@ ghost use Rattle.goo_columns.specs.Refused.{FailsByFault, FailsOnlyByFault, Chan
 ghost use Rattle.goo_columns.specs.Lives.{LeavesLive};
 ghost use Rattle.goo_columns.specs.Stands.{Sees, Looks, Keeps};
 ghost use Rattle.goo_columns.specs.Met.{HasOurTables};
-ghost use Rattle.goo_tables.specs.Changes.{with_cancellation, CancellationFits};
+ghost use Rattle.goo_held.specs.Changes.{with_cancellation, CancellationFits};
 
 use goo_columns::ask::{ask_all, ask_first};
 use goo_columns::cancellation::CancellationRow;

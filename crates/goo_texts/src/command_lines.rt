@@ -1,8 +1,10 @@
 //! What command lines ask for.
 use goo_command_line::{LineFault, Place, Task, read_task};
+use std::alloc::Global;
+use std::process::Abort;
 
 /// The words of a command line, and the kind of their fault.
-const FAULTS: [(&[&str], &str); 16] = [
+static FAULTS: [(&[&str], &str); 16] = [
     (&["goo"], "command"),
     (&["goo", "--help"], "words"),
     (&["goo", "help"], "words"),
@@ -129,6 +131,11 @@ fn opened(asked: Result<Task, LineFault>) -> Option<(u8, [u8; 10], u64)> {
     ))
 }
 
+/// These words open a registry in memory with this code, this date and this next serial.
+fn opens(rt: &impl Abort, alloc: Global, words: &[&str], wanted: (u8, [u8; 10], u64)) {
+    assert!(rt; opened(read_task(alloc, words)) == Some(wanted));
+}
+
 #[test]
 fn a_registry_in_memory_begins_as_it_is_told(rt: HostRuntime) {
     let words = [
@@ -141,8 +148,12 @@ fn a_registry_in_memory_begins_as_it_is_told(rt: HostRuntime) {
         "--next-serial",
         "999999999999",
     ];
-    let opening = opened(read_task(rt.alloc(), words.as_slice()));
-    assert!(rt; opening == Some((7, *b"2025-03-01", 999_999_999_999)));
+    opens(
+        &rt,
+        rt.alloc(),
+        words.as_slice(),
+        (7, *b"2025-03-01", 999_999_999_999),
+    );
     let words = [
         "goo",
         "run",
@@ -152,13 +163,12 @@ fn a_registry_in_memory_begins_as_it_is_told(rt: HostRuntime) {
         "--today",
         "2025-03-01",
     ];
-    let opening = opened(read_task(rt.alloc(), words.as_slice()));
-    assert!(rt; opening == Some((7, *b"2025-03-01", 1)));
+    opens(&rt, rt.alloc(), words.as_slice(), (7, *b"2025-03-01", 1));
 }
 
 #[test]
 fn each_fault_of_a_command_line_is_told(rt: HostRuntime) {
-    for (words, wanted) in FAULTS {
-        assert!(rt; told(read_task(rt.alloc(), words)) == wanted);
+    for (words, wanted) in &FAULTS {
+        assert!(rt; told(read_task(rt.alloc(), *words)) == *wanted);
     }
 }

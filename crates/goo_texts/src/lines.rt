@@ -6,7 +6,7 @@ use goo_types::outcome::Outcome;
 use goo_types::request::Request;
 use std::alloc::Global;
 use std::io::{self, Write};
-use std::test::Fail;
+use std::process::Abort;
 
 /// A desk over records that fail at each request.
 #[derive(Drop)]
@@ -50,6 +50,9 @@ impl Write for ShortWriter {
 /// What a line without a request is answered, by its word.
 const CALLER: &str = "{\"fault\":\"Caller\",\"outcome\":\"unreadable\"}\n";
 
+const CALLER_TWICE: &str = "{\"fault\":\"Caller\",\"outcome\":\"unreadable\"}\n\
+    {\"fault\":\"Caller\",\"outcome\":\"unreadable\"}\n";
+
 const NOT_JSON: &str = "{\"fault\":\"NotJson\",\"outcome\":\"unreadable\"}\n";
 
 const SHAPE: &str = "{\"fault\":\"Shape\",\"outcome\":\"unreadable\"}\n";
@@ -57,7 +60,7 @@ const SHAPE: &str = "{\"fault\":\"Shape\",\"outcome\":\"unreadable\"}\n";
 const FIELD: &str = "{\"fault\":\"Field\",\"outcome\":\"unreadable\"}\n";
 
 /// A line that states no request, and what it is answered.
-const UNREADABLE: [(&str, &str); 13] = [
+static UNREADABLE: [(&str, &str); 13] = [
     ("ISSUER", CALLER),
     ("\r", CALLER),
     (" {}", CALLER),
@@ -88,36 +91,47 @@ const UNREADABLE: [(&str, &str); 13] = [
     ),
 ];
 
-#[test]
-fn each_unreadable_line_is_told(rt: HostRuntime) -> Result<(), Fail> {
-    for (line, wanted) in UNREADABLE {
-        let mut desk = FailingDesk {
-            fault: Fault::Store,
-        };
-        let mut writer = Vec::new(rt.alloc());
-        let tally = run_lines(rt.alloc(), &mut desk, &mut line.as_bytes(), &mut writer)?;
-        assert!(rt; writer.as_slice() == wanted.as_bytes(), "for {line}");
-        assert!(rt; tally == Tally { good: 0, bad: 1 });
-    }
-    Ok(())
+/// What an input comes to over records that fail so, once this has been written.
+fn answered(
+    rt: &impl Abort,
+    alloc: Global,
+    fault: Fault,
+    mut input: &[u8],
+    wanted: &str,
+) -> Result<Tally, LinesFault> {
+    let mut desk = FailingDesk { fault };
+    let mut writer = Vec::new(alloc);
+    let answered = run_lines(alloc, &mut desk, &mut input, &mut writer);
+    assert!(rt;
+        writer.as_slice() == wanted.as_bytes(),
+        "in place of {wanted}"
+    );
+    answered
+}
+
+/// An input holds so many lines that state no request, and nothing else, and they are answered so.
+fn is_unreadable(rt: &impl Abort, alloc: Global, input: &str, bad: usize, wanted: &str) {
+    let answered = answered(rt, alloc, Fault::Store, input.as_bytes(), wanted);
+    assert!(rt; answered == Ok(Tally { good: 0, bad }), "for {input}");
 }
 
 #[test]
-fn empty_lines_are_passed_over(rt: HostRuntime) -> Result<(), Fail> {
-    for (input, bad) in [
-        ("", 0),
-        ("\n", 0),
-        ("\n\nISSUER\n\nSUN", 2),
-        ("ISSUER\nSUN\n", 2),
-    ] {
-        let mut desk = FailingDesk {
-            fault: Fault::Store,
-        };
-        let mut writer = Vec::new(rt.alloc());
-        let tally = run_lines(rt.alloc(), &mut desk, &mut input.as_bytes(), &mut writer)?;
-        assert!(rt; tally == Tally { good: 0, bad } && writer.len() == bad * CALLER.len());
+fn each_unreadable_line_is_told(rt: HostRuntime) {
+    for (line, wanted) in &UNREADABLE {
+        is_unreadable(&rt, rt.alloc(), *line, 1, *wanted);
     }
-    Ok(())
+}
+
+#[test]
+fn empty_lines_are_passed_over(rt: HostRuntime) {
+    for (input, bad, wanted) in [
+        ("", 0, ""),
+        ("\n", 0, ""),
+        ("\n\nISSUER\n\nSUN", 2, CALLER_TWICE),
+        ("ISSUER\nSUN\n", 2, CALLER_TWICE),
+    ] {
+        is_unreadable(&rt, rt.alloc(), input, bad, wanted);
+    }
 }
 
 #[test]
@@ -128,13 +142,8 @@ fn the_lines_before_a_fault_are_told(rt: HostRuntime) {
         (Fault::Store, LinesFault::Store),
         (Fault::Memory, LinesFault::Memory),
     ] {
-        let mut desk = FailingDesk { fault };
-        let mut writer = Vec::new(rt.alloc());
-        let answered = run_lines(rt.alloc(), &mut desk, &mut input.as_bytes(), &mut writer);
-        assert!(rt;
-            matches!(&answered, Err(fault) if *fault == wanted)
-                && writer.as_slice() == CALLER.as_bytes()
-        );
+        let answered = answered(&rt, rt.alloc(), fault, input.as_bytes(), CALLER);
+        assert!(rt; answered == Err(wanted));
     }
 }
 
@@ -154,22 +163,17 @@ fn a_beginning_is_written_before_a_write_fault(rt: HostRuntime) {
         &mut writer,
     );
     assert!(rt;
-        matches!(answered, Err(LinesFault::Write))
+        answered == Err(LinesFault::Write)
             && writer.text.as_slice()
                 == b"{\"fault\":\"Caller\",\"outcome\":\"unreadable\"}\n{\"fa".as_slice()
     );
 }
 
 #[test]
-fn the_limit_of_the_input_is_exact(rt: HostRuntime) -> Result<(), Fail> {
-    let mut input = vec![in rt.alloc(); b'\n'; MOST_INPUT]?;
-    let mut desk = FailingDesk {
-        fault: Fault::Store,
-    };
-    let mut writer = Vec::new(rt.alloc());
-    run_lines(rt.alloc(), &mut desk, &mut input.as_slice(), &mut writer)?;
-    input.push(b'\n')?;
-    let answered = run_lines(rt.alloc(), &mut desk, &mut input.as_slice(), &mut writer);
-    assert!(rt; matches!(answered, Err(LinesFault::Read)));
-    Ok(())
+fn the_limit_of_the_input_is_exact(rt: HostRuntime) {
+    let mut input = vec![in rt.alloc(); b'\n'; MOST_INPUT].expect(&rt, "memory");
+    answered(&rt, rt.alloc(), Fault::Store, &input, "").expect(&rt, "an answer");
+    input.push(b'\n').expect(&rt, "memory");
+    let over = answered(&rt, rt.alloc(), Fault::Store, &input, "");
+    assert!(rt; over == Err(LinesFault::Read));
 }

@@ -1,7 +1,10 @@
 //! The text of a notice, against texts written by hand: ten certificates of one January.
 use goo_notice::{NoticeFault, from_value, read, write};
+use goo_types::notice::Notice;
+use goo_types::part::Part;
 use serde_json::Value;
-use std::test::Fail;
+use std::alloc::Global;
+use std::process::Abort;
 
 const NOTICE: &str = "{\"account\":5,\"addressee\":9,\"number\":1,\
     \"parts\":[{\"first\":\"07000000000020\",\"last\":\"07000000000029\",\
@@ -12,33 +15,45 @@ const NOTICE: &str = "{\"account\":5,\"addressee\":9,\"number\":1,\
     \"source\":\"F01010100\",\"support\":\"none\",\"tech\":\"T010000\"}}],\
     \"sender\":7,\"version\":1}";
 
-#[test]
-fn exported(rt: HostRuntime) -> Result<(), Fail> {
-    let notice = read(rt.alloc(), NOTICE.as_bytes())?;
-    assert!(rt;
-        notice.sender().get() == 7
-            && notice.addressee().get() == 9
-            && notice.number().get() == 1
-            && notice.account().get() == 5
-            && notice.parts().len() == 1
-    );
-    let part = &notice.parts()[0];
-    assert!(rt;
-        part.range.first().write() == *b"07000000000020"
-            && part.range.last().write() == *b"07000000000029"
-    );
-    assert!(rt;
-        part.lot.site().text() == "North field" && part.lot.capacity_w().get() == 2_000_000
-    );
-    let text = write(rt.alloc(), &notice)?;
+/// What the notice states, but for its part.
+fn is_sent(rt: &impl Abort, notice: &Notice) {
+    let codes = [notice.sender().get(), notice.addressee().get()];
+    let numbers = [notice.number().get(), notice.account().get()];
+    assert!(rt; codes == [7, 9] && numbers == [1, 5]);
+}
+
+/// What its part states.
+fn is_north_field(rt: &impl Abort, part: &Part) {
+    let (first, last) = (part.range.first(), part.range.last());
+    assert!(rt; first.write() == *b"07000000000020" && last.write() == *b"07000000000029");
+    let (site, capacity) = (part.lot.site(), part.lot.capacity_w());
+    assert!(rt; site.text() == "North field" && capacity.get() == 2_000_000);
+}
+
+/// It is written as its text.
+fn is_written(rt: &impl Abort, alloc: Global, notice: &Notice) {
+    let text = write(alloc, notice).expect(rt, "a text");
     assert!(rt; text.as_slice() == NOTICE.as_bytes());
-    let value = Value::from_slice(rt.alloc(), NOTICE.as_bytes())?;
-    assert!(rt; from_value(rt.alloc(), &value)?.is(&notice));
-    Ok(())
+}
+
+/// It is what the value of its text is read as.
+fn is_of_value(rt: &impl Abort, alloc: Global, notice: &Notice) {
+    let value = Value::from_slice(alloc, NOTICE.as_bytes()).expect(rt, "a value");
+    assert!(rt; from_value(alloc, &value).expect(rt, "a notice").is(notice));
+}
+
+#[test]
+fn exported(rt: HostRuntime) {
+    let notice = read(rt.alloc(), NOTICE.as_bytes()).expect(&rt, "a notice");
+    is_sent(&rt, &notice);
+    assert!(rt; notice.parts().len() == 1);
+    is_north_field(&rt, &notice.parts()[0]);
+    is_written(&rt, rt.alloc(), &notice);
+    is_of_value(&rt, rt.alloc(), &notice);
 }
 
 /// A piece of the notice's text, what stands in its place, and what is told of that.
-const CHANGES: [(&str, &str, NoticeFault); 18] = [
+static CHANGES: [(&str, &str, NoticeFault); 18] = [
     ("\"account\":5", "\"account\": 5", NoticeFault::Canonical),
     (
         "\"account\":5",
@@ -79,27 +94,35 @@ const CHANGES: [(&str, &str, NoticeFault); 18] = [
     ("2025-03-01", "2025-01-31", NoticeFault::Field),
 ];
 
-#[test]
-fn changed(rt: HostRuntime) -> Result<(), Fail> {
-    for (old, new, wanted) in CHANGES {
-        let (before, after) = NOTICE.split_once(old).ok_or("no such piece")?;
-        let text = format!(in rt.alloc(); "{before}{new}{after}")?;
-        assert!(rt; read(rt.alloc(), text.as_bytes()).err() == Some(wanted));
-    }
-    let none =
-        "{\"account\":5,\"addressee\":9,\"number\":1,\"parts\":[],\"sender\":7,\"version\":1}";
-    assert!(rt;
-        read(rt.alloc(), none.as_bytes()).err() == Some(NoticeFault::Field)
-            && read(rt.alloc(), b"[]").err() == Some(NoticeFault::Shape)
-    );
-    Ok(())
+/// A text is no notice, for this reason.
+fn is_refused(rt: &impl Abort, alloc: Global, text: &[u8], wanted: NoticeFault) {
+    assert!(rt; read(alloc, text).err() == Some(wanted));
+}
+
+/// The notice's text with another piece in place of one is no notice, for this reason.
+fn change_is_refused(rt: &impl Abort, alloc: Global, change: &(&str, &str, NoticeFault)) {
+    let (old, new, wanted) = change;
+    let (before, after) = NOTICE.split_once(*old).expect(rt, "such a piece");
+    let text = format!(in alloc; "{before}{new}{after}").expect(rt, "memory");
+    is_refused(rt, alloc, text.as_bytes(), *wanted);
 }
 
 #[test]
-fn each_prefix(rt: HostRuntime) -> Result<(), Fail> {
+fn changed(rt: HostRuntime) {
+    let alloc = rt.alloc();
+    for change in &CHANGES {
+        change_is_refused(&rt, alloc, change);
+    }
+    let none =
+        "{\"account\":5,\"addressee\":9,\"number\":1,\"parts\":[],\"sender\":7,\"version\":1}";
+    is_refused(&rt, alloc, none.as_bytes(), NoticeFault::Field);
+    is_refused(&rt, alloc, b"[]", NoticeFault::Shape);
+}
+
+#[test]
+fn each_prefix(rt: HostRuntime) {
     let text = NOTICE.as_bytes();
     for end in 0..text.len() {
-        assert!(rt; read(rt.alloc(), &text[..end]).err() == Some(NoticeFault::NotJson));
+        is_refused(&rt, rt.alloc(), &text[..end], NoticeFault::NotJson);
     }
-    Ok(())
 }

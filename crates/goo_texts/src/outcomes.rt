@@ -8,7 +8,7 @@ use goo_types::range::Range;
 use goo_types::refusal::Refusal;
 use goo_types::reply::Reply;
 use std::alloc::Global;
-use std::test::Fail;
+use std::process::Abort;
 
 /// What a request did, and its text.
 type ReplyRow = (Reply, &'static str);
@@ -28,106 +28,88 @@ const REPLIES: [ReplyRow; 5] = [
     (Reply::Advanced { expired: 0 }, "{\"expired\":0}"),
 ];
 
-/// A reason, the text of its code and name, and that of the certificate that it names.
-type RefusalRow = (Refusal, &'static str, &'static str);
+/// A reason, and the text of its code and name.
+type RefusalRow = (Refusal, &'static str);
 
 /// The reasons that name no certificate.
 const REFUSALS: [RefusalRow; 25] = [
-    (Refusal::NotAllowed, "1,\"name\":\"NotAllowed\"", ""),
-    (Refusal::KeyReused, "2,\"name\":\"KeyReused\"", ""),
-    (Refusal::UnknownHolder, "3,\"name\":\"UnknownHolder\"", ""),
-    (Refusal::HolderExists, "4,\"name\":\"HolderExists\"", ""),
-    (Refusal::UnknownAccount, "5,\"name\":\"UnknownAccount\"", ""),
-    (Refusal::AccountClosed, "6,\"name\":\"AccountClosed\"", ""),
-    (
-        Refusal::AccountNotEmpty,
-        "7,\"name\":\"AccountNotEmpty\"",
-        "",
-    ),
-    (Refusal::DeviceExists, "8,\"name\":\"DeviceExists\"", ""),
-    (Refusal::UnknownDevice, "9,\"name\":\"UnknownDevice\"", ""),
+    (Refusal::NotAllowed, "1,\"name\":\"NotAllowed\""),
+    (Refusal::KeyReused, "2,\"name\":\"KeyReused\""),
+    (Refusal::UnknownHolder, "3,\"name\":\"UnknownHolder\""),
+    (Refusal::HolderExists, "4,\"name\":\"HolderExists\""),
+    (Refusal::UnknownAccount, "5,\"name\":\"UnknownAccount\""),
+    (Refusal::AccountClosed, "6,\"name\":\"AccountClosed\""),
+    (Refusal::AccountNotEmpty, "7,\"name\":\"AccountNotEmpty\""),
+    (Refusal::DeviceExists, "8,\"name\":\"DeviceExists\""),
+    (Refusal::UnknownDevice, "9,\"name\":\"UnknownDevice\""),
     (
         Refusal::BeforeCommissioning,
         "10,\"name\":\"BeforeCommissioning\"",
-        "",
     ),
-    (Refusal::PeriodOrder, "11,\"name\":\"PeriodOrder\"", ""),
-    (Refusal::PeriodSpan, "12,\"name\":\"PeriodSpan\"", ""),
-    (
-        Refusal::AuxExceedsGross,
-        "13,\"name\":\"AuxExceedsGross\"",
-        "",
-    ),
-    (Refusal::OverCapacity, "14,\"name\":\"OverCapacity\"", ""),
+    (Refusal::PeriodOrder, "11,\"name\":\"PeriodOrder\""),
+    (Refusal::PeriodSpan, "12,\"name\":\"PeriodSpan\""),
+    (Refusal::AuxExceedsGross, "13,\"name\":\"AuxExceedsGross\""),
+    (Refusal::OverCapacity, "14,\"name\":\"OverCapacity\""),
     (
         Refusal::NumbersExhausted,
         "15,\"name\":\"NumbersExhausted\"",
-        "",
     ),
-    (Refusal::SameAccount, "19,\"name\":\"SameAccount\"", ""),
-    (Refusal::DateBackwards, "20,\"name\":\"DateBackwards\"", ""),
-    (Refusal::UnknownPeer, "21,\"name\":\"UnknownPeer\"", ""),
-    (Refusal::PeerExists, "22,\"name\":\"PeerExists\"", ""),
-    (Refusal::WrongRegistry, "23,\"name\":\"WrongRegistry\"", ""),
-    (
-        Refusal::NoticeConflict,
-        "24,\"name\":\"NoticeConflict\"",
-        "",
-    ),
-    (Refusal::Stale, "27,\"name\":\"Stale\"", ""),
-    (Refusal::FuturePeriod, "28,\"name\":\"FuturePeriod\"", ""),
-    (Refusal::UsePeriod, "29,\"name\":\"UsePeriod\"", ""),
-    (Refusal::TooManyParts, "30,\"name\":\"TooManyParts\"", ""),
+    (Refusal::SameAccount, "19,\"name\":\"SameAccount\""),
+    (Refusal::DateBackwards, "20,\"name\":\"DateBackwards\""),
+    (Refusal::UnknownPeer, "21,\"name\":\"UnknownPeer\""),
+    (Refusal::PeerExists, "22,\"name\":\"PeerExists\""),
+    (Refusal::WrongRegistry, "23,\"name\":\"WrongRegistry\""),
+    (Refusal::NoticeConflict, "24,\"name\":\"NoticeConflict\""),
+    (Refusal::Stale, "27,\"name\":\"Stale\""),
+    (Refusal::FuturePeriod, "28,\"name\":\"FuturePeriod\""),
+    (Refusal::UsePeriod, "29,\"name\":\"UsePeriod\""),
+    (Refusal::TooManyParts, "30,\"name\":\"TooManyParts\""),
 ];
 
-/// A text is the one that is wanted; else both are told.
-fn reads(text: &str, wanted: &str) -> Result<(), Fail> {
-    if text == wanted {
-        return Ok(());
-    }
-    Err(Fail::new(format_args!("{text} in place of {wanted}")))
+/// An outcome's text is the one that is wanted; else both are told.
+fn reads(rt: &impl Abort, outcome: Outcome, wanted: &str) {
+    let text = outcome_text(outcome);
+    assert!(rt;
+        text.as_str() == wanted,
+        "{} in place of {wanted}",
+        text.as_str()
+    );
+}
+
+/// A request that did this has a text, in the word that it is told by.
+fn reply_reads(rt: &impl Abort, alloc: Global, outcome: Outcome, word: &str, reply: &str) {
+    let wanted = format!(in alloc; "{{\"outcome\":\"{word}\",\"reply\":{reply}}}");
+    reads(rt, outcome, wanted.expect(rt, "memory").as_str());
 }
 
 /// The replies have their texts, told at once and told again.
-fn replies_read(alloc: Global, replies: &[ReplyRow]) -> Result<(), Fail> {
-    for (reply, want) in replies {
-        let wanted = format!(in alloc; "{{\"outcome\":\"accepted\",\"reply\":{want}}}")?;
-        reads(
-            outcome_text(Outcome::Accepted(*reply)).as_str(),
-            wanted.as_str(),
-        )?;
-        let wanted = format!(in alloc; "{{\"outcome\":\"repeated\",\"reply\":{want}}}")?;
-        reads(
-            outcome_text(Outcome::Repeated(*reply)).as_str(),
-            wanted.as_str(),
-        )?;
+fn replies_read(rt: &impl Abort, alloc: Global, replies: &[ReplyRow]) {
+    for (reply, wanted) in replies {
+        reply_reads(rt, alloc, Outcome::Accepted(*reply), "accepted", wanted);
+        reply_reads(rt, alloc, Outcome::Repeated(*reply), "repeated", wanted);
     }
-    Ok(())
 }
 
-/// The refusals have their texts.
-fn refusals_read(alloc: Global, refusals: &[RefusalRow]) -> Result<(), Fail> {
-    for (refusal, reason, number) in refusals {
-        let wanted = format!(in alloc; "{{\"code\":{reason}{number},\"outcome\":\"refused\"}}")?;
-        reads(
-            outcome_text(Outcome::Refused(*refusal)).as_str(),
-            wanted.as_str(),
-        )?;
+/// The refusals have their texts, each with that of the certificate that it names.
+fn refusals_read(rt: &impl Abort, alloc: Global, refusals: &[RefusalRow], number: &str) {
+    for (refusal, reason) in refusals {
+        let wanted = format!(in alloc; "{{\"code\":{reason}{number},\"outcome\":\"refused\"}}");
+        let wanted = wanted.expect(rt, "memory");
+        reads(rt, Outcome::Refused(*refusal), wanted.as_str());
     }
-    Ok(())
 }
 
 #[test]
-fn accepted(rt: HostRuntime) -> Result<(), Fail> {
-    replies_read(rt.alloc(), &REPLIES)
+fn accepted(rt: HostRuntime) {
+    replies_read(&rt, rt.alloc(), &REPLIES)
 }
 
 #[test]
-fn accepted_with_numbers(rt: HostRuntime) -> Result<(), Fail> {
-    let account = AccountNo::new(1).ok_or("no account")?;
-    let first = Number::read(b"07000000000001")?;
-    let last = Number::read(b"07000000001200")?;
-    let issued = Range::new(first, last).ok_or("no range")?;
+fn accepted_with_numbers(rt: HostRuntime) {
+    let account = AccountNo::new(1).expect(&rt, "an account");
+    let first = Number::read(b"07000000000001").expect(&rt, "a number");
+    let last = Number::read(b"07000000001200").expect(&rt, "a number");
+    let issued = Range::new(first, last).expect(&rt, "a range");
     let declared = Reply::Declared {
         carry: 0,
         issued: Some(issued),
@@ -139,12 +121,12 @@ fn accepted_with_numbers(rt: HostRuntime) -> Result<(), Fail> {
             "{\"carry\":0,\"count\":1200,\"first\":\"07000000000001\",\"last\":\"07000000001200\"}",
         ),
     ];
-    replies_read(rt.alloc(), &replies)
+    replies_read(&rt, rt.alloc(), &replies)
 }
 
 #[test]
-fn accepted_with_acts(rt: HostRuntime) -> Result<(), Fail> {
-    let act = ActNo::new(1).ok_or("no act")?;
+fn accepted_with_acts(rt: HostRuntime) {
+    let act = ActNo::new(1).expect(&rt, "an act");
     let replies = [
         (
             Reply::Cancelled {
@@ -168,38 +150,25 @@ fn accepted_with_acts(rt: HostRuntime) -> Result<(), Fail> {
             "{\"count\":10,\"notice\":1}",
         ),
     ];
-    replies_read(rt.alloc(), &replies)
+    replies_read(&rt, rt.alloc(), &replies)
 }
 
 #[test]
-fn refused(rt: HostRuntime) -> Result<(), Fail> {
-    refusals_read(rt.alloc(), &REFUSALS)
+fn refused(rt: HostRuntime) {
+    refusals_read(&rt, rt.alloc(), &REFUSALS, "")
 }
 
 #[test]
-fn refused_for_a_certificate(rt: HostRuntime) -> Result<(), Fail> {
-    let n = Number::read(b"07000000000007")?;
-    let named = ",\"number\":\"07000000000007\"";
+fn refused_for_a_certificate(rt: HostRuntime) {
+    let n = Number::read(b"07000000000007").expect(&rt, "a number");
     let refusals = [
-        (
-            Refusal::UnknownNumber(n),
-            "16,\"name\":\"UnknownNumber\"",
-            named,
-        ),
-        (Refusal::NotHeld(n), "17,\"name\":\"NotHeld\"", named),
-        (
-            Refusal::TradeClosed(n),
-            "18,\"name\":\"TradeClosed\"",
-            named,
-        ),
-        (
-            Refusal::NumberTaken(n),
-            "25,\"name\":\"NumberTaken\"",
-            named,
-        ),
-        (Refusal::LotDiffers(n), "26,\"name\":\"LotDiffers\"", named),
+        (Refusal::UnknownNumber(n), "16,\"name\":\"UnknownNumber\""),
+        (Refusal::NotHeld(n), "17,\"name\":\"NotHeld\""),
+        (Refusal::TradeClosed(n), "18,\"name\":\"TradeClosed\""),
+        (Refusal::NumberTaken(n), "25,\"name\":\"NumberTaken\""),
+        (Refusal::LotDiffers(n), "26,\"name\":\"LotDiffers\""),
     ];
-    refusals_read(rt.alloc(), &refusals)
+    refusals_read(&rt, rt.alloc(), &refusals, ",\"number\":\"07000000000007\"")
 }
 
 #[test]

@@ -1,7 +1,7 @@
 //! Streams that are interrupted, that fail in the middle, and that have no more room.
 use goo_streams::{ReadFault, read_whole, write_whole};
 use std::io::{self, ErrorKind, Read, Write};
-use std::test::Fail;
+use std::process::Abort;
 
 /// A text that is read one byte a call, with so many interruptions before each, and after so many bytes a failure.
 #[derive(Drop)]
@@ -97,38 +97,32 @@ impl Write for Narrow {
     }
 }
 
-#[test]
-fn a_thousand_interruptions_are_passed_over_and_one_more_is_a_fault(
-    rt: HostRuntime,
-) -> Result<(), Fail> {
-    let mut patient = make_halting(b"ab", 1_000, 10);
-    let input = read_whole(rt.alloc(), &mut patient, 10)?;
-    assert!(rt; input.as_slice() == b"ab".as_slice());
-    let mut endless = make_halting(b"ab", 1_001, 10);
-    assert!(rt;
-        matches!(
-            read_whole(rt.alloc(), &mut endless, 10),
-            Err(ReadFault::Read)
-        )
-    );
-    Ok(())
+/// What was read is this text.
+fn is_text(rt: &impl Abort, read: Result<Vec<u8>, ReadFault>, wanted: &[u8]) {
+    assert!(rt; read.expect(rt, "a text").as_slice() == wanted);
+}
+
+/// Nothing was read.
+fn is_fault(rt: &impl Abort, read: Result<Vec<u8>, ReadFault>) {
+    assert!(rt; read.err() == Some(ReadFault::Read));
 }
 
 #[test]
-fn a_fault_in_the_middle_and_at_the_limit(rt: HostRuntime) -> Result<(), Fail> {
+fn a_thousand_interruptions_are_passed_over_and_one_more_is_a_fault(rt: HostRuntime) {
+    let mut patient = make_halting(b"ab", 1_000, 10);
+    is_text(&rt, read_whole(rt.alloc(), &mut patient, 10), b"ab");
+    let mut endless = make_halting(b"ab", 1_001, 10);
+    is_fault(&rt, read_whole(rt.alloc(), &mut endless, 10));
+}
+
+#[test]
+fn a_fault_in_the_middle_and_at_the_limit(rt: HostRuntime) {
     let mut broken = make_halting(b"abc", 0, 2);
-    assert!(rt;
-        matches!(
-            read_whole(rt.alloc(), &mut broken, 10),
-            Err(ReadFault::Read)
-        )
-    );
+    is_fault(&rt, read_whole(rt.alloc(), &mut broken, 10));
     let mut whole = b"abc".as_slice();
-    let input = read_whole(rt.alloc(), &mut whole, 3)?;
-    assert!(rt; input.as_slice() == b"abc".as_slice());
+    is_text(&rt, read_whole(rt.alloc(), &mut whole, 3), b"abc");
     let mut over = b"abcd".as_slice();
-    assert!(rt; matches!(read_whole(rt.alloc(), &mut over, 3), Err(ReadFault::Read)));
-    Ok(())
+    is_fault(&rt, read_whole(rt.alloc(), &mut over, 3));
 }
 
 #[test]

@@ -6,11 +6,11 @@ use goo_body::read_command;
 use goo_outcome::outcome_text;
 use goo_types::command::Command;
 use goo_types::outcome::Outcome;
+use goo_types::piece::Piece;
 use goo_types::place::Place;
 use goo_types::request::Request;
 use std::alloc::Global;
 use std::process::Abort;
-use std::test::Fail;
 
 /// The issuing body.
 pub const ISSUER: &str = "ISSUER";
@@ -23,9 +23,9 @@ pub const VOLT: &str = "VOLT";
 pub type Line = (&'static str, &'static str, &'static str);
 
 /// The request of a caller's text.
-pub fn request_of(alloc: Global, caller: &str, body: &str) -> Result<Request, Fail> {
-    let caller = holder_of(caller)?;
-    Ok(read_command(alloc, &caller, body.as_bytes())?)
+pub fn request_of(rt: &impl Abort, alloc: Global, caller: &str, body: &str) -> Request {
+    let caller = holder_of(rt, caller);
+    read_command(alloc, &caller, body.as_bytes()).expect(rt, "a request")
 }
 
 /// The outcome has this text.
@@ -34,50 +34,48 @@ pub fn is_outcome(rt: &impl Abort, outcome: Outcome, wanted: &str) {
     assert!(rt; text.as_str() == wanted, "not {wanted}");
 }
 
+/// Runs of certificates are these: first and last serial, and place.
+pub fn runs_are(rt: &impl Abort, runs: &[Piece], wanted: &[(u64, u64, Place)]) {
+    assert!(rt; runs.len() == wanted.len());
+    for (run, (first, last, place)) in runs.iter().zip(wanted) {
+        assert!(rt;
+            run.first.serial() == *first && run.last.serial() == *last && run.place == *place
+        );
+    }
+}
+
 impl Desk {
     /// What a request comes to.
-    pub fn asks(&mut self, caller: &str, body: &str) -> Result<Outcome, Fail> {
-        let request = request_of(self.alloc(), caller, body)?;
-        Ok(self.apply(&request)?)
+    pub fn asks(&mut self, rt: &impl Abort, caller: &str, body: &str) -> Outcome {
+        let request = request_of(rt, self.alloc(), caller, body);
+        self.apply(&request).expect(rt, "an outcome")
     }
 
     /// What a command comes to that is sent under a key of its own.
-    pub fn sends(&mut self, caller: &str, command: Command) -> Result<Outcome, Fail> {
-        let key = self.next_key()?;
-        let caller = holder_of(caller)?;
+    pub fn sends(&mut self, rt: &impl Abort, caller: &str, command: Command) -> Outcome {
+        let key = self.next_key(rt);
+        let caller = holder_of(rt, caller);
         let request = Request {
             caller,
             key,
             command,
         };
-        Ok(self.apply(&request)?)
+        self.apply(&request).expect(rt, "an outcome")
     }
 
     /// Each line in order.
-    pub fn plays(&mut self, rt: &impl Abort, lines: &[Line]) -> Result<(), Fail> {
+    pub fn plays(&mut self, rt: &impl Abort, lines: &[Line]) {
         for (caller, body, wanted) in lines {
-            let outcome = self.asks(caller, body)?;
+            let outcome = self.asks(rt, caller, body);
             is_outcome(rt, outcome, wanted);
         }
-        Ok(())
     }
 
-    /// The issuing body is shown these runs of an account: first and last serial, and place.
-    pub fn shows(
-        &mut self,
-        rt: &impl Abort,
-        account: u32,
-        wanted: &[(u64, u64, Place)],
-    ) -> Result<(), Fail> {
-        let issuer = holder_of(ISSUER)?;
-        let account = account_of(account)?;
-        let runs = self.holdings(&issuer, account)?;
-        assert!(rt; runs.len() == wanted.len());
-        for (run, (first, last, place)) in runs.iter().zip(wanted) {
-            assert!(rt;
-                run.first.serial() == *first && run.last.serial() == *last && run.place == *place
-            );
-        }
-        Ok(())
+    /// The issuing body is shown these runs of an account.
+    pub fn shows(&mut self, rt: &impl Abort, account: u32, wanted: &[(u64, u64, Place)]) {
+        let issuer = holder_of(rt, ISSUER);
+        let account = account_of(rt, account);
+        let runs = self.holdings(&issuer, account).expect(rt, "runs");
+        runs_are(rt, &runs, wanted)
     }
 }

@@ -5,12 +5,12 @@
 
 ghost use Rattle.std.specs.Prelude.{ℕ};
 
-use crate::values::{code_of, day_of};
 use goo_list::list_shelf::ListShelf;
 use goo_registry::{CancellationStatement, ReadFault, Registry, RunFault};
 use goo_shelf::found::DeviceTotals;
 use goo_types::account_no::AccountNo;
 use goo_types::act_no::ActNo;
+use goo_types::day::Day;
 use goo_types::fault::Fault;
 use goo_types::holder_code::HolderCode;
 use goo_types::key::Key;
@@ -26,7 +26,7 @@ use goo_types::serial::Serial;
 use itoa::Buffer;
 use std::alloc::Global;
 use std::marker::Model;
-use std::test::Fail;
+use std::process::Abort;
 
 /// A registry over plain lists, and how many requests it was sent under a key of their own.
 #[derive(Drop)]
@@ -45,16 +45,15 @@ impl Model for Desk {
 
 impl Desk {
     /// A new registry, with a code and a date.
-    pub fn new(alloc: Global, code: u8, today: &str) -> Result<Desk, Fail> {
-        let code = code_of(code)?;
-        let serial = Serial::new(1).ok_or("no serial")?;
-        let shelf = ListShelf::new(alloc, code, serial, day_of(today)?);
-        Ok(Desk {
+    pub fn new(alloc: Global, code: RegistryCode, today: Day) -> Desk {
+        let serial = Serial::new(1).unwrap();
+        let shelf = ListShelf::new(alloc, code, serial, today);
+        Desk {
             registry: Registry::new(shelf),
             alloc,
             code,
             sent: 0,
-        })
+        }
     }
 
     /// The memory that it takes from.
@@ -74,10 +73,10 @@ impl Desk {
     }
 
     /// A key that no request had yet: the first is 1.
-    pub fn next_key(&mut self) -> Result<Key, Fail> {
-        self.sent = self.sent.checked_add(1).ok_or("too many requests")?;
+    pub fn next_key(&mut self, rt: &impl Abort) -> Key {
+        self.sent = self.sent.checked_add(1).expect(rt, "too many requests");
         let mut digits = Buffer::new();
-        Ok(Key::read(digits.format(self.sent).as_bytes())?)
+        Key::read(digits.format(self.sent).as_bytes()).expect(rt, "a key")
     }
 
     /// What a request comes to.

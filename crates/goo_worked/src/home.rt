@@ -4,12 +4,11 @@ use crate::asking::{Line, is_outcome};
 use crate::desk::Desk;
 use crate::lots::{JANUARY, lot_of};
 use crate::stages::april;
-use crate::values::number;
+use crate::values::{code_of, day_of, number};
 use crate::world::World;
 use goo_types::outcome::Outcome;
 use std::alloc::Global;
 use std::process::Abort;
-use std::test::Fail;
 
 /// What happens in a world: a request at a registry, or a notice that comes to one. Both are counted from 0.
 #[derive(Clone, Copy)]
@@ -84,59 +83,53 @@ const ROWS: [Row; 8] = [
 ];
 
 /// Registry 9.
-fn ninth(rt: &impl Abort, alloc: Global) -> Result<Desk, Fail> {
-    let mut desk = Desk::new(alloc, 9, "2025-04-05")?;
-    desk.plays(rt, &NINTH)?;
-    Ok(desk)
+fn ninth(rt: &impl Abort, alloc: Global) -> Desk {
+    let mut desk = Desk::new(alloc, code_of(rt, 9), day_of(rt, "2025-04-05"));
+    desk.plays(rt, &NINTH);
+    desk
 }
 
 /// Registry 7, and registry 9: each knows the other.
-fn seven_and_nine(rt: &impl Abort, alloc: Global) -> Result<World, Fail> {
+fn seven_and_nine(rt: &impl Abort, alloc: Global) -> World {
     let mut world = World::new(alloc);
-    world.adds(april(rt, alloc)?)?;
-    world.adds(ninth(rt, alloc)?)?;
-    Ok(world)
+    world.adds(rt, april(rt, alloc));
+    world.adds(rt, ninth(rt, alloc));
+    world
 }
 
 /// What an event comes to.
-fn happens(world: &mut World, event: &Event) -> Result<Outcome, Fail> {
+fn happens(rt: &impl Abort, world: &mut World, event: &Event) -> Outcome {
     match event {
-        Event::Asks(at, caller, body) => world.asks(*at, caller, body),
-        Event::Brings(which, to) => world.brings(*which, *to),
+        Event::Asks(at, caller, body) => world.asks(rt, *at, caller, body),
+        Event::Brings(which, to) => world.brings(rt, *which, *to),
     }
 }
 
 /// An event comes to this.
-fn comes_to(rt: &impl Abort, world: &mut World, event: &Event, wanted: &str) -> Result<(), Fail> {
-    let outcome = happens(world, event)?;
+fn comes_to(rt: &impl Abort, world: &mut World, event: &Event, wanted: &str) {
+    let outcome = happens(rt, world, event);
     is_outcome(rt, outcome, wanted);
-    Ok(())
 }
 
 /// Then certificate ..0020 is at home in this registry, or on the road with this notice.
-fn is_found(
-    rt: &impl Abort,
-    world: &mut World,
-    home: Option<u8>,
-    road: Option<(u8, u32)>,
-) -> Result<(), Fail> {
-    world.collects()?;
-    let lot = lot_of(&JANUARY)?;
-    assert!(rt; world.home(number(20), &lot)? == home && world.road(number(20), &lot)? == road);
-    Ok(())
+fn is_found(rt: &impl Abort, world: &mut World, home: Option<u8>, road: Option<(u8, u32)>) {
+    world.collects(rt);
+    let lot = lot_of(rt, &JANUARY);
+    assert!(rt;
+        world.home(rt, number(20), &lot) == home && world.road(rt, number(20), &lot) == road
+    );
 }
 
-/// Each event comes to what it has to, and the certificate is found where it has to be.
-fn goes_and_returns(rt: &impl Abort, world: &mut World) -> Result<(), Fail> {
-    for (event, wanted, home, road) in &ROWS {
-        comes_to(rt, world, event, wanted)?;
-        is_found(rt, world, *home, *road)?;
-    }
-    Ok(())
+/// An event comes to what it has to, and the certificate is found where it has to be.
+fn goes(rt: &impl Abort, world: &mut World, row: &Row) {
+    comes_to(rt, world, &row.0, row.1);
+    is_found(rt, world, row.2, row.3)
 }
 
 #[test]
-fn out_and_back_and_out_again(rt: HostRuntime) -> Result<(), Fail> {
-    let mut world = seven_and_nine(&rt, rt.alloc())?;
-    goes_and_returns(&rt, &mut world)
+fn out_and_back_and_out_again(rt: HostRuntime) {
+    let mut world = seven_and_nine(&rt, rt.alloc());
+    for row in &ROWS {
+        goes(&rt, &mut world, row);
+    }
 }

@@ -15,6 +15,8 @@ mod dice;
 #[cfg(test)]
 mod home;
 #[cfg(test)]
+mod lines;
+#[cfg(test)]
 mod lots;
 #[cfg(test)]
 mod memory;

@@ -10,7 +10,7 @@ use goo_types::source_code::SourceCode;
 use goo_types::support::Support;
 use goo_types::tech_code::TechCode;
 use goo_types::watts::Watts;
-use std::test::Fail;
+use std::process::Abort;
 
 /// What a lot is told apart by in these examples: all else is the device's. It was issued on 1 March 2025.
 #[derive(Clone, Copy)]
@@ -31,20 +31,20 @@ pub const JANUARY: Batch = Batch {
 };
 
 /// The lot of a batch.
-pub fn lot_of(batch: &Batch) -> Result<Lot, Fail> {
+pub fn lot_of(rt: &impl Abort, batch: &Batch) -> Lot {
     let fields = LotFields {
-        origin: code_of(batch.origin)?,
-        device: Gsrn::read(b"500000000000000012")?,
-        country: Country::read(b"DE")?,
-        site: Name::read(b"North field")?,
-        tech: TechCode::read(b"T010000")?,
-        source: SourceCode::read(b"F01010100")?,
-        capacity_w: Watts::new(2_000_000).ok_or("no capacity")?,
-        commissioned: day_of("2020-06-15")?,
+        origin: code_of(rt, batch.origin),
+        device: Gsrn::read(b"500000000000000012").expect(rt, "a device"),
+        country: Country::read(b"DE").expect(rt, "a country"),
+        site: Name::read(b"North field").expect(rt, "a site"),
+        tech: TechCode::read(b"T010000").expect(rt, "a technology"),
+        source: SourceCode::read(b"F01010100").expect(rt, "a source"),
+        capacity_w: Watts::new(2_000_000).expect(rt, "no capacity"),
+        commissioned: day_of(rt, "2020-06-15"),
         support: Support::None,
-        first_day: day_of(batch.first)?,
-        last_day: day_of(batch.last)?,
-        issued_on: day_of("2025-03-01")?,
+        first_day: day_of(rt, batch.first),
+        last_day: day_of(rt, batch.last),
+        issued_on: day_of(rt, "2025-03-01"),
     };
-    Ok(Lot::new(fields).ok_or("no lot")?)
+    Lot::new(fields).expect(rt, "no lot")
 }

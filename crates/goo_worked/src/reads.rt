@@ -5,16 +5,16 @@ use crate::desk::Desk;
 use crate::lots::{JANUARY, lot_of};
 use crate::places::{held, used};
 use crate::stages::april;
-use crate::values::{account_of, act, act_of, code_of, day_of, holder_of, number, serials};
+use crate::values::{account_of, act_of, day_of, holder_of, number, number_of, serials};
 use goo_registry::{CancellationStatement, ReadFault};
 use goo_shelf::found::DeviceTotals;
 use goo_types::lot::Lot;
 use goo_types::notice::Notice;
 use goo_types::number::Number;
+use goo_types::piece::Piece;
 use goo_types::place::Place;
 use std::alloc::Global;
 use std::process::Abort;
-use std::test::Fail;
 
 /// Ten certificates are used up.
 const CANCELLATION: [Line; 1] = [(
@@ -37,92 +37,89 @@ const HIDDEN: [(&str, u32, ReadFault); 3] = [
     (SUN, 2, ReadFault::NotAllowed),
 ];
 
-type Shown<T> = Result<Result<T, ReadFault>, Fail>;
+/// Who isn't shown the certificate of this serial, and why.
+const NO_PLACES: [(&str, u64, ReadFault); 5] = [
+    (VOLT, 1, ReadFault::Unknown),
+    (VOLT, 1202, ReadFault::Unknown),
+    (ISSUER, 1202, ReadFault::Unknown),
+    ("NOBODY", 1, ReadFault::NotAllowed),
+    ("NOBODY", 1202, ReadFault::NotAllowed),
+];
+
+/// Who is shown the certificates of this account, and why not.
+const HOLDINGS: [(&str, u32, Option<ReadFault>); 5] = [
+    (SUN, 1, None),
+    (ISSUER, 1, None),
+    (VOLT, 1, Some(ReadFault::NotAllowed)),
+    (VOLT, 3, Some(ReadFault::NotAllowed)),
+    (ISSUER, 3, Some(ReadFault::Unknown)),
+];
 
 /// The place of a certificate, as a caller is shown it.
-fn place(desk: &mut Desk, caller: &str, number: Number) -> Shown<(Lot, Place)> {
-    let caller = holder_of(caller)?;
-    Ok(desk.place_of(&caller, number))
+fn place(
+    rt: &impl Abort,
+    desk: &mut Desk,
+    caller: &str,
+    number: Number,
+) -> Result<(Lot, Place), ReadFault> {
+    let caller = holder_of(rt, caller);
+    desk.place_of(&caller, number)
 }
 
 /// Why a caller isn't shown the place of a certificate.
-fn no_place(desk: &mut Desk, caller: &str, number: Number) -> Result<Option<ReadFault>, Fail> {
-    Ok(place(desk, caller, number)?.err())
+fn no_place(rt: &impl Abort, desk: &mut Desk, caller: &str, number: Number) -> Option<ReadFault> {
+    place(rt, desk, caller, number).err()
 }
 
-/// The first certificate is shown to its holder, and to the issuing body.
-fn shows_a_place(rt: &impl Abort, desk: &mut Desk) -> Result<(), Fail> {
-    let (lot, place) = place(desk, SUN, number(1))??;
+#[test]
+fn a_place(rt: HostRuntime) {
+    let mut desk = april(&rt, rt.alloc());
+    let (lot, place) = place(&rt, &mut desk, SUN, number(1)).expect(&rt, "a place");
+    let january = lot_of(&rt, &JANUARY);
     assert!(rt;
-        place == held(1) && lot.is(&lot_of(&JANUARY)?) && no_place(desk, ISSUER, number(1))? == None
+        place == held(1) && lot.is(&january) && no_place(&rt, &mut desk, ISSUER, number(1)) == None
     );
-    Ok(())
 }
 
 #[test]
-fn a_place(rt: HostRuntime) -> Result<(), Fail> {
-    let mut desk = april(&rt, rt.alloc())?;
-    shows_a_place(&rt, &mut desk)
-}
-
-/// Who isn't shown which certificate, and why.
-fn hides_places(rt: &impl Abort, desk: &mut Desk) -> Result<(), Fail> {
-    for (caller, serial, wanted) in [
-        (VOLT, 1, ReadFault::Unknown),
-        (VOLT, 1202, ReadFault::Unknown),
-        (ISSUER, 1202, ReadFault::Unknown),
-        ("NOBODY", 1, ReadFault::NotAllowed),
-        ("NOBODY", 1202, ReadFault::NotAllowed),
-    ] {
-        let kept = no_place(desk, caller, number(serial))?;
-        assert!(rt; kept == Some(wanted), "{caller} {serial}");
+fn places_that_are_not_shown(rt: HostRuntime) {
+    let mut desk = april(&rt, rt.alloc());
+    for (caller, serial, wanted) in &NO_PLACES {
+        let kept = no_place(&rt, &mut desk, caller, number_of(&rt, 7, *serial));
+        assert!(rt; kept == Some(*wanted), "{caller} {serial}");
     }
-    Ok(())
-}
-
-#[test]
-fn places_that_are_not_shown(rt: HostRuntime) -> Result<(), Fail> {
-    let mut desk = april(&rt, rt.alloc())?;
-    hides_places(&rt, &mut desk)
 }
 
 /// Why a caller isn't shown the certificates of an account.
-fn no_holdings(desk: &mut Desk, caller: &str, account: u32) -> Result<Option<ReadFault>, Fail> {
-    let account = account_of(account)?;
-    let caller = holder_of(caller)?;
-    Ok(desk.holdings(&caller, account).err())
-}
-
-/// Who is shown the certificates of which account, and why not.
-fn shows_holdings(rt: &impl Abort, desk: &mut Desk) -> Result<(), Fail> {
-    for (caller, account, wanted) in [
-        (SUN, 1, None),
-        (ISSUER, 1, None),
-        (VOLT, 1, Some(ReadFault::NotAllowed)),
-        (VOLT, 3, Some(ReadFault::NotAllowed)),
-        (ISSUER, 3, Some(ReadFault::Unknown)),
-    ] {
-        let kept = no_holdings(desk, caller, account)?;
-        assert!(rt; kept == wanted, "{caller} {account}");
-    }
-    Ok(())
+fn no_holdings(rt: &impl Abort, desk: &mut Desk, caller: &str, account: u32) -> Option<ReadFault> {
+    let account = account_of(rt, account);
+    let caller = holder_of(rt, caller);
+    desk.holdings(&caller, account).err()
 }
 
 #[test]
-fn holdings(rt: HostRuntime) -> Result<(), Fail> {
-    let mut desk = april(&rt, rt.alloc())?;
-    shows_holdings(&rt, &mut desk)
+fn holdings(rt: HostRuntime) {
+    let mut desk = april(&rt, rt.alloc());
+    for (caller, account, wanted) in &HOLDINGS {
+        let kept = no_holdings(&rt, &mut desk, caller, *account);
+        assert!(rt; kept == *wanted, "{caller} {account}");
+    }
 }
 
 /// A cancellation, as a caller is shown it.
-fn cancellation(desk: &mut Desk, caller: &str, number: u32) -> Shown<CancellationStatement> {
-    let number = act_of(number)?;
-    let caller = holder_of(caller)?;
-    Ok(desk.cancellation(&caller, number))
+fn cancellation(
+    rt: &impl Abort,
+    desk: &mut Desk,
+    caller: &str,
+    number: u32,
+) -> Result<CancellationStatement, ReadFault> {
+    let number = act_of(rt, number);
+    let caller = holder_of(rt, caller);
+    desk.cancellation(&caller, number)
 }
 
-/// The statement of ten certificates that account 1 used up in April 2025.
-fn states_ten(rt: &impl Abort, statement: &CancellationStatement) -> Result<(), Fail> {
+/// Who used up ten certificates, from which account, and for whom.
+fn states_whose(rt: &impl Abort, statement: &CancellationStatement) {
     let record = &statement.record;
     assert!(rt;
         statement.holder.text() == SUN
@@ -130,121 +127,119 @@ fn states_ten(rt: &impl Abort, statement: &CancellationStatement) -> Result<(), 
             && record.range() == serials(1, 10)
             && record.beneficiary().text() == "Bäckerei Müller"
     );
+}
+
+/// For which time, and on which day.
+fn states_when(rt: &impl Abort, statement: &CancellationStatement) {
+    let use_first = day_of(rt, "2025-01-01");
+    let use_last = day_of(rt, "2025-03-31");
+    let day = day_of(rt, "2025-04-05");
+    let record = &statement.record;
     assert!(rt;
-        record.use_first() == day_of("2025-01-01")?
-            && record.use_last() == day_of("2025-03-31")?
-            && record.day() == day_of("2025-04-05")?
-            && statement.runs.len() == 1
+        record.use_first() == use_first && record.use_last() == use_last && record.day() == day
     );
-    let run = &statement.runs[0];
+}
+
+/// Which certificates they are: one run.
+fn states_which(rt: &impl Abort, runs: &[Piece]) {
+    assert!(rt; runs.len() == 1);
+    let run = &runs[0];
     assert!(rt; run.first == number(1) && run.last == number(10) && run.place == used(1, 1));
-    Ok(())
+}
+
+/// The statement of ten certificates that account 1 used up in April 2025.
+fn states_ten(rt: &impl Abort, statement: &CancellationStatement) {
+    states_whose(rt, statement);
+    states_when(rt, statement);
+    states_which(rt, &statement.runs)
 }
 
 /// The registry after that cancellation.
-fn after_a_cancellation(rt: &impl Abort, alloc: Global) -> Result<Desk, Fail> {
-    let mut desk = april(rt, alloc)?;
-    desk.plays(rt, &CANCELLATION)?;
-    Ok(desk)
-}
-
-/// It is shown to its holder, and to the issuing body.
-fn shows_a_cancellation(rt: &impl Abort, desk: &mut Desk) -> Result<(), Fail> {
-    for caller in [SUN, ISSUER] {
-        let statement = cancellation(desk, caller, 1)??;
-        states_ten(rt, &statement)?;
-    }
-    Ok(())
+fn after_a_cancellation(rt: &impl Abort, alloc: Global) -> Desk {
+    let mut desk = april(rt, alloc);
+    desk.plays(rt, &CANCELLATION);
+    desk
 }
 
 #[test]
-fn a_cancellation(rt: HostRuntime) -> Result<(), Fail> {
-    let mut desk = after_a_cancellation(&rt, rt.alloc())?;
-    shows_a_cancellation(&rt, &mut desk)
-}
-
-/// Who isn't shown a cancellation, and why.
-fn hides_cancellations(rt: &impl Abort, desk: &mut Desk) -> Result<(), Fail> {
-    for (caller, number, wanted) in HIDDEN {
-        let kept = cancellation(desk, caller, number)?.err();
-        assert!(rt; kept == Some(wanted), "{caller} {number}");
+fn a_cancellation(rt: HostRuntime) {
+    let mut desk = after_a_cancellation(&rt, rt.alloc());
+    for caller in &[SUN, ISSUER] {
+        let statement = cancellation(&rt, &mut desk, caller, 1).expect(&rt, "a cancellation");
+        states_ten(&rt, &statement);
     }
-    Ok(())
 }
 
 #[test]
-fn cancellations_that_are_not_shown(rt: HostRuntime) -> Result<(), Fail> {
-    let mut desk = after_a_cancellation(&rt, rt.alloc())?;
-    hides_cancellations(&rt, &mut desk)
+fn cancellations_that_are_not_shown(rt: HostRuntime) {
+    let mut desk = after_a_cancellation(&rt, rt.alloc());
+    for (caller, number, wanted) in &HIDDEN {
+        let kept = cancellation(&rt, &mut desk, caller, *number).err();
+        assert!(rt; kept == Some(*wanted), "{caller} {number}");
+    }
 }
 
 /// The notice of ten certificates of January for account 5 of registry 9.
-fn names_ten(rt: &impl Abort, sent: &Notice) -> Result<(), Fail> {
+fn names_ten(rt: &impl Abort, sent: &Notice) {
+    let january = lot_of(rt, &JANUARY);
     assert!(rt;
-        sent.sender() == code_of(7)?
-            && sent.addressee() == code_of(9)?
-            && sent.number() == act(1)
+        sent.sender().get() == 7
+            && sent.addressee().get() == 9
+            && sent.number().get() == 1
             && sent.account().get() == 5
             && sent.parts().len() == 1
             && sent.parts()[0].range == serials(20, 29)
+            && sent.parts()[0].lot.is(&january)
     );
-    assert!(rt; sent.parts()[0].lot.is(&lot_of(&JANUARY)?));
-    Ok(())
 }
 
 /// A notice, as a caller is shown it.
-fn notice(desk: &mut Desk, caller: &str, number: u32) -> Shown<Notice> {
-    let number = act_of(number)?;
-    let caller = holder_of(caller)?;
-    Ok(desk.notice(&caller, number))
+fn notice(
+    rt: &impl Abort,
+    desk: &mut Desk,
+    caller: &str,
+    number: u32,
+) -> Result<Notice, ReadFault> {
+    let number = act_of(rt, number);
+    let caller = holder_of(rt, caller);
+    desk.notice(&caller, number)
 }
 
 /// The registry after that export.
-fn after_an_export(rt: &impl Abort, alloc: Global) -> Result<Desk, Fail> {
-    let mut desk = april(rt, alloc)?;
-    desk.plays(rt, &EXPORT)?;
-    Ok(desk)
-}
-
-/// It is shown to its holder, and to the issuing body.
-fn shows_a_notice(rt: &impl Abort, desk: &mut Desk) -> Result<(), Fail> {
-    for caller in [SUN, ISSUER] {
-        let sent = notice(desk, caller, 1)??;
-        names_ten(rt, &sent)?;
-    }
-    Ok(())
+fn after_an_export(rt: &impl Abort, alloc: Global) -> Desk {
+    let mut desk = april(rt, alloc);
+    desk.plays(rt, &EXPORT);
+    desk
 }
 
 #[test]
-fn a_notice(rt: HostRuntime) -> Result<(), Fail> {
-    let mut desk = after_an_export(&rt, rt.alloc())?;
-    shows_a_notice(&rt, &mut desk)
-}
-
-/// Who isn't shown a notice, and why.
-fn hides_notices(rt: &impl Abort, desk: &mut Desk) -> Result<(), Fail> {
-    for (caller, number, wanted) in HIDDEN {
-        let kept = notice(desk, caller, number)?.err();
-        assert!(rt; kept == Some(wanted), "{caller} {number}");
+fn a_notice(rt: HostRuntime) {
+    let mut desk = after_an_export(&rt, rt.alloc());
+    for caller in &[SUN, ISSUER] {
+        let sent = notice(&rt, &mut desk, caller, 1).expect(&rt, "a notice");
+        names_ten(&rt, &sent);
     }
-    Ok(())
 }
 
 #[test]
-fn notices_that_are_not_shown(rt: HostRuntime) -> Result<(), Fail> {
-    let mut desk = after_an_export(&rt, rt.alloc())?;
-    hides_notices(&rt, &mut desk)
+fn notices_that_are_not_shown(rt: HostRuntime) {
+    let mut desk = after_an_export(&rt, rt.alloc());
+    for (caller, number, wanted) in &HIDDEN {
+        let kept = notice(&rt, &mut desk, caller, *number).err();
+        assert!(rt; kept == Some(*wanted), "{caller} {number}");
+    }
 }
 
 /// The audit, as a caller is shown it.
-fn audit(desk: &mut Desk, caller: &str) -> Shown<Vec<DeviceTotals>> {
-    let caller = holder_of(caller)?;
-    Ok(desk.audit(&caller))
+fn audit(rt: &impl Abort, desk: &mut Desk, caller: &str) -> Result<Vec<DeviceTotals>, ReadFault> {
+    let caller = holder_of(rt, caller);
+    desk.audit(&caller)
 }
 
-/// The issuing body is shown the energy and the certificates of the one device.
-fn shows_totals(rt: &impl Abort, desk: &mut Desk) -> Result<(), Fail> {
-    let totals = audit(desk, ISSUER)??;
+#[test]
+fn an_audit(rt: HostRuntime) {
+    let mut desk = april(&rt, rt.alloc());
+    let totals = audit(&rt, &mut desk, ISSUER).expect(&rt, "an audit");
     assert!(rt; totals.len() == 1);
     let device = &totals[0];
     assert!(rt;
@@ -253,26 +248,13 @@ fn shows_totals(rt: &impl Abort, desk: &mut Desk) -> Result<(), Fail> {
             && device.issued == 1201
             && device.carry == 0
     );
-    Ok(())
 }
 
 #[test]
-fn an_audit(rt: HostRuntime) -> Result<(), Fail> {
-    let mut desk = april(&rt, rt.alloc())?;
-    shows_totals(&rt, &mut desk)
-}
-
-/// Nobody else is.
-fn hides_totals(rt: &impl Abort, desk: &mut Desk) -> Result<(), Fail> {
-    for caller in [SUN, "NOBODY"] {
-        let kept = audit(desk, caller)?.err();
+fn audits_that_are_not_shown(rt: HostRuntime) {
+    let mut desk = april(&rt, rt.alloc());
+    for caller in &[SUN, "NOBODY"] {
+        let kept = audit(&rt, &mut desk, caller).err();
         assert!(rt; kept == Some(ReadFault::NotAllowed), "{caller}");
     }
-    Ok(())
-}
-
-#[test]
-fn audits_that_are_not_shown(rt: HostRuntime) -> Result<(), Fail> {
-    let mut desk = april(&rt, rt.alloc())?;
-    hides_totals(&rt, &mut desk)
 }

@@ -6,8 +6,10 @@ use crate::places::held;
 use crate::stages::april;
 use crate::values::day_of;
 use goo_shelf::shelf::Shelf;
+use goo_types::outcome::Outcome;
+use goo_types::request::Request;
+use std::alloc::Global;
 use std::process::Abort;
-use std::test::Fail;
 
 /// A hundred certificates are given, and the date doesn't move.
 const TWO: [Line; 2] = [
@@ -23,54 +25,66 @@ const TWO: [Line; 2] = [
     ),
 ];
 
-/// Requests in a list come to their outcomes, one after another.
-fn runs(rt: &impl Abort, desk: &mut Desk, lines: &[Line]) -> Result<(), Fail> {
-    let mut requests = Vec::new(desk.alloc());
+/// The requests of lines.
+fn requests_of(rt: &impl Abort, alloc: Global, lines: &[Line]) -> Vec<Request> {
+    let mut requests = Vec::new(alloc);
     for (caller, body, _) in lines {
-        requests.push(request_of(desk.alloc(), caller, body)?)?;
+        requests
+            .push(request_of(rt, alloc, caller, body))
+            .expect(rt, "memory");
     }
-    let Ok(outcomes) = desk.run(&requests) else {
-        return Err("the run stopped".into());
-    };
+    requests
+}
+
+/// What requests came to is what their lines say.
+fn are_outcomes(rt: &impl Abort, outcomes: &[Outcome], lines: &[Line]) {
     assert!(rt; outcomes.len() == lines.len());
     for (outcome, (_, _, wanted)) in outcomes.iter().zip(lines) {
         is_outcome(rt, *outcome, wanted);
     }
-    Ok(())
+}
+
+/// Requests in a list come to their outcomes, one after another.
+fn runs(rt: &impl Abort, desk: &mut Desk, lines: &[Line]) {
+    let requests = requests_of(rt, desk.alloc(), lines);
+    match desk.run(&requests) {
+        Ok(outcomes) => are_outcomes(rt, &outcomes, lines),
+        Err(_) => panic!(rt; "the run stopped"),
+    }
 }
 
 /// The hundred certificates are shown.
-fn shows_the_hundred(rt: &impl Abort, desk: &mut Desk) -> Result<(), Fail> {
+fn shows_the_hundred(rt: &impl Abort, desk: &mut Desk) {
     desk.shows(rt, 2, &[(100, 199, held(2))])
 }
 
 /// The hundred certificates are given, once, and a list of no requests changes nothing.
-fn runs_two_and_none(rt: &impl Abort, desk: &mut Desk) -> Result<(), Fail> {
-    runs(rt, desk, &TWO)?;
-    shows_the_hundred(rt, desk)?;
-    runs(rt, desk, &[])?;
+fn runs_two_and_none(rt: &impl Abort, desk: &mut Desk) {
+    runs(rt, desk, &TWO);
+    shows_the_hundred(rt, desk);
+    runs(rt, desk, &[]);
     shows_the_hundred(rt, desk)
 }
 
 #[test]
-fn two_requests_and_none(rt: HostRuntime) -> Result<(), Fail> {
-    let mut desk = april(&rt, rt.alloc())?;
+fn two_requests_and_none(rt: HostRuntime) {
+    let mut desk = april(&rt, rt.alloc());
     runs_two_and_none(&rt, &mut desk)
 }
 
 /// What keeps the records of registry 7 in April.
-fn is_of_april<S: Shelf>(rt: &impl Abort, shelf: &mut S) -> Result<(), Fail> {
+fn is_of_april<S: Shelf>(rt: &impl Abort, shelf: &mut S) {
+    let today = day_of(rt, "2025-04-05");
     assert!(rt;
-        shelf.code()?.get() == 7
-            && shelf.today()? == day_of("2025-04-05")?
-            && shelf.counters()?.serial() == 1202
+        matches!(shelf.code(), Ok(code) if code.get() == 7)
+            && shelf.today() == Ok(today)
+            && matches!(shelf.counters(), Ok(counters) if counters.serial() == 1202)
             && shelf.refused_calls() == 0
     );
-    Ok(())
 }
 
 #[test]
-fn what_keeps_the_records_is_handed_back(rt: HostRuntime) -> Result<(), Fail> {
-    let mut shelf = april(&rt, rt.alloc())?.into_lists();
+fn what_keeps_the_records_is_handed_back(rt: HostRuntime) {
+    let mut shelf = april(&rt, rt.alloc()).into_lists();
     is_of_april(&rt, &mut shelf)
 }

@@ -5,17 +5,15 @@ use crate::asking::SUN;
 use crate::dice::Dice;
 use crate::lots::{Batch, lot_of};
 use crate::three::{CERTIFICATES, three};
-use crate::values::{account_of, code_of, day_of, range_of};
+use crate::values::{account_of, code_of, day_of, number_of, range_of};
 use crate::world::World;
 use goo_types::command::{Cancel, Command, Export};
 use goo_types::name::Name;
-use goo_types::number::Number;
 use goo_types::outcome::Outcome;
 use goo_types::range::Range;
 use goo_types::refusal::Refusal;
 use std::alloc::Global;
 use std::process::Abort;
-use std::test::Fail;
 
 /// How many schedules are tried.
 const SCHEDULES: u64 = 1000;
@@ -42,52 +40,51 @@ fn some_code(dice: &mut Dice) -> u8 {
 }
 
 /// Some of the certificates of a registry, by chance.
-fn some_range(dice: &mut Dice) -> Result<Range, Fail> {
+fn some_range(rt: &impl Abort, dice: &mut Dice) -> Range {
     let code = some_code(dice);
     let first = 1 + dice.below(CERTIFICATES);
     let last = first.max(1 + dice.below(CERTIFICATES));
-    range_of(code, first, last)
+    range_of(rt, code, first, last)
 }
 
 /// A range used up.
-fn cancel(range: Range) -> Result<Command, Fail> {
-    Ok(Command::Cancel(Cancel {
-        account: account_of(1)?,
+fn cancel(rt: &impl Abort, range: Range) -> Command {
+    Command::Cancel(Cancel {
+        account: account_of(rt, 1),
         range,
-        beneficiary: Name::read(b"Baker")?,
-        use_first: day_of("2025-01-01")?,
-        use_last: day_of("2025-03-31")?,
-    }))
+        beneficiary: Name::read(b"Baker").expect(rt, "a name"),
+        use_first: day_of(rt, "2025-01-01"),
+        use_last: day_of(rt, "2025-03-31"),
+    })
 }
 
 /// A range for account 1 at a registry.
-fn export(peer: u8, range: Range) -> Result<Command, Fail> {
-    Ok(Command::Export(Export {
-        giver: account_of(1)?,
-        peer: code_of(peer)?,
-        account: account_of(1)?,
+fn export(rt: &impl Abort, peer: u8, range: Range) -> Command {
+    Command::Export(Export {
+        giver: account_of(rt, 1),
+        peer: code_of(rt, peer),
+        account: account_of(rt, 1),
         range,
-    }))
+    })
 }
 
 /// A range for an account at some registry, or used up, by chance.
-fn some_command(dice: &mut Dice, range: Range) -> Result<Command, Fail> {
+fn some_command(rt: &impl Abort, dice: &mut Dice, range: Range) -> Command {
     if dice.below(10) == 0 {
-        return cancel(range);
+        return cancel(rt, range);
     }
-    export(some_code(dice), range)
+    export(rt, some_code(dice), range)
 }
 
 /// Where some of a range are held, the holder sends all of it away, or uses it up: he may, whether or not all are there.
-fn asks(rt: &impl Abort, world: &mut World, dice: &mut Dice) -> Result<(), Fail> {
-    let range = some_range(dice)?;
-    let Some(at) = world.holder(range.first())? else {
-        return Ok(());
-    };
-    let command = some_command(dice, range)?;
-    let outcome = world.sends(at, SUN, command)?;
-    assert!(rt; outcome != Outcome::Refused(Refusal::NotAllowed));
-    world.collects()
+fn asks(rt: &impl Abort, world: &mut World, dice: &mut Dice) {
+    let range = some_range(rt, dice);
+    if let Some(at) = world.holder(rt, range.first()) {
+        let command = some_command(rt, dice, range);
+        let outcome = world.sends(rt, at, SUN, command);
+        assert!(rt; outcome != Outcome::Refused(Refusal::NotAllowed));
+        world.collects(rt);
+    }
 }
 
 /// A notice comes to its addressee, or astray to a registry: it is accepted, or repeated with what was answered
@@ -98,12 +95,12 @@ fn delivers(
     tally: &mut Tally,
     which: usize,
     astray: Option<usize>,
-) -> Result<(), Fail> {
+) {
     let to = match astray {
         Some(to) => to,
-        None => world.addressee(which)?,
+        None => world.addressee(rt, which),
     };
-    let outcome = world.brings(which, to)?;
+    let outcome = world.brings(rt, which, to);
     if matches!(outcome, Outcome::Accepted(_)) {
         tally.accepted = tally.accepted.wrapping_add(1);
     } else if matches!(outcome, Outcome::Repeated(_)) {
@@ -112,20 +109,13 @@ fn delivers(
         assert!(rt; outcome == Outcome::Refused(Refusal::WrongRegistry));
         tally.astray = tally.astray.wrapping_add(1);
     }
-    Ok(())
 }
 
 /// One of the notices that were sent, accepted before or not, comes to its addressee, or astray.
-fn brings(
-    rt: &impl Abort,
-    world: &mut World,
-    dice: &mut Dice,
-    tally: &mut Tally,
-    is_astray: bool,
-) -> Result<(), Fail> {
+fn brings(rt: &impl Abort, world: &mut World, dice: &mut Dice, tally: &mut Tally, is_astray: bool) {
     let count = world.letters.len();
     if count == 0 {
-        return Ok(());
+        return;
     }
     let which = dice.below(count as u64) as usize;
     let anywhere = dice.below(3) as usize;
@@ -133,12 +123,7 @@ fn brings(
 }
 
 /// One event by chance, and what it adds to the tally.
-fn happens(
-    rt: &impl Abort,
-    world: &mut World,
-    dice: &mut Dice,
-    tally: &mut Tally,
-) -> Result<(), Fail> {
+fn happens(rt: &impl Abort, world: &mut World, dice: &mut Dice, tally: &mut Tally) {
     match dice.below(10) {
         0..=4 => asks(rt, world, dice),
         5 => brings(rt, world, dice, tally, true),
@@ -161,39 +146,37 @@ fn lot_from(code: u8, serial: u64) -> Batch {
 }
 
 /// The certificates of a registry have one home each or are on one road, and have the lot that it issued.
-fn stand(rt: &impl Abort, world: &mut World, code: u8) -> Result<(), Fail> {
+fn stand(rt: &impl Abort, world: &mut World, code: u8) {
     for serial in 1..=CERTIFICATES {
-        let lot = lot_of(&lot_from(code, serial))?;
-        let number = Number::new(code, serial).ok_or("no number")?;
-        let home = world.home(number, &lot)?;
-        let road = world.road(number, &lot)?;
+        let lot = lot_of(rt, &lot_from(code, serial));
+        let number = number_of(rt, code, serial);
+        let home = world.home(rt, number, &lot);
+        let road = world.road(rt, number, &lot);
         assert!(rt; home.is_some() != road.is_some(), "{home:?} {road:?}");
     }
-    Ok(())
 }
 
 /// All certificates do.
-fn all_stand(rt: &impl Abort, world: &mut World) -> Result<(), Fail> {
-    stand(rt, world, 7)?;
-    stand(rt, world, 8)?;
+fn all_stand(rt: &impl Abort, world: &mut World) {
+    stand(rt, world, 7);
+    stand(rt, world, 8);
     stand(rt, world, 9)
 }
 
 /// One schedule, from the registries' creation.
-fn schedule(rt: &impl Abort, alloc: Global, seed: u64, tally: &mut Tally) -> Result<(), Fail> {
-    let mut world = three(rt, alloc)?;
+fn schedule(rt: &impl Abort, alloc: Global, seed: u64, tally: &mut Tally) {
+    let mut world = three(rt, alloc);
     let mut dice = Dice::new(seed);
     for _ in 0..EVENTS {
-        happens(rt, &mut world, &mut dice, tally)?;
-        all_stand(rt, &mut world)?;
+        happens(rt, &mut world, &mut dice, tally);
+        all_stand(rt, &mut world);
     }
     tally.sent = tally.sent.wrapping_add(world.letters.len() as u64);
     tally.late = tally.late.wrapping_add(world.under_way() as u64);
-    Ok(())
 }
 
 #[test]
-fn a_thousand_schedules(rt: HostRuntime) -> Result<(), Fail> {
+fn a_thousand_schedules(rt: HostRuntime) {
     let mut tally = Tally {
         sent: 0,
         accepted: 0,
@@ -202,7 +185,7 @@ fn a_thousand_schedules(rt: HostRuntime) -> Result<(), Fail> {
         late: 0,
     };
     for seed in 0..SCHEDULES {
-        schedule(&rt, rt.alloc(), seed, &mut tally)?;
+        schedule(&rt, rt.alloc(), seed, &mut tally);
     }
     assert!(rt;
         tally.sent > SCHEDULES
@@ -212,5 +195,4 @@ fn a_thousand_schedules(rt: HostRuntime) -> Result<(), Fail> {
             && tally.late > SCHEDULES / 10
             && tally.sent == tally.accepted.wrapping_add(tally.late)
     );
-    Ok(())
 }

@@ -2,9 +2,9 @@
 
 use crate::asking::Line;
 use crate::desk::Desk;
+use crate::values::{code_of, day_of};
 use std::alloc::Global;
 use std::process::Abort;
-use std::test::Fail;
 
 /// Two holders with an account each and a device of the first; the certificates of January, the carry of February, the date and the
 /// certificate of March; another registry.
@@ -62,8 +62,8 @@ const BEGINNING: [Line; 10] = [
 ];
 
 /// Registry 7 on 5 April 2025, which knows registry 9.
-pub fn april(rt: &impl Abort, alloc: Global) -> Result<Desk, Fail> {
-    let mut desk = Desk::new(alloc, 7, "2025-03-01")?;
-    desk.plays(rt, &BEGINNING)?;
-    Ok(desk)
+pub fn april(rt: &impl Abort, alloc: Global) -> Desk {
+    let mut desk = Desk::new(alloc, code_of(rt, 7), day_of(rt, "2025-03-01"));
+    desk.plays(rt, &BEGINNING);
+    desk
 }

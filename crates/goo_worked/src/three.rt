@@ -2,10 +2,10 @@
 
 use crate::asking::Line;
 use crate::desk::Desk;
+use crate::values::{code_of, day_of};
 use crate::world::World;
 use std::alloc::Global;
 use std::process::Abort;
-use std::test::Fail;
 
 /// How many certificates each issues.
 pub const CERTIFICATES: u64 = 3;
@@ -102,18 +102,18 @@ const NINE: [Line; 4] = [
 ];
 
 /// A registry of three certificates that knows two others.
-fn registry(rt: &impl Abort, alloc: Global, code: u8, own: &[Line]) -> Result<Desk, Fail> {
-    let mut desk = Desk::new(alloc, code, "2025-03-01")?;
-    desk.plays(rt, &MEMBERS)?;
-    desk.plays(rt, own)?;
-    Ok(desk)
+fn registry(rt: &impl Abort, alloc: Global, code: u8, own: &[Line]) -> Desk {
+    let mut desk = Desk::new(alloc, code_of(rt, code), day_of(rt, "2025-03-01"));
+    desk.plays(rt, &MEMBERS);
+    desk.plays(rt, own);
+    desk
 }
 
 /// Three registries, each of which knows the others.
-pub fn three(rt: &impl Abort, alloc: Global) -> Result<World, Fail> {
+pub fn three(rt: &impl Abort, alloc: Global) -> World {
     let mut world = World::new(alloc);
-    world.adds(registry(rt, alloc, 7, &SEVEN)?)?;
-    world.adds(registry(rt, alloc, 8, &EIGHT)?)?;
-    world.adds(registry(rt, alloc, 9, &NINE)?)?;
-    Ok(world)
+    world.adds(rt, registry(rt, alloc, 7, &SEVEN));
+    world.adds(rt, registry(rt, alloc, 8, &EIGHT));
+    world.adds(rt, registry(rt, alloc, 9, &NINE));
+    world
 }

@@ -9,7 +9,7 @@ use goo_types::holder_code::HolderCode;
 use goo_types::number::Number;
 use goo_types::range::Range;
 use goo_types::registry_code::RegistryCode;
-use std::test::Fail;
+use std::process::Abort;
 
 /// The certificate of this serial among those of registry 7.
 pub fn number(serial: u64) -> Number
@@ -46,33 +46,38 @@ pub fn act(number: u32) -> ActNo
 }
 
 /// The holder of a code.
-pub fn holder_of(text: &str) -> Result<HolderCode, Fail> {
-    Ok(HolderCode::read(text.as_bytes())?)
+pub fn holder_of(rt: &impl Abort, text: &str) -> HolderCode {
+    HolderCode::read(text.as_bytes()).expect(rt, "a holder")
 }
 
 /// The day of a text.
-pub fn day_of(text: &str) -> Result<Day, Fail> {
-    Ok(Day::read(text.as_bytes())?)
+pub fn day_of(rt: &impl Abort, text: &str) -> Day {
+    Day::read(text.as_bytes()).expect(rt, "a day")
 }
 
 /// The account of a number that may be none.
-pub fn account_of(number: u32) -> Result<AccountNo, Fail> {
-    Ok(AccountNo::new(number).ok_or("no account")?)
+pub fn account_of(rt: &impl Abort, number: u32) -> AccountNo {
+    AccountNo::new(number).expect(rt, "no account")
 }
 
 /// The act of a number that may be none.
-pub fn act_of(number: u32) -> Result<ActNo, Fail> {
-    Ok(ActNo::new(number).ok_or("no act")?)
+pub fn act_of(rt: &impl Abort, number: u32) -> ActNo {
+    ActNo::new(number).expect(rt, "no act")
+}
+
+/// The certificate of a registry and a serial that may be none.
+pub fn number_of(rt: &impl Abort, code: u8, serial: u64) -> Number {
+    Number::new(code, serial).expect(rt, "no number")
 }
 
 /// The certificates of a registry from one serial to another.
-pub fn range_of(code: u8, first: u64, last: u64) -> Result<Range, Fail> {
-    let first = Number::new(code, first).ok_or("no number")?;
-    let last = Number::new(code, last).ok_or("no number")?;
-    Ok(Range::new(first, last).ok_or("no range")?)
+pub fn range_of(rt: &impl Abort, code: u8, first: u64, last: u64) -> Range {
+    let first = number_of(rt, code, first);
+    let last = number_of(rt, code, last);
+    Range::new(first, last).expect(rt, "no range")
 }
 
 /// The registry of a code.
-pub fn code_of(code: u8) -> Result<RegistryCode, Fail> {
-    Ok(RegistryCode::new(code).ok_or("no code")?)
+pub fn code_of(rt: &impl Abort, code: u8) -> RegistryCode {
+    RegistryCode::new(code).expect(rt, "no code")
 }

@@ -15,8 +15,8 @@ use goo_types::number::Number;
 use goo_types::outcome::Outcome;
 use goo_types::place::Place;
 use goo_types::registry_code::RegistryCode;
-use std::alloc::{AllocError, Global};
-use std::test::Fail;
+use std::alloc::Global;
+use std::process::Abort;
 
 /// A notice that was sent, and whether its addressee accepted it.
 #[derive(Drop)]
@@ -50,48 +50,58 @@ pub struct World {
 }
 
 /// The number of the next notice of a registry that has sent these.
-fn next_notice(letters: &[Letter], sender: RegistryCode) -> Result<ActNo, Fail> {
+fn next_notice(rt: &impl Abort, letters: &[Letter], sender: RegistryCode) -> ActNo {
     let mut number = 1u32;
     for letter in letters {
         if letter.notice.sender() == sender {
             number = number.saturating_add(1);
         }
     }
-    act_of(number)
+    act_of(rt, number)
 }
 
 /// A notice that a registry sent, as it shows it to the issuing body.
-fn notice_of(desk: &mut Desk, act: ActNo) -> Result<Option<Notice>, Fail> {
-    let issuer = holder_of(ISSUER)?;
+fn notice_of(rt: &impl Abort, desk: &mut Desk, act: ActNo) -> Option<Notice> {
+    let issuer = holder_of(rt, ISSUER);
     match desk.notice(&issuer, act) {
-        Ok(notice) => Ok(Some(notice)),
-        Err(ReadFault::Unknown) => Ok(None),
-        Err(fault) => Err(fault.into()),
+        Ok(notice) => Some(notice),
+        Err(ReadFault::Unknown) => None,
+        Err(_) => panic!(rt; "a notice that isn't shown"),
     }
 }
 
 /// A notice behind those sent before: nobody has accepted it.
-fn keep(letters: &mut Vec<Letter>, notice: Notice) -> Result<(), AllocError> {
+fn keep(rt: &impl Abort, letters: &mut Vec<Letter>, notice: Notice) {
     let letter = Letter {
         notice,
         is_accepted: false,
     };
-    Ok(letters.push(letter)?)
+    letters.push(letter).expect(rt, "memory")
 }
 
 /// What a registry shows the issuing body of a certificate, if it knows it.
-fn known(desk: &mut Desk, number: Number) -> Result<Option<(Lot, Place)>, Fail> {
-    let issuer = holder_of(ISSUER)?;
+fn known(rt: &impl Abort, desk: &mut Desk, number: Number) -> Option<(Lot, Place)> {
+    let issuer = holder_of(rt, ISSUER);
     match desk.place_of(&issuer, number) {
-        Ok(shown) => Ok(Some(shown)),
-        Err(ReadFault::Unknown) => Ok(None),
-        Err(fault) => Err(fault.into()),
+        Ok(shown) => Some(shown),
+        Err(ReadFault::Unknown) => None,
+        Err(_) => panic!(rt; "a place that isn't shown"),
     }
 }
 
 /// Whether a place is in a registry, and not away from it.
 fn is_home(place: Place) -> bool {
     !matches!(place, Place::Exported(_, _))
+}
+
+/// What a registry answers to a notice. Its addressee may accept it.
+fn arrives(rt: &impl Abort, desk: &mut Desk, letter: &mut Letter) -> Outcome {
+    let notice = letter.notice.copy(desk.alloc()).expect(rt, "memory");
+    let outcome = desk.sends(rt, ISSUER, Command::Import(Import { notice }));
+    if matches!(outcome, Outcome::Accepted(_)) && desk.code().get() == letter.addressee() {
+        letter.is_accepted = true;
+    }
+    outcome
 }
 
 impl World {
@@ -104,83 +114,80 @@ impl World {
     }
 
     /// One more registry, which has sent nothing.
-    pub fn adds(&mut self, desk: Desk) -> Result<(), AllocError> {
-        Ok(self.desks.push(desk)?)
+    pub fn adds(&mut self, rt: &impl Abort, desk: Desk) {
+        self.desks.push(desk).expect(rt, "memory")
     }
 
     /// What a registry answers to a request. A notice that it sends is on the road once it is collected.
-    pub fn asks(&mut self, at: usize, caller: &str, body: &str) -> Result<Outcome, Fail> {
-        let Some(desk) = self.desks.get_mut(at) else {
-            return Err(Fail::new("no such registry"));
-        };
-        desk.asks(caller, body)
+    pub fn asks(&mut self, rt: &impl Abort, at: usize, caller: &str, body: &str) -> Outcome {
+        match self.desks.get_mut(at) {
+            Some(desk) => desk.asks(rt, caller, body),
+            None => panic!(rt; "no such registry"),
+        }
     }
 
     /// What a registry answers to a command under a key of its own.
-    pub fn sends(&mut self, at: usize, caller: &str, command: Command) -> Result<Outcome, Fail> {
-        let Some(desk) = self.desks.get_mut(at) else {
-            return Err(Fail::new("no such registry"));
-        };
-        desk.sends(caller, command)
+    pub fn sends(&mut self, rt: &impl Abort, at: usize, caller: &str, command: Command) -> Outcome {
+        match self.desks.get_mut(at) {
+            Some(desk) => desk.sends(rt, caller, command),
+            None => panic!(rt; "no such registry"),
+        }
     }
 
     /// Collects the next notice of each registry, where it has sent one.
-    pub fn collects(&mut self) -> Result<(), Fail> {
+    pub fn collects(&mut self, rt: &impl Abort) {
         for desk in &mut self.desks {
-            let number = next_notice(&self.letters, desk.code())?;
-            if let Some(notice) = notice_of(desk, number)? {
-                keep(&mut self.letters, notice)?;
+            let number = next_notice(rt, &self.letters, desk.code());
+            if let Some(notice) = notice_of(rt, desk, number) {
+                keep(rt, &mut self.letters, notice);
             }
         }
-        Ok(())
     }
 
     /// What a registry answers to a notice that was sent.
-    pub fn brings(&mut self, which: usize, to: usize) -> Result<Outcome, Fail> {
+    pub fn brings(&mut self, rt: &impl Abort, which: usize, to: usize) -> Outcome {
         let Some(letter) = self.letters.get_mut(which) else {
-            return Err(Fail::new("no such notice"));
+            panic!(rt; "no such notice");
         };
         let Some(desk) = self.desks.get_mut(to) else {
-            return Err(Fail::new("no such registry"));
+            panic!(rt; "no such registry");
         };
-        let notice = letter.notice.copy(desk.alloc())?;
-        let outcome = desk.sends(ISSUER, Command::Import(Import { notice }))?;
-        if matches!(outcome, Outcome::Accepted(_)) && desk.code().get() == letter.addressee() {
-            letter.is_accepted = true;
-        }
-        Ok(outcome)
+        arrives(rt, desk, letter)
     }
 
     /// Whether a registry has a certificate in an account.
-    fn is_held_at(&mut self, at: usize, number: Number) -> Result<bool, Fail> {
+    fn is_held_at(&mut self, rt: &impl Abort, at: usize, number: Number) -> bool {
         let Some(desk) = self.desks.get_mut(at) else {
-            return Err(Fail::new("no such registry"));
+            panic!(rt; "no such registry");
         };
-        match known(desk, number)? {
-            Some((_, place)) => Ok(matches!(place, Place::Held(_))),
-            None => Ok(false),
+        match known(rt, desk, number) {
+            Some((_, place)) => matches!(place, Place::Held(_)),
+            None => false,
         }
     }
 
     /// Where the registry stands that has a certificate in an account, if one has.
-    pub fn holder(&mut self, number: Number) -> Result<Option<usize>, Fail> {
+    pub fn holder(&mut self, rt: &impl Abort, number: Number) -> Option<usize> {
         for at in 0..self.desks.len() {
-            if self.is_held_at(at, number)? {
-                return Ok(Some(at));
+            if self.is_held_at(rt, at, number) {
+                return Some(at);
             }
         }
-        Ok(None)
+        None
     }
 
     /// Where the addressee of a notice stands.
-    pub fn addressee(&self, which: usize) -> Result<usize, Fail> {
-        let code = self.letters.get(which).ok_or("no such notice")?.addressee();
+    pub fn addressee(&self, rt: &impl Abort, which: usize) -> usize {
+        let Some(letter) = self.letters.get(which) else {
+            panic!(rt; "no such notice");
+        };
+        let code = letter.addressee();
         for (at, desk) in self.desks.iter().enumerate() {
             if desk.code().get() == code {
-                return Ok(at);
+                return at;
             }
         }
-        Err(Fail::new("no such registry"))
+        panic!(rt; "no such registry")
     }
 
     /// How many notices are under way.
@@ -196,43 +203,35 @@ impl World {
 
     /// The code of the registry that a certificate is at home in, if any. None has two homes, and each registry
     /// that knows it knows it with this lot.
-    pub fn home(&mut self, number: Number, lot: &Lot) -> Result<Option<u8>, Fail> {
+    pub fn home(&mut self, rt: &impl Abort, number: Number, lot: &Lot) -> Option<u8> {
         let mut home = None;
         for desk in &mut self.desks {
-            let Some((other, place)) = known(desk, number)? else {
+            let Some((other, place)) = known(rt, desk, number) else {
                 continue;
             };
-            if !other.is(lot) {
-                return Err(Fail::new("another lot in a registry"));
-            }
+            assert!(rt; other.is(lot), "another lot in a registry");
             if is_home(place) {
-                if home.is_some() {
-                    return Err(Fail::new("two homes"));
-                }
+                assert!(rt; home.is_none(), "two homes");
                 home = Some(desk.code().get());
             }
         }
-        Ok(home)
+        home
     }
 
     /// The sender and the number of the notice that a certificate is on the road with, if any. None is on two, and
     /// each notice that names it states this lot.
-    pub fn road(&self, number: Number, lot: &Lot) -> Result<Option<(u8, u32)>, Fail> {
+    pub fn road(&self, rt: &impl Abort, number: Number, lot: &Lot) -> Option<(u8, u32)> {
         let mut road = None;
         for letter in &self.letters {
             let Some(other) = letter.lot_of(number) else {
                 continue;
             };
-            if !other.is(lot) {
-                return Err(Fail::new("another lot on a notice"));
-            }
+            assert!(rt; other.is(lot), "another lot on a notice");
             if !letter.is_accepted {
-                if road.is_some() {
-                    return Err(Fail::new("two roads"));
-                }
+                assert!(rt; road.is_none(), "two roads");
                 road = Some((letter.notice.sender().get(), letter.notice.number().get()));
             }
         }
-        Ok(road)
+        road
     }
 }

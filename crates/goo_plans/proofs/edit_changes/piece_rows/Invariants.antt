@@ -1,7 +1,7 @@
 use Rattle.std.proofs.Common.{List, All, take}
 use Rattle.std.specs.List.{AllZip}
 use Rattle.goo_columns.specs.Rows.{Lot}
-use Rattle.goo_tables.specs.Changes.{PieceFits}
+use Rattle.goo_held.specs.Changes.{PieceFits}
 use Rattle.goo_plans.specs.EditChanges.{IsRowOf}
 use Rattle.goo_plans.specs.LotNumbers.{AreNumbered}
 use Rattle.goo_plans.proofs.edit_changes.piece_rows.Given as goal

@@ -5,7 +5,7 @@ use Rattle.std.proofs.lemmas.List.Elements.{All-filter}
 use Rattle.goo_columns.specs.Once.{IsOnce}
 use Rattle.goo_columns.specs.Refused.{CanBeKept}
 use Rattle.goo_columns.specs.Rows.{device_row}
-use Rattle.goo_tables.specs.Changes.{progressed, with_progress}
+use Rattle.goo_held.specs.Changes.{progressed, with_progress}
 use Rattle.goo_plans.proofs.new_declarations.progress_change.Goals as goal
 
 pub returns-clause-sets : goal.returns-clause-sets

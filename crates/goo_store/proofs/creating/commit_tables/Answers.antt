@@ -3,7 +3,7 @@ use Rattle.sqlite.specs.State.{HasCleanDisk, KeepsCommit, Survives}
 use Rattle.sqlite.specs.Held.{state}
 use Rattle.goo_columns.specs.Stands.{Sees, Settled, Holds}
 use Rattle.goo_columns.specs.Rows.{meta_in}
-use Rattle.goo_tables.specs.Changes.{begun}
+use Rattle.goo_held.specs.Changes.{begun}
 use Rattle.goo_columns.specs.Columns.{no_schema}
 use Rattle.std.proofs.Common.{refl}
 use Rattle.goo_columns.proofs.Results.{whenever}

@@ -5,12 +5,12 @@ use Rattle.std.specs.Cmp.{nat_cmp_total}
 use Rattle.goo_kept.specs.States.{account_of}
 use Rattle.goo_kept.proofs.Known.{known_row, number_test}
 use Rattle.goo_kept.specs.States.{state_of}
-use Rattle.goo_store.proofs.Looking.{looked, refused_look, well, known}
-use Rattle.goo_store.proofs.Blaming.{blames, refused_blames}
+use Rattle.goo_lookups.proofs.Looking.{looked, refused_look, well, known}
+use Rattle.goo_lookups.proofs.Blaming.{blames, refused_blames}
 use Rattle.goo_plans.proofs.RowsRead.{found_row, each_so}
 use Rattle.goo_kept.specs.Readable.{is_account}
 use Rattle.goo_columns.specs.Rows.{account_in}
-use Rattle.goo_store.specs.Moments.{tables_in}
+use Rattle.goo_lookups.specs.Moments.{tables_in}
 use Rattle.goo_store.proofs.sql_shelf.SqlShelf.known_account.Goals as goal
 
 pub returns-then-self-clause-looks : goal.returns-then-self-clause-looks

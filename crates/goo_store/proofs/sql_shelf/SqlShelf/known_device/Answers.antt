@@ -5,12 +5,12 @@ use Rattle.sqlite_typed.specs.Tests.{bytes_eq}
 use Rattle.goo_kept.specs.Devices.{device_of}
 use Rattle.goo_kept.proofs.Known.{known_kept, text_test}
 use Rattle.goo_kept.specs.States.{state_of}
-use Rattle.goo_store.proofs.Looking.{looked, refused_look, well, known}
-use Rattle.goo_store.proofs.Blaming.{blames, refused_blames}
+use Rattle.goo_lookups.proofs.Looking.{looked, refused_look, well, known}
+use Rattle.goo_lookups.proofs.Blaming.{blames, refused_blames}
 use Rattle.goo_plans.proofs.RowsRead.{found_part, each_so}
 use Rattle.goo_kept.specs.Readable.{is_device}
 use Rattle.goo_columns.specs.Rows.{device_in}
-use Rattle.goo_store.specs.Moments.{tables_in}
+use Rattle.goo_lookups.specs.Moments.{tables_in}
 use Rattle.goo_store.proofs.sql_shelf.SqlShelf.known_device.Goals as goal
 
 pub returns-then-self-clause-looks : goal.returns-then-self-clause-looks

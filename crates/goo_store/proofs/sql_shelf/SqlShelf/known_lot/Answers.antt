@@ -8,13 +8,13 @@ use Rattle.goo_spec.specs.Lots.{key_of, lot_key}
 use Rattle.goo_kept.specs.Places.{lot_of}
 use Rattle.goo_kept.proofs.Known.{known_row, lot_test}
 use Rattle.goo_kept.specs.States.{state_of}
-use Rattle.goo_store.proofs.Looking.{looked, refused_look, well}
+use Rattle.goo_lookups.proofs.Looking.{looked, refused_look, well}
 use Rattle.goo_store.proofs.Found.{lot_known}
-use Rattle.goo_store.proofs.Blaming.{blames, refused_blames}
+use Rattle.goo_lookups.proofs.Blaming.{blames, refused_blames}
 use Rattle.goo_plans.proofs.RowsRead.{found_row, lots_kept}
 use Rattle.goo_columns.specs.Rows.{lot_in}
 use Rattle.goo_plans.specs.Reading.{IsReadableLot}
-use Rattle.goo_store.specs.Moments.{tables_in}
+use Rattle.goo_lookups.specs.Moments.{tables_in}
 use Rattle.goo_store.proofs.sql_shelf.SqlShelf.known_lot.Goals as goal
 
 pub returns-then-self-clause-looks : goal.returns-then-self-clause-looks

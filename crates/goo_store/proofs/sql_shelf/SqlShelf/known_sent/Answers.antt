@@ -5,13 +5,13 @@ use Rattle.std.specs.Ordering.{int_eq}
 use Rattle.goo_kept.specs.Records.{sent_of}
 use Rattle.goo_kept.proofs.Known.{known_row, number_test}
 use Rattle.goo_kept.specs.States.{state_of}
-use Rattle.goo_store.proofs.Looking.{looked, refused_look, well, known}
-use Rattle.goo_store.proofs.Blaming.{blames, refused_blames}
+use Rattle.goo_lookups.proofs.Looking.{looked, refused_look, well, known}
+use Rattle.goo_lookups.proofs.Blaming.{blames, refused_blames}
 use Rattle.goo_plans.proofs.RowsRead.{found_row, each_so}
 use Rattle.goo_kept.specs.Readable.{is_notice_out}
 use Rattle.goo_columns.specs.Rows.{notice_out_in}
 use Rattle.goo_store.specs.Reading.{IsReadableSent}
-use Rattle.goo_store.specs.Moments.{tables_in}
+use Rattle.goo_lookups.specs.Moments.{tables_in}
 use Rattle.goo_store.proofs.sql_shelf.SqlShelf.known_sent.Goals as goal
 
 pub returns-then-self-clause-looks : goal.returns-then-self-clause-looks

@@ -5,8 +5,8 @@ use Rattle.goo_kept.proofs.Known.{known_kept, number_test}
 use Rattle.sqlite_keyed.proofs.SliceLemmas.{is_some-map}
 use Rattle.std.specs.Ordering.{int_eq}
 use Rattle.goo_kept.specs.States.{state_of}
-use Rattle.goo_store.proofs.Looking.{looked, refused_look, well, known}
-use Rattle.goo_store.proofs.Blaming.{blames, refused_blames}
+use Rattle.goo_lookups.proofs.Looking.{looked, refused_look, well, known}
+use Rattle.goo_lookups.proofs.Blaming.{blames, refused_blames}
 use Rattle.goo_store.proofs.sql_shelf.SqlShelf.knows_peer.Goals as goal
 
 pub returns-then-self-clause-looks : goal.returns-then-self-clause-looks

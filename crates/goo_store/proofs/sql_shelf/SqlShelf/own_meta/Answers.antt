@@ -1,8 +1,8 @@
 use Rattle.sqlite.specs.Held.{state as view}
-use Rattle.goo_store.specs.Moments.{tables_in}
-use Rattle.goo_store.proofs.Looking.{looked, refused_look, well}
+use Rattle.goo_lookups.specs.Moments.{tables_in}
+use Rattle.goo_lookups.proofs.Looking.{looked, refused_look, well}
 use Rattle.goo_store.proofs.Found.{own_known}
-use Rattle.goo_store.proofs.Blaming.{blames, refused_blames}
+use Rattle.goo_lookups.proofs.Blaming.{blames, refused_blames}
 use Rattle.goo_store.proofs.RowsRead.{meta_found}
 use Rattle.goo_plans.proofs.RowsRead.{meta_read}
 use Rattle.goo_store.proofs.sql_shelf.SqlShelf.own_meta.Goals as goal

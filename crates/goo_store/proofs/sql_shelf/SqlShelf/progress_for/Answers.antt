@@ -2,12 +2,12 @@ use Rattle.std.proofs.Common.{◌∙◌, ap, pos, IsTrue}
 use Rattle.sqlite.specs.Held.{state as view}
 use Rattle.goo_kept.specs.Devices.{progress_in}
 use Rattle.goo_kept.specs.States.{state_of}
-use Rattle.goo_store.proofs.Looking.{looked, refused_look, well, known}
-use Rattle.goo_store.proofs.Blaming.{blames, refused_blames}
+use Rattle.goo_lookups.proofs.Looking.{looked, refused_look, well, known}
+use Rattle.goo_lookups.proofs.Blaming.{blames, refused_blames}
 use Rattle.goo_plans.proofs.RowsRead.{found_part, each_so}
 use Rattle.goo_kept.specs.Readable.{is_device}
 use Rattle.goo_columns.specs.Rows.{device_in}
-use Rattle.goo_store.specs.Moments.{tables_in}
+use Rattle.goo_lookups.specs.Moments.{tables_in}
 use Rattle.goo_store.proofs.sql_shelf.SqlShelf.progress_for.Goals as goal
 
 pub returns-then-self-clause-looks : goal.returns-then-self-clause-looks

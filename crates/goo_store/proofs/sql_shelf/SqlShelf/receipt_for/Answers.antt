@@ -7,11 +7,11 @@ use Rattle.goo_columns.specs.Rows.{receipt_in}
 use Rattle.goo_kept.specs.Replies.{receipt_of}
 use Rattle.goo_kept.proofs.Known.{known_kept, receipt_test, receipt_total}
 use Rattle.goo_kept.specs.States.{state_of}
-use Rattle.goo_store.proofs.Looking.{looked, refused_look, well, known}
-use Rattle.goo_store.proofs.Blaming.{blames, refused_blames}
+use Rattle.goo_lookups.proofs.Looking.{looked, refused_look, well, known}
+use Rattle.goo_lookups.proofs.Blaming.{blames, refused_blames}
 use Rattle.goo_plans.proofs.RowsRead.{found_part, each_so}
 use Rattle.goo_kept.specs.Readable.{is_receipt}
-use Rattle.goo_store.specs.Moments.{tables_in}
+use Rattle.goo_lookups.specs.Moments.{tables_in}
 use Rattle.goo_store.proofs.sql_shelf.SqlShelf.receipt_for.Goals as goal
 
 pub returns-then-self-clause-looks : goal.returns-then-self-clause-looks

@@ -10,13 +10,13 @@ use Rattle.goo_columns.specs.Rows as row
 use Rattle.goo_kept.specs.Devices.{device_of, progress_in, record_in}
 use Rattle.goo_kept.proofs.Known.{known_kept, text_test}
 use Rattle.goo_kept.specs.States.{state_of}
-use Rattle.goo_store.proofs.Looking.{looked, refused_look, well}
+use Rattle.goo_lookups.proofs.Looking.{looked, refused_look, well}
 use Rattle.goo_store.proofs.Found.{device_known}
-use Rattle.goo_store.proofs.Blaming.{blames, refused_blames}
+use Rattle.goo_lookups.proofs.Blaming.{blames, refused_blames}
 use Rattle.goo_plans.proofs.RowsRead.{found_part, each_so}
 use Rattle.goo_kept.specs.Readable.{is_device}
 use Rattle.goo_columns.specs.Rows.{device_in}
-use Rattle.goo_store.specs.Moments.{tables_in}
+use Rattle.goo_lookups.specs.Moments.{tables_in}
 use Rattle.goo_store.proofs.sql_shelf.SqlShelf.record_for.Goals as goal
 
 -- a row tells of the device that the state has, and of its progress

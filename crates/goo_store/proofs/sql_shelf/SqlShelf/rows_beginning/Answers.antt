@@ -2,12 +2,12 @@ use Rattle.std.proofs.Common.{refl}
 use Rattle.sqlite.specs.Held.{state as view}
 use Rattle.std.proofs.Common.{nat_le, ◌&&◌}
 use Rattle.goo_columns.specs.Beside.{pieces_beside}
-use Rattle.goo_store.specs.Moments.{tables_in}
+use Rattle.goo_lookups.specs.Moments.{tables_in}
 use Rattle.goo_kept.specs.Places.{rows_of}
 use Rattle.goo_kept.proofs.RowsFound.{filtered}
-use Rattle.goo_store.proofs.Looking.{looked, refused_look, well}
+use Rattle.goo_lookups.proofs.Looking.{looked, refused_look, well}
 use Rattle.goo_store.proofs.Found.{lots_known, some_beside}
-use Rattle.goo_store.proofs.Blaming.{blames, refused_blames}
+use Rattle.goo_lookups.proofs.Blaming.{blames, refused_blames}
 use Rattle.goo_store.proofs.RowsRead.{pieces_found, pieces_read}
 use Rattle.goo_store.proofs.sql_shelf.SqlShelf.rows_beginning.Goals as goal
 

@@ -5,12 +5,12 @@ use Rattle.std.specs.List.{filter}
 use Rattle.std.specs.Ordering.{int_eq}
 use Rattle.sqlite_typed.specs.Tests.{bytes_lt, both_and}
 use Rattle.goo_columns.specs.Beside.{pieces_beside}
-use Rattle.goo_store.specs.Moments.{tables_in}
+use Rattle.goo_lookups.specs.Moments.{tables_in}
 use Rattle.goo_kept.specs.Places.{rows_of}
 use Rattle.goo_kept.proofs.Expiring.{expiring_found}
-use Rattle.goo_store.proofs.Looking.{looked, refused_look, well}
+use Rattle.goo_lookups.proofs.Looking.{looked, refused_look, well}
 use Rattle.goo_store.proofs.Found.{lots_known, some_beside}
-use Rattle.goo_store.proofs.Blaming.{blames, refused_blames}
+use Rattle.goo_lookups.proofs.Blaming.{blames, refused_blames}
 use Rattle.goo_store.proofs.RowsRead.{pieces_found, pieces_read}
 use Rattle.goo_store.proofs.sql_shelf.SqlShelf.rows_expiring.Goals as goal
 

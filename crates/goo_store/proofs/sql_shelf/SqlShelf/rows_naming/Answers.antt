@@ -4,13 +4,13 @@ use Rattle.std.proofs.Common.{◌==◌}
 use Rattle.std.specs.Ordering.{int_eq}
 use Rattle.goo_types.specs.Place.{account_of}
 use Rattle.goo_columns.specs.Beside.{pieces_beside}
-use Rattle.goo_store.specs.Moments.{tables_in}
+use Rattle.goo_lookups.specs.Moments.{tables_in}
 use Rattle.goo_kept.specs.Places.{rows_of}
 use Rattle.goo_kept.proofs.Known.{number_is}
 use Rattle.goo_kept.proofs.RowsFound.{filtered, place_account}
-use Rattle.goo_store.proofs.Looking.{looked, refused_look, well}
+use Rattle.goo_lookups.proofs.Looking.{looked, refused_look, well}
 use Rattle.goo_store.proofs.Found.{lots_known, some_beside}
-use Rattle.goo_store.proofs.Blaming.{blames, refused_blames}
+use Rattle.goo_lookups.proofs.Blaming.{blames, refused_blames}
 use Rattle.goo_store.proofs.RowsRead.{pieces_found, pieces_read}
 use Rattle.goo_store.proofs.sql_shelf.SqlShelf.rows_naming.Goals as goal
 

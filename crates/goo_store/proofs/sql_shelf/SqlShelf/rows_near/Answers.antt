@@ -2,10 +2,10 @@ use Rattle.std.proofs.Common.{◌≡◌, ◌+◌, ◌&&◌, ◌∙◌, nat_le, a
 use Rattle.std.specs.List.{filter}
 use Rattle.sqlite.specs.Held.{state as view}
 use Rattle.goo_columns.proofs.Results.{if_ok}
-use Rattle.goo_store.specs.Moments.{tables_in}
+use Rattle.goo_lookups.specs.Moments.{tables_in}
 use Rattle.goo_kept.specs.Places.{rows_of}
-use Rattle.goo_store.proofs.Looking.{failed_then, looked_both}
-use Rattle.goo_store.proofs.Blaming.{blamed_then, blamed_both, blamed_err}
+use Rattle.goo_lookups.proofs.Looking.{failed_then, looked_both}
+use Rattle.goo_lookups.proofs.Blaming.{blamed_then, blamed_both, blamed_err}
 use Rattle.goo_store.proofs.RowsRead.{near_rises}
 use Rattle.goo_store.proofs.Merging.{near_found}
 use Rattle.goo_store.proofs.sql_shelf.SqlShelf.rows_near.Goals as goal

@@ -1,0 +1,5 @@
+pub mod Moments
+pub mod Holding
+pub mod StoreFaults
+pub mod Telling
+pub mod Opening
