@@ -5,7 +5,7 @@ use goo_running::ending::Ending;
 use goo_running::running::run_in_memory;
 use std::alloc::Global;
 use std::io::{self, ErrorKind, Read, Write};
-use std::test::Fail;
+use std::process::Abort;
 
 /// Two holders with an account each, and a device of the first.
 const BASE: &str =
@@ -46,33 +46,38 @@ impl Write for Broken {
 }
 
 /// The exit status of a run of a new registry from this reader to this writer.
-fn status_of<R: Read, W: Write>(alloc: Global, reader: &mut R, writer: &mut W) -> Result<u8, Fail> {
-    match march() {
-        Some(opening) => Ok(run_in_memory(alloc, opening, reader, writer).status()),
-        None => Err(Fail::new("no opening")),
-    }
+fn status_of<R: Read, W: Write>(
+    rt: &impl Abort,
+    alloc: Global,
+    reader: &mut R,
+    writer: &mut W,
+) -> u8 {
+    let opening = march().expect(rt, "an opening");
+    run_in_memory(alloc, opening, reader, writer).status()
 }
 
-/// The exit status of a run of an input whose outcomes are all written.
-fn status_of_input(alloc: Global, input: &str) -> Result<u8, Fail> {
+/// A run of an input whose outcomes are all written ends with this status.
+fn ends_with(rt: &impl Abort, alloc: Global, input: &str, wanted: u8) {
     let mut output = Vec::new(alloc);
-    status_of(alloc, &mut input.as_bytes(), &mut output)
+    let status = status_of(rt, alloc, &mut input.as_bytes(), &mut output);
+    assert!(rt; status == wanted, "after {input}");
+}
+
+/// A run of an input whose outcomes can't be written, or whose end can't, is a failure.
+fn fails_unwritten(rt: &impl Abort, alloc: Global, mut input: &[u8]) {
+    assert!(rt; status_of(rt, alloc, &mut input, &mut Broken) == 3);
 }
 
 #[test]
-fn each_exit_status_of_a_run(rt: HostRuntime) -> Result<(), Fail> {
+fn each_exit_status_of_a_run(rt: HostRuntime) {
+    let alloc = rt.alloc();
     for (input, wanted) in [("", 0), (BASE, 0), ("SUN\n", 1), ("SUN {}", 1)] {
-        let status = status_of_input(rt.alloc(), input)?;
-        assert!(rt; status == wanted, "after {input}");
+        ends_with(&rt, alloc, input, wanted);
     }
-    let unwritten = status_of(rt.alloc(), &mut BASE.as_bytes(), &mut Broken)?;
-    assert!(rt; unwritten == 3);
-    let unflushed = status_of(rt.alloc(), &mut b"".as_slice(), &mut Broken)?;
-    assert!(rt; unflushed == 3);
-    let mut output = Vec::new(rt.alloc());
-    let unread = status_of(rt.alloc(), &mut Broken, &mut output)?;
-    assert!(rt; unread == 3);
-    Ok(())
+    fails_unwritten(&rt, alloc, BASE.as_bytes());
+    fails_unwritten(&rt, alloc, b"");
+    let mut output = Vec::new(alloc);
+    assert!(rt; status_of(&rt, alloc, &mut Broken, &mut output) == 3);
 }
 
 /// Command lines that are no task.
@@ -95,19 +100,21 @@ const LINES: [&str; 15] = [
 ];
 
 /// The exit status that a command line ends with, where it is no task.
-fn status_of_words(alloc: Global, line: &str) -> Result<u8, Fail> {
-    let words = line.split(' ').collect::<Vec<&str>>(alloc)?;
+fn status_of_words(rt: &impl Abort, alloc: Global, line: &str) -> u8 {
+    let words = line
+        .split(' ')
+        .collect::<Vec<&str>>(alloc)
+        .expect(rt, "memory");
     match read_task(alloc, words.as_slice()) {
-        Ok(_) => Err("a task".into()),
-        Err(fault) => Ok(Ending::from(fault).status()),
+        Ok(_) => panic!(rt; "a task"),
+        Err(fault) => Ending::from(fault).status(),
     }
 }
 
 #[test]
-fn a_command_line_that_asks_for_nothing(rt: HostRuntime) -> Result<(), Fail> {
+fn a_command_line_that_asks_for_nothing(rt: HostRuntime) {
     for line in LINES {
-        let status = status_of_words(rt.alloc(), line)?;
+        let status = status_of_words(&rt, rt.alloc(), line);
         assert!(rt; status == 2, "of {line}");
     }
-    Ok(())
 }
