@@ -92,16 +92,16 @@ def matching(counter, pattern):
 
 
 def asked(found):
-    """How often each function of goo_tables was called, in words."""
+    """How often each function of goo_tables and goo_held was called, in words."""
     counts = collections.Counter()
     for name, count in found.calls.items():
-        if match := re.match(r'goo_tables::\w+::(\w+)', name):
+        if match := re.match(r'goo_(?:tables|held)::\w+::(\w+)', name):
             counts[match[1]] += count
     return ', '.join(name if count == 10 else f'{name} {count / 10:.3g}' for name, count in counts.most_common() if count)
 
 
 def statements(program, place):
-    print('| Request | Statements | Compiled anew | Instructions | By function of goo_tables |\n|---|---|---|---|---|')
+    print('| Request | Statements | Compiled anew | Instructions | By statement |\n|---|---|---|---|---|')
     for kind in kinds.KINDS:
         wanted = {'repeat': 'repeated', 'refuse': 'refused'}.get(kind, 'accepted')
         if outcomes(program, place, kinds.lines(kind, 12))[wanted] - outcomes(program, place, kinds.lines(kind, 2))[wanted] != 10:
