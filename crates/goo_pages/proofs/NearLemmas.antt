@@ -8,9 +8,9 @@ use Rattle.std.proofs.lemmas.List.{get_or-drop, append-nil, at_drop_more}
 use Rattle.goo_types.specs.Range.{Numbers}
 use Rattle.goo_types.specs.declared.piece.Piece.{Piece}
 use Rattle.goo_types.specs.Piece.{IsRising, IsRisingFrom}
-use Rattle.goo_ranges.specs.Walk.{end_of}
+use Rattle.goo_pieces.specs.Walk.{end_of}
 use Rattle.goo_ranges.proofs.JoinedPages.{joined-next, joined-split}
-use Rattle.goo_ranges.proofs.Rising.{rising-weaken, rising-front, rising-back}
+use Rattle.goo_pieces.proofs.Rising.{rising-weaken, rising-front, rising-back}
 use Rattle.goo_pages.specs.Paging.{joined, AreFit, BeginAfter, Below}
 use Rattle.goo_pages.proofs.CutLemmas.{fit-at}
 use Rattle.goo_pages.proofs.OrderLemmas.{below-behind}

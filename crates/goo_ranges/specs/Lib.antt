@@ -2,8 +2,5 @@ pub mod Accounts
 pub mod BookFault
 pub mod Change
 pub mod Edit
-pub mod Joining
 pub mod Kept
 pub mod Paging
-pub mod Touching
-pub mod Walk

@@ -2,12 +2,11 @@
 #![tactic(auto)]
 
 mod books;
+mod cutting;
 mod edits;
 mod faults;
-mod joined;
 mod page;
 mod pages;
-mod parts;
 
 pub use books::Book;
 pub use edits::Edit;

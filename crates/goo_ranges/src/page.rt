@@ -9,12 +9,13 @@ ghost use Rattle.goo_ranges.specs.BookFault.{IsLeastFault};
 ghost use Rattle.goo_types.specs.Number.{code_of};
 ghost use Rattle.goo_spec.specs.Maps.{least_absent, least_failing};
 ghost use Rattle.goo_ranges.specs.Paging.{begin_of};
-ghost use Rattle.goo_ranges.specs.Walk.{end_of, span, IsRest};
+ghost use Rattle.goo_pieces.specs.Walk.{end_of, span, IsRest};
 ghost use Rattle.goo_types.specs.Piece.{at_of, IsRising};
 ghost use Rattle.goo_spec.specs.Runs.{AreRunsOf, Gives};
 
 use crate::faults::BookFault;
-use crate::joined::push_joined;
+use goo_pieces::joined::push_joined;
+use goo_pieces::lookups::{least_missing, reaching};
 use goo_types::fault::Fault;
 use goo_types::lot::Lot;
 use goo_types::number::Number;
@@ -123,10 +124,7 @@ impl Page {
     fn reaching(&self, number: u64) -> &[Piece]
         ensures { IsRest self.now result.now number }
     {
-        let start = self
-            .pieces
-            .partition_point(|piece| piece.last.get() < number);
-        &self.pieces[start..]
+        reaching(&self.pieces, number)
     }
 
     /// The lot and the place of a number; None where the page lacks it.
@@ -146,17 +144,7 @@ impl Page {
         requires one_code { code_of first ≡ code_of last }
         ensures { result ≡ least_absent (at_of self.now) (span first (suc last)) }
     {
-        let mut next = first.get();
-        for piece in self.reaching(next) {
-            if next < piece.first.get() {
-                break;
-            }
-            next = piece.last.get() + 1;
-            if next > last.get() {
-                return None;
-            }
-        }
-        Some(Number::between(first, last, next))
+        least_missing(&self.pieces, first, last)
     }
 
     /// The least number from `first` to `last` that the page has.

@@ -7,7 +7,7 @@ ghost use Rattle.goo_types.specs.Number.{code_of};
 ghost use Rattle.goo_types.specs.Piece.{at_of, IsRising, IsRisingFrom};
 ghost use Rattle.goo_spec.specs.Maps.{least_absent, least_failing};
 ghost use Rattle.goo_ranges.specs.Paging.{joined, AreFilled, IsLeft};
-ghost use Rattle.goo_ranges.specs.Walk.{end_of, span};
+ghost use Rattle.goo_pieces.specs.Walk.{end_of, span};
 
 use crate::page::Page;
 use goo_types::lot::Lot;

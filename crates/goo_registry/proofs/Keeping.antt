@@ -9,7 +9,7 @@ use Rattle.goo_types.specs.declared.place.Place.{Place}
 use Rattle.goo_types.specs.declared.place.Place.TheVariants.{Held, Cancelled, Expired, Withdrawn, Exported}
 use Rattle.goo_types.specs.declared.piece.Piece.{Piece}
 use Rattle.goo_types.specs.Piece.{Label, at_of, covers, IsRisingFrom, IsRising}
-use Rattle.goo_ranges.proofs.Rising.{at_of-below}
+use Rattle.goo_pieces.proofs.Rising.{at_of-below}
 use Rattle.goo_spec.specs.Lots.{Certificates}
 use Rattle.goo_spec.specs.Runs.{AreRunsOf}
 use Rattle.goo_rows.specs.Rows.{AreRowsOf}

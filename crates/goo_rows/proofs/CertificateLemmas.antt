@@ -17,7 +17,7 @@ use Rattle.goo_spec.specs.Energy.{is_issued_to}
 use Rattle.std.proofs.lemmas.Bool.{eqb-true}
 use Rattle.goo_spec.proofs.Counting.{one, one_at}
 use Rattle.goo_spec.proofs.Giving.{count-give_each}
-use Rattle.goo_ranges.proofs.Rising.{at_of-below}
+use Rattle.goo_pieces.proofs.Rising.{at_of-below}
 use Rattle.goo_rows.specs.Rows.{AreRowsOf}
 use Rattle.goo_rows.proofs.Mapping.{one_of-each}
 use Rattle.goo_rows.specs.Certificates.{numbers_of, issued_in, certificates_of}

@@ -6,7 +6,7 @@ use Rattle.goo_types.specs.declared.piece.Piece.{Piece}
 use Rattle.goo_ranges.specs.declared.edits.Edit.{Edit}
 use Rattle.goo_types.specs.Piece.{IsRising, IsRisingFrom}
 use Rattle.goo_ranges.specs.Edit.{IsExact}
-use Rattle.goo_ranges.proofs.Rising.{rising-weaken}
+use Rattle.goo_pieces.proofs.Rising.{rising-weaken}
 use Rattle.goo_rows.specs.Rows.{without, without_each, with, with_each, edited}
 
 pub from-low : (low : ℕ) (front : List Piece) (q : Piece) (back : List Piece) → IsRisingFrom low (front ++ q ∷ back) → low ≤ q.first

@@ -7,7 +7,7 @@ use Rattle.std.proofs.lemmas.Bool.Decides.{nat_tests}
 use Rattle.goo_types.specs.Range.{Numbers}
 use Rattle.goo_spec.specs.Maps.{numbers_from, each, least_absent, least_failing}
 use Rattle.goo_spec.specs.Lots.{Certificates, is_absent, fails}
-use Rattle.goo_ranges.specs.Walk.{end_of}
+use Rattle.goo_pieces.specs.Walk.{end_of}
 use Rattle.goo_types.specs.declared.piece.Piece.{Piece}
 use Rattle.goo_types.specs.declared.lot_fields.LotFields.{LotFields}
 use Rattle.goo_types.specs.declared.place.Place.{Place}
@@ -16,11 +16,11 @@ use Rattle.goo_types.specs.Piece.{Label, label_of, at_of, IsRising, IsRisingFrom
 use Rattle.goo_spec.specs.Runs.{IsApart}
 use Rattle.goo_ranges.specs.Edit.{IsExact}
 use Rattle.goo_ranges.specs.Change.{inside}
-use Rattle.goo_ranges.proofs.Covers.{covers-inside, covers-above, or_else, at_of-append}
-use Rattle.goo_ranges.proofs.Changing.{or_else-none}
+use Rattle.goo_pieces.proofs.Covers.{covers-inside, covers-above, or_else, at_of-append}
+use Rattle.goo_pieces.proofs.Changing.{or_else-none}
 use Rattle.goo_ranges.proofs.Keeping.{rising-max}
 use Rattle.goo_ranges.proofs.Maximal.{apart-front, apart-back, apart-append, joint-left, joint-right}
-use Rattle.goo_ranges.proofs.Rising.{end_of-append, end_of-low, rising-weaken, rising-append, rising-front, rising-back, at_of-below, at_of-above}
+use Rattle.goo_pieces.proofs.Rising.{end_of-append, end_of-low, rising-weaken, rising-append, rising-front, rising-back, at_of-below, at_of-above}
 use Rattle.goo_rows.specs.Rows.{AreRowsOf, is_near, meeting, edited}
 use Rattle.goo_rows.proofs.Editing.{edited-whole}
 

@@ -10,7 +10,7 @@ use Rattle.goo_types.specs.declared.piece.Piece.{Piece}
 use Rattle.goo_types.specs.Piece.{IsRising, IsRisingFrom}
 use Rattle.goo_ranges.specs.declared.edits.Edit.{Edit}
 use Rattle.goo_ranges.specs.Edit.{IsExact}
-use Rattle.goo_ranges.proofs.Rising.{rising-weaken}
+use Rattle.goo_pieces.proofs.Rising.{rising-weaken}
 use Rattle.goo_rows.specs.Rows.{is_near, meeting, without, without_each, with_each, edited, edited_all}
 use Rattle.goo_rows.specs.Plans.{AreEditsOf, near_after}
 use Rattle.goo_rows.proofs.Editing.{from-low, without-here, with-block}

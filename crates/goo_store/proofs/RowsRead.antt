@@ -15,7 +15,7 @@ use Rattle.goo_types.specs.declared.piece.Piece.{Piece}
 use Rattle.goo_rows.specs.Rows.{is_near, meeting}
 use Rattle.goo_store.specs.Near.{reaching}
 use Rattle.goo_store.proofs.Merging.{near_found}
-use Rattle.goo_ranges.proofs.Rising.{rising-weaken}
+use Rattle.goo_pieces.proofs.Rising.{rising-weaken}
 use Rattle.goo_columns.specs.Beside.{beside, pieces_beside, joined_columns, joined_in}
 use Rattle.goo_columns.specs.Readable.{joined_readable, piece_readable, lot_readable}
 use Rattle.goo_columns.specs.Rows.{Tables, Meta, Device, Lot, lot_key, meta_in, device_in, piece_columns, lot_columns}

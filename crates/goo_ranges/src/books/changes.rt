@@ -1,7 +1,7 @@
 //! Changes of a book.
 
 ghost use Rattle.std.specs.Prelude.{◌≡◌, ℕ, count_by, ◌+◌, ◌≤◌, length, OnOk, OnErr, IfOk, IfErr};
-ghost use Rattle.goo_ranges.specs.Change.{moved, meets, set_to};
+ghost use Rattle.goo_pieces.specs.Change.{moved, meets, set_to};
 ghost use Rattle.goo_types.specs.Number.{code_of};
 ghost use Rattle.goo_types.specs.Piece.{at_of, IsRising};
 ghost use Rattle.goo_ranges.specs.Edit.{IsExact};

@@ -3,11 +3,11 @@
 ghost use Rattle.std.specs.Prelude.{◌≡◌, map, IfOk, IfErr};
 ghost use Rattle.goo_types.specs.Piece.{IsRising};
 ghost use Rattle.goo_ranges.specs.Accounts.{AreAccountRuns, held};
-ghost use Rattle.goo_ranges.specs.Joining.{IsJoining};
+ghost use Rattle.goo_pieces.specs.Joining.{IsJoining};
 ghost use Rattle.goo_spec.specs.Runs.{IsApart};
 
 use super::Page;
-use crate::joined::push_joined;
+use goo_pieces::joined::push_joined;
 use goo_types::fault::Fault;
 use goo_types::lot::Lot;
 use goo_types::piece::Piece;

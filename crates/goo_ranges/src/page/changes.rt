@@ -1,17 +1,19 @@
 //! Changes of a page.
 
 ghost use Rattle.std.specs.Prelude.{◌≡◌, ℕ, count_by, ◌+◌, ◌-◌, ◌<◌, ◌≤◌, ◌++◌, length, take, drop, map, OnOk, OnErr, IfOk, IfErr};
-ghost use Rattle.goo_ranges.specs.Change.{IsChanged, IsSet, moved, cuts, meets, set_to};
+ghost use Rattle.goo_pieces.specs.Change.{IsChanged, IsSet, moved, cuts, meets, set_to};
 ghost use Rattle.goo_types.specs.Number.{IsNumber, code_of};
 ghost use Rattle.goo_types.specs.Piece.{label_of, at_of, IsRising};
 ghost use Rattle.goo_ranges.specs.Edit.{IsExact};
-ghost use Rattle.goo_ranges.specs.Touching.{IsTouched, IsMeeting, IsBegin, IsEnd, IsWidened, IsTrimmed};
+ghost use Rattle.goo_pieces.specs.Touching.{IsTouched, IsMeeting, IsBegin, IsEnd, IsWidened, IsTrimmed};
 ghost use Rattle.goo_spec.specs.Runs.{IsApart};
 
 use super::Page;
+use crate::cutting::{put_between, set_pieces};
 use crate::edits::Edit;
-use crate::joined::{joined_pieces, moved_pieces, put_between, set_pieces};
-use crate::parts::is_same;
+use goo_pieces::joined::{joined_pieces, moved_pieces};
+use goo_pieces::lookups::touched;
+use goo_pieces::parts::is_same;
 use goo_types::fault::Fault;
 use goo_types::lot::Lot;
 use goo_types::number::Number;
@@ -25,15 +27,7 @@ impl Page {
         requires { first ≤ last }
         ensures { IsTouched self.now first last result.0 result.1 }
     {
-        let first = first.get();
-        let last = last.get();
-        let from = self
-            .pieces
-            .partition_point(|piece| piece.last.get() + 1 < first);
-        let to = self
-            .pieces
-            .partition_point(|piece| piece.first.get() <= last + 1);
-        (from, to)
+        touched(&self.pieces, first, last)
     }
 
     /// The pieces from the index `from` on and below `to`, with their numbers of the range at the place.

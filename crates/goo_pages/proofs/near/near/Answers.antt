@@ -1,8 +1,8 @@
 use Rattle.std.proofs.Common.{rules, arith, ltb, leb, ◌≡◌, ◌+◌, ◌-◌, ◌≤◌, length, length-drop, take, drop}
 use Rattle.std.proofs.lemmas.List.{take_all}
 use Rattle.std.proofs.lemmas.List.Sorted.{IsPartitionPoint-from_clause}
-use Rattle.goo_ranges.proofs.Touching.{partitioned-from, partitioned-to}
-use Rattle.goo_ranges.proofs.Rising.{rising-drop}
+use Rattle.goo_pieces.proofs.Touching.{partitioned-from, partitioned-to}
+use Rattle.goo_pieces.proofs.Rising.{rising-drop}
 use Rattle.goo_pages.proofs.NearLemmas.{near-block}
 use Rattle.goo_pages.proofs.near.near.Goals as goal
 

@@ -2,10 +2,10 @@ use Rattle.std.proofs.Common.{◌≡◌, ◌+◌, ◌-◌, ◌≤◌, ◌++◌, 
 use Rattle.std.proofs.lemmas.List.{length-take-le, length-drop, take_all}
 use Rattle.goo_types.specs.Piece.{IsRising}
 use Rattle.goo_ranges.specs.Paging.{joined, AreFilled}
-use Rattle.goo_ranges.proofs.Joining.{rising-take}
+use Rattle.goo_pieces.proofs.Joining.{rising-take}
 use Rattle.goo_ranges.proofs.JoinedPages.{joined-more}
 use Rattle.goo_ranges.proofs.Paging.{filled-append, take-on}
-use Rattle.goo_ranges.proofs.Touching.{between-rising}
+use Rattle.goo_pieces.proofs.Touching.{between-rising}
 use Rattle.goo_ranges.proofs.pages.changes.pages_of.Goals as goal
 
 pub of_rows-requires : goal.of_rows-requires

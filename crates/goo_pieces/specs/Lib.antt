@@ -1,0 +1,4 @@
+pub mod Change
+pub mod Joining
+pub mod Touching
+pub mod Walk
