@@ -1,18 +1,18 @@
 -- Look-ups that go from page to page.
-use Rattle.std.proofs.Common.{◌≡◌, ℕ, suc, ◌+◌, ◌<◌, ◌≤◌, List, [], ◌∷◌, ◌++◌, Bool, true, false, None, Some, Option, length, refl, sym, ap, ◌∙◌, ⊎_elim, arith}
+use Rattle.std.proofs.Common.{◌≡◌, ℕ, suc, ◌+◌, ◌<◌, ◌≤◌, List, [], ◌∷◌, ◌++◌, Bool, true, false, None, Some, refl, sym, ap, ◌∙◌, ⊎_elim, arith}
 use Rattle.std.proofs.lemmas.Bool.{cases_lt}
 use Rattle.goo_types.specs.declared.lot_fields.LotFields.{LotFields}
 use Rattle.goo_types.specs.declared.place.Place.{Place}
 use Rattle.goo_types.specs.declared.piece.Piece.{Piece}
-use Rattle.goo_types.specs.Piece.{Label, at_of, IsRising, IsRisingFrom}
+use Rattle.goo_types.specs.Piece.{at_of, IsRising, IsRisingFrom}
 use Rattle.goo_spec.specs.Lots.{is_absent, fails}
 use Rattle.goo_spec.specs.Maps.{least_absent, least_failing}
 use Rattle.goo_pieces.specs.Walk.{end_of, span}
 use Rattle.goo_ranges.specs.Paging.{begin_of, IsLeft}
 use Rattle.goo_pieces.proofs.Changing.{or_else-none}
 use Rattle.goo_pieces.proofs.Covers.{or_else, at_of-append}
-use Rattle.goo_pieces.proofs.Find.{IsLeast, least-of_span, none-of_span, find-span-none, find-span-some}
-use Rattle.goo_ranges.proofs.Paging.{left-page, left-next}
+use Rattle.goo_pieces.proofs.Find.{least-of_span, none-of_span, find-span-none, find-span-some}
+use Rattle.goo_ranges.proofs.Paging.{left-page}
 use Rattle.goo_pieces.proofs.Rising.{rising-front, rising-back, at_of-below, at_of-above}
 
 -- ---- the least number that is missing

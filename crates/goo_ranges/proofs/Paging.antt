@@ -1,13 +1,13 @@
 -- Pieces in pages that rise.
-use Rattle.std.proofs.Common.{◌≡◌, ℕ, zero, suc, ◌+◌, ◌-◌, ◌<◌, ◌≤◌, List, [], ◌∷◌, ◌++◌, true, false, ltb, leb, None, length, get_or, Some, take, drop, refl, ap, sym, ◌∙◌, arith, append_assoc, Result, Ok, Err}
+use Rattle.std.proofs.Common.{◌≡◌, ℕ, zero, suc, ◌+◌, ◌-◌, ◌<◌, ◌≤◌, List, [], ◌∷◌, ◌++◌, true, ltb, None, length, get_or, Some, take, drop, refl, ap, sym, ◌∙◌, arith, Result, Ok, Err}
 use Rattle.std.specs.List.{AllWithin}
 use Rattle.std.specs.Result.{OnOk, OnErr}
 use Rattle.std.specs.List.Sorted.{IsNonDecreasingBy}
 use Rattle.std.proofs.lemmas.Bool.Decides.{nat_tests}
-use Rattle.std.proofs.lemmas.List.{append-nil, take_more, drop_more, drop_all, take-take, drop-take, drop-drop, take-append-drop}
+use Rattle.std.proofs.lemmas.List.{drop_all, take-take, drop-take, drop-drop, take-append-drop}
 use Rattle.std.specs.Prelude.{slice_get}
 use Rattle.goo_types.specs.declared.piece.Piece.{Piece}
-use Rattle.goo_types.specs.Piece.{Label, at_of, IsRising, IsRisingFrom}
+use Rattle.goo_types.specs.Piece.{at_of, IsRising, IsRisingFrom}
 use Rattle.goo_pieces.specs.Walk.{end_of}
 use Rattle.goo_ranges.specs.Paging.{joined, between, begin_of, AreFilled, IsLeft}
 use Rattle.goo_pieces.proofs.Changing.{or_else-none}

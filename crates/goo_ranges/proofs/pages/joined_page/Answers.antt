@@ -1,4 +1,4 @@
-use Rattle.std.proofs.Common.{◌≡◌, ◌++◌, ◌∙◌, get_or, ap, arith}
+use Rattle.std.proofs.Common.{◌++◌, ◌∙◌, ap, arith}
 use Rattle.std.proofs.lemmas.List.{take_all}
 use Rattle.goo_ranges.specs.Paging.{joined}
 use Rattle.goo_ranges.proofs.JoinedPages.{joined-page}

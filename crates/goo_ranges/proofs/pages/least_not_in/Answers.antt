@@ -1,7 +1,7 @@
-use Rattle.std.proofs.Common.{◌≡◌, ◌+◌, ◌∙◌, ◌<◌, ◌++◌, [], drop, arith, sym, ap, subst}
+use Rattle.std.proofs.Common.{◌+◌, ◌∙◌, ◌<◌, drop, arith, sym, ap, subst}
 use Rattle.std.proofs.lemmas.Bool.Decides.{nat_tests}
 use Rattle.std.proofs.lemmas.List.{drop_all}
-use Rattle.goo_types.specs.Piece.{at_of, IsRising}
+use Rattle.goo_types.specs.Piece.{IsRising}
 use Rattle.goo_spec.specs.Lots.{fails}
 use Rattle.goo_ranges.specs.Paging.{joined, begin_of}
 use Rattle.goo_ranges.proofs.Leafing.{failing-here, failing-next, failing-past, failing-none}

@@ -1,4 +1,3 @@
-use Rattle.std.proofs.Common.{arith}
 use Rattle.goo_ranges.proofs.Paging.{between-rises}
 use Rattle.goo_ranges.proofs.pages.changes.page_between.Goals as goal
 

@@ -1,8 +1,6 @@
-use Rattle.std.proofs.Common.{◌≡◌, ◌+◌, ◌-◌, ◌≤◌, ◌++◌, ◌∷◌, [], ◌∙◌, length, take, drop, arith, ap, sym}
+use Rattle.std.proofs.Common.{◌≡◌, ◌+◌, ◌-◌, ◌≤◌, ◌++◌, ◌∷◌, [], ◌∙◌, length, take, drop, arith, ap}
 use Rattle.std.proofs.lemmas.List.{length-take-le, length-drop, take_all}
-use Rattle.goo_types.specs.Piece.{IsRising}
-use Rattle.goo_ranges.specs.Paging.{joined, AreFilled}
-use Rattle.goo_pieces.proofs.Joining.{rising-take}
+use Rattle.goo_ranges.specs.Paging.{joined}
 use Rattle.goo_ranges.proofs.JoinedPages.{joined-more}
 use Rattle.goo_ranges.proofs.Paging.{filled-append, take-on}
 use Rattle.goo_pieces.proofs.Touching.{between-rising}

@@ -1,4 +1,4 @@
-use Rattle.std.proofs.Common.{◌≡◌, ℕ, ◌-◌, ◌≤◌, length, take}
+use Rattle.std.proofs.Common.{◌≡◌, ◌-◌, ◌≤◌, length, take}
 use Rattle.goo_ranges.specs.Paging.{joined, AreFilled}
 use Rattle.goo_ranges.proofs.pages.changes.pages_of.Given as goal
 

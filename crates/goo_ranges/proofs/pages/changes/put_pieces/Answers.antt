@@ -1,7 +1,7 @@
-use Rattle.std.proofs.Common.{◌≡◌, ◌++◌, take, drop, ap, ◌∙◌, Result}
+use Rattle.std.proofs.Common.{◌++◌, take, drop, ap, ◌∙◌}
 use Rattle.std.proofs.lemmas.Result.{on_ok_weaker}
-use Rattle.goo_ranges.specs.Paging.{joined, AreFilled}
-use Rattle.goo_ranges.proofs.Paging.{joined-put, filled-put, filled-either}
+use Rattle.goo_ranges.specs.Paging.{joined}
+use Rattle.goo_ranges.proofs.Paging.{joined-put, filled-either}
 use Rattle.goo_ranges.proofs.pages.changes.put_pieces.Goals as goal
 
 pub returns-clause-ok : goal.returns-clause-ok
