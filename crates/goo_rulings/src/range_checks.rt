@@ -6,7 +6,7 @@ ghost use Rattle.goo_spec.specs.Days.{is_closed as closed_test};
 ghost use Rattle.goo_spec.specs.Lots.{is_held as held_test, is_held_by as held_by_test};
 ghost use Rattle.goo_spec.specs.Maps.{each, least_absent, least_failing};
 ghost use Rattle.goo_spec.specs.Checks.{first_refusal};
-ghost use Rattle.goo_core.specs.Trade.{trade_checks};
+ghost use Rattle.goo_rulings.specs.Trade.{trade_checks};
 
 use crate::days::is_closed;
 use goo_ranges::Book;

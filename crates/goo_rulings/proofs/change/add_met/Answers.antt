@@ -1,8 +1,8 @@
 use Rattle.std.proofs.Common.{arith}
 use Rattle.goo_types.specs.Piece.{Label}
 use Rattle.goo_ranges.specs.Change.{set_to}
-use Rattle.goo_core.proofs.Changing.{one_edit, set-outside}
-use Rattle.goo_core.proofs.change.add_met.Goals as goal
+use Rattle.goo_rulings.proofs.Changing.{one_edit, set-outside}
+use Rattle.goo_rulings.proofs.change.add_met.Goals as goal
 
 pub returns-clause-edits : goal.returns-clause-edits
 returns-clause-edits c =

@@ -4,7 +4,7 @@ ghost use Rattle.std.specs.Prelude.{◌≡◌, ◌≤◌, [], ◌∷◌, ◌++�
 ghost use Rattle.goo_types.specs.Piece.{IsRising};
 ghost use Rattle.goo_types.specs.declared.fault.Fault.TheVariants.{Memory};
 ghost use Rattle.goo_ranges.specs.Change.{moved, set_to};
-ghost use Rattle.goo_core.specs.Changes.{AreEditsFor};
+ghost use Rattle.goo_rulings.specs.Changes.{AreEditsFor};
 
 use goo_ranges::{Book, Edit};
 use goo_types::fault::Fault;
