@@ -15,12 +15,14 @@ use Rattle.goo_rows.specs.Rows.{AreRowsOf}
 use Rattle.goo_shelf.specs.Shelf.{receipt_of}
 use Rattle.goo_shelf.specs.declared.found.Receipt.TheVariants as receipt
 use Rattle.goo_shelf.specs.declared.plan.Plan.{Plan}
-use Rattle.goo_core.specs.Decision.{IsPlanOf, IsQuietRuling}
+use Rattle.goo_rulings.specs.Decision.{plan_of, IsDecisionBy}
+use Rattle.goo_core.specs.Decision.{IsPlanOf, IsDecision, IsQuietRuling}
 use Rattle.goo_core.specs.Ruling.{Meaning, IsPassed, IsRuling, plain_meaning, meaning_of}
 use Rattle.goo_core.specs.Verdict.{verdict_of}
-use Rattle.goo_core.specs.declared.ruling.Change.{Change}
-use Rattle.goo_core.specs.declared.ruling.Ruling.{Ruling}
-use Rattle.goo_core.specs.declared.ruling.Ruling.TheVariants.{Refused, Repeated, Passed}
+use Rattle.goo_rulings.specs.declared.decision.Decision.{Decision}
+use Rattle.goo_rulings.specs.declared.ruling.Change.{Change}
+use Rattle.goo_rulings.specs.declared.ruling.Ruling.{Ruling}
+use Rattle.goo_rulings.specs.declared.ruling.Ruling.TheVariants.{Refused, Repeated, Passed}
 use Rattle.goo_core.specs.declared.verdict.Verdict.{Verdict}
 use Rattle.goo_core.specs.declared.verdict.Verdict.TheVariants.{Fails, Passes}
 use Rattle.goo_core.proofs.Changing.{unturned}
@@ -88,6 +90,13 @@ decided_plan s rows q plan change sound kept none ruled request reply edits noti
       };
       few = rw edits ruled.few;
     }
+
+-- what the ruling on a request's command makes of it
+pub decided : (s : State) (rows : List Piece) (q : Request) (ruling : Ruling) (decision : Decision) → IsSound s → AreRowsOf s.at rows → get s.receipts (q.caller, q.key) ≡ None
+    → IsRuling (meaning_of s q.caller q.command) rows ruling → IsDecisionBy q ruling decision → IsDecision s rows q decision
+decided s rows q (Refused r) decision sound kept none ruled is = subst (IsDecision s rows q) (sym is) (decided_refused s rows q r none ruled)
+decided s rows q (Repeated reply) decision sound kept none ruled is = subst (IsDecision s rows q) (sym is) (decided_repeated s rows q reply none ruled)
+decided s rows q (Passed change) decision sound kept none ruled is = subst (IsDecision s rows q) (sym is) (decided_plan s rows q (plan_of q change) change sound kept none ruled refl refl refl refl)
 
 -- what a receipt says
 pub receipt_absent : (o : Option (Option Command × Reply)) (command : Command) → receipt.Absent ≡ receipt_of o command → o ≡ None

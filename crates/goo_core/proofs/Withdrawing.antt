@@ -34,9 +34,10 @@ use Rattle.goo_spec.specs.Withdraw.{withdraw_refusal, withdraw_reply, with_withd
 use Rattle.goo_spec.proofs.Placing.{replaced}
 use Rattle.goo_core.specs.Moves.{IsChangeRuling}
 use Rattle.goo_core.specs.Ruling.{IsRuling, plain_meaning}
-use Rattle.goo_core.specs.declared.ruling.Ruling.{Ruling}
+use Rattle.goo_rulings.specs.declared.ruling.Ruling.{Ruling}
 use Rattle.goo_core.proofs.Rulings.{ruled_change}
-use Rattle.goo_core.specs.Changes.{AreMade, AreEditsFor}
+use Rattle.goo_rulings.specs.Changes.{AreEditsFor}
+use Rattle.goo_core.specs.Changes.{AreMade}
 use Rattle.goo_core.specs.Withdraw.{withdrawn, run_withdrawn, runs_withdrawn, range_checks, AreCommon}
 use Rattle.goo_core.specs.AccountRuns.{account_in, account_runs}
 use Rattle.goo_core.proofs.AccountRuns.{few_runs, met_runs}

@@ -10,7 +10,6 @@ pub mod Parts
 pub mod Walk
 pub mod Cancel
 pub mod CloseAccount
-pub mod Trade
 pub mod Export
 pub mod Advance
 pub mod Import

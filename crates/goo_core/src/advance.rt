@@ -12,9 +12,9 @@ ghost use Rattle.goo_core.specs.Advance.{expired_place, count_in};
 ghost use Rattle.goo_core.specs.Ruling.{IsRuling, plain_meaning};
 
 use crate::callers::is_issuer;
-use crate::days::is_before;
-use crate::ruling::{Change, Ruling};
 use goo_ranges::Edit;
+use goo_rulings::days::is_before;
+use goo_rulings::ruling::{Change, Ruling};
 use goo_shelf::shelf::Shelf;
 use goo_types::command::Advance;
 use goo_types::fault::Fault;

@@ -13,11 +13,11 @@ ghost use Rattle.goo_core.specs.Moves.{IsMoveRuling};
 ghost use Rattle.goo_core.specs.Ruling.{IsRuling, plain_meaning};
 
 use crate::callers::is_holder;
-use crate::change::move_met;
-use crate::days::is_before;
-use crate::range_checks::least_not_held_by;
-use crate::ruling::{Change, Ruling};
 use goo_ranges::Book;
+use goo_rulings::change::move_met;
+use goo_rulings::days::is_before;
+use goo_rulings::range_checks::least_not_held_by;
+use goo_rulings::ruling::{Change, Ruling};
 use goo_shelf::counters::Counters;
 use goo_shelf::shelf::Shelf;
 use goo_types::act_no::ActNo;

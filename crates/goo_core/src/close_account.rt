@@ -9,8 +9,8 @@ ghost use Rattle.goo_core.specs.CloseAccount.{entry_checks};
 ghost use Rattle.goo_core.specs.Verdict.{verdict_of};
 
 use crate::callers::{is_holder, is_issuer};
-use crate::range_checks::is_held_by;
 use crate::verdict::Verdict;
+use goo_rulings::range_checks::is_held_by;
 use goo_shelf::shelf::Shelf;
 use goo_types::account_no::AccountNo;
 use goo_types::command::CloseAccount;

@@ -16,31 +16,19 @@ use crate::import::judge_import;
 use crate::open_account::judge_open_account;
 use crate::open_holder::judge_open_holder;
 use crate::register_device::judge_register_device;
-use crate::ruling::{Change, Ruling};
 use crate::transfer::judge_transfer;
 use crate::verdict::Verdict;
 use crate::withdraw::judge_withdraw;
+use goo_rulings::decision::{Decision, decision_by};
+use goo_rulings::ruling::{Change, Ruling};
 use goo_shelf::found::Receipt;
-use goo_shelf::plan::Plan;
 use goo_shelf::shelf::Shelf;
 use goo_types::command::Command;
 use goo_types::fault::Fault;
 use goo_types::holder_code::HolderCode;
 use goo_types::refusal::Refusal;
-use goo_types::reply::Reply;
 use goo_types::request::Request;
 use std::alloc::Global;
-
-/// What a request comes to.
-#[derive(Drop)]
-pub enum Decision {
-    /// It isn't carried out.
-    Refused(Refusal),
-    /// It was carried out before, with this reply.
-    Repeated(Reply),
-    /// It may be carried out by committing the plan, and is then answered with the reply.
-    Accept(Plan, Reply),
-}
 
 /// What a command comes to that leaves the rows as they are.
 fn quiet(alloc: Global, verdict: Verdict) -> Ruling
@@ -96,20 +84,8 @@ fn decide_fresh<S: Shelf>(
     requires fresh { (S.seen shelf.old).doubts ≡ 0 → get (S.seen shelf.old).state.receipts (request.now.caller, request.now.key) ≡ None }
     ensures { Looks (S.seen shelf.old) (S.seen shelf.new) result (IsDecision (S.seen shelf.old).state (S.seen shelf.old).rows request.now) }
 {
-    match judge(alloc, shelf, &request.caller, &request.command)? {
-        Ruling::Refused(refusal) => Ok(Decision::Refused(refusal)),
-        Ruling::Repeated(reply) => Ok(Decision::Repeated(reply)),
-        Ruling::Passed(change) => {
-            let reply = change.reply;
-            let plan = Plan {
-                request: request.copy(alloc)?,
-                reply,
-                edits: change.edits,
-                notice: change.notice,
-            };
-            Ok(Decision::Accept(plan, reply))
-        }
-    }
+    let ruling = judge(alloc, shelf, &request.caller, &request.command)?;
+    decision_by(alloc, request, ruling)
 }
 
 /// What a request comes to here. It changes nothing: an accepted one is carried out by committing

@@ -13,9 +13,10 @@ ghost use Rattle.goo_core.specs.Ruling.{IsRuling, plain_meaning};
 ghost use Rattle.goo_core.specs.Issue.{IsStandingIf, IsStanding, appraisal_of, appraisal_with, terms_of, energy_checks};
 
 use crate::callers::is_issuer;
-use crate::days::{is_before, is_over};
 use crate::issue::{Appraisal, Terms, issue_edits, issue_of, issued_range, numbers_from};
-use crate::ruling::{Change, Ruling};
+use goo_rulings::days::{is_before, is_over};
+use goo_rulings::declare::{Earnings, earn};
+use goo_rulings::ruling::{Change, Ruling};
 use goo_shelf::account::Account;
 use goo_shelf::device::Device;
 use goo_shelf::found::Progress;
@@ -43,9 +44,6 @@ pub struct Standing {
     /// What the registry knows of itself.
     pub meta: Meta,
 }
-
-/// The watt-hours of a certificate.
-const CERTIFICATE: u64 = 1_000_000;
 
 /// The serials of one registry, with zero.
 const SERIALS: u64 = 1_000_000_000_000;
@@ -124,16 +122,14 @@ fn settle(declaration: &Declare, standing: &Standing, lot: &Lot) -> Appraisal
     requires { declaration.now.aux ≤ declaration.now.gross }
     ensures { (s : State) → IsStanding s declaration.now.device standing.now → lot.now ≡ lot_def s declaration.now standing.now.device → result ≡ appraisal_with (when (nat_lt serials (s.next_serial + earned s declaration.now)) NumbersExhausted) (terms_of s declaration.now standing.now.device) }
 {
-    let net = declaration.gross.get() - declaration.aux.get();
-    let energy = standing.progress.carry.get() + net;
-    let count = energy / CERTIFICATE;
+    let Earnings { count, carry } = earn(standing.progress.carry, declaration);
     let serial = standing.meta.counters.serial();
     if SERIALS < serial + count {
         return Appraisal::Fails(Refusal::NumbersExhausted);
     }
     let issued = numbers_from(standing.meta.code, serial, count);
     Appraisal::Passes(Terms {
-        carry: energy % CERTIFICATE,
+        carry,
         issue: issue_of(issued, lot, standing.device.account()),
     })
 }

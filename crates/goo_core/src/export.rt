@@ -1,23 +1,20 @@
-ghost use Rattle.std.specs.Prelude.{◌≡◌, ◌≤◌, None, length, IfOk, IfErr};
+ghost use Rattle.std.specs.Prelude.{◌≡◌, None, IfOk, IfErr};
 ghost use Rattle.goo_types.specs.Piece.{at_of, IsRising};
 ghost use Rattle.goo_types.specs.declared.fault.Fault.TheVariants.{Memory};
-ghost use Rattle.goo_types.specs.declared.place.Place.TheVariants.{Exported};
-ghost use Rattle.goo_ranges.specs.Change.{moved};
 ghost use Rattle.goo_spec.specs.Checks.{first_refusal};
 ghost use Rattle.goo_spec.specs.Export.{export_refusal, export_reply, with_export, notice_of};
 ghost use Rattle.goo_spec.specs.Sound.{IsSound};
 ghost use Rattle.goo_rows.specs.Rows.{AreRowsOf};
 ghost use Rattle.goo_shelf.specs.Shelf.{Looks, IsReady};
-ghost use Rattle.goo_core.specs.Changes.{AreEditsFor};
 ghost use Rattle.goo_core.specs.Export.{entry_checks, sending_checks, notice_with, IsUnsendable, IsExportRuling, export_meaning};
 ghost use Rattle.goo_core.specs.Ruling.{IsRuling};
 
 use crate::callers::is_holder;
-use crate::change::move_met;
 use crate::parts::parts_in;
-use crate::range_checks::trade_refusal;
-use crate::ruling::{Change, Ruling};
-use goo_ranges::{Book, Edit};
+use goo_ranges::Book;
+use goo_rulings::export::sending_edits;
+use goo_rulings::range_checks::trade_refusal;
+use goo_rulings::ruling::{Change, Ruling};
 use goo_shelf::own::Meta;
 use goo_shelf::shelf::Shelf;
 use goo_types::act_no::ActNo;
@@ -27,7 +24,6 @@ use goo_types::holder_code::HolderCode;
 use goo_types::notice::Notice;
 use goo_types::part::Part;
 use goo_types::piece::Piece;
-use goo_types::place::Place;
 use goo_types::refusal::Refusal;
 use goo_types::reply::Reply;
 use std::alloc::Global;
@@ -67,21 +63,6 @@ fn write_notice(meta: &Meta, export: &Export, parts: Vec<Part>) -> Result<Notice
         Ok(notice) => Ok(notice),
         Err(_) => Err(Refusal::UnknownPeer),
     }
-}
-
-/// The edits that send the range of an export away with the notice of this number.
-fn sending_edits(
-    alloc: Global,
-    book: Book,
-    export: &Export,
-    number: ActNo,
-) -> Result<Vec<Edit>, Fault>
-    requires { IsRising book }
-    ensures edits { IfOk result (λ edits. (export.now.range.first ≤ export.now.range.last) × AreEditsFor export.now.range book (moved export.now.range.first export.now.range.last (Exported export.now.giver number)) edits.items × (length edits.items ≤ 1)) }
-    ensures memory { IfErr result (λ fault. fault ≡ Memory) }
-{
-    let place = Place::Exported(export.giver, number);
-    move_met(alloc, book, export.range, place)
 }
 
 /// What an export comes to on the rows that its range meets.

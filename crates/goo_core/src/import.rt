@@ -14,9 +14,10 @@ ghost use Rattle.goo_core.specs.Ruling.{IsRuling};
 
 use crate::arriving::{Arriving, is_stale, numbers_refusal};
 use crate::callers::is_issuer;
-use crate::ruling::{Change, Ruling};
 use crate::taking::take_parts;
 use goo_ranges::Book;
+use goo_rulings::import::is_for_another_registry;
+use goo_rulings::ruling::{Change, Ruling};
 use goo_shelf::found::Arrival;
 use goo_shelf::own::Meta;
 use goo_shelf::shelf::Shelf;
@@ -44,7 +45,7 @@ fn enter<S: Shelf>(
         return Ok(Err(Refusal::NotAllowed));
     }
     let meta = shelf.registry()?;
-    if import.notice.addressee() != meta.code {
+    if is_for_another_registry(&import.notice, meta.code) {
         return Ok(Err(Refusal::WrongRegistry));
     }
     if !shelf.peer(import.notice.sender())? {

@@ -3,7 +3,7 @@ use Rattle.std.specs.FinMap.{get}
 use Rattle.goo_rows.specs.Rows.{meeting}
 use Rattle.goo_spec.specs.Transfer.{transfer_refusal}
 use Rattle.goo_core.specs.Transfer.{entry_checks}
-use Rattle.goo_core.specs.Trade.{trade_checks}
+use Rattle.goo_rulings.specs.Trade.{trade_checks}
 use Rattle.goo_core.proofs.Looking.{looked, looked_or_full, looked_then}
 use Rattle.goo_core.proofs.Rulings.{failed_early}
 use Rattle.goo_core.proofs.Transferring.{ruled_transfer}
