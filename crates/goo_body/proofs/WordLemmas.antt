@@ -3,7 +3,7 @@ use Rattle.std.proofs.Common.{◌≡◌, ◌≢◌, ℕ, List, Bool, true, false
 use Rattle.std.specs.Str.{bytes_eq}
 use Rattle.std.proofs.lemmas.Slice.Eq.{bytes_eq-Decides}
 use Rattle.serde_json.specs.Data.{Data}
-use Rattle.goo_notice.specs.declared.value_fault.ValueFault.TheVariants.{Shape}
+use Rattle.goo_members.specs.declared.value_fault.ValueFault.TheVariants.{Shape}
 use Rattle.goo_notice.specs.Command.{command_named}
 
 not_true : (b : Bool) → b ≢ true → b ≡ false

@@ -11,7 +11,7 @@ use Rattle.goo_types.specs.Texts.{day_text}
 use Rattle.goo_types.specs.declared.day.DayFault.{DayFault}
 use Rattle.goo_types.specs.declared.place.Place.TheVariants.{Held, Cancelled, Expired, Withdrawn, Exported}
 use Rattle.goo_types.specs.declared.piece.Piece.{Piece}
-use Rattle.goo_notice.proofs.LimitLemmas.{IsDay-reading}
+use Rattle.goo_members.proofs.LimitLemmas.{IsDay-reading}
 use Rattle.goo_spec.specs.Advance.{expires}
 use Rattle.goo_spec.specs.Days.{is_over, is_past}
 use Rattle.goo_spec.specs.Lots.{is_held}

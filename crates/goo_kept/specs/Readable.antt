@@ -6,8 +6,8 @@ use Rattle.goo_types.specs.Gsrn.{gsrn_reading}
 use Rattle.goo_types.specs.Notice.{NoticeContents}
 use Rattle.goo_types.specs.Number.{is_number, code_of}
 use Rattle.goo_types.specs.Support.{support_reading}
-use Rattle.goo_notice.specs.NoticeText.{notice_in}
-use Rattle.goo_notice.specs.declared.notice_fault.NoticeFault.{NoticeFault}
+use Rattle.goo_sent.specs.NoticeText.{notice_in}
+use Rattle.goo_sent.specs.declared.notice_fault.NoticeFault.{NoticeFault}
 use Rattle.goo_columns.specs.Rows.{Kept, Plant, Meta, Holder, Account, Device, Declaration, Lot, Receipt, Cancellation, Withdrawal, NoticeOut, NoticeIn}
 use Rattle.goo_columns.specs.declared.peer.PeerRow.{PeerRow}
 use Rattle.goo_columns.specs.declared.piece.PieceRow.{PieceRow}

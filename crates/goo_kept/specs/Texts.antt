@@ -6,7 +6,7 @@ use Rattle.goo_types.specs.Notice.{NoticeContents}
 use Rattle.goo_types.specs.Support.{support_reading}
 use Rattle.goo_types.specs.declared.support.Support.{Support}
 use Rattle.goo_types.specs.declared.support.Support.TheVariants as support
-use Rattle.goo_notice.specs.NoticeText.{notice_in}
+use Rattle.goo_sent.specs.NoticeText.{notice_in}
 
 -- no day of the calendar
 abbrev pub no_day : CalendarDay

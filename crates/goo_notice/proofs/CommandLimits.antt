@@ -25,10 +25,14 @@ use Rattle.goo_types.specs.declared.command.AddPeer.{AddPeer}
 use Rattle.goo_notice.specs.AddPeer.{IsAddPeer, add_peer_of}
 use Rattle.goo_types.specs.declared.command.Export.{Export}
 use Rattle.goo_notice.specs.Export.{IsExport, export_of}
-use Rattle.goo_notice.specs.Members.{of_size, string_at, integer_at}
-use Rattle.goo_notice.specs.Fields.{as_field, integer_in, range_of}
-use Rattle.goo_notice.proofs.LimitLemmas.{IsDay-reading}
-use Rattle.goo_notice.proofs.FieldLimits.{bind_ok, field_ok, ok_same, within_limits, range_numbers, holder_again, name_again, gsrn_again}
+use Rattle.goo_types.specs.declared.command.Import.{Import}
+use Rattle.goo_notice.specs.Import.{IsImport, import_of}
+use Rattle.goo_sent.specs.Notice.{notice_of}
+use Rattle.goo_sent.proofs.NoticeLimits.{notice}
+use Rattle.goo_members.specs.Members.{of_size, string_at, integer_at, member_at}
+use Rattle.goo_members.specs.Fields.{as_field, integer_in, range_of}
+use Rattle.goo_members.proofs.LimitLemmas.{IsDay-reading}
+use Rattle.goo_members.proofs.FieldLimits.{bind_ok, field_ok, ok_same, within_limits, range_numbers, holder_again, name_again, gsrn_again}
 
 pub open_holder : (others : ℕ) (d : Data) (c : OpenHolder) → open_holder_of others d ≡ Ok c → IsOpenHolder c
 unfolding open_holder_of
@@ -190,3 +194,11 @@ export others d c e =
       last = numbers.1;
       range = numbers.2;
     })
+
+pub import : (others : ℕ) (d : Data) (c : Import) → import_of others d ≡ Ok c → IsImport c
+unfolding import_of
+import others d c e =
+    let a0 = bind_ok (of_size (2 + others) (as_object d)) _ c e in
+    let a1 = bind_ok (member_at (codes "notice") d) _ c a0.2 in
+    let a2 = bind_ok (notice_of a1.0) _ c a1.2 in
+    subst (λ x. IsImport x) (ok_same _ c a2.2) (notice a1.0 a2.0 a2.1)

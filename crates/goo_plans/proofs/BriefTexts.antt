@@ -20,13 +20,13 @@ use Rattle.goo_types.specs.declared.support.Support.TheVariants as support
 use Rattle.goo_types.proofs.DigitTextLemmas.{length-digits}
 use Rattle.goo_notice.specs.Command.{command_data, command_text, IsCommand}
 use Rattle.goo_notice.specs.Law.{command_in}
-use Rattle.goo_notice.specs.Lot.{lot_data, IsStatedLot}
-use Rattle.goo_notice.specs.Notice.{notice_data, notice_text, IsStatedNotice}
-use Rattle.goo_notice.specs.NoticeText.{notice_in}
-use Rattle.goo_notice.specs.Parts.{part_data, IsStatedPart}
-use Rattle.goo_notice.specs.declared.notice_fault.NoticeFault.{NoticeFault}
+use Rattle.goo_members.specs.Lot.{lot_data, IsStatedLot}
+use Rattle.goo_sent.specs.Notice.{notice_data, notice_text, IsStatedNotice}
+use Rattle.goo_sent.specs.NoticeText.{notice_in}
+use Rattle.goo_members.specs.Parts.{part_data, IsStatedPart}
+use Rattle.goo_sent.specs.declared.notice_fault.NoticeFault.{NoticeFault}
 use Rattle.goo_notice.proofs.CommandLemmas.{commands_are_read_from_their_texts}
-use Rattle.goo_notice.proofs.NoticeTextLemmas.{notices_are_read_from_their_texts}
+use Rattle.goo_sent.proofs.NoticeTextLemmas.{notices_are_read_from_their_texts}
 use Rattle.goo_kept.specs.Readable.{reads, is_notice_of}
 use Rattle.goo_plans.proofs.ShortTexts.{holder_short, name_short, country_short, tech_short, source_short, gsrn_short, day_text_short}
 

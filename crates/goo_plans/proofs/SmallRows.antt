@@ -12,7 +12,7 @@ use Rattle.goo_types.specs.Day.{day_reading, months_after}
 use Rattle.goo_types.specs.Gsrn.{gsrn_reading}
 use Rattle.goo_types.specs.declared.command.Command.{Command}
 use Rattle.goo_notice.specs.Law.{command_in}
-use Rattle.goo_notice.specs.NoticeText.{notice_in}
+use Rattle.goo_sent.specs.NoticeText.{notice_in}
 use Rattle.goo_columns.specs.Refused.{IsSmall, CanBeKept}
 use Rattle.goo_columns.specs.Rows.{Kept, kept_key, Plant, Meta, meta_row, Holder, holder_row, Account, account_row, Device, device_row, Declaration, declaration_row, Lot, lot_row, Receipt, receipt_row, Cancellation, cancellation_row, Withdrawal, withdrawal_row, NoticeOut, notice_out_row, NoticeIn, notice_in_row}
 use Rattle.goo_held.specs.Changes.{progressed}

@@ -5,7 +5,7 @@ ghost use Rattle.goo_types.specs.Codes.{holder_reading, name_reading, country_re
 ghost use Rattle.goo_types.specs.Day.{day_reading};
 ghost use Rattle.goo_types.specs.Gsrn.{gsrn_reading};
 ghost use Rattle.goo_types.specs.Support.{support_reading};
-ghost use Rattle.goo_notice.specs.NoticeText.{notice_in};
+ghost use Rattle.goo_sent.specs.NoticeText.{notice_in};
 ghost use Rattle.goo_kept.specs.Readable.{reads};
 ghost use Rattle.goo_kept.specs.Texts.{day_of, support_of, notice_of};
 ghost use Rattle.goo_plans.specs.declared.trouble.Trouble.TheVariants.{Memory, Refused};

@@ -22,8 +22,8 @@ use Rattle.goo_columns.specs.Rows.{Tables, Kept, Plant, Meta, Holder, Account, D
 use Rattle.goo_columns.specs.Stands.{Stands}
 use Rattle.goo_columns.specs.declared.peer.PeerRow.{PeerRow}
 use Rattle.goo_columns.specs.declared.piece.PieceRow.{PieceRow}
-use Rattle.goo_notice.specs.NoticeText.{notice_in}
-use Rattle.goo_notice.proofs.NoticeTextLemmas.{notices_are_read_from_their_texts}
+use Rattle.goo_sent.specs.NoticeText.{notice_in}
+use Rattle.goo_sent.proofs.NoticeTextLemmas.{notices_are_read_from_their_texts}
 use Rattle.goo_kept.specs.Kept.{AreKept, IsKeptLot}
 use Rattle.goo_kept.specs.Readable.{is_plant, is_meta, is_holder, is_account, is_device, is_declaration, is_lot, is_piece, is_peer, is_receipt, is_cancellation, is_withdrawal, is_notice_out, is_notice_in, is_notice_of, is_maybe_day, is_between, is_act, is_next, is_code, is_reply, names_act}
 use Rattle.goo_kept.specs.Texts.{day_of}

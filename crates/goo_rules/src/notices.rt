@@ -2,7 +2,7 @@
 
 ghost use Rattle.std.specs.Prelude.{◌≡◌, pos, IfOk};
 ghost use Rattle.std.specs.List.{list_all};
-ghost use Rattle.goo_notice.specs.NoticeText.{notice_in};
+ghost use Rattle.goo_sent.specs.NoticeText.{notice_in};
 ghost use Rattle.goo_columns.specs.Rows.{notice_out_in, notice_in_in};
 ghost use Rattle.goo_kept.specs.Readable.{is_notice_of, is_notice_out, is_notice_in};
 

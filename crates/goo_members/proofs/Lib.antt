@@ -1,0 +1,13 @@
+pub mod LimitLemmas
+pub mod FieldLimits
+pub mod LotLimits
+pub mod PartsLimits
+pub mod BodyLemmas
+pub mod FieldLemmas
+pub mod TextLemmas
+pub mod JsonLemmas
+pub mod Utf8Lemmas
+pub mod LoopLemmas
+pub mod StatedLotLemmas
+pub mod PartsLemmas
+pub mod PartsUtf8Lemmas

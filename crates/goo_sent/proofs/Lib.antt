@@ -1,0 +1,5 @@
+pub mod NoticeLimits
+pub mod RuleLemmas
+pub mod NoticeLemmas
+pub mod NoticeUtf8Lemmas
+pub mod NoticeTextLemmas

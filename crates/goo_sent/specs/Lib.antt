@@ -1,0 +1,3 @@
+pub mod Notice
+pub mod NoticeFaults
+pub mod NoticeText

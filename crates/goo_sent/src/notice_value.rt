@@ -1,0 +1,100 @@
+ghost use Rattle.std.specs.Prelude.{◌≡◌, ◌==◌, IfOk, ℤ};
+ghost use Rattle.serde_json.specs.View.{view, items_view};
+ghost use Rattle.goo_members.specs.Faults.{Gives};
+ghost use Rattle.goo_members.specs.Fields.{accepted, integer_in};
+ghost use Rattle.goo_types.specs.Notice.{notice_contents};
+ghost use Rattle.goo_sent.specs.Notice.{notice_data, IsStatedNotice, is_notice, notice_fields_of, notice_of};
+
+use goo_members::fields::{account_no, act_no, registry_code};
+use goo_members::members::{integer_at, items_at, of_size};
+use goo_members::object::{nothing, object_of, with_integer, with_items};
+use goo_members::part_value::{check_parts, part_values, parts};
+use goo_members::value_fault::ValueFault;
+use goo_types::account_no::AccountNo;
+use goo_types::act_no::ActNo;
+use goo_types::notice::Notice;
+use goo_types::part::Part;
+use goo_types::registry_code::RegistryCode;
+use serde_json::Value;
+use std::alloc::{AllocError, Global};
+
+/// The JSON object of a notice.
+pub fn notice_value(alloc: Global, notice: &Notice) -> Result<Value, AllocError>
+    ensures value { IfOk result (λ value. view value ≡ notice_data notice.now) }
+    ensures limits { IfOk result (λ _. IsStatedNotice notice.now) }
+{
+    let parts = part_values(alloc, notice.parts())?;
+    let members = nothing(alloc);
+    let members = with_integer(alloc, members, "account", u64::from(notice.account().get()));
+    let members = with_integer(
+        alloc,
+        members,
+        "addressee",
+        u64::from(notice.addressee().get()),
+    );
+    let members = with_integer(alloc, members, "number", u64::from(notice.number().get()));
+    let members = with_items(alloc, members, "parts", parts);
+    let members = with_integer(alloc, members, "sender", u64::from(notice.sender().get()));
+    let members = with_integer(alloc, members, "version", 1);
+    object_of(members)
+}
+
+fn version(number: i128) -> Result<u64, ValueFault>
+    ensures { Gives (λ n. n) result (integer_in 1 1 number) }
+{
+    match u64::try_from(number) {
+        Ok(1) => Ok(1),
+        _ => Err(ValueFault::Field),
+    }
+}
+
+fn notice_with(
+    sender: RegistryCode,
+    addressee: RegistryCode,
+    number: ActNo,
+    account: AccountNo,
+    parts: Vec<Part>,
+) -> Result<Notice, ValueFault>
+    ensures { Gives (λ notice. notice) result
+        (accepted is_notice (notice_contents sender addressee number account parts.items)) }
+{
+    Ok(Notice::new(sender, addressee, number, account, parts)?)
+}
+
+#[tactic(auto, unfolding(crate::specs::Notice::notice_fields_of))]
+fn notice_fields(
+    alloc: Global,
+    account: i128,
+    addressee: i128,
+    number: i128,
+    sender: i128,
+    version_no: i128,
+    items: &[Value],
+) -> Result<Notice, ValueFault>
+    ensures { Gives (λ notice. notice) result
+        (notice_fields_of account addressee number sender version_no (items_view items.now)) }
+{
+    version(version_no)?;
+    let sender = registry_code(sender)?;
+    let addressee = registry_code(addressee)?;
+    let number = act_no(number)?;
+    let account = account_no(account)?;
+    let parts = parts(alloc, items)?;
+    notice_with(sender, addressee, number, account, parts)
+}
+
+/// The notice that a JSON value states. Its whole shape is looked at before any of its fields.
+#[tactic(auto, unfolding(crate::specs::Notice::notice_of))]
+pub fn stated_notice(alloc: Global, value: &Value) -> Result<Notice, ValueFault>
+    ensures { Gives (λ notice. notice) result (notice_of (view value.now)) }
+{
+    of_size(value, 6)?;
+    let account = integer_at(value, "account")?;
+    let addressee = integer_at(value, "addressee")?;
+    let number = integer_at(value, "number")?;
+    let items = items_at(value, "parts")?;
+    let sender = integer_at(value, "sender")?;
+    let version = integer_at(value, "version")?;
+    check_parts(items)?;
+    notice_fields(alloc, account, addressee, number, sender, version, items)
+}
