@@ -5,6 +5,7 @@ ghost use Rattle.sqlite.specs.Held.{state};
 ghost use Rattle.sqlite.specs.State.{HasCleanDisk};
 ghost use Rattle.goo_columns.specs.Met.{IsInKeyOrder};
 
+use crate::lapse::Lapse;
 use crate::registries::{closed, opened, sent};
 use crate::script::Line;
 use goo_opening::connecting::open_ordered;
@@ -14,17 +15,33 @@ use sqlite_disk::{Crash, Disk, Fuse, Memory};
 use std::alloc::Global;
 use std::process::Abort;
 
-/// Two empty disks in memory. They are of one type with those that stop, so that registries are compiled for one type of disk
-/// fewer.
-pub fn blank(alloc: Global) -> Files<Fuse<Memory>> {
+/// A disk in memory that stops for good after some calls, or refuses one write. All disks of these tests are of this type, as
+/// each type more has the registry and the database compiled once more.
+pub type Faulty = Lapse<Fuse<Memory>>;
+
+/// An empty disk in memory that stops after so many calls, or refuses the write after so many.
+fn faulty(alloc: Global, calls: u64, writes: u64) -> Faulty {
+    Lapse::new(Fuse::new(Memory::new(alloc), calls), writes)
+}
+
+/// Two empty disks in memory that work.
+pub fn blank(alloc: Global) -> Files<Faulty> {
     stopping(alloc, u64::MAX, u64::MAX)
 }
 
 /// Two empty disks in memory, each of which stops after so many calls.
-pub fn stopping(alloc: Global, log_calls: u64, db_calls: u64) -> Files<Fuse<Memory>> {
+pub fn stopping(alloc: Global, log_calls: u64, db_calls: u64) -> Files<Faulty> {
     Files {
-        log: Fuse::new(Memory::new(alloc), log_calls),
-        db: Fuse::new(Memory::new(alloc), db_calls),
+        log: faulty(alloc, log_calls, u64::MAX),
+        db: faulty(alloc, db_calls, u64::MAX),
+    }
+}
+
+/// Two empty disks in memory, the log of which refuses the write after so many.
+pub fn lapsing(alloc: Global, writes: u64) -> Files<Faulty> {
+    Files {
+        log: faulty(alloc, u64::MAX, writes),
+        db: faulty(alloc, u64::MAX, u64::MAX),
     }
 }
 

@@ -20,6 +20,8 @@ mod foreign;
 #[cfg(test)]
 mod found;
 #[cfg(test)]
+mod lapse;
+#[cfg(test)]
 mod lapses;
 #[cfg(test)]
 mod parts;
