@@ -9,7 +9,7 @@ use Rattle.serde_json.specs.Written.{has_float, outline}
 use Rattle.goo_types.specs.Lot.{IsLot}
 use Rattle.goo_types.specs.declared.lot_fields.LotFields.{LotFields}
 use Rattle.goo_types.proofs.DayLemmas.{day_reading-day_text}
-use Rattle.goo_members.specs.Lot.{lot_data, IsStatedLot, is_lot, lot_shape, lot_rest_of, lot_fields_of, lot_of}
+use Rattle.goo_members.specs.Lot.{lot_data, IsStatedLot, is_lot, plant_shape, lot_shape, lot_rest_of, lot_fields_of, lot_of}
 use Rattle.goo_members.specs.LotMembers.{origin_at, device_at, country_at, site_at, tech_at, source_at, capacity_at, commissioned_at, first_day_at, last_day_at, issued_on_at, support_at}
 use Rattle.goo_members.proofs.FieldLemmas.{fits, is_in_range-true, support_reading-support_word}
 
@@ -63,7 +63,7 @@ again l h =
     rw (number_of-decimal l.capacity_w (fits 1 100000000000 l.capacity_w h.capacity_w (omega arith)), number_of-decimal l.origin (fits 1 99 l.origin h.origin (omega arith))) refl
 
 pub shape : (l : LotFields) → lot_shape (lot_data l) ≡ Ok 12
-unfolding lot_shape lot_data
+unfolding lot_shape plant_shape lot_data
 shape l = refl
 
 fields : (l : LotFields) → IsStatedLot l → lot_fields_of (lot_data l) ≡ Ok l

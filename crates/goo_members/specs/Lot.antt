@@ -57,22 +57,28 @@ is_lot l =
     && (l.first_day.year == l.last_day.year)
     && (l.first_day.month == l.last_day.month)
 
+-- what is told of the plant, by its kinds
+unfoldable pub plant_shape : Data → Result ℕ ValueFault
+plant_shape d = do
+  capacity_w ← integer_at (codes "capacity_w") d
+  commissioned ← string_at (codes "commissioned") d
+  country ← string_at (codes "country") d
+  site ← string_at (codes "site") d
+  source ← string_at (codes "source") d
+  support ← string_at (codes "support") d
+  tech ← string_at (codes "tech") d
+  Ok 7
+
 -- an object of just these keys and kinds
 unfoldable pub lot_shape : Data → Result ℕ ValueFault
 lot_shape d = do
   size ← of_size 12 (as_object d)
-  capacity_w ← integer_at (codes "capacity_w") d
-  commissioned ← string_at (codes "commissioned") d
-  country ← string_at (codes "country") d
+  plant ← plant_shape d
   device ← string_at (codes "device") d
   first_day ← string_at (codes "first_day") d
   issued_on ← string_at (codes "issued_on") d
   last_day ← string_at (codes "last_day") d
   origin ← integer_at (codes "origin") d
-  site ← string_at (codes "site") d
-  source ← string_at (codes "source") d
-  support ← string_at (codes "support") d
-  tech ← string_at (codes "tech") d
   Ok size
 
 -- what an object of that shape states, where these fields of it are known

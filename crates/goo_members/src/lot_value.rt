@@ -2,7 +2,7 @@ ghost use Rattle.std.specs.Prelude.{◌≡◌, ◌↔◌, IfOk, IsTrue};
 ghost use Rattle.serde_json.specs.View.{view};
 ghost use Rattle.goo_types.specs.Lot.{IsLot};
 ghost use Rattle.goo_members.specs.Faults.{Gives};
-ghost use Rattle.goo_members.specs.Lot.{lot_data, IsStatedLot, lot_shape, lot_rest_of, lot_fields_of, lot_of};
+ghost use Rattle.goo_members.specs.Lot.{lot_data, IsStatedLot, plant_shape, lot_shape, lot_rest_of, lot_fields_of, lot_of};
 
 use crate::lot_members::{
     capacity_at, commissioned_at, country_at, device_at, first_day_at, issued_on_at, last_day_at,
@@ -56,24 +56,33 @@ pub(crate) fn lot_value(alloc: Global, lot: &Lot) -> Result<Value, AllocError>
     fields_value(alloc, lot.fields())
 }
 
+/// That a value has the keys that tell of the plant, with their kinds; how many these are.
+#[tactic(auto, unfolding(crate::specs::Lot::plant_shape))]
+fn check_plant(value: &Value) -> Result<usize, ValueFault>
+    ensures { Gives (λ n. n) result (plant_shape (view value.now)) }
+{
+    integer_at(value, "capacity_w")?;
+    string_at(value, "commissioned")?;
+    string_at(value, "country")?;
+    string_at(value, "site")?;
+    string_at(value, "source")?;
+    string_at(value, "support")?;
+    string_at(value, "tech")?;
+    Ok(7)
+}
+
 /// That a value has the keys of a lot, with their kinds.
 #[tactic(auto, unfolding(crate::specs::Lot::lot_shape))]
 pub(crate) fn check_lot(value: &Value) -> Result<usize, ValueFault>
     ensures { Gives (λ n. n) result (lot_shape (view value.now)) }
 {
     let size = of_size(value, 12)?;
-    integer_at(value, "capacity_w")?;
-    string_at(value, "commissioned")?;
-    string_at(value, "country")?;
+    check_plant(value)?;
     string_at(value, "device")?;
     string_at(value, "first_day")?;
     string_at(value, "issued_on")?;
     string_at(value, "last_day")?;
     integer_at(value, "origin")?;
-    string_at(value, "site")?;
-    string_at(value, "source")?;
-    string_at(value, "support")?;
-    string_at(value, "tech")?;
     Ok(size)
 }
 
