@@ -3,7 +3,7 @@ ghost use Rattle.serde_json.specs.View.{view};
 ghost use Rattle.goo_types.specs.declared.fault.Fault.TheVariants as fault;
 ghost use Rattle.goo_sent.specs.Notice.{notice_text, IsStatedNotice, notice_of};
 ghost use Rattle.goo_sent.specs.NoticeFaults.{as_notice, NoticeGives};
-ghost use Rattle.goo_sent.specs.NoticeText.{notice_in};
+ghost use Rattle.goo_sent.specs.NoticeText.{canonical, notice_in};
 
 use crate::notice_fault::NoticeFault;
 use crate::notice_value::{notice_value, stated_notice};
@@ -46,6 +46,18 @@ pub fn from_value(alloc: Global, value: &Value) -> Result<Notice, NoticeFault>
     Ok(stated_notice(alloc, value)?)
 }
 
+/// The notice, where the bytes are its text.
+fn canonical(alloc: Global, notice: Notice, bytes: &[u8]) -> Result<Notice, NoticeFault>
+    ensures { NoticeGives (λ notice. notice) result (canonical bytes.now notice) }
+{
+    let text = written(alloc, &notice)?;
+    if text.as_slice() == bytes {
+        Ok(notice)
+    } else {
+        Err(NoticeFault::Canonical)
+    }
+}
+
 /// The notice whose text the bytes are: the very bytes that [`write`] gives for it.
 ///
 /// # Errors
@@ -58,11 +70,5 @@ pub fn read(alloc: Global, bytes: &[u8]) -> Result<Notice, NoticeFault>
     ensures { NoticeGives (λ notice. notice) result (notice_in bytes.now) }
 {
     let value = json_value(alloc, bytes)?.ok_or(NoticeFault::NotJson)?;
-    let notice = from_value(alloc, &value)?;
-    let text = written(alloc, &notice)?;
-    if text.as_slice() == bytes {
-        Ok(notice)
-    } else {
-        Err(NoticeFault::Canonical)
-    }
+    canonical(alloc, from_value(alloc, &value)?, bytes)
 }
