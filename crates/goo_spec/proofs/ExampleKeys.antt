@@ -4,7 +4,7 @@ use Rattle.std.specs.Prelude.{codes, cond}
 use Rattle.std.specs.Ordering.{nat_cmp}
 use Rattle.std.specs.FinMap.{get, insert, empty, get-empty}
 use Rattle.goo_types.specs.Day.{day_number}
-use Rattle.jiff_core.specs.Calendar.{day_count, days_of_years, days_of_months}
+use Rattle.jiff_core.specs.Calendar.{day_count, days_of_months}
 use Rattle.goo_types.specs.Range.{Numbers}
 use Rattle.goo_types.specs.declared.lot_fields.LotFields.{LotFields}
 use Rattle.goo_types.specs.declared.place.Place.{Place}
@@ -28,6 +28,7 @@ use Rattle.goo_spec.specs.Checks.{issuer}
 use Rattle.goo_spec.specs.Declare.{with_declaration, earned, declare_refusal, declare_reply, with_issue}
 use Rattle.goo_spec.specs.Step.{accept, outcome, after, next}
 use Rattle.goo_spec.specs.Run.{outcomes}
+use Rattle.goo_spec.proofs.ExampleYears.{before_2020, before_2025, before_2026}
 use Rattle.goo_spec.proofs.Keys.{receipts_total}
 use Rattle.goo_spec.proofs.Mapping.{get_set}
 use Rattle.goo_spec.proofs.Placing.{is_one_of, get-give_each}
@@ -82,8 +83,8 @@ january_lot = record {
 }
 
 passes_january : declare_refusal base issuer january ≡ None
-unfolding declare_refusal is_over day_number day_count days_of_years days_of_months earned due total with_declaration
-passes_january = rw (device, account_1) refl
+unfolding declare_refusal is_over day_number day_count days_of_months earned due total with_declaration
+passes_january = rw (device, account_1, before_2020, before_2025, before_2026) refl
 
 replies_january : declare_reply base january ≡ january_issue
 unfolding declare_reply carry total earned due with_declaration
@@ -147,12 +148,12 @@ abbrev used_up : State
 used_up = record base { next_serial = 999999999999 }
 
 refuses_two : declare_refusal used_up issuer (produced 2000000 0) ≡ Some NumbersExhausted
-unfolding declare_refusal is_over day_number day_count days_of_years days_of_months earned due total with_declaration
-refuses_two = rw (device, account_1) refl
+unfolding declare_refusal is_over day_number day_count days_of_months earned due total with_declaration
+refuses_two = rw (device, account_1, before_2020, before_2025, before_2026) refl
 
 passes_one : declare_refusal used_up issuer (produced 1000000 0) ≡ None
-unfolding declare_refusal is_over day_number day_count days_of_years days_of_months earned due total with_declaration
-passes_one = rw (device, account_1) refl
+unfolding declare_refusal is_over day_number day_count days_of_months earned due total with_declaration
+passes_one = rw (device, account_1, before_2020, before_2025, before_2026) refl
 
 abbrev last_one : Reply
 last_one = Declared 0 (Some (numbers 999999999999 999999999999))

@@ -5,7 +5,7 @@ use Rattle.std.specs.Cmp.{nat_cmp_total}
 use Rattle.std.specs.Cmp.Lexicographic.{nat_list_cmp_total}
 use Rattle.std.specs.FinMap.{get, insert, empty, get-insert, get-empty}
 use Rattle.goo_types.specs.Day.{day_number}
-use Rattle.jiff_core.specs.Calendar.{day_count, days_of_years, days_of_months}
+use Rattle.jiff_core.specs.Calendar.{day_count, days_of_months}
 use Rattle.goo_types.specs.declared.command.RegisterDevice.{RegisterDevice}
 use Rattle.goo_types.specs.declared.command.Cancel.{Cancel}
 use Rattle.goo_types.specs.declared.refusal.Refusal.TheVariants.{NotAllowed, UnknownHolder, HolderExists, UnknownAccount, AccountClosed, DeviceExists, UnknownDevice, NumbersExhausted, UnknownNumber, DateBackwards, PeerExists}
@@ -21,6 +21,7 @@ use Rattle.goo_spec.specs.Cancel.{cancel_refusal}
 use Rattle.goo_spec.specs.Withdraw.{withdraw_refusal}
 use Rattle.goo_spec.specs.Advance.{advance_refusal}
 use Rattle.goo_spec.specs.AddPeer.{add_peer_refusal}
+use Rattle.goo_spec.proofs.ExampleYears.{before_2025}
 use Rattle.goo_spec.proofs.Mapping.{get_number, get_set}
 use Rattle.goo_spec.proofs.ExampleRegistry.{day, gsrn, north_field, sun, volt, account_of_holder, base, account_1, account_2, device}
 use Rattle.goo_spec.proofs.ExampleKeys.{numbers, january, issued, certificates, after_january, at_january}
@@ -205,16 +206,16 @@ unfolding cancel_refusal
 cancelling_not_allowed = rw busy_1 refl
 
 cancelling_absent : cancel_refusal full sun (cancels 1199 1202) ≡ Some (UnknownNumber 7000000001201)
-unfolding cancel_refusal day_number day_count days_of_years days_of_months
-cancelling_absent = rw (busy_1, map_january) refl
+unfolding cancel_refusal day_number day_count days_of_months
+cancelling_absent = rw (busy_1, map_january, before_2025) refl
 
 cancellations_used_up : cancel_refusal full sun (cancels 1 1) ≡ Some NumbersExhausted
-unfolding cancel_refusal day_number day_count days_of_years days_of_months
-cancellations_used_up = rw (busy_1, map_january) refl
+unfolding cancel_refusal day_number day_count days_of_months
+cancellations_used_up = rw (busy_1, map_january, before_2025) refl
 
 last_cancellation : cancel_refusal nearly_full sun (cancels 1 1) ≡ None
-unfolding cancel_refusal day_number day_count days_of_years days_of_months
-last_cancellation = rw (busy_1, map_january) refl
+unfolding cancel_refusal day_number day_count days_of_months
+last_cancellation = rw (busy_1, map_january, before_2025) refl
 
 -- ---- Withdraw
 
@@ -241,16 +242,16 @@ unfolding advance_refusal
 advancing_not_allowed = refl
 
 same_day_again : advance_refusal busy issuer (record { day = day 2025 3 1 }) ≡ Some DateBackwards
-unfolding advance_refusal day_number day_count days_of_years days_of_months
-same_day_again = refl
+unfolding advance_refusal day_number day_count days_of_months
+same_day_again = rw before_2025 refl
 
 day_before : advance_refusal busy issuer (record { day = day 2025 2 28 }) ≡ Some DateBackwards
-unfolding advance_refusal day_number day_count days_of_years days_of_months
-day_before = refl
+unfolding advance_refusal day_number day_count days_of_months
+day_before = rw before_2025 refl
 
 next_day : advance_refusal busy issuer (record { day = day 2025 3 2 }) ≡ None
-unfolding advance_refusal day_number day_count days_of_years days_of_months
-next_day = refl
+unfolding advance_refusal day_number day_count days_of_months
+next_day = rw before_2025 refl
 
 -- ---- AddPeer
 
