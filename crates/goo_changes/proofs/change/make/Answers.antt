@@ -234,18 +234,6 @@ returns-in-AddNoticeOut-clause-uncommitted g c = c.insert_notice_out.ensures.unc
 pub returns-in-AddNoticeOut-clause-survives : goal.returns-in-AddNoticeOut-clause-survives
 returns-in-AddNoticeOut-clause-survives g c = c.insert_notice_out.ensures.survives
 
-pub returns-in-AddNoticeIn-clause-same_reference : goal.returns-in-AddNoticeIn-clause-same_reference
-returns-in-AddNoticeIn-clause-same_reference g c = c.insert_notice_in.ensures.same_reference
-
-pub returns-in-AddNoticeIn-clause-live : goal.returns-in-AddNoticeIn-clause-live
-returns-in-AddNoticeIn-clause-live g c = c.insert_notice_in.ensures.live
-
-pub returns-in-AddNoticeIn-clause-uncommitted : goal.returns-in-AddNoticeIn-clause-uncommitted
-returns-in-AddNoticeIn-clause-uncommitted g c = c.insert_notice_in.ensures.uncommitted
-
-pub returns-in-AddNoticeIn-clause-survives : goal.returns-in-AddNoticeIn-clause-survives
-returns-in-AddNoticeIn-clause-survives g c = c.insert_notice_in.ensures.survives
-
 pub returns-in-SetToday-clause-same_reference : goal.returns-in-SetToday-clause-same_reference
 returns-in-SetToday-clause-same_reference g c = c.set_today.ensures.same_reference
 
@@ -257,15 +245,3 @@ returns-in-SetToday-clause-uncommitted g c = c.set_today.ensures.uncommitted
 
 pub returns-in-SetToday-clause-survives : goal.returns-in-SetToday-clause-survives
 returns-in-SetToday-clause-survives g c = c.set_today.ensures.survives
-
-pub returns-in-SetCounters-clause-same_reference : goal.returns-in-SetCounters-clause-same_reference
-returns-in-SetCounters-clause-same_reference g c = c.set_counters.ensures.same_reference
-
-pub returns-in-SetCounters-clause-live : goal.returns-in-SetCounters-clause-live
-returns-in-SetCounters-clause-live g c = c.set_counters.ensures.live
-
-pub returns-in-SetCounters-clause-uncommitted : goal.returns-in-SetCounters-clause-uncommitted
-returns-in-SetCounters-clause-uncommitted g c = c.set_counters.ensures.uncommitted
-
-pub returns-in-SetCounters-clause-survives : goal.returns-in-SetCounters-clause-survives
-returns-in-SetCounters-clause-survives g c = c.set_counters.ensures.survives
