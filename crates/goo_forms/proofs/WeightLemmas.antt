@@ -3,7 +3,7 @@ use Rattle.std.proofs.Common.{◌≡◌, ℕ, zero, suc, ◌+◌, ◌-◌, ◌*�
 use Rattle.std.proofs.lemmas.Grind.{common_steps}
 use Rattle.std.proofs.lemmas.List.{length-reverse, reverse-append}
 use Rattle.std.specs.Char.{digit_value}
-use Rattle.goo_types.specs.Gsrn.{weighted_sum, check_sum}
+use Rattle.goo_forms.specs.CheckDigit.{weighted_sum, check_sum}
 
 -- the weight that stands n places after w
 abbrev turned : ℕ → ℕ → ℕ

@@ -1,0 +1,4 @@
+pub mod DigitsOf
+pub mod MonthLemmas
+pub mod SumLemmas
+pub mod WeightLemmas

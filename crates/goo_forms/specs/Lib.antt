@@ -1,0 +1,4 @@
+pub mod CheckDigit
+pub mod Days
+pub mod Edges
+pub mod Numbers
