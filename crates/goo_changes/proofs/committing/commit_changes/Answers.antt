@@ -1,6 +1,9 @@
 use Rattle.std.proofs.Common.{rules}
 use Rattle.goo_changes.proofs.committing.commit_changes.Goals as goal
 
+pub returns-clause-crash : goal.returns-clause-crash
+returns-clause-crash g c = search rules
+
 pub returns-clause-clean : goal.returns-clause-clean
 returns-clause-clean g c = c.commit_together.ensures.clean
 
@@ -24,6 +27,3 @@ returns-clause-live g c = c.commit_together.ensures.live
 
 pub returns-clause-kept : goal.returns-clause-kept
 returns-clause-kept g c = c.commit_together.ensures.kept
-
-pub returns-clause-crash : goal.returns-clause-crash
-returns-clause-crash g c = search rules
