@@ -9,6 +9,7 @@ ghost use Rattle.goo_columns.specs.Lives.{LeavesLive};
 ghost use Rattle.goo_columns.specs.Stands.{Sees};
 ghost use Rattle.goo_changes.specs.Changes.{made, made_all, ChangeFits, IsFor, AreFor, IsFree, AreFree, HasRoom, HaveRoom};
 
+use crate::once::{keep_counters, keep_notice};
 use goo_columns::account::AccountRow;
 use goo_columns::cancellation::CancellationRow;
 use goo_columns::declaration::DeclarationRow;
@@ -29,8 +30,7 @@ use goo_tables::cancellation::insert_cancellation;
 use goo_tables::declaration::insert_declaration;
 use goo_tables::device::{insert_device, set_progress};
 use goo_tables::lot::insert_lot;
-use goo_tables::meta::{set_counters, set_today};
-use goo_tables::notice_in::insert_notice_in;
+use goo_tables::meta::set_today;
 use goo_tables::notice_out::insert_notice_out;
 use goo_tables::peer::insert_peer;
 use goo_tables::receipt::insert_receipt;
@@ -96,9 +96,9 @@ fn make<S: Alter>(tx: &mut Transaction<'_, S>, change: &Change) -> Result<usize,
         Change::AddCancellation(row) => insert_cancellation(tx, row),
         Change::AddWithdrawal(row) => insert_withdrawal(tx, row),
         Change::AddNoticeOut(row) => insert_notice_out(tx, row),
-        Change::AddNoticeIn(row) => insert_notice_in(tx, row),
+        Change::AddNoticeIn(row) => keep_notice(tx, row),
         Change::SetToday(day) => set_today(tx, day),
-        Change::SetCounters(counters) => set_counters(tx, counters),
+        Change::SetCounters(counters) => keep_counters(tx, counters),
     }
 }
 
