@@ -7,7 +7,7 @@ ghost use Rattle.goo_columns.specs.Refused.{is_store_error};
 use sqlite::{Error, ErrorCode};
 
 /// Why tables are not opened as a registry, or not made one.
-#[derive(Clone, Copy, Debug, PartialEq, Eq)]
+#[derive(Clone, Copy, PartialEq, Eq)]
 pub enum OpenFault {
     /// A table of a registry is there already.
     AlreadyThere,

@@ -18,7 +18,7 @@ use std::alloc::Global;
 const VERSION: u32 = 1;
 
 /// What was read of a registry's tables.
-#[derive(Debug, Drop)]
+#[derive(Drop)]
 pub struct Found {
     pub meta: MetaRow,
     pub rows: AllRows,

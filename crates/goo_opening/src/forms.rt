@@ -1,7 +1,7 @@
 //! What tells the tables and indexes of a registry from one another.
 
 /// A column of a STRICT table, with neither DEFAULT nor COLLATE, by its name.
-#[derive(Clone, Copy, Debug)]
+#[derive(Clone, Copy)]
 pub enum ColumnForm {
     /// INTEGER NOT NULL
     Number(&'static [u8]),
@@ -16,7 +16,7 @@ pub enum ColumnForm {
 }
 
 /// A STRICT table with neither CHECK, REFERENCES nor AUTOINCREMENT. Places count the columns from 1, and the rowid is place 0.
-#[derive(Clone, Copy, Debug)]
+#[derive(Clone, Copy)]
 pub struct TableForm {
     pub name: &'static [u8],
     pub tree: u32,
@@ -30,7 +30,7 @@ pub struct TableForm {
 }
 
 /// An index whose columns ascend by their bytes.
-#[derive(Clone, Copy, Debug)]
+#[derive(Clone, Copy)]
 pub struct IndexForm {
     pub name: &'static [u8],
     pub tree: u32,

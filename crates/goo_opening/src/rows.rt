@@ -14,7 +14,7 @@ use goo_columns::receipt::ReceiptRow;
 use goo_columns::withdrawal::WithdrawalRow;
 
 /// Those that the registry knows.
-#[derive(Debug, Drop)]
+#[derive(Drop)]
 pub struct Members {
     pub holders: Vec<HolderRow>,
     pub accounts: Vec<AccountRow>,
@@ -22,7 +22,7 @@ pub struct Members {
 }
 
 /// What was produced, and the certificates for it.
-#[derive(Debug, Drop)]
+#[derive(Drop)]
 pub struct Production {
     pub devices: Vec<DeviceRow>,
     pub declarations: Vec<DeclarationRow>,
@@ -31,7 +31,7 @@ pub struct Production {
 }
 
 /// The requests that were accepted, and the records of acts.
-#[derive(Debug, Drop)]
+#[derive(Drop)]
 pub struct Acts {
     pub receipts: Vec<ReceiptRow>,
     pub cancellations: Vec<CancellationRow>,
@@ -39,14 +39,14 @@ pub struct Acts {
 }
 
 /// The notices that were sent and that came in.
-#[derive(Debug, Drop)]
+#[derive(Drop)]
 pub struct Notices {
     pub sent: Vec<NoticeOutRow>,
     pub came: Vec<NoticeInRow>,
 }
 
 /// The rows of all tables but `meta`.
-#[derive(Debug, Drop)]
+#[derive(Drop)]
 pub struct AllRows {
     pub members: Members,
     pub production: Production,

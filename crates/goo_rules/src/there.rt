@@ -17,7 +17,7 @@ use goo_columns::piece::PieceRow;
 use std::collections::BTreeSet;
 
 /// The numbers of the acts that take certificates out of circulation.
-#[derive(Debug, Drop)]
+#[derive(Drop)]
 pub struct ActNumbers {
     pub cancellations: BTreeSet<u32>,
     pub withdrawals: BTreeSet<u32>,
