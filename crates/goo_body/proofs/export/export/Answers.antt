@@ -5,6 +5,16 @@ use Rattle.goo_members.specs.Fields.{integer_in}
 use Rattle.goo_notice.specs.Export.{export_of}
 use Rattle.goo_body.proofs.Steps.{ends, past, refused, taken}
 use Rattle.goo_body.proofs.export.export.Goals as goal
+use Rattle.goo_body.proofs.export.export.Goals.{In_ok-account, In_ok-giver, In_ok-peer}
+
+fits_giver : (c : In_ok-giver) → SFits w128 c.in_ok-giver.giver
+fits_giver c = search rules
+
+fits_peer : (c : In_ok-peer) → SFits w128 c.in_ok-peer.peer
+fits_peer c = search rules
+
+fits_account : (c : In_ok-account) → SFits w128 c.in_ok-account.account
+fits_account c = search rules
 
 pub returns-in_err-of_size : goal.returns-in_err-of_size
 unfolding export_of
@@ -32,29 +42,16 @@ returns-in_err-peer c = past _ _ _ _ c.in_ok-of_size.ensures (past _ _ _ _ c.in_
 
 pub returns-in_err-account_no : goal.returns-in_err-account_no
 unfolding export_of
-returns-in_err-account_no c =
-    let fits_giver : SFits w128 c.in_ok-giver.giver = search rules in
-    past _ _ _ _ c.in_ok-of_size.ensures (past _ _ _ _ c.in_ok-account.ensures (past _ _ _ _ c.in_ok-first.ensures (past _ _ _ _ c.in_ok-giver.ensures (past _ _ _ _ c.in_ok-last.ensures (past _ _ _ _ c.in_ok-peer.ensures (ends _ _ _ _ c.from_residual-in_err-account_no.ensures.1 (refused (integer_in 1 999999999) _ _ fits_giver c.in_err-account_no.ensures)))))))
+returns-in_err-account_no c = past _ _ _ _ c.in_ok-of_size.ensures (past _ _ _ _ c.in_ok-account.ensures (past _ _ _ _ c.in_ok-first.ensures (past _ _ _ _ c.in_ok-giver.ensures (past _ _ _ _ c.in_ok-last.ensures (past _ _ _ _ c.in_ok-peer.ensures (ends _ _ _ _ c.from_residual-in_err-account_no.ensures.1 (refused (integer_in 1 999999999) _ _ (fits_giver (goal.at.returns-in_err-account_no c).In_ok-giver) c.in_err-account_no.ensures)))))))
 
 pub returns-in_err-registry_code : goal.returns-in_err-registry_code
 unfolding export_of
-returns-in_err-registry_code c =
-    let fits_giver : SFits w128 c.in_ok-giver.giver = search rules in
-    let fits_peer : SFits w128 c.in_ok-peer.peer = search rules in
-    past _ _ _ _ c.in_ok-of_size.ensures (past _ _ _ _ c.in_ok-account.ensures (past _ _ _ _ c.in_ok-first.ensures (past _ _ _ _ c.in_ok-giver.ensures (past _ _ _ _ c.in_ok-last.ensures (past _ _ _ _ c.in_ok-peer.ensures (past _ _ _ _ (taken (integer_in 1 999999999) _ _ fits_giver c.in_ok-account_no.ensures) (ends _ _ _ _ c.from_residual-in_err-registry_code.ensures.1 (refused (integer_in 1 99) _ _ fits_peer c.in_err-registry_code.ensures))))))))
+returns-in_err-registry_code c = past _ _ _ _ c.in_ok-of_size.ensures (past _ _ _ _ c.in_ok-account.ensures (past _ _ _ _ c.in_ok-first.ensures (past _ _ _ _ c.in_ok-giver.ensures (past _ _ _ _ c.in_ok-last.ensures (past _ _ _ _ c.in_ok-peer.ensures (past _ _ _ _ (taken (integer_in 1 999999999) _ _ (fits_giver (goal.at.returns-in_err-registry_code c).In_ok-giver) c.in_ok-account_no.ensures) (ends _ _ _ _ c.from_residual-in_err-registry_code.ensures.1 (refused (integer_in 1 99) _ _ (fits_peer (goal.at.returns-in_err-registry_code c).In_ok-peer) c.in_err-registry_code.ensures))))))))
 
 pub returns-in_err-account_no-2 : goal.returns-in_err-account_no-2
 unfolding export_of
-returns-in_err-account_no-2 c =
-    let fits_giver : SFits w128 c.in_ok-giver.giver = search rules in
-    let fits_peer : SFits w128 c.in_ok-peer.peer = search rules in
-    let fits_account : SFits w128 c.in_ok-account.account = search rules in
-    past _ _ _ _ c.in_ok-of_size.ensures (past _ _ _ _ c.in_ok-account.ensures (past _ _ _ _ c.in_ok-first.ensures (past _ _ _ _ c.in_ok-giver.ensures (past _ _ _ _ c.in_ok-last.ensures (past _ _ _ _ c.in_ok-peer.ensures (past _ _ _ _ (taken (integer_in 1 999999999) _ _ fits_giver c.in_ok-account_no.ensures) (past _ _ _ _ (taken (integer_in 1 99) _ _ fits_peer c.in_ok-registry_code.ensures) (ends _ _ _ _ c.from_residual-in_err-account_no-2.ensures.1 (refused (integer_in 1 999999999) _ _ fits_account c.in_err-account_no-2.ensures)))))))))
+returns-in_err-account_no-2 c = past _ _ _ _ c.in_ok-of_size.ensures (past _ _ _ _ c.in_ok-account.ensures (past _ _ _ _ c.in_ok-first.ensures (past _ _ _ _ c.in_ok-giver.ensures (past _ _ _ _ c.in_ok-last.ensures (past _ _ _ _ c.in_ok-peer.ensures (past _ _ _ _ (taken (integer_in 1 999999999) _ _ (fits_giver (goal.at.returns-in_err-account_no-2 c).In_ok-giver) c.in_ok-account_no.ensures) (past _ _ _ _ (taken (integer_in 1 99) _ _ (fits_peer (goal.at.returns-in_err-account_no-2 c).In_ok-peer) c.in_ok-registry_code.ensures) (ends _ _ _ _ c.from_residual-in_err-account_no-2.ensures.1 (refused (integer_in 1 999999999) _ _ (fits_account (goal.at.returns-in_err-account_no-2 c).In_ok-account) c.in_err-account_no-2.ensures)))))))))
 
 pub returns-in_err-range : goal.returns-in_err-range
 unfolding export_of
-returns-in_err-range c =
-    let fits_giver : SFits w128 c.in_ok-giver.giver = search rules in
-    let fits_peer : SFits w128 c.in_ok-peer.peer = search rules in
-    let fits_account : SFits w128 c.in_ok-account.account = search rules in
-    past _ _ _ _ c.in_ok-of_size.ensures (past _ _ _ _ c.in_ok-account.ensures (past _ _ _ _ c.in_ok-first.ensures (past _ _ _ _ c.in_ok-giver.ensures (past _ _ _ _ c.in_ok-last.ensures (past _ _ _ _ c.in_ok-peer.ensures (past _ _ _ _ (taken (integer_in 1 999999999) _ _ fits_giver c.in_ok-account_no.ensures) (past _ _ _ _ (taken (integer_in 1 99) _ _ fits_peer c.in_ok-registry_code.ensures) (past _ _ _ _ (taken (integer_in 1 999999999) _ _ fits_account c.in_ok-account_no-2.ensures) (ends _ _ _ _ c.from_residual-in_err-range.ensures.1 c.in_err-range.ensures)))))))))
+returns-in_err-range c = past _ _ _ _ c.in_ok-of_size.ensures (past _ _ _ _ c.in_ok-account.ensures (past _ _ _ _ c.in_ok-first.ensures (past _ _ _ _ c.in_ok-giver.ensures (past _ _ _ _ c.in_ok-last.ensures (past _ _ _ _ c.in_ok-peer.ensures (past _ _ _ _ (taken (integer_in 1 999999999) _ _ (fits_giver (goal.at.returns-in_err-range c).In_ok-giver) c.in_ok-account_no.ensures) (past _ _ _ _ (taken (integer_in 1 99) _ _ (fits_peer (goal.at.returns-in_err-range c).In_ok-peer) c.in_ok-registry_code.ensures) (past _ _ _ _ (taken (integer_in 1 999999999) _ _ (fits_account (goal.at.returns-in_err-range c).In_ok-account) c.in_ok-account_no-2.ensures) (ends _ _ _ _ c.from_residual-in_err-range.ensures.1 c.in_err-range.ensures)))))))))
