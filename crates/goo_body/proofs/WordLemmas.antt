@@ -1,9 +1,12 @@
--- A word that is none of the twelve states no command.
-use Rattle.std.proofs.Common.{◌≡◌, ◌≢◌, ℕ, List, Bool, true, false, codes, Err, refl}
+-- A word states the command of its name, and one that is none of the twelve states none.
+use Rattle.std.proofs.Common.{◌≡◌, ◌≢◌, ℕ, List, Bool, true, false, codes, Result, Err, refl, sym, subst}
 use Rattle.std.specs.Str.{bytes_eq}
 use Rattle.std.proofs.lemmas.Slice.Eq.{bytes_eq-Decides}
 use Rattle.serde_json.specs.Data.{Data}
+use Rattle.goo_types.specs.declared.command.Command.{Command}
+use Rattle.goo_members.specs.declared.value_fault.ValueFault.{ValueFault}
 use Rattle.goo_members.specs.declared.value_fault.ValueFault.TheVariants.{Shape}
+use Rattle.goo_members.specs.Faults.{Gives}
 use Rattle.goo_notice.specs.Command.{command_named}
 
 not_true : (b : Bool) → b ≢ true → b ≡ false
@@ -35,3 +38,7 @@ unknown_word word others d a b c e f g h i j k l m =
       differs _ _ l,
       differs _ _ m,
     ) refl
+
+-- a word that is known
+pub by_word : (word name : List ℕ) (d : Data) (result : Result Command ValueFault) → word ≡ name → Gives (λ c. c) result (command_named name 1 d) → Gives (λ c. c) result (command_named word 1 d)
+by_word word name d result is h = subst (λ w. Gives (λ (c : Command). c) result (command_named w 1 d)) (sym is) h

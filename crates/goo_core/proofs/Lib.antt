@@ -16,5 +16,6 @@ pub mod Arrivals
 pub mod Importing
 pub mod Withdrawing
 pub mod Deciding
+pub mod Stopping
 pub mod AccountRuns
 mod ExampleRuns

@@ -4,9 +4,11 @@ use Rattle.goo_spec.specs.OpenAccount.{open_account_refusal, open_account_reply,
 use Rattle.goo_spec.specs.CloseAccount.{close_account_refusal, close_account_reply, with_closed}
 use Rattle.goo_spec.specs.RegisterDevice.{register_device_refusal, register_device_reply, with_device}
 use Rattle.goo_spec.specs.AddPeer.{add_peer_refusal, add_peer_reply, with_peer}
+use Rattle.goo_shelf.specs.Shelf.{Looks}
 use Rattle.goo_core.specs.Ruling.{IsRuling, meaning_of}
 use Rattle.goo_core.proofs.Deciding.{quiet_ruled}
 use Rattle.goo_core.proofs.Looking.{looked}
+use Rattle.goo_core.proofs.Stopping.{looked_failed}
 use Rattle.goo_core.proofs.decision.judge.Goals as goal
 
 pub returns-in_ok-judge_open_holder-in-OpenHolder : goal.returns-in_ok-judge_open_holder-in-OpenHolder
@@ -63,3 +65,43 @@ returns-in_ok-judge_add_peer-in-AddPeer g c =
     looked old _ _ _ _ _ c.in_ok-judge_add_peer-in-AddPeer.ensures (λ none is.
     subst (λ command. IsRuling (meaning_of s caller command) old.rows c.quiet-in-AddPeer.result) (sym c.in-AddPeer.is)
     (quiet_ruled (add_peer_refusal s caller x) (add_peer_reply s x) s.at (with_peer s x).at old.rows c.in_ok-judge_add_peer-in-AddPeer.field-0 c.quiet-in-AddPeer.result (c.requires.rows none) refl is c.quiet-in-AddPeer.ensures))
+
+pub returns-in_err-judge_open_holder-in-OpenHolder : goal.returns-in_err-judge_open_holder-in-OpenHolder
+returns-in_err-judge_open_holder-in-OpenHolder g c = looked_failed _ _ _ _ _ _ c.from_residual.ensures.1 c.in_err-judge_open_holder-in-OpenHolder.ensures
+
+pub returns-in_err-judge_open_account-in-OpenAccount : goal.returns-in_err-judge_open_account-in-OpenAccount
+returns-in_err-judge_open_account-in-OpenAccount g c = looked_failed _ _ _ _ _ _ c.from_residual-in_err-judge_open_account-in-OpenAccount.ensures.1 c.in_err-judge_open_account-in-OpenAccount.ensures
+
+pub returns-in_err-judge_close_account-in-CloseAccount : goal.returns-in_err-judge_close_account-in-CloseAccount
+returns-in_err-judge_close_account-in-CloseAccount g c = looked_failed _ _ _ _ _ _ c.from_residual-in_err-judge_close_account-in-CloseAccount.ensures.1 c.in_err-judge_close_account-in-CloseAccount.ensures
+
+pub returns-in_err-judge_register_device-in-RegisterDevice : goal.returns-in_err-judge_register_device-in-RegisterDevice
+returns-in_err-judge_register_device-in-RegisterDevice g c = looked_failed _ _ _ _ _ _ c.from_residual-in_err-judge_register_device-in-RegisterDevice.ensures.1 c.in_err-judge_register_device-in-RegisterDevice.ensures
+
+pub returns-in_err-judge_add_peer-in-AddPeer : goal.returns-in_err-judge_add_peer-in-AddPeer
+returns-in_err-judge_add_peer-in-AddPeer g c = looked_failed _ _ _ _ _ _ c.from_residual-in_err-judge_add_peer-in-AddPeer.ensures.1 c.in_err-judge_add_peer-in-AddPeer.ensures
+
+pub returns-in-Declare : goal.returns-in-Declare
+returns-in-Declare g c =
+    let old = g.S.Shelf.seen c.args.shelf.now in
+    subst (λ command. Looks old (g.S.Shelf.seen c.judge_declare.new.shelf) c.judge_declare.result (IsRuling (meaning_of old.state c.args.caller.now command) old.rows)) (sym c.in-Declare.is) c.judge_declare.ensures
+
+pub returns-in-Cancel : goal.returns-in-Cancel
+returns-in-Cancel g c =
+    let old = g.S.Shelf.seen c.args.shelf.now in
+    subst (λ command. Looks old (g.S.Shelf.seen c.judge_cancel.new.shelf) c.judge_cancel.result (IsRuling (meaning_of old.state c.args.caller.now command) old.rows)) (sym c.in-Cancel.is) c.judge_cancel.ensures
+
+pub returns-in-Withdraw : goal.returns-in-Withdraw
+returns-in-Withdraw g c =
+    let old = g.S.Shelf.seen c.args.shelf.now in
+    subst (λ command. Looks old (g.S.Shelf.seen c.judge_withdraw.new.shelf) c.judge_withdraw.result (IsRuling (meaning_of old.state c.args.caller.now command) old.rows)) (sym c.in-Withdraw.is) c.judge_withdraw.ensures
+
+pub returns-in-Advance : goal.returns-in-Advance
+returns-in-Advance g c =
+    let old = g.S.Shelf.seen c.args.shelf.now in
+    subst (λ command. Looks old (g.S.Shelf.seen c.judge_advance.new.shelf) c.judge_advance.result (IsRuling (meaning_of old.state c.args.caller.now command) old.rows)) (sym c.in-Advance.is) c.judge_advance.ensures
+
+pub returns-in-Export : goal.returns-in-Export
+returns-in-Export g c =
+    let old = g.S.Shelf.seen c.args.shelf.now in
+    subst (λ command. Looks old (g.S.Shelf.seen c.judge_export.new.shelf) c.judge_export.result (IsRuling (meaning_of old.state c.args.caller.now command) old.rows)) (sym c.in-Export.is) c.judge_export.ensures
