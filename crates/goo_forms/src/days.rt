@@ -19,7 +19,9 @@ fn moved(year: u16, month: u8, day: u8, months: u8) -> Date
     requires { IsDay (record { year = year; month = month; day = day }) }
     ensures { IsMoved (record { year = year; month = month; day = day }) months result }
 {
-    date_on(year, month, day).checked_add((months as i64).months()).unwrap()
+    date_on(year, month, day)
+        .checked_add((months as i64).months())
+        .unwrap()
 }
 
 /// The year, the month and the day of the month so many months later: the same day of the month, or the last one where the
