@@ -1,13 +1,16 @@
 -- What a change may answer, under fewer words, and what the end of a transaction leaves.
-use Rattle.std.proofs.Common.{◌⊎◌, inl, inr, false, Ok, Err, Result, IfErr, sym, subst, ◌∙◌, true≢false}
+use Rattle.std.proofs.Common.{◌≡◌, ◌⊎◌, inl, inr, false, Ok, Err, Result, IfErr, sym, subst, ◌∙◌, true, true≢false}
 use Rattle.std.specs.Prelude.{⊤}
 use Rattle.sqlite.specs.declared.error.Error.{Error}
 use Rattle.sqlite.specs.Effect.{IsDatabase}
 use Rattle.sqlite.specs.State.{State, IsLive, Shows}
 use Rattle.sqlite.specs.Steps.{FailsToCommit}
+use Rattle.sqlite.specs.Store.{Ghosts}
+use Rattle.sqlite.specs.Held.{Held, state}
 use Rattle.goo_columns.specs.Refused.{IsTooBig, IsTooBigOrFull}
 use Rattle.goo_columns.specs.Rows.{Tables}
-use Rattle.goo_columns.specs.Stands.{Sees}
+use Rattle.goo_columns.specs.Stands.{Stands, Sees}
+use Rattle.goo_columns.proofs.Committed.{begins}
 
 module _ {X : Type 0} (P : Error → Type 0) (r : Result X Error) (Room Left : Type 0) (leaves : Room → Left) where
   pub or_less : IfErr r (λ e. P e ⊎ (IsTooBigOrFull e × (Left → ⊥))) → IfErr r (λ e. P e ⊎ (IsTooBigOrFull e × (Room → ⊥)))
@@ -31,7 +34,10 @@ or_big P (Ok x) Room h = tt
 or_big P (Err e) Room (inl fault) = inl fault
 or_big P (Err e) Room (inr none) = absurd none.0
 
--- ---- the end of a transaction
+-- ---- the beginning of a transaction and its end
+
+pub seen_first : {S : Type 0} (g : Ghosts S) (old first : Held S) (t : Tables) → first ≡ record old { in_transaction = true } → Stands (state g old).now t → Sees (state g first) t
+seen_first g old first t begun it = subst (λ h. Sees (state g h) t) (sym begun) (begins g old t it)
 
 pub committed_live : (a b : State) → IsLive a → Shows a b a.now a.now false → IsLive b
 committed_live a b live h = λ _. (subst IsDatabase (sym h.now_is) (live h.was_open).0, subst IsDatabase (sym h.committed_is) (live h.was_open).0)
