@@ -1,3 +1,4 @@
+pub mod Failing
 pub mod RowChanges
 pub mod EditsMade
 pub mod PlannedLemmas

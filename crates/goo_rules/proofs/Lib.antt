@@ -1,3 +1,4 @@
+pub mod DaysRead
 pub mod Keying
 pub mod RowsByKey
 pub mod KeptCertificates

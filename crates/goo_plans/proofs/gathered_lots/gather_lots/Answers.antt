@@ -1,4 +1,4 @@
-use Rattle.std.proofs.Common.{◌≡◌, ◌+◌, ◌<◌, ◌∷◌, Ok, Err, All, drop, length, ap, sym, subst, ◌∙◌, arith, rules}
+use Rattle.std.proofs.Common.{◌≡◌, ◌+◌, ◌<◌, ◌∷◌, Ok, Err, IsErr, All, drop, length, ap, sym, subst, ◌∙◌, arith, rules}
 use Rattle.sqlite.specs.Held.{state}
 use Rattle.std.proofs.lemmas.List.{drop_all, drop_more}
 use Rattle.std.proofs.lemmas.List.Elements.{All-nil}
@@ -9,7 +9,8 @@ use Rattle.goo_changes.specs.Changes.{ChangeFits}
 use Rattle.goo_plans.specs.Found.{AreStated}
 use Rattle.goo_plans.specs.GatheredLots.{ArePutIn}
 use Rattle.goo_plans.specs.LookingUp.{LooksUp}
-use Rattle.goo_plans.proofs.LookUps.{looks_made, looks_then}
+use Rattle.goo_plans.proofs.LookUps.{looks_failed, looks_made, looks_then}
+use Rattle.goo_plans.proofs.Failing.{none_made}
 use Rattle.goo_plans.proofs.PutIn.{put_none}
 use Rattle.goo_plans.proofs.Refusing.{blames_err, blames_made, blames_so, blames_then, low_next, one_number}
 use Rattle.goo_plans.proofs.gathered_lots.gather_lots.Goals as goal
@@ -75,3 +76,41 @@ returns-in_err-gather_lot-clause-blames g c =
     blames_err s0 s2 c.in_err-gather_lot.field-0.0 c.from_residual-in_err-gather_lot.result _ same
     (blames_then s0 s1 s2 c.loop-part.gathered _ c.loop-part.invariant.next _ c.loop-part.invariant.blames (Err c.in_err-gather_lot.field-0.0) _ c.in_err-gather_lot.ensures.looks _ c.in_err-gather_lot.ensures.blames _
     (λ t stands kept room first. low_next t.lots c.loop-part.gathered.next i (length parts) low room first))
+
+pub returns-in_err-next-clause-looks : goal.returns-in_err-next-clause-looks
+returns-in_err-next-clause-looks g c =
+    let bad : IsErr c.from_residual.result = search rules in
+    looks_failed (state g.S.Store c.args.conn.now) (state g.S.Store c.next_lot_number.new.conn) (Err c.in_err-next.field-0.0) c.from_residual.result _ _ bad c.in_err-next.ensures.looks
+
+pub returns-in_err-next-clause-outside : goal.returns-in_err-next-clause-outside
+returns-in_err-next-clause-outside g c = c.in_err-next.ensures.outside
+
+pub returns-in_err-next-clause-fits : goal.returns-in_err-next-clause-fits
+returns-in_err-next-clause-fits g c =
+    let bad : IsErr c.from_residual.result = search rules in
+    none_made c.from_residual.result (λ gathered. All ChangeFits gathered.changes.items) bad
+
+pub returns-in_err-gather_lot-clause-looks : goal.returns-in_err-gather_lot-clause-looks
+returns-in_err-gather_lot-clause-looks g c =
+    let s0 = state g.S.Store c.args.conn.now in
+    let s1 = state g.S.Store c.loop-part.conn in
+    let s2 = state g.S.Store c.gather_lot.new.conn in
+    let bad : IsErr c.from_residual-in_err-gather_lot.result = search rules in
+    looks_failed s0 s2 (Err c.in_err-gather_lot.field-0.0) c.from_residual-in_err-gather_lot.result _ _ bad (looks_then s0 s1 s2 c.loop-part.gathered (Err c.in_err-gather_lot.field-0.0) _ _ c.loop-part.invariant.looks c.in_err-gather_lot.ensures.looks)
+
+pub returns-in_err-gather_lot-clause-outside : goal.returns-in_err-gather_lot-clause-outside
+returns-in_err-gather_lot-clause-outside g c = λ none. c.in_err-gather_lot.ensures.outside (c.loop-part.invariant.outside none)
+
+pub returns-in_err-gather_lot-clause-fits : goal.returns-in_err-gather_lot-clause-fits
+returns-in_err-gather_lot-clause-fits g c =
+    let bad : IsErr c.from_residual-in_err-gather_lot.result = search rules in
+    none_made c.from_residual-in_err-gather_lot.result (λ gathered. All ChangeFits gathered.changes.items) bad
+
+pub returns-clause-blames : goal.returns-clause-blames
+returns-clause-blames g c = c.loop-part.invariant.blames
+
+pub returns-clause-outside : goal.returns-clause-outside
+returns-clause-outside g c = c.loop-part.invariant.outside
+
+pub returns-clause-fits : goal.returns-clause-fits
+returns-clause-fits g c = c.loop-part.invariant.fits
