@@ -19,14 +19,13 @@ use crate::register_device::judge_register_device;
 use crate::transfer::judge_transfer;
 use crate::verdict::Verdict;
 use crate::withdraw::judge_withdraw;
+use goo_answers::kept::kept_decision;
 use goo_rulings::decision::{Decision, decision_by};
 use goo_rulings::ruling::{Change, Ruling};
-use goo_shelf::found::Receipt;
 use goo_shelf::shelf::Shelf;
 use goo_types::command::Command;
 use goo_types::fault::Fault;
 use goo_types::holder_code::HolderCode;
-use goo_types::refusal::Refusal;
 use goo_types::request::Request;
 use std::alloc::Global;
 
@@ -100,9 +99,9 @@ pub fn decide<S: Shelf>(alloc: Global, shelf: &mut S, request: &Request) -> Resu
     requires rows { (S.seen shelf.old).doubts ≡ 0 → AreRowsOf (S.seen shelf.old).state.at (S.seen shelf.old).rows }
     ensures { Looks (S.seen shelf.old) (S.seen shelf.new) result (IsDecision (S.seen shelf.old).state (S.seen shelf.old).rows request.now) }
 {
-    match shelf.receipt(alloc, &request.caller, &request.key, &request.command)? {
-        Receipt::Same(reply) => Ok(Decision::Repeated(reply)),
-        Receipt::Other => Ok(Decision::Refused(Refusal::KeyReused)),
-        Receipt::Absent => decide_fresh(alloc, shelf, request),
+    let receipt = shelf.receipt(alloc, &request.caller, &request.key, &request.command)?;
+    match kept_decision(receipt) {
+        Some(decision) => Ok(decision),
+        None => decide_fresh(alloc, shelf, request),
     }
 }

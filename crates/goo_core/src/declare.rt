@@ -12,8 +12,8 @@ ghost use Rattle.goo_shelf.specs.Shelf.{Looks, IsReady};
 ghost use Rattle.goo_core.specs.Ruling.{IsRuling, plain_meaning};
 ghost use Rattle.goo_core.specs.Issue.{IsStandingIf, IsStanding, appraisal_of, appraisal_with, terms_of, energy_checks};
 
-use crate::callers::is_issuer;
 use crate::issue::{Appraisal, Terms, issue_edits, issue_of, issued_range, numbers_from};
+use goo_answers::callers::is_issuer;
 use goo_rulings::days::{is_before, is_over};
 use goo_rulings::declare::{Earnings, earn};
 use goo_rulings::ruling::{Change, Ruling};

@@ -4,7 +4,6 @@
 mod add_peer;
 mod advance;
 mod arriving;
-pub mod callers;
 mod cancel;
 mod change;
 mod close_account;

@@ -17,9 +17,9 @@ ghost use Rattle.goo_core.specs.Moves.{IsChangeRuling};
 ghost use Rattle.goo_core.specs.Ruling.{IsRuling, plain_meaning};
 ghost use Rattle.goo_core.specs.Withdraw.{range_checks, withdrawn, run_withdrawn, runs_withdrawn, AreCommon};
 
-use crate::callers::is_issuer;
 use crate::change::push_edit;
 use crate::range_checks::least_not_held;
+use goo_answers::callers::is_issuer;
 use goo_ranges::{Book, Edit};
 use goo_rulings::ruling::{Change, Ruling};
 use goo_shelf::counters::Counters;

@@ -3,7 +3,6 @@
 
 mod access;
 mod apply;
-mod audit;
 mod cancellation;
 mod cancellation_statement;
 mod holdings;
@@ -15,6 +14,7 @@ mod run;
 mod run_fault;
 
 pub use cancellation_statement::CancellationStatement;
-pub use read_fault::{Denial, ReadFault};
+pub use goo_answers::denial::Denial;
+pub use read_fault::ReadFault;
 pub use registry::Registry;
 pub use run_fault::RunFault;

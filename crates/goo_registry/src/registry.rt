@@ -11,15 +11,16 @@ ghost use Rattle.goo_registry.specs.Shown.{Shows, apart as answer_of};
 ghost use Rattle.goo_registry.specs.Reads.{place_shown, notice_shown, AreHoldings, IsCancellationShown, IsAudit};
 
 use crate::apply::carry_out;
-use crate::audit::find_totals;
 use crate::cancellation::find_cancellation;
 use crate::cancellation_statement::CancellationStatement;
 use crate::holdings::find_holdings;
 use crate::notice::find_notice;
 use crate::place::find_place;
-use crate::read_fault::{Denial, ReadFault};
+use crate::read_fault::ReadFault;
 use crate::run::run_all;
 use crate::run_fault::RunFault;
+use goo_answers::audit::find_totals;
+use goo_answers::denial::Denial;
 use goo_shelf::found::DeviceTotals;
 use goo_shelf::shelf::Shelf;
 use goo_types::account_no::AccountNo;

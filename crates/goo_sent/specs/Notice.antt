@@ -74,6 +74,12 @@ notice_fields_of account addressee number sender version items = do
   parts ← parts_of items
   accepted is_notice (notice_contents sender addressee number account parts)
 
+-- the shape of the parts is looked at before the fields
+abbrev pub shaped_fields_of : ℤ → ℤ → ℤ → ℤ → ℤ → Items → Result NoticeContents ValueFault
+shaped_fields_of account addressee number sender version items = do
+  size ← parts_shape items
+  notice_fields_of account addressee number sender version items
+
 -- the shape of the whole is looked at first, then its fields
 unfoldable pub notice_of : Data → Result NoticeContents ValueFault
 notice_of d = do

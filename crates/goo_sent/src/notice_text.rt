@@ -1,4 +1,5 @@
 ghost use Rattle.std.specs.Prelude.{◌≡◌, Ok, IfOk, IfErr};
+ghost use Rattle.std.specs.Str.{bytes_eq};
 ghost use Rattle.serde_json.specs.View.{view};
 ghost use Rattle.goo_types.specs.declared.fault.Fault.TheVariants as fault;
 ghost use Rattle.goo_sent.specs.Notice.{notice_text, IsStatedNotice, notice_of};
@@ -46,12 +47,19 @@ pub fn from_value(alloc: Global, value: &Value) -> Result<Notice, NoticeFault>
     Ok(stated_notice(alloc, value)?)
 }
 
+/// Whether the bytes are this text, and no other.
+fn is_text(bytes: &[u8], text: &[u8]) -> bool
+    ensures { result ≡ bytes_eq text.now bytes.now }
+{
+    text == bytes
+}
+
 /// The notice, where the bytes are its text.
 fn canonical(alloc: Global, notice: Notice, bytes: &[u8]) -> Result<Notice, NoticeFault>
     ensures { NoticeGives (λ notice. notice) result (canonical bytes.now notice) }
 {
     let text = written(alloc, &notice)?;
-    if text.as_slice() == bytes {
+    if is_text(bytes, &text) {
         Ok(notice)
     } else {
         Err(NoticeFault::Canonical)

@@ -1,9 +1,12 @@
-ghost use Rattle.std.specs.Prelude.{◌≡◌, ◌==◌, IfOk, ℤ};
-ghost use Rattle.serde_json.specs.View.{view, items_view};
+ghost use Rattle.std.specs.Prelude.{◌≡◌, ◌==◌, IfOk, ℤ, codes};
+ghost use Rattle.serde_json.specs.Data.{number, unsigned, Members, put as with_member};
+ghost use Rattle.serde_json.specs.Find.{as_object};
+ghost use Rattle.serde_json.specs.View.{view, items_view, members_view};
 ghost use Rattle.goo_members.specs.Faults.{Gives};
 ghost use Rattle.goo_members.specs.Fields.{accepted, integer_in};
+ghost use Rattle.goo_members.specs.Members.{of_size as of_size_stated};
 ghost use Rattle.goo_types.specs.Notice.{notice_contents};
-ghost use Rattle.goo_sent.specs.Notice.{notice_data, IsStatedNotice, is_notice, notice_fields_of, notice_of};
+ghost use Rattle.goo_sent.specs.Notice.{notice_data, IsStatedNotice, is_notice, notice_fields_of, shaped_fields_of, notice_of};
 
 use goo_members::fields::{account_no, act_no, registry_code};
 use goo_members::members::{integer_at, items_at, of_size};
@@ -15,8 +18,19 @@ use goo_types::act_no::ActNo;
 use goo_types::notice::Notice;
 use goo_types::part::Part;
 use goo_types::registry_code::RegistryCode;
-use serde_json::Value;
+use serde_json::{Map, Value};
 use std::alloc::{AllocError, Global};
+
+/// The members with one more, the code of the registry that a notice is for.
+fn with_addressee(
+    alloc: Global,
+    members: Result<Map<String, Value>, AllocError>,
+    code: RegistryCode,
+) -> Result<Map<String, Value>, AllocError>
+    ensures { (ms : Members) → IfOk members (λ old. members_view old.entries ≡ ms) → IfOk result (λ new. members_view new.entries ≡ with_member (codes "addressee") (number (unsigned code)) ms) }
+{
+    with_integer(alloc, members, "addressee", u64::from(code.get()))
+}
 
 /// The JSON object of a notice.
 pub fn notice_value(alloc: Global, notice: &Notice) -> Result<Value, AllocError>
@@ -26,12 +40,7 @@ pub fn notice_value(alloc: Global, notice: &Notice) -> Result<Value, AllocError>
     let parts = part_values(alloc, notice.parts())?;
     let members = nothing(alloc);
     let members = with_integer(alloc, members, "account", u64::from(notice.account().get()));
-    let members = with_integer(
-        alloc,
-        members,
-        "addressee",
-        u64::from(notice.addressee().get()),
-    );
+    let members = with_addressee(alloc, members, notice.addressee());
     let members = with_integer(alloc, members, "number", u64::from(notice.number().get()));
     let members = with_items(alloc, members, "parts", parts);
     let members = with_integer(alloc, members, "sender", u64::from(notice.sender().get()));
@@ -83,18 +92,43 @@ fn notice_fields(
     notice_with(sender, addressee, number, account, parts)
 }
 
+/// The count of the value's members, where it is an object of as many as a notice has.
+fn of_notice_size(value: &Value) -> Result<usize, ValueFault>
+    ensures { Gives (λ n. n) result (of_size_stated 6 (as_object (view value.now))) }
+{
+    of_size(value, 6)
+}
+
+/// The notice of these fields, once each of its parts has its shape.
+fn shaped_fields(
+    alloc: Global,
+    account: i128,
+    addressee: i128,
+    number: i128,
+    sender: i128,
+    version_no: i128,
+    items: &[Value],
+) -> Result<Notice, ValueFault>
+    ensures { Gives (λ notice. notice) result
+        (shaped_fields_of account addressee number sender version_no (items_view items.now)) }
+{
+    check_parts(items)?;
+    notice_fields(
+        alloc, account, addressee, number, sender, version_no, items,
+    )
+}
+
 /// The notice that a JSON value states. Its whole shape is looked at before any of its fields.
 #[tactic(auto, unfolding(crate::specs::Notice::notice_of))]
 pub fn stated_notice(alloc: Global, value: &Value) -> Result<Notice, ValueFault>
     ensures { Gives (λ notice. notice) result (notice_of (view value.now)) }
 {
-    of_size(value, 6)?;
+    of_notice_size(value)?;
     let account = integer_at(value, "account")?;
     let addressee = integer_at(value, "addressee")?;
     let number = integer_at(value, "number")?;
     let items = items_at(value, "parts")?;
     let sender = integer_at(value, "sender")?;
     let version = integer_at(value, "version")?;
-    check_parts(items)?;
-    notice_fields(alloc, account, addressee, number, sender, version, items)
+    shaped_fields(alloc, account, addressee, number, sender, version, items)
 }
