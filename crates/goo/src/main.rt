@@ -3,7 +3,7 @@
 #![tactic(auto)]
 
 use goo_command_line::{Place, Task, read_task};
-use goo_running::ending::{Ending, Failure};
+use goo_ending::{Ending, Failure};
 use goo_running::running::run_in_memory;
 use std::env;
 use std::io::{self, BufWriter, ErrorKind};

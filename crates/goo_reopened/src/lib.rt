@@ -1,5 +1,5 @@
 //! A registry in tables: worked requests, each answered as plain lists answer it; closed and opened again, on damaged tables
-//! and foreign ones too, and after its disk stopped at any one call; and how a run of the program ends.
+//! and foreign ones too, and after its disk stopped at any one call.
 //!
 //! It has tests alone. `script` and `cases` have the requests and what they come to, `asking` sends them, `sight` tells what a
 //! registry shows, `registries` begins and opens them, `disks` has the files that they are kept in.
@@ -13,8 +13,6 @@ mod cases;
 mod damages;
 #[cfg(test)]
 mod disks;
-#[cfg(test)]
-mod endings;
 #[cfg(test)]
 mod foreign;
 #[cfg(test)]

@@ -4,7 +4,7 @@ ghost use Rattle.goo_spec.specs.Created.{created};
 ghost use Rattle.sqlite.specs.Files.{file_state};
 ghost use Rattle.sqlite.specs.Held.{IsNew};
 ghost use Rattle.goo_running.specs.Desks.{seen_at};
-ghost use Rattle.goo_running.specs.Endings.{fault_of_opening};
+ghost use Rattle.goo_running.specs.Openings.{fault_of_opening};
 
 use goo_command_line::Opening;
 use goo_disk::MemoryFile;

@@ -1,9 +1,8 @@
-//! What the program does, but for its streams and its command line: a registry in memory, the answers to a whole input, and
-//! how that ends.
+//! What the program does, but for its streams and its command line: a registry in memory, and the answers to a whole input.
 //!
-//! The program (`goo`) hands its standard input and output to `run_in_memory`, and shows the [`Ending`] that comes of it.
+//! The program (`goo`) hands its standard input and output to `run_in_memory`, and shows the [`Ending`](goo_ending::Ending)
+//! that comes of it.
 #![tactic(auto)]
 
 mod desk;
-pub mod ending;
 pub mod running;

@@ -3,12 +3,11 @@ ghost use Rattle.std.specs.Prelude.{◌≡◌, ◌≢◌, ◌<◌, IfSome};
 ghost use Rattle.goo_spec.specs.Created.{created};
 ghost use Rattle.goo_lines.specs.Fold.{lines};
 ghost use Rattle.std.specs.Io.KnownBytes.{Appends};
-ghost use Rattle.goo_running.specs.Endings.{status_of};
+ghost use Rattle.goo_ending.specs.Endings.{status_of};
 
 use crate::desk::MemoryDesk;
-use crate::ending::{Ending, Failure};
 use goo_command_line::Opening;
-use goo_lines::run_lines;
+use goo_ending::{Ending, Failure, answer_input};
 use std::alloc::Global;
 use std::io::{Read, Write};
 
@@ -33,8 +32,5 @@ pub fn run_in_memory<R: Read, W: Write>(
         Ok(desk) => desk,
         Err(fault) => return Ending::Failed(Failure::from(fault)),
     };
-    let answered = run_lines(alloc, &mut desk, reader, writer);
-    drop(desk);
-    let flushed = writer.flush().is_ok();
-    Ending::of_run(answered, flushed)
+    answer_input(alloc, &mut desk, reader, writer)
 }

@@ -1,5 +1,5 @@
-//! Worked examples of what comes in and goes out: values, notices, bodies, outcomes, lines, command lines, streams and the
-//! file in memory, and of books of pieces, rows near a range and rows in pages, against texts and numbers written by hand.
+//! Worked examples of what comes in and goes out: values, notices, bodies, outcomes, lines, endings, command lines, streams and
+//! the file in memory, and of books of pieces, rows near a range and rows in pages, against texts and numbers written by hand.
 //!
 //! It has tests alone, and stands on no registry.
 #![tactic(auto)]
@@ -14,6 +14,8 @@ mod command_lines;
 mod disks;
 #[cfg(test)]
 mod edits;
+#[cfg(test)]
+mod endings;
 #[cfg(test)]
 mod examples;
 #[cfg(test)]

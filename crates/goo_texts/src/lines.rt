@@ -10,8 +10,9 @@ use std::process::Abort;
 
 /// A desk over records that fail at each request.
 #[derive(Drop)]
-struct FailingDesk {
-    fault: Fault,
+pub struct FailingDesk {
+    /// The fault of each request.
+    pub fault: Fault,
 }
 
 impl Desk for FailingDesk {

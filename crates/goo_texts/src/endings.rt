@@ -1,29 +1,16 @@
-//! How a run of the program ends, and command lines that ask for nothing.
+//! How a run of lines ends, over records that fail at each request, and command lines that ask for nothing.
 
-use goo_command_line::{Opening, code_in, day_in, read_task, serial_in};
-use goo_running::ending::Ending;
-use goo_running::running::run_in_memory;
+use crate::lines::FailingDesk;
+use goo_command_line::read_task;
+use goo_ending::{Ending, answer_input};
+use goo_types::fault::Fault;
 use std::alloc::Global;
 use std::io::{self, ErrorKind, Read, Write};
 use std::process::Abort;
 
-/// Two holders with an account each, and a device of the first.
-const BASE: &str =
-    "ISSUER {\"command\":\"open_holder\",\"holder\":\"SUN\",\"key\":\"a1\",\"name\":\"Sun Power\"}
-ISSUER {\"command\":\"open_account\",\"holder\":\"SUN\",\"key\":\"a2\"}
-ISSUER {\"command\":\"open_holder\",\"holder\":\"VOLT\",\"key\":\"a3\",\"name\":\"Volt\"}
-ISSUER {\"command\":\"open_account\",\"holder\":\"VOLT\",\"key\":\"a4\"}
-ISSUER {\"account\":1,\"capacity_w\":2000000,\"command\":\"register_device\",\"commissioned\":\"2020-06-15\",\"country\":\"DE\",\"device\":\"500000000000000012\",\"key\":\"a5\",\"site\":\"North field\",\"source\":\"F01010100\",\"support\":\"none\",\"tech\":\"T010000\"}
-";
-
-/// A registry of code 7 on the first of March 2025.
-fn march() -> Option<Opening> {
-    Some(Opening {
-        code: code_in("7")?,
-        today: day_in("2025-03-01")?,
-        next_serial: serial_in("1")?,
-    })
-}
+/// A line with a request.
+const REQUEST: &str =
+    "ISSUER {\"command\":\"open_holder\",\"holder\":\"SUN\",\"key\":\"a1\",\"name\":\"Sun Power\"}\n";
 
 /// A stream that fails at each call.
 #[derive(Drop)]
@@ -45,43 +32,46 @@ impl Write for Broken {
     }
 }
 
-/// The exit status of a run of a new registry from this reader to this writer.
-fn status_of<R: Read, W: Write>(
-    rt: &impl Abort,
-    alloc: Global,
-    reader: &mut R,
-    writer: &mut W,
-) -> u8 {
-    let opening = march().expect(rt, "an opening");
-    run_in_memory(alloc, opening, reader, writer).status()
+/// The exit status of a run from this reader to this writer.
+fn status_of<R: Read, W: Write>(alloc: Global, reader: &mut R, writer: &mut W) -> u8 {
+    let mut desk = FailingDesk {
+        fault: Fault::Store,
+    };
+    answer_input(alloc, &mut desk, reader, writer).status()
 }
 
 /// A run of an input whose outcomes are all written ends with this status.
 fn ends_with(rt: &impl Abort, alloc: Global, input: &str, wanted: u8) {
     let mut output = Vec::new(alloc);
-    let status = status_of(rt, alloc, &mut input.as_bytes(), &mut output);
+    let status = status_of(alloc, &mut input.as_bytes(), &mut output);
     assert!(rt; status == wanted, "after {input}");
 }
 
 /// A run of an input whose outcomes can't be written, or whose end can't, is a failure.
 fn fails_unwritten(rt: &impl Abort, alloc: Global, mut input: &[u8]) {
-    assert!(rt; status_of(rt, alloc, &mut input, &mut Broken) == 3);
+    assert!(rt; status_of(alloc, &mut input, &mut Broken) == 3);
+}
+
+/// A run of an input that can't be read is a failure.
+fn fails_unread(rt: &impl Abort, alloc: Global) {
+    let mut output = Vec::new(alloc);
+    assert!(rt; status_of(alloc, &mut Broken, &mut output) == 3);
 }
 
 #[test]
 fn each_exit_status_of_a_run(rt: HostRuntime) {
     let alloc = rt.alloc();
-    for (input, wanted) in [("", 0), (BASE, 0), ("SUN\n", 1), ("SUN {}", 1)] {
-        ends_with(&rt, alloc, input, wanted);
-    }
-    fails_unwritten(&rt, alloc, BASE.as_bytes());
+    ends_with(&rt, alloc, "", 0);
+    ends_with(&rt, alloc, "SUN\n", 1);
+    ends_with(&rt, alloc, "SUN {}", 1);
+    ends_with(&rt, alloc, REQUEST, 3);
+    fails_unwritten(&rt, alloc, b"SUN\n");
     fails_unwritten(&rt, alloc, b"");
-    let mut output = Vec::new(alloc);
-    assert!(rt; status_of(&rt, alloc, &mut Broken, &mut output) == 3);
+    fails_unread(&rt, alloc);
 }
 
 /// Command lines that are no task.
-const LINES: [&str; 15] = [
+static LINES: [&str; 15] = [
     "goo",
     "goo --help",
     "goo run",
@@ -113,8 +103,8 @@ fn status_of_words(rt: &impl Abort, alloc: Global, line: &str) -> u8 {
 
 #[test]
 fn a_command_line_that_asks_for_nothing(rt: HostRuntime) {
-    for line in LINES {
-        let status = status_of_words(&rt, rt.alloc(), line);
+    for line in &LINES {
+        let status = status_of_words(&rt, rt.alloc(), *line);
         assert!(rt; status == 2, "of {line}");
     }
 }

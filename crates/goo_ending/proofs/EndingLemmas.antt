@@ -8,8 +8,8 @@ use Rattle.goo_lines.specs.declared.lines_fault.LinesFault.TheVariants as fault
 use Rattle.goo_lines.specs.declared.tally.Tally.{Tally}
 use Rattle.goo_lines.specs.Fold.{lines}
 use Rattle.goo_spec.specs.State.{State}
-use Rattle.goo_running.specs.declared.ending.Ending.TheVariants as ending
-use Rattle.goo_running.specs.Endings.{status_of, ending_of, ending_of_bad}
+use Rattle.goo_ending.specs.declared.ending.Ending.TheVariants as ending
+use Rattle.goo_ending.specs.Endings.{status_of, ending_of, ending_of_bad}
 
 -- where the count was some, so is the count of the lines
 some-bad : (n : ℕ) (read : Option (List ℕ)) (bad : List ℕ → ℕ) → IfSome read (λ input. n ≡ bad input) → status_of (ending_of_bad n) ≡ 1 → IfSome read (λ input. bad input ≢ 0)
@@ -25,9 +25,9 @@ not_all_done (Err fault.Memory) flushed read bad counted status = absurd (omega 
 not_all_done (Err fault.Read) flushed read bad counted status = absurd (omega (arith, status))
 not_all_done (Err fault.Write) flushed read bad counted status = absurd (omega (arith, status))
 
--- the same for the lines of an input from a state that is known by another name
-pub not_all_done_from : (answered : Result Tally LinesFault) (flushed : Bool) (read : Option (List ℕ)) (seen begun : State) → seen ≡ begun → IfSome read (λ input. IfOk answered (λ tally. tally.bad ≡ (lines seen input).bad)) → status_of (ending_of answered flushed) ≡ 1 → IfSome read (λ input. (lines begun input).bad ≢ 0)
-not_all_done_from answered flushed read seen begun same counted status = not_all_done answered flushed read (λ input. (lines begun input).bad) (rw same at counted) status
+-- the same for the lines of an input from a state
+pub not_all_done_from : (answered : Result Tally LinesFault) (flushed : Bool) (read : Option (List ℕ)) (seen : State) → IfSome read (λ input. IfOk answered (λ tally. tally.bad ≡ (lines seen input).bad)) → status_of (ending_of answered flushed) ≡ 1 → IfSome read (λ input. (lines seen input).bad ≢ 0)
+not_all_done_from answered flushed read seen counted status = not_all_done answered flushed read (λ input. (lines seen input).bad) counted status
 
 all-done : (b : Bool) → status_of (if b then ending.Done else ending.PartlyDone) ≡ 0 → b ≡ true
 all-done true status = refl
@@ -48,8 +48,8 @@ all_done (Err fault.Memory) flushed read bad counted status = absurd (omega (ari
 all_done (Err fault.Read) flushed read bad counted status = absurd (omega (arith, status))
 all_done (Err fault.Write) flushed read bad counted status = absurd (omega (arith, status))
 
-pub all_done_from : (answered : Result Tally LinesFault) (flushed : Bool) (read : Option (List ℕ)) (seen begun : State) → seen ≡ begun → IfSome read (λ input. IfOk answered (λ tally. tally.bad ≡ (lines seen input).bad)) → status_of (ending_of answered flushed) ≡ 0 → IfSome read (λ input. (lines begun input).bad ≡ 0)
-all_done_from answered flushed read seen begun same counted status = all_done answered flushed read (λ input. (lines begun input).bad) (rw same at counted) status
+pub all_done_from : (answered : Result Tally LinesFault) (flushed : Bool) (read : Option (List ℕ)) (seen : State) → IfSome read (λ input. IfOk answered (λ tally. tally.bad ≡ (lines seen input).bad)) → status_of (ending_of answered flushed) ≡ 0 → IfSome read (λ input. (lines seen input).bad ≡ 0)
+all_done_from answered flushed read seen counted status = all_done answered flushed read (λ input. (lines seen input).bad) counted status
 
 -- what was appended stands behind what was there, after a flush too
 kept : (had between has : Option (List ℕ)) (text : List ℕ) → Appends had between text → Keeps between has → Appends had has text
@@ -59,11 +59,11 @@ kept (Some xs) (Some ys) None text appended same = absurd same
 kept (Some xs) (Some ys) (Some zs) text appended same = rw same appended
 
 -- with status 0 and 1 the whole text of the lines was written
-pub written_from : (answered : Result Tally LinesFault) (flushed : Bool) (read : Option (List ℕ)) (seen begun : State) (had between has : Option (List ℕ)) → seen ≡ begun → IfSome read (λ input. OnOk answered (Appends had between (lines seen input).text)) → Keeps between has → status_of (ending_of answered flushed) < 2 → IfSome read (λ input. Appends had has (lines begun input).text)
-written_from (Ok tally) true None seen begun had between has same told flushed status = tt
-written_from (Ok tally) true (Some input) seen begun had between has same told flushed status = kept had between has (lines begun input).text (rw same at told) flushed
-written_from (Ok tally) false read seen begun had between has same told flushed status = absurd (omega (arith, status))
-written_from (Err fault.Store) out read seen begun had between has same told flushed status = absurd (omega (arith, status))
-written_from (Err fault.Memory) out read seen begun had between has same told flushed status = absurd (omega (arith, status))
-written_from (Err fault.Read) out read seen begun had between has same told flushed status = absurd (omega (arith, status))
-written_from (Err fault.Write) out read seen begun had between has same told flushed status = absurd (omega (arith, status))
+pub written_from : (answered : Result Tally LinesFault) (flushed : Bool) (read : Option (List ℕ)) (seen : State) (had between has : Option (List ℕ)) → IfSome read (λ input. OnOk answered (Appends had between (lines seen input).text)) → Keeps between has → status_of (ending_of answered flushed) < 2 → IfSome read (λ input. Appends had has (lines seen input).text)
+written_from (Ok tally) true None seen had between has told flushed status = tt
+written_from (Ok tally) true (Some input) seen had between has told flushed status = kept had between has (lines seen input).text told flushed
+written_from (Ok tally) false read seen had between has told flushed status = absurd (omega (arith, status))
+written_from (Err fault.Store) out read seen had between has told flushed status = absurd (omega (arith, status))
+written_from (Err fault.Memory) out read seen had between has told flushed status = absurd (omega (arith, status))
+written_from (Err fault.Read) out read seen had between has told flushed status = absurd (omega (arith, status))
+written_from (Err fault.Write) out read seen had between has told flushed status = absurd (omega (arith, status))

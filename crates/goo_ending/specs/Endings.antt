@@ -7,12 +7,10 @@ use Rattle.goo_types.specs.declared.fault.Fault.TheVariants as desk
 use Rattle.goo_lines.specs.declared.tally.Tally.{Tally}
 use Rattle.goo_command_line.specs.declared.line_fault.LineFault.{LineFault}
 use Rattle.goo_command_line.specs.declared.line_fault.LineFault.TheVariants as line
-use Rattle.goo_opening.specs.declared.fault.OpenFault.{OpenFault}
-use Rattle.goo_opening.specs.declared.fault.OpenFault.TheVariants as opening
-use Rattle.goo_running.specs.declared.ending.Ending.{Ending}
-use Rattle.goo_running.specs.declared.ending.Ending.TheVariants as ending
-use Rattle.goo_running.specs.declared.ending.Failure.{Failure}
-use Rattle.goo_running.specs.declared.ending.Failure.TheVariants as failure
+use Rattle.goo_ending.specs.declared.ending.Ending.{Ending}
+use Rattle.goo_ending.specs.declared.ending.Ending.TheVariants as ending
+use Rattle.goo_ending.specs.declared.ending.Failure.{Failure}
+use Rattle.goo_ending.specs.declared.ending.Failure.TheVariants as failure
 
 -- the exit status: all done, something refused or unreadable, a command line that asks for nothing, a fault
 abbrev pub status_of : Ending → ℕ
@@ -38,14 +36,6 @@ failure_of fault.Write = failure.Write
 abbrev pub failure_of_desk : Fault → Failure
 failure_of_desk desk.Store = failure.Store
 failure_of_desk desk.Memory = failure.Memory
-
-abbrev pub fault_of_opening : OpenFault → Fault
-fault_of_opening opening.Memory = desk.Memory
-fault_of_opening opening.AlreadyThere = desk.Store
-fault_of_opening opening.NotARegistry = desk.Store
-fault_of_opening (opening.Version version) = desk.Store
-fault_of_opening opening.Damaged = desk.Store
-fault_of_opening opening.Store = desk.Store
 
 -- all lines were carried out, or some were not
 abbrev pub ending_of_bad : ℕ → Ending

@@ -1,6 +1,6 @@
 //! How the program ends: its exit status, and what it says on standard error.
 ghost use Rattle.std.specs.Prelude.{◌≡◌, option_map};
-ghost use Rattle.goo_running.specs.Endings.{status_of, failure_text, failure_of, failure_of_desk, ending_of, line_told, TellsLine};
+ghost use Rattle.goo_ending.specs.Endings.{status_of, failure_text, failure_of, failure_of_desk, ending_of, line_told, TellsLine};
 
 use clap::Error;
 use goo_command_line::LineFault;

@@ -1,0 +1,32 @@
+//! A whole input, answered.
+ghost use Rattle.std.specs.Prelude.{◌≡◌, ◌≢◌, ◌<◌, IfSome};
+ghost use Rattle.std.specs.Io.KnownBytes.{Appends};
+ghost use Rattle.goo_lines.specs.Fold.{lines};
+ghost use Rattle.goo_ending.specs.Endings.{status_of};
+
+use crate::ending::Ending;
+use goo_lines::{Desk, run_lines};
+use std::alloc::Global;
+use std::io::{Read, Write};
+
+/// Answers the lines of an input by a desk, and tells how that ends. The output is flushed.
+///
+/// - `all_done`: status 0 only where no line was refused or unreadable.
+/// - `not_all_done`: status 1 only where some line was refused or unreadable.
+/// - `written`: with status 0 and 1, all outcomes of the lines are written after what the writer had.
+/// - `no_words`: it never says that the command line was at fault.
+pub fn answer_input<D: Desk, R: Read, W: Write>(
+    alloc: Global,
+    desk: &mut D,
+    reader: &mut R,
+    writer: &mut W,
+) -> Ending
+    ensures all_done { (D.seen desk.new).lies ≡ 0 → status_of result ≡ 0 → IfSome (R.remaining reader.old) (λ input. (lines (D.seen desk.old).state input).bad ≡ 0) }
+    ensures not_all_done { (D.seen desk.new).lies ≡ 0 → status_of result ≡ 1 → IfSome (R.remaining reader.old) (λ input. (lines (D.seen desk.old).state input).bad ≢ 0) }
+    ensures written { (D.seen desk.new).lies ≡ 0 → status_of result < 2 → IfSome (R.remaining reader.old) (λ input. Appends (W.contents writer.old) (W.contents writer.new) (lines (D.seen desk.old).state input).text) }
+    ensures no_words { status_of result ≢ 2 }
+{
+    let answered = run_lines(alloc, desk, reader, writer);
+    let flushed = writer.flush().is_ok();
+    Ending::of_run(answered, flushed)
+}
