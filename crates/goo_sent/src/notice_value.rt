@@ -113,9 +113,7 @@ fn shaped_fields(
         (shaped_fields_of account addressee number sender version_no (items_view items.now)) }
 {
     check_parts(items)?;
-    notice_fields(
-        alloc, account, addressee, number, sender, version_no, items,
-    )
+    notice_fields(alloc, account, addressee, number, sender, version_no, items)
 }
 
 /// The notice that a JSON value states. Its whole shape is looked at before any of its fields.
