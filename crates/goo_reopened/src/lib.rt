@@ -1,5 +1,5 @@
 //! A registry in tables: worked requests, each answered as plain lists answer it; closed and opened again, on damaged tables
-//! and foreign ones too, and after its disk stopped at any one call; and how a run of the program ends.
+//! and foreign ones too, and after its disk stopped at any one call.
 //!
 //! It has tests alone. `script` and `cases` have the requests and what they come to, `asking` sends them, `sight` tells what a
 //! registry shows, `registries` begins and opens them, `disks` has the files that they are kept in.
@@ -12,9 +12,9 @@ mod cases;
 #[cfg(test)]
 mod damages;
 #[cfg(test)]
-mod disks;
+mod deeds;
 #[cfg(test)]
-mod endings;
+mod disks;
 #[cfg(test)]
 mod foreign;
 #[cfg(test)]
