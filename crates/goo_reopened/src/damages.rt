@@ -1,6 +1,7 @@
 //! Tables that were damaged, one value at a time.
 
-use crate::disks::{blank, edited, judged, sent_on};
+use crate::deeds::{Deed, after, judged};
+use crate::disks::blank;
 use crate::script::{CANCELLATION, SCRIPT};
 use goo_opening::fault::OpenFault;
 use sqlite::Files;
@@ -131,10 +132,10 @@ fn is_refused<D: Disk + Drop>(
     files: Files<D>,
     damage: &Damage,
 ) -> Files<D> {
-    let files = edited(rt, alloc, files, damage.0);
+    let files = after(rt, alloc, files, Deed::Edits(damage.0));
     let (word, files) = judged(rt, alloc, files);
     assert!(rt; word == Some(damage.2), "after {}", damage.0);
-    let files = edited(rt, alloc, files, damage.1);
+    let files = after(rt, alloc, files, Deed::Edits(damage.1));
     let (word, files) = judged(rt, alloc, files);
     assert!(rt; word == None, "after {}", damage.1);
     files
@@ -144,7 +145,7 @@ fn is_refused<D: Disk + Drop>(
 fn damages_are_met(rt: HostRuntime) {
     let alloc = rt.alloc();
     let cancelled = SCRIPT.get(..=CANCELLATION).expect(&rt, "no cancellation");
-    let mut files = sent_on(&rt, alloc, blank(alloc), cancelled);
+    let mut files = after(&rt, alloc, blank(alloc), Deed::Sends(cancelled));
     for damage in &DAMAGES {
         files = is_refused(&rt, alloc, files, damage);
     }

@@ -1,6 +1,7 @@
 //! Databases whose tables are not those of a registry, or not all of them.
 
-use crate::disks::{blank, edited, judged};
+use crate::deeds::{Deed, after, judged};
+use crate::disks::blank;
 use goo_opening::fault::OpenFault;
 use sqlite::Files;
 use sqlite_disk::Disk;
@@ -39,7 +40,7 @@ fn is_told<D: Disk + Drop>(
     sql: &str,
     word: Option<OpenFault>,
 ) -> Files<D> {
-    let files = edited(rt, alloc, files, sql);
+    let files = after(rt, alloc, files, Deed::Edits(sql));
     let (told, files) = judged(rt, alloc, files);
     assert!(rt; told == word, "after {sql}");
     let (told, files) = judged(rt, alloc, files);

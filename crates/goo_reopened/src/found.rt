@@ -1,5 +1,7 @@
 //! What a shelf finds, over tables and over lists: nothing in a new registry, and then what was asked for.
 
+use crate::deeds::{Deed, after};
+use crate::disks::blank;
 use crate::registries::{begun, begun_in_lists, entered, in_march, in_march_from};
 use crate::worked::{Case, is_answered};
 use goo_shelf::shelf::Shelf;
@@ -158,10 +160,15 @@ fn finds_nothing<S: Shelf>(rt: &impl Abort, alloc: Global, shelf: &mut S) {
 }
 
 /// A new registry in a database finds nothing.
-fn finds_nothing_in<S: Alter + Drop>(rt: &impl Abort, alloc: Global, conn: Connection<S>) {
+pub fn finds_nothing_in<S: Alter + Drop>(
+    rt: &impl Abort,
+    alloc: Global,
+    conn: Connection<S>,
+) -> Connection<S> {
     let registry = entered(rt, begun(alloc, conn, LAST));
     let mut shelf = registry.into_shelf();
-    finds_nothing(rt, alloc, &mut shelf)
+    finds_nothing(rt, alloc, &mut shelf);
+    shelf.into_connection()
 }
 
 /// The holder with an open account and a closed one.
@@ -204,21 +211,22 @@ fn finds_members<S: Shelf>(rt: &impl Abort, shelf: &mut S) {
 }
 
 /// A new registry in a database finds its members once they were asked for.
-fn finds_members_in<S: Alter + Drop>(rt: &impl Abort, alloc: Global, conn: Connection<S>) {
+pub fn finds_members_in<S: Alter + Drop>(
+    rt: &impl Abort,
+    alloc: Global,
+    conn: Connection<S>,
+) -> Connection<S> {
     let mut registry = entered(rt, begun(alloc, conn, 1));
     is_answered(rt, alloc, &mut registry, &MEMBERS);
     let mut shelf = registry.into_shelf();
-    finds_members(rt, &mut shelf)
+    finds_members(rt, &mut shelf);
+    shelf.into_connection()
 }
 
 #[test]
 fn in_a_new_registry(rt: HostRuntime) {
     let alloc = rt.alloc();
-    finds_nothing_in(
-        &rt,
-        alloc,
-        Connection::open_in_memory(alloc).expect(&rt, "a database"),
-    );
+    let _files = after(&rt, alloc, blank(alloc), Deed::FindsNothing);
     let mut lists = begun_in_lists(alloc, in_march_from(&rt, LAST)).into_shelf();
     finds_nothing(&rt, alloc, &mut lists)
 }
@@ -226,11 +234,7 @@ fn in_a_new_registry(rt: HostRuntime) {
 #[test]
 fn among_members(rt: HostRuntime) {
     let alloc = rt.alloc();
-    finds_members_in(
-        &rt,
-        alloc,
-        Connection::open_in_memory(alloc).expect(&rt, "a database"),
-    );
+    let _files = after(&rt, alloc, blank(alloc), Deed::FindsMembers);
     let mut lists = begun_in_lists(alloc, in_march(&rt));
     is_answered(&rt, alloc, &mut lists, &MEMBERS);
     let mut shelf = lists.into_shelf();

@@ -2,7 +2,7 @@
 //! and foreign ones too, and after its disk stopped at any one call.
 //!
 //! It has tests alone. `script` and `cases` have the requests and what they come to, `asking` sends them, `sight` tells what a
-//! registry shows, `registries` begins and opens them, `disks` has the files that they are kept in.
+//! registry shows, `registries` begins and opens them, `disks` has the files that they are kept in, and `deeds` what is done there.
 #![tactic(auto)]
 
 #[cfg(test)]
@@ -11,6 +11,8 @@ mod asking;
 mod cases;
 #[cfg(test)]
 mod damages;
+#[cfg(test)]
+mod deeds;
 #[cfg(test)]
 mod disks;
 #[cfg(test)]

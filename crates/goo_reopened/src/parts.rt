@@ -1,7 +1,9 @@
 //! A certificate of each of a hundred and one lots, over tables and over lists: no notice names them all.
 
 use crate::asking::{asks, plays};
-use crate::registries::{begun, begun_in_lists, entered, in_march};
+use crate::deeds::{Deed, Done, does};
+use crate::disks::blank;
+use crate::registries::{begun, begun_in_lists, closed, entered, in_march};
 use crate::script::SCRIPT;
 use crate::sight::{sight, tell_audit};
 use crate::worked::Exchange;
@@ -78,9 +80,15 @@ fn shown_by<S: Shelf>(rt: &impl Abort, alloc: Global, registry: &mut Registry<S>
 }
 
 /// What a new registry in a database shows then.
-fn shown_in<S: Alter + Drop>(rt: &impl Abort, alloc: Global, conn: Connection<S>) -> String {
+pub fn shown_in<S: Alter + Drop>(
+    rt: &impl Abort,
+    alloc: Global,
+    conn: Connection<S>,
+) -> (String, Connection<S>) {
     let mut registry = entered(rt, begun(alloc, conn, 1));
-    shown_by(rt, alloc, &mut registry)
+    let shown = shown_by(rt, alloc, &mut registry);
+    let (conn, _) = closed(registry);
+    (shown, conn)
 }
 
 /// The same of a new registry in plain lists.
@@ -92,11 +100,10 @@ fn shown_in_lists(rt: &impl Abort, alloc: Global) -> String {
 #[test]
 fn a_notice_has_a_hundred_parts_at_most(rt: HostRuntime) {
     let alloc = rt.alloc();
-    let shown = shown_in(
-        &rt,
-        alloc,
-        Connection::open_in_memory(alloc).expect(&rt, "a database"),
-    );
+    let (done, _files) = does(&rt, alloc, blank(alloc), Deed::SendsParts);
+    let Done::Shown(shown) = done else {
+        panic!(&rt; "nothing is shown");
+    };
     let wanted = shown_in_lists(&rt, alloc);
     assert!(rt; shown.as_str() == wanted.as_str());
 }

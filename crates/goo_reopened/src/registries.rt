@@ -115,6 +115,19 @@ pub fn sent<S: Alter + Drop>(
     conn
 }
 
+/// Why a database is not opened, if so, and the database as that leaves it.
+pub fn word_of<S: Alter>(alloc: Global, conn: Connection<S>) -> (Option<OpenFault>, Connection<S>)
+    requires ordered { HasCleanDisk (state S.Store conn) → IsInKeyOrder (state S.Store conn).now }
+{
+    match opened(alloc, conn) {
+        Ok(registry) => {
+            let (conn, _) = closed(registry);
+            (None, conn)
+        }
+        Err((conn, fault)) => (Some(fault), conn),
+    }
+}
+
 /// The registry closed, and opened again over the same connection.
 pub fn opened_again<S: Alter>(alloc: Global, registry: Registry<SqlShelf<S>>) -> Entered<S> {
     let mut shelf = registry.into_shelf();

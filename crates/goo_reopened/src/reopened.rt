@@ -1,19 +1,20 @@
-//! Registries that are closed and opened again, in memory and on disks in memory.
+//! Registries that are closed and opened again, over their connection and on their disks.
 
 ghost use Rattle.sqlite.specs.Held.{state};
 ghost use Rattle.sqlite.specs.State.{HasCleanDisk};
 ghost use Rattle.goo_columns.specs.Met.{IsInKeyOrder};
 
 use crate::asking::plays;
-use crate::disks::{blank, database_on, sent_on};
+use crate::deeds::{Deed, after};
+use crate::disks::blank;
 use crate::registries::{begun, closed, entered, opened, opened_again};
 use crate::script::{APRIL, Line, SCRIPT};
 use crate::sight::sight;
 use goo_opening::fault::OpenFault;
 use goo_registry::Registry;
+use goo_shelf::shelf::Shelf;
 use goo_store::sql_shelf::SqlShelf;
-use sqlite::{Alter, Connection, Files};
-use sqlite_disk::Disk;
+use sqlite::{Alter, Connection};
 use std::alloc::Global;
 use std::process::Abort;
 
@@ -48,21 +49,16 @@ SUN 2025-04-05 Bäckerei Müller
 ";
 
 /// A registry shows this.
-pub fn shows<S: Alter>(
-    rt: &impl Abort,
-    alloc: Global,
-    registry: &mut Registry<SqlShelf<S>>,
-    wanted: &str,
-) {
+pub fn shows<S: Shelf>(rt: &impl Abort, alloc: Global, registry: &mut Registry<S>, wanted: &str) {
     let shown = sight(rt, alloc, registry);
     assert!(rt; shown.as_str() == wanted);
 }
 
 /// A registry that was opened again shows what it showed, and knows the requests.
-fn is_as_it_was<S: Alter>(
+fn is_as_it_was<S: Shelf>(
     rt: &impl Abort,
     alloc: Global,
-    registry: &mut Registry<SqlShelf<S>>,
+    registry: &mut Registry<S>,
     lines: &[Line],
     wanted: &str,
 ) {
@@ -87,20 +83,21 @@ fn comes_back<S: Alter + Drop>(
 }
 
 /// No other registry is begun where there is one.
-fn is_taken<S: Alter + Drop>(rt: &impl Abort, alloc: Global, conn: Connection<S>) {
+fn is_taken<S: Alter + Drop>(rt: &impl Abort, alloc: Global, conn: Connection<S>) -> Connection<S> {
     match begun(alloc, conn, 1) {
         Ok(_) => panic!(rt; "another registry"),
-        Err((_, fault)) => {
+        Err((conn, fault)) => {
             assert!(rt; fault == OpenFault::AlreadyThere);
+            conn
         }
     }
 }
 
 /// A registry is sent the requests, and shows this then.
-fn comes_to<S: Alter>(
+fn comes_to<S: Shelf>(
     rt: &impl Abort,
     alloc: Global,
-    registry: &mut Registry<SqlShelf<S>>,
+    registry: &mut Registry<S>,
     lines: &[Line],
     wanted: &str,
 ) {
@@ -109,13 +106,13 @@ fn comes_to<S: Alter>(
 }
 
 /// A new registry in a database, which is sent the requests, closed and opened again; no other registry is begun there.
-fn stays<S: Alter + Drop>(
+pub fn stays<S: Alter + Drop>(
     rt: &impl Abort,
     alloc: Global,
     conn: Connection<S>,
     lines: &[Line],
     wanted: &str,
-) {
+) -> Connection<S> {
     let mut registry = entered(rt, begun(alloc, conn, 1));
     comes_to(rt, alloc, &mut registry, lines, wanted);
     let conn = comes_back(rt, alloc, registry, lines, wanted);
@@ -123,25 +120,24 @@ fn stays<S: Alter + Drop>(
 }
 
 /// The registry that a database holds shows this.
-fn is_shown<S: Alter + Drop>(rt: &impl Abort, alloc: Global, conn: Connection<S>, wanted: &str)
+pub fn is_shown<S: Alter + Drop>(
+    rt: &impl Abort,
+    alloc: Global,
+    conn: Connection<S>,
+    wanted: &str,
+) -> Connection<S>
     requires ordered { HasCleanDisk (state S.Store conn) → IsInKeyOrder (state S.Store conn).now }
 {
     let mut registry = entered(rt, opened(alloc, conn));
-    shows(rt, alloc, &mut registry, wanted)
-}
-
-/// The registry on disks shows this.
-fn is_shown_on<D: Disk + Drop>(rt: &impl Abort, alloc: Global, files: Files<D>, wanted: &str) {
-    let conn = database_on(rt, alloc, files);
-    is_shown(rt, alloc, conn, wanted)
+    shows(rt, alloc, &mut registry, wanted);
+    let (conn, _) = closed(registry);
+    conn
 }
 
 #[test]
-fn in_memory_and_on_disks(rt: HostRuntime) {
+fn over_one_connection_and_on_its_disks(rt: HostRuntime) {
     let alloc = rt.alloc();
     let april = SCRIPT.get(..APRIL).expect(&rt, "so many requests");
-    let conn = Connection::open_in_memory(alloc).expect(&rt, "a database");
-    stays(&rt, alloc, conn, april, APRIL_SHOWN);
-    let files = sent_on(&rt, alloc, blank(alloc), april);
-    is_shown_on(&rt, alloc, files, APRIL_SHOWN)
+    let files = after(&rt, alloc, blank(alloc), Deed::Stays(april, APRIL_SHOWN));
+    let _files = after(&rt, alloc, files, Deed::Shows(APRIL_SHOWN));
 }

@@ -1,5 +1,7 @@
 //! The statements that no shelf makes yet, over the tables of a registry that was asked for a withdrawal.
 
+use crate::deeds::{Deed, after};
+use crate::disks::blank;
 use crate::registries::{begun, closed, entered};
 use crate::worked::{Case, is_answered};
 use goo_held::joined::{next_expiring, next_of_account};
@@ -54,19 +56,20 @@ fn finds_all<S: Alter>(rt: &impl Abort, alloc: Global, conn: &mut Connection<S>)
 }
 
 /// A registry in a database is asked for the withdrawal, and its tables are asked for rows.
-fn finds_withdrawn<S: Alter + Drop>(rt: &impl Abort, alloc: Global, conn: Connection<S>) {
+pub fn finds_withdrawn<S: Alter + Drop>(
+    rt: &impl Abort,
+    alloc: Global,
+    conn: Connection<S>,
+) -> Connection<S> {
     let mut registry = entered(rt, begun(alloc, conn, 1));
     is_answered(rt, alloc, &mut registry, &WITHDRAWN);
     let (mut conn, _) = closed(registry);
-    finds_all(rt, alloc, &mut conn)
+    finds_all(rt, alloc, &mut conn);
+    conn
 }
 
 #[test]
 fn by_keys_and_in_order(rt: HostRuntime) {
     let alloc = rt.alloc();
-    finds_withdrawn(
-        &rt,
-        alloc,
-        Connection::open_in_memory(alloc).expect(&rt, "a database"),
-    )
+    let _files = after(&rt, alloc, blank(alloc), Deed::FindsWithdrawn);
 }

@@ -6,28 +6,24 @@ ghost use Rattle.sqlite.specs.State.{HasCleanDisk};
 ghost use Rattle.goo_columns.specs.Met.{IsInKeyOrder};
 
 use crate::asking::{asks, is_outcome, plays, plays_one};
-use crate::disks::{crashed, database_on, files_of, stopping};
+use crate::deeds::{Deed, Done, after, does};
+use crate::disks::{blank, crashed, stopping};
 use crate::registries::{begun, closed, entered, opened};
 use crate::reopened::{END_SHOWN, shows};
 use crate::script::SCRIPT;
 use crate::sight::sight;
-use goo_opening::connecting::open_ordered;
 use goo_opening::fault::OpenFault;
 use goo_registry::{ReadFault, Registry};
-use goo_store::sql_shelf::SqlShelf;
+use goo_shelf::shelf::Shelf;
 use goo_types::fault::Fault;
 use goo_types::holder_code::HolderCode;
-use sqlite::{Alter, Connection, Files, Options};
+use sqlite::{Alter, Connection, Files};
 use sqlite_disk::{Crash, Disk};
 use std::alloc::Global;
 use std::process::Abort;
 
 /// What a new registry shows before the first request, and after each.
-fn sights_of<S: Alter>(
-    rt: &impl Abort,
-    alloc: Global,
-    registry: &mut Registry<SqlShelf<S>>,
-) -> Vec<String> {
+fn sights_of<S: Shelf>(rt: &impl Abort, alloc: Global, registry: &mut Registry<S>) -> Vec<String> {
     let mut shown = Vec::new(alloc);
     shown.push(sight(rt, alloc, registry)).expect(rt, "memory");
     for line in &SCRIPT {
@@ -38,17 +34,19 @@ fn sights_of<S: Alter>(
 }
 
 /// What a new registry in a database shows before the first request, and after each.
-fn sights<S: Alter + Drop>(rt: &impl Abort, alloc: Global, conn: Connection<S>) -> Vec<String> {
+pub fn sights<S: Alter + Drop>(
+    rt: &impl Abort,
+    alloc: Global,
+    conn: Connection<S>,
+) -> (Vec<String>, Connection<S>) {
     let mut registry = entered(rt, begun(alloc, conn, 1));
-    sights_of(rt, alloc, &mut registry)
+    let shown = sights_of(rt, alloc, &mut registry);
+    let (conn, _) = closed(registry);
+    (shown, conn)
 }
 
 /// How many requests are answered: all, or those up to the first `Store`, and then each is answered so.
-fn answered_by<S: Alter>(
-    rt: &impl Abort,
-    alloc: Global,
-    registry: &mut Registry<SqlShelf<S>>,
-) -> usize {
+fn answered_by<S: Shelf>(rt: &impl Abort, alloc: Global, registry: &mut Registry<S>) -> usize {
     let mut answered = 0usize;
     for (at, line) in SCRIPT.iter().enumerate() {
         match asks(rt, alloc, registry, line.0, line.1) {
@@ -64,18 +62,14 @@ fn answered_by<S: Alter>(
 }
 
 /// Nothing is shown any more.
-fn is_silent<S: Alter>(rt: &impl Abort, alloc: Global, registry: &mut Registry<SqlShelf<S>>) {
+fn is_silent<S: Shelf>(rt: &impl Abort, alloc: Global, registry: &mut Registry<S>) {
     let issuer = HolderCode::read(b"ISSUER").expect(rt, "a holder");
     let read = registry.audit(alloc, &issuer).err();
     assert!(rt; read == Some(ReadFault::Store));
 }
 
 /// How many requests are answered; where it isn't all, nothing is shown any more.
-fn answers_or_stops<S: Alter>(
-    rt: &impl Abort,
-    alloc: Global,
-    registry: &mut Registry<SqlShelf<S>>,
-) -> usize {
+fn answers_or_stops<S: Shelf>(rt: &impl Abort, alloc: Global, registry: &mut Registry<S>) -> usize {
     let answered = answered_by(rt, alloc, registry);
     if answered < SCRIPT.len() {
         is_silent(rt, alloc, registry);
@@ -84,7 +78,7 @@ fn answers_or_stops<S: Alter>(
 }
 
 /// How many requests a new registry in a database answers, and the database.
-fn runs<S: Alter + Drop>(
+pub fn runs<S: Alter + Drop>(
     rt: &impl Abort,
     alloc: Global,
     conn: Connection<S>,
@@ -110,25 +104,15 @@ pub fn runs_on<D: Disk + Drop>(
     alloc: Global,
     files: Files<D>,
 ) -> (usize, Files<D>) {
-    if !files.may_be_used() {
-        panic!(rt; "disks that may not be used");
-    }
-    match open_ordered(alloc, files, Options::new(7)) {
-        Ok(conn) => {
-            let (answered, conn) = runs(rt, alloc, conn);
-            (answered, files_of(conn))
-        }
-        Err((_, left)) => (0, left.into_files()),
+    match does(rt, alloc, files, Deed::Runs) {
+        (Done::Answered(answered), files) => (answered, files),
+        (Done::Unopened, files) => (0, files),
+        _ => panic!(rt; "no run"),
     }
 }
 
 /// All requests are sent again: those that were kept are repeated, and the end is that of a run without a stop.
-fn ends<S: Alter>(
-    rt: &impl Abort,
-    alloc: Global,
-    registry: &mut Registry<SqlShelf<S>>,
-    kept: usize,
-) {
+fn ends<S: Shelf>(rt: &impl Abort, alloc: Global, registry: &mut Registry<S>, kept: usize) {
     plays(rt, alloc, registry, &SCRIPT, kept);
     shows(rt, alloc, registry, END_SHOWN)
 }
@@ -153,10 +137,10 @@ fn kept_of(rt: &impl Abort, shown: &str, answered: usize, wanted: &[String]) -> 
 }
 
 /// A registry that was opened after a stop has kept the requests answered, or one more, and goes on from there.
-fn goes_on_from<S: Alter>(
+fn goes_on_from<S: Shelf>(
     rt: &impl Abort,
     alloc: Global,
-    registry: &mut Registry<SqlShelf<S>>,
+    registry: &mut Registry<S>,
     answered: usize,
     wanted: &[String],
 ) {
@@ -166,19 +150,21 @@ fn goes_on_from<S: Alter>(
 }
 
 /// The registry that a database holds after a stop goes on. One is begun where there is none.
-fn returns<S: Alter + Drop>(
+pub fn returns<S: Alter + Drop>(
     rt: &impl Abort,
     alloc: Global,
     conn: Connection<S>,
     answered: usize,
     wanted: &[String],
-)
+) -> Connection<S>
     requires ordered { HasCleanDisk (state S.Store conn) → IsInKeyOrder (state S.Store conn).now }
 {
     match opened(alloc, conn) {
         Ok(registry) => {
             let mut registry = registry;
-            goes_on_from(rt, alloc, &mut registry, answered, wanted)
+            goes_on_from(rt, alloc, &mut registry, answered, wanted);
+            let (conn, _) = closed(registry);
+            conn
         }
         Err((conn, fault)) => {
             assert!(rt; fault == OpenFault::NotARegistry);
@@ -193,10 +179,12 @@ fn starts_over<S: Alter + Drop>(
     alloc: Global,
     conn: Connection<S>,
     answered: usize,
-) {
+) -> Connection<S> {
     assert!(rt; answered == 0);
     let mut registry = entered(rt, begun(alloc, conn, 1));
-    ends(rt, alloc, &mut registry, 0)
+    ends(rt, alloc, &mut registry, 0);
+    let (conn, _) = closed(registry);
+    conn
 }
 
 /// What a crash left on disks is opened again.
@@ -207,8 +195,7 @@ pub fn goes_on<D: Disk + Drop>(
     answered: usize,
     wanted: &[String],
 ) {
-    let conn = database_on(rt, alloc, files);
-    returns(rt, alloc, conn, answered, wanted)
+    let _files = after(rt, alloc, files, Deed::GoesOn(answered, wanted));
 }
 
 /// Whether disks stop before all requests are answered; what a crash leaves goes on.
@@ -225,11 +212,10 @@ fn stops_on<D: Crash + Drop>(
 
 /// What the registry shows without a stop, request by request: no two neighbours are alike.
 pub fn wanted_sights(rt: &impl Abort, alloc: Global) -> Vec<String> {
-    let shown = sights(
-        rt,
-        alloc,
-        Connection::open_in_memory(alloc).expect(rt, "a database"),
-    );
+    let (done, _files) = does(rt, alloc, blank(alloc), Deed::Sights);
+    let Done::Sighted(shown) = done else {
+        panic!(rt; "nothing is shown");
+    };
     for (text, next) in shown.iter().zip(shown.iter().skip(1)) {
         assert!(rt; text.as_str() != next.as_str());
     }

@@ -2,7 +2,9 @@
 
 use crate::asking::{asks, plays};
 use crate::cases::{FIFTH, FIRST, FOURTH, SECOND, SIXTH, THIRD};
-use crate::registries::{begun, begun_in_lists, entered, in_march_from, opened_again};
+use crate::deeds::{Deed, after};
+use crate::disks::blank;
+use crate::registries::{begun, begun_in_lists, closed, entered, in_march_from, opened_again};
 use crate::script::{Line, SCRIPT};
 use crate::sight::{sight, tell_certificates};
 use goo_body::read_command;
@@ -141,18 +143,20 @@ fn shows_again<S: Shelf>(
 }
 
 /// A registry in a database shows this after a case, and again once it is opened again.
-fn is_shown_in<S: Alter + Drop>(
+pub fn is_shown_in<S: Alter + Drop>(
     rt: &impl Abort,
     alloc: Global,
     conn: Connection<S>,
     case: &Case,
     is_list: bool,
     wanted: &str,
-) {
+) -> Connection<S> {
     let mut registry = entered(rt, begun(alloc, conn, case.serial));
     comes_to(rt, alloc, &mut registry, case, is_list, wanted);
     let mut registry = entered(rt, opened_again(alloc, registry));
-    shows_again(rt, alloc, &mut registry, case, wanted)
+    shows_again(rt, alloc, &mut registry, case, wanted);
+    let (conn, _) = closed(registry);
+    conn
 }
 
 /// What a registry in plain lists shows after a case.
@@ -165,8 +169,7 @@ fn shown_by_lists(rt: &impl Abort, alloc: Global, case: &Case) -> String {
 fn is_alike(rt: &impl Abort, alloc: Global, case: &Case) {
     let wanted = shown_by_lists(rt, alloc, case);
     for is_list in [false, true] {
-        let conn = Connection::open_in_memory(alloc).expect(rt, "a database");
-        is_shown_in(rt, alloc, conn, case, is_list, &wanted);
+        let _files = after(rt, alloc, blank(alloc), Deed::Plays(case, is_list, &wanted));
     }
 }
 
