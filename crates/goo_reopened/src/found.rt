@@ -4,6 +4,7 @@ use crate::deeds::{Deed, after};
 use crate::disks::blank;
 use crate::registries::{begun, begun_in_lists, entered, in_march, in_march_from};
 use crate::worked::{Case, is_answered};
+use goo_registry::Registry;
 use goo_shelf::shelf::Shelf;
 use goo_types::account_no::AccountNo;
 use goo_types::act_no::ActNo;
@@ -159,6 +160,13 @@ fn finds_nothing<S: Shelf>(rt: &impl Abort, alloc: Global, shelf: &mut S) {
     is_empty(rt, alloc, shelf)
 }
 
+/// The shelf of a new registry, which finds nothing.
+fn found_empty<S: Shelf>(rt: &impl Abort, alloc: Global, registry: Registry<S>) -> S {
+    let mut shelf = registry.into_shelf();
+    finds_nothing(rt, alloc, &mut shelf);
+    shelf
+}
+
 /// A new registry in a database finds nothing.
 pub fn finds_nothing_in<S: Alter + Drop>(
     rt: &impl Abort,
@@ -166,9 +174,7 @@ pub fn finds_nothing_in<S: Alter + Drop>(
     conn: Connection<S>,
 ) -> Connection<S> {
     let registry = entered(rt, begun(alloc, conn, LAST));
-    let mut shelf = registry.into_shelf();
-    finds_nothing(rt, alloc, &mut shelf);
-    shelf.into_connection()
+    found_empty(rt, alloc, registry).into_connection()
 }
 
 /// The holder with an open account and a closed one.
@@ -210,33 +216,37 @@ fn finds_members<S: Shelf>(rt: &impl Abort, shelf: &mut S) {
     has_a_peer(rt, shelf)
 }
 
+/// The shelf of a new registry, which finds its members once they were asked for.
+fn found_with_members<S: Shelf>(rt: &impl Abort, alloc: Global, registry: Registry<S>) -> S {
+    let mut registry = registry;
+    is_answered(rt, alloc, &mut registry, &MEMBERS);
+    let mut shelf = registry.into_shelf();
+    finds_members(rt, &mut shelf);
+    shelf
+}
+
 /// A new registry in a database finds its members once they were asked for.
 pub fn finds_members_in<S: Alter + Drop>(
     rt: &impl Abort,
     alloc: Global,
     conn: Connection<S>,
 ) -> Connection<S> {
-    let mut registry = entered(rt, begun(alloc, conn, 1));
-    is_answered(rt, alloc, &mut registry, &MEMBERS);
-    let mut shelf = registry.into_shelf();
-    finds_members(rt, &mut shelf);
-    shelf.into_connection()
+    let registry = entered(rt, begun(alloc, conn, 1));
+    found_with_members(rt, alloc, registry).into_connection()
 }
 
 #[test]
 fn in_a_new_registry(rt: HostRuntime) {
     let alloc = rt.alloc();
     let _files = after(&rt, alloc, blank(alloc), Deed::FindsNothing);
-    let mut lists = begun_in_lists(alloc, in_march_from(&rt, LAST)).into_shelf();
-    finds_nothing(&rt, alloc, &mut lists)
+    let lists = begun_in_lists(alloc, in_march_from(&rt, LAST));
+    let _shelf = found_empty(&rt, alloc, lists);
 }
 
 #[test]
 fn among_members(rt: HostRuntime) {
     let alloc = rt.alloc();
     let _files = after(&rt, alloc, blank(alloc), Deed::FindsMembers);
-    let mut lists = begun_in_lists(alloc, in_march(&rt));
-    is_answered(&rt, alloc, &mut lists, &MEMBERS);
-    let mut shelf = lists.into_shelf();
-    finds_members(&rt, &mut shelf)
+    let lists = begun_in_lists(alloc, in_march(&rt));
+    let _shelf = found_with_members(&rt, alloc, lists);
 }
