@@ -15,6 +15,7 @@ use std::io::{Read, Write};
 /// - `not_all_done`: status 1 only where some line was refused or unreadable.
 /// - `written`: with status 0 and 1, all outcomes of the lines are written after what the writer had.
 /// - `no_words`: it never says that the command line was at fault.
+/// - `lied`: what lies below the desk returned what was written before, where it did so to the end.
 pub fn answer_input<D: Desk, R: Read, W: Write>(
     alloc: Global,
     desk: &mut D,
@@ -25,6 +26,7 @@ pub fn answer_input<D: Desk, R: Read, W: Write>(
     ensures not_all_done { (D.seen desk.new).lies ≡ 0 → status_of result ≡ 1 → IfSome (R.remaining reader.old) (λ input. (lines (D.seen desk.old).state input).bad ≢ 0) }
     ensures written { (D.seen desk.new).lies ≡ 0 → status_of result < 2 → IfSome (R.remaining reader.old) (λ input. Appends (W.contents writer.old) (W.contents writer.new) (lines (D.seen desk.old).state input).text) }
     ensures no_words { status_of result ≢ 2 }
+    ensures lied { (D.seen desk.new).lies ≡ 0 → (D.seen desk.old).lies ≡ 0 }
 {
     let answered = run_lines(alloc, desk, reader, writer);
     let flushed = writer.flush().is_ok();

@@ -1,5 +1,6 @@
 //! Requests that are sent, and what they are answered.
 
+use crate::claims::holds;
 use crate::script::Line;
 use goo_body::read_command;
 use goo_outcome::outcome_text;
@@ -24,13 +25,20 @@ pub fn asks<S: Shelf>(
     registry.apply(alloc, &request)
 }
 
-/// An outcome is that of a line, in this word.
-pub fn is_outcome(rt: &impl Abort, alloc: Global, outcome: Outcome, word: &str, line: &Line) {
+/// An outcome has this reply, in this word.
+pub fn is_outcome(
+    rt: &impl Abort,
+    alloc: Global,
+    outcome: Outcome,
+    word: &str,
+    reply: &str,
+    what: &str,
+) {
     let text = outcome_text(outcome);
-    let wanted = format!(in alloc; "{{\"outcome\":\"{word}\",\"reply\":{}}}", line.2).expect(
+    let wanted = format!(in alloc; "{{\"outcome\":\"{word}\",\"reply\":{reply}}}").expect(
         rt, "memory",
     );
-    assert!(rt; text.as_str() == wanted.as_str(), "to {}", line.1);
+    holds(rt, text.as_str() == wanted.as_str(), what)
 }
 
 /// The request of a line comes to its reply, in this word.
@@ -42,7 +50,7 @@ pub fn plays_one<S: Shelf>(
     word: &str,
 ) {
     let outcome = asks(rt, alloc, registry, line.0, line.1).expect(rt, "an outcome");
-    is_outcome(rt, alloc, outcome, word, line)
+    is_outcome(rt, alloc, outcome, word, line.2, line.1)
 }
 
 /// The first lines are repeated, as many as are kept, and the others accepted.

@@ -1,11 +1,11 @@
 //! Tables that were damaged, one value at a time.
 
-use crate::deeds::{Deed, after, judged};
-use crate::disks::blank;
+use crate::acts::Act;
+use crate::claims::holds;
+use crate::deeds::{Deed, after, judged, shown};
+use crate::disks::{Disks, blank};
 use crate::script::{CANCELLATION, SCRIPT};
 use goo_opening::fault::OpenFault;
-use sqlite::Files;
-use sqlite_disk::Disk;
 use std::alloc::Global;
 use std::process::Abort;
 
@@ -126,27 +126,24 @@ const DAMAGES: [Damage; 22] = [
 ];
 
 /// Tables that are damaged are not opened, for this reason, and are opened once that is undone.
-fn is_refused<D: Disk + Drop>(
-    rt: &impl Abort,
-    alloc: Global,
-    files: Files<D>,
-    damage: &Damage,
-) -> Files<D> {
-    let files = after(rt, alloc, files, Deed::Edits(damage.0));
-    let (word, files) = judged(rt, alloc, files);
-    assert!(rt; word == Some(damage.2), "after {}", damage.0);
-    let files = after(rt, alloc, files, Deed::Edits(damage.1));
-    let (word, files) = judged(rt, alloc, files);
-    assert!(rt; word == None, "after {}", damage.1);
-    files
+fn is_refused(rt: &impl Abort, alloc: Global, disks: Disks, damage: &Damage) -> Disks {
+    let disks = after(rt, alloc, disks, &Deed::Edits(damage.0));
+    let (word, disks) = judged(rt, alloc, disks);
+    holds(rt, word == Some(damage.2), damage.0);
+    let disks = after(rt, alloc, disks, &Deed::Edits(damage.1));
+    let (word, disks) = judged(rt, alloc, disks);
+    holds(rt, word == None, damage.1);
+    disks
 }
 
 #[test]
 fn damages_are_met(rt: HostRuntime) {
     let alloc = rt.alloc();
     let cancelled = SCRIPT.get(..=CANCELLATION).expect(&rt, "no cancellation");
-    let mut files = after(&rt, alloc, blank(alloc), Deed::Sends(cancelled));
+    let begins = Deed::Begins(1, Act::Sends(cancelled, 0));
+    let (_, disks) = shown(&rt, alloc, blank(alloc), &begins);
+    let mut disks = disks;
     for damage in &DAMAGES {
-        files = is_refused(&rt, alloc, files, damage);
+        disks = is_refused(&rt, alloc, disks, damage);
     }
 }

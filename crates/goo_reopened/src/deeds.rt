@@ -7,16 +7,14 @@ ghost use Rattle.sqlite.specs.Held.{state};
 ghost use Rattle.sqlite.specs.State.{HasCleanDisk};
 ghost use Rattle.goo_columns.specs.Met.{IsInKeyOrder};
 
-use crate::found::{finds_members_in, finds_nothing_in};
-use crate::parts::shown_in;
-use crate::registries::{sent, word_of};
-use crate::reopened::{is_shown, stays};
-use crate::script::Line;
+use crate::acts::{Act, Done, done_by_lists, works};
+use crate::claims::holds;
+use crate::disks::{Disks, blank};
+use crate::registries::{Entered, begun, opened, opened_again};
 use crate::statements::finds_withdrawn;
-use crate::stops::{returns, runs, sights};
-use crate::worked::{Case, is_shown_in};
 use goo_opening::connecting::open_ordered;
 use goo_opening::fault::OpenFault;
+use goo_store::sql_shelf::SqlShelf;
 use sqlite::{Alter, Connection, Files, Options};
 use sqlite_disk::Disk;
 use std::alloc::Global;
@@ -25,49 +23,64 @@ use std::process::Abort;
 /// What is done to a database.
 #[derive(Clone, Copy)]
 pub enum Deed<'a> {
-    /// A new registry is sent requests, each of which is accepted.
-    Sends(&'a [Line]),
-    /// A new registry is sent requests and shows this, also once it is opened again.
-    Stays(&'a [Line], &'a str),
-    /// A new registry plays a case, in a list or one request at a time, and shows this, also once it is opened again.
-    Plays(&'a Case, bool, &'a str),
-    /// The shelf of a new registry finds nothing.
-    FindsNothing,
-    /// The shelf of a new registry finds its members once they were asked for.
-    FindsMembers,
-    /// The tables of a new registry are asked for rows after a withdrawal.
-    FindsWithdrawn,
-    /// A new registry sends a hundred parts, and no more: what it shows then.
-    SendsParts,
-    /// What a new registry shows before the first request, and after each.
-    Sights,
-    /// A new registry answers requests up to the first `Store`: how many.
-    Runs,
-    /// What a stop left after so many answers shows one of these, and goes on.
-    GoesOn(usize, &'a [String]),
-    /// The registry that is opened shows this.
-    Shows(&'a str),
-    /// Why no registry is opened, if none is.
-    Judges,
+    /// A registry is begun there with this next serial, and asked.
+    Begins(u64, Act<'a>),
+    /// The registry that is there is opened, and asked.
+    Opens(Act<'a>),
     /// A text is run.
     Edits(&'a str),
+    /// The tables are asked for rows after a withdrawal.
+    FindsWithdrawn,
 }
 
-/// What a deed comes to.
-#[derive(Drop)]
-pub enum Done {
-    /// It was done.
-    All,
-    /// So many requests were answered.
-    Answered(usize),
-    /// Why no registry was opened, if none was.
-    Judged(Option<OpenFault>),
-    /// What was shown.
-    Shown(String),
-    /// What was shown, before the first request and after each.
-    Sighted(Vec<String>),
-    /// No database was opened.
-    Unopened,
+/// A registry that was entered is asked, if it was.
+fn works_in<S: Alter + Drop>(
+    rt: &impl Abort,
+    alloc: Global,
+    found: Entered<S>,
+    act: &Act<'_>,
+) -> (Done, Connection<S>) {
+    match found {
+        Ok(registry) => {
+            let (done, shelf) = works(rt, alloc, registry, act);
+            (done, shelf.into_connection())
+        }
+        Err((conn, fault)) => (Done::Refused(fault), conn),
+    }
+}
+
+/// A registry that showed something is opened again over its connection, and shows the same.
+fn comes_back<S: Alter + Drop>(
+    rt: &impl Abort,
+    alloc: Global,
+    shelf: SqlShelf<S>,
+    done: Done,
+) -> (Done, Connection<S>) {
+    match done {
+        Done::Shown(shown) => {
+            let (again, conn) = works_in(rt, alloc, opened_again(alloc, shelf), &Act::Rests);
+            again.is_shown(rt, &shown);
+            (Done::Shown(shown), conn)
+        }
+        told => (told, shelf.into_connection()),
+    }
+}
+
+/// A registry is begun in a database, asked, and opened again.
+fn begins<S: Alter + Drop>(
+    rt: &impl Abort,
+    alloc: Global,
+    conn: Connection<S>,
+    serial: u64,
+    act: &Act<'_>,
+) -> (Done, Connection<S>) {
+    match begun(alloc, conn, serial) {
+        Ok(registry) => {
+            let (done, shelf) = works(rt, alloc, registry, act);
+            comes_back(rt, alloc, shelf, done)
+        }
+        Err((conn, fault)) => (Done::Refused(fault), conn),
+    }
 }
 
 /// A text is run on a database.
@@ -75,72 +88,37 @@ fn edits<S: Alter>(rt: &impl Abort, conn: &mut Connection<S>, sql: &str) {
     conn.execute_batch(sql).expect(rt, "an edit");
 }
 
-/// What is done to a new registry.
-fn begins<S: Alter + Drop>(
-    rt: &impl Abort,
-    alloc: Global,
-    conn: Connection<S>,
-    deed: Deed<'_>,
-) -> (Done, Connection<S>) {
-    match deed {
-        Deed::Sends(lines) => (Done::All, sent(rt, alloc, conn, lines)),
-        Deed::Stays(lines, wanted) => (Done::All, stays(rt, alloc, conn, lines, wanted)),
-        Deed::Plays(case, is_list, wanted) => {
-            (
-                Done::All,
-                is_shown_in(rt, alloc, conn, case, is_list, wanted),
-            )
-        }
-        Deed::FindsNothing => (Done::All, finds_nothing_in(rt, alloc, conn)),
-        Deed::FindsMembers => (Done::All, finds_members_in(rt, alloc, conn)),
-        Deed::FindsWithdrawn => (Done::All, finds_withdrawn(rt, alloc, conn)),
-        Deed::SendsParts => {
-            let (shown, conn) = shown_in(rt, alloc, conn);
-            (Done::Shown(shown), conn)
-        }
-        Deed::Sights => {
-            let (shown, conn) = sights(rt, alloc, conn);
-            (Done::Sighted(shown), conn)
-        }
-        Deed::Runs => {
-            let (answered, conn) = runs(rt, alloc, conn);
-            (Done::Answered(answered), conn)
-        }
-        _ => (Done::Unopened, conn),
-    }
-}
-
 /// What is done to a database.
 fn performs<S: Alter + Drop>(
     rt: &impl Abort,
     alloc: Global,
     conn: Connection<S>,
-    deed: Deed<'_>,
+    deed: &Deed<'_>,
 ) -> (Done, Connection<S>)
     requires ordered { HasCleanDisk (state S.Store conn) → IsInKeyOrder (state S.Store conn).now }
 {
     match deed {
-        Deed::GoesOn(answered, wanted) => (Done::All, returns(rt, alloc, conn, answered, wanted)),
-        Deed::Shows(wanted) => (Done::All, is_shown(rt, alloc, conn, wanted)),
-        Deed::Judges => {
-            let (word, conn) = word_of(alloc, conn);
-            (Done::Judged(word), conn)
-        }
+        Deed::Begins(serial, act) => begins(rt, alloc, conn, *serial, act),
+        Deed::Opens(act) => works_in(rt, alloc, opened(alloc, conn), act),
         Deed::Edits(sql) => {
             let mut conn = conn;
             edits(rt, &mut conn, sql);
             (Done::All, conn)
         }
-        _ => begins(rt, alloc, conn, deed),
+        Deed::FindsWithdrawn => {
+            let mut conn = conn;
+            finds_withdrawn(rt, alloc, &mut conn);
+            (Done::All, conn)
+        }
     }
 }
 
-/// What is done to the database on disks, and the disks as that leaves them.
-pub fn does<D: Disk + Drop>(
+/// What is done to the database that files hold, and the files as that leaves them.
+fn does_on<D: Disk + Drop>(
     rt: &impl Abort,
     alloc: Global,
     files: Files<D>,
-    deed: Deed<'_>,
+    deed: &Deed<'_>,
 ) -> (Done, Files<D>) {
     if !files.may_be_used() {
         panic!(rt; "disks that may not be used");
@@ -155,26 +133,45 @@ pub fn does<D: Disk + Drop>(
     }
 }
 
-/// The disks, after a deed that is done whole.
-pub fn after<D: Disk + Drop>(
-    rt: &impl Abort,
-    alloc: Global,
-    files: Files<D>,
-    deed: Deed<'_>,
-) -> Files<D> {
-    let (done, files) = does(rt, alloc, files, deed);
-    assert!(rt; matches!(done, Done::All), "a database that isn't opened");
-    files
+/// What is done to the database on disks, and the disks as that leaves them.
+pub fn does(rt: &impl Abort, alloc: Global, disks: Disks, deed: &Deed<'_>) -> (Done, Disks) {
+    let (done, files) = does_on(rt, alloc, disks.files, deed);
+    (done, Disks { files })
+}
+
+/// The disks, after their tables were changed or asked for rows.
+pub fn after(rt: &impl Abort, alloc: Global, disks: Disks, deed: &Deed<'_>) -> Disks {
+    let (done, disks) = does(rt, alloc, disks, deed);
+    holds(
+        rt,
+        matches!(done, Done::All),
+        "a database that isn't opened",
+    );
+    disks
+}
+
+/// What the registry on the disks shows, and the disks as that leaves them.
+pub fn shown(rt: &impl Abort, alloc: Global, disks: Disks, deed: &Deed<'_>) -> (String, Disks) {
+    let (done, disks) = does(rt, alloc, disks, deed);
+    (done.into_text(rt), disks)
+}
+
+/// The registry on the disks shows this.
+pub fn shows(rt: &impl Abort, alloc: Global, disks: Disks, deed: &Deed<'_>, wanted: &str) -> Disks {
+    let (done, disks) = does(rt, alloc, disks, deed);
+    done.is_shown(rt, wanted);
+    disks
 }
 
 /// Why no registry is opened on the disks, if none is, and the disks as that leaves them.
-pub fn judged<D: Disk + Drop>(
-    rt: &impl Abort,
-    alloc: Global,
-    files: Files<D>,
-) -> (Option<OpenFault>, Files<D>) {
-    match does(rt, alloc, files, Deed::Judges) {
-        (Done::Judged(word), files) => (word, files),
-        _ => panic!(rt; "a database that isn't opened"),
-    }
+pub fn judged(rt: &impl Abort, alloc: Global, disks: Disks) -> (Option<OpenFault>, Disks) {
+    let (done, disks) = does(rt, alloc, disks, &Deed::Opens(Act::Rests));
+    (done.word(rt), disks)
+}
+
+/// A new registry shows the same in tables as in plain lists, once it was asked.
+pub fn is_alike(rt: &impl Abort, alloc: Global, serial: u64, act: Act<'_>, name: &str) {
+    let wanted = done_by_lists(rt, alloc, serial, &act).into_text(rt);
+    let (shown, _disks) = shown(rt, alloc, blank(alloc), &Deed::Begins(serial, act));
+    holds(rt, shown.as_str() == wanted.as_str(), name);
 }

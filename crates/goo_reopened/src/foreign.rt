@@ -1,10 +1,9 @@
 //! Databases whose tables are not those of a registry, or not all of them.
 
+use crate::claims::holds;
 use crate::deeds::{Deed, after, judged};
-use crate::disks::blank;
+use crate::disks::{Disks, blank};
 use goo_opening::fault::OpenFault;
-use sqlite::Files;
-use sqlite_disk::Disk;
 use std::alloc::Global;
 use std::process::Abort;
 
@@ -33,26 +32,26 @@ const BEGINNING: &str = "INSERT INTO meta VALUES (1, 1, 7, '2025-03-01', 1, 1, 1
 const NONE: Option<OpenFault> = Some(OpenFault::NotARegistry);
 
 /// A text that is run on disks makes a database of them that is refused with this word, and as often as it is opened.
-fn is_told<D: Disk + Drop>(
+fn is_told(
     rt: &impl Abort,
     alloc: Global,
-    files: Files<D>,
+    disks: Disks,
     sql: &str,
     word: Option<OpenFault>,
-) -> Files<D> {
-    let files = after(rt, alloc, files, Deed::Edits(sql));
-    let (told, files) = judged(rt, alloc, files);
-    assert!(rt; told == word, "after {sql}");
-    let (told, files) = judged(rt, alloc, files);
-    assert!(rt; told == word, "again after {sql}");
-    files
+) -> Disks {
+    let disks = after(rt, alloc, disks, &Deed::Edits(sql));
+    let (told, disks) = judged(rt, alloc, disks);
+    holds(rt, told == word, sql);
+    let (told, disks) = judged(rt, alloc, disks);
+    holds(rt, told == word, sql);
+    disks
 }
 
 /// Texts that are run on disks in turn, and the word after each.
-fn are_told<D: Disk + Drop>(rt: &impl Abort, alloc: Global, files: Files<D>, rows: &[Row]) {
-    let mut files = files;
+fn are_told(rt: &impl Abort, alloc: Global, disks: Disks, rows: &[Row]) {
+    let mut disks = disks;
     for (sql, word) in rows {
-        files = is_told(rt, alloc, files, sql, *word);
+        disks = is_told(rt, alloc, disks, sql, *word);
     }
 }
 
@@ -116,8 +115,8 @@ fn tables_of_somebody_else_and_ours(rt: HostRuntime) {
 fn a_meta_alone_and_behind_another_table(rt: HostRuntime) {
     let alloc = rt.alloc();
     for first in ["", PLAN] {
-        let files = is_told(&rt, alloc, blank(alloc), first, NONE);
-        are_told(&rt, alloc, files, &VERSIONS);
+        let disks = is_told(&rt, alloc, blank(alloc), first, NONE);
+        are_told(&rt, alloc, disks, &VERSIONS);
     }
 }
 

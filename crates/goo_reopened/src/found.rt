@@ -1,20 +1,21 @@
 //! What a shelf finds, over tables and over lists: nothing in a new registry, and then what was asked for.
 
-use crate::deeds::{Deed, after};
-use crate::disks::blank;
-use crate::registries::{begun, begun_in_lists, entered, in_march, in_march_from};
-use crate::worked::{Case, is_answered};
-use goo_registry::Registry;
+use crate::acts::Act;
+use crate::claims::holds;
+use crate::deeds::is_alike;
+use crate::worked::Case;
+use goo_shelf::counters::Counters;
 use goo_shelf::shelf::Shelf;
 use goo_types::account_no::AccountNo;
 use goo_types::act_no::ActNo;
 use goo_types::day::Day;
+use goo_types::fault::Fault;
 use goo_types::gsrn::Gsrn;
 use goo_types::holder_code::HolderCode;
 use goo_types::number::Number;
+use goo_types::piece::Piece;
 use goo_types::range::Range;
 use goo_types::registry_code::RegistryCode;
-use sqlite::{Alter, Connection};
 use std::alloc::Global;
 use std::process::Abort;
 
@@ -22,7 +23,7 @@ use std::process::Abort;
 const LAST: u64 = 999_999_999_999;
 
 /// A holder with two accounts, the second of which is closed, a device, another registry, and the next month.
-const MEMBERS: Case = Case {
+pub const MEMBERS: Case = Case {
     name: "members",
     serial: 1,
     begun: 0,
@@ -81,20 +82,25 @@ const MEMBERS: Case = Case {
     shown: "",
 };
 
+/// A new registry's next numbers.
+fn has_first_numbers(rt: &impl Abort, counters: &Counters) {
+    holds(rt, counters.serial() == LAST, "the next serial");
+    holds(rt, counters.account() == 1, "the next account");
+    holds(rt, counters.notice() == 1, "the next notice");
+    holds(rt, counters.cancellation() == 1, "the next cancellation");
+    holds(rt, counters.withdrawal() == 1, "the next withdrawal");
+}
+
 /// A new registry's code, date and next numbers.
 fn has_its_own<S: Shelf>(rt: &impl Abort, shelf: &mut S) {
     let today = Day::read(b"2025-03-01").expect(rt, "a day");
-    let counters = shelf.counters().expect(rt, "counters");
-    assert!(rt;
-        matches!(shelf.code(), Ok(code) if code.get() == 7)
-            && shelf.today() == Ok(today)
-            && counters.serial() == LAST
-            && counters.account() == 1
-            && counters.notice() == 1
-            && counters.cancellation() == 1
-            && counters.withdrawal() == 1
-            && shelf.refused_calls() == 0
+    has_first_numbers(rt, &shelf.counters().expect(rt, "counters"));
+    holds(
+        rt,
+        matches!(shelf.code(), Ok(code) if code.get() == 7),
+        "the code",
     );
+    holds(rt, shelf.today() == Ok(today), "the date");
 }
 
 /// A new registry's shelf has no members.
@@ -102,19 +108,20 @@ fn has_nobody<S: Shelf>(rt: &impl Abort, shelf: &mut S) {
     let holder = HolderCode::read(b"SUN").expect(rt, "a holder");
     let account = AccountNo::new(1).expect(rt, "no account");
     let code = RegistryCode::new(7).expect(rt, "no code");
-    assert!(rt;
-        matches!(shelf.holder(&holder), Ok(None))
-            && matches!(shelf.account(account), Ok(None))
-            && matches!(shelf.peer(code), Ok(false))
-    );
+    holds(rt, matches!(shelf.holder(&holder), Ok(None)), "no holder");
+    holds(rt, matches!(shelf.account(account), Ok(None)), "no account");
+    holds(rt, matches!(shelf.peer(code), Ok(false)), "no peer");
 }
 
 /// A new registry's shelf has no acts.
 fn has_no_act<S: Shelf>(rt: &impl Abort, alloc: Global, shelf: &mut S) {
     let act = ActNo::new(1).expect(rt, "no act");
-    assert!(rt;
-        matches!(shelf.cancelled(act), Ok(None)) && matches!(shelf.sent(alloc, act), Ok(None))
+    holds(
+        rt,
+        matches!(shelf.cancelled(act), Ok(None)),
+        "no cancellation",
     );
+    holds(rt, matches!(shelf.sent(alloc, act), Ok(None)), "no notice");
 }
 
 /// A new registry's shelf has neither devices nor lots.
@@ -123,12 +130,19 @@ fn has_no_device<S: Shelf>(rt: &impl Abort, shelf: &mut S) {
     let code = RegistryCode::new(7).expect(rt, "no code");
     let first = Day::read(b"2025-01-01").expect(rt, "a day");
     let progress = shelf.progress(&device).expect(rt, "progress");
-    assert!(rt;
-        matches!(shelf.device(&device), Ok(None))
-            && matches!(shelf.lot(code, &device, first), Ok(None))
-            && progress.last_day.is_none()
-            && progress.carry.get() == 0
+    holds(rt, progress.last_day.is_none(), "no period");
+    holds(rt, progress.carry.get() == 0, "no carry");
+    holds(rt, matches!(shelf.device(&device), Ok(None)), "no device");
+    holds(
+        rt,
+        matches!(shelf.lot(code, &device, first), Ok(None)),
+        "no lot",
     );
+}
+
+/// There are no rows.
+fn are_none(rt: &impl Abort, rows: Result<Vec<Piece>, Fault>) {
+    holds(rt, rows.expect(rt, "rows").is_empty(), "no rows")
 }
 
 /// A new registry's shelf has no rows.
@@ -137,22 +151,18 @@ fn is_empty<S: Shelf>(rt: &impl Abort, alloc: Global, shelf: &mut S) {
     let range = Range::new(first, first).expect(rt, "no range");
     let account = AccountNo::new(1).expect(rt, "no account");
     let last_day = Day::read(b"2099-12-31").expect(rt, "a day");
-    assert!(rt;
-        shelf.meeting(alloc, range).expect(rt, "rows").is_empty()
-            && shelf
-                .expiring(alloc, last_day)
-                .expect(rt, "rows")
-                .is_empty()
-            && shelf
-                .pieces_of(alloc, account)
-                .expect(rt, "rows")
-                .is_empty()
-            && shelf.totals(alloc).expect(rt, "totals").is_empty()
+    are_none(rt, shelf.meeting(alloc, range));
+    are_none(rt, shelf.expiring(alloc, last_day));
+    are_none(rt, shelf.pieces_of(alloc, account));
+    holds(
+        rt,
+        shelf.totals(alloc).expect(rt, "totals").is_empty(),
+        "no totals",
     );
 }
 
 /// The shelf of a new registry finds nothing.
-fn finds_nothing<S: Shelf>(rt: &impl Abort, alloc: Global, shelf: &mut S) {
+pub fn finds_nothing<S: Shelf>(rt: &impl Abort, alloc: Global, shelf: &mut S) {
     has_its_own(rt, shelf);
     has_nobody(rt, shelf);
     has_no_act(rt, alloc, shelf);
@@ -160,93 +170,70 @@ fn finds_nothing<S: Shelf>(rt: &impl Abort, alloc: Global, shelf: &mut S) {
     is_empty(rt, alloc, shelf)
 }
 
-/// The shelf of a new registry, which finds nothing.
-fn found_empty<S: Shelf>(rt: &impl Abort, alloc: Global, registry: Registry<S>) -> S {
-    let mut shelf = registry.into_shelf();
-    finds_nothing(rt, alloc, &mut shelf);
-    shelf
-}
-
-/// A new registry in a database finds nothing.
-pub fn finds_nothing_in<S: Alter + Drop>(
-    rt: &impl Abort,
-    alloc: Global,
-    conn: Connection<S>,
-) -> Connection<S> {
-    let registry = entered(rt, begun(alloc, conn, LAST));
-    found_empty(rt, alloc, registry).into_connection()
+/// Whether an account is found, and whether it is closed.
+fn is_closed<S: Shelf>(rt: &impl Abort, shelf: &mut S, number: u32) -> Option<bool> {
+    let number = AccountNo::new(number).expect(rt, "no number");
+    match shelf.account(number) {
+        Ok(Some(account)) => Some(account.is_closed()),
+        Ok(None) => None,
+        Err(_) => panic!(rt; "an account that can't be read"),
+    }
 }
 
 /// The holder with an open account and a closed one.
 fn has_accounts<S: Shelf>(rt: &impl Abort, shelf: &mut S) {
     let holder = HolderCode::read(b"SUN").expect(rt, "a holder");
-    let open = AccountNo::new(1).expect(rt, "no number");
-    let shut = AccountNo::new(2).expect(rt, "no number");
-    assert!(rt;
-        matches!(shelf.holder(&holder), Ok(Some(name)) if name.text() == "Sun Power")
-            && matches!(shelf.account(open), Ok(Some(account)) if !account.is_closed())
-            && matches!(shelf.account(shut), Ok(Some(account)) if account.is_closed())
+    let is_named = matches!(shelf.holder(&holder), Ok(Some(name)) if name.text() == "Sun Power");
+    holds(rt, is_named, "the holder's name");
+    holds(
+        rt,
+        is_closed(rt, shelf, 1) == Some(false),
+        "an open account",
+    );
+    holds(
+        rt,
+        is_closed(rt, shelf, 2) == Some(true),
+        "a closed account",
     );
 }
 
 /// The device, which has declared nothing.
 fn has_a_device<S: Shelf>(rt: &impl Abort, shelf: &mut S) {
     let gsrn = Gsrn::read(b"500000000000000012").expect(rt, "a device");
-    assert!(rt;
-        matches!(shelf.device(&gsrn), Ok(Some(device)) if device.capacity_w().get() == 2_000_000)
-            && matches!(shelf.progress(&gsrn), Ok(progress) if progress.last_day.is_none())
-    );
+    let is_known =
+        matches!(shelf.device(&gsrn), Ok(Some(device)) if device.capacity_w().get() == 2_000_000);
+    holds(rt, is_known, "the device");
+    let progress = shelf.progress(&gsrn).expect(rt, "progress");
+    holds(rt, progress.last_day.is_none(), "no period");
 }
 
 /// The other registry, the number of the next account, and the date.
 fn has_a_peer<S: Shelf>(rt: &impl Abort, shelf: &mut S) {
     let nine = RegistryCode::new(9).expect(rt, "no code");
     let today = Day::read(b"2025-04-01").expect(rt, "a day");
-    assert!(rt;
-        matches!(shelf.peer(nine), Ok(true))
-            && matches!(shelf.counters(), Ok(counters) if counters.account() == 3)
-            && shelf.today() == Ok(today)
+    holds(
+        rt,
+        matches!(shelf.peer(nine), Ok(true)),
+        "the other registry",
     );
+    let counters = shelf.counters().expect(rt, "counters");
+    holds(rt, counters.account() == 3, "the next account");
+    holds(rt, shelf.today() == Ok(today), "the date");
 }
 
 /// The shelf of a registry that was asked for its members finds them.
-fn finds_members<S: Shelf>(rt: &impl Abort, shelf: &mut S) {
+pub fn finds_members<S: Shelf>(rt: &impl Abort, shelf: &mut S) {
     has_accounts(rt, shelf);
     has_a_device(rt, shelf);
     has_a_peer(rt, shelf)
 }
 
-/// The shelf of a new registry, which finds its members once they were asked for.
-fn found_with_members<S: Shelf>(rt: &impl Abort, alloc: Global, registry: Registry<S>) -> S {
-    let mut registry = registry;
-    is_answered(rt, alloc, &mut registry, &MEMBERS);
-    let mut shelf = registry.into_shelf();
-    finds_members(rt, &mut shelf);
-    shelf
-}
-
-/// A new registry in a database finds its members once they were asked for.
-pub fn finds_members_in<S: Alter + Drop>(
-    rt: &impl Abort,
-    alloc: Global,
-    conn: Connection<S>,
-) -> Connection<S> {
-    let registry = entered(rt, begun(alloc, conn, 1));
-    found_with_members(rt, alloc, registry).into_connection()
-}
-
 #[test]
 fn in_a_new_registry(rt: HostRuntime) {
-    let alloc = rt.alloc();
-    let _files = after(&rt, alloc, blank(alloc), Deed::FindsNothing);
-    let lists = begun_in_lists(alloc, in_march_from(&rt, LAST));
-    let _shelf = found_empty(&rt, alloc, lists);
+    is_alike(&rt, rt.alloc(), LAST, Act::FindsNothing, "nothing")
 }
 
 #[test]
 fn among_members(rt: HostRuntime) {
-    let alloc = rt.alloc();
-    let _files = after(&rt, alloc, blank(alloc), Deed::FindsMembers);
-    let lists = begun_in_lists(alloc, in_march(&rt));
-    let _shelf = found_with_members(&rt, alloc, lists);
+    is_alike(&rt, rt.alloc(), 1, Act::FindsMembers, "members")
 }

@@ -1,23 +1,16 @@
 //! Disks that refuse one write and work before and after it: the registry answers `Store` from then on, and what it answered
 //! before is kept.
 
-use crate::disks::lapsing;
+use crate::disks::{Disks, lapsing};
 use crate::script::SCRIPT;
 use crate::stops::{ROUNDS, goes_on, runs_on, wanted_sights};
-use sqlite::Files;
-use sqlite_disk::Disk;
 use std::alloc::Global;
 use std::process::Abort;
 
 /// Whether a registry on disks is refused a write before all requests are answered; what the disks hold is opened again and goes on.
-fn lapses_on<D: Disk + Drop>(
-    rt: &impl Abort,
-    alloc: Global,
-    files: Files<D>,
-    wanted: &[String],
-) -> bool {
-    let (answered, files) = runs_on(rt, alloc, files);
-    goes_on(rt, alloc, files, answered, wanted);
+fn lapses_on(rt: &impl Abort, alloc: Global, disks: Disks, wanted: &[String]) -> bool {
+    let (answered, disks) = runs_on(rt, alloc, disks);
+    goes_on(rt, alloc, disks, answered, wanted);
     answered < SCRIPT.len()
 }
 

@@ -2,13 +2,18 @@
 //! and foreign ones too, and after its disk stopped at any one call.
 //!
 //! It has tests alone. `script` and `cases` have the requests and what they come to, `asking` sends them, `sight` tells what a
-//! registry shows, `registries` begins and opens them, `disks` has the files that they are kept in, and `deeds` what is done there.
+//! registry shows, `acts` has what is asked of a registry over any shelf, `registries` begins and opens them, `disks` has the
+//! files that they are kept in, and `deeds` what is done there.
 #![tactic(auto)]
 
+#[cfg(test)]
+mod acts;
 #[cfg(test)]
 mod asking;
 #[cfg(test)]
 mod cases;
+#[cfg(test)]
+mod claims;
 #[cfg(test)]
 mod damages;
 #[cfg(test)]

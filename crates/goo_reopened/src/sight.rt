@@ -5,11 +5,13 @@ use crate::script::PROBES;
 use goo_notice::texts::{day_text, number_text};
 use goo_notice::write;
 use goo_outcome::outcome_text;
-use goo_registry::{ReadFault, Registry};
+use goo_registry::{CancellationStatement, ReadFault, Registry};
+use goo_shelf::found::DeviceTotals;
 use goo_shelf::shelf::Shelf;
 use goo_types::account_no::AccountNo;
 use goo_types::act_no::ActNo;
 use goo_types::holder_code::HolderCode;
+use goo_types::notice::Notice;
 use goo_types::number::Number;
 use goo_types::piece::Piece;
 use goo_types::place::Place;
@@ -19,6 +21,11 @@ use std::process::Abort;
 /// The issuing body.
 fn issuer(rt: &impl Abort) -> HolderCode {
     HolderCode::read(b"ISSUER").expect(rt, "a holder")
+}
+
+/// More of a text.
+fn adds(rt: &impl Abort, text: &mut String, more: &str) {
+    text.push_str(more).expect(rt, "memory");
 }
 
 /// A place in a word.
@@ -52,14 +59,14 @@ fn line_of(rt: &impl Abort, alloc: Global, run: &Piece) -> String {
 /// A line for each run.
 fn tell_runs(rt: &impl Abort, alloc: Global, runs: &[Piece], text: &mut String) {
     for run in runs {
-        text.push_str(&line_of(rt, alloc, run)).expect(rt, "memory");
+        adds(rt, text, &line_of(rt, alloc, run));
     }
 }
 
 /// Why something isn't shown.
 fn tell_fault(rt: &impl Abort, alloc: Global, fault: ReadFault, text: &mut String) {
     let line = format!(in alloc; "{fault:?}\n").expect(rt, "memory");
-    text.push_str(&line).expect(rt, "memory");
+    adds(rt, text, &line)
 }
 
 /// What is answered to requests that are refused in any state.
@@ -71,9 +78,8 @@ fn tell_answers<S: Shelf>(
 ) {
     for (caller, body) in &PROBES {
         let outcome = asks(rt, alloc, registry, caller, body).expect(rt, "an outcome");
-        text.push_str(outcome_text(outcome).as_str())
-            .expect(rt, "memory");
-        text.push_str("\n").expect(rt, "memory");
+        adds(rt, text, outcome_text(outcome).as_str());
+        adds(rt, text, "\n");
     }
 }
 
@@ -88,7 +94,7 @@ fn tell_holder<S: Shelf>(
     let holder = HolderCode::read(holder.as_bytes()).expect(rt, "a holder");
     let absent = Number::new(7, 1202).expect(rt, "no number");
     match registry.place_of(alloc, &holder, absent) {
-        Ok(_) => text.push_str("there\n").expect(rt, "memory"),
+        Ok(_) => adds(rt, text, "there\n"),
         Err(fault) => tell_fault(rt, alloc, fault, text),
     }
 }
@@ -108,6 +114,18 @@ fn tell_holdings<S: Shelf>(
     }
 }
 
+/// The energy and the certificates of a device.
+fn totals_line(rt: &impl Abort, alloc: Global, device: &DeviceTotals) -> String {
+    let line = format!(in alloc;
+        "{} {} {} {}\n",
+        device.device.text(),
+        device.declared,
+        device.issued,
+        device.carry
+    );
+    line.expect(rt, "memory")
+}
+
 /// The energy and the certificates of each device.
 pub fn tell_audit<S: Shelf>(
     rt: &impl Abort,
@@ -117,16 +135,26 @@ pub fn tell_audit<S: Shelf>(
 ) {
     let totals = registry.audit(alloc, &issuer(rt)).expect(rt, "an audit");
     for device in &totals {
-        let line = format!(in alloc;
-            "{} {} {} {}\n",
-            device.device.text(),
-            device.declared,
-            device.issued,
-            device.carry
-        )
-        .expect(rt, "memory");
-        text.push_str(&line).expect(rt, "memory");
+        adds(rt, text, &totals_line(rt, alloc, device));
     }
+}
+
+/// For whom certificates were used up, by whom, when, and which.
+fn tell_statement(
+    rt: &impl Abort,
+    alloc: Global,
+    statement: &CancellationStatement,
+    text: &mut String,
+) {
+    let day = day_text(statement.record.day());
+    let line = format!(in alloc;
+        "{} {} {}\n",
+        statement.holder.text(),
+        day.as_str(),
+        statement.record.beneficiary().text()
+    );
+    adds(rt, text, &line.expect(rt, "memory"));
+    tell_runs(rt, alloc, &statement.runs, text)
 }
 
 /// The first cancellation.
@@ -138,20 +166,16 @@ fn tell_cancellation<S: Shelf>(
 ) {
     let first = ActNo::new(1).expect(rt, "no act");
     match registry.cancellation(alloc, &issuer(rt), first) {
-        Ok(statement) => {
-            let day = day_text(statement.record.day());
-            let line = format!(in alloc;
-                "{} {} {}\n",
-                statement.holder.text(),
-                day.as_str(),
-                statement.record.beneficiary().text()
-            )
-            .expect(rt, "memory");
-            text.push_str(&line).expect(rt, "memory");
-            tell_runs(rt, alloc, &statement.runs, text)
-        }
+        Ok(statement) => tell_statement(rt, alloc, &statement, text),
         Err(fault) => tell_fault(rt, alloc, fault, text),
     }
+}
+
+/// The text of a notice.
+fn tell_written(rt: &impl Abort, alloc: Global, notice: &Notice, text: &mut String) {
+    let bytes = write(alloc, notice).expect(rt, "memory");
+    adds(rt, text, str::from_utf8(&bytes).expect(rt, "a text"));
+    adds(rt, text, "\n")
 }
 
 /// The first notice.
@@ -163,12 +187,7 @@ fn tell_notice<S: Shelf>(
 ) {
     let first = ActNo::new(1).expect(rt, "no act");
     match registry.notice(alloc, &issuer(rt), first) {
-        Ok(notice) => {
-            let bytes = write(alloc, &notice).expect(rt, "memory");
-            text.push_str(str::from_utf8(&bytes).expect(rt, "a text"))
-                .expect(rt, "memory");
-            text.push_str("\n").expect(rt, "memory")
-        }
+        Ok(notice) => tell_written(rt, alloc, &notice, text),
         Err(fault) => tell_fault(rt, alloc, fault, text),
     }
 }

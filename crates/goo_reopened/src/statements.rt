@@ -1,17 +1,24 @@
 //! The statements that no shelf makes yet, over the tables of a registry that was asked for a withdrawal.
 
-use crate::deeds::{Deed, after};
+use crate::acts::Act;
+use crate::claims::holds;
+use crate::deeds::{Deed, after, shown};
 use crate::disks::blank;
-use crate::registries::{begun, closed, entered};
-use crate::worked::{Case, is_answered};
+use crate::worked::Case;
+use goo_columns::joined::JoinedRow;
 use goo_held::joined::{next_expiring, next_of_account};
 use goo_held::piece::find_piece;
 use goo_tables::declaration::find_declaration;
 use goo_tables::lot::find_lot_by_id;
 use goo_tables::withdrawal::find_withdrawal;
-use sqlite::{Alter, Connection};
+use sqlite::{Alter, Connection, Error};
 use std::alloc::Global;
 use std::process::Abort;
+
+/// The certificate that is withdrawn, and the next one.
+const FIFTH: u64 = 7_000_000_000_005;
+
+const SIXTH: u64 = 7_000_000_000_006;
 
 /// The fifth certificate of January is withdrawn. One of March is there too.
 const WITHDRAWN: Case = Case {
@@ -26,50 +33,79 @@ const WITHDRAWN: Case = Case {
     shown: "",
 };
 
-/// January's declaration, its lot, the piece that was withdrawn, and the withdrawal.
-fn finds_rows<S: Alter>(rt: &impl Abort, alloc: Global, conn: &mut Connection<S>) {
-    assert!(rt;
-        matches!(find_declaration(alloc, conn, "500000000000000012", "2025-01-01"), Ok(Some(row)) if row.gross == 1_234_567_890)
-            && matches!(find_lot_by_id(alloc, conn, 1), Ok(Some(row)) if row.origin == 7)
-            && matches!(find_piece(alloc, conn, 7_000_000_000_005), Ok(Some(row)) if row.last == 7_000_000_000_005)
-            && matches!(find_withdrawal(alloc, conn, 1), Ok(Some(row)) if row.first == 7_000_000_000_005)
+/// January's declaration and its lot.
+fn finds_january<S: Alter>(rt: &impl Abort, alloc: Global, conn: &mut Connection<S>) {
+    let declared = find_declaration(alloc, conn, "500000000000000012", "2025-01-01");
+    holds(
+        rt,
+        matches!(&declared, Ok(Some(row)) if row.gross == 1_234_567_890),
+        "January's declaration",
+    );
+    let lot = find_lot_by_id(alloc, conn, 1);
+    holds(
+        rt,
+        matches!(&lot, Ok(Some(row)) if row.origin == 7),
+        "its lot",
     );
 }
 
-/// The piece behind the withdrawn one; those of January expire after the last day of July of the next year, March's doesn't yet.
+/// The piece that was withdrawn, and the withdrawal.
+fn finds_the_fifth<S: Alter>(rt: &impl Abort, alloc: Global, conn: &mut Connection<S>) {
+    let piece = find_piece(alloc, conn, FIFTH);
+    holds(
+        rt,
+        matches!(&piece, Ok(Some(row)) if row.last == FIFTH),
+        "the piece that was withdrawn",
+    );
+    let withdrawal = find_withdrawal(alloc, conn, 1);
+    holds(
+        rt,
+        matches!(&withdrawal, Ok(Some(row)) if row.first == FIFTH),
+        "the withdrawal",
+    );
+}
+
+/// The first number of a row, if it was found.
+fn first_of(rt: &impl Abort, found: Result<Option<JoinedRow>, Error>) -> Option<u64> {
+    match found {
+        Ok(Some(row)) => Some(row.piece.first),
+        Ok(None) => None,
+        Err(_) => panic!(rt; "rows that can't be read"),
+    }
+}
+
+/// The piece behind the withdrawn one; those of January expire after the last day of July of the next year.
 fn finds_next<S: Alter>(rt: &impl Abort, alloc: Global, conn: &mut Connection<S>) {
-    assert!(rt;
-        matches!(next_of_account(alloc, conn, 1, 7_000_000_000_005), Ok(Some(row)) if row.piece.first == 7_000_000_000_006)
-            && matches!(next_expiring(alloc, conn, "2026-08-01", 7_000_000_000_004), Ok(Some(row)) if row.piece.first == 7_000_000_000_006)
-            && matches!(
-                next_expiring(alloc, conn, "2026-08-01", 7_000_000_000_006),
-                Ok(None)
-            )
-            && matches!(next_expiring(alloc, conn, "2026-07-31", 0), Ok(None))
+    let behind = first_of(rt, next_of_account(alloc, conn, 1, FIFTH));
+    holds(
+        rt,
+        behind == Some(SIXTH),
+        "the piece behind the withdrawn one",
     );
+    let held = first_of(rt, next_expiring(alloc, conn, "2026-08-01", FIFTH));
+    holds(rt, held == Some(SIXTH), "a held piece of January");
 }
 
-/// All rows that were asked for.
-fn finds_all<S: Alter>(rt: &impl Abort, alloc: Global, conn: &mut Connection<S>) {
-    finds_rows(rt, alloc, conn);
-    finds_next(rt, alloc, conn)
+/// March's don't expire yet, and on the last day none does.
+fn finds_no_more<S: Alter>(rt: &impl Abort, alloc: Global, conn: &mut Connection<S>) {
+    let march = first_of(rt, next_expiring(alloc, conn, "2026-08-01", SIXTH));
+    holds(rt, march == None, "no piece of March");
+    let july = first_of(rt, next_expiring(alloc, conn, "2026-07-31", 0));
+    holds(rt, july == None, "no piece on the last day");
 }
 
-/// A registry in a database is asked for the withdrawal, and its tables are asked for rows.
-pub fn finds_withdrawn<S: Alter + Drop>(
-    rt: &impl Abort,
-    alloc: Global,
-    conn: Connection<S>,
-) -> Connection<S> {
-    let mut registry = entered(rt, begun(alloc, conn, 1));
-    is_answered(rt, alloc, &mut registry, &WITHDRAWN);
-    let (mut conn, _) = closed(registry);
-    finds_all(rt, alloc, &mut conn);
-    conn
+/// The tables of a registry that was asked for the withdrawal are asked for rows.
+pub fn finds_withdrawn<S: Alter>(rt: &impl Abort, alloc: Global, conn: &mut Connection<S>) {
+    finds_january(rt, alloc, conn);
+    finds_the_fifth(rt, alloc, conn);
+    finds_next(rt, alloc, conn);
+    finds_no_more(rt, alloc, conn)
 }
 
 #[test]
 fn by_keys_and_in_order(rt: HostRuntime) {
     let alloc = rt.alloc();
-    let _files = after(&rt, alloc, blank(alloc), Deed::FindsWithdrawn);
+    let withdraws = Deed::Begins(1, Act::Plays(&WITHDRAWN, false));
+    let (_, disks) = shown(&rt, alloc, blank(alloc), &withdraws);
+    let _disks = after(&rt, alloc, disks, &Deed::FindsWithdrawn);
 }

@@ -1,15 +1,12 @@
 //! Disks in memory that stop at one call, at each in turn: what a crash leaves is opened again, and all requests are sent
 //! again.
 
-ghost use Rattle.sqlite.specs.Held.{state};
-ghost use Rattle.sqlite.specs.State.{HasCleanDisk};
-ghost use Rattle.goo_columns.specs.Met.{IsInKeyOrder};
-
+use crate::acts::{Act, Done};
 use crate::asking::{asks, is_outcome, plays, plays_one};
-use crate::deeds::{Deed, Done, after, does};
-use crate::disks::{blank, crashed, stopping};
-use crate::registries::{begun, closed, entered, opened};
-use crate::reopened::{END_SHOWN, shows};
+use crate::claims::holds;
+use crate::deeds::{Deed, does, shows};
+use crate::disks::{Disks, blank, crashed, stopping};
+use crate::reopened::END_SHOWN;
 use crate::script::SCRIPT;
 use crate::sight::sight;
 use goo_opening::fault::OpenFault;
@@ -17,13 +14,15 @@ use goo_registry::{ReadFault, Registry};
 use goo_shelf::shelf::Shelf;
 use goo_types::fault::Fault;
 use goo_types::holder_code::HolderCode;
-use sqlite::{Alter, Connection, Files};
-use sqlite_disk::{Crash, Disk};
 use std::alloc::Global;
 use std::process::Abort;
 
 /// What a new registry shows before the first request, and after each.
-fn sights_of<S: Shelf>(rt: &impl Abort, alloc: Global, registry: &mut Registry<S>) -> Vec<String> {
+pub fn sights_of<S: Shelf>(
+    rt: &impl Abort,
+    alloc: Global,
+    registry: &mut Registry<S>,
+) -> Vec<String> {
     let mut shown = Vec::new(alloc);
     shown.push(sight(rt, alloc, registry)).expect(rt, "memory");
     for line in &SCRIPT {
@@ -33,29 +32,17 @@ fn sights_of<S: Shelf>(rt: &impl Abort, alloc: Global, registry: &mut Registry<S
     shown
 }
 
-/// What a new registry in a database shows before the first request, and after each.
-pub fn sights<S: Alter + Drop>(
-    rt: &impl Abort,
-    alloc: Global,
-    conn: Connection<S>,
-) -> (Vec<String>, Connection<S>) {
-    let mut registry = entered(rt, begun(alloc, conn, 1));
-    let shown = sights_of(rt, alloc, &mut registry);
-    let (conn, _) = closed(registry);
-    (shown, conn)
-}
-
 /// How many requests are answered: all, or those up to the first `Store`, and then each is answered so.
 fn answered_by<S: Shelf>(rt: &impl Abort, alloc: Global, registry: &mut Registry<S>) -> usize {
     let mut answered = 0usize;
     for (at, line) in SCRIPT.iter().enumerate() {
         match asks(rt, alloc, registry, line.0, line.1) {
             Ok(outcome) => {
-                assert!(rt; answered == at);
-                is_outcome(rt, alloc, outcome, "accepted", line);
+                holds(rt, answered == at, "an answer after a fault");
+                is_outcome(rt, alloc, outcome, "accepted", line.2, line.1);
                 answered = at.saturating_add(1);
             }
-            Err(fault) => assert!(rt; fault == Fault::Store),
+            Err(fault) => holds(rt, fault == Fault::Store, "a fault of the store"),
         }
     }
     answered
@@ -65,11 +52,19 @@ fn answered_by<S: Shelf>(rt: &impl Abort, alloc: Global, registry: &mut Registry
 fn is_silent<S: Shelf>(rt: &impl Abort, alloc: Global, registry: &mut Registry<S>) {
     let issuer = HolderCode::read(b"ISSUER").expect(rt, "a holder");
     let read = registry.audit(alloc, &issuer).err();
-    assert!(rt; read == Some(ReadFault::Store));
+    holds(
+        rt,
+        read == Some(ReadFault::Store),
+        "nothing is shown any more",
+    );
 }
 
 /// How many requests are answered; where it isn't all, nothing is shown any more.
-fn answers_or_stops<S: Shelf>(rt: &impl Abort, alloc: Global, registry: &mut Registry<S>) -> usize {
+pub fn answers_or_stops<S: Shelf>(
+    rt: &impl Abort,
+    alloc: Global,
+    registry: &mut Registry<S>,
+) -> usize {
     let answered = answered_by(rt, alloc, registry);
     if answered < SCRIPT.len() {
         is_silent(rt, alloc, registry);
@@ -77,44 +72,14 @@ fn answers_or_stops<S: Shelf>(rt: &impl Abort, alloc: Global, registry: &mut Reg
     answered
 }
 
-/// How many requests a new registry in a database answers, and the database.
-pub fn runs<S: Alter + Drop>(
-    rt: &impl Abort,
-    alloc: Global,
-    conn: Connection<S>,
-) -> (usize, Connection<S>) {
-    match begun(alloc, conn, 1) {
-        Ok(registry) => {
-            let mut registry = registry;
-            let answered = answers_or_stops(rt, alloc, &mut registry);
-            let (conn, refused) = closed(registry);
-            assert!(rt; refused == u64::from(answered < SCRIPT.len()));
-            (answered, conn)
-        }
-        Err((conn, fault)) => {
-            assert!(rt; fault == OpenFault::Store);
-            (0, conn)
-        }
-    }
-}
-
 /// How many requests a new registry on disks answers, and the disks as they stand then.
-pub fn runs_on<D: Disk + Drop>(
-    rt: &impl Abort,
-    alloc: Global,
-    files: Files<D>,
-) -> (usize, Files<D>) {
-    match does(rt, alloc, files, Deed::Runs) {
-        (Done::Answered(answered), files) => (answered, files),
-        (Done::Unopened, files) => (0, files),
+pub fn runs_on(rt: &impl Abort, alloc: Global, disks: Disks) -> (usize, Disks) {
+    let (done, disks) = does(rt, alloc, disks, &Deed::Begins(1, Act::Runs));
+    match done {
+        Done::Answered(answered) => (answered, disks),
+        Done::Refused(OpenFault::Store) | Done::Unopened => (0, disks),
         _ => panic!(rt; "no run"),
     }
-}
-
-/// All requests are sent again: those that were kept are repeated, and the end is that of a run without a stop.
-fn ends<S: Shelf>(rt: &impl Abort, alloc: Global, registry: &mut Registry<S>, kept: usize) {
-    plays(rt, alloc, registry, &SCRIPT, kept);
-    shows(rt, alloc, registry, END_SHOWN)
 }
 
 /// Whether this is shown after so many requests.
@@ -132,12 +97,12 @@ fn kept_of(rt: &impl Abort, shown: &str, answered: usize, wanted: &[String]) -> 
     }
     let more = answered.saturating_add(1);
     let is_one_more = is_shown_after(wanted, more, shown);
-    assert!(rt; is_one_more, "{answered} answered, and then {shown}");
+    holds(rt, is_one_more, shown);
     more
 }
 
-/// A registry that was opened after a stop has kept the requests answered, or one more, and goes on from there.
-fn goes_on_from<S: Shelf>(
+/// A registry that was opened after a stop has kept the requests answered, or one more: sent again, those are repeated.
+pub fn goes_on_from<S: Shelf>(
     rt: &impl Abort,
     alloc: Global,
     registry: &mut Registry<S>,
@@ -146,78 +111,48 @@ fn goes_on_from<S: Shelf>(
 ) {
     let shown = sight(rt, alloc, registry);
     let kept = kept_of(rt, &shown, answered, wanted);
-    ends(rt, alloc, registry, kept)
+    plays(rt, alloc, registry, &SCRIPT, kept)
 }
 
-/// The registry that a database holds after a stop goes on. One is begun where there is none.
-pub fn returns<S: Alter + Drop>(
-    rt: &impl Abort,
-    alloc: Global,
-    conn: Connection<S>,
-    answered: usize,
-    wanted: &[String],
-) -> Connection<S>
-    requires ordered { HasCleanDisk (state S.Store conn) → IsInKeyOrder (state S.Store conn).now }
-{
-    match opened(alloc, conn) {
-        Ok(registry) => {
-            let mut registry = registry;
-            goes_on_from(rt, alloc, &mut registry, answered, wanted);
-            let (conn, _) = closed(registry);
-            conn
+/// A registry is begun on disks that hold none, and comes to the end of all requests.
+fn starts_over(rt: &impl Abort, alloc: Global, disks: Disks) {
+    let begins = Deed::Begins(1, Act::Sends(&SCRIPT, 0));
+    let _disks = shows(rt, alloc, disks, &begins, END_SHOWN);
+}
+
+/// What a stop left on disks is opened: the end is that of a run without a stop. Where it is no registry, no request was answered.
+pub fn goes_on(rt: &impl Abort, alloc: Global, disks: Disks, answered: usize, wanted: &[String]) {
+    let opens = Deed::Opens(Act::GoesOn(answered, wanted));
+    let (done, disks) = does(rt, alloc, disks, &opens);
+    match done {
+        Done::Shown(shown) => holds(rt, shown.as_str() == END_SHOWN, "the end of all requests"),
+        Done::Refused(OpenFault::NotARegistry) => {
+            holds(rt, answered == 0, "no request was answered");
+            starts_over(rt, alloc, disks)
         }
-        Err((conn, fault)) => {
-            assert!(rt; fault == OpenFault::NotARegistry);
-            starts_over(rt, alloc, conn, answered)
-        }
+        _ => panic!(rt; "what a stop left is not opened"),
     }
 }
 
-/// A database that holds no registry after a stop gets one: no request was answered.
-fn starts_over<S: Alter + Drop>(
-    rt: &impl Abort,
-    alloc: Global,
-    conn: Connection<S>,
-    answered: usize,
-) -> Connection<S> {
-    assert!(rt; answered == 0);
-    let mut registry = entered(rt, begun(alloc, conn, 1));
-    ends(rt, alloc, &mut registry, 0);
-    let (conn, _) = closed(registry);
-    conn
-}
-
-/// What a crash left on disks is opened again.
-pub fn goes_on<D: Disk + Drop>(
-    rt: &impl Abort,
-    alloc: Global,
-    files: Files<D>,
-    answered: usize,
-    wanted: &[String],
-) {
-    let _files = after(rt, alloc, files, Deed::GoesOn(answered, wanted));
-}
-
 /// Whether disks stop before all requests are answered; what a crash leaves goes on.
-fn stops_on<D: Crash + Drop>(
-    rt: &impl Abort,
-    alloc: Global,
-    files: Files<D>,
-    wanted: &[String],
-) -> bool {
-    let (answered, files) = runs_on(rt, alloc, files);
-    goes_on(rt, alloc, crashed(files), answered, wanted);
+fn stops_on(rt: &impl Abort, alloc: Global, disks: Disks, wanted: &[String]) -> bool {
+    let (answered, disks) = runs_on(rt, alloc, disks);
+    goes_on(rt, alloc, crashed(disks), answered, wanted);
     answered < SCRIPT.len()
 }
 
 /// What the registry shows without a stop, request by request: no two neighbours are alike.
 pub fn wanted_sights(rt: &impl Abort, alloc: Global) -> Vec<String> {
-    let (done, _files) = does(rt, alloc, blank(alloc), Deed::Sights);
+    let (done, _disks) = does(rt, alloc, blank(alloc), &Deed::Begins(1, Act::Sights));
     let Done::Sighted(shown) = done else {
         panic!(rt; "nothing is shown");
     };
     for (text, next) in shown.iter().zip(shown.iter().skip(1)) {
-        assert!(rt; text.as_str() != next.as_str());
+        holds(
+            rt,
+            text.as_str() != next.as_str(),
+            "two that are shown alike",
+        );
     }
     shown
 }

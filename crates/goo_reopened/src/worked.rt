@@ -1,19 +1,19 @@
 //! Worked cases over tables and over lists: each answer is the one written down, and in the end both show the same.
 
+use crate::acts::Act;
 use crate::asking::{asks, plays};
 use crate::cases::{FIFTH, FIRST, FOURTH, SECOND, SIXTH, THIRD};
-use crate::deeds::{Deed, after};
-use crate::disks::blank;
-use crate::registries::{begun, begun_in_lists, closed, entered, in_march_from, opened_again};
+use crate::claims::holds;
+use crate::deeds::is_alike;
 use crate::script::{Line, SCRIPT};
-use crate::sight::{sight, tell_certificates};
+use crate::sight::tell_certificates;
 use goo_body::read_command;
 use goo_outcome::outcome_text;
 use goo_registry::Registry;
 use goo_shelf::shelf::Shelf;
 use goo_types::holder_code::HolderCode;
+use goo_types::outcome::Outcome;
 use goo_types::request::Request;
-use sqlite::{Alter, Connection};
 use std::alloc::Global;
 use std::process::Abort;
 
@@ -40,45 +40,39 @@ fn first_of(rt: &impl Abort, case: &Case) -> &'static [Line] {
     SCRIPT.get(..case.begun).expect(rt, "so many requests")
 }
 
-/// What a registry shows after a case: its certificates are those that are written down.
-fn ends<S: Shelf>(
-    rt: &impl Abort,
-    alloc: Global,
-    registry: &mut Registry<S>,
-    case: &Case,
-) -> String {
+/// After a case a registry's certificates are those that are written down.
+fn ends<S: Shelf>(rt: &impl Abort, alloc: Global, registry: &mut Registry<S>, case: &Case) {
     if !case.shown.is_empty() {
         let mut shown = String::new(alloc);
         tell_certificates(rt, alloc, registry, &mut shown);
-        assert!(rt; shown.as_str() == case.shown, "{}", case.name);
+        holds(rt, shown.as_str() == case.shown, case.name);
     }
-    sight(rt, alloc, registry)
 }
 
-/// A case, one request at a time, and what the registry shows then.
-pub fn answers<S: Shelf>(
+/// An outcome has the text that is written down.
+fn is_outcome(rt: &impl Abort, outcome: Outcome, exchange: &Exchange) {
+    let text = outcome_text(outcome);
+    holds(rt, text.as_str() == exchange.2, exchange.1)
+}
+
+/// These requests come to what is written down.
+pub fn exchanges<S: Shelf>(
     rt: &impl Abort,
     alloc: Global,
     registry: &mut Registry<S>,
-    case: &Case,
-) -> String {
-    plays(rt, alloc, registry, first_of(rt, case), 0);
-    for (caller, body, wanted) in case.asked {
-        let outcome = asks(rt, alloc, registry, caller, body).expect(rt, "an outcome");
-        let text = outcome_text(outcome);
-        assert!(rt; text.as_str() == *wanted, "{}: {body}", case.name);
+    asked: &[Exchange],
+) {
+    for exchange in asked {
+        let outcome = asks(rt, alloc, registry, exchange.0, exchange.1).expect(rt, "an outcome");
+        is_outcome(rt, outcome, exchange);
     }
-    ends(rt, alloc, registry, case)
 }
 
 /// A case, one request at a time.
-pub fn is_answered<S: Shelf>(
-    rt: &impl Abort,
-    alloc: Global,
-    registry: &mut Registry<S>,
-    case: &Case,
-) {
-    let _shown = answers(rt, alloc, registry, case);
+pub fn answers<S: Shelf>(rt: &impl Abort, alloc: Global, registry: &mut Registry<S>, case: &Case) {
+    plays(rt, alloc, registry, first_of(rt, case), 0);
+    exchanges(rt, alloc, registry, case.asked);
+    ends(rt, alloc, registry, case)
 }
 
 /// The requests of a case in a list.
@@ -93,90 +87,30 @@ fn requests_of(rt: &impl Abort, alloc: Global, case: &Case) -> Vec<Request> {
     requests
 }
 
-/// A case, its requests in one list, and what the registry shows then.
-pub fn runs<S: Shelf>(
-    rt: &impl Abort,
-    alloc: Global,
-    registry: &mut Registry<S>,
-    case: &Case,
-) -> String {
+/// What requests in a list came to is what the case says.
+fn are_outcomes(rt: &impl Abort, outcomes: &[Outcome], asked: &[Exchange]) {
+    holds(rt, outcomes.len() == asked.len(), "as many outcomes");
+    for (outcome, exchange) in outcomes.iter().zip(asked) {
+        is_outcome(rt, *outcome, exchange);
+    }
+}
+
+/// A case, its requests in one list.
+pub fn runs<S: Shelf>(rt: &impl Abort, alloc: Global, registry: &mut Registry<S>, case: &Case) {
     plays(rt, alloc, registry, first_of(rt, case), 0);
     let requests = requests_of(rt, alloc, case);
-    let Ok(outcomes) = registry.run(alloc, &requests) else {
-        panic!(rt; "the run stopped");
-    };
-    assert!(rt; outcomes.len() == case.asked.len());
-    for (outcome, (_, body, wanted)) in outcomes.iter().zip(case.asked) {
-        let text = outcome_text(*outcome);
-        assert!(rt; text.as_str() == *wanted, "{}: {body}", case.name);
+    match registry.run(alloc, &requests) {
+        Ok(outcomes) => are_outcomes(rt, &outcomes, case.asked),
+        Err(_) => panic!(rt; "the run stopped"),
     }
     ends(rt, alloc, registry, case)
 }
 
-/// A registry shows this after a case, in a list or one request at a time.
-fn comes_to<S: Shelf>(
-    rt: &impl Abort,
-    alloc: Global,
-    registry: &mut Registry<S>,
-    case: &Case,
-    is_list: bool,
-    wanted: &str,
-) {
-    let shown = if is_list {
-        runs(rt, alloc, registry, case)
-    } else {
-        answers(rt, alloc, registry, case)
-    };
-    assert!(rt; shown.as_str() == wanted, "{}", case.name);
-}
-
-/// A registry that was opened again shows this.
-fn shows_again<S: Shelf>(
-    rt: &impl Abort,
-    alloc: Global,
-    registry: &mut Registry<S>,
-    case: &Case,
-    wanted: &str,
-) {
-    let shown = sight(rt, alloc, registry);
-    assert!(rt; shown.as_str() == wanted, "{} opened again", case.name);
-}
-
-/// A registry in a database shows this after a case, and again once it is opened again.
-pub fn is_shown_in<S: Alter + Drop>(
-    rt: &impl Abort,
-    alloc: Global,
-    conn: Connection<S>,
-    case: &Case,
-    is_list: bool,
-    wanted: &str,
-) -> Connection<S> {
-    let mut registry = entered(rt, begun(alloc, conn, case.serial));
-    comes_to(rt, alloc, &mut registry, case, is_list, wanted);
-    let mut registry = entered(rt, opened_again(alloc, registry));
-    shows_again(rt, alloc, &mut registry, case, wanted);
-    let (conn, _) = closed(registry);
-    conn
-}
-
-/// What a registry in plain lists shows after a case.
-fn shown_by_lists(rt: &impl Abort, alloc: Global, case: &Case) -> String {
-    let mut lists = begun_in_lists(alloc, in_march_from(rt, case.serial));
-    answers(rt, alloc, &mut lists, case)
-}
-
-/// A case over lists, over tables, and over tables in a list: all show the same.
-fn is_alike(rt: &impl Abort, alloc: Global, case: &Case) {
-    let wanted = shown_by_lists(rt, alloc, case);
-    for is_list in [false, true] {
-        let _files = after(rt, alloc, blank(alloc), Deed::Plays(case, is_list, &wanted));
-    }
-}
-
-/// All of these cases.
+/// All of these cases, one request at a time and in a list, are answered and shown alike over lists and over tables.
 fn are_alike(rt: &impl Abort, alloc: Global, cases: &[Case]) {
     for case in cases {
-        is_alike(rt, alloc, case);
+        is_alike(rt, alloc, case.serial, Act::Plays(case, false), case.name);
+        is_alike(rt, alloc, case.serial, Act::Plays(case, true), case.name);
     }
 }
 

@@ -1,9 +1,6 @@
--- A desk over tables in memory, at one moment.
-use Rattle.std.specs.Prelude.{Bool}
-use Rattle.sqlite.specs.State.{State}
-use Rattle.goo_lookups.specs.Moments.{moment}
+-- A desk over a registry, at one moment.
+use Rattle.goo_shelf.specs.Shelf.{Moment}
 use Rattle.goo_lines.specs.Desk.{Seen}
 
--- memory tells no lie, so what a desk does holds without that premise
-abbrev pub seen_at : State → Bool → Seen
-seen_at tables refused = record { state = (moment tables refused).state; lies = 0; doubts = (moment tables refused).doubts }
+abbrev pub seen_of : Moment → Seen
+seen_of m = record { state = m.state; lies = m.lies; doubts = m.doubts }

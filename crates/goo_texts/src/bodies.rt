@@ -1,4 +1,5 @@
 //! What bodies are read as, against bodies written by hand.
+use crate::claims::holds;
 use goo_body::{BodyFault, read_command};
 use goo_notice::command_text;
 use goo_types::command::Command;
@@ -202,16 +203,17 @@ fn read(rt: &impl Abort, alloc: Global, body: &[u8]) -> Result<Request, BodyFaul
 
 /// A body states no request, for this reason.
 fn is_refused(rt: &impl Abort, alloc: Global, body: &[u8], wanted: BodyFault) {
-    assert!(rt; read(rt, alloc, body).err() == Some(wanted));
+    holds(
+        rt,
+        read(rt, alloc, body).err() == Some(wanted),
+        "why a body is refused",
+    );
 }
 
 /// A command is told as this text.
 fn is_told(rt: &impl Abort, alloc: Global, command: &Command, wanted: &str) {
     let text = command_text(alloc, command).expect(rt, "a text");
-    assert!(rt;
-        text.as_slice() == wanted.as_bytes(),
-        "in place of {wanted}"
-    );
+    holds(rt, text.as_slice() == wanted.as_bytes(), wanted);
 }
 
 /// What a command declares, in Wh.
@@ -224,7 +226,11 @@ fn declared(command: &Command) -> Option<(u64, u64)> {
 
 /// A request is the issuing body's first one.
 fn is_first(rt: &impl Abort, request: &Request) {
-    assert!(rt; request.caller.text() == "ISSUER" && request.key.text() == "d1");
+    holds(
+        rt,
+        request.caller.text() == "ISSUER" && request.key.text() == "d1",
+        "the caller and the key",
+    );
 }
 
 #[test]
@@ -234,7 +240,11 @@ fn january(rt: HostRuntime) {
     let wanted = "{\"aux_wh\":34567890,\"command\":\"declare\",\"device\":\"500000000000000012\",\
         \"first_day\":\"2025-01-01\",\"gross_wh\":1234567890,\"last_day\":\"2025-01-31\"}";
     is_told(&rt, rt.alloc(), &request.command, wanted);
-    assert!(rt; declared(&request.command) == Some((1_234_567_890, 34_567_890)));
+    holds(
+        &rt,
+        declared(&request.command) == Some((1_234_567_890, 34_567_890)),
+        "gross and auxiliaries",
+    );
 }
 
 /// A command is read with spaces in its body, and told without.
@@ -261,7 +271,11 @@ fn faults(rt: HostRuntime) {
     is_refused(&rt, alloc, b"\"\xff\"", BodyFault::NotJson);
     let twice =
         "{\"account\":0,\"account\":1,\"command\":\"advance\",\"command\":\"close_account\",\"key\":\"k\"}";
-    assert!(rt; read(&rt, alloc, twice.as_bytes()).is_ok());
+    holds(
+        &rt,
+        read(&rt, alloc, twice.as_bytes()).is_ok(),
+        "the last of two keys alike",
+    );
 }
 
 #[test]

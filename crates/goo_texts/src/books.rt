@@ -1,5 +1,6 @@
 //! Two joined pieces that are moved, added to and looked up, the edges of one row of ten numbers, runs of one
 //! account, and lists of pieces that make no book.
+use crate::claims::holds;
 use crate::examples::{account, book, piece, pieces};
 use crate::lookups::{has_first, is_held, lacks_first, leaves_first};
 use crate::texts::{adds, moves, pieces_are, runs_are};
@@ -100,7 +101,11 @@ fn runs_of_one_account(rt: HostRuntime) {
 
 /// Pieces make no book, for this reason.
 fn is_no_book(rt: &impl Abort, alloc: Global, rows: &[(u64, u64, u32)], wanted: BookFault) {
-    assert!(rt; Book::new(pieces(rt, alloc, rows)).err() == Some(wanted));
+    holds(
+        rt,
+        Book::new(pieces(rt, alloc, rows)).err() == Some(wanted),
+        "why a list is no book",
+    );
 }
 
 #[test]

@@ -1,4 +1,5 @@
 //! What command lines ask for.
+use crate::claims::holds;
 use goo_command_line::{LineFault, Place, Task, read_task};
 use std::alloc::Global;
 use std::process::Abort;
@@ -133,7 +134,11 @@ fn opened(asked: Result<Task, LineFault>) -> Option<(u8, [u8; 10], u64)> {
 
 /// These words open a registry in memory with this code, this date and this next serial.
 fn opens(rt: &impl Abort, alloc: Global, words: &[&str], wanted: (u8, [u8; 10], u64)) {
-    assert!(rt; opened(read_task(alloc, words)) == Some(wanted));
+    holds(
+        rt,
+        opened(read_task(alloc, words)) == Some(wanted),
+        "what a command line opens",
+    );
 }
 
 #[test]
@@ -169,6 +174,10 @@ fn a_registry_in_memory_begins_as_it_is_told(rt: HostRuntime) {
 #[test]
 fn each_fault_of_a_command_line_is_told(rt: HostRuntime) {
     for (words, wanted) in &FAULTS {
-        assert!(rt; told(read_task(rt.alloc(), *words)) == *wanted);
+        holds(
+            &rt,
+            told(read_task(rt.alloc(), *words)) == *wanted,
+            "the fault of a command line",
+        );
     }
 }

@@ -1,4 +1,5 @@
 //! What a file in memory holds.
+use crate::claims::holds;
 use goo_disk::MemoryFile;
 use sqlite_disk::Disk;
 use std::alloc::Global;
@@ -11,10 +12,10 @@ fn written(rt: &impl Abort, alloc: Global) -> MemoryFile {
     file.write_at(0, b"registry").expect(rt, "room");
     file.write_at(10, b"more").expect(rt, "room");
     file.sync().expect(rt, "a disk");
-    assert!(rt; file.len().expect(rt, "a length") == 14);
+    holds(rt, file.len().expect(rt, "a length") == 14, "the length");
     let mut read = [7; 6];
     file.read_at(6, &mut read).expect(rt, "a text");
-    assert!(rt; &read == b"ry\0\0mo");
+    holds(rt, &read == b"ry\0\0mo", "what was written");
     file
 }
 
@@ -24,7 +25,7 @@ fn is_cut(rt: &impl Abort, file: &mut MemoryFile) {
     file.write_at(1, b"ows").expect(rt, "room");
     let mut read = [7; 4];
     file.read_at(0, &mut read).expect(rt, "a text");
-    assert!(rt; &read == b"rows");
+    holds(rt, &read == b"rows", "what was cut");
 }
 
 /// Nothing is read at a place that is too near to the end, or beyond it.
@@ -32,7 +33,11 @@ fn ends_before(rt: &impl Abort, file: &mut MemoryFile, at: usize) {
     let mut kept = [7; 2];
     match file.read_at(at, &mut kept) {
         Ok(()) => panic!(rt; "read beyond the end"),
-        Err(error) => assert!(rt; error.kind() == ErrorKind::UnexpectedEof && &kept == &[7, 7]),
+        Err(error) => holds(
+            rt,
+            error.kind() == ErrorKind::UnexpectedEof && &kept == &[7, 7],
+            "nothing is read beyond the end",
+        ),
     }
 }
 

@@ -1,5 +1,6 @@
 //! How a run of lines ends, over records that fail at each request, and command lines that ask for nothing.
 
+use crate::claims::holds;
 use crate::lines::FailingDesk;
 use goo_command_line::read_task;
 use goo_ending::{Ending, answer_input};
@@ -44,18 +45,26 @@ fn status_of<R: Read, W: Write>(alloc: Global, reader: &mut R, writer: &mut W) -
 fn ends_with(rt: &impl Abort, alloc: Global, input: &str, wanted: u8) {
     let mut output = Vec::new(alloc);
     let status = status_of(alloc, &mut input.as_bytes(), &mut output);
-    assert!(rt; status == wanted, "after {input}");
+    holds(rt, status == wanted, input);
 }
 
 /// A run of an input whose outcomes can't be written, or whose end can't, is a failure.
 fn fails_unwritten(rt: &impl Abort, alloc: Global, mut input: &[u8]) {
-    assert!(rt; status_of(alloc, &mut input, &mut Broken) == 3);
+    holds(
+        rt,
+        status_of(alloc, &mut input, &mut Broken) == 3,
+        "an output that fails",
+    );
 }
 
 /// A run of an input that can't be read is a failure.
 fn fails_unread(rt: &impl Abort, alloc: Global) {
     let mut output = Vec::new(alloc);
-    assert!(rt; status_of(alloc, &mut Broken, &mut output) == 3);
+    holds(
+        rt,
+        status_of(alloc, &mut Broken, &mut output) == 3,
+        "an input that fails",
+    );
 }
 
 #[test]
@@ -105,6 +114,6 @@ fn status_of_words(rt: &impl Abort, alloc: Global, line: &str) -> u8 {
 fn a_command_line_that_asks_for_nothing(rt: HostRuntime) {
     for line in &LINES {
         let status = status_of_words(&rt, rt.alloc(), *line);
-        assert!(rt; status == 2, "of {line}");
+        holds(&rt, status == 2, line);
     }
 }

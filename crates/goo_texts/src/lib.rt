@@ -9,6 +9,8 @@ mod bodies;
 #[cfg(test)]
 mod books;
 #[cfg(test)]
+mod claims;
+#[cfg(test)]
 mod command_lines;
 #[cfg(test)]
 mod disks;

@@ -1,5 +1,6 @@
 //! Lines that state no request, faults of the records and of the writer, and the limit of an input, over records that
 //! fail at each request.
+use crate::claims::holds;
 use goo_lines::{Desk, LinesFault, MOST_INPUT, Tally, run_lines};
 use goo_types::fault::Fault;
 use goo_types::outcome::Outcome;
@@ -103,17 +104,14 @@ fn answered(
     let mut desk = FailingDesk { fault };
     let mut writer = Vec::new(alloc);
     let answered = run_lines(alloc, &mut desk, &mut input, &mut writer);
-    assert!(rt;
-        writer.as_slice() == wanted.as_bytes(),
-        "in place of {wanted}"
-    );
+    holds(rt, writer.as_slice() == wanted.as_bytes(), wanted);
     answered
 }
 
 /// An input holds so many lines that state no request, and nothing else, and they are answered so.
 fn is_unreadable(rt: &impl Abort, alloc: Global, input: &str, bad: usize, wanted: &str) {
     let answered = answered(rt, alloc, Fault::Store, input.as_bytes(), wanted);
-    assert!(rt; answered == Ok(Tally { good: 0, bad }), "for {input}");
+    holds(rt, answered == Ok(Tally { good: 0, bad }), input);
 }
 
 #[test]
@@ -144,7 +142,7 @@ fn the_lines_before_a_fault_are_told(rt: HostRuntime) {
         (Fault::Memory, LinesFault::Memory),
     ] {
         let answered = answered(&rt, rt.alloc(), fault, input.as_bytes(), CALLER);
-        assert!(rt; answered == Err(wanted));
+        holds(&rt, answered == Err(wanted), "the fault");
     }
 }
 
@@ -163,10 +161,12 @@ fn a_beginning_is_written_before_a_write_fault(rt: HostRuntime) {
         &mut b"ISSUER\nSUN {\n".as_slice(),
         &mut writer,
     );
-    assert!(rt;
+    holds(
+        &rt,
         answered == Err(LinesFault::Write)
             && writer.text.as_slice()
-                == b"{\"fault\":\"Caller\",\"outcome\":\"unreadable\"}\n{\"fa".as_slice()
+                == b"{\"fault\":\"Caller\",\"outcome\":\"unreadable\"}\n{\"fa".as_slice(),
+        "a beginning of the second outcome",
     );
 }
 
@@ -176,5 +176,5 @@ fn the_limit_of_the_input_is_exact(rt: HostRuntime) {
     answered(&rt, rt.alloc(), Fault::Store, &input, "").expect(&rt, "an answer");
     input.push(b'\n').expect(&rt, "memory");
     let over = answered(&rt, rt.alloc(), Fault::Store, &input, "");
-    assert!(rt; over == Err(LinesFault::Read));
+    holds(&rt, over == Err(LinesFault::Read), "one byte more");
 }

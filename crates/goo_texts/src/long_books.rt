@@ -1,4 +1,5 @@
 //! A book that is long enough for pages, edited, looked up and put into one hand.
+use crate::claims::holds;
 use crate::examples::{book, held, range};
 use crate::lookups::{has_first, is_held, lacks_first, leaves_first};
 use crate::texts::{adds, moves, runs_are};
@@ -27,7 +28,11 @@ fn many_edited(rt: &impl Abort, alloc: Global) -> Book {
 #[test]
 fn a_long_book_edited(rt: HostRuntime) {
     let book = many_edited(&rt, rt.alloc());
-    assert!(rt; book.to_pieces().expect(&rt, "memory").len() == 600);
+    holds(
+        &rt,
+        book.to_pieces().expect(&rt, "memory").len() == 600,
+        "how many pieces",
+    );
 }
 
 #[test]
@@ -49,7 +54,11 @@ fn many_added_to(rt: &impl Abort, alloc: Global) -> Book {
 #[test]
 fn a_long_book_added_to(rt: HostRuntime) {
     let book = many_added_to(&rt, rt.alloc());
-    assert!(rt; book.account_runs().expect(&rt, "memory").len() == 600);
+    holds(
+        &rt,
+        book.account_runs().expect(&rt, "memory").len() == 600,
+        "how many runs",
+    );
 }
 
 #[test]
@@ -59,6 +68,6 @@ fn a_long_book_in_one_hand(rt: HostRuntime) {
     let edit = book
         .reassign(range(&rt, 1, 3010), held(&rt, 1))
         .expect(&rt, "an edit");
-    assert!(rt; edit.delete.len() == 600);
+    holds(&rt, edit.delete.len() == 600, "how many rows are deleted");
     runs_are(&rt, alloc, &book, "1-3010@1")
 }

@@ -1,4 +1,5 @@
 //! The text of a notice, against texts written by hand: ten certificates of one January.
+use crate::claims::holds;
 use goo_notice::{NoticeFault, from_value, read, write};
 use goo_types::notice::Notice;
 use goo_types::part::Part;
@@ -19,34 +20,54 @@ const NOTICE: &str = "{\"account\":5,\"addressee\":9,\"number\":1,\
 fn is_sent(rt: &impl Abort, notice: &Notice) {
     let codes = [notice.sender().get(), notice.addressee().get()];
     let numbers = [notice.number().get(), notice.account().get()];
-    assert!(rt; codes == [7, 9] && numbers == [1, 5]);
+    holds(
+        rt,
+        codes == [7, 9] && numbers == [1, 5],
+        "codes and numbers",
+    );
 }
 
 /// What its part states.
 fn is_north_field(rt: &impl Abort, part: &Part) {
     let (first, last) = (part.range.first(), part.range.last());
-    assert!(rt; first.write() == *b"07000000000020" && last.write() == *b"07000000000029");
+    holds(
+        rt,
+        first.write() == *b"07000000000020" && last.write() == *b"07000000000029",
+        "first and last",
+    );
     let (site, capacity) = (part.lot.site(), part.lot.capacity_w());
-    assert!(rt; site.text() == "North field" && capacity.get() == 2_000_000);
+    holds(
+        rt,
+        site.text() == "North field" && capacity.get() == 2_000_000,
+        "site and capacity",
+    );
 }
 
 /// It is written as its text.
 fn is_written(rt: &impl Abort, alloc: Global, notice: &Notice) {
     let text = write(alloc, notice).expect(rt, "a text");
-    assert!(rt; text.as_slice() == NOTICE.as_bytes());
+    holds(
+        rt,
+        text.as_slice() == NOTICE.as_bytes(),
+        "the text of a notice",
+    );
 }
 
 /// It is what the value of its text is read as.
 fn is_of_value(rt: &impl Abort, alloc: Global, notice: &Notice) {
     let value = Value::from_slice(alloc, NOTICE.as_bytes()).expect(rt, "a value");
-    assert!(rt; from_value(alloc, &value).expect(rt, "a notice").is(notice));
+    holds(
+        rt,
+        from_value(alloc, &value).expect(rt, "a notice").is(notice),
+        "the notice of a value",
+    );
 }
 
 #[test]
 fn exported(rt: HostRuntime) {
     let notice = read(rt.alloc(), NOTICE.as_bytes()).expect(&rt, "a notice");
     is_sent(&rt, &notice);
-    assert!(rt; notice.parts().len() == 1);
+    holds(&rt, notice.parts().len() == 1, "how many parts");
     is_north_field(&rt, &notice.parts()[0]);
     is_written(&rt, rt.alloc(), &notice);
     is_of_value(&rt, rt.alloc(), &notice);
@@ -96,7 +117,11 @@ static CHANGES: [(&str, &str, NoticeFault); 18] = [
 
 /// A text is no notice, for this reason.
 fn is_refused(rt: &impl Abort, alloc: Global, text: &[u8], wanted: NoticeFault) {
-    assert!(rt; read(alloc, text).err() == Some(wanted));
+    holds(
+        rt,
+        read(alloc, text).err() == Some(wanted),
+        "why a text is refused",
+    );
 }
 
 /// The notice's text with another piece in place of one is no notice, for this reason.

@@ -1,4 +1,5 @@
 //! The texts of outcomes, against a table written by hand.
+use crate::claims::holds;
 use goo_outcome::{Unreadable, outcome_text, unreadable_text};
 use goo_types::account_no::AccountNo;
 use goo_types::act_no::ActNo;
@@ -192,6 +193,6 @@ fn unreadable(rt: HostRuntime) {
         ),
     ];
     for (fault, wanted) in faults {
-        assert!(rt; unreadable_text(fault).as_str() == wanted);
+        holds(&rt, unreadable_text(fault).as_str() == wanted, wanted);
     }
 }

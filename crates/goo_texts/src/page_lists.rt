@@ -1,4 +1,5 @@
 //! Rows put into pages and taken out again, and pages without rows. Rows over several pages are tested where plans are made.
+use crate::claims::holds;
 use crate::examples::{account, lot, number, range, row};
 use goo_pages::paged::Pages;
 
@@ -10,11 +11,11 @@ fn rows_put_in_and_taken_out(rt: HostRuntime) {
     pages.make_room(2).expect(&rt, "memory");
     pages.put_in(row(&lot, third, third, account));
     pages.put_in(row(&lot, first, first, account));
-    assert!(rt; pages.pages().len() == 1);
+    holds(&rt, pages.pages().len() == 1, "one page");
     pages.take_out(third);
-    assert!(rt; pages.pages().len() == 1);
+    holds(&rt, pages.pages().len() == 1, "still one page");
     pages.take_out(first);
-    assert!(rt; pages.pages().is_empty());
+    holds(&rt, pages.pages().is_empty(), "no page");
 }
 
 #[test]
@@ -23,5 +24,5 @@ fn nothing_is_near_where_there_are_no_rows(rt: HostRuntime) {
     let near = pages
         .meeting(rt.alloc(), range(&rt, 1, 9))
         .expect(&rt, "memory");
-    assert!(rt; near.is_empty());
+    holds(&rt, near.is_empty(), "no rows");
 }

@@ -1,4 +1,5 @@
 //! Streams that are interrupted, that fail in the middle, and that have no more room.
+use crate::claims::holds;
 use goo_streams::{ReadFault, read_whole, write_whole};
 use std::io::{self, ErrorKind, Read, Write};
 use std::process::Abort;
@@ -99,12 +100,20 @@ impl Write for Narrow {
 
 /// What was read is this text.
 fn is_text(rt: &impl Abort, read: Result<Vec<u8>, ReadFault>, wanted: &[u8]) {
-    assert!(rt; read.expect(rt, "a text").as_slice() == wanted);
+    holds(
+        rt,
+        read.expect(rt, "a text").as_slice() == wanted,
+        "the whole text",
+    );
 }
 
 /// Nothing was read.
 fn is_fault(rt: &impl Abort, read: Result<Vec<u8>, ReadFault>) {
-    assert!(rt; read.err() == Some(ReadFault::Read));
+    holds(
+        rt,
+        read.err() == Some(ReadFault::Read),
+        "a fault of the reader",
+    );
 }
 
 #[test]
@@ -128,15 +137,27 @@ fn a_fault_in_the_middle_and_at_the_limit(rt: HostRuntime) {
 #[test]
 fn a_text_is_written_over_a_thousand_interruptions_and_no_more(rt: HostRuntime) {
     let mut patient = make_narrow(4, 1_000, End::Fails);
-    assert!(rt; write_whole(&mut patient, b"text").is_ok() && patient.taken == *b"text");
+    holds(
+        &rt,
+        write_whole(&mut patient, b"text").is_ok() && patient.taken == *b"text",
+        "a thousand interruptions",
+    );
     let mut endless = make_narrow(4, 1_001, End::Fails);
-    assert!(rt; write_whole(&mut endless, b"text").is_err() && endless.count == 0);
+    holds(
+        &rt,
+        write_whole(&mut endless, b"text").is_err() && endless.count == 0,
+        "one more",
+    );
 }
 
 #[test]
 fn after_a_fault_a_beginning_is_written(rt: HostRuntime) {
     for end in [End::Fails, End::TakesNothing] {
         let mut writer = make_narrow(2, 0, end);
-        assert!(rt; write_whole(&mut writer, b"STATEMENT").is_err() && writer.taken == *b"ST..");
+        holds(
+            &rt,
+            write_whole(&mut writer, b"STATEMENT").is_err() && writer.taken == *b"ST..",
+            "a beginning of the text",
+        );
     }
 }

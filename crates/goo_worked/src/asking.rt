@@ -1,5 +1,6 @@
 //! Requests as texts, and what they must come to.
 
+use crate::claims::holds;
 use crate::desk::Desk;
 use crate::values::{account_of, holder_of};
 use goo_body::read_command;
@@ -31,15 +32,17 @@ pub fn request_of(rt: &impl Abort, alloc: Global, caller: &str, body: &str) -> R
 /// The outcome has this text.
 pub fn is_outcome(rt: &impl Abort, outcome: Outcome, wanted: &str) {
     let text = outcome_text(outcome);
-    assert!(rt; text.as_str() == wanted, "not {wanted}");
+    holds(rt, text.as_str() == wanted, wanted);
 }
 
 /// Runs of certificates are these: first and last serial, and place.
 pub fn runs_are(rt: &impl Abort, runs: &[Piece], wanted: &[(u64, u64, Place)]) {
-    assert!(rt; runs.len() == wanted.len());
+    holds(rt, runs.len() == wanted.len(), "as many runs");
     for (run, (first, last, place)) in runs.iter().zip(wanted) {
-        assert!(rt;
-            run.first.serial() == *first && run.last.serial() == *last && run.place == *place
+        holds(
+            rt,
+            run.first.serial() == *first && run.last.serial() == *last && run.place == *place,
+            "a run as it is wanted",
         );
     }
 }

@@ -1,6 +1,7 @@
 //! A certificate that goes back and forth between two registries: after each event it has one home, or is on one road.
 
 use crate::asking::{Line, is_outcome};
+use crate::claims::holds;
 use crate::desk::Desk;
 use crate::lots::{JANUARY, lot_of};
 use crate::stages::april;
@@ -115,8 +116,10 @@ fn comes_to(rt: &impl Abort, world: &mut World, event: &Event, wanted: &str) {
 fn is_found(rt: &impl Abort, world: &mut World, home: Option<u8>, road: Option<(u8, u32)>) {
     world.collects(rt);
     let lot = lot_of(rt, &JANUARY);
-    assert!(rt;
-        world.home(rt, number(20), &lot) == home && world.road(rt, number(20), &lot) == road
+    holds(
+        rt,
+        world.home(rt, number(20), &lot) == home && world.road(rt, number(20), &lot) == road,
+        "where it is found",
     );
 }
 

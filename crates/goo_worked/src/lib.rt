@@ -9,6 +9,8 @@
 #[cfg(test)]
 mod asking;
 #[cfg(test)]
+mod claims;
+#[cfg(test)]
 mod desk;
 #[cfg(test)]
 mod dice;

@@ -4,6 +4,7 @@
 //! sent again under its key is accepted, and not repeated.
 
 use crate::asking::{ISSUER, Line, is_outcome, runs_are};
+use crate::claims::holds;
 use crate::desk::Desk;
 use crate::lines::{BEGINS, ENDS, REPEATED, RETURN, TRADES};
 use crate::places::{away, held, over, used};
@@ -75,7 +76,7 @@ impl Sight {
 /// The registry shows what it showed before.
 fn shows_again(rt: &impl Abort, desk: &mut Desk, before: &Sight) -> Result<(), Fail> {
     let now = Sight::of(desk)?;
-    assert!(rt; now.is(before));
+    holds(rt, now.is(before), "the same is shown again");
     Ok(())
 }
 
@@ -89,7 +90,7 @@ fn outcome_of(
     match desk.apply(request) {
         Ok(outcome) => Ok(outcome),
         Err(fault) => {
-            assert!(rt; fault == Fault::Memory);
+            holds(rt, fault == Fault::Memory, "memory is what is wanted");
             shows_again(rt, desk, before)?;
             Ok(desk.apply(request)?)
         }
@@ -161,7 +162,7 @@ fn comes_to(rt: &impl Abort, outcomes: &[Outcome], stand: usize) -> Result<(), F
 
 /// All outcomes of the list.
 fn all_come_to(rt: &impl Abort, outcomes: &[Outcome], stand: usize) -> Result<(), Fail> {
-    assert!(rt; outcomes.len() == ENDS.len());
+    holds(rt, outcomes.len() == ENDS.len(), "all outcomes");
     comes_to(rt, outcomes, stand)
 }
 
@@ -186,7 +187,11 @@ fn goes_on(
     stop: &RunFault,
 ) -> Result<(), Fail> {
     let stand = stop.done.len();
-    assert!(rt; stop.fault == Fault::Memory && stand < ENDS.len());
+    holds(
+        rt,
+        stop.fault == Fault::Memory && stand < ENDS.len(),
+        "it goes on",
+    );
     comes_to(rt, &stop.done, 0)?;
     runs_again(rt, desk, requests, stand)
 }
@@ -231,7 +236,7 @@ fn shows_end(rt: &impl Abort, desk: &mut Desk) -> Result<(), Fail> {
             (200, 1200, over(1)),
         ],
     )?;
-    assert!(rt; issued_in_all(desk)? == 1200);
+    holds(rt, issued_in_all(desk)? == 1200, "all that was issued");
     Ok(())
 }
 

@@ -1,6 +1,7 @@
 //! Who is shown what.
 
 use crate::asking::{ISSUER, Line, SUN, VOLT};
+use crate::claims::holds;
 use crate::desk::Desk;
 use crate::lots::{JANUARY, lot_of};
 use crate::places::{held, used};
@@ -13,7 +14,6 @@ use goo_types::notice::Notice;
 use goo_types::number::Number;
 use goo_types::piece::Piece;
 use goo_types::place::Place;
-use std::alloc::Global;
 use std::process::Abort;
 
 /// Ten certificates are used up.
@@ -71,22 +71,19 @@ fn no_place(rt: &impl Abort, desk: &mut Desk, caller: &str, number: Number) -> O
     place(rt, desk, caller, number).err()
 }
 
-#[test]
-fn a_place(rt: HostRuntime) {
-    let mut desk = april(&rt, rt.alloc());
-    let (lot, place) = place(&rt, &mut desk, SUN, number(1)).expect(&rt, "a place");
-    let january = lot_of(&rt, &JANUARY);
-    assert!(rt;
-        place == held(1) && lot.is(&january) && no_place(&rt, &mut desk, ISSUER, number(1)) == None
-    );
+/// The first certificate's place is shown to its holder and to the issuing body.
+fn shows_a_place(rt: &impl Abort, desk: &mut Desk) {
+    let (lot, place) = place(rt, desk, SUN, number(1)).expect(rt, "a place");
+    let january = lot_of(rt, &JANUARY);
+    holds(rt, place == held(1) && lot.is(&january), "a place");
+    holds(rt, no_place(rt, desk, ISSUER, number(1)) == None, ISSUER);
 }
 
-#[test]
-fn places_that_are_not_shown(rt: HostRuntime) {
-    let mut desk = april(&rt, rt.alloc());
+/// Places are kept from these callers, for these reasons.
+fn keeps_places(rt: &impl Abort, desk: &mut Desk) {
     for (caller, serial, wanted) in &NO_PLACES {
-        let kept = no_place(&rt, &mut desk, caller, number_of(&rt, 7, *serial));
-        assert!(rt; kept == Some(*wanted), "{caller} {serial}");
+        let kept = no_place(rt, desk, caller, number_of(rt, 7, *serial));
+        holds(rt, kept == Some(*wanted), caller);
     }
 }
 
@@ -97,12 +94,11 @@ fn no_holdings(rt: &impl Abort, desk: &mut Desk, caller: &str, account: u32) -> 
     desk.holdings(&caller, account).err()
 }
 
-#[test]
-fn holdings(rt: HostRuntime) {
-    let mut desk = april(&rt, rt.alloc());
+/// The certificates of accounts are shown, or kept, as the table says.
+fn shows_holdings(rt: &impl Abort, desk: &mut Desk) {
     for (caller, account, wanted) in &HOLDINGS {
-        let kept = no_holdings(&rt, &mut desk, caller, *account);
-        assert!(rt; kept == *wanted, "{caller} {account}");
+        let kept = no_holdings(rt, desk, caller, *account);
+        holds(rt, kept == *wanted, caller);
     }
 }
 
@@ -121,11 +117,13 @@ fn cancellation(
 /// Who used up ten certificates, from which account, and for whom.
 fn states_whose(rt: &impl Abort, statement: &CancellationStatement) {
     let record = &statement.record;
-    assert!(rt;
+    holds(
+        rt,
         statement.holder.text() == SUN
             && record.account().get() == 1
             && record.range() == serials(1, 10)
-            && record.beneficiary().text() == "Bäckerei Müller"
+            && record.beneficiary().text() == "Bäckerei Müller",
+        "whose, from where and for whom",
     );
 }
 
@@ -135,16 +133,20 @@ fn states_when(rt: &impl Abort, statement: &CancellationStatement) {
     let use_last = day_of(rt, "2025-03-31");
     let day = day_of(rt, "2025-04-05");
     let record = &statement.record;
-    assert!(rt;
-        record.use_first() == use_first && record.use_last() == use_last && record.day() == day
+    holds(
+        rt,
+        record.use_first() == use_first && record.use_last() == use_last && record.day() == day,
+        "for which time",
     );
 }
 
 /// Which certificates they are: one run.
 fn states_which(rt: &impl Abort, runs: &[Piece]) {
-    assert!(rt; runs.len() == 1);
-    let run = &runs[0];
-    assert!(rt; run.first == number(1) && run.last == number(10) && run.place == used(1, 1));
+    holds(
+        rt,
+        matches!(runs, [run] if run.first == number(1) && run.last == number(10) && run.place == used(1, 1)),
+        "which certificates",
+    );
 }
 
 /// The statement of ten certificates that account 1 used up in April 2025.
@@ -154,42 +156,35 @@ fn states_ten(rt: &impl Abort, statement: &CancellationStatement) {
     states_which(rt, &statement.runs)
 }
 
-/// The registry after that cancellation.
-fn after_a_cancellation(rt: &impl Abort, alloc: Global) -> Desk {
-    let mut desk = april(rt, alloc);
-    desk.plays(rt, &CANCELLATION);
-    desk
+/// The cancellation is shown to a caller.
+fn shows_ten(rt: &impl Abort, desk: &mut Desk, caller: &str) {
+    let statement = cancellation(rt, desk, caller, 1).expect(rt, "a cancellation");
+    states_ten(rt, &statement)
 }
 
-#[test]
-fn a_cancellation(rt: HostRuntime) {
-    let mut desk = after_a_cancellation(&rt, rt.alloc());
-    for caller in &[SUN, ISSUER] {
-        let statement = cancellation(&rt, &mut desk, caller, 1).expect(&rt, "a cancellation");
-        states_ten(&rt, &statement);
-    }
-}
-
-#[test]
-fn cancellations_that_are_not_shown(rt: HostRuntime) {
-    let mut desk = after_a_cancellation(&rt, rt.alloc());
+/// The cancellation is shown to the account's holder and to the issuing body; to others, and where there is none, it isn't.
+fn shows_cancellations(rt: &impl Abort, desk: &mut Desk) {
+    shows_ten(rt, desk, SUN);
+    shows_ten(rt, desk, ISSUER);
     for (caller, number, wanted) in &HIDDEN {
-        let kept = cancellation(&rt, &mut desk, caller, *number).err();
-        assert!(rt; kept == Some(*wanted), "{caller} {number}");
+        let kept = cancellation(rt, desk, caller, *number).err();
+        holds(rt, kept == Some(*wanted), caller);
     }
 }
 
 /// The notice of ten certificates of January for account 5 of registry 9.
 fn names_ten(rt: &impl Abort, sent: &Notice) {
     let january = lot_of(rt, &JANUARY);
-    assert!(rt;
+    holds(
+        rt,
         sent.sender().get() == 7
             && sent.addressee().get() == 9
             && sent.number().get() == 1
             && sent.account().get() == 5
             && sent.parts().len() == 1
             && sent.parts()[0].range == serials(20, 29)
-            && sent.parts()[0].lot.is(&january)
+            && sent.parts()[0].lot.is(&january),
+        "ten certificates",
     );
 }
 
@@ -205,28 +200,19 @@ fn notice(
     desk.notice(&caller, number)
 }
 
-/// The registry after that export.
-fn after_an_export(rt: &impl Abort, alloc: Global) -> Desk {
-    let mut desk = april(rt, alloc);
-    desk.plays(rt, &EXPORT);
-    desk
+/// The notice is shown to a caller.
+fn shows_notice(rt: &impl Abort, desk: &mut Desk, caller: &str) {
+    let sent = notice(rt, desk, caller, 1).expect(rt, "a notice");
+    names_ten(rt, &sent)
 }
 
-#[test]
-fn a_notice(rt: HostRuntime) {
-    let mut desk = after_an_export(&rt, rt.alloc());
-    for caller in &[SUN, ISSUER] {
-        let sent = notice(&rt, &mut desk, caller, 1).expect(&rt, "a notice");
-        names_ten(&rt, &sent);
-    }
-}
-
-#[test]
-fn notices_that_are_not_shown(rt: HostRuntime) {
-    let mut desk = after_an_export(&rt, rt.alloc());
+/// The notice is shown to the exporting holder and to the issuing body; to others, and where there is none, it isn't.
+fn shows_notices(rt: &impl Abort, desk: &mut Desk) {
+    shows_notice(rt, desk, SUN);
+    shows_notice(rt, desk, ISSUER);
     for (caller, number, wanted) in &HIDDEN {
-        let kept = notice(&rt, &mut desk, caller, *number).err();
-        assert!(rt; kept == Some(*wanted), "{caller} {number}");
+        let kept = notice(rt, desk, caller, *number).err();
+        holds(rt, kept == Some(*wanted), caller);
     }
 }
 
@@ -236,25 +222,54 @@ fn audit(rt: &impl Abort, desk: &mut Desk, caller: &str) -> Result<Vec<DeviceTot
     desk.audit(&caller)
 }
 
-#[test]
-fn an_audit(rt: HostRuntime) {
-    let mut desk = april(&rt, rt.alloc());
-    let totals = audit(&rt, &mut desk, ISSUER).expect(&rt, "an audit");
-    assert!(rt; totals.len() == 1);
-    let device = &totals[0];
-    assert!(rt;
-        device.device.text() == "500000000000000012"
+/// Why a caller isn't shown the audit.
+fn no_audit(rt: &impl Abort, desk: &mut Desk, caller: &str) -> Option<ReadFault> {
+    audit(rt, desk, caller).err()
+}
+
+/// One device, with what it declared, what was issued for it, and its carry.
+fn has_one_device(rt: &impl Abort, totals: &[DeviceTotals]) {
+    holds(
+        rt,
+        matches!(totals, [device] if device.device.text() == "500000000000000012"
             && device.declared == 1_201_000_000
             && device.issued == 1201
-            && device.carry == 0
+            && device.carry == 0),
+        "an audit",
     );
 }
 
+/// The audit is shown to the issuing body alone.
+fn shows_an_audit(rt: &impl Abort, desk: &mut Desk) {
+    let totals = audit(rt, desk, ISSUER).expect(rt, "an audit");
+    has_one_device(rt, &totals);
+    holds(
+        rt,
+        no_audit(rt, desk, SUN) == Some(ReadFault::NotAllowed),
+        SUN,
+    );
+    holds(
+        rt,
+        no_audit(rt, desk, "NOBODY") == Some(ReadFault::NotAllowed),
+        "NOBODY",
+    );
+}
+
+/// Each read of a registry is shown to those who may see it, and kept from the others: in April, and after ten certificates were
+/// used up and ten sent.
+fn shows_each_what_is_theirs(rt: &impl Abort, desk: &mut Desk) {
+    shows_a_place(rt, desk);
+    keeps_places(rt, desk);
+    shows_holdings(rt, desk);
+    shows_an_audit(rt, desk);
+    desk.plays(rt, &CANCELLATION);
+    shows_cancellations(rt, desk);
+    desk.plays(rt, &EXPORT);
+    shows_notices(rt, desk)
+}
+
 #[test]
-fn audits_that_are_not_shown(rt: HostRuntime) {
+fn each_is_shown_what_is_theirs(rt: HostRuntime) {
     let mut desk = april(&rt, rt.alloc());
-    for caller in &[SUN, "NOBODY"] {
-        let kept = audit(&rt, &mut desk, caller).err();
-        assert!(rt; kept == Some(ReadFault::NotAllowed), "{caller}");
-    }
+    shows_each_what_is_theirs(&rt, &mut desk)
 }

@@ -1,6 +1,7 @@
 //! Requests in a list, and a registry handed back to what keeps its records.
 
 use crate::asking::{Line, is_outcome, request_of};
+use crate::claims::holds;
 use crate::desk::Desk;
 use crate::places::held;
 use crate::stages::april;
@@ -38,7 +39,7 @@ fn requests_of(rt: &impl Abort, alloc: Global, lines: &[Line]) -> Vec<Request> {
 
 /// What requests came to is what their lines say.
 fn are_outcomes(rt: &impl Abort, outcomes: &[Outcome], lines: &[Line]) {
-    assert!(rt; outcomes.len() == lines.len());
+    holds(rt, outcomes.len() == lines.len(), "as many outcomes");
     for (outcome, (_, _, wanted)) in outcomes.iter().zip(lines) {
         is_outcome(rt, *outcome, wanted);
     }
@@ -75,11 +76,13 @@ fn two_requests_and_none(rt: HostRuntime) {
 /// What keeps the records of registry 7 in April.
 fn is_of_april<S: Shelf>(rt: &impl Abort, shelf: &mut S) {
     let today = day_of(rt, "2025-04-05");
-    assert!(rt;
+    holds(
+        rt,
         matches!(shelf.code(), Ok(code) if code.get() == 7)
             && shelf.today() == Ok(today)
             && matches!(shelf.counters(), Ok(counters) if counters.serial() == 1202)
-            && shelf.refused_calls() == 0
+            && shelf.refused_calls() == 0,
+        "the registry of April",
     );
 }
 

@@ -2,6 +2,7 @@
 //! certificate has one home, or is on one road, and one lot wherever it is known.
 
 use crate::asking::SUN;
+use crate::claims::holds;
 use crate::dice::Dice;
 use crate::lots::{Batch, lot_of};
 use crate::three::{CERTIFICATES, three};
@@ -82,7 +83,11 @@ fn asks(rt: &impl Abort, world: &mut World, dice: &mut Dice) {
     if let Some(at) = world.holder(rt, range.first()) {
         let command = some_command(rt, dice, range);
         let outcome = world.sends(rt, at, SUN, command);
-        assert!(rt; outcome != Outcome::Refused(Refusal::NotAllowed));
+        holds(
+            rt,
+            outcome != Outcome::Refused(Refusal::NotAllowed),
+            "what is asked is allowed",
+        );
         world.collects(rt);
     }
 }
@@ -106,7 +111,11 @@ fn delivers(
     } else if matches!(outcome, Outcome::Repeated(_)) {
         tally.repeated = tally.repeated.wrapping_add(1);
     } else {
-        assert!(rt; outcome == Outcome::Refused(Refusal::WrongRegistry));
+        holds(
+            rt,
+            outcome == Outcome::Refused(Refusal::WrongRegistry),
+            "a notice astray is refused",
+        );
         tally.astray = tally.astray.wrapping_add(1);
     }
 }
@@ -152,7 +161,11 @@ fn stand(rt: &impl Abort, world: &mut World, code: u8) {
         let number = number_of(rt, code, serial);
         let home = world.home(rt, number, &lot);
         let road = world.road(rt, number, &lot);
-        assert!(rt; home.is_some() != road.is_some(), "{home:?} {road:?}");
+        holds(
+            rt,
+            home.is_some() != road.is_some(),
+            "at home or on the road",
+        );
     }
 }
 
@@ -187,12 +200,14 @@ fn a_thousand_schedules(rt: HostRuntime) {
     for seed in 0..SCHEDULES {
         schedule(&rt, rt.alloc(), seed, &mut tally);
     }
-    assert!(rt;
+    holds(
+        &rt,
         tally.sent > SCHEDULES
             && tally.accepted > SCHEDULES
             && tally.repeated > SCHEDULES
             && tally.astray > SCHEDULES / 2
             && tally.late > SCHEDULES / 10
-            && tally.sent == tally.accepted.wrapping_add(tally.late)
+            && tally.sent == tally.accepted.wrapping_add(tally.late),
+        "a schedule of each kind",
     );
 }

@@ -4,6 +4,7 @@
 //! notice that names it and that its addressee hasn't accepted.
 
 use crate::asking::ISSUER;
+use crate::claims::holds;
 use crate::desk::Desk;
 use crate::values::{act_of, holder_of};
 use goo_registry::ReadFault;
@@ -120,18 +121,14 @@ impl World {
 
     /// What a registry answers to a request. A notice that it sends is on the road once it is collected.
     pub fn asks(&mut self, rt: &impl Abort, at: usize, caller: &str, body: &str) -> Outcome {
-        match self.desks.get_mut(at) {
-            Some(desk) => desk.asks(rt, caller, body),
-            None => panic!(rt; "no such registry"),
-        }
+        let desk = self.desks.get_mut(at).expect(rt, "no such registry");
+        desk.asks(rt, caller, body)
     }
 
     /// What a registry answers to a command under a key of its own.
     pub fn sends(&mut self, rt: &impl Abort, at: usize, caller: &str, command: Command) -> Outcome {
-        match self.desks.get_mut(at) {
-            Some(desk) => desk.sends(rt, caller, command),
-            None => panic!(rt; "no such registry"),
-        }
+        let desk = self.desks.get_mut(at).expect(rt, "no such registry");
+        desk.sends(rt, caller, command)
     }
 
     /// Collects the next notice of each registry, where it has sent one.
@@ -146,24 +143,15 @@ impl World {
 
     /// What a registry answers to a notice that was sent.
     pub fn brings(&mut self, rt: &impl Abort, which: usize, to: usize) -> Outcome {
-        let Some(letter) = self.letters.get_mut(which) else {
-            panic!(rt; "no such notice");
-        };
-        let Some(desk) = self.desks.get_mut(to) else {
-            panic!(rt; "no such registry");
-        };
+        let letter = self.letters.get_mut(which).expect(rt, "no such notice");
+        let desk = self.desks.get_mut(to).expect(rt, "no such registry");
         arrives(rt, desk, letter)
     }
 
     /// Whether a registry has a certificate in an account.
     fn is_held_at(&mut self, rt: &impl Abort, at: usize, number: Number) -> bool {
-        let Some(desk) = self.desks.get_mut(at) else {
-            panic!(rt; "no such registry");
-        };
-        match known(rt, desk, number) {
-            Some((_, place)) => matches!(place, Place::Held(_)),
-            None => false,
-        }
+        let desk = self.desks.get_mut(at).expect(rt, "no such registry");
+        matches!(known(rt, desk, number), Some((_, Place::Held(_))))
     }
 
     /// Where the registry stands that has a certificate in an account, if one has.
@@ -178,16 +166,12 @@ impl World {
 
     /// Where the addressee of a notice stands.
     pub fn addressee(&self, rt: &impl Abort, which: usize) -> usize {
-        let Some(letter) = self.letters.get(which) else {
-            panic!(rt; "no such notice");
-        };
+        let letter = self.letters.get(which).expect(rt, "no such notice");
         let code = letter.addressee();
-        for (at, desk) in self.desks.iter().enumerate() {
-            if desk.code().get() == code {
-                return at;
-            }
-        }
-        panic!(rt; "no such registry")
+        self.desks
+            .iter()
+            .position(|desk| desk.code().get() == code)
+            .expect(rt, "no such registry")
     }
 
     /// How many notices are under way.
@@ -209,9 +193,9 @@ impl World {
             let Some((other, place)) = known(rt, desk, number) else {
                 continue;
             };
-            assert!(rt; other.is(lot), "another lot in a registry");
+            holds(rt, other.is(lot), "another lot in a registry");
             if is_home(place) {
-                assert!(rt; home.is_none(), "two homes");
+                holds(rt, home.is_none(), "two homes");
                 home = Some(desk.code().get());
             }
         }
@@ -226,9 +210,9 @@ impl World {
             let Some(other) = letter.lot_of(number) else {
                 continue;
             };
-            assert!(rt; other.is(lot), "another lot on a notice");
+            holds(rt, other.is(lot), "another lot on a notice");
             if !letter.is_accepted {
-                assert!(rt; road.is_none(), "two roads");
+                holds(rt, road.is_none(), "two roads");
                 road = Some((letter.notice.sender().get(), letter.notice.number().get()));
             }
         }

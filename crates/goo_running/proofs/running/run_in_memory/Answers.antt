@@ -1,13 +1,18 @@
-use Rattle.std.proofs.Common.{ap, refl}
-use Rattle.goo_running.proofs.RunLemmas.{all_done_begun, not_all_done_begun, written_begun}
+use Rattle.std.proofs.Common.{refl}
+use Rattle.sqlite.specs.Files.{file_state}
+use Rattle.sqlite_pool.specs.Pool.{state}
+use Rattle.goo_running.proofs.DeskLemmas.{honest}
 use Rattle.goo_running.proofs.running.run_in_memory.Goals as goal
 
--- a desk over tables in memory tells no lie
+-- a file in memory tells no lie
 pub returns-clause-all_done : goal.returns-clause-all_done
-returns-clause-all_done g c status = all_done_begun (g.R.Read.remaining c.args.reader.now) _ _ (ap (λ seen. seen.state) c.in-Ok.ensures) (c.answer_input.ensures.all_done refl status)
+unfolding state
+returns-clause-all_done g c status = c.answer_by_tables-ending.ensures.all_done (honest (file_state c.answer_by_tables-ending.result.1).is_clean refl) status
 
 pub returns-clause-not_all_done : goal.returns-clause-not_all_done
-returns-clause-not_all_done g c status = not_all_done_begun (g.R.Read.remaining c.args.reader.now) _ _ (ap (λ seen. seen.state) c.in-Ok.ensures) (c.answer_input.ensures.not_all_done refl status)
+unfolding state
+returns-clause-not_all_done g c status = c.answer_by_tables-ending.ensures.not_all_done (honest (file_state c.answer_by_tables-ending.result.1).is_clean refl) status
 
 pub returns-clause-written : goal.returns-clause-written
-returns-clause-written g c status = written_begun (g.R.Read.remaining c.args.reader.now) _ _ _ _ (ap (λ seen. seen.state) c.in-Ok.ensures) (c.answer_input.ensures.written refl status)
+unfolding state
+returns-clause-written g c status = c.answer_by_tables-ending.ensures.written (honest (file_state c.answer_by_tables-ending.result.1).is_clean refl) status
