@@ -8,7 +8,7 @@ use crate::claims::holds;
 use crate::found::{MEMBERS, finds_members, finds_nothing};
 use crate::parts::sends_parts;
 use crate::registries::begun_in_lists;
-use crate::script::{Line, SCRIPT};
+use crate::script::{Line, requests};
 use crate::sight::sight;
 use crate::stops::{answers_or_stops, goes_on_from, sights_of};
 use crate::worked::{Case, answers, runs};
@@ -125,7 +125,7 @@ fn finds<S: Shelf>(rt: &impl Abort, alloc: Global, shelf: &mut S, act: &Act<'_>)
 /// A call of a shelf was refused only where not all requests were answered.
 fn has_refused(rt: &impl Abort, refused: u64, done: &Done) {
     let wanted = match done {
-        Done::Answered(answered) => u64::from(*answered < SCRIPT.len()),
+        Done::Answered(answered) => u64::from(*answered < requests().len()),
         _ => 0,
     };
     holds(rt, refused == wanted, "calls that were refused");

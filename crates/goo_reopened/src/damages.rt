@@ -4,7 +4,7 @@ use crate::acts::Act;
 use crate::claims::holds;
 use crate::deeds::{Deed, after, judged, shown};
 use crate::disks::{Disks, blank};
-use crate::script::{CANCELLATION, SCRIPT};
+use crate::script::{CANCELLATION, requests};
 use goo_opening::fault::OpenFault;
 use std::alloc::Global;
 use std::process::Abort;
@@ -12,7 +12,8 @@ use std::process::Abort;
 /// What is done to the tables, how it is undone, and why they are not opened in between.
 type Damage = (&'static str, &'static str, OpenFault);
 
-const DAMAGES: [Damage; 22] = [
+/// Values that are damaged.
+const VALUES: [Damage; 16] = [
     (
         "UPDATE device SET carry = 1",
         "UPDATE device SET carry = 0",
@@ -93,6 +94,10 @@ const DAMAGES: [Damage; 22] = [
         "DELETE FROM peer WHERE code = -9",
         OpenFault::Damaged,
     ),
+];
+
+/// Tables that are damaged, and the row of `meta`.
+const TABLES: [Damage; 6] = [
     (
         "CREATE TABLE plan (id INTEGER PRIMARY KEY) STRICT",
         "DROP TABLE plan",
@@ -136,14 +141,23 @@ fn is_refused(rt: &impl Abort, alloc: Global, disks: Disks, damage: &Damage) -> 
     disks
 }
 
+/// The same of each of some damages, one after another.
+fn are_refused(rt: &impl Abort, alloc: Global, disks: Disks, damages: &[Damage]) -> Disks {
+    let mut disks = disks;
+    for damage in damages {
+        disks = is_refused(rt, alloc, disks, damage);
+    }
+    disks
+}
+
 #[test]
 fn damages_are_met(rt: HostRuntime) {
     let alloc = rt.alloc();
-    let cancelled = SCRIPT.get(..=CANCELLATION).expect(&rt, "no cancellation");
+    let cancelled = requests()
+        .get(..=CANCELLATION)
+        .expect(&rt, "no cancellation");
     let begins = Deed::Begins(1, Act::Sends(cancelled, 0));
     let (_, disks) = shown(&rt, alloc, blank(alloc), &begins);
-    let mut disks = disks;
-    for damage in &DAMAGES {
-        disks = is_refused(&rt, alloc, disks, damage);
-    }
+    let disks = are_refused(&rt, alloc, disks, &VALUES);
+    let _disks = are_refused(&rt, alloc, disks, &TABLES);
 }

@@ -2,7 +2,7 @@
 //! before is kept.
 
 use crate::disks::{Disks, lapsing};
-use crate::script::SCRIPT;
+use crate::script::requests;
 use crate::stops::{ROUNDS, goes_on, runs_on, wanted_sights};
 use std::alloc::Global;
 use std::process::Abort;
@@ -11,7 +11,7 @@ use std::process::Abort;
 fn lapses_on(rt: &impl Abort, alloc: Global, disks: Disks, wanted: &[String]) -> bool {
     let (answered, disks) = runs_on(rt, alloc, disks);
     goes_on(rt, alloc, disks, answered, wanted);
-    answered < SCRIPT.len()
+    answered < requests().len()
 }
 
 #[test]

@@ -4,7 +4,7 @@ use crate::acts::Act;
 use crate::asking::{asks, is_outcome, plays};
 use crate::claims::holds;
 use crate::deeds::is_alike;
-use crate::script::SCRIPT;
+use crate::script::requests;
 use crate::sight::tell_audit;
 use crate::worked::{Exchange, exchanges};
 use goo_registry::Registry;
@@ -94,7 +94,7 @@ fn are_audited<S: Shelf>(rt: &impl Abort, alloc: Global, registry: &mut Registry
 
 /// A new registry sends a hundred parts, and no more.
 pub fn sends_parts<S: Shelf>(rt: &impl Abort, alloc: Global, registry: &mut Registry<S>) {
-    let first = SCRIPT.get(..DEVICE).expect(rt, "so many requests");
+    let first = requests().get(..DEVICE).expect(rt, "so many requests");
     plays(rt, alloc, registry, first, 0);
     declares_all(rt, alloc, registry);
     are_audited(rt, alloc, registry);

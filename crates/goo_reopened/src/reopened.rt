@@ -4,7 +4,7 @@ use crate::acts::{Act, Done};
 use crate::claims::holds;
 use crate::deeds::{Deed, does, shows};
 use crate::disks::blank;
-use crate::script::{APRIL, SCRIPT};
+use crate::script::{APRIL, requests};
 use goo_opening::fault::OpenFault;
 
 /// What the registry of April shows: both accounts, the audit, and neither a cancellation nor a notice.
@@ -40,12 +40,12 @@ SUN 2025-04-05 Bäckerei Müller
 #[test]
 fn over_one_connection_and_on_its_disks(rt: HostRuntime) {
     let alloc = rt.alloc();
-    let april = SCRIPT.get(..APRIL).expect(&rt, "so many requests");
+    let april = requests().get(..APRIL).expect(&rt, "so many requests");
     let begins = Deed::Begins(1, Act::Sends(april, 0));
     let disks = shows(&rt, alloc, blank(alloc), &begins, APRIL_SHOWN);
     let repeats = Deed::Opens(Act::Sends(april, APRIL));
     let disks = shows(&rt, alloc, disks, &repeats, APRIL_SHOWN);
-    let _disks = shows(&rt, alloc, disks, &Deed::Opens(Act::Rests), APRIL_SHOWN);
+    let _disks = shows(&rt, alloc, disks, &repeats, APRIL_SHOWN);
 }
 
 #[test]

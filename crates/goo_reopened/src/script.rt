@@ -5,7 +5,7 @@ pub type Line = (&'static str, &'static str, &'static str);
 
 /// Two holders with an account each and a device of the first; the certificates of January, the carry of February and the
 /// certificate of March; another registry, a transfer, a cancellation and an export.
-pub const SCRIPT: [Line; 13] = [
+const SCRIPT: [Line; 13] = [
     (
         "ISSUER",
         "{\"command\":\"open_holder\",\"holder\":\"SUN\",\"key\":\"s1\",\"name\":\"Sun Power\"}",
@@ -72,6 +72,11 @@ pub const SCRIPT: [Line; 13] = [
         "{\"count\":10,\"notice\":1}",
     ),
 ];
+
+/// Those requests. A function, as each that names a long table costs a check three seconds more.
+pub fn requests() -> &'static [Line] {
+    &SCRIPT
+}
 
 /// The registry on 5 April 2025, with the certificates of three months and no others asked for.
 pub const APRIL: usize = 9;

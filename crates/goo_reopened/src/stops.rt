@@ -7,7 +7,7 @@ use crate::claims::holds;
 use crate::deeds::{Deed, does, shows};
 use crate::disks::{Disks, blank, crashed, stopping};
 use crate::reopened::END_SHOWN;
-use crate::script::SCRIPT;
+use crate::script::requests;
 use crate::sight::sight;
 use goo_opening::fault::OpenFault;
 use goo_registry::{ReadFault, Registry};
@@ -25,7 +25,7 @@ pub fn sights_of<S: Shelf>(
 ) -> Vec<String> {
     let mut shown = Vec::new(alloc);
     shown.push(sight(rt, alloc, registry)).expect(rt, "memory");
-    for line in &SCRIPT {
+    for line in requests() {
         plays_one(rt, alloc, registry, line, "accepted");
         shown.push(sight(rt, alloc, registry)).expect(rt, "memory");
     }
@@ -35,7 +35,7 @@ pub fn sights_of<S: Shelf>(
 /// How many requests are answered: all, or those up to the first `Store`, and then each is answered so.
 fn answered_by<S: Shelf>(rt: &impl Abort, alloc: Global, registry: &mut Registry<S>) -> usize {
     let mut answered = 0usize;
-    for (at, line) in SCRIPT.iter().enumerate() {
+    for (at, line) in requests().iter().enumerate() {
         match asks(rt, alloc, registry, line.0, line.1) {
             Ok(outcome) => {
                 holds(rt, answered == at, "an answer after a fault");
@@ -66,7 +66,7 @@ pub fn answers_or_stops<S: Shelf>(
     registry: &mut Registry<S>,
 ) -> usize {
     let answered = answered_by(rt, alloc, registry);
-    if answered < SCRIPT.len() {
+    if answered < requests().len() {
         is_silent(rt, alloc, registry);
     }
     answered
@@ -111,12 +111,12 @@ pub fn goes_on_from<S: Shelf>(
 ) {
     let shown = sight(rt, alloc, registry);
     let kept = kept_of(rt, &shown, answered, wanted);
-    plays(rt, alloc, registry, &SCRIPT, kept)
+    plays(rt, alloc, registry, requests(), kept)
 }
 
 /// A registry is begun on disks that hold none, and comes to the end of all requests.
 fn starts_over(rt: &impl Abort, alloc: Global, disks: Disks) {
-    let begins = Deed::Begins(1, Act::Sends(&SCRIPT, 0));
+    let begins = Deed::Begins(1, Act::Sends(requests(), 0));
     let _disks = shows(rt, alloc, disks, &begins, END_SHOWN);
 }
 
@@ -138,7 +138,7 @@ pub fn goes_on(rt: &impl Abort, alloc: Global, disks: Disks, answered: usize, wa
 fn stops_on(rt: &impl Abort, alloc: Global, disks: Disks, wanted: &[String]) -> bool {
     let (answered, disks) = runs_on(rt, alloc, disks);
     goes_on(rt, alloc, crashed(disks), answered, wanted);
-    answered < SCRIPT.len()
+    answered < requests().len()
 }
 
 /// What the registry shows without a stop, request by request: no two neighbours are alike.

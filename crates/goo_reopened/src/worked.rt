@@ -5,7 +5,7 @@ use crate::asking::{asks, plays};
 use crate::cases::{FIFTH, FIRST, FOURTH, SECOND, SIXTH, THIRD};
 use crate::claims::holds;
 use crate::deeds::is_alike;
-use crate::script::{Line, SCRIPT};
+use crate::script::{Line, requests};
 use crate::sight::tell_certificates;
 use goo_body::read_command;
 use goo_outcome::outcome_text;
@@ -37,7 +37,7 @@ pub struct Case {
 
 /// The requests that come first in a case.
 fn first_of(rt: &impl Abort, case: &Case) -> &'static [Line] {
-    SCRIPT.get(..case.begun).expect(rt, "so many requests")
+    requests().get(..case.begun).expect(rt, "so many requests")
 }
 
 /// After a case a registry's certificates are those that are written down.
