@@ -5,7 +5,8 @@ ghost use Rattle.goo_lines.specs.Fold.{lines};
 ghost use Rattle.goo_ending.specs.Endings.{status_of};
 
 use crate::ending::Ending;
-use goo_lines::{Desk, run_lines};
+use goo_lines::run_lines;
+use goo_registry_desk::Desk;
 use std::alloc::Global;
 use std::io::{Read, Write};
 

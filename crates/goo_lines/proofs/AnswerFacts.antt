@@ -10,7 +10,7 @@ use Rattle.goo_lines.specs.Lines.{lines_of}
 use Rattle.goo_streams.specs.Streams.{AppendsPrefix}
 use Rattle.goo_lines.specs.Answers.{answer_line, answer_text, answer_to, is_good, state_after}
 use Rattle.goo_lines.specs.Stops.{AnswersLine, IsBetweenLines, StandsInPart, StandsWhole}
-use Rattle.goo_lines.specs.Desk.{Seen}
+use Rattle.goo_registry_desk.specs.Desk.{Seen}
 use Rattle.goo_lines.specs.declared.answer.Answer.{Answer}
 use Rattle.goo_lines.specs.Fold.{Answered, answering, counted, nothing_answered, with_answer, with_line, with_lines}
 use Rattle.goo_lines.specs.declared.lines_fault.LinesFault.{LinesFault}

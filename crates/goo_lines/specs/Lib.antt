@@ -3,5 +3,4 @@ pub mod Reading
 pub mod Faults
 pub mod Answers
 pub mod Fold
-pub mod Desk
 pub mod Stops

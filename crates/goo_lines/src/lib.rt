@@ -1,11 +1,10 @@
 //! Requests as lines of text: each line is answered with one line.
 //!
-//! A line is a holder's code, one space and the body of a request. The lines are answered in turn by a [`Desk`], that
+//! A line is a holder's code, one space and the body of a request. The lines are answered in turn by a [`Desk`](goo_registry_desk::Desk), that
 //! is by whatever applies requests to a registry.
 #![tactic(auto)]
 
 mod answer;
-mod desk;
 mod line;
 mod lines;
 mod lines_fault;
@@ -14,7 +13,6 @@ mod tally;
 mod unread;
 
 pub use answer::Answer;
-pub use desk::Desk;
 pub use line::read_line;
 pub use lines::Lines;
 pub use lines_fault::LinesFault;

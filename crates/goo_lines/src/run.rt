@@ -9,12 +9,12 @@ ghost use Rattle.goo_lines.specs.Stops.{AnswersLine, IsAfterReading, IsBetweenLi
 ghost use Rattle.goo_lines.specs.declared.lines_fault.LinesFault.TheVariants.{Read as Reading, Write as Writing};
 
 use crate::answer::Answer;
-use crate::desk::Desk;
 use crate::line::read_line;
 use crate::lines::Lines;
 use crate::lines_fault::LinesFault;
 use crate::tally::Tally;
 use crate::unread::Unread;
+use goo_registry_desk::Desk;
 use goo_streams::{WriteFault, read_whole, write_whole};
 use goo_types::fault::Fault;
 use std::alloc::Global;

@@ -5,6 +5,7 @@ mod access;
 mod apply;
 mod cancellation;
 mod cancellation_statement;
+mod desk;
 mod holdings;
 mod notice;
 mod place;

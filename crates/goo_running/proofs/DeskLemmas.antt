@@ -1,31 +1,9 @@
--- What a request to a registry does, as a desk's.
-use Rattle.std.proofs.Common.{◌≡◌, Bool, true, false, refl, ap, cond, ℕ, Result, Ok, Err}
+-- What told no lie.
+use Rattle.std.proofs.Common.{◌≡◌, Bool, true, false, refl, ap, cond, ℕ}
 use Rattle.sqlite_trees.specs.View.{doubt}
-use Rattle.goo_types.specs.declared.fault.Fault.{Fault}
-use Rattle.goo_types.specs.declared.outcome.Outcome.{Outcome}
-use Rattle.goo_types.specs.declared.request.Request.{Request}
-use Rattle.goo_shelf.specs.Shelf.{Moment}
-use Rattle.goo_registry.specs.Applying.{Applies}
-use Rattle.goo_lines.specs.Desk as desk
-use Rattle.goo_running.specs.Desks.{seen_of}
 
 -- what told no lie is in no doubt
 pub honest : (clean : Bool) → clean ≡ true → doubt clean ≡ 0
 unfolding doubt
 honest true same = refl
 honest false same = ap {B = ℕ} (λ (b : Bool). cond b 0 1) same
-
--- where nothing lied, an answered request leaves nothing in doubt
-pub applied : (old new : Moment) (result : Result Outcome Fault) (q : Request) → Applies old new result q → desk.Applies (seen_of old) (seen_of new) q result
-applied old new (Ok answer) q done = record {
-  answer = λ none. done.answer (done.works none);
-  state = λ none. done.state (done.works none);
-  unchanged = λ sure. tt;
-  lied = done.lied;
-}
-applied old new (Err fault) q done = record {
-  answer = λ none. tt;
-  state = λ none. tt;
-  unchanged = done.unchanged;
-  lied = done.lied;
-}

@@ -4,5 +4,4 @@
 //! that comes of it.
 #![tactic(auto)]
 
-mod desk;
 pub mod running;

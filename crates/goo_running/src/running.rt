@@ -8,7 +8,6 @@ ghost use Rattle.sqlite_trees.specs.View.{doubt};
 ghost use Rattle.goo_ending.specs.Endings.{status_of};
 ghost use Rattle.goo_running.specs.Openings.{fault_of_opening};
 
-use crate::desk::ShelfDesk;
 use goo_command_line::Opening;
 use goo_disk::MemoryFile;
 use goo_ending::{Ending, Failure, answer_input};
@@ -70,9 +69,9 @@ fn answer_by<S: Shelf, R: Read, W: Write>(
     ensures no_words { status_of result.0 ≢ 2 }
     ensures lied { (S.seen result.1).lies ≡ 0 → (S.seen registry.shelf).lies ≡ 0 }
 {
-    let mut desk = ShelfDesk::new(registry);
-    let ending = answer_input(alloc, &mut desk, reader, writer);
-    (ending, desk.into_shelf())
+    let mut registry = registry;
+    let ending = answer_input(alloc, &mut registry, reader, writer);
+    (ending, registry.into_shelf())
 }
 
 /// Answers the lines of an input by a new registry in a database, and hands that back.

@@ -1,7 +1,8 @@
 //! Lines that state no request, faults of the records and of the writer, and the limit of an input, over records that
 //! fail at each request.
 use crate::claims::holds;
-use goo_lines::{Desk, LinesFault, MOST_INPUT, Tally, run_lines};
+use goo_lines::{LinesFault, MOST_INPUT, Tally, run_lines};
+use goo_registry_desk::Desk;
 use goo_types::fault::Fault;
 use goo_types::outcome::Outcome;
 use goo_types::request::Request;
@@ -18,8 +19,9 @@ pub struct FailingDesk {
 
 impl Desk for FailingDesk {
     ghost use Rattle.goo_spec.specs.Created.{created};
+    ghost use Rattle.goo_texts.specs.Failing.{refused_by};
 
-    ghost seen = { λ _. record { state = created 7 (record { year = 2025; month = 3; day = 1 }) 1; lies = 0; doubts = 0 } };
+    ghost seen = { λ d. record { state = created 7 (record { year = 2025; month = 3; day = 1 }) 1; lies = 0; doubts = 0; refusals = refused_by d.fault } };
 
     fn apply(&mut self, _alloc: Global, _request: &Request) -> Result<Outcome, Fault> {
         Err(self.fault)

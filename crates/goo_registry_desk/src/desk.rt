@@ -5,8 +5,8 @@ use std::alloc::Global;
 
 /// What applies requests to a registry, one after another.
 pub trait Desk {
-    ghost use Rattle.goo_lines.specs.Desk.{Seen};
-    ghost use Rattle.goo_lines.specs.Desk.{Applies};
+    ghost use Rattle.goo_registry_desk.specs.Desk.{Seen};
+    ghost use Rattle.goo_registry_desk.specs.Desk.{Applies};
 
     /// What it knows, and how far what lies below can be relied on.
     ghost seen: { Self → Seen };

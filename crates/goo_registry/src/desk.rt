@@ -1,0 +1,30 @@
+//! A registry as a desk.
+ghost use Rattle.goo_registry.specs.Applying.{Applies};
+ghost use Rattle.goo_registry.specs.Desks.{seen_of};
+
+use crate::registry::Registry;
+use goo_registry_desk::Desk;
+use goo_shelf::shelf::Shelf;
+use goo_types::fault::Fault;
+use goo_types::outcome::Outcome;
+use goo_types::request::Request;
+use std::alloc::Global;
+
+/// What applies one request, by a registry.
+pub(crate) fn apply_by<S: Shelf>(
+    registry: &mut Registry<S>,
+    alloc: Global,
+    request: &Request,
+) -> Result<Outcome, Fault>
+    ensures { Applies (S.seen registry.old.shelf) (S.seen registry.new.shelf) result request.now }
+{
+    registry.apply(alloc, request)
+}
+
+impl<S: Shelf> Desk for Registry<S> {
+    ghost seen = { λ r. seen_of (S.seen r.shelf) };
+
+    fn apply(&mut self, alloc: Global, request: &Request) -> Result<Outcome, Fault> {
+        apply_by(self, alloc, request)
+    }
+}
