@@ -2,11 +2,15 @@
 //! the command line asks for nothing that it does, and 3 after a fault. What it says of these goes to standard error.
 #![tactic(auto)]
 
-use goo_command_line::{Place, Task, read_task};
+mod files;
+
+use crate::files::{Opened, let_go, open_kept, open_new};
+use goo_command_line::{Opening, Place, Task, read_task};
 use goo_ending::{Ending, Failure};
-use goo_running::running::run_in_memory;
+use goo_running::creating::init_in_files;
+use goo_running::running::{run_in_files, run_in_memory};
 use std::env;
-use std::io::{self, BufWriter, ErrorKind};
+use std::io::{self, BufWriter, ErrorKind, Write};
 use std::process::ExitCode;
 
 fn main(rt: HostRuntime) -> ExitCode {
@@ -29,18 +33,68 @@ fn perform(rt: &HostRuntime) -> Ending {
 
 /// Does what these words ask for.
 fn perform_words(rt: &HostRuntime, words: &[String]) -> Ending {
-    match read_task(rt.alloc(), words) {
-        Ok(Task::Run(place)) => run(rt, place),
-        Err(fault) => Ending::from(fault),
+    let task = match read_task(rt.alloc(), words) {
+        Ok(task) => task,
+        Err(fault) => return Ending::from(fault),
+    };
+    match BufWriter::new(rt.alloc(), io::writer(rt)) {
+        Ok(mut writer) => perform_task(rt, task, &mut writer),
+        Err(_) => Ending::Failed(Failure::Memory),
     }
 }
 
-/// Answers the requests of standard input on standard output.
-fn run(rt: &HostRuntime, place: Place) -> Ending {
-    let Ok(mut writer) = BufWriter::new(rt.alloc(), io::writer(rt)) else {
-        return Ending::Failed(Failure::Memory);
-    };
-    match place {
-        Place::Memory(opening) => run_in_memory(rt.alloc(), opening, &mut rt.reader(), &mut writer),
+/// Does a task. What it shows goes to the writer.
+fn perform_task<W: Write + Drop>(
+    rt: &HostRuntime,
+    task: Task<'_>,
+    writer: &mut BufWriter<W>,
+) -> Ending {
+    match task {
+        Task::Init(path, opening) => init(rt, path, opening, writer),
+        Task::Run(Place::Memory(opening)) => {
+            run_in_memory(rt.alloc(), opening, &mut rt.reader(), writer)
+        }
+        Task::Run(Place::File(path)) => run(rt, path, writer),
+        Task::Declare(_) | Task::Statement(..) | Task::Audit(_) | Task::Serve(..) => {
+            Ending::Misused("goo: this command is not there yet")
+        }
+    }
+}
+
+/// Makes a new registry in the file at a path.
+fn init<W: Write + Drop>(
+    rt: &HostRuntime,
+    path: &str,
+    opening: Opening,
+    writer: &mut BufWriter<W>,
+) -> Ending {
+    match open_new(rt, path) {
+        Ok(Opened {
+            files,
+            seed,
+            traces,
+        }) => {
+            let (ending, left) = init_in_files(rt.alloc(), files, seed, opening, writer);
+            let_go(rt, &traces, left);
+            ending
+        }
+        Err(failure) => Ending::Failed(failure),
+    }
+}
+
+/// Answers the requests of standard input by the registry in the file at a path.
+fn run<W: Write + Drop>(rt: &HostRuntime, path: &str, writer: &mut BufWriter<W>) -> Ending {
+    match open_kept(rt, path) {
+        Ok(Opened {
+            files,
+            seed,
+            traces,
+        }) => {
+            let (ending, left) =
+                run_in_files(rt.alloc(), files, seed, &mut rt.reader(), writer);
+            let_go(rt, &traces, left);
+            ending
+        }
+        Err(failure) => Ending::Failed(failure),
     }
 }
