@@ -17,6 +17,7 @@ use goo_types::key::Key;
 use goo_types::lot::Lot;
 use goo_types::name::Name;
 use goo_types::notice::Notice;
+use goo_types::number::Number;
 use goo_types::piece::Piece;
 use goo_types::range::Range;
 use goo_types::registry_code::RegistryCode;
@@ -36,7 +37,9 @@ pub trait Shelf {
     ghost use Rattle.goo_rows.specs.Rows.{meeting as near};
     ghost use Rattle.goo_shelf.specs.Counters.{counters_of};
     ghost use Rattle.goo_shelf.specs.Meta.{meta_of};
-    ghost use Rattle.goo_shelf.specs.Rows.{expiring_on, naming_account};
+    ghost use Rattle.std.specs.Prelude.{IfSome};
+    ghost use Rattle.goo_spec_runs.specs.NextRun.{from_of};
+    ghost use Rattle.goo_shelf.specs.Rows.{expiring_on, naming_account, next_row, EndsFrom};
     ghost use Rattle.goo_shelf.specs.Shelf.{Moment, Looks, IsSafe, progress_of, IsRecordOf, receipt_of, arrival_of, totals_of};
     ghost use Rattle.goo_shelf.specs.Plan.{Fits, Commits};
 
@@ -133,6 +136,12 @@ pub trait Shelf {
     fn pieces_of(&mut self, alloc: Global, account: AccountNo) -> Result<Vec<Piece>, Fault>
         ensures looks { Looks (seen self.old) (seen self.new) result (λ met. met.items ≡ naming_account account (seen self.old).rows) }
         ensures rising { IfOk result (λ met. IsRising met.items) };
+
+    /// The least row whose place names an account and that ends after a number, or the least of all its
+    /// rows; None where there is no such row.
+    fn next_of(&mut self, account: AccountNo, after: Option<Number>) -> Result<Option<Piece>, Fault>
+        ensures looks { Looks (seen self.old) (seen self.new) result (λ found. found ≡ next_row account after (seen self.old).rows) }
+        ensures ahead { IfOk result (λ found. IfSome found (EndsFrom (from_of after))) };
 
     /// The energy and the certificates of each device, by device.
     fn totals(&mut self, alloc: Global) -> Result<Vec<DeviceTotals>, Fault>

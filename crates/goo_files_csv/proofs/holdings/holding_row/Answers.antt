@@ -1,0 +1,45 @@
+use Rattle.std.proofs.Common.{rules, ◌≡◌}
+use Rattle.goo_files_csv.specs.Holdings.{holding_row}
+use Rattle.goo_files_csv.proofs.holdings.holding_row.Goals as goal
+
+pub returns : goal.returns
+unfolding holding_row
+returns c = simp (
+  c.as_bytes.ensures.value,
+  c.as_bytes-2.ensures.value,
+  c.as_bytes-3.ensures.value,
+  c.as_bytes-4.ensures.value,
+  c.as_bytes-5.ensures.value,
+  c.as_bytes-6.ensures.value,
+  c.as_bytes-7.ensures.value,
+  c.as_bytes-8.ensures.value,
+  c.text.ensures.value,
+  c.text-2.ensures.value,
+  c.text-3.ensures.value,
+  c.text-4.ensures.value,
+  c.text-5.ensures.value,
+  c.word.ensures.value,
+  c.format-count.ensures.text,
+  c.format-capacity.ensures.text,
+  c.write-first.ensures.text,
+  c.write-last.ensures.text,
+  c.write-commissioned.ensures.text,
+  c.write-first_day.ensures.text,
+  c.write-last_day.ensures.text,
+  c.write-issued_on.ensures.text,
+  c.device-device.ensures,
+  c.country-country.ensures,
+  c.site-site.ensures,
+  c.tech-tech.ensures,
+  c.source-source.ensures,
+  c.support.ensures,
+  c.commissioned.ensures,
+  c.first_day.ensures,
+  c.last_day.ensures,
+  c.issued_on.ensures,
+  c.get.ensures.value,
+  c.get-2.ensures.value,
+  c.get-3.ensures.value,
+  c.capacity_w.ensures,
+  c.saturating_sub.ensures,
+) at c.row.ensures
