@@ -4,7 +4,8 @@ ghost use Rattle.std.specs.Io.KnownBytes.{IsAtEnd};
 ghost use Rattle.csv.specs.Records.{fields_of};
 ghost use Rattle.goo_files_import.specs.Import.{row_result, state_after};
 ghost use Rattle.goo_files_import.specs.Table.{LacksHeader};
-ghost use Rattle.goo_files_import.specs.Stands.{IsImported, StandsInPart, IsBeforeRows, IsBetweenRows};
+ghost use Rattle.goo_shelf.specs.Shelf.{IsTold};
+ghost use Rattle.goo_files_import.specs.Stands.{IsImported, StandsInPart, IsBeforeRows, IsBetweenRows, IsToldIn};
 ghost use Rattle.goo_files_import.specs.declared.cause.Cause.TheVariants.{Header as NoHeader, Read as Unread};
 
 use crate::cause::{Cause, ImportFault};
@@ -34,6 +35,7 @@ fn apply_row<D: Desk>(
     ensures state { (D.seen desk.new).lies ≡ 0 → OnOk result ((D.seen desk.new).state ≡ state_after (D.seen desk.old).state caller.now (fields_of row.now)) }
     ensures unchanged { (D.seen desk.new).doubts ≡ 0 → OnErr result ((D.seen desk.new).state ≡ (D.seen desk.old).state) }
     ensures lied { (D.seen desk.new).lies ≡ 0 → (D.seen desk.old).lies ≡ 0 }
+    ensures told { (D.seen desk.old).refusals ≡ 0 → IsTold result (D.seen desk.new).refusals }
 {
     match read_row(caller, row) {
         Some(request) => Ok(RowResult::of(desk.apply(alloc, &request)?)),
@@ -54,6 +56,7 @@ fn import_row<D: Desk>(
     ensures kept { OnErr result (lines.new.items ≡ lines.old.items) }
     ensures unchanged { (D.seen desk.new).doubts ≡ 0 → OnErr result ((D.seen desk.new).state ≡ (D.seen desk.old).state) }
     ensures lied { (D.seen desk.new).lies ≡ 0 → (D.seen desk.old).lies ≡ 0 }
+    ensures told { (D.seen desk.old).refusals ≡ 0 → IsTold result (D.seen desk.new).refusals }
 {
     if lines.try_reserve(1).is_err() {
         return Err(Fault::Memory);
@@ -90,6 +93,7 @@ fn import_table<D: Desk>(
     ensures before_lines { IfErr result (λ fault. IsBeforeRows fault.cause → fault.report.lines.items ≡ []) }
     ensures part { (D.seen desk.new).lies ≡ 0 → IfErr result (λ fault. IsBetweenRows fault.cause → StandsInPart caller.now input.now (D.seen desk.old).state (D.seen desk.new) fault.report.lines.items) }
     ensures lied { (D.seen desk.new).lies ≡ 0 → (D.seen desk.old).lies ≡ 0 }
+    ensures told { (D.seen desk.old).refusals ≡ 0 → IsToldIn result (D.seen desk.new).refusals }
 {
     let reader = ReaderBuilder::new()
         .has_headers(false)
@@ -136,6 +140,7 @@ pub fn import_declarations<D: Desk, R: Read>(
     ensures before_lines { IfErr result (λ fault. IsBeforeRows fault.cause → fault.report.lines.items ≡ []) }
     ensures part { (D.seen desk.new).lies ≡ 0 → IfSome (R.remaining reader.old) (λ input. IfErr result (λ fault. IsBetweenRows fault.cause → StandsInPart caller.now input (D.seen desk.old).state (D.seen desk.new) fault.report.lines.items)) }
     ensures lied { (D.seen desk.new).lies ≡ 0 → (D.seen desk.old).lies ≡ 0 }
+    ensures told { (D.seen desk.old).refusals ≡ 0 → IsToldIn result (D.seen desk.new).refusals }
     ensures end { OnOk result (IsAtEnd (R.remaining reader.new)) }
 {
     match read_whole(alloc, reader, MOST_INPUT) {
