@@ -6,7 +6,7 @@ use Rattle.goo_files_csv.specs.Rows.{header, is_header}
 use Rattle.goo_files_csv.proofs.Header.{header_is, header_passes}
 use Rattle.goo_files_import.proofs.Importing.{IsImporting, importing_start, importing_on, importing_ends, importing_stops}
 use Rattle.goo_files_import.proofs.Reading.{IsAt, at_start, at_more, at_end, at_begins, known}
-use Rattle.goo_files_import.proofs.import.import_table.Goals as goal
+use Rattle.goo_files_import.proofs.import.import_bytes.Goals as goal
 
 pub returns-then-not-is_header-clause-header : goal.returns-then-not-is_header-clause-header
 returns-then-not-is_header-clause-header g c =
