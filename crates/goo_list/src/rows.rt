@@ -1,10 +1,11 @@
-ghost use Rattle.std.specs.Prelude.{◌≡◌, ◌+◌, ◌^◌, ◌<◌, ◌≤◌, [], ◌++◌, count_by, sum_by, IfOk, IfErr, OnOk};
+ghost use Rattle.std.specs.Prelude.{◌≡◌, ◌+◌, ◌^◌, ◌<◌, ◌≤◌, [], ◌++◌, count_by, sum_by, IfOk, IfErr, IfSome, OnOk};
 ghost use Rattle.std.specs.FinMap.{entries};
 ghost use Rattle.goo_types.specs.declared.fault.Fault.TheVariants.{Memory};
 ghost use Rattle.goo_types.specs.Piece.{IsForward, IsRising};
 ghost use Rattle.goo_spec.specs.Advance.{expires};
 ghost use Rattle.goo_rows.specs.Rows.{meeting, edited_all};
-ghost use Rattle.goo_shelf.specs.Rows.{expiring_on, naming_account};
+ghost use Rattle.goo_spec_runs.specs.NextRun.{ending_from, first_of};
+ghost use Rattle.goo_shelf.specs.Rows.{expiring_on, naming_account, EndsFrom};
 ghost use Rattle.goo_spec.specs.Energy.{is_issued_to};
 ghost use Rattle.goo_rows.specs.Certificates.{certificates_of, issued_in};
 ghost use Rattle.goo_list.specs.Rows.{inserts};
@@ -89,6 +90,18 @@ fn add_naming(met: &mut Vec<Piece>, rows: &[Piece], account: AccountNo) -> Resul
     Ok(())
 }
 
+/// The first of those rows whose place names an account and that end at a number or after it.
+fn first_naming(rows: &[Piece], account: AccountNo, from: u64) -> Option<Piece>
+    ensures { result ≡ first_of (ending_from from (naming_account account rows.now)) }
+{
+    for row in rows {
+        if row.place.account() == account && from <= row.last.get() {
+            return Some(*row);
+        }
+    }
+    None
+}
+
 /// The rows of a registry's certificates: by rising numbers, and no two have a number in common.
 #[derive(Drop)]
 pub struct Rows {
@@ -149,6 +162,20 @@ impl Rows {
             add_naming(&mut met, page.rows(), account)?;
         }
         Ok(met)
+    }
+
+    /// The first row whose place names an account and that ends at a number or after it.
+    pub fn next_from(&self, account: AccountNo, from: u64) -> Option<Piece>
+        ensures found { result ≡ first_of (ending_from from (naming_account account self.now.pieces)) }
+        ensures ahead { IfSome result (EndsFrom from) }
+    {
+        for page in self.pieces.pages() {
+            match first_naming(page.rows(), account, from) {
+                Some(row) => return Some(row),
+                None => {}
+            }
+        }
+        None
     }
 
     /// How many of a registry's own certificates were issued to a device.

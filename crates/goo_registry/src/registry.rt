@@ -1,6 +1,6 @@
 //! A registry over what keeps its records: requests, and what may be read of it.
 
-ghost use Rattle.std.specs.Prelude.{◌≡◌};
+ghost use Rattle.std.specs.Prelude.{◌≡◌, IfOk, IfSome};
 ghost use Rattle.goo_rows.specs.Rows.{AreRowsOf, rows-prop};
 ghost use Rattle.goo_spec.specs.Balanced.{IsBalanced};
 ghost use Rattle.goo_spec.specs.Promise.{HaveTheirPlace, AreThoseBrought, OthersAreIdle};
@@ -8,11 +8,15 @@ ghost use Rattle.goo_spec.specs.Sound.{IsSound};
 ghost use Rattle.goo_registry.specs.Applying.{Applies};
 ghost use Rattle.goo_registry.specs.Running.{Runs, RunsAsOne, answered};
 ghost use Rattle.goo_registry.specs.Shown.{Shows, apart as answer_of};
+ghost use Rattle.goo_spec_runs.specs.NextRun.{from_of, BeginsFrom};
+ghost use Rattle.goo_registry.specs.AccountReads.{IsHeadingShown, IsNextRunShown};
 ghost use Rattle.goo_registry.specs.Reads.{place_shown, notice_shown, AreHoldings, IsCancellationShown, IsAudit};
 
+use crate::account_reads::{find_heading, find_next_run};
 use crate::apply::carry_out;
 use crate::cancellation::find_cancellation;
 use crate::cancellation_statement::CancellationStatement;
+use crate::heading::Heading;
 use crate::holdings::find_holdings;
 use crate::notice::find_notice;
 use crate::place::find_place;
@@ -133,6 +137,30 @@ impl<S: Shelf> Registry<S> {
         ensures { Shows (S.seen self.old.shelf) (S.seen self.new.shelf) result (AreHoldings (S.seen self.old.shelf).state caller.now account) }
     {
         told(find_holdings(alloc, &mut self.shelf, caller, account))
+    }
+
+    /// What stands before the certificates of an account: the registry's code and date, and who holds the account and whether
+    /// it is closed. It is shown to the issuing body and to the account's holder. For an account that isn't there `Unknown` to the
+    /// issuing body, and `NotAllowed` to any other caller.
+    pub fn heading(&mut self, caller: &HolderCode, account: AccountNo) -> Result<Heading, ReadFault>
+        ensures { Shows (S.seen self.old.shelf) (S.seen self.new.shelf) result (IsHeadingShown (S.seen self.old.shelf).state caller.now account) }
+    {
+        told(find_heading(&mut self.shelf, caller, account))
+    }
+
+    /// The first of the maximal runs of an account's certificates after a number, or of all of them; None where there are
+    /// none. It is shown to those who may see [`holdings`](Registry::holdings). Asked with the last number of the run before each
+    /// time, it gives all of them, and holds no more than two rows at a time.
+    pub fn next_run(
+        &mut self,
+        caller: &HolderCode,
+        account: AccountNo,
+        after: Option<Number>,
+    ) -> Result<Option<Piece>, ReadFault>
+        ensures shows { Shows (S.seen self.old.shelf) (S.seen self.new.shelf) result (IsNextRunShown (S.seen self.old.shelf).state caller.now account after) }
+        ensures begins { IfOk result (λ found. IfSome found (BeginsFrom (from_of after))) }
+    {
+        told(find_next_run(&mut self.shelf, caller, account, after))
     }
 
     /// What a cancellation came to: to the issuing body and to the holder of its account. For one that

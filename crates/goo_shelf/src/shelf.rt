@@ -17,6 +17,7 @@ use goo_types::key::Key;
 use goo_types::lot::Lot;
 use goo_types::name::Name;
 use goo_types::notice::Notice;
+use goo_types::number::Number;
 use goo_types::piece::Piece;
 use goo_types::range::Range;
 use goo_types::registry_code::RegistryCode;
@@ -36,7 +37,9 @@ pub trait Shelf {
     ghost use Rattle.goo_rows.specs.Rows.{meeting as near};
     ghost use Rattle.goo_shelf.specs.Counters.{counters_of};
     ghost use Rattle.goo_shelf.specs.Meta.{meta_of};
-    ghost use Rattle.goo_shelf.specs.Rows.{expiring_on, naming_account};
+    ghost use Rattle.std.specs.Prelude.{IfSome};
+    ghost use Rattle.goo_spec_runs.specs.NextRun.{from_of};
+    ghost use Rattle.goo_shelf.specs.Rows.{naming_account, next_row, next_expiring_row, EndsFrom};
     ghost use Rattle.goo_shelf.specs.Shelf.{Moment, Looks, IsSafe, progress_of, IsRecordOf, receipt_of, arrival_of, totals_of};
     ghost use Rattle.goo_shelf.specs.Plan.{Fits, Commits};
 
@@ -124,15 +127,22 @@ pub trait Shelf {
         ensures looks { Looks (seen self.old) (seen self.new) result (λ met. met.items ≡ near range (seen self.old).rows) }
         ensures rising { IfOk result (λ met. IsRising met.items) };
 
-    /// The held rows whose lot is over on a day, rising.
-    fn expiring(&mut self, alloc: Global, day: Day) -> Result<Vec<Piece>, Fault>
-        ensures looks { Looks (seen self.old) (seen self.new) result (λ met. met.items ≡ expiring_on day (seen self.old).rows) }
-        ensures rising { IfOk result (λ met. IsRising met.items) };
-
     /// The rows whose place names an account, rising.
     fn pieces_of(&mut self, alloc: Global, account: AccountNo) -> Result<Vec<Piece>, Fault>
         ensures looks { Looks (seen self.old) (seen self.new) result (λ met. met.items ≡ naming_account account (seen self.old).rows) }
         ensures rising { IfOk result (λ met. IsRising met.items) };
+
+    /// The least row whose place names an account and that ends after a number, or the least of all its
+    /// rows; None where there is no such row.
+    fn next_of(&mut self, account: AccountNo, after: Option<Number>) -> Result<Option<Piece>, Fault>
+        ensures looks { Looks (seen self.old) (seen self.new) result (λ found. found ≡ next_row account after (seen self.old).rows) }
+        ensures ahead { IfOk result (λ found. IfSome found (EndsFrom (from_of after))) };
+
+    /// The least held row whose lot is over on a day and that ends after a number, or the least of all such rows; None where
+    /// there is no such row.
+    fn next_expiring(&mut self, day: Day, after: Option<Number>) -> Result<Option<Piece>, Fault>
+        ensures looks { Looks (seen self.old) (seen self.new) result (λ found. found ≡ next_expiring_row day after (seen self.old).rows) }
+        ensures ahead { IfOk result (λ found. IfSome found (EndsFrom (from_of after))) };
 
     /// The energy and the certificates of each device, by device.
     fn totals(&mut self, alloc: Global) -> Result<Vec<DeviceTotals>, Fault>

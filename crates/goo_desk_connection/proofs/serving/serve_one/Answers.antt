@@ -1,0 +1,18 @@
+use Rattle.goo_desk_connection.specs.declared.serve_fault.ServeFault.TheVariants.{Write, Store}
+use Rattle.goo_desk_connection.proofs.ServeFacts.{sends-stands, part-stands, excuse-stands}
+use Rattle.goo_desk_connection.proofs.serving.serve_one.Goals as goal
+
+pub returns-clause-served : goal.returns-clause-served
+returns-clause-served g c =
+    sends-stands g.D.Counter.shows g.D.Counter.imports g.D.Counter.begins c.serve_bytes.result (g.R.Read.remaining c.args.reader.now) (g.D.Desk.seen c.args.desk.now).state c.in_ok-bytes.bytes.items (g.D.Desk.seen c.serve_bytes.new.desk)
+    (g.W.Write.contents c.args.writer.now) (g.W.Write.contents c.serve_bytes.new.writer) c.in_ok-bytes.ensures (rw c.deref.ensures.value at c.serve_bytes.ensures.served)
+
+pub returns-clause-part : goal.returns-clause-part
+returns-clause-part g c =
+    part-stands g.D.Counter.shows g.D.Counter.imports g.D.Counter.begins c.serve_bytes.result Write (g.R.Read.remaining c.args.reader.now) (g.D.Desk.seen c.args.desk.now).state c.in_ok-bytes.bytes.items (g.D.Desk.seen c.serve_bytes.new.desk)
+    (g.W.Write.contents c.args.writer.now) (g.W.Write.contents c.serve_bytes.new.writer) c.in_ok-bytes.ensures (rw c.deref.ensures.value at c.serve_bytes.ensures.part)
+
+pub returns-clause-excuse : goal.returns-clause-excuse
+returns-clause-excuse g c =
+    excuse-stands g.D.Counter.shows g.D.Counter.imports g.D.Counter.begins c.serve_bytes.result Store (g.R.Read.remaining c.args.reader.now) (g.D.Desk.seen c.args.desk.now).state c.in_ok-bytes.bytes.items (g.D.Desk.seen c.serve_bytes.new.desk)
+    (g.W.Write.contents c.args.writer.now) (g.W.Write.contents c.serve_bytes.new.writer) c.in_ok-bytes.ensures (rw c.deref.ensures.value at c.serve_bytes.ensures.excuse)

@@ -1,0 +1,75 @@
+//! Serving one connection.
+ghost use Rattle.std.specs.Prelude.{◌≡◌, IfOk, IfErr, IfSome};
+ghost use Rattle.std.specs.Io.KnownBytes.{Keeps};
+ghost use Rattle.goo_desk_connection.specs.Serving.{Sends, SendsPart, SendsExcuse};
+ghost use Rattle.goo_desk_connection.specs.Faults.{IsAfterReading, IsBeforeAnswer, IsToldIn};
+ghost use Rattle.goo_desk_connection.specs.declared.serve_fault.ServeFault.TheVariants.{Write as Writing, Store};
+
+use crate::reading::read_decided;
+use crate::sending::{Served, apology};
+use crate::serve_fault::ServeFault;
+use goo_desk::{Counter, answer};
+use goo_desk_responses::Status;
+use goo_streams::write_whole;
+use goo_types::fault::Fault;
+use std::alloc::Global;
+use std::io::{Read, Write};
+
+/// Answers these bytes.
+fn serve_bytes<D: Counter, W: Write>(
+    alloc: Global,
+    desk: &mut D,
+    bytes: &[u8],
+    writer: &mut W,
+) -> Result<Served, ServeFault>
+    ensures served { IfOk result (λ served. Sends D.shows D.imports D.begins (D.seen desk.old).state bytes.now served.status (D.seen desk.new) (W.contents writer.old) (W.contents writer.new)) }
+    ensures part { IfErr result (λ fault. fault ≡ Writing → SendsPart D.shows D.imports D.begins (D.seen desk.old).state bytes.now (D.seen desk.new) (W.contents writer.old) (W.contents writer.new)) }
+    ensures excuse { IfErr result (λ fault. fault ≡ Store → SendsExcuse D.shows D.imports D.begins (D.seen desk.old).state bytes.now (D.seen desk.new) (W.contents writer.old) (W.contents writer.new)) }
+    ensures kinds { IfErr result IsAfterReading }
+    ensures lied { (D.seen desk.new).lies ≡ 0 → (D.seen desk.old).lies ≡ 0 }
+    ensures told { (D.seen desk.old).refusals ≡ 0 → IsToldIn result (D.seen desk.new).refusals }
+{
+    match answer(alloc, desk, bytes) {
+        Ok(answer) => {
+            write_whole(writer, &answer.bytes)?;
+            Ok(Served {
+                status: answer.status,
+            })
+        }
+        Err(Fault::Memory) => {
+            write_whole(writer, apology(bytes).as_str().as_bytes())?;
+            Ok(Served {
+                status: Status::Unavailable,
+            })
+        }
+        Err(Fault::Store) => {
+            let _ = write_whole(writer, apology(bytes).as_str().as_bytes());
+            Err(ServeFault::Store)
+        }
+    }
+}
+
+/// Reads a request until it is decided, and answers it. The caller closes the connection.
+///
+/// Want of memory in answering is answered 503.
+///
+/// # Errors
+///
+/// See [`ServeFault`].
+pub fn serve_one<D: Counter, R: Read, W: Write>(
+    alloc: Global,
+    desk: &mut D,
+    reader: &mut R,
+    writer: &mut W,
+) -> Result<Served, ServeFault>
+    ensures served { IfSome (R.remaining reader.old) (λ input. IfOk result (λ served. Sends D.shows D.imports D.begins (D.seen desk.old).state input served.status (D.seen desk.new) (W.contents writer.old) (W.contents writer.new))) }
+    ensures part { IfSome (R.remaining reader.old) (λ input. IfErr result (λ fault. fault ≡ Writing → SendsPart D.shows D.imports D.begins (D.seen desk.old).state input (D.seen desk.new) (W.contents writer.old) (W.contents writer.new))) }
+    ensures excuse { IfSome (R.remaining reader.old) (λ input. IfErr result (λ fault. fault ≡ Store → SendsExcuse D.shows D.imports D.begins (D.seen desk.old).state input (D.seen desk.new) (W.contents writer.old) (W.contents writer.new))) }
+    ensures unapplied { IfErr result (λ fault. IsBeforeAnswer fault → (D.seen desk.new).state ≡ (D.seen desk.old).state) }
+    ensures silent { IfErr result (λ fault. IsBeforeAnswer fault → Keeps (W.contents writer.old) (W.contents writer.new)) }
+    ensures lied { (D.seen desk.new).lies ≡ 0 → (D.seen desk.old).lies ≡ 0 }
+    ensures told { (D.seen desk.old).refusals ≡ 0 → IsToldIn result (D.seen desk.new).refusals }
+{
+    let bytes = read_decided(alloc, reader)?;
+    serve_bytes(alloc, desk, &bytes, writer)
+}

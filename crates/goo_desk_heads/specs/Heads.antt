@@ -1,0 +1,55 @@
+-- Whether bytes begin with a head.
+use Rattle.std.specs.Prelude.{◌≡◌, ℕ, ◌<◌, ◌≤◌, List, ◌++◌, length, map, drop, codes, Option, option_map, Result, IfOk}
+use Rattle.httparse.specs.Grammar.{RequestHead, ReadsRequest, print_request}
+use Rattle.httparse.specs.Spans.{name_and_value}
+use Rattle.goo_desk_heads.specs.Fields.{body_length, most_body, sole, values_of}
+use Rattle.goo_desk_heads.specs.declared.refusal.Refusal.{Refusal}
+use Rattle.goo_desk_heads.specs.declared.front.Front.{Front}
+use Rattle.goo_desk_heads.specs.declared.front.Front.TheVariants as front
+use Rattle.goo_desk_heads.specs.declared.front.Head.{Head}
+
+-- the most bytes of a head, and fields of a head
+abbrev pub most_head : ℕ
+most_head = 8192
+
+abbrev pub most_fields : ℕ
+most_fields = 32
+
+-- the bytes begin with no head of at most so many bytes and fields
+abbrev pub HasNoHead : List ℕ → Type 0
+HasNoHead bytes = (h : RequestHead) (rest : List ℕ) → ReadsRequest bytes h rest → length (print_request h) ≤ most_head → most_fields < length h.fields
+
+-- nor do any that begin with them
+abbrev pub NeverHasHead : List ℕ → Type 0
+NeverHasHead bytes = (more : List ℕ) → HasNoHead (bytes ++ more)
+
+-- the bytes begin with this head
+abbrev pub HasHead : List ℕ → RequestHead → Type 0
+HasHead bytes h = ((rest : List ℕ) × ReadsRequest bytes h rest) × (length (print_request h) ≤ most_head) × (length h.fields ≤ most_fields)
+
+-- the bytes after a head
+abbrev pub after_head : List ℕ → RequestHead → List ℕ
+after_head bytes h = drop (length (print_request h)) bytes
+
+-- the caller that a head names
+abbrev pub caller_of : RequestHead → Option (List ℕ)
+caller_of h = sole (values_of (codes "goo-caller") (map name_and_value h.fields))
+
+-- the length of the body after a head, or why the head is refused
+abbrev pub length_of : RequestHead → Result ℕ Refusal
+length_of h = body_length h.minor (map name_and_value h.fields)
+
+-- what a head asks for, and the bytes after it
+pub record TellsHead (bytes : List ℕ) (h : RequestHead) (head : Head) : Type 0 where
+  pub method : head.method.now ≡ h.method
+  pub target : head.target.now ≡ h.target
+  pub caller : option_map (λ value. value.now) head.caller ≡ caller_of h
+  pub length : head.length ≡ length_of h
+  pub few : IfOk head.length (λ length. length ≤ most_body)
+  pub rest : head.rest.now ≡ after_head bytes h
+
+-- what bytes begin with
+abbrev pub Begins : List ℕ → Front → Type 0
+Begins bytes front.Unfinished = HasNoHead bytes × (length bytes < most_head)
+Begins bytes front.Refused = NeverHasHead bytes
+Begins bytes (front.Head head) = (h : RequestHead) × HasHead bytes h × TellsHead bytes h head

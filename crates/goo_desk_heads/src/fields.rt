@@ -1,0 +1,99 @@
+//! The fields of a head.
+ghost use Rattle.std.specs.Prelude.{◌≡◌, ◌≤◌, length, map, All, option_map, IfOk};
+ghost use Rattle.std.specs.List.{list_all};
+ghost use Rattle.std.specs.Char.{is_ascii_digit};
+ghost use Rattle.httparse.specs.Spans.{IsHeaderWithin, header_bytes};
+ghost use Rattle.goo_desk_heads.specs.Fields.{Occurs, values_of, same_name, length_in as length_stated, body_length as body_length_stated, sole, most_body};
+
+use crate::occurrence::Occurrence;
+use crate::refusal::Refusal;
+use httparse::spans::HeaderSpan;
+
+/// The most bytes of a body.
+pub const MOST_BODY: u64 = 1_048_576;
+
+fn is_named(name: &[u8], wanted: &str) -> bool
+    ensures { result ≡ same_name name.now wanted.now }
+{
+    name.eq_ignore_ascii_case(wanted.as_bytes())
+}
+
+/// How often a field occurs, and its value where that is once.
+fn field_value<'b>(buf: &'b [u8], headers: &[HeaderSpan], wanted: &str) -> Occurrence<'b>
+    requires { All (IsHeaderWithin (length buf.now)) headers.now }
+    ensures { Occurs (values_of wanted.now (map (header_bytes buf.now) headers.now)) result }
+{
+    let mut found = Occurrence::Absent;
+    for header in headers {
+        if is_named(header.name.of(buf), wanted) {
+            found = match found {
+                Occurrence::Absent => Occurrence::Once(header.value.of(buf)),
+                Occurrence::Once(_) | Occurrence::Repeated => Occurrence::Repeated,
+            };
+        }
+    }
+    found
+}
+
+/// The value of a field that occurs just once.
+pub(crate) fn sole_value<'b>(
+    buf: &'b [u8],
+    headers: &[HeaderSpan],
+    wanted: &str,
+) -> Option<&'b [u8]>
+    requires { All (IsHeaderWithin (length buf.now)) headers.now }
+    ensures { option_map (λ value. value.now) result ≡ sole (values_of wanted.now (map (header_bytes buf.now) headers.now)) }
+{
+    match field_value(buf, headers, wanted) {
+        Occurrence::Absent => None,
+        Occurrence::Once(value) => Some(value),
+        Occurrence::Repeated => None,
+    }
+}
+
+fn is_digits(text: &[u8]) -> bool
+    ensures { result ≡ list_all is_ascii_digit text.now }
+{
+    text.iter().all(|byte| byte.is_ascii_digit())
+}
+
+/// The length that a value of `Content-Length` states.
+fn length_in(value: &[u8]) -> Result<u64, Refusal>
+    ensures value { result ≡ length_stated value.now }
+    ensures few { IfOk result (λ length. length ≤ most_body) }
+{
+    if value.is_empty() || value.len() > 19 || !is_digits(value) {
+        return Err(Refusal::BadRequest);
+    }
+    let Ok(text) = str::from_utf8(value) else {
+        return Err(Refusal::BadRequest);
+    };
+    match text.parse::<u64>() {
+        Ok(stated) if stated <= MOST_BODY => Ok(stated),
+        Ok(_) => Err(Refusal::TooLarge),
+        Err(_) => Err(Refusal::BadRequest),
+    }
+}
+
+/// The length of the body that follows a head, or why the head is refused.
+#[tactic(auto, unfolding(crate::specs::Fields::body_length))]
+pub(crate) fn body_length(minor: u8, buf: &[u8], headers: &[HeaderSpan]) -> Result<u64, Refusal>
+    requires { All (IsHeaderWithin (length buf.now)) headers.now }
+    ensures value { result ≡ body_length_stated minor (map (header_bytes buf.now) headers.now) }
+    ensures few { IfOk result (λ length. length ≤ most_body) }
+{
+    match field_value(buf, headers, "host") {
+        Occurrence::Repeated => return Err(Refusal::BadRequest),
+        Occurrence::Absent if minor == 1 => return Err(Refusal::BadRequest),
+        Occurrence::Absent | Occurrence::Once(_) => {}
+    }
+    match field_value(buf, headers, "transfer-encoding") {
+        Occurrence::Absent => {}
+        Occurrence::Once(_) | Occurrence::Repeated => return Err(Refusal::NotImplemented),
+    }
+    match field_value(buf, headers, "content-length") {
+        Occurrence::Absent => Ok(0),
+        Occurrence::Once(value) => length_in(value),
+        Occurrence::Repeated => Err(Refusal::BadRequest),
+    }
+}

@@ -1,0 +1,96 @@
+//! What all the bytes of a stream come to.
+ghost use Rattle.std.specs.Prelude.{◌≡◌, ◌<◌, ◌+◌, false, length, IsTrue, option_map};
+ghost use Rattle.goo_desk_heads.specs.Requests.{Decides, seen, IsSure, IsWaiting, refused_as, whole_request, is_for_head as is_for_head_stated};
+ghost use Rattle.goo_desk_heads.specs.Heads.{most_head};
+ghost use Rattle.goo_desk_heads.specs.Fields.{most_body};
+
+use crate::front::{Front, Head, front_of};
+use crate::refusal::Refusal;
+
+/// The parts of a whole request.
+#[derive(Clone, Copy, Drop)]
+pub struct Received<'b> {
+    /// The method.
+    pub method: &'b [u8],
+    /// The target.
+    pub target: &'b str,
+    /// The value of `GOO-Caller`, where that field is there once.
+    pub caller: Option<&'b [u8]>,
+    /// The body.
+    pub body: &'b [u8],
+}
+
+/// A request that is refused before its target is looked at.
+#[derive(Debug, Clone, Copy, PartialEq, Eq, Drop)]
+pub struct RefusedHead {
+    /// Why.
+    pub why: Refusal,
+    /// Whether it was a request for a head alone.
+    pub is_head: bool,
+}
+
+/// A request that is refused, with the method that it has.
+fn refuse(head: &Head<'_>, why: Refusal) -> RefusedHead
+    ensures { result ≡ refused_as head.now.method.now why }
+{
+    RefusedHead {
+        why,
+        is_head: is_for_head(head.method),
+    }
+}
+
+/// Whether the answer to a method leaves its body off.
+pub fn is_for_head(method: &[u8]) -> bool
+    ensures { result ≡ is_for_head_stated method.now }
+{
+    method == b"HEAD".as_slice()
+}
+
+/// The request of a head, once its body has come.
+fn whole<'b>(head: &Head<'b>) -> Result<Received<'b>, RefusedHead>
+    ensures { seen result ≡ whole_request head.now.method.now head.now.target.now (option_map (λ value. value.now) head.now.caller) head.now.rest.now head.now.length }
+{
+    let length = match head.length {
+        Ok(length) => length,
+        Err(why) => return Err(refuse(head, why)),
+    };
+    if (head.rest.len() as u64) < length {
+        return Err(refuse(head, Refusal::BadRequest));
+    }
+    Ok(Received {
+        method: head.method,
+        target: head.target,
+        caller: head.caller,
+        body: &head.rest[..length as usize],
+    })
+}
+
+/// The request at the front of all the bytes of a stream, or why it is refused.
+pub fn read_request(bytes: &[u8]) -> Result<Received<'_>, RefusedHead>
+    ensures { Decides bytes.now (seen result) }
+{
+    match front_of(bytes) {
+        Front::Unfinished | Front::Refused => Err(RefusedHead {
+            why: Refusal::BadRequest,
+            is_head: false,
+        }),
+        Front::Head(head) => whole(&head),
+    }
+}
+
+/// Whether the bytes that may follow these change nothing: what these come to, all bytes do that begin with them. Where they
+/// may, no head has come yet or not all of its body, and there are fewer bytes than the most of both together.
+pub fn is_decided(bytes: &[u8]) -> bool
+    ensures sure { IsTrue result → IsSure bytes.now }
+    ensures waits { result ≡ false → IsWaiting bytes.now }
+    ensures small { result ≡ false → length bytes.now < most_head + most_body }
+{
+    match front_of(bytes) {
+        Front::Unfinished => false,
+        Front::Refused => true,
+        Front::Head(head) => match head.length {
+            Ok(length) => length <= head.rest.len() as u64,
+            Err(_) => true,
+        },
+    }
+}

@@ -1,0 +1,80 @@
+//! The table of routes.
+ghost use Rattle.std.specs.Prelude.{◌≡◌, ◌==◌, option_map, IfOk};
+ghost use Rattle.std.specs.List.{list_any};
+ghost use Rattle.goo_desk_routes.specs.Routes.{goo_desk_routes, met_by as met, found_by, is_path as is_path_stated};
+
+use crate::route::Route;
+use matchit::{InsertError, Router};
+use std::alloc::{AllocError, Global};
+
+/// The route that a path meets, and the part of the path that names something.
+#[derive(Debug, Clone, Copy, Drop)]
+pub struct Met<'p> {
+    /// The route.
+    pub route: Route,
+    /// That part, which is empty where the route has none.
+    pub part: &'p [u8],
+}
+
+/// A router of the registry's routes.
+fn make_routes(alloc: Global) -> Result<Router<Route>, InsertError>
+    ensures { IfOk result (λ rows. rows ≡ goo_desk_routes) }
+{
+    let mut routes = Router::new(alloc);
+    routes.insert("/v1/requests", Route::Requests)?;
+    routes.insert("/v1/declarations", Route::Declarations)?;
+    routes.insert("/v1/accounts/{a}/statement", Route::Statement)?;
+    routes.insert("/v1/certificates/{n}", Route::Certificate)?;
+    routes.insert("/v1/cancellations/{k}", Route::Cancellation)?;
+    routes.insert("/v1/notices/{k}", Route::Notice)?;
+    routes.insert("/v1/audit", Route::Audit)?;
+    Ok(routes)
+}
+
+/// The route that a path meets in a router.
+fn met_by<'p>(routes: &Router<Route>, path: &'p str) -> Option<Met<'p>>
+    ensures { option_map (λ m. (m.route, m.part.now)) result ≡ met routes.now path.now }
+{
+    match routes.at(path) {
+        Ok(found) => Some(Met {
+            route: *found.value,
+            part: found.value.part(path.as_bytes()),
+        }),
+        Err(_) => None,
+    }
+}
+
+/// Whether a text has a question mark.
+fn has_question_mark(text: &[u8]) -> bool
+    ensures { result ≡ list_any (λ c. c == 63) text.now }
+{
+    text.iter().any(|byte| *byte == b'?')
+}
+
+/// Whether a target is a path: it begins with a slash and has no question mark.
+fn is_path(target: &[u8]) -> bool
+    ensures { result ≡ is_path_stated target.now }
+{
+    match target {
+        [first, rest @ ..] => *first == b'/' && !has_question_mark(rest),
+        [] => false,
+    }
+}
+
+/// The route that a target meets, if it meets one.
+///
+/// # Errors
+///
+/// Where there is no memory for the routes.
+#[tactic(auto, unfolding(crate::specs::Routes::found_by))]
+pub fn find_route<'p>(alloc: Global, target: &'p str) -> Result<Option<Met<'p>>, AllocError>
+    ensures { IfOk result (λ found. option_map (λ m. (m.route, m.part.now)) found ≡ found_by target.now) }
+{
+    if !is_path(target.as_bytes()) {
+        return Ok(None);
+    }
+    match make_routes(alloc) {
+        Ok(routes) => Ok(met_by(&routes, target)),
+        Err(_) => Err(AllocError),
+    }
+}

@@ -1,0 +1,53 @@
+//! The audit of the devices.
+ghost use Rattle.std.specs.Prelude.{◌≡◌, OnOk, OnErr, flat_map};
+ghost use Rattle.std.specs.Io.KnownBytes.{Appends};
+ghost use Rattle.goo_streams.specs.Streams.{AppendsPrefix};
+ghost use Rattle.goo_files.specs.Writes.{Writes};
+ghost use Rattle.goo_files.specs.Texts.{IsAuditText, device_line, audit_denial};
+
+use crate::text_fault::TextFault;
+use crate::writing::write_line;
+use goo_files_documents::audit_line;
+use goo_registry::Registry;
+use goo_shelf::found::DeviceTotals;
+use goo_shelf::shelf::Shelf;
+use goo_streams::WriteFault;
+use goo_types::holder_code::HolderCode;
+use std::alloc::Global;
+use std::io::Write;
+
+/// Writes a line for each device.
+fn write_devices<W: Write>(writer: &mut W, totals: &[DeviceTotals]) -> Result<(), WriteFault>
+    ensures written { OnOk result (Appends (W.contents writer.old) (W.contents writer.new) (flat_map device_line totals.now)) }
+    ensures prefix { OnErr result (AppendsPrefix (W.contents writer.old) (W.contents writer.new) (flat_map device_line totals.now)) }
+{
+    for device in totals {
+        let line = audit_line(&device.device, device.declared, device.issued, device.carry);
+        write_line(writer, &line)?;
+    }
+    Ok(())
+}
+
+/// Writes the audit: each device with its declared net energy in Wh, its issued certificates and its carry in Wh, by device; to the
+/// issuing body alone. Where there is no device, the text is empty.
+///
+/// # Errors
+///
+/// See [`TextFault`]: after `NotAllowed` nothing was written, after the others a beginning of the text.
+pub fn write_audit<S: Shelf, W: Write>(
+    alloc: Global,
+    registry: &mut Registry<S>,
+    caller: &HolderCode,
+    writer: &mut W,
+) -> Result<(), TextFault>
+    ensures { Writes (S.seen registry.old.shelf) (S.seen registry.new.shelf) (W.contents writer.old) (W.contents writer.new) result (audit_denial caller.now) (λ u text. IsAuditText (S.seen registry.old.shelf).state text) }
+{
+    let totals = match registry.audit(alloc, caller) {
+        Ok(totals) => totals,
+        Err(fault) => return Err(TextFault::from(fault)),
+    };
+    match write_devices(writer, &totals) {
+        Ok(()) => Ok(()),
+        Err(_) => Err(TextFault::Write),
+    }
+}

@@ -1,0 +1,79 @@
+//! An account's row, and its certificates run by run.
+
+ghost use Rattle.std.specs.Prelude.{◌≡◌, IfOk, IfSome};
+ghost use Rattle.goo_rows.specs.Rows.{AreRowsOf};
+ghost use Rattle.goo_spec.specs.Sound.{IsSound};
+ghost use Rattle.goo_shelf.specs.Shelf.{Looks, IsReady};
+ghost use Rattle.goo_spec_runs.specs.NextRun.{from_of, BeginsFrom};
+ghost use Rattle.goo_registry.specs.AccountReads.{IsAccountShown, IsHeadingShown, IsNextRunShown};
+
+use crate::access::{absent_denial, account_denial};
+use crate::heading::Heading;
+use goo_answers::denial::Denial;
+use goo_answers::next_run::next_run_naming;
+use goo_shelf::account::Account;
+use goo_shelf::shelf::Shelf;
+use goo_types::account_no::AccountNo;
+use goo_types::fault::Fault;
+use goo_types::holder_code::HolderCode;
+use goo_types::number::Number;
+use goo_types::piece::Piece;
+
+/// An account, or why it isn't shown.
+fn find_account<S: Shelf>(
+    shelf: &mut S,
+    caller: &HolderCode,
+    account: AccountNo,
+) -> Result<Result<Account, Denial>, Fault>
+    ensures { Looks (S.seen shelf.old) (S.seen shelf.new) result (IsAccountShown (S.seen shelf.old).state caller.now account) }
+{
+    let found = shelf.account(account)?;
+    if let Some(denial) = account_denial(caller, &found) {
+        return Ok(Err(denial));
+    }
+    match found {
+        Some(account) => Ok(Ok(account)),
+        None => Ok(Err(absent_denial(caller))),
+    }
+}
+
+/// What stands before an account's certificates, or why it isn't shown.
+pub fn find_heading<S: Shelf>(
+    shelf: &mut S,
+    caller: &HolderCode,
+    account: AccountNo,
+) -> Result<Result<Heading, Denial>, Fault>
+    ensures { Looks (S.seen shelf.old) (S.seen shelf.new) result (IsHeadingShown (S.seen shelf.old).state caller.now account) }
+{
+    let row = match find_account(shelf, caller, account)? {
+        Ok(row) => row,
+        Err(denial) => return Ok(Err(denial)),
+    };
+    let own = shelf.registry()?;
+    Ok(Ok(Heading {
+        code: own.code,
+        today: own.today,
+        account,
+        holder: row.holder(),
+        closed: row.is_closed(),
+    }))
+}
+
+/// The first run of an account's certificates after a number, or why it isn't shown.
+pub fn find_next_run<S: Shelf>(
+    shelf: &mut S,
+    caller: &HolderCode,
+    account: AccountNo,
+    after: Option<Number>,
+) -> Result<Result<Option<Piece>, Denial>, Fault>
+    requires rows { (S.seen shelf.old).doubts ≡ 0 → AreRowsOf (S.seen shelf.old).state.at (S.seen shelf.old).rows }
+    requires sound { (S.seen shelf.old).doubts ≡ 0 → IsSound (S.seen shelf.old).state }
+    ensures looks { Looks (S.seen shelf.old) (S.seen shelf.new) result (IsNextRunShown (S.seen shelf.old).state caller.now account after) }
+    ensures begins { IfOk result (λ shown. IfOk shown (λ found. IfSome found (BeginsFrom (from_of after)))) }
+{
+    if let Err(denial) = find_account(shelf, caller, account)? {
+        return Ok(Err(denial));
+    }
+    let found = next_run_naming(shelf, account, after)?;
+    Ok(Ok(found))
+}
