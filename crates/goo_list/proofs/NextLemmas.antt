@@ -6,7 +6,7 @@ use Rattle.goo_types.specs.declared.piece.Piece.{Piece}
 use Rattle.goo_types.specs.Piece.{IsRising}
 use Rattle.goo_shelf.specs.Rows.{EndsFrom}
 use Rattle.goo_spec_runs.proofs.Next.{first_above, first_some}
-use Rattle.goo_list.proofs.NearLemmas.{rising-filter}
+use Rattle.goo_rows.proofs.Near.{filter-rising}
 use Rattle.goo_spec_runs.specs.NextRun.{ending_from, first_of}
 
 abbrev pub next_from : (Piece → Bool) → ℕ → List Piece → List Piece
@@ -65,7 +65,7 @@ next_none test from xs page whole none is miss = ap (next_from test from) (sym i
 
 pub next_ahead : (test : Piece → Bool) (from : ℕ) (rows : List Piece) (p : Piece) → IsRising rows → Some p ≡ first_of (next_from test from rows) → EndsFrom from p
 next_ahead test from rows p rising hit =
-    let sought : IsRising (filter test rows) = rising-filter test 0 rows rising in
+    let sought : IsRising (filter test rows) = filter-rising test 0 rows rising in
     let split = first_some (next_from test from rows) p hit in
     let of = first_above from 0 (filter test rows) p split.0 sought split.1 in
     (of.ends, of.forward)
