@@ -27,7 +27,7 @@ use std::alloc::{AllocError, Global};
 use std::marker::Model;
 
 /// Which rows a look-up is for.
-#[derive(Clone, Copy)]
+#[derive(Drop)]
 pub enum Sought {
     /// Those whose place names an account.
     Naming(AccountNo),
@@ -36,12 +36,12 @@ pub enum Sought {
 }
 
 /// Whether a look-up is for a row.
-fn is_sought(row: &Piece, sought: Sought) -> bool
-    ensures { result ≡ is_sought sought row.now }
+fn is_sought(row: &Piece, sought: &Sought) -> bool
+    ensures { result ≡ is_sought sought.now row.now }
 {
     match sought {
-        Sought::Naming(account) => row.place.account() == account,
-        Sought::Expiring(day) => is_expiring(row, day),
+        Sought::Naming(account) => row.place.account() == *account,
+        Sought::Expiring(day) => is_expiring(row, *day),
     }
 }
 
@@ -100,8 +100,8 @@ fn add_naming(met: &mut Vec<Piece>, rows: &[Piece], account: AccountNo) -> Resul
 }
 
 /// The first of those rows that a look-up is for and that end at a number or after it.
-fn first_sought(rows: &[Piece], sought: Sought, from: u64) -> Option<Piece>
-    ensures { result ≡ first_of (ending_from from (filter (is_sought sought) rows.now)) }
+fn first_sought(rows: &[Piece], sought: &Sought, from: u64) -> Option<Piece>
+    ensures { result ≡ first_of (ending_from from (filter (is_sought sought.now) rows.now)) }
 {
     for row in rows {
         if is_sought(row, sought) && from <= row.last.get() {
@@ -161,8 +161,8 @@ impl Rows {
     }
 
     /// The first row that a look-up is for and that ends at a number or after it.
-    pub fn next_from(&self, sought: Sought, from: u64) -> Option<Piece>
-        ensures found { result ≡ first_of (ending_from from (filter (is_sought sought) self.now.pieces)) }
+    pub fn next_from(&self, sought: &Sought, from: u64) -> Option<Piece>
+        ensures found { result ≡ first_of (ending_from from (filter (is_sought sought.now) self.now.pieces)) }
         ensures ahead { IfSome result (EndsFrom from) }
     {
         for page in self.pieces.pages() {
