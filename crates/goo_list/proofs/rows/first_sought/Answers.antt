@@ -1,5 +1,5 @@
 use Rattle.std.proofs.Common.{rules, ◌≡◌, nat_le, true}
-use Rattle.goo_list.specs.Seeking.{is_sought}
+use Rattle.goo_shelf.specs.Sought.{is_sought}
 use Rattle.goo_list.proofs.NextLemmas.{first_hit}
 use Rattle.goo_list.proofs.rows.first_sought.Goals as goal
 
