@@ -22,3 +22,4 @@ mod shelf;
 pub mod sql_shelf;
 mod sums;
 mod totals;
+mod wanted;
