@@ -8,7 +8,7 @@ use Rattle.std.proofs.lemmas.List.Folds.{find-append}
 use Rattle.goo_types.specs.declared.piece.Piece.{Piece}
 use Rattle.goo_types.specs.Piece.{IsRisingFrom}
 use Rattle.goo_spec_runs.specs.NextRun.{ending_from, first_of}
-use Rattle.goo_store.specs.Wanted.{reaching_beyond}
+use Rattle.goo_store.specs.NextRows.{reaching_beyond}
 
 module _ (wants : Piece → Bool) (after : ℕ) where
   abbrev begins : Piece → Bool

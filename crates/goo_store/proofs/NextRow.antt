@@ -29,9 +29,10 @@ use Rattle.goo_kept.proofs.Known.{number_is}
 use Rattle.goo_kept.proofs.RowsFound.{next_found as found_in, place_account}
 use Rattle.goo_plans.proofs.RowsRead.{found_row}
 use Rattle.goo_store.specs.Reading.{IsReadablePiece}
-use Rattle.goo_store.specs.Wanted.{wants, begins_beyond, IsDated, reaching_beyond}
-use Rattle.goo_store.specs.declared.wanted.Wanted.{Wanted}
-use Rattle.goo_store.specs.declared.wanted.Wanted.TheVariants.{Naming, Expiring}
+use Rattle.goo_shelf.specs.Sought.{is_sought}
+use Rattle.goo_shelf.specs.declared.sought.Sought.{Sought}
+use Rattle.goo_shelf.specs.declared.sought.Sought.TheVariants.{Naming, Expiring}
+use Rattle.goo_store.specs.NextRows.{begins_beyond, IsDated, reaching_beyond}
 use Rattle.goo_store.proofs.Next.{first_beyond, next_found}
 use Rattle.goo_store.proofs.RowsRead.{pieces_kept}
 
@@ -87,22 +88,22 @@ from_one (x ∷ xs) all rising = (one_up x.0 (All-head IsReadablePiece x xs all)
 
 module _ (t : Tables) (kept : AreKept t) where
   -- the row that the statement finds
-  pub beyond_found : (wanted : Wanted) → IsDated wanted → (after : ℕ) (found : Option (PieceRow × Lot)) (row : Option Piece)
-      → found ≡ find (begins_beyond wanted after) (pieces_beside t) → row ≡ option_map piece_of found → row ≡ find (λ p. wants wanted p && nat_lt after p.first) (rows_of t)
+  pub beyond_found : (sought : Sought) → IsDated sought → (after : ℕ) (found : Option (PieceRow × Lot)) (row : Option Piece)
+      → found ≡ find (begins_beyond sought after) (pieces_beside t) → row ≡ option_map piece_of found → row ≡ find (λ p. is_sought sought p && nat_lt after p.first) (rows_of t)
   unfolding rows_of
   beyond_found (Naming account) dated after found row is read =
-      found_in (begins_beyond (Naming account) after) (λ p. wants (Naming account) p && nat_lt after p.first)
+      found_in (begins_beyond (Naming account) after) (λ p. is_sought (Naming account) p && nat_lt after p.first)
       (λ a. λ i. (number_is a.0.account account ∙ sym (ap (λ n. n == account) (place_account a.0.kind a.0.account a.0.act))) i && nat_lt after a.0.first)
       (pieces_beside t) found row is read
   beyond_found (Expiring day) dated after found row is read = expiring_found t kept day dated after found row is read
 
   -- it can be read, and ends above the number
-  pub beyond_read : (db : Database) → Stands db t → (wanted : Wanted) → IsDated wanted → (after : ℕ) (row : Option JoinedRow) → option_map joined_in row ≡ find (begins_beyond wanted after) (pieces_beside t)
+  pub beyond_read : (db : Database) → Stands db t → (sought : Sought) → IsDated sought → (after : ℕ) (row : Option JoinedRow) → option_map joined_in row ≡ find (begins_beyond sought after) (pieces_beside t)
       → IfSome row (λ r. IsReadablePiece (joined_in r)) × IfSome (option_map piece_of (option_map joined_in row)) (EndsFrom (after + 1))
   unfolding rows_of
   beyond_read db stands wanted dated after row is = (
-    found_row joined_in IsReadablePiece (begins_beyond wanted after) (pieces_beside t) (pieces_kept db t stands kept) row is,
-    subst (λ o. IfSome o (EndsFrom (after + 1))) (sym (beyond_found wanted dated after (option_map joined_in row) (option_map piece_of (option_map joined_in row)) is refl)) (found_ends (wants wanted) after 0 (rows_of t) kept.rising),
+    found_row joined_in IsReadablePiece (begins_beyond sought after) (pieces_beside t) (pieces_kept db t stands kept) row is,
+    subst (λ o. IfSome o (EndsFrom (after + 1))) (sym (beyond_found wanted dated after (option_map joined_in row) (option_map piece_of (option_map joined_in row)) is refl)) (found_ends (is_sought sought) after 0 (rows_of t) kept.rising),
   )
 
   -- without a number, all rows are above none

@@ -5,4 +5,4 @@ pub mod Near
 pub mod Creating
 pub mod Preparing
 pub mod Gathering
-pub mod Wanted
+pub mod NextRows

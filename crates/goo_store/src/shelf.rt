@@ -1,7 +1,6 @@
 //! The shelf over tables as a shelf.
 
 use crate::sql_shelf::SqlShelf;
-use crate::wanted::Wanted;
 use goo_shelf::account::Account;
 use goo_shelf::cancel_record::CancelRecord;
 use goo_shelf::counters::Counters;
@@ -11,6 +10,7 @@ use goo_shelf::own::Meta;
 use goo_shelf::plan::Plan;
 use goo_shelf::sent::Sent;
 use goo_shelf::shelf::Shelf;
+use goo_shelf::sought::Sought;
 use goo_types::account_no::AccountNo;
 use goo_types::act_no::ActNo;
 use goo_types::command::Command;
@@ -194,7 +194,7 @@ impl<S: Alter> Shelf for SqlShelf<S> {
         ensures store { BlamesStore (view S.Store self.old.conn) (view S.Store self.new.conn) self.old.refused result }
         ensures ahead { IfOk result (λ found. IfSome found (EndsFrom (from_of after))) }
     {
-        self.next_row(Wanted::Naming(account), after)
+        self.next_row(Sought::Naming(account), after)
     }
 
     fn next_expiring(
@@ -206,7 +206,7 @@ impl<S: Alter> Shelf for SqlShelf<S> {
         ensures store { BlamesStore (view S.Store self.old.conn) (view S.Store self.new.conn) self.old.refused result }
         ensures ahead { IfOk result (λ found. IfSome found (EndsFrom (from_of after))) }
     {
-        self.next_row(Wanted::Expiring(day), after)
+        self.next_row(Sought::Expiring(day), after)
     }
 
     fn totals(&mut self, alloc: Global) -> Result<Vec<DeviceTotals>, Fault>
