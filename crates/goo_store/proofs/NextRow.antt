@@ -101,9 +101,9 @@ module _ (t : Tables) (kept : AreKept t) where
   pub beyond_read : (db : Database) → Stands db t → (sought : Sought) → IsDated sought → (after : ℕ) (row : Option JoinedRow) → option_map joined_in row ≡ find (begins_beyond sought after) (pieces_beside t)
       → IfSome row (λ r. IsReadablePiece (joined_in r)) × IfSome (option_map piece_of (option_map joined_in row)) (EndsFrom (after + 1))
   unfolding rows_of
-  beyond_read db stands wanted dated after row is = (
+  beyond_read db stands sought dated after row is = (
     found_row joined_in IsReadablePiece (begins_beyond sought after) (pieces_beside t) (pieces_kept db t stands kept) row is,
-    subst (λ o. IfSome o (EndsFrom (after + 1))) (sym (beyond_found wanted dated after (option_map joined_in row) (option_map piece_of (option_map joined_in row)) is refl)) (found_ends (is_sought sought) after 0 (rows_of t) kept.rising),
+    subst (λ o. IfSome o (EndsFrom (after + 1))) (sym (beyond_found sought dated after (option_map joined_in row) (option_map piece_of (option_map joined_in row)) is refl)) (found_ends (is_sought sought) after 0 (rows_of t) kept.rising),
   )
 
   -- without a number, all rows are above none
