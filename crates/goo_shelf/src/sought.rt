@@ -33,11 +33,11 @@ fn is_expiring(row: &Piece, day: Day) -> bool
 }
 
 /// Whether a look-up is for a row.
-pub fn is_sought(row: &Piece, sought: Sought) -> bool
-    ensures { result ≡ is_sought sought row.now }
+pub fn is_sought(row: &Piece, sought: &Sought) -> bool
+    ensures { result ≡ is_sought sought.now row.now }
 {
     match sought {
-        Sought::Naming(account) => row.place.account() == account,
-        Sought::Expiring(day) => is_expiring(row, day),
+        Sought::Naming(account) => row.place.account() == *account,
+        Sought::Expiring(day) => is_expiring(row, *day),
     }
 }

@@ -21,8 +21,8 @@ use sqlite::{Alter, Connection, Error};
 use std::alloc::Global;
 
 /// The row before, where it is looked for and ends above a number.
-pub fn reaching_row(before: Option<Piece>, sought: Sought, after: u64) -> Option<Piece>
-    ensures value { IfSome before IsForward → result ≡ reaching_beyond (is_sought sought) after before }
+pub fn reaching_row(before: Option<Piece>, sought: &Sought, after: u64) -> Option<Piece>
+    ensures value { IfSome before IsForward → result ≡ reaching_beyond (is_sought sought.now) after before }
     ensures ahead { IfSome result (EndsFrom (after + 1)) }
 {
     let row = before?;
@@ -37,19 +37,19 @@ pub fn reaching_row(before: Option<Piece>, sought: Sought, after: u64) -> Option
 pub fn ask_next<S: Alter>(
     alloc: Global,
     conn: &mut Connection<S>,
-    sought: Sought,
+    sought: &Sought,
     after: u64,
 ) -> Result<Option<JoinedRow>, Error>
     requires { after < 2 ^ 63 }
-    ensures looks { Looks (view S.Store conn.old) (view S.Store conn.new) result (λ t found. option_map joined_in found ≡ find (begins_beyond sought after) (pieces_beside t)) }
+    ensures looks { Looks (view S.Store conn.old) (view S.Store conn.new) result (λ t found. option_map joined_in found ≡ find (begins_beyond sought.now after) (pieces_beside t)) }
     ensures readable { FailsOnlyByFault (view S.Store conn.old) (view S.Store conn.new) result (λ t. All joined_readable (map joined_columns (pieces_beside t))) }
     ensures outside { conn.old.in_transaction ≡ false → conn.new.in_transaction ≡ false }
-    ensures dated { IsDated sought }
+    ensures dated { IsDated sought.now }
 {
     match sought {
         Sought::Naming(account) => next_of_account(alloc, conn, account.get(), after),
         Sought::Expiring(day) => {
-            let text = day_text(day);
+            let text = day_text(*day);
             next_expiring(alloc, conn, text.as_str(), after)
         }
     }

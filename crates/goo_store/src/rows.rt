@@ -104,9 +104,9 @@ impl<S: Alter> SqlShelf<S> {
     }
 
     /// The first row that is looked for and begins above a number.
-    fn first_beyond(&mut self, sought: Sought, after: u64) -> Result<Option<Piece>, Fault>
+    fn first_beyond(&mut self, sought: &Sought, after: u64) -> Result<Option<Piece>, Fault>
         requires { after < 2 ^ 63 }
-        ensures looks { Looks (moment (view S.Store self.old.conn) self.old.refused) (moment (view S.Store self.new.conn) self.new.refused) result (λ row. row ≡ find (λ p. is_sought sought p && nat_lt after p.first) (moment (view S.Store self.old.conn) self.old.refused).rows) }
+        ensures looks { Looks (moment (view S.Store self.old.conn) self.old.refused) (moment (view S.Store self.new.conn) self.new.refused) result (λ row. row ≡ find (λ p. is_sought sought.now p && nat_lt after p.first) (moment (view S.Store self.old.conn) self.old.refused).rows) }
         ensures store { BlamesStore (view S.Store self.old.conn) (view S.Store self.new.conn) self.old.refused result }
         ensures ahead { IfOk result (λ row. IfSome row (EndsFrom (after + 1))) }
     {
@@ -124,10 +124,10 @@ impl<S: Alter> SqlShelf<S> {
     /// that each show one row, whatever lies between.
     pub(crate) fn next_row(
         &mut self,
-        sought: Sought,
+        sought: &Sought,
         after: Option<Number>,
     ) -> Result<Option<Piece>, Fault>
-        ensures looks { Looks (moment (view S.Store self.old.conn) self.old.refused) (moment (view S.Store self.new.conn) self.new.refused) result (λ row. row ≡ first_of (ending_from (from_of after) (filter (is_sought sought) (moment (view S.Store self.old.conn) self.old.refused).rows))) }
+        ensures looks { Looks (moment (view S.Store self.old.conn) self.old.refused) (moment (view S.Store self.new.conn) self.new.refused) result (λ row. row ≡ first_of (ending_from (from_of after) (filter (is_sought sought.now) (moment (view S.Store self.old.conn) self.old.refused).rows))) }
         ensures store { BlamesStore (view S.Store self.old.conn) (view S.Store self.new.conn) self.old.refused result }
         ensures ahead { IfOk result (λ row. IfSome row (EndsFrom (from_of after))) }
     {

@@ -194,7 +194,7 @@ impl<S: Alter> Shelf for SqlShelf<S> {
         ensures store { BlamesStore (view S.Store self.old.conn) (view S.Store self.new.conn) self.old.refused result }
         ensures ahead { IfOk result (λ found. IfSome found (EndsFrom (from_of after))) }
     {
-        self.next_row(Sought::Naming(account), after)
+        self.next_row(&Sought::Naming(account), after)
     }
 
     fn next_expiring(
@@ -206,7 +206,7 @@ impl<S: Alter> Shelf for SqlShelf<S> {
         ensures store { BlamesStore (view S.Store self.old.conn) (view S.Store self.new.conn) self.old.refused result }
         ensures ahead { IfOk result (λ found. IfSome found (EndsFrom (from_of after))) }
     {
-        self.next_row(Sought::Expiring(day), after)
+        self.next_row(&Sought::Expiring(day), after)
     }
 
     fn totals(&mut self, alloc: Global) -> Result<Vec<DeviceTotals>, Fault>

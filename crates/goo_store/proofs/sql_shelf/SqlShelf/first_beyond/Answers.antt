@@ -28,7 +28,7 @@ unfolding rows_of
 returns-clause-looks g c =
     looked (view g.S.Store c.args.self.now.conn) (view g.S.Store c.ask_next-found.new.conn) c.args.self.now.well _ _ c.ask_next-found.ensures.looks _ _ c.read_beyond-row.result
     c.args.self.now.refused c.told.new.refused c.told.result (λ live db may. g.met.S.Store.settled c.args.self.now.conn.store db live may) c.if-self.false c.read_beyond-row.ensures.value c.told.ensures
-    (λ kept row piece found read. beyond_found (tables_in (view g.S.Store c.args.self.now.conn)) kept c.args.sought c.ask_next-found.ensures.dated c.args.after _ piece found read)
+    (λ kept row piece found read. beyond_found (tables_in (view g.S.Store c.args.self.now.conn)) kept c.args.sought.now c.ask_next-found.ensures.dated c.args.after _ piece found read)
 
 pub returns-then-self-clause-store : goal.returns-then-self-clause-store
 returns-then-self-clause-store g c = refused_blames (view g.S.Store c.args.self.now.conn) c.args.self.now.refused _ c.if-self.true
@@ -37,4 +37,4 @@ pub returns-clause-store : goal.returns-clause-store
 returns-clause-store g c =
     blames (view g.S.Store c.args.self.now.conn) (view g.S.Store c.ask_next-found.new.conn) c.args.self.now.well _ _ c.ask_next-found.ensures.looks _ _ c.read_beyond-row.result c.args.self.now.refused c.told.new.refused c.told.result
     c.ask_next-found.ensures.readable c.read_beyond-row.ensures.accepts c.told.ensures (pieces_read (tables_in (view g.S.Store c.args.self.now.conn)))
-    (λ stands kept row found. beyond_read (tables_in (view g.S.Store c.args.self.now.conn)) kept (view g.S.Store c.args.self.now.conn).now stands c.args.sought c.ask_next-found.ensures.dated c.args.after row found)
+    (λ stands kept row found. beyond_read (tables_in (view g.S.Store c.args.self.now.conn)) kept (view g.S.Store c.args.self.now.conn).now stands c.args.sought.now c.ask_next-found.ensures.dated c.args.after row found)
