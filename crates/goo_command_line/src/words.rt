@@ -23,19 +23,18 @@ fn with_help<'a>(command: Command<'a>, about: &'a str, example: &'a str) -> Comm
     command.about(about).after_help(example)
 }
 
-/// The command with an option more that takes one value, which help calls `value`.
+/// The command with an option more that takes one value.
 fn with_option<'a>(
     alloc: Global,
     command: Command<'a>,
     name: &'a str,
-    value: &'a str,
     about: &'a str,
 ) -> Result<Command<'a>, AllocError>
     ensures app { IfOk result (λ r. app_of r ≡ with_rule (app_of command.entry) (option_rule name.now)) }
     ensures local { IfOk result (λ r. (fields_of r).has_globals ≡ (fields_of command.entry).has_globals) }
 {
     let option = Arg::new(alloc, name).long(name).action(ArgAction::Set);
-    command.arg(option.value_name(value).help(about))
+    command.arg(option.help(about))
 }
 
 /// The command with a flag more, which takes no value.
@@ -52,19 +51,18 @@ fn with_flag<'a>(
     command.arg(flag.help(about))
 }
 
-/// The command with a word more that stands by itself, which help calls `value`.
+/// The command with a word more that stands by itself.
 fn with_word<'a>(
     alloc: Global,
     command: Command<'a>,
     name: &'a str,
-    value: &'a str,
     about: &'a str,
 ) -> Result<Command<'a>, AllocError>
     ensures app { IfOk result (λ r. app_of r ≡ with_rule (app_of command.entry) (word_rule name.now)) }
     ensures local { IfOk result (λ r. (fields_of r).has_globals ≡ (fields_of command.entry).has_globals) }
 {
     let word = Arg::new(alloc, name).action(ArgAction::Set);
-    command.arg(word.value_name(value).help(about))
+    command.arg(word.help(about))
 }
 
 /// The command with the option that names the file.
@@ -72,7 +70,7 @@ fn with_file<'a>(alloc: Global, command: Command<'a>) -> Result<Command<'a>, All
     ensures app { IfOk result (λ r. app_of r ≡ with_rule (app_of command.entry) (option_rule (codes "db"))) }
     ensures local { IfOk result (λ r. (fields_of r).has_globals ≡ (fields_of command.entry).has_globals) }
 {
-    with_option(alloc, command, "db", "FILE", help::FILE)
+    with_option(alloc, command, "db", help::FILE)
 }
 
 /// The command with the options that a new registry begins with.
@@ -80,9 +78,9 @@ fn with_opening<'a>(alloc: Global, command: Command<'a>) -> Result<Command<'a>, 
     ensures app { IfOk result (λ r. app_of r ≡ with_opening (app_of command.entry)) }
     ensures local { IfOk result (λ r. (fields_of r).has_globals ≡ (fields_of command.entry).has_globals) }
 {
-    let command = with_option(alloc, command, "code", "C", help::CODE)?;
-    let command = with_option(alloc, command, "today", "D", help::TODAY)?;
-    with_option(alloc, command, "next-serial", "N", help::NEXT_SERIAL)
+    let command = with_option(alloc, command, "code", help::CODE)?;
+    let command = with_option(alloc, command, "today", help::TODAY)?;
+    Ok(with_option(alloc, command, "next-serial", help::NEXT_SERIAL)?)
 }
 
 /// The command with the options that say where the records are.
@@ -92,7 +90,7 @@ fn with_place<'a>(alloc: Global, command: Command<'a>) -> Result<Command<'a>, Al
 {
     let command = with_file(alloc, command)?;
     let command = with_flag(alloc, command, "memory", help::MEMORY)?;
-    with_opening(alloc, command)
+    Ok(with_opening(alloc, command)?)
 }
 
 /// The command `init` with its options.
@@ -135,7 +133,7 @@ fn statement_command<'a>(alloc: Global) -> Result<Command<'a>, AllocError>
 {
     let command = Command::new(alloc, "statement");
     let command = with_help(command, help::STATEMENT, help::STATEMENT_EXAMPLE);
-    let command = with_word(alloc, command, "account", "A", help::ACCOUNT)?;
+    let command = with_word(alloc, command, "account", help::ACCOUNT)?;
     Ok(with_file(alloc, command)?)
 }
 
@@ -156,8 +154,8 @@ fn serve_command<'a>(alloc: Global) -> Result<Command<'a>, AllocError>
     ensures local { IfOk result (λ command. (fields_of command).has_globals ≡ false) }
 {
     let command = with_help(Command::new(alloc, "serve"), help::SERVE, help::SERVE_EXAMPLE);
-    let command = with_option(alloc, command, "port", "P", help::PORT)?;
-    let command = with_option(alloc, command, "count", "N", help::COUNT)?;
+    let command = with_option(alloc, command, "port", help::PORT)?;
+    let command = with_option(alloc, command, "count", help::COUNT)?;
     Ok(with_place(alloc, command)?)
 }
 
@@ -167,7 +165,7 @@ fn with_makers<'a>(alloc: Global, program: Command<'a>) -> Result<Command<'a>, A
 {
     let program = program.subcommand(init_command(alloc)?)?;
     let program = program.subcommand(run_command(alloc)?)?;
-    program.subcommand(declare_command(alloc)?)
+    Ok(program.subcommand(declare_command(alloc)?)?)
 }
 
 /// The program with the commands that show a registry.
@@ -176,7 +174,7 @@ fn with_viewers<'a>(alloc: Global, program: Command<'a>) -> Result<Command<'a>, 
 {
     let program = program.subcommand(statement_command(alloc)?)?;
     let program = program.subcommand(audit_command(alloc)?)?;
-    program.subcommand(serve_command(alloc)?)
+    Ok(program.subcommand(serve_command(alloc)?)?)
 }
 
 /// The program with its commands.

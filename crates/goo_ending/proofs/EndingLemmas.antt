@@ -7,10 +7,10 @@ use Rattle.goo_lines.specs.declared.lines_fault.LinesFault.{LinesFault}
 use Rattle.goo_lines.specs.declared.lines_fault.LinesFault.TheVariants as fault
 use Rattle.goo_lines.specs.declared.tally.Tally.{Tally}
 use Rattle.goo_lines.specs.Fold.{lines}
-use Rattle.goo_lines.specs.Stops.{IsAfterReading}
+use Rattle.goo_lines.specs.Stops.{IsAfterReading, IsToldIn}
 use Rattle.goo_spec.specs.State.{State}
 use Rattle.goo_ending.specs.declared.ending.Ending.TheVariants as ending
-use Rattle.goo_ending.specs.Endings.{status_of, ending_of, ending_of_bad, IsOfLines, IsAfterInput}
+use Rattle.goo_ending.specs.Endings.{status_of, ending_of, ending_of_bad, IsOfLines, IsAfterInput, IsToldOf}
 
 -- where the count was some, so is the count of the lines
 some-bad : (n : ℕ) (read : Option (List ℕ)) (bad : List ℕ → ℕ) → IfSome read (λ input. n ≡ bad input) → status_of (ending_of_bad n) ≡ 1 → IfSome read (λ input. bad input ≢ 0)
@@ -53,7 +53,7 @@ pub all_done_from : (answered : Result Tally LinesFault) (flushed : Bool) (read 
 all_done_from answered flushed read seen counted status = all_done answered flushed read (λ input. (lines seen input).bad) counted status
 
 -- what was appended stands behind what was there, after a flush too
-kept : (had between has : Option (List ℕ)) (text : List ℕ) → Appends had between text → Keeps between has → Appends had has text
+pub kept : (had between has : Option (List ℕ)) (text : List ℕ) → Appends had between text → Keeps between has → Appends had has text
 kept None between has text appended same = tt
 kept (Some xs) None has text appended same = absurd appended
 kept (Some xs) (Some ys) None text appended same = absurd same
@@ -106,3 +106,15 @@ after_input (Err fault.Store) flushed AtEnd end read told = read tt
 after_input (Err fault.Write) flushed AtEnd end read told = read tt
 after_input (Err fault.Memory) flushed AtEnd end read told = absurd told
 after_input (Err fault.Read) flushed AtEnd end read told = absurd told
+
+counts_told : (b : Bool) (refusals : ℕ) → refusals ≡ 0 → IsToldOf (if b then ending.Done else ending.PartlyDone) refusals
+counts_told true refusals none = none
+counts_told false refusals none = none
+
+pub told_from : (answered : Result Tally LinesFault) (flushed : Bool) (refusals : ℕ) → IsToldIn answered refusals → IsToldOf (ending_of answered flushed) refusals
+told_from (Ok tally) true refusals told = counts_told (tally.bad == 0) refusals told
+told_from (Ok tally) false refusals told = told
+told_from (Err fault.Store) flushed refusals told = told
+told_from (Err fault.Memory) flushed refusals told = told
+told_from (Err fault.Read) flushed refusals told = told
+told_from (Err fault.Write) flushed refusals told = told

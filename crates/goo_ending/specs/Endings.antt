@@ -123,3 +123,18 @@ IsAfterInput (ending.Failed failure.Read) = ⊥
 IsAfterInput (ending.Failed failure.NotARegistry) = ⊥
 IsAfterInput (ending.Failed (failure.Version version)) = ⊥
 IsAfterInput (ending.Failed failure.Damaged) = ⊥
+
+-- a fault of the records is told just where what keeps them refused a call
+abbrev pub IsToldOf : Ending → ℕ → Type 0
+IsToldOf (ending.Failed failure.Store) refusals = refusals ≡ 1
+IsToldOf (ending.Failed failure.Memory) refusals = refusals ≡ 0
+IsToldOf (ending.Failed failure.Read) refusals = refusals ≡ 0
+IsToldOf (ending.Failed failure.Write) refusals = refusals ≡ 0
+IsToldOf (ending.Failed failure.NotARegistry) refusals = refusals ≡ 0
+IsToldOf (ending.Failed (failure.Version version)) refusals = refusals ≡ 0
+IsToldOf (ending.Failed failure.Damaged) refusals = refusals ≡ 0
+IsToldOf ending.Done refusals = refusals ≡ 0
+IsToldOf ending.PartlyDone refusals = refusals ≡ 0
+IsToldOf (ending.Denied denial) refusals = refusals ≡ 0
+IsToldOf (ending.Words error) refusals = refusals ≡ 0
+IsToldOf (ending.Misused reason) refusals = refusals ≡ 0

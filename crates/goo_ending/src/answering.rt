@@ -3,7 +3,7 @@ ghost use Rattle.std.specs.Prelude.{◌≡◌, ◌≢◌, ◌<◌, [], IfSome};
 ghost use Rattle.std.specs.Io.KnownBytes.{Appends, IsAtEnd};
 ghost use Rattle.std.specs.Io.Buffered.{writer_buffer, writer_contents};
 ghost use Rattle.goo_lines.specs.Fold.{lines};
-ghost use Rattle.goo_ending.specs.Endings.{status_of, IsOfLines, IsAfterInput};
+ghost use Rattle.goo_ending.specs.Endings.{status_of, IsOfLines, IsAfterInput, IsToldOf};
 
 use crate::ending::Ending;
 use goo_lines::run_lines;
@@ -19,6 +19,7 @@ use std::io::{BufWriter, Read, Write};
 ///   is left in its buffer.
 /// - `words`, `read`: it ends as a run of lines does, and a fault of the output or of the records is told only once the
 ///   whole input was read.
+/// - `told`: a fault of the records is told just where what keeps them refused a call.
 /// - `kept`: with status 0 and 1 the desk knows what the lines come to.
 /// - `lied`: what lies below the desk returned what was written before, where it did so to the end.
 pub fn answer_input<D: Desk, R: Read, W: Write + Drop>(
@@ -34,6 +35,7 @@ pub fn answer_input<D: Desk, R: Read, W: Write + Drop>(
     ensures flushed { status_of result < 2 → writer_buffer writer.new ≡ [] }
     ensures words { IsOfLines result }
     ensures read { IsAfterInput result → IsAtEnd (R.remaining reader.new) }
+    ensures told { (D.seen desk.old).refusals ≡ 0 → IsToldOf result (D.seen desk.new).refusals }
     ensures lied { (D.seen desk.new).lies ≡ 0 → (D.seen desk.old).lies ≡ 0 }
 {
     let answered = run_lines(alloc, desk, reader, writer);

@@ -1,11 +1,11 @@
 //! The command `init`.
-ghost use Rattle.std.specs.Prelude.{◌≡◌, ◌⊎◌, IsTrue};
+ghost use Rattle.std.specs.Prelude.{◌≡◌, ◌⊎◌, IsTrue, IfOk, IfErr};
 ghost use Rattle.std.specs.Io.Buffered.{writer_contents};
 ghost use Rattle.std.specs.Io.KnownBytes.{Keeps};
 ghost use Rattle.goo_spec.specs.Created.{created};
 ghost use Rattle.goo_ending.specs.Endings.{status_of};
 ghost use Rattle.goo_running.specs.Openings.{ending_of_opening};
-ghost use Rattle.goo_running.specs.Closings.{IsClean, IsMade};
+ghost use Rattle.goo_running.specs.Closings.{HoldState, IfWhole, IsMade};
 
 use crate::closing::{Left, close_registry};
 use crate::opening::{begin, failure_of, open_database};
@@ -42,6 +42,8 @@ fn create_registry<D: Disk + Drop>(
 ) -> Result<Left<D>, (Ending, Left<D>)>
     requires log { IsTrue (D.Disk.is_usable files.log) }
     requires db { IsTrue (D.Disk.is_usable files.db) }
+    ensures made { IfOk result (λ left. IfWhole left (λ files. HoldState files (created opening.code opening.today opening.next_serial))) }
+    ensures words { IfErr result (λ e. (fault : OpenFault) × (e.0 ≡ ending_of_opening fault)) }
 {
     let conn = match open_database(alloc, files, seed) {
         Ok(conn) => conn,
@@ -70,6 +72,12 @@ fn say_ready<W: Write + Drop>(writer: &mut BufWriter<W>, code: RegistryCode) -> 
 }
 
 /// Makes a new registry in files that hold none, closes it, and says that it is ready.
+///
+/// - `made`: status 0 only where the database file alone holds a new registry with this code, this date and this next serial.
+/// - `unready`: nothing is written before that.
+/// - `there`: status 1 only where a registry is there already.
+///
+/// After any other status the files hold what they held before, or what a crash could leave of making it.
 pub fn init_in_files<D: Disk + Drop, W: Write + Drop>(
     alloc: Global,
     files: Files<D>,
@@ -79,6 +87,9 @@ pub fn init_in_files<D: Disk + Drop, W: Write + Drop>(
 ) -> (Ending, Left<D>)
     requires log { IsTrue (D.Disk.is_usable files.log) }
     requires db { IsTrue (D.Disk.is_usable files.db) }
+    ensures made { status_of result.0 ≡ 0 → IsMade result.1 (created opening.code opening.today opening.next_serial) }
+    ensures unready { IsMade result.1 (created opening.code opening.today opening.next_serial) ⊎ Keeps (writer_contents W.contents writer.old) (writer_contents W.contents writer.new) }
+    ensures there { status_of result.0 ≡ 1 → result.0 ≡ Ending.Denied Denial.AlreadyThere }
 {
     match create_registry(alloc, files, seed, opening) {
         Ok(left) if !left.is_whole() => (Ending::Failed(Failure::Store), left),

@@ -10,3 +10,4 @@ pub mod creating;
 pub mod opening;
 pub mod running;
 pub mod start;
+pub mod texts;

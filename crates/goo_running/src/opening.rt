@@ -1,5 +1,5 @@
 //! A registry opened, over a database or over files.
-ghost use Rattle.std.specs.Prelude.{◌≡◌, false, IsTrue, IfOk, IfErr};
+ghost use Rattle.std.specs.Prelude.{◌≡◌, false, IsTrue, IfOk, IfErr, Err};
 ghost use Rattle.sqlite.specs.Files.{file_state, image_of, Finds, HoldsDatabase, IsCleanLeft, IsOpened, LeavesFiles};
 ghost use Rattle.sqlite.specs.Held.{IsNew, state as view};
 ghost use Rattle.sqlite.specs.State.{HasCleanDisk};
@@ -8,6 +8,7 @@ ghost use Rattle.goo_columns.specs.Met.{IsInKeyOrder};
 ghost use Rattle.goo_columns.specs.Rows.{tables_of};
 ghost use Rattle.goo_kept.specs.States.{state_of};
 ghost use Rattle.goo_lookups.specs.Moments.{moment};
+ghost use Rattle.goo_opening.specs.Foreign.{LacksMeta};
 ghost use Rattle.goo_rows.specs.Rows.{AreRowsOf};
 ghost use Rattle.goo_shelf.specs.Shelf.{IsReady};
 ghost use Rattle.goo_spec.specs.Sound.{IsSound};
@@ -79,6 +80,7 @@ pub fn begin<S: Alter>(
     ensures sound { IfOk result (λ shelf. (moment (view S.Store shelf.conn) shelf.refused).doubts ≡ 0 → IsSound (moment (view S.Store shelf.conn) shelf.refused).state) }
     ensures rows_fit { IfOk result (λ shelf. (moment (view S.Store shelf.conn) shelf.refused).doubts ≡ 0 → AreRowsOf (moment (view S.Store shelf.conn) shelf.refused).state.at (moment (view S.Store shelf.conn) shelf.refused).rows) }
     ensures ready { IfOk result (λ shelf. IsReady (moment (view S.Store shelf.conn) shelf.refused)) }
+    ensures lacking { start ≡ Start.Kept → LacksMeta (view S.Store conn).now.schema → result ≡ Err (conn, OpenFault.NotARegistry) }
     ensures outside { IfErr result (λ e. e.0.in_transaction ≡ false) }
 {
     match start {

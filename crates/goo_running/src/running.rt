@@ -13,7 +13,8 @@ ghost use Rattle.goo_kept.specs.States.{state_of};
 ghost use Rattle.goo_lookups.specs.Moments.{IsWell};
 ghost use Rattle.goo_spec.specs.Created.{created};
 ghost use Rattle.goo_lines.specs.Fold.{lines};
-ghost use Rattle.goo_ending.specs.Endings.{status_of};
+ghost use Rattle.goo_ending.specs.Endings.{status_of, IsToldOf};
+ghost use Rattle.goo_opening.specs.Foreign.{LacksMeta};
 ghost use Rattle.goo_running.specs.Openings.{begun, IsRun};
 ghost use Rattle.goo_running.specs.Closings.{IfWhole, IsClean, HoldState};
 
@@ -47,6 +48,7 @@ pub fn answer_by<S: Shelf, R: Read, W: Write + Drop>(
     ensures kept { (S.seen result.1).lies ≡ 0 → status_of result.0 < 2 → IfSome (R.remaining reader.old) (λ input. (S.seen result.1).state ≡ (lines (S.seen registry.shelf).state input).state) }
     ensures flushed { status_of result.0 < 2 → writer_buffer writer.new ≡ [] }
     ensures no_words { status_of result.0 ≢ 2 }
+    ensures told { (S.seen registry.shelf).refusals ≡ 0 → IsToldOf result.0 (S.seen result.1).refusals }
     ensures lied { (S.seen result.1).lies ≡ 0 → (S.seen registry.shelf).lies ≡ 0 }
 {
     let mut registry = registry;
@@ -69,6 +71,7 @@ pub fn answer_by_tables<S: Alter, R: Read, W: Write + Drop>(
     ensures written { doubt (view S.Store result.1).is_clean ≡ 0 → status_of result.0 < 2 → IfSome (R.remaining reader.old) (λ input. Appends (writer_contents W.contents writer.old) (writer_contents W.contents writer.new) (lines (begun start (view S.Store conn)) input).text) }
     ensures flushed { status_of result.0 < 2 → writer_buffer writer.new ≡ [] }
     ensures no_words { status_of result.0 ≢ 2 }
+    ensures lacking { start ≡ Start.Kept → LacksMeta (view S.Store conn).now.schema → result ≡ (Ending.Failed Failure.NotARegistry, conn) }
     ensures run { IsRun result.0 → IsWell (view S.Store result.1) }
 {
     match begin(alloc, conn, start) {

@@ -1,4 +1,4 @@
-use Rattle.goo_ending.proofs.EndingLemmas.{all_done_from, not_all_done_from, written_from, kept_from, flushed_from, of_lines, after_input}
+use Rattle.goo_ending.proofs.EndingLemmas.{all_done_from, not_all_done_from, written_from, kept_from, flushed_from, of_lines, after_input, told_from}
 use Rattle.goo_ending.proofs.answering.answer_input.Goals as goal
 
 pub returns-clause-all_done : goal.returns-clause-all_done
@@ -21,3 +21,6 @@ returns-clause-words g c = rw c.of_run.ensures (of_lines c.run_lines-answered.re
 
 pub returns-clause-read : goal.returns-clause-read
 returns-clause-read g c = rw c.of_run.ensures (after_input c.run_lines-answered.result c.is_ok-flushed.result _ c.run_lines-answered.ensures.end c.run_lines-answered.ensures.read)
+
+pub returns-clause-told : goal.returns-clause-told
+returns-clause-told g c fresh = rw c.of_run.ensures (told_from c.run_lines-answered.result c.is_ok-flushed.result _ (c.run_lines-answered.ensures.told fresh))
