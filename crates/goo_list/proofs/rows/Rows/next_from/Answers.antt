@@ -3,7 +3,7 @@ use Rattle.goo_pages.specs.Paging.{joined}
 use Rattle.goo_spec_runs.specs.NextRun.{first_of}
 use Rattle.goo_ranges.proofs.JoinedPages.{joined-next, joined-append}
 use Rattle.goo_list.specs.Rows.{KeptRows}
-use Rattle.goo_list.specs.Seeking.{is_sought}
+use Rattle.goo_shelf.specs.Sought.{is_sought}
 use Rattle.goo_list.proofs.NextLemmas.{next_from, next_more, next_none, next_ahead}
 use Rattle.goo_list.proofs.rows.Rows.next_from.Goals as goal
 
