@@ -4,11 +4,11 @@ ghost use Rattle.goo_body.specs.Body.{body_of};
 ghost use Rattle.goo_lines.specs.Lines.{body_reading};
 ghost use Rattle.goo_lines.specs.Reading.{Reads};
 ghost use Rattle.goo_shelf.specs.Shelf.{IsTold};
-ghost use Rattle.goo_desk.specs.Responds.{Does, applied, state_applied, status_of_refusal, status_of_outcome, status_of_answer};
+ghost use Rattle.goo_desk_answers.specs.Responds.{Does, applied, state_applied, status_of_refusal, status_of_outcome, status_of_answer};
 ghost use Rattle.goo_desk_routes.specs.declared.task.Task.TheVariants.{Apply};
 
 use crate::answered::Answer;
-use crate::counter::Counter;
+use goo_desk_counter::Counter;
 use arrayvec::ArrayString;
 use goo_body::read_command;
 use goo_lines::{Answer as Given, Unread};

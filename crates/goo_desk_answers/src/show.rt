@@ -1,12 +1,12 @@
 //! What is shown.
 ghost use Rattle.std.specs.Prelude.{◌≡◌, IfOk, OnErr};
-ghost use Rattle.goo_desk.specs.Counters.{text_shown};
+ghost use Rattle.goo_desk_counter.specs.Counters.{text_shown};
 ghost use Rattle.goo_shelf.specs.Shelf.{IsTold};
-ghost use Rattle.goo_desk.specs.Responds.{Does, IsGiven, content_of as content_stated, status_of_denial, show_response};
+ghost use Rattle.goo_desk_answers.specs.Responds.{Does, IsGiven, content_of as content_stated, status_of_denial, show_response};
 ghost use Rattle.goo_desk_routes.specs.declared.task.Task.TheVariants.{Show};
 
 use crate::answered::Answer;
-use crate::counter::{Counter, Shown};
+use goo_desk_counter::{Counter, Shown};
 use crate::desk::answer_fixed;
 use goo_answers::denial::Denial;
 use goo_desk_responses::{Content, Status, long_response};

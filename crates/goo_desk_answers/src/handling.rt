@@ -1,7 +1,7 @@
 //! What a whole request is to be answered with.
 ghost use Rattle.std.specs.Prelude.{◌≡◌, IfOk, option_map};
 ghost use Rattle.goo_desk_heads.specs.Requests.{parts_of};
-ghost use Rattle.goo_desk.specs.Handling.{handling_of, caller_by, handling_by_caller, handling_by_route, handling_by_task};
+ghost use Rattle.goo_desk_answers.specs.Handling.{handling_of, caller_by, handling_by_caller, handling_by_route, handling_by_task};
 
 use goo_desk_heads::{Method, Received};
 use goo_desk_responses::Status;

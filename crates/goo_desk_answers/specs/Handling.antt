@@ -10,8 +10,8 @@ use Rattle.goo_desk_routes.specs.Routes.{found_by, method_of}
 use Rattle.goo_desk_routes.specs.Tasks.{task_of}
 use Rattle.goo_desk_routes.specs.declared.route.Route.{Route}
 use Rattle.goo_desk_routes.specs.declared.task.Task.{Task}
-use Rattle.goo_desk.specs.declared.handling.Handling.{Handling}
-use Rattle.goo_desk.specs.declared.handling.Handling.TheVariants.{Fixed, Own}
+use Rattle.goo_desk_answers.specs.declared.handling.Handling.{Handling}
+use Rattle.goo_desk_answers.specs.declared.handling.Handling.TheVariants.{Fixed, Own}
 
 abbrev pub read_caller : Result (List ℕ) TextFault → Option (List ℕ)
 read_caller (Ok caller) = Some caller

@@ -6,10 +6,10 @@ use Rattle.goo_spec.specs.State.{State}
 use Rattle.goo_registry_desk.specs.Desk.{Seen}
 use Rattle.goo_desk_routes.specs.declared.task.Subject.{Subject}
 use Rattle.goo_answers.specs.declared.denial.Denial.{Denial}
-use Rattle.goo_desk.specs.declared.counter.Shown.{Shown}
-use Rattle.goo_desk.specs.declared.counter.Shown.TheVariants as shown
-use Rattle.goo_desk.specs.declared.counter.Imported.{Imported}
-use Rattle.goo_desk.specs.declared.counter.Imported.TheVariants as imported
+use Rattle.goo_desk_counter.specs.declared.counter.Shown.{Shown}
+use Rattle.goo_desk_counter.specs.declared.counter.Shown.TheVariants as shown
+use Rattle.goo_desk_counter.specs.declared.counter.Imported.{Imported}
+use Rattle.goo_desk_counter.specs.declared.counter.Imported.TheVariants as imported
 
 abbrev pub Showing : Type 1
 Showing = State → List ℕ → Subject → Result (List ℕ) Denial → Type 0
@@ -38,9 +38,8 @@ pub record Shows (shows : Showing) (old new : Seen) (caller : List ℕ) (subject
 
 -- the report and the state are right; after a fault the first rows stand
 pub record Imports (imports : Importing) (begins : Beginning) (old new : Seen) (caller rows : List ℕ) (result : Result Imported Fault) : Type 0 where
-  pub report : new.doubts ≡ 0 → IfOk result (λ given. imports old.state caller rows (report_of given) new.state)
-  pub part : new.doubts ≡ 0 → OnErr result (begins old.state caller rows new.state)
-  pub works : OnOk result (new.lies ≡ 0 → new.doubts ≡ 0)
+  pub report : new.lies ≡ 0 → IfOk result (λ given. imports old.state caller rows (report_of given) new.state)
+  pub part : new.lies ≡ 0 → new.doubts ≡ 0 → OnErr result (begins old.state caller rows new.state)
   pub lied : new.lies ≡ 0 → old.lies ≡ 0
   pub told : IsTold result new.refusals
 

@@ -9,11 +9,11 @@ use Rattle.goo_desk_responses.specs.declared.status.Status.{Status}
 use Rattle.goo_desk_routes.specs.declared.task.Task.{Task}
 use Rattle.goo_desk_routes.specs.declared.task.Task.TheVariants.{Apply, Import, Show}
 use Rattle.goo_answers.specs.declared.denial.Denial.{Denial}
-use Rattle.goo_desk.specs.Counters.{Showing, Importing, ShowsOne, ImportsOne}
-use Rattle.goo_desk.specs.Handling.{handling_of}
-use Rattle.goo_desk.specs.Responds.{IsFixed, IsGiven, Does, Handles, RespondsTo, Responds, IsOneResponse, show_response, import_response}
-use Rattle.goo_desk.specs.declared.handling.Handling.{Handling}
-use Rattle.goo_desk.specs.declared.handling.Handling.TheVariants.{Fixed, Own}
+use Rattle.goo_desk_counter.specs.Counters.{Showing, Importing, ShowsOne, ImportsOne}
+use Rattle.goo_desk_answers.specs.Handling.{handling_of}
+use Rattle.goo_desk_answers.specs.Responds.{IsFixed, IsGiven, Does, Handles, RespondsTo, Responds, IsOneResponse, show_response, import_response}
+use Rattle.goo_desk_answers.specs.declared.handling.Handling.{Handling}
+use Rattle.goo_desk_answers.specs.declared.handling.Handling.TheVariants.{Fixed, Own}
 
 fixed-one : (s : State) (for_head : Bool) (why : Status) (r : Response) (a b : Status) (t u : List ℕ) (after next : State) → IsFixed s for_head why r a t after → IsFixed s for_head why r b u next → (a ≡ b) × (t ≡ u) × (after ≡ next)
 fixed-one s for_head why r a b t u after next x y = (x.status ∙ sym y.status, x.text ∙ sym y.text, x.state ∙ sym y.state)

@@ -7,12 +7,10 @@
 
 pub mod answered;
 mod apply;
-mod counter;
 mod desk;
 mod handling;
 mod import;
 mod show;
 
-pub use counter::{Counter, Imported, Shown};
 pub use desk::answer;
 pub use handling::Handling;
