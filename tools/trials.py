@@ -7,6 +7,7 @@ import argparse
 import difflib
 import json
 import os
+import re
 import shlex
 import signal
 import subprocess
@@ -115,6 +116,17 @@ def wait_for(what, test, seconds=10):
         if time.monotonic() > until:
             raise Differs(f'{what}: not within {seconds} seconds')
         time.sleep(0.01)
+
+
+# Pages
+
+def command_lines(page):
+    """The command lines of a page with what each prints, in order; a command goes on until its quotes are closed."""
+    for block in re.findall(r'^```console\n(.*?)^```', page.read_text(encoding='utf-8'), re.S | re.M):
+        for part in re.split(r'^\$ ', block, flags=re.M)[1:]:
+            lines = part.splitlines()
+            last = next(number for number in range(1, len(lines) + 1) if '\n'.join(lines[:number]).count("'") % 2 == 0)
+            yield '\n'.join(lines[:last]), lines[last:]
 
 
 # Small disks
