@@ -157,9 +157,9 @@ def larger(place):
     mount('-o', 'remount,size=256m', place)
 
 
-def skip_all(program, *words):
+def skip_all(chosen, *words):
     """Ends the tool where the program has no such command yet: exit 2."""
-    if program.run(*words)[0] == 2:
+    if not chosen.list and chosen.program.run(*words)[0] == 2:
         print(f'skipped: there is no goo {words[0]} yet')
         print('0 passed, 0 failed')
         sys.exit(0)
@@ -185,6 +185,8 @@ def arguments(text, more=()):
     chosen.cases = [Case(path) for path in sorted(chosen.cases.glob('*.requests'))]
     if not chosen.cases:
         parser.error('no worked cases there')
+    if not chosen.list and not os.access(chosen.program, os.X_OK):
+        parser.error(f'{chosen.program} is no program; ./goo --help builds crates/goo/out/goo')
     chosen.program = Program(str(Path(chosen.program).resolve()))
     return chosen
 
