@@ -1,11 +1,10 @@
-"""Counts statements and instructions of a registry in tables, by callgrind.
+"""Counts the statements and the instructions of a request of `goo run --memory`, by callgrind.
 
-usage: python3 bench/tables/profile.py PROGRAM statements [PLACE]          statements a request, by kind of request
-       python3 bench/tables/profile.py PROGRAM costly WORKLOAD N [PLACE]   the costliest functions of N requests more, and the shares of the crates
+usage: python3 bench/instructions.py statements             statements a request, by kind of request
+       python3 bench/instructions.py costly WORKLOAD N      the costliest functions of N requests more, and the shares of the crates
 
-PLACE is disks unless told (memory: the tables in sorted lists; program: PROGRAM is crates/goo/out/goo itself). Each count is the difference of two runs: one with the requests and one without them, so that
-reading the schema and making the tables is left out. A statement is a call of the function by which the library looks a text up among those it has compiled,
-`Entry::fetch`. No part of the gate.
+Each count is the difference of two runs, one with the requests and one without them, so that making the tables is left out. A statement is a call of the function
+by which the library looks a text up among those it has compiled, `Entry::fetch`. What is counted is the same in any hour. It needs valgrind.
 """
 import collections
 import json
@@ -16,14 +15,11 @@ import sys
 import tempfile
 from pathlib import Path
 
-HERE = Path(__file__).resolve().parent
-sys.path.insert(0, str(HERE))
-sys.path.insert(0, str(HERE.parent))
-import kinds  # noqa: E402
-import workloads  # noqa: E402
+import kinds
+import workloads
+from measured import NEW, PROGRAM
 
-# The words that the program of the registry is run with.
-PROGRAM = ['run', '--memory', '--code', '7', '--today', '2025-03-01']
+WORDS = [PROGRAM, 'run', '--memory', *NEW]
 STATEMENT = re.compile(r'Entry.*fetch')
 COMPILED = re.compile(r'listing.*understand')
 
@@ -67,23 +63,21 @@ class Profile:
         return self
 
 
-def profile(program, place, lines):
+def profile(lines):
     with tempfile.TemporaryDirectory() as folder:
         out, source = Path(folder) / 'out', Path(folder) / 'lines'
         source.write_text('\n'.join(lines) + '\n', encoding='utf-8')
-        words = PROGRAM if place == 'program' else [place] if place != 'file' else [place, str(Path(folder) / 'x.db')]
         with open(source, 'rb') as given:
-            done = subprocess.run(['valgrind', '--tool=callgrind', f'--callgrind-out-file={out}', program, *words], stdin=given, stdout=subprocess.DEVNULL,
+            done = subprocess.run(['valgrind', '--tool=callgrind', f'--callgrind-out-file={out}', *WORDS], stdin=given, stdout=subprocess.DEVNULL,
                                   stderr=subprocess.DEVNULL, check=False)
-        if done.returncode > (place == 'program'):
-            sys.exit(f'{program} ended with status {done.returncode}')
+        if done.returncode > 1:
+            sys.exit(f'{PROGRAM} ended with status {done.returncode}')
         return Profile(out.read_text(encoding='utf-8', errors='replace'))
 
 
-def outcomes(program, place, lines):
+def outcomes(lines):
     """How often each word of an outcome comes."""
-    words = PROGRAM if place == 'program' else ['memory']
-    done = subprocess.run([program, *words], input='\n'.join(lines) + '\n', capture_output=True, text=True, check=False)
+    done = subprocess.run(WORDS, input='\n'.join(lines) + '\n', capture_output=True, text=True, check=False)
     return collections.Counter(json.loads(line)['outcome'] for line in done.stdout.splitlines())
 
 
@@ -100,14 +94,14 @@ def asked(found):
     return ', '.join(name if count == 10 else f'{name} {count / 10:.3g}' for name, count in counts.most_common() if count)
 
 
-def statements(program, place):
+def statements():
     print('| Request | Statements | Compiled anew | Instructions | By statement |\n|---|---|---|---|---|')
     for kind in kinds.KINDS:
         wanted = {'repeat': 'repeated', 'refuse': 'refused'}.get(kind, 'accepted')
-        if outcomes(program, place, kinds.lines(kind, 12))[wanted] - outcomes(program, place, kinds.lines(kind, 2))[wanted] != 10:
+        if outcomes(kinds.lines(kind, 12))[wanted] - outcomes(kinds.lines(kind, 2))[wanted] != 10:
             sys.exit(f'{kind}: not all are {wanted}')
         # The first request of a kind compiles its statements, so the counts are those of the ten after the first two.
-        found = profile(program, place, kinds.lines(kind, 12)).minus(profile(program, place, kinds.lines(kind, 2)))
+        found = profile(kinds.lines(kind, 12)).minus(profile(kinds.lines(kind, 2)))
         print(f'| {kind} | {matching(found.calls, STATEMENT) / 10:.1f} | {matching(found.calls, COMPILED) / 10:.1f} | {sum(found.own.values()) / 10:,.0f} | {asked(found)} |', flush=True)
 
 
@@ -116,9 +110,9 @@ def crate_of(name):
     return match[1] if match else 'other'
 
 
-def costly(program, workload, count, place):
+def costly(workload, count):
     few, many = (list(workloads.WORKLOADS[workload](n)) for n in (count, 2 * count))
-    found = profile(program, place, many).minus(profile(program, place, few))
+    found = profile(many).minus(profile(few))
     total = sum(found.own.values())
     print(f'{len(many) - len(few):,} {workload} after {len(few):,}: {total / (len(many) - len(few)):,.0f} instructions each')
     print('| Function | Own share | With what it calls | Calls a request | Called most by |\n|---|---|---|---|---|')
@@ -140,9 +134,9 @@ def costly(program, workload, count, place):
 
 
 if __name__ == '__main__':
-    if len(sys.argv) < 3 or sys.argv[2] not in ('statements', 'costly'):
-        sys.exit(__doc__)
-    if sys.argv[2] == 'statements':
-        statements(sys.argv[1], sys.argv[3] if len(sys.argv) > 3 else 'disks')
+    if sys.argv[1:] == ['statements']:
+        statements()
+    elif len(sys.argv) == 4 and sys.argv[1] == 'costly' and sys.argv[2] in ('declarations', 'trades'):
+        costly(sys.argv[2], int(sys.argv[3]))
     else:
-        costly(sys.argv[1], sys.argv[3], int(sys.argv[4]), sys.argv[5] if len(sys.argv) > 5 else 'disks')
+        sys.exit(__doc__)

@@ -1,14 +1,12 @@
 """Prints the request lines of one kind: what comes before, and then N requests of that kind, each of which a new registry answers as it should.
 
-usage: python3 bench/tables/kinds.py KIND N      (N up to 20; with 0 only what comes before)
+usage: python3 bench/kinds.py KIND N      (N up to 20; with 0 only what comes before)
 
 The kinds are the twelve commands, `repeat` (a transfer under its key again) and `refuse` (a transfer that is not the caller's to ask for).
 """
 import sys
-from pathlib import Path
 
-sys.path.insert(0, str(Path(__file__).resolve().parent.parent))
-from workloads import ISSUING_BODY, certificate, device_number, line, months, registration  # noqa: E402
+from workloads import ISSUING_BODY, certificate, device_number, line, months, registration
 
 MOST = 20
 LOT = {'capacity_w': 2_000_000, 'commissioned': '2020-06-15', 'country': 'DE', 'issued_on': '2024-03-01', 'origin': 9, 'site': 'South',

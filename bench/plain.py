@@ -1,25 +1,24 @@
 """The same rows as the registry's, written with Python's sqlite3 module: what a plain registry over the C library of SQLite costs.
 
-usage: python3 bench/tables/plain.py LINES [DATABASE]
+usage: python3 bench/plain.py LINES [DATABASE]
 
 LINES are request lines of bench/workloads.py, each accepted. Each is one transaction over the registry's own tables (the texts of
 crates/goo_tables/src/create.rt), in memory unless a DATABASE is given: there in a file with a log, synced at each commit, as the
-registry does. It writes just the rows that the registry writes (bench/tables/measure.py compares them where both are in files), and
-checks nothing that the registry checks. Prints the processor seconds and the seconds of these transactions, without those of reading the lines.
+registry does. It writes just the rows that the registry writes (bench/same.py compares them), and checks nothing that the registry
+checks. Prints the processor seconds and the seconds of these transactions, without those of reading the lines.
 """
 import calendar
 import json
 import re
+import sqlite3
 import sys
+import time
 from pathlib import Path
 
-HERE = Path(__file__).resolve().parent
-sys.path.insert(0, str(HERE.parent))
-from records import MWH, Records, arguments, read, spent  # noqa: E402
-
-CREATE = HERE.parent.parent / 'crates' / 'goo_tables' / 'src' / 'create.rt'
+CREATE = Path(__file__).resolve().parent.parent / 'crates/goo_tables/src/create.rt'
 TODAY = '2025-03-01'
 CODE = 7
+MWH = 1_000_000
 PLANT = ('country', 'site', 'tech', 'source', 'capacity_w', 'commissioned', 'support')
 
 
@@ -34,19 +33,35 @@ def number(serial):
     return CODE * 10**12 + serial
 
 
-class Plain(Records):
-    """Over the registry's own tables. Each command answers the kind and the numbers of its reply."""
-
-    RECEIPT = 'INSERT INTO receipt VALUES (?, ?, ?, ?, ?, ?, ?)'
+class Plain:
+    """A registry without checks. Each command is a method that answers the kind and the numbers of its reply."""
 
     def __init__(self, path):
-        super().__init__(path)
+        self.database = sqlite3.connect(path, isolation_level=None)
         if path != ':memory:':
             self.ask('PRAGMA journal_mode=WAL')
             self.ask('PRAGMA synchronous=FULL')
         for text in re.findall(r'"(CREATE [^"]*)"', CREATE.read_text(encoding='utf-8')):
             self.ask(text)
         self.ask('INSERT INTO meta VALUES (1, 1, ?, ?, 1, 1, 1, 1, 1)', CODE, TODAY)
+
+    def ask(self, text, *values):
+        return self.database.execute(text, values)
+
+    def take(self, column, count):
+        """The next number of a kind, which moves on."""
+        (taken,) = self.ask(f'SELECT {column} FROM meta WHERE id = 1').fetchone()
+        self.ask(f'UPDATE meta SET {column} = ? WHERE id = 1', taken + count)
+        return taken
+
+    def apply(self, caller, of, text):
+        """One request, in one transaction."""
+        self.ask('BEGIN')
+        kept = self.ask('SELECT command FROM receipt WHERE caller = ? AND key = ?', caller, of['key']).fetchone()
+        if kept is None:
+            reply = getattr(self, of['command'])(of)
+            self.ask('INSERT INTO receipt VALUES (?, ?, ?, ?, ?, ?, ?)', caller, of['key'], text, *reply)
+        self.ask('COMMIT')
 
     def open_holder(self, of):
         self.ask('INSERT INTO holder VALUES (?, ?)', of['holder'], of['name'])
@@ -116,10 +131,29 @@ def command_text(of):
     return json.dumps(command, sort_keys=True, separators=(',', ':'), ensure_ascii=False).encode()
 
 
-def main(file, path):
-    requests = [(caller, of, command_text(of)) for caller, of, _ in read(file)]
+def read(lines):
+    """Each line's caller, the members of its body, and the command's one text."""
+    for line in lines:
+        caller, body = line.rstrip('\n').split(' ', 1)
+        of = json.loads(body)
+        yield caller, of, command_text(of)
+
+
+def spent(registry, requests):
+    """The processor seconds and the seconds of these requests."""
+    start, clock = time.process_time(), time.monotonic()
+    for caller, of, text in requests:
+        registry.apply(caller, of, text)
+    return time.process_time() - start, time.monotonic() - clock
+
+
+def main(file, path=':memory:'):
+    with open(file, encoding='utf-8') as lines:
+        requests = list(read(lines))
     print(*spent(Plain(path), requests))
 
 
 if __name__ == '__main__':
-    main(*arguments(__doc__))
+    if len(sys.argv) not in (2, 3):
+        sys.exit(__doc__)
+    main(*sys.argv[1:])
