@@ -39,7 +39,7 @@ refusal_of db t f stands (inr (inr other)) = inr (inr other)
 -- only where the disk failed in this call, if the connection was open
 blamed : {T : Type 0} (old new : State) (r : Result T OpenFault) → (HasCleanDisk new → old.step_limit ≡ None → IfErr r (λ f. f ≡ Store → HasStoreFailed old new)) → IfErr r (BlamesOpening old new)
 blamed old new (Ok x) blames = tt
-blamed old new (Err f) blames clean live unlimited is = elim (blames clean unlimited is) [ inl more ↦ more | inr shut ↦ absurd (true≢false (sym live ∙ shut)) ]
+blamed old new (Err f) blames = λ clean live unlimited is. elim (blames clean unlimited is) [ inl more ↦ more | inr shut ↦ absurd (true≢false (sym live ∙ shut)) ]
 
 -- another word than `Store`
 unblamed : (old new : State) (f : OpenFault) → (f ≡ Store → ⊥) → BlamesOpening old new f
@@ -97,7 +97,7 @@ module _ (rules : RulesAreThose) (old new : State) where
 
   -- the tables weren't found
   pub not_judged : {T : Type 0} (f : OpenFault) → Finds {T = Found} old new (Err f) ShowsTables → Judges {T = T} old new (Err f)
-  not_judged f finds = record {
+  not_judged {T = T} f finds = record {
     clean = finds.clean;
     outside = finds.outside;
     rests = finds.rests;

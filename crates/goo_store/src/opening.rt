@@ -56,6 +56,8 @@ impl<S: Alter> SqlShelf<S> {
         ensures empty { (view S.Store conn).now.schema ≡ no_schema → result ≡ Err (conn, OpenFault.NotARegistry) }
         ensures unchanged { IfErr result (λ e. HasCleanDisk (view S.Store e.0) → Rests (view S.Store conn) (view S.Store e.0)) }
         ensures outside { IfErr result (λ e. e.0.in_transaction ≡ false) }
+        ensures clean { IfOk result (λ shelf. HasCleanDisk (view S.Store shelf.conn) → HasCleanDisk (view S.Store conn)) }
+        ensures clean_before { IfErr result (λ e. HasCleanDisk (view S.Store e.0) → HasCleanDisk (view S.Store conn)) }
         ensures crash { IfErr result (λ e. HasCleanDisk (view S.Store e.0) → (db : Trees) → (view S.Store e.0).may_leave db → (view S.Store conn).may_leave db) }
     {
         let mut conn = conn;

@@ -48,6 +48,9 @@ returns-in-Ok-clause-rests g c =
     subst (λ conn. HasCleanDisk (view g.S.Store conn) → Rests (view g.S.Store c.args.conn) (view g.S.Store conn)) (sym c.over.ensures.conn)
     (λ clean. c.in-Ok.ensures.rests clean (met (c.in-Ok.ensures.clean clean)))
 
+pub returns-in-Ok-clause-clean : goal.returns-in-Ok-clause-clean
+returns-in-Ok-clause-clean g c = subst (λ conn. HasCleanDisk (view g.S.Store conn) → HasCleanDisk (view g.S.Store c.args.conn)) (sym c.over.ensures.conn) c.in-Ok.ensures.clean
+
 pub returns-in-Err-clause-refused : goal.returns-in-Err-clause-refused
 returns-in-Err-clause-refused g c = λ clean unlimited t stands kept.
     let out : IsTrue c.is_autocommit-settled.result = search rules in
