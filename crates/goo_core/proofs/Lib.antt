@@ -1,4 +1,3 @@
-pub mod Looking
 pub mod Appraising
 pub mod Changing
 pub mod Rulings

@@ -1,6 +1,6 @@
 -- Where an answering of lines stops, and what stands then.
-use Rattle.std.specs.Prelude.{◌≡◌, ℕ, [], ◌∷◌, ◌++◌, List, Option}
-use Rattle.std.specs.Io.KnownBytes.{Appends}
+use Rattle.std.specs.Prelude.{◌≡◌, ℕ, [], ◌∷◌, ◌++◌, List, Option, Result, Ok, Err, IsErrAnd}
+use Rattle.std.specs.Io.KnownBytes.{Appends, Keeps}
 use Rattle.goo_streams.specs.Streams.{AppendsPrefix}
 use Rattle.goo_spec.specs.State.{State}
 use Rattle.goo_registry_desk.specs.Desk.{Seen}
@@ -30,6 +30,27 @@ IsAfterReading Store = Unit {0}
 IsAfterReading Write = Unit {0}
 IsAfterReading Read = ⊥
 IsAfterReading Memory = ⊥
+
+-- the fault came before the first line
+abbrev pub IsBeforeLines : LinesFault → Type 0
+IsBeforeLines Read = Unit {0}
+IsBeforeLines Memory = Unit {0}
+IsBeforeLines Store = ⊥
+IsBeforeLines Write = ⊥
+
+-- a fault of the store is told just where a call was refused
+abbrev pub IsToldIn : {T : Type 0} → Result T LinesFault → ℕ → Type 0
+IsToldIn (Ok x) refusals = refusals ≡ 0
+IsToldIn (Err Store) refusals = refusals ≡ 1
+IsToldIn (Err Read) refusals = refusals ≡ 0
+IsToldIn (Err Write) refusals = refusals ≡ 0
+IsToldIn (Err Memory) refusals = refusals ≡ 0
+
+-- the input was turned down as a whole: nothing was applied, and nothing written
+pub record IsTurnedDown (result : Result Tally LinesFault) (old new : Seen) (had has : Option (List ℕ)) : Type 0 where
+  pub fault : IsErrAnd result IsBeforeLines
+  pub seen : new ≡ old
+  pub silent : Keeps had has
 
 -- the first of the input's lines stand, and what was written is the whole of their answers
 pub record StandsWhole (input : List ℕ) (old : State) (new : Seen) (had has : Option (List ℕ)) : Type 0 where

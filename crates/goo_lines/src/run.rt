@@ -5,7 +5,8 @@ ghost use Rattle.goo_streams.specs.Streams.{AppendsPrefix};
 ghost use Rattle.goo_lines.specs.Answers.{answer_to, state_after};
 ghost use Rattle.goo_lines.specs.Lines.{request_in};
 ghost use Rattle.goo_lines.specs.Fold.{counted, with_line, lines};
-ghost use Rattle.goo_lines.specs.Stops.{AnswersLine, IsAfterReading, IsBetweenLines, StandsWhole, StandsInPart};
+ghost use Rattle.goo_shelf.specs.Shelf.{IsTold};
+ghost use Rattle.goo_lines.specs.Stops.{AnswersLine, IsAfterReading, IsBetweenLines, IsToldIn, IsTurnedDown, StandsWhole, StandsInPart};
 ghost use Rattle.goo_lines.specs.declared.lines_fault.LinesFault.TheVariants.{Read as Reading, Write as Writing};
 
 use crate::answer::Answer;
@@ -31,6 +32,7 @@ fn answer_line<D: Desk>(alloc: Global, desk: &mut D, line: &[u8]) -> Result<Answ
     ensures unchanged { (D.seen desk.new).doubts ≡ 0 → OnErr result ((D.seen desk.new).state ≡ (D.seen desk.old).state) }
     ensures lied { (D.seen desk.new).lies ≡ 0 → (D.seen desk.old).lies ≡ 0 }
     ensures unasked { (reason : _) → request_in line.now ≡ Err reason → IfErr result (λ fault. fault ≡ Fault.Memory) }
+    ensures told { (D.seen desk.old).refusals ≡ 0 → IsTold result (D.seen desk.new).refusals }
 {
     match read_line(alloc, line) {
         Ok(request) => Ok(Answer::Decided(desk.apply(alloc, &request)?)),
@@ -66,6 +68,7 @@ fn answer_next<D: Desk, W: Write>(
     ensures prefix { IfErr result (λ fault. fault ≡ Writing → (D.seen desk.new).lies ≡ 0 → AppendsPrefix (W.contents writer.old) (W.contents writer.new) (with_line (counted (D.seen desk.old).state tally.old) line.now).text) }
     ensures lied { (D.seen desk.new).lies ≡ 0 → (D.seen desk.old).lies ≡ 0 }
     ensures unasked { (reason : _) → request_in line.now ≡ Err reason → IfErr result (λ fault. fault ≢ LinesFault.Store) }
+    ensures told { (D.seen desk.old).refusals ≡ 0 → IsToldIn result (D.seen desk.new).refusals }
 {
     if line.is_empty() {
         return Ok(());
@@ -96,6 +99,7 @@ fn answer_lines<D: Desk, W: Write>(
     ensures whole { IfErr result (λ fault. IsBetweenLines fault → (D.seen desk.new).lies ≡ 0 → StandsWhole input.now (D.seen desk.old).state (D.seen desk.new) (W.contents writer.old) (W.contents writer.new)) }
     ensures part { IfErr result (λ fault. fault ≡ Writing → (D.seen desk.new).lies ≡ 0 → StandsInPart input.now (D.seen desk.old).state (D.seen desk.new).state (W.contents writer.old) (W.contents writer.new)) }
     ensures lied { (D.seen desk.new).lies ≡ 0 → (D.seen desk.old).lies ≡ 0 }
+    ensures told { (D.seen desk.old).refusals ≡ 0 → IsToldIn result (D.seen desk.new).refusals }
 {
     let mut tally = Tally { good: 0, bad: 0 };
     for line in Lines(Some(input)) {
@@ -111,7 +115,8 @@ fn answer_lines<D: Desk, W: Write>(
 ///
 /// See [`LinesFault`]: after `Read` nothing was done; after `Store` and `Memory` the lines before stand and their
 /// outcomes are written whole; after `Write` the request of that line stands too, and a beginning of the outcomes is
-/// written. Nothing is flushed.
+/// written. `Store` is answered exactly where the store refused a call. An input of more than [`MOST_INPUT`] bytes is a
+/// `Read`, or a `Memory` where there is no room for what is read of it, and none of its lines is applied. Nothing is flushed.
 pub fn run_lines<D: Desk, R: Read, W: Write>(
     alloc: Global,
     desk: &mut D,
@@ -127,6 +132,8 @@ pub fn run_lines<D: Desk, R: Read, W: Write>(
     ensures whole { (D.seen desk.new).lies ≡ 0 → IfSome (R.remaining reader.old) (λ input. IfErr result (λ fault. IsBetweenLines fault → StandsWhole input (D.seen desk.old).state (D.seen desk.new) (W.contents writer.old) (W.contents writer.new))) }
     ensures part { (D.seen desk.new).lies ≡ 0 → IfSome (R.remaining reader.old) (λ input. IfErr result (λ fault. fault ≡ Writing → StandsInPart input (D.seen desk.old).state (D.seen desk.new).state (W.contents writer.old) (W.contents writer.new))) }
     ensures lied { (D.seen desk.new).lies ≡ 0 → (D.seen desk.old).lies ≡ 0 }
+    ensures told { (D.seen desk.old).refusals ≡ 0 → IsToldIn result (D.seen desk.new).refusals }
+    ensures limit { IfSome (R.remaining reader.old) (λ input. 16_777_216 < length input → IsTurnedDown result (D.seen desk.old) (D.seen desk.new) (W.contents writer.old) (W.contents writer.new)) }
     ensures end { OnOk result (IsAtEnd (R.remaining reader.new)) }
     ensures read { IfErr result (λ fault. IsAfterReading fault → IsAtEnd (R.remaining reader.new)) }
 {

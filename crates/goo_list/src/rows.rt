@@ -5,10 +5,12 @@ ghost use Rattle.goo_types.specs.Piece.{IsForward, IsRising};
 ghost use Rattle.goo_spec.specs.Advance.{expires};
 ghost use Rattle.goo_rows.specs.Rows.{meeting, edited_all};
 ghost use Rattle.goo_spec_runs.specs.NextRun.{ending_from, first_of};
-ghost use Rattle.goo_shelf.specs.Rows.{expiring_on, naming_account, EndsFrom};
+ghost use Rattle.goo_shelf.specs.Rows.{naming_account, EndsFrom};
 ghost use Rattle.goo_spec.specs.Energy.{is_issued_to};
 ghost use Rattle.goo_rows.specs.Certificates.{certificates_of, issued_in};
+ghost use Rattle.std.specs.List.{filter};
 ghost use Rattle.goo_list.specs.Rows.{inserts};
+ghost use Rattle.goo_list.specs.Seeking.{is_sought};
 
 use crate::row_edits::{count_inserts, edit_each};
 use goo_pages::paged::Pages;
@@ -23,6 +25,25 @@ use goo_types::range::Range;
 use goo_types::registry_code::RegistryCode;
 use std::alloc::{AllocError, Global};
 use std::marker::Model;
+
+/// Which rows a look-up is for.
+#[derive(Clone, Copy)]
+pub enum Sought {
+    /// Those whose place names an account.
+    Naming(AccountNo),
+    /// The held ones whose lot is over on a day.
+    Expiring(Day),
+}
+
+/// Whether a look-up is for a row.
+fn is_sought(row: &Piece, sought: Sought) -> bool
+    ensures { result ≡ is_sought sought row.now }
+{
+    match sought {
+        Sought::Naming(account) => row.place.account() == account,
+        Sought::Expiring(day) => is_expiring(row, day),
+    }
+}
 
 /// Whether a row is held, and can't be on a day.
 #[tactic(auto, unfolding(goo_spec::specs::Days::is_over))]
@@ -66,18 +87,6 @@ fn issued_in_rows(rows: &[Piece], own: RegistryCode, device: &Gsrn) -> u64
     count
 }
 
-/// Adds copies of those rows that are held and whose lot is over on a day.
-fn add_expiring(met: &mut Vec<Piece>, rows: &[Piece], day: Day) -> Result<(), AllocError>
-    ensures { OnOk result (met.new.items ≡ met.old.items ++ expiring_on day rows.now) }
-{
-    for row in rows {
-        if is_expiring(row, day) {
-            met.push(*row)?;
-        }
-    }
-    Ok(())
-}
-
 /// Adds copies of those rows whose place names an account.
 fn add_naming(met: &mut Vec<Piece>, rows: &[Piece], account: AccountNo) -> Result<(), AllocError>
     ensures { OnOk result (met.new.items ≡ met.old.items ++ naming_account account rows.now) }
@@ -90,12 +99,12 @@ fn add_naming(met: &mut Vec<Piece>, rows: &[Piece], account: AccountNo) -> Resul
     Ok(())
 }
 
-/// The first of those rows whose place names an account and that end at a number or after it.
-fn first_naming(rows: &[Piece], account: AccountNo, from: u64) -> Option<Piece>
-    ensures { result ≡ first_of (ending_from from (naming_account account rows.now)) }
+/// The first of those rows that a look-up is for and that end at a number or after it.
+fn first_sought(rows: &[Piece], sought: Sought, from: u64) -> Option<Piece>
+    ensures { result ≡ first_of (ending_from from (filter (is_sought sought) rows.now)) }
 {
     for row in rows {
-        if row.place.account() == account && from <= row.last.get() {
+        if is_sought(row, sought) && from <= row.last.get() {
             return Some(*row);
         }
     }
@@ -138,19 +147,6 @@ impl Rows {
         Ok(self.pieces.meeting(alloc, range)?)
     }
 
-    /// A copy of the held rows whose lot is over on a day. It fails for want of memory alone.
-    pub fn expiring(&self, alloc: Global, day: Day) -> Result<Vec<Piece>, Fault>
-        ensures met { IfOk result (λ met. met.items ≡ expiring_on day self.now.pieces) }
-        ensures rising { IfOk result (λ met. IsRising met.items) }
-        ensures memory { IfErr result (λ fault. fault ≡ Memory) }
-    {
-        let mut met = Vec::new(alloc);
-        for page in self.pieces.pages() {
-            add_expiring(&mut met, page.rows(), day)?;
-        }
-        Ok(met)
-    }
-
     /// A copy of the rows whose place names an account. It fails for want of memory alone.
     pub fn pieces_of(&self, alloc: Global, account: AccountNo) -> Result<Vec<Piece>, Fault>
         ensures met { IfOk result (λ met. met.items ≡ naming_account account self.now.pieces) }
@@ -164,13 +160,13 @@ impl Rows {
         Ok(met)
     }
 
-    /// The first row whose place names an account and that ends at a number or after it.
-    pub fn next_from(&self, account: AccountNo, from: u64) -> Option<Piece>
-        ensures found { result ≡ first_of (ending_from from (naming_account account self.now.pieces)) }
+    /// The first row that a look-up is for and that ends at a number or after it.
+    pub fn next_from(&self, sought: Sought, from: u64) -> Option<Piece>
+        ensures found { result ≡ first_of (ending_from from (filter (is_sought sought) self.now.pieces)) }
         ensures ahead { IfSome result (EndsFrom from) }
     {
         for page in self.pieces.pages() {
-            match first_naming(page.rows(), account, from) {
+            match first_sought(page.rows(), sought, from) {
                 Some(row) => return Some(row),
                 None => {}
             }

@@ -1,5 +1,5 @@
 -- Whether one piece follows another is a test.
-use Rattle.std.proofs.Common.{◌≡◌, ◌==◌, ◌+◌, ◌∙◌, ℕ, Bool, cond, refl, ap, sym}
+use Rattle.std.proofs.Common.{◌≡◌, ◌==◌, ◌+◌, ◌∙◌, ℕ, cond, refl, ap, sym}
 use Rattle.std.proofs.lemmas.Bool.Decides.{Decides-eqb}
 use Rattle.std.specs.Bool.{Decides}
 use Rattle.goo_types.specs.Equality.{same_lot}
@@ -7,7 +7,7 @@ use Rattle.goo_types.specs.Place.{account_of}
 use Rattle.goo_types.specs.declared.place.Place.{Place}
 use Rattle.goo_types.specs.declared.place.Place.TheVariants.{Held, Cancelled, Expired, Withdrawn, Exported}
 use Rattle.goo_types.specs.declared.piece.Piece.{Piece}
-use Rattle.goo_types.specs.Piece.{label_of, Follows}
+use Rattle.goo_types.specs.Piece.{Follows}
 use Rattle.goo_types.proofs.BoolLemmas.{Decides-and}
 use Rattle.goo_types.proofs.LotLemmas.{Decides-same_lot}
 use Rattle.goo_spec_runs.specs.Joined.{kind_of, act_of, same_place, follows}

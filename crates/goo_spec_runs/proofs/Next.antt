@@ -1,13 +1,12 @@
 -- The first row that ends above a number.
-use Rattle.std.proofs.Common.{◌≡◌, ◌∙◌, ℕ, ◌+◌, ◌<◌, ◌≤◌, nat_le, List, [], ◌∷◌, Bool, true, false, cond, Option, Some, None, refl, ap, sym, subst, arith, ⊎_elim, ◌⊎◌, inl, inr}
+use Rattle.std.proofs.Common.{◌≡◌, ◌∙◌, ℕ, ◌+◌, ◌<◌, ◌≤◌, nat_le, List, [], ◌∷◌, true, false, Some, None, refl, ap, sym, subst, arith, ⊎_elim, ◌⊎◌, inl, inr}
 use Rattle.std.proofs.lemmas.Bool.{cases_lt, cases_Bool}
 use Rattle.std.proofs.lemmas.Bool.Decides.{nat_tests}
-use Rattle.std.specs.List.{filter}
 use Rattle.goo_types.specs.Number.{code_of}
 use Rattle.goo_types.specs.declared.piece.Piece.{Piece}
-use Rattle.goo_types.specs.Piece.{Label, label_of, at_of, covers, IsForward, IsRisingFrom}
+use Rattle.goo_types.specs.Piece.{at_of, covers, IsForward, IsRisingFrom}
 use Rattle.goo_pieces.proofs.Covers.{covers-inside, covers-below, covers-above}
-use Rattle.goo_pieces.proofs.Rising.{at_of-below, rising-weaken}
+use Rattle.goo_pieces.proofs.Rising.{at_of-below}
 use Rattle.goo_spec.proofs.Pieces.{one_code}
 use Rattle.goo_spec_runs.specs.Joined.{AreCoded}
 use Rattle.goo_spec_runs.specs.NextRun.{above, ending_from, first_of, part_from}

@@ -1,16 +1,12 @@
 -- A run that reaches further from row to row.
-use Rattle.std.proofs.Common.{◌≡◌, ◌∙◌, ℕ, ◌+◌, ◌<◌, ◌≤◌, nat_le, List, [], ◌∷◌, cond, Option, Some, None, refl, ap, sym, subst, arith, ⊎_elim}
-use Rattle.std.proofs.lemmas.Bool.{cases_lt}
+use Rattle.std.proofs.Common.{◌≡◌, ◌∙◌, ℕ, ◌+◌, ◌≤◌, nat_le, List, [], ◌∷◌, cond, Option, Some, None, ap, arith}
 use Rattle.goo_types.specs.declared.piece.Piece.{Piece}
-use Rattle.goo_types.specs.Piece.{Label, label_of, at_of, covers, IsForward, IsRising, IsRisingFrom, Follows}
-use Rattle.goo_pieces.proofs.Covers.{covers-above}
-use Rattle.goo_pieces.proofs.Rising.{at_of-below, rising-weaken}
-use Rattle.goo_spec.specs.Runs.{IsApart, AreRunsOf}
-use Rattle.goo_spec.proofs.Unique.{one_list_of_runs}
+use Rattle.goo_types.specs.Piece.{Label, label_of, at_of, covers, IsRising, IsRisingFrom, Follows}
+use Rattle.goo_pieces.proofs.Rising.{rising-weaken}
 use Rattle.goo_spec_runs.specs.Joined.{joined, AreCoded}
-use Rattle.goo_spec_runs.specs.NextRun.{above, ending_from, first_of, part_from, IsNextRun, BeginsFrom}
-use Rattle.goo_spec_runs.proofs.Joining.{up_to, run_code, same_joined, joined_runs, joined_rising, joined_apart, joined_same, joined_free}
-use Rattle.goo_spec_runs.proofs.Next.{IsFirstAbove, first_above, none_above, first_some, first_none, cut_first, cut_code}
+use Rattle.goo_spec_runs.specs.NextRun.{above, ending_from, first_of, part_from, IsNextRun}
+use Rattle.goo_spec_runs.proofs.Joining.{up_to, run_code, same_joined, joined_rising, joined_apart, joined_same, joined_free}
+use Rattle.goo_spec_runs.proofs.Next.{first_above, none_above, first_some, first_none, cut_first, cut_code}
 
 -- the certificates above a number are those of the run so far, and of the rows after it
 pub record IsReaching (map : ℕ → Option Label) (from : ℕ) (rows : List Piece) (run : Piece) : Type 0 where

@@ -1,8 +1,8 @@
 -- All maximal runs of a map, one after another.
-use Rattle.std.proofs.Common.{◌≡◌, ◌∙◌, ℕ, ◌+◌, ◌<◌, ◌≤◌, nat_le, List, [], ◌∷◌, ◌++◌, cond, Option, Some, None, refl, ap, sym, subst, arith, ⊎_elim, append_assoc}
+use Rattle.std.proofs.Common.{◌≡◌, ◌∙◌, ℕ, ◌+◌, ◌<◌, ◌≤◌, List, [], ◌∷◌, ◌++◌, cond, Option, Some, None, refl, ap, sym, arith, ⊎_elim, append_assoc}
 use Rattle.std.proofs.lemmas.List.{append-nil}
 use Rattle.goo_types.specs.declared.piece.Piece.{Piece}
-use Rattle.goo_types.specs.Piece.{Label, label_of, at_of, covers, IsRisingFrom}
+use Rattle.goo_types.specs.Piece.{Label, label_of, at_of}
 use Rattle.goo_pieces.proofs.Covers.{covers-above}
 use Rattle.goo_pieces.proofs.Rising.{at_of-below, rising-weaken}
 use Rattle.goo_spec.specs.Runs.{AreRunsOf}

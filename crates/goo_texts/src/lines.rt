@@ -1,7 +1,7 @@
 //! Lines that state no request, faults of the records and of the writer, and the limit of an input, over records that
 //! fail at each request.
 use crate::claims::holds;
-use goo_lines::{LinesFault, MOST_INPUT, Tally, run_lines};
+use goo_lines::{LinesFault, Tally, run_lines};
 use goo_registry_desk::Desk;
 use goo_types::fault::Fault;
 use goo_types::outcome::Outcome;
@@ -174,7 +174,7 @@ fn a_beginning_is_written_before_a_write_fault(rt: HostRuntime) {
 
 #[test]
 fn the_limit_of_the_input_is_exact(rt: HostRuntime) {
-    let mut input = vec![in rt.alloc(); b'\n'; MOST_INPUT].expect(&rt, "memory");
+    let mut input = vec![in rt.alloc(); b'\n'; 16_777_216].expect(&rt, "memory");
     answered(&rt, rt.alloc(), Fault::Store, &input, "").expect(&rt, "an answer");
     input.push(b'\n').expect(&rt, "memory");
     let over = answered(&rt, rt.alloc(), Fault::Store, &input, "");

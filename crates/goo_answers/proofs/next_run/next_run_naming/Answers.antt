@@ -5,7 +5,7 @@ use Rattle.goo_shelf.specs.Rows.{naming_account, next_row}
 use Rattle.goo_spec_runs.specs.NextRun.{from_of, IsNextRun}
 use Rattle.goo_spec_runs.proofs.Reaching.{reaching_none}
 use Rattle.goo_answers.specs.Reads.{kept_where, names}
-use Rattle.goo_answers.proofs.Looking.{looks_as, ready_after}
+use Rattle.goo_shelf.proofs.Looking.{looks_as, ready_after}
 use Rattle.goo_answers.proofs.Naming.{named}
 use Rattle.goo_answers.proofs.next_run.next_run_naming.Goals as goal
 

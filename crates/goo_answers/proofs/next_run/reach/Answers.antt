@@ -8,7 +8,7 @@ use Rattle.goo_spec_runs.specs.NextRun.{from_of, IsNextRun}
 use Rattle.goo_spec_runs.proofs.Next.{cut_first}
 use Rattle.goo_spec_runs.proofs.Reaching.{IsReaching, reaching_start, reaching_on, reaching_end}
 use Rattle.goo_answers.specs.Reads.{kept_where, names}
-use Rattle.goo_answers.proofs.Looking.{still, looked_both}
+use Rattle.goo_shelf.proofs.Looking.{still, looked_both}
 use Rattle.goo_answers.proofs.Naming.{named}
 use Rattle.goo_answers.proofs.next_run.reach.Goals as goal
 

@@ -7,7 +7,7 @@ use Rattle.goo_spec.specs.AddPeer.{add_peer_refusal, add_peer_reply, with_peer}
 use Rattle.goo_shelf.specs.Shelf.{Looks}
 use Rattle.goo_core.specs.Ruling.{IsRuling, meaning_of}
 use Rattle.goo_core.proofs.Deciding.{quiet_ruled}
-use Rattle.goo_core.proofs.Looking.{looked}
+use Rattle.goo_shelf.proofs.Looking.{looked}
 use Rattle.goo_core.proofs.Stopping.{looked_failed}
 use Rattle.goo_core.proofs.decision.judge.Goals as goal
 

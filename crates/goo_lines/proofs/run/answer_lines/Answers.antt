@@ -9,6 +9,7 @@ loop-line-init g c = rw c.into_iter-line-iterator.ensures.into_iter_gives (recor
   order = refl;
   count = omega arith;
   lied = λ below. below;
+  told = λ none. none;
   answered = λ below. none-stand (g.D.Desk.seen c.args.desk.now).state (g.W.Write.contents c.args.writer.now);
 })
 
@@ -28,6 +29,7 @@ loop-line-preserved g c =
       order = rw (append_assoc done) order;
       count = omega (arith, made.count, i.count, length-append c.loop-line.yielded (c.in-Some.line ∷ []));
       lied = λ below. i.lied (made.lied below);
+      told = λ none. c.in_ok-answer_next.ensures.told (i.told none);
       answered = λ below. stands-next (g.D.Desk.seen c.args.desk.now).state (g.D.Desk.seen c.loop-line.desk).state (g.D.Desk.seen c.answer_next.new.desk).state
           (g.W.Write.contents c.args.writer.now) (g.W.Write.contents c.loop-line.writer) (g.W.Write.contents c.answer_next.new.writer)
           done c.in-Some.line.now c.loop-line.tally c.answer_next.new.tally
