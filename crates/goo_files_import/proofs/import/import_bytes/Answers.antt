@@ -6,7 +6,7 @@ use Rattle.goo_files_csv.specs.Rows.{header, is_header}
 use Rattle.goo_files_csv.proofs.Header.{header_is, header_passes}
 use Rattle.goo_files_import.proofs.Importing.{IsImporting, importing_start, importing_on, importing_ends, importing_stops}
 use Rattle.goo_files_import.proofs.Reading.{IsAt, at_start, at_more, at_end, at_begins, known}
-use Rattle.goo_files_import.proofs.import.import_table.Goals as goal
+use Rattle.goo_files_import.proofs.import.import_bytes.Goals as goal
 
 pub returns-then-not-is_header-clause-header : goal.returns-then-not-is_header-clause-header
 returns-then-not-is_header-clause-header g c =
@@ -64,7 +64,7 @@ loop-row-preserved g c =
     let now = at_more c.loop-row.row-iterator.rdr c.next-in-loop-row.new.self.rdr c.loop-row.row-iterator.left c.next-in-loop-row.new.self.left c.args.input.now (header ∷ inv.0) c.in-Ok.row inv.1 step in (
       inv.0 ++ fields_of c.in-Ok.row ∷ [],
       now,
-      importing_on old mid new c.args.caller.now inv.0 c.loop-row.lines.items c.import_row.new.lines.items (fields_of c.in-Ok.row) inv.2 c.import_row.ensures.lied (search rules) (search rules),
+      importing_on old mid new c.args.caller.now inv.0 c.loop-row.lines.items c.import_row.new.lines.items (fields_of c.in-Ok.row) inv.2 c.import_row.ensures.lied (search rules) (search rules) (search rules),
     )
 
 pub returns-clause-whole : goal.returns-clause-whole
