@@ -1,20 +1,10 @@
 -- Rows imported in turn.
-use Rattle.std.proofs.Common.{◌≡◌, ◌∙◌, ℕ, List, [], ◌∷◌, ◌++◌, Option, Some, None, IfSome, Result, Ok, Err, refl, ap, sym, subst}
-use Rattle.csv.specs.Reading.{Reached, default_config, strip_bom}
-use Rattle.csv.specs.declared.parser.State as parser
-use Rattle.csv.specs.declared.parser.State.TheVariants as st
-use Rattle.csv.specs.Machine.{next_record}
+use Rattle.std.proofs.Common.{◌≡◌, ◌∙◌, ℕ, List, [], ◌∷◌, ◌++◌, Option, Some, None, IfSome, refl, ap, sym}
 use Rattle.goo_spec.specs.State.{State}
 use Rattle.goo_registry_desk.specs.Desk.{Seen}
-use Rattle.goo_files_csv.specs.Rows.{header}
 use Rattle.goo_files_import.specs.Import.{Imported, with_row, with_rows, importing, nothing_imported, row_result, state_after}
 use Rattle.goo_files_import.specs.Table.{AreFirstRows, AreRows}
-use Rattle.goo_files_import.specs.Results.{cause_of}
-use Rattle.goo_files_import.specs.Stands.{IsImported, StandsInPart, IsToldBy}
-use Rattle.goo_files_import.specs.declared.cause.Cause.{Cause}
-use Rattle.goo_shelf.specs.Shelf.{IsTold}
-use Rattle.goo_types.specs.declared.fault.Fault.{Fault}
-use Rattle.goo_types.specs.declared.fault.Fault.TheVariants as fault
+use Rattle.goo_files_import.specs.Stands.{IsImported, StandsInPart}
 use Rattle.goo_files_import.specs.declared.row_result.RowResult.{RowResult}
 
 abbrev pub Fields : Type 0
@@ -66,8 +56,3 @@ importing_stops old mid new caller input done lines after so first lied same kep
   lines_are = kept ∙ so.lines_are (lied none);
   state = λ sure. same sure ∙ so.state (lied none);
 }
-
--- a fault of a row stops the import by its own name
-pub told_stops : {T : Type 0} (f : Fault) (cause : Cause) (refusals : ℕ) → cause ≡ cause_of f → IsTold {T = T} (Err f) refusals → IsToldBy cause refusals
-told_stops fault.Store cause refusals is told = subst (λ (c : Cause). IsToldBy c refusals) (sym is) told
-told_stops fault.Memory cause refusals is told = subst (λ (c : Cause). IsToldBy c refusals) (sym is) told

@@ -62,7 +62,10 @@ fn gives<S: Shelf>(
     let mut out = Vec::new(alloc);
     let written = given(alloc, registry, &caller, text, &mut out);
     match wanted {
-        Ok(wanted) => assert!(rt; written.is_ok() && out.as_slice() == wanted.as_bytes(), "{wanted}"),
+        Ok(wanted) => assert!(rt;
+            written.is_ok() && out.as_slice() == wanted.as_bytes(),
+            "{wanted}"
+        ),
         Err(fault) => assert!(rt; written == Err(fault) && out.is_empty(), "denied"),
     }
 }
@@ -102,7 +105,12 @@ pub fn gives_a_quarter<S: Shelf>(rt: &impl Abort, alloc: Global, registry: &mut 
         ],
     );
     sends(rt, alloc, registry, &THERE_AND_BACK[..1]);
-    gives_all(rt, alloc, registry, &[("VOLT", Text::Statement(2), Ok(GIVEN))]);
+    gives_all(
+        rt,
+        alloc,
+        registry,
+        &[("VOLT", Text::Statement(2), Ok(GIVEN))],
+    );
     sends(rt, alloc, registry, &THERE_AND_BACK[1..]);
     gives_all(
         rt,

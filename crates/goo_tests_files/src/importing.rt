@@ -42,8 +42,7 @@ fn imported<S: Shelf>(
     let issuer = HolderCode::read(b"ISSUER").expect(rt, "a caller");
     let mut reader = input.as_bytes();
     let mut counted = Counted { rows: 0, done: 0 };
-    let report =
-        import_declarations_watched(alloc, registry, &issuer, &mut reader, &mut counted);
+    let report = import_declarations_watched(alloc, registry, &issuer, &mut reader, &mut counted);
     (report, counted)
 }
 

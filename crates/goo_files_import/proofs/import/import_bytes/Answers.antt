@@ -1,11 +1,9 @@
-use Rattle.std.proofs.Common.{Bor, rules, ◌≡◌, ◌∙◌, ◌<◌, ◌≢◌, ℕ, List, [], ◌∷◌, ◌++◌, Option, Some, None, Ok, Err, true, false, refl, ap, sym, subst, inl, inr}
-use Rattle.csv.specs.Reading.{ReadRecord, RowStep}
-use Rattle.csv.specs.Records.{Row, fields_of}
-use Rattle.csv.specs.declared.reader.Reader.{Reader}
+use Rattle.std.proofs.Common.{rules, ◌≡◌, ◌∙◌, [], ◌∷◌, ◌++◌, true, false, refl, ap, sym, subst, inl, inr}
+use Rattle.csv.specs.Records.{fields_of}
 use Rattle.goo_files_csv.specs.Rows.{header, is_header}
 use Rattle.goo_files_csv.proofs.Header.{header_is, header_passes}
-use Rattle.goo_files_import.proofs.Importing.{IsImporting, importing_start, importing_on, importing_ends, importing_stops}
-use Rattle.goo_files_import.proofs.Reading.{IsAt, at_start, at_more, at_end, at_begins, known}
+use Rattle.goo_files_import.proofs.Importing.{importing_start, importing_on, importing_ends, importing_stops}
+use Rattle.goo_files_import.proofs.Reading.{IsAt, at_start, at_more, at_end, at_begins}
 use Rattle.goo_files_import.proofs.import.import_bytes.Goals as goal
 
 pub returns-then-not-is_header-clause-header : goal.returns-then-not-is_header-clause-header
