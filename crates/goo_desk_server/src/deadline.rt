@@ -1,0 +1,42 @@
+//! How long a client may take.
+ghost use Rattle.std.specs.Prelude.{◌≡◌, ◌+◌, ◌≤◌, IfOk};
+ghost use Rattle.std.specs.Duration.{as_nanos};
+
+use std::io::{Error, ErrorKind, Result};
+use std::time::{Clock, Duration, Instant};
+
+/// How long a client may take to send its request, and how long to take its answer.
+const PATIENCE: Duration = Duration::from_secs(10);
+
+/// The least time that a stream takes as a limit of its own.
+const LEAST: Duration = Duration::from_millis(1);
+
+/// The moment until which a client may take its time, from now on.
+///
+/// # Errors
+///
+/// Where the clock can't be read, or counts no further.
+pub(crate) fn deadline<C: Clock>(clock: &C) -> Result<Instant> {
+    match Instant::now(clock)?.checked_add(PATIENCE) {
+        Some(until) => Ok(until),
+        None => Err(Error::from(ErrorKind::TimedOut)),
+    }
+}
+
+/// How long a call on a stream may wait, of what is left until a moment.
+///
+/// # Errors
+///
+/// `TimedOut` where nothing is left, and where the clock can't be read.
+pub(crate) fn time_left<C: Clock>(clock: &C, until: Instant) -> Result<Duration>
+    ensures { IfOk result (λ left. 1_000_000 ≤ as_nanos left) }
+{
+    let left = until.saturating_duration_since(Instant::now(clock)?);
+    if left.is_zero() {
+        Err(Error::from(ErrorKind::TimedOut))
+    } else if left < LEAST {
+        Ok(LEAST)
+    } else {
+        Ok(left)
+    }
+}
