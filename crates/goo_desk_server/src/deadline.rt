@@ -5,11 +5,11 @@ ghost use Rattle.std.specs.Duration.{as_nanos};
 use std::io::{Error, ErrorKind, Result};
 use std::time::{Clock, Duration, Instant};
 
-/// How long a client may take to send its request, and how long to take its answer.
-const PATIENCE: Duration = Duration::from_secs(10);
+/// How many seconds a client may take to send its request, and how many to take its answer.
+const PATIENCE: u64 = 10;
 
-/// The least time that a stream takes as a limit of its own.
-const LEAST: Duration = Duration::from_millis(1);
+/// The least number of milliseconds that a stream takes as its limit.
+const LEAST: u64 = 1;
 
 /// The moment until which a client may take its time, from now on.
 ///
@@ -17,7 +17,7 @@ const LEAST: Duration = Duration::from_millis(1);
 ///
 /// Where the clock can't be read, or counts no further.
 pub(crate) fn deadline<C: Clock>(clock: &C) -> Result<Instant> {
-    match Instant::now(clock)?.checked_add(PATIENCE) {
+    match Instant::now(clock)?.checked_add(Duration::from_secs(PATIENCE)) {
         Some(until) => Ok(until),
         None => Err(Error::from(ErrorKind::TimedOut)),
     }
@@ -33,10 +33,7 @@ pub(crate) fn time_left<C: Clock>(clock: &C, until: Instant) -> Result<Duration>
 {
     let left = until.saturating_duration_since(Instant::now(clock)?);
     if left.is_zero() {
-        Err(Error::from(ErrorKind::TimedOut))
-    } else if left < LEAST {
-        Ok(LEAST)
-    } else {
-        Ok(left)
+        return Err(Error::from(ErrorKind::TimedOut));
     }
+    Ok(left.max(Duration::from_millis(LEAST)))
 }
