@@ -5,6 +5,7 @@ use std::time::{Clock, Instant};
 
 /// What a client sends, until a moment. After that each read fails, and before each the stream is told how long it may wait: a
 /// client that sends a byte now and then has no more time than one that is silent.
+#[derive(Drop)]
 pub(crate) struct Receiver<'a, C: Clock> {
     pub(crate) clock: &'a C,
     pub(crate) stream: &'a TcpStream,
