@@ -3,8 +3,8 @@ use Rattle.goo_shelf.specs.Sought.{is_sought}
 use Rattle.goo_list.proofs.NextLemmas.{first_hit}
 use Rattle.goo_list.proofs.rows.first_sought.Goals as goal
 
-pub returns-then-is_sought : goal.returns-then-is_sought
-returns-then-is_sought c =
+pub returns-then-from-get : goal.returns-then-from-get
+returns-then-from-get c =
     let p = c.row-item.result in
     let sought : is_sought c.args.sought.now p ≡ true = search rules in
     let ends : nat_le c.args.from p.last ≡ true = search rules in
