@@ -13,7 +13,7 @@ use goo_ending::{Ending, Failure};
 use goo_running::closing::Left;
 use goo_running::creating::init_in_files;
 use goo_running::running::{run_in_files, run_in_memory};
-use goo_running::texts::{audit_in_files, declare_in_files, statement_in_files};
+use goo_running_texts::{audit_in_files, declare_in_files, statement_in_files};
 use goo_types::account_no::AccountNo;
 use sqlite::{FileFrom, Files, Start, Unknown};
 use std::env;
