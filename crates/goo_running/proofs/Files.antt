@@ -1,5 +1,5 @@
 -- What files that were opened and closed tell of the database.
-use Rattle.std.proofs.Common.{◌≡◌, ◌≤◌, ◌⊎◌, inl, inr, refl, ap, sym, subst, ◌∙◌, ℕ, arith, Bool, true, false}
+use Rattle.std.proofs.Common.{◌≡◌, inl, inr, refl, ap, cond, ℕ, arith, Bool, true, false}
 use Rattle.std.specs.Prelude.{IsTrue}
 use Rattle.sqlite_disk.specs.declared.Disk.{Ghosts}
 use Rattle.sqlite_disk.specs.declared.Files.{Files}
@@ -16,10 +16,14 @@ use Rattle.goo_columns.specs.Stands.{doubts, Rests}
 use Rattle.goo_kept.specs.States.{state_of}
 use Rattle.goo_lookups.specs.Holding.{sure}
 use Rattle.goo_lookups.specs.Moments.{tables_in}
+use Rattle.goo_spec.specs.State as registry
 use Rattle.goo_opening.specs.declared.fault.OpenFault.{OpenFault}
 use Rattle.goo_opening.specs.declared.fault.OpenFault.TheVariants as opening
 use Rattle.goo_ending.specs.declared.ending.Ending.TheVariants.{Failed}
 use Rattle.goo_running.specs.Openings.{failure_of_opening, IsBlamed, IsRun}
+use Rattle.goo_running.specs.Closings.{HoldState, IfWhole, IsMade, is_whole}
+use Rattle.goo_running.specs.declared.closing.Left.{Left}
+use Rattle.goo_running.specs.declared.closing.Left.TheVariants as left
 
 -- what told no lie is in no doubt
 pub honest : (clean : Bool) → clean ≡ true → doubt clean ≡ 0
@@ -47,3 +51,9 @@ not_run opening.NotARegistry told = told
 not_run (opening.Version version) told = told
 not_run opening.Damaged told = told
 not_run opening.Store told = told
+
+-- what is whole and holds a new registry is one
+pub made_whole : {D : Type 0} {g : Ghosts D} (rest : Left D g) (s : registry.State) → IsTrue (is_whole rest) → IfWhole rest (λ files. HoldState g files s) → IsMade rest s
+made_whole (left.Whole files) s whole holds = holds
+made_whole (left.Refused rest) s whole holds = absurd (omega (arith, ap {B = ℕ} (λ (b : Bool). cond b 1 0) whole))
+made_whole (left.Parts rest) s whole holds = absurd (omega (arith, ap {B = ℕ} (λ (b : Bool). cond b 1 0) whole))

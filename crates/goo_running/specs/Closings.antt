@@ -13,8 +13,8 @@ use Rattle.goo_running.specs.declared.closing.Left.{Left}
 use Rattle.goo_running.specs.declared.closing.Left.TheVariants as left
 
 -- the files hold this state, and so does the database file with no log
-abbrev pub HoldState : {D : Type 0} {g : Ghosts D} → Files D → State → Type 0
-HoldState {D} {g} files s = AreClean g files.log files.db → (db : Trees) × HoldsAlone (image_of g files) db × (state_of (tables_of db) ≡ s)
+abbrev pub HoldState : {D : Type 0} → Ghosts D → Files D → State → Type 0
+HoldState g files s = AreClean g files.log files.db → (db : Trees) × HoldsAlone (image_of g files) db × (state_of (tables_of db) ≡ s)
 
 module _ {D : Type 0} {g : Ghosts D} where
   -- the files have returned what was written
@@ -36,6 +36,6 @@ module _ {D : Type 0} {g : Ghosts D} where
 
   -- a new registry
   abbrev pub IsMade : Left D g → State → Type 0
-  IsMade (left.Whole files) s = HoldState files s
+  IsMade (left.Whole files) s = HoldState g files s
   IsMade (left.Refused rest) s = ⊥
   IsMade (left.Parts rest) s = ⊥

@@ -11,4 +11,4 @@ use Rattle.goo_running_texts.specs.Declaring.{IsDeclared}
 pub record DeclaredIn {D : Type 0} {g : Ghosts D} (old : State) (input : List ℕ) (had has : Option (List ℕ)) (told : Ending) (rest : Left D g) : Type 0 where
   pub new : State
   pub declared : IsDeclared input old new had has told
-  pub held : IfWhole rest (λ files. HoldState files new)
+  pub held : IfWhole rest (λ files. HoldState g files new)
