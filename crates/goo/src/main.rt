@@ -2,14 +2,21 @@
 //! the command line asks for nothing that it does, and 3 after a fault. What it says of these goes to standard error.
 #![tactic(auto)]
 
+ghost use Rattle.std.specs.Prelude.{IsTrue};
+ghost use Rattle.sqlite_std_file.specs.File.{file_is_usable};
+
 mod files;
 
 use crate::files::{Opened, let_go, open_kept, open_new};
-use goo_command_line::{Opening, Place, Task, read_task};
+use goo_command_line::{Opening, Place, Serving, Task, read_task};
 use goo_ending::{Ending, Failure};
+use goo_running::closing::Left;
 use goo_running::creating::init_in_files;
 use goo_running::running::{run_in_files, run_in_memory};
-use sqlite::{Start, Unknown};
+use goo_running_http::{serve_in_files, serve_in_memory};
+use goo_running_texts::{audit_in_files, declare_in_files, statement_in_files};
+use goo_types::account_no::AccountNo;
+use sqlite::{FileFrom, Files, Start, Unknown};
 use std::env;
 use std::io::{self, BufWriter, ErrorKind, Write};
 use std::process::ExitCode;
@@ -55,9 +62,15 @@ fn perform_task<W: Write + Drop>(
         Task::Run(Place::Memory(opening)) => {
             run_in_memory(rt.alloc(), opening, &mut rt.reader(), writer)
         }
-        Task::Run(Place::File(path)) => run_at(rt, path, Unknown, writer),
-        Task::Declare(_) | Task::Statement(..) | Task::Audit(_) | Task::Serve(..) => {
-            Ending::Misused("goo: this command is not there yet")
+        Task::Run(Place::File(path)) => work_at(rt, path, Unknown, Work::Run, writer),
+        Task::Declare(path) => work_at(rt, path, Unknown, Work::Declare, writer),
+        Task::Statement(path, account) => work_at(rt, path, Unknown, Work::Statement(account), writer),
+        Task::Audit(path) => work_at(rt, path, Unknown, Work::Audit, writer),
+        Task::Serve(Place::Memory(opening), serving) => {
+            serve_in_memory(rt, opening, serving, writer)
+        }
+        Task::Serve(Place::File(path), serving) => {
+            work_at(rt, path, Unknown, Work::Serve(serving), writer)
         }
     }
 }
@@ -85,11 +98,27 @@ fn init<S: Start, W: Write + Drop>(
     }
 }
 
-/// Answers the requests of standard input by the registry in the file at a path.
-fn run_at<S: Start, W: Write + Drop>(
+/// What is done with the registry in a file.
+#[derive(Clone, Copy)]
+enum Work {
+    /// The requests of standard input are answered.
+    Run,
+    /// The declarations of standard input are imported.
+    Declare,
+    /// The statement of an account is shown.
+    Statement(AccountNo),
+    /// The audit is shown.
+    Audit,
+    /// Requests are answered over HTTP.
+    Serve(Serving),
+}
+
+/// Works with the registry in the file at a path.
+fn work_at<S: Start, W: Write + Drop>(
     rt: &HostRuntime,
     path: &str,
     start: S,
+    work: Work,
     writer: &mut BufWriter<W>,
 ) -> Ending {
     match open_kept(rt, path, start) {
@@ -99,10 +128,31 @@ fn run_at<S: Start, W: Write + Drop>(
                 seed,
                 traces,
             } = opened;
-            let (ending, left) = run_in_files(rt.alloc(), files, seed, &mut rt.reader(), writer);
+            let (ending, left) = work_in(rt, files, seed, work, writer);
             let_go(rt, &traces, left);
             ending
         }
         Err(failure) => Ending::Failed(failure),
+    }
+}
+
+/// Works with the registry that files hold.
+fn work_in<S: Start, W: Write + Drop>(
+    rt: &HostRuntime,
+    files: Files<FileFrom<S>>,
+    seed: u64,
+    work: Work,
+    writer: &mut BufWriter<W>,
+) -> (Ending, Left<FileFrom<S>>)
+    requires log { IsTrue (file_is_usable S.Start files.log) }
+    requires db { IsTrue (file_is_usable S.Start files.db) }
+{
+    let alloc = rt.alloc();
+    match work {
+        Work::Run => run_in_files(alloc, files, seed, &mut rt.reader(), writer),
+        Work::Declare => declare_in_files(alloc, files, seed, &mut rt.reader(), writer),
+        Work::Statement(account) => statement_in_files(alloc, files, seed, account, writer),
+        Work::Audit => audit_in_files(alloc, files, seed, writer),
+        Work::Serve(serving) => serve_in_files(rt, files, seed, serving, writer),
     }
 }
