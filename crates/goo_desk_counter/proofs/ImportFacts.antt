@@ -29,7 +29,7 @@ imports-made old new caller input lines (Err e) text fault is lied told = record
   report = λ honest. tt;
   part = λ honest fine. let whole = is honest in (whole.rows, inr whole.are_rows, whole.state);
   lied = lied;
-  told = λ fresh. subst (λ f. IsTold {Imported} (Err f) new.refusals) (sym fault) (told fresh);
+  told = λ fresh. subst (λ f. IsTold {T = Imported} (Err f) new.refusals) (sym fault) (told fresh);
 }
 
 pub imports-stopped : (old new : Seen) (caller input : List ℕ) (why : Cause) (lines : List RowResult)
