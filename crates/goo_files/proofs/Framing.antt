@@ -28,17 +28,7 @@ module _ {T : Type 0} (line : Piece → List ℕ) (sum : List Piece → T) (foot
   abbrev pub Texts : Unit {0} → List ℕ → Type 0
   Texts u t = Right t
 
-  module _
-    (old first : Moment)
-    (before mid : Option (List ℕ))
-    (caller : List ℕ)
-    (account : ℕ)
-    (h : Heading)
-    (look : Looks old first (Ok (Ok h)) (IsHeadingShown old.state caller account))
-    (well : IsWell old)
-    (head : List ℕ)
-    (right : first.doubts ≡ 0 → (runs : List Piece) → AreRunsNaming old.state account runs → Right (text_with head runs))
-  where
+  module _ (old first : Moment) (before mid : Option (List ℕ)) (caller : List ℕ) (account : ℕ) (h : Heading) (look : Looks old first (Ok (Ok h)) (IsHeadingShown old.state caller account)) (well : IsWell old) (head : List ℕ) (right : first.doubts ≡ 0 → (runs : List Piece) → AreRunsNaming old.state account runs → Right (text_with head runs)) where
     denial_is : first.doubts ≡ 0 → account_denial caller (get old.state.accounts account) ≡ None
     denial_is sure = (look.found sure).0
 

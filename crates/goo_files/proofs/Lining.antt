@@ -16,7 +16,7 @@ use Rattle.goo_answers.specs.Reads.{kept_where, names}
 use Rattle.goo_answers.specs.declared.denial.Denial.{Denial}
 use Rattle.goo_answers.specs.declared.denial.Denial.TheVariants as denial
 use Rattle.goo_types.specs.declared.fault.Fault.TheVariants as fault
-use Rattle.goo_answers.proofs.Looking.{still}
+use Rattle.goo_shelf.proofs.Looking.{still}
 use Rattle.goo_answers.proofs.Naming.{some_runs}
 use Rattle.goo_registry.specs.Reads.{account_denial}
 use Rattle.goo_registry.specs.AccountReads.{IsNextRunShown}
