@@ -1,15 +1,22 @@
 -- Answering one more line.
-use Rattle.std.proofs.Common.{◌≡◌, ◌==◌, ◌≤◌, ◌+◌, ℕ, List, [], ◌∷◌, ◌++◌, refl, sym, arith, Option, ◌∙◌, length, length-append, ap, ◌<◌, true, false, Result, Ok, Err, IfErr, IfSome, IsErrAnd, OnErr, Some, None}
+use Rattle.std.proofs.Common.{◌≡◌, ◌==◌, ◌≤◌, ◌+◌, ℕ, List, [], ◌∷◌, ◌++◌, refl, sym, arith, Option, ◌∙◌, length, length-append, ap, ◌<◌, true, false, Result, Ok, Err, IfErr, IfSome, IsErrAnd, OnErr, Some, None, subst}
 use Rattle.std.proofs.lemmas.List.{append-nil}
 use Rattle.std.proofs.lemmas.List.Splits.{length-slice_split}
 use Rattle.std.proofs.lemmas.List.Sums.{count_by-le-length}
 use Rattle.std.specs.Io.KnownBytes.{Appends, Keeps}
 use Rattle.goo_streams.proofs.AppendsFacts.{appends-kept, appends-more, appends-none}
+use Rattle.goo_streams.specs.Streams.{IsWholeOf}
+use Rattle.goo_streams.specs.declared.ReadFault.{ReadFault}
+use Rattle.goo_streams.specs.declared.ReadFault.TheVariants as reading
+use Rattle.goo_types.specs.declared.fault.Fault.{Fault}
+use Rattle.goo_types.specs.declared.fault.Fault.TheVariants as desk
+use Rattle.goo_shelf.specs.Shelf.{IsTold}
 use Rattle.goo_spec.specs.State.{State}
+use Rattle.goo_lines.specs.Faults.{of_reading, of_desk}
 use Rattle.goo_lines.specs.Lines.{lines_of}
 use Rattle.goo_streams.specs.Streams.{AppendsPrefix}
 use Rattle.goo_lines.specs.Answers.{answer_line, answer_text, answer_to, is_good, state_after}
-use Rattle.goo_lines.specs.Stops.{AnswersLine, IsBetweenLines, StandsInPart, StandsWhole}
+use Rattle.goo_lines.specs.Stops.{AnswersLine, IsBetweenLines, IsToldIn, IsTurnedDown, StandsInPart, StandsWhole}
 use Rattle.goo_registry_desk.specs.Desk.{Seen}
 use Rattle.goo_lines.specs.declared.answer.Answer.{Answer}
 use Rattle.goo_lines.specs.Fold.{Answered, answering, counted, nothing_answered, with_answer, with_line, with_lines}
@@ -158,3 +165,35 @@ pub whole-unread : {T : Type 0} (r : Result T LinesFault) (known : Option (List 
 whole-unread r None s w = tt
 whole-unread (Ok x) (Some input) s w = tt
 whole-unread (Err e) (Some input) s w = λ between. none-whole s input w
+
+-- a fault of the desk is told as the same fault of the lines
+pub told_by_desk : {T U : Type 0} (f : Fault) (r : Result U LinesFault) (n : ℕ) → IsErrAnd r (λ e. e ≡ of_desk f) → IsTold {T = T} (Err f) n → IsToldIn r n
+told_by_desk f (Ok x) n is told = absurd is
+told_by_desk {T} {U} desk.Store (Err e) n is told = subst (λ (g : LinesFault). IsToldIn {T = U} (Err g) n) (sym is) told
+told_by_desk {T} {U} desk.Memory (Err e) n is told = subst (λ (g : LinesFault). IsToldIn {T = U} (Err g) n) (sym is) told
+
+-- a fault of the reader is none of the store
+pub told_by_reader : {U : Type 0} (f : ReadFault) (r : Result U LinesFault) (n : ℕ) → IsErrAnd r (λ e. e ≡ of_reading f) → n ≡ 0 → IsToldIn r n
+told_by_reader f (Ok x) n is none = absurd is
+told_by_reader {U} reading.Read (Err e) n is none = subst (λ (g : LinesFault). IsToldIn {T = U} (Err g) n) (sym is) none
+told_by_reader {U} reading.Memory (Err e) n is none = subst (λ (g : LinesFault). IsToldIn {T = U} (Err g) n) (sym is) none
+
+keeps-same : (w : Option (List ℕ)) → Keeps w w
+keeps-same None = tt
+keeps-same (Some a) = refl
+
+-- nothing was read
+turned_down : (f : ReadFault) (r : Result Tally LinesFault) (s : Seen) (w : Option (List ℕ)) → IsErrAnd r (λ e. e ≡ of_reading f) → IsTurnedDown r s s w w
+turned_down f (Ok x) s w is = absurd is
+turned_down reading.Read (Err e) s w is = record { fault = rw is tt; seen = refl; silent = keeps-same w }
+turned_down reading.Memory (Err e) s w is = record { fault = rw is tt; seen = refl; silent = keeps-same w }
+
+pub down-unread : (f : ReadFault) (r : Result Tally LinesFault) (known : Option (List ℕ)) (limit : ℕ) (s : Seen) (w : Option (List ℕ)) → IsErrAnd r (λ e. e ≡ of_reading f)
+    → IfSome known (λ input. limit < length input → IsTurnedDown r s s w w)
+down-unread f r None limit s w is = tt
+down-unread f r (Some input) limit s w is = λ over. turned_down f r s w is
+
+-- what was read is no longer than the limit
+pub within-limit : (P : Type 0) (known : Option (List ℕ)) (items : List ℕ) (limit : ℕ) → IsWholeOf known items → length items ≤ limit → IfSome known (λ input. limit < length input → P)
+within-limit P None items limit whole within = tt
+within-limit P (Some input) items limit whole within = λ over. absurd (omega (arith, within, over, ap length whole))

@@ -2,62 +2,27 @@ ghost use Rattle.std.specs.Prelude.{◌≡◌, ◌+◌, ◌^◌, ◌<◌, ◌≤
 ghost use Rattle.std.specs.FinMap.{entries};
 ghost use Rattle.goo_types.specs.declared.fault.Fault.TheVariants.{Memory};
 ghost use Rattle.goo_types.specs.Piece.{IsForward, IsRising};
-ghost use Rattle.goo_spec.specs.Advance.{expires};
 ghost use Rattle.goo_rows.specs.Rows.{meeting, edited_all};
 ghost use Rattle.goo_spec_runs.specs.NextRun.{ending_from, first_of};
 ghost use Rattle.goo_shelf.specs.Rows.{naming_account, EndsFrom};
+ghost use Rattle.goo_shelf.specs.Sought.{is_sought};
 ghost use Rattle.goo_spec.specs.Energy.{is_issued_to};
 ghost use Rattle.goo_rows.specs.Certificates.{certificates_of, issued_in};
 ghost use Rattle.std.specs.List.{filter};
 ghost use Rattle.goo_list.specs.Rows.{inserts};
-ghost use Rattle.goo_list.specs.Seeking.{is_sought};
 
 use crate::row_edits::{count_inserts, edit_each};
 use goo_pages::paged::Pages;
 use goo_ranges::Edit;
+use goo_shelf::sought::{Sought, is_sought};
 use goo_types::account_no::AccountNo;
-use goo_types::day::Day;
 use goo_types::fault::Fault;
 use goo_types::gsrn::Gsrn;
 use goo_types::piece::Piece;
-use goo_types::place::Place;
 use goo_types::range::Range;
 use goo_types::registry_code::RegistryCode;
 use std::alloc::{AllocError, Global};
 use std::marker::Model;
-
-/// Which rows a look-up is for.
-#[derive(Clone, Copy)]
-pub enum Sought {
-    /// Those whose place names an account.
-    Naming(AccountNo),
-    /// The held ones whose lot is over on a day.
-    Expiring(Day),
-}
-
-/// Whether a look-up is for a row.
-fn is_sought(row: &Piece, sought: Sought) -> bool
-    ensures { result ≡ is_sought sought row.now }
-{
-    match sought {
-        Sought::Naming(account) => row.place.account() == account,
-        Sought::Expiring(day) => is_expiring(row, day),
-    }
-}
-
-/// Whether a row is held, and can't be on a day.
-#[tactic(auto, unfolding(goo_spec::specs::Days::is_over))]
-fn is_expiring(row: &Piece, day: Day) -> bool
-    ensures { result ≡ expires day row.now.lot row.now.place }
-{
-    match row.place {
-        Place::Held(_) => match row.lot.expires_on() {
-            Some(last) => last.number() < day.number(),
-            None => false,
-        },
-        _ => false,
-    }
-}
 
 /// How many of a row's certificates are a registry's own ones, issued to a device.
 fn issued_in_row(row: &Piece, own: RegistryCode, device: &Gsrn) -> u64
@@ -100,8 +65,8 @@ fn add_naming(met: &mut Vec<Piece>, rows: &[Piece], account: AccountNo) -> Resul
 }
 
 /// The first of those rows that a look-up is for and that end at a number or after it.
-fn first_sought(rows: &[Piece], sought: Sought, from: u64) -> Option<Piece>
-    ensures { result ≡ first_of (ending_from from (filter (is_sought sought) rows.now)) }
+fn first_sought(rows: &[Piece], sought: &Sought, from: u64) -> Option<Piece>
+    ensures { result ≡ first_of (ending_from from (filter (is_sought sought.now) rows.now)) }
 {
     for row in rows {
         if is_sought(row, sought) && from <= row.last.get() {
@@ -161,8 +126,8 @@ impl Rows {
     }
 
     /// The first row that a look-up is for and that ends at a number or after it.
-    pub fn next_from(&self, sought: Sought, from: u64) -> Option<Piece>
-        ensures found { result ≡ first_of (ending_from from (filter (is_sought sought) self.now.pieces)) }
+    pub fn next_from(&self, sought: &Sought, from: u64) -> Option<Piece>
+        ensures found { result ≡ first_of (ending_from from (filter (is_sought sought.now) self.now.pieces)) }
         ensures ahead { IfSome result (EndsFrom from) }
     {
         for page in self.pieces.pages() {

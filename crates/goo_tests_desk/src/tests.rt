@@ -1,7 +1,6 @@
 //! One connection over loopback; the cases of requests; records and streams that fail.
 use goo_desk_connection::{ServeFault, serve_one};
-use goo_desk_counter::ShelfCounter;
-use goo_desk::{Counter, Imported, Shown};
+use goo_desk_counter::{Counter, Imported, Shown};
 use goo_registry_desk::Desk;
 use goo_list::list_shelf::ListShelf;
 use goo_registry::Registry;

@@ -5,7 +5,7 @@ use Rattle.goo_types.specs.Piece.{IsRising}
 use Rattle.goo_shelf.specs.Shelf.{Looks}
 use Rattle.goo_registry.specs.AccountReads.{IsHeadingShown}
 use Rattle.goo_files_documents.specs.Cancellation.{cancellation_text}
-use Rattle.goo_files.proofs.Auditing.{on_ok_as, on_err_as}
+use Rattle.goo_files.proofs.Cases.{on_ok_as, on_err_as}
 use Rattle.goo_files.proofs.Documents.{document_done, head_by}
 use Rattle.goo_files.proofs.cancellation.write_cancellation.Goals as goal
 

@@ -1,5 +1,5 @@
 use Rattle.std.proofs.Common.{◌≡◌, [], take}
-use Rattle.goo_list.specs.Seeking.{is_sought}
+use Rattle.goo_shelf.specs.Sought.{is_sought}
 use Rattle.goo_list.proofs.NextLemmas.{next_from}
 use Rattle.goo_list.proofs.rows.first_sought.Given as goal
 
