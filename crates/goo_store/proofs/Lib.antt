@@ -9,3 +9,5 @@ pub mod Found
 pub mod RowsRead
 pub mod Gathering
 pub mod CommitBlamed
+pub mod Next
+pub mod NextRow
