@@ -112,8 +112,9 @@ pub fn init_in_files<D: Disk + Drop, W: Write + Drop>(
     ensures unready { IsMade result.1 (created opening.code opening.today opening.next_serial) ⊎ Keeps (writer_contents W.contents writer.old) (writer_contents W.contents writer.new) }
     ensures there { status_of result.0 ≡ 1 → result.0 ≡ Ending.Denied Denial.AlreadyThere }
 {
+    let code = opening.code;
     match create_registry(alloc, files, seed, opening) {
-        Ok(left) => announce(left, opening.code, writer),
+        Ok(left) => announce(left, code, writer),
         Err((ending, left)) => (ending, left),
     }
 }
