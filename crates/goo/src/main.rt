@@ -64,7 +64,13 @@ fn perform_task<W: Write + Drop>(
         }
         Task::Run(Place::File(path)) => work_at(rt, path, Unknown, Work::Run, writer),
         Task::Declare(path) => work_at(rt, path, Unknown, Work::Declare, writer),
-        Task::Statement(path, account) => work_at(rt, path, Unknown, Work::Statement(account), writer),
+        Task::Statement(path, account) => work_at(
+            rt,
+            path,
+            Unknown,
+            Work::Statement(account),
+            writer,
+        ),
         Task::Audit(path) => work_at(rt, path, Unknown, Work::Audit, writer),
         Task::Serve(Place::Memory(opening), serving) => {
             serve_in_memory(rt, opening, serving, writer)

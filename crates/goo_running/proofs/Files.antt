@@ -77,12 +77,12 @@ word_of_desk desk.Memory told e = (opening.Memory, ap Failed e)
 
 -- a state that files hold, told otherwise
 pub whole_as : {D : Type 0} {g : Ghosts D} (rest : Left D g) (seen : State) (s t : registry.State) → (IsClean rest → HasCleanDisk seen) → (HasCleanDisk seen → s ≡ t) → IfWhole rest (λ files. HoldState g files s) → IfWhole rest (λ files. HoldState g files t)
-whole_as (left.Whole files) seen s t clean same holds = λ sure. let held = holds sure in (held.0, held.1.0, held.1.1 ∙ same (clean sure))
+whole_as (left.Whole files) seen s t clean same holds = λ sure. let held = holds sure in (held.0, held.1, held.2 ∙ same (clean sure))
 whole_as (left.Refused rest) seen s t clean same holds = tt
 whole_as (left.Parts rest) seen s t clean same holds = tt
 
 kept_in : {D : Type 0} {g : Ghosts D} (rest : Left D g) (s t : registry.State) → s ≡ t → IfWhole rest (λ files. HoldState g files s) → IfWhole rest (λ files. HoldState g files t)
-kept_in (left.Whole files) s t same holds = λ sure. let held = holds sure in (held.0, held.1.0, held.1.1 ∙ same)
+kept_in (left.Whole files) s t same holds = λ sure. let held = holds sure in (held.0, held.1, held.2 ∙ same)
 kept_in (left.Refused rest) s t same holds = tt
 kept_in (left.Parts rest) s t same holds = tt
 

@@ -25,7 +25,7 @@ module _ (old new : Moment) (before mid after : Option (List ℕ)) (denial : Opt
   pub shown : (result : Result (Unit {0}) TextFault) (out : Bool) → Writes old new before mid result denial (λ u given. right given) → Keeps mid after → new.lies ≡ 0 → status_of (ending_of_text result out) ≡ 0 → Wrote before after right
   shown (Ok done) true writes keeps clean status =
       let text = writes.whole (writes.looks.works clean) in
-      (text.0, text.1.0, kept before mid after text.0 text.1.1 keeps)
+      (text.0, text.1, kept before mid after text.0 text.2 keeps)
   shown (Ok done) false writes keeps clean status = absurd (omega (arith, status))
   shown (Err text.NotAllowed) out writes keeps clean status = absurd (omega (arith, status))
   shown (Err text.Unknown) out writes keeps clean status = absurd (omega (arith, status))

@@ -17,10 +17,12 @@ pub returns-in-Ok-clause-whole : goal.returns-in-Ok-clause-whole
 returns-in-Ok-clause-whole g c = λ clean.
     let conn = c.into_connection.result in
     let copied = c.in-Ok.ensures.copied clean in
-    let settled = c.into_connection.ensures.well.settled (is_sure (file_state conn) copied.was_clean copied.was_open) in
-    ((file_state conn).committed.trees, copied.seen,
-    subst (λ kept. state_of (tables_of (file_state conn).committed.trees) ≡ state_of (tables_in (file_state kept))) c.into_connection.ensures.conn
-    (ap (λ (d : Database). state_of (tables_of d.trees)) (sym settled)))
+    let settled = c.into_connection.ensures.well.settled (is_sure (file_state conn) copied.was_clean copied.was_open) in (
+      (file_state conn).committed.trees,
+      copied.seen,
+      subst (λ kept. state_of (tables_of (file_state conn).committed.trees) ≡ state_of (tables_in (file_state kept))) c.into_connection.ensures.conn
+          (ap (λ (d : Database). state_of (tables_of d.trees)) (sym settled)),
+    )
 
 pub returns-in-Err-clause-clean : goal.returns-in-Err-clause-clean
 returns-in-Err-clause-clean g c = λ clean.
