@@ -1,9 +1,9 @@
 -- States that agree on an account give one text of each kind of it.
-use Rattle.std.proofs.Common.{◌≡◌, ◌∙◌, ℕ, List, Option, Some, refl, ap, sym, subst}
+use Rattle.std.proofs.Common.{◌≡◌, ◌∙◌, ℕ, List, Some, ap, sym, subst}
 use Rattle.std.specs.FinMap.{get}
 use Rattle.goo_types.specs.declared.piece.Piece.{Piece}
 use Rattle.goo_spec.specs.Runs.{AreRunsOf}
-use Rattle.goo_spec.specs.State.{State, Account, Cancellation}
+use Rattle.goo_spec.specs.State.{State, Cancellation}
 use Rattle.goo_spec.proofs.Unique.{one_list_of_runs}
 use Rattle.goo_answers.specs.Reads.{kept_where, names}
 use Rattle.goo_files_csv.specs.Holdings.{holdings_text}
@@ -11,7 +11,7 @@ use Rattle.goo_registry.specs.Reads.{is_cancelled_by}
 use Rattle.goo_files_documents.specs.Cancellation.{cancellation_text}
 use Rattle.goo_files_documents.specs.Statement.{statement_text}
 use Rattle.goo_files.specs.Laws.{AgreeOn, OneStatement, OneHoldingsCsv, OneDocument}
-use Rattle.goo_files.specs.Texts.{IsStatement, IsHoldingsCsv, IsDocument, AreRunsNaming, held_runs}
+use Rattle.goo_files.specs.Texts.{IsDocument, AreRunsNaming, held_runs}
 
 same_runs : (s t : State) (account : ℕ) (ps qs : List Piece) → AgreeOn s t account → AreRunsNaming s account ps → AreRunsNaming t account qs → ps ≡ qs
 same_runs s t account ps qs agree one other =

@@ -1,19 +1,16 @@
 -- The document of a cancellation from two reads.
-use Rattle.std.proofs.Common.{◌≡◌, ◌∙◌, ℕ, List, [], ◌∷◌, ◌++◌, Option, Some, None, Result, Ok, Err, OnOk, OnErr, IfErr, refl, ap, sym, subst, inl, inr, true, false, Bool, cond}
-use Rattle.std.proofs.lemmas.Bool.{cases_Bool}
-use Rattle.std.specs.Prelude.{⊤}
+use Rattle.std.proofs.Common.{◌≡◌, ◌∙◌, ℕ, List, Option, Some, None, Result, Ok, Err, OnOk, OnErr, IfErr, refl, ap, sym, subst, inl, inr, true, false, cond}
 use Rattle.std.specs.FinMap.{get}
 use Rattle.std.specs.Io.KnownBytes.{Appends, Keeps}
 use Rattle.goo_streams.specs.Streams.{AppendsPrefix}
 use Rattle.goo_types.specs.declared.fault.Fault.TheVariants as fault
-use Rattle.goo_types.specs.declared.piece.Piece.{Piece}
 use Rattle.goo_spec.specs.State.{State, Account, Cancellation}
 use Rattle.goo_shelf.specs.Shelf.{Moment, Looks}
 use Rattle.goo_answers.specs.Reads.{may_see}
 use Rattle.goo_answers.specs.declared.denial.Denial.{Denial}
 use Rattle.goo_answers.specs.declared.denial.Denial.TheVariants as denial
-use Rattle.goo_registry.specs.Reads.{account_denial, absent_denial, holder_shown, IsCancellationOf, IsCancellationDenied, IsCancellationShown}
-use Rattle.goo_registry.specs.AccountReads.{IsHeadingShown, IsHeadingOf}
+use Rattle.goo_registry.specs.Reads.{account_denial, holder_shown, IsCancellationOf, IsCancellationDenied, IsCancellationShown}
+use Rattle.goo_registry.specs.AccountReads.{IsHeadingShown}
 use Rattle.goo_registry.specs.Shown.{apart}
 use Rattle.goo_registry.specs.declared.cancellation_statement.CancellationStatement.{CancellationStatement}
 use Rattle.goo_registry.specs.declared.heading.Heading.{Heading}
@@ -22,7 +19,7 @@ use Rattle.goo_registry.specs.declared.read_fault.ReadFault.TheVariants.{NotAllo
 use Rattle.goo_files_documents.specs.Cancellation.{cancellation_text}
 use Rattle.goo_files_documents.specs.declared.cancellation.CancellationHead.{CancellationHead}
 use Rattle.goo_files.specs.Faults.{of_read}
-use Rattle.goo_files.specs.Texts.{IsDocument, head_of, denial_in, denial_by, cancellation_denial}
+use Rattle.goo_files.specs.Texts.{IsDocument, denial_in, denial_by, cancellation_denial}
 use Rattle.goo_files.specs.Writes.{Writes}
 use Rattle.goo_files.specs.declared.text_fault.TextFault.{TextFault}
 use Rattle.goo_files.specs.declared.text_fault.TextFault.TheVariants as text

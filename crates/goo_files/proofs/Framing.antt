@@ -1,8 +1,8 @@
 -- A text of an account: what stands before its runs, a line for each of them, and what stands after.
-use Rattle.std.proofs.Common.{◌≡◌, ◌∙◌, ℕ, List, [], ◌∷◌, ◌++◌, flat_map, Option, Some, None, Result, Ok, Err, refl, ap, sym, subst, inl, inr}
+use Rattle.std.proofs.Common.{◌≡◌, ℕ, List, ◌++◌, flat_map, Option, None, Ok, Err, subst, inl, inr}
 use Rattle.std.specs.Prelude.{⊤}
 use Rattle.std.specs.FinMap.{get}
-use Rattle.std.specs.Io.KnownBytes.{Appends, Keeps}
+use Rattle.std.specs.Io.KnownBytes.{Appends}
 use Rattle.goo_streams.specs.Streams.{AppendsPrefix}
 use Rattle.goo_streams.proofs.AppendsFacts.{appends-more, appends-kept, prefix-more, prefix-front, prefix-whole}
 use Rattle.goo_types.specs.declared.fault.Fault.TheVariants as fault
@@ -15,7 +15,7 @@ use Rattle.goo_registry.specs.AccountReads.{IsHeadingShown}
 use Rattle.goo_registry.specs.declared.heading.Heading.{Heading}
 use Rattle.goo_files.specs.Lines.{AreLines, IsRowFault}
 use Rattle.goo_files.specs.Texts.{AreRunsNaming}
-use Rattle.goo_files.specs.Writes.{Writes, Wrote, Began}
+use Rattle.goo_files.specs.Writes.{Writes, Began}
 use Rattle.goo_files.specs.declared.text_fault.TextFault.{TextFault}
 use Rattle.goo_files.specs.declared.text_fault.TextFault.TheVariants as text
 use Rattle.goo_files.proofs.Chaining.{chain_ok, chain_err, plain_ok}

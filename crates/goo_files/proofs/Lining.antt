@@ -10,7 +10,7 @@ use Rattle.goo_spec.specs.Sound.{IsSound}
 use Rattle.goo_spec.specs.State.{State}
 use Rattle.goo_rows.specs.Rows.{AreRowsOf}
 use Rattle.goo_shelf.specs.Shelf.{Moment, Looks, IsReady}
-use Rattle.goo_spec_runs.specs.NextRun.{from_of, IsNextRun, BeginsFrom}
+use Rattle.goo_spec_runs.specs.NextRun.{from_of, BeginsFrom}
 use Rattle.goo_spec_runs.proofs.Walking.{IsWalking, walk_start, walk_on, walk_end}
 use Rattle.goo_answers.specs.Reads.{kept_where, names}
 use Rattle.goo_answers.specs.declared.denial.Denial.{Denial}

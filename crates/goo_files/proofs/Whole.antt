@@ -1,5 +1,5 @@
 -- Statements and holdings, framed.
-use Rattle.std.proofs.Common.{◌≡◌, ◌∙◌, ℕ, List, [], ◌++◌, flat_map, Option, Some, None, Result, Ok, Err, refl, ap, sym, subst}
+use Rattle.std.proofs.Common.{◌∙◌, ℕ, List, [], ◌++◌, flat_map, Option, None, Result, Ok, Err, ap, sym}
 use Rattle.std.proofs.lemmas.List.{append-nil}
 use Rattle.std.specs.FinMap.{get}
 use Rattle.std.specs.Io.KnownBytes.{Appends}

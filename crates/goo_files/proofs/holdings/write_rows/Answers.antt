@@ -1,4 +1,4 @@
-use Rattle.std.proofs.Common.{rules, ◌≡◌, ◌+◌, Ok, Err, Some, None, refl, sym, subst}
+use Rattle.std.proofs.Common.{rules, Ok, Err, Some, None, refl, sym, subst}
 use Rattle.std.specs.Io.KnownBytes.{Appends}
 use Rattle.goo_streams.specs.Streams.{AppendsPrefix}
 use Rattle.goo_shelf.specs.Shelf.{Looks}
@@ -6,8 +6,7 @@ use Rattle.goo_spec_runs.specs.NextRun.{from_of, BeginsFrom}
 use Rattle.goo_registry.specs.AccountReads.{IsNextRunShown}
 use Rattle.goo_files.specs.Lines.{held_row, no_sum, AreHeldRows, IsRowFault}
 use Rattle.goo_files.specs.Writes.{Writes}
-use Rattle.goo_files.specs.declared.text_fault.TextFault.{TextFault}
-use Rattle.goo_files.proofs.Lining.{IsWell, going_start, going_on, going_ends, going_broken, going_fails}
+use Rattle.goo_files.proofs.Lining.{going_start, going_on, going_ends, going_broken, going_fails}
 use Rattle.goo_files.proofs.holdings.write_rows.Goals as goal
 
 pub loop-run-init : goal.loop-run-init

@@ -1,4 +1,4 @@
-use Rattle.std.proofs.Common.{◌≤◌, ◌-◌}
+use Rattle.std.proofs.Common.{◌-◌}
 use Rattle.goo_spec_runs.specs.NextRun.{from_of}
 use Rattle.goo_files.specs.Lines.{held_row, no_sum}
 use Rattle.goo_files.proofs.Lining.{IsGoing}

@@ -1,10 +1,8 @@
-use Rattle.std.proofs.Common.{rules, ◌≡◌, ◌+◌, ◌≤◌, Ok, Err, Some, None, List, Option, Result, sym, subst, arith}
+use Rattle.std.proofs.Common.{rules, ◌≡◌, ◌+◌, ◌≤◌, Ok, Err, Some, None, sym, subst, arith}
 use Rattle.std.specs.Io.KnownBytes.{Appends}
 use Rattle.goo_streams.specs.Streams.{AppendsPrefix}
-use Rattle.goo_types.specs.declared.piece.Piece.{Piece}
 use Rattle.goo_shelf.specs.Shelf.{Looks}
 use Rattle.goo_spec_runs.specs.NextRun.{from_of, BeginsFrom}
-use Rattle.goo_answers.specs.declared.denial.Denial.{Denial}
 use Rattle.goo_registry.specs.AccountReads.{IsNextRunShown}
 use Rattle.goo_files_documents.specs.Counts.{all_of, no_counts, with_run, counts_of}
 use Rattle.goo_files_documents.specs.Runs.{statement_line, count_of}
@@ -12,7 +10,7 @@ use Rattle.goo_files_documents.specs.declared.counts.Counts.{Counts}
 use Rattle.goo_files.specs.Lines.{AreRunLines}
 use Rattle.goo_files.specs.Writes.{Writes}
 use Rattle.goo_files.proofs.LineFacts.{counts-last}
-use Rattle.goo_files.proofs.Lining.{IsGoing, IsWell, going_start, going_on, going_ends, going_cut, going_fails}
+use Rattle.goo_files.proofs.Lining.{IsGoing, going_start, going_on, going_ends, going_cut, going_fails}
 use Rattle.goo_files.proofs.statement.write_runs.Goals as goal
 
 pub loop-run-init : goal.loop-run-init
