@@ -1,6 +1,6 @@
 use goo_answers::denial::Denial;
-use goo_registry_desk::Desk;
 use goo_desk_routes::Subject;
+use goo_registry_desk::Desk;
 use goo_types::fault::Fault;
 use goo_types::holder_code::HolderCode;
 use std::alloc::Global;

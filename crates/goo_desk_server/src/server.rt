@@ -8,7 +8,7 @@ use crate::server_fault::ServerFault;
 use arrayvec::ArrayString;
 use goo_desk_connection::ServeFault;
 use goo_desk_counter::Counter;
-use goo_streams::write_whole;
+use goo_streams::{WriteFault, write_whole};
 use itoa::Buffer;
 use std::alloc::Global;
 use std::io::Write;
@@ -28,15 +28,13 @@ fn listening(port: u16) -> ArrayString<64>
 }
 
 /// Tells where a server listens, at once.
-fn announce<W: Write>(port: u16, writer: &mut W) -> Result<(), ServerFault>
+fn announce<W: Write>(port: u16, writer: &mut W) -> Result<(), WriteFault>
     ensures { OnOk result (Appends (W.contents writer.old) (W.contents writer.new) (codes "listening 127.0.0.1:" ++ (decimal port ++ codes "\n"))) }
 {
-    if write_whole(writer, listening(port).as_str().as_bytes()).is_err() {
-        return Err(ServerFault::Write);
-    }
+    write_whole(writer, listening(port).as_str().as_bytes())?;
     match writer.flush() {
         Ok(()) => Ok(()),
-        Err(_) => Err(ServerFault::Write),
+        Err(_) => Err(WriteFault),
     }
 }
 
@@ -95,6 +93,8 @@ pub fn serve<D: Counter, C: Clock, W: Write>(
     ensures lied { (D.seen desk.new).lies ≡ 0 → (D.seen desk.old).lies ≡ 0 }
     ensures told { (D.seen desk.old).refusals ≡ 0 → IsToldIn result (D.seen desk.new).refusals }
 {
-    announce(port, writer)?;
-    serve_all(alloc, clock, desk, listener, count)
+    match announce(port, writer) {
+        Ok(()) => serve_all(alloc, clock, desk, listener, count),
+        Err(_) => Err(ServerFault::Write),
+    }
 }
