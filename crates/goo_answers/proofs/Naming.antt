@@ -1,10 +1,10 @@
 -- The rows that name an account: they rise, each has the code of its lot, and they give what the account's certificates are.
-use Rattle.std.proofs.Common.{◌≡◌, ◌∙◌, ℕ, ◌+◌, ◌<◌, ◌≤◌, List, [], ◌∷◌, Bool, true, false, cond, Option, Some, None, ap, sym, subst, refl, arith, ⊎_elim}
+use Rattle.std.proofs.Common.{◌≡◌, ◌∙◌, ℕ, ◌+◌, ◌<◌, ◌≤◌, List, [], ◌∷◌, Bool, true, false, cond, Option, Some, None, ap, sym, refl, arith, ⊎_elim}
 use Rattle.std.specs.FinMap.{get}
 use Rattle.goo_types.specs.Number.{code_of}
 use Rattle.goo_types.specs.declared.piece.Piece.{Piece}
 use Rattle.goo_types.specs.declared.place.Place.{Place}
-use Rattle.goo_types.specs.Piece.{Label, label_of, at_of, covers, IsRising, IsRisingFrom}
+use Rattle.goo_types.specs.Piece.{Label, label_of, at_of, IsRising, IsRisingFrom}
 use Rattle.goo_pieces.proofs.Covers.{covers-inside, covers-above}
 use Rattle.goo_pieces.proofs.Rising.{at_of-below}
 use Rattle.std.proofs.lemmas.Bool.{cases_lt}

@@ -8,11 +8,11 @@ ghost use Rattle.goo_desk_answers.specs.Responds.{Does, applied, state_applied, 
 ghost use Rattle.goo_desk_routes.specs.declared.task.Task.TheVariants.{Apply};
 
 use crate::answered::Answer;
-use goo_desk_counter::Counter;
 use arrayvec::ArrayString;
 use goo_body::read_command;
-use goo_lines::{Answer as Given, Unread};
+use goo_desk_counter::Counter;
 use goo_desk_responses::{Content, ROOM, Status, short_response};
+use goo_lines::{Answer as Given, Unread};
 use goo_types::fault::Fault;
 use goo_types::holder_code::HolderCode;
 use goo_types::outcome::Outcome;

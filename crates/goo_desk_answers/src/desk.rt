@@ -7,10 +7,10 @@ ghost use Rattle.goo_desk_answers.specs.Responds.{Does, Handles, RespondsTo, Res
 
 use crate::answered::Answer;
 use crate::apply::answer_apply;
-use goo_desk_counter::Counter;
 use crate::handling::{Handling, handling_for};
 use crate::import::answer_import;
 use crate::show::answer_show;
+use goo_desk_counter::Counter;
 use goo_desk_heads::{Method, Received, Refusal, RefusedHead, is_for_head, read_request};
 use goo_desk_responses::{Status, fixed_response};
 use goo_desk_routes::Task;

@@ -6,8 +6,8 @@ ghost use Rattle.goo_desk_answers.specs.Responds.{Does, Stopped, IsGiven, import
 ghost use Rattle.goo_desk_routes.specs.declared.task.Task.TheVariants.{Import};
 
 use crate::answered::Answer;
-use goo_desk_counter::{Counter, Imported};
 use crate::desk::answer_fixed;
+use goo_desk_counter::{Counter, Imported};
 use goo_desk_responses::{Content, Status, long_response};
 use goo_types::fault::Fault;
 use goo_types::holder_code::HolderCode;

@@ -6,9 +6,9 @@ ghost use Rattle.goo_desk_answers.specs.Responds.{Does, IsGiven, content_of as c
 ghost use Rattle.goo_desk_routes.specs.declared.task.Task.TheVariants.{Show};
 
 use crate::answered::Answer;
-use goo_desk_counter::{Counter, Shown};
 use crate::desk::answer_fixed;
 use goo_answers::denial::Denial;
+use goo_desk_counter::{Counter, Shown};
 use goo_desk_responses::{Content, Status, long_response};
 use goo_desk_routes::Subject;
 use goo_types::fault::Fault;

@@ -41,7 +41,7 @@ pub record Imports (imports : Importing) (begins : Beginning) (old new : Seen) (
   pub report : new.lies ≡ 0 → IfOk result (λ given. imports old.state caller rows (report_of given) new.state)
   pub part : new.lies ≡ 0 → new.doubts ≡ 0 → OnErr result (begins old.state caller rows new.state)
   pub lied : new.lies ≡ 0 → old.lies ≡ 0
-  pub told : IsTold result new.refusals
+  pub told : old.refusals ≡ 0 → IsTold result new.refusals
 
 -- a subject is shown in one way
 abbrev pub ShowsOne : Showing → Type 0

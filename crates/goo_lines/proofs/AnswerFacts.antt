@@ -167,10 +167,10 @@ whole-unread (Ok x) (Some input) s w = tt
 whole-unread (Err e) (Some input) s w = λ between. none-whole s input w
 
 -- a fault of the desk is told as the same fault of the lines
-pub told_by_desk : {T U : Type 0} (f : Fault) (r : Result U LinesFault) (n : ℕ) → IsErrAnd r (λ e. e ≡ of_desk f) → IsTold {T = T} (Err f) n → IsToldIn r n
-told_by_desk f (Ok x) n is told = absurd is
-told_by_desk {T} {U} desk.Store (Err e) n is told = subst (λ (g : LinesFault). IsToldIn {T = U} (Err g) n) (sym is) told
-told_by_desk {T} {U} desk.Memory (Err e) n is told = subst (λ (g : LinesFault). IsToldIn {T = U} (Err g) n) (sym is) told
+pub told_by_desk : (T : Type 0) {U : Type 0} (f : Fault) (r : Result U LinesFault) (n : ℕ) → IsErrAnd r (λ e. e ≡ of_desk f) → IsTold {T = T} (Err f) n → IsToldIn r n
+told_by_desk T f (Ok x) n is told = absurd is
+told_by_desk T {U} desk.Store (Err e) n is told = subst (λ (g : LinesFault). IsToldIn {T = U} (Err g) n) (sym is) told
+told_by_desk T {U} desk.Memory (Err e) n is told = subst (λ (g : LinesFault). IsToldIn {T = U} (Err g) n) (sym is) told
 
 -- a fault of the reader is none of the store
 pub told_by_reader : {U : Type 0} (f : ReadFault) (r : Result U LinesFault) (n : ℕ) → IsErrAnd r (λ e. e ≡ of_reading f) → n ≡ 0 → IsToldIn r n

@@ -16,7 +16,12 @@ use std::process::Abort;
 type Serials = (u64, u64, u64);
 
 /// The runs of the first account, and one that begins amid the first of them.
-const RUNS: [Serials; 4] = [(0, 1, 99), (50, 51, 99), (99, 200, 1200), (1200, 1201, 1201)];
+const RUNS: [Serials; 4] = [
+    (0, 1, 99),
+    (50, 51, 99),
+    (99, 200, 1200),
+    (1200, 1201, 1201),
+];
 
 /// What a holder is shown of the first account after a serial, or from the first certificate on after 0.
 fn next_run<S: Shelf>(
@@ -33,13 +38,16 @@ fn next_run<S: Shelf>(
 /// The next run has these ends.
 fn is_next<S: Shelf>(rt: &impl Abort, registry: &mut Registry<S>, serials: Serials) {
     let found = next_run(rt, registry, "SUN", serials.0);
-    let is_so = matches!(found, Ok(Some(run)) if run.first.serial() == serials.1 && run.last.serial() == serials.2);
+    let is_so =
+        matches!(found, Ok(Some(run)) if run.first.serial() == serials.1 && run.last.serial() == serials.2);
     holds(rt, is_so, "the next run");
 }
 
 /// A hundred certificates are transferred, and the giver's account is shown run by run to its holder alone.
 pub fn shows_runs<S: Shelf>(rt: &impl Abort, alloc: Global, registry: &mut Registry<S>) {
-    let transferred = requests().get(..CANCELLATION).expect(rt, "so many requests");
+    let transferred = requests()
+        .get(..CANCELLATION)
+        .expect(rt, "so many requests");
     plays(rt, alloc, registry, transferred, 0);
     for serials in RUNS {
         is_next(rt, registry, serials);
@@ -47,5 +55,9 @@ pub fn shows_runs<S: Shelf>(rt: &impl Abort, alloc: Global, registry: &mut Regis
     let last = next_run(rt, registry, "SUN", 1201);
     holds(rt, matches!(last, Ok(None)), "no further run");
     let denied = next_run(rt, registry, "VOLT", 0);
-    holds(rt, matches!(denied, Err(ReadFault::NotAllowed)), "another holder");
+    holds(
+        rt,
+        matches!(denied, Err(ReadFault::NotAllowed)),
+        "another holder",
+    );
 }

@@ -1,5 +1,5 @@
 -- The next row that is asked for, found in tables that keep the rules.
-use Rattle.std.proofs.Common.{◌≡◌, ◌≤◌, ◌+◌, ◌&&◌, ◌==◌, nat_le, nat_lt, ℕ, pos, Bool, true, false, cond, IsTrue, IfSome, List, [], ◌∷◌, map, find, reverse, All, Option, Some, None, option_map, refl, sym, ap, subst, ◌∙◌, arith}
+use Rattle.std.proofs.Common.{◌≡◌, ◌≤◌, ◌+◌, ◌&&◌, ◌==◌, nat_le, nat_lt, ℕ, zero, suc, pos, Bool, true, false, cond, IsTrue, IfSome, List, [], ◌∷◌, map, find, reverse, All, Option, Some, None, option_map, refl, sym, ap, subst, ◌∙◌, arith}
 use Rattle.std.specs.Ordering.{int_eq}
 use Rattle.std.specs.List.{filter}
 use Rattle.std.specs.Option.{option_or}
@@ -60,17 +60,19 @@ found_ends wanted after low (p ∷ ps) rising = go (wanted p && nat_lt after p.f
     go true is rest = (omega (arith, ltb-true after p.first (second_of_both (wanted p) (nat_lt after p.first) is), rising.1.0), rising.1)
     go false is rest = rest
 
--- the next row, whether the one before reaches above the number or not
-module _ (wanted : Piece → Bool) (after : ℕ) (ps : List Piece) (rising : IsRising ps) (before : Option Piece) (is : before ≡ find (λ p. nat_lt p.first (after + 1)) (reverse ps)) where
+-- the next row after the number that was asked about, whether the one before reaches above it or not
+module _ (wanted : Piece → Bool) (asked : Option ℕ) (after : ℕ) (named : asked ≡ Some after) (ps : List Piece) (rising : IsRising ps) (before : Option Piece) (is : before ≡ find (λ p. nat_lt p.first (after + 1)) (reverse ps)) where
   in_turn : (o : Option Piece) → o ≡ reaching_beyond wanted after before
-      → first_of (ending_from (after + 1) (filter wanted ps)) ≡ option_or o (find (λ p. wanted p && nat_lt after p.first) ps)
-  in_turn o reaches = next_found wanted after 0 ps rising ∙ sym (λ i. option_or ((reaches ∙ ap (reaching_beyond wanted after) is) i) (find (λ p. wanted p && nat_lt after p.first) ps))
+      → first_of (ending_from (from_of asked) (filter wanted ps)) ≡ option_or o (find (λ p. wanted p && nat_lt after p.first) ps)
+  in_turn o reaches =
+      ap (λ a. first_of (ending_from (from_of a) (filter wanted ps))) named ∙ next_found wanted after 0 ps rising
+      ∙ sym (λ i. option_or ((reaches ∙ ap (reaching_beyond wanted after) is) i) (find (λ p. wanted p && nat_lt after p.first) ps))
 
-  pub next_before : (row : Piece) → Some row ≡ reaching_beyond wanted after before → Some row ≡ first_of (ending_from (after + 1) (filter wanted ps))
-  next_before row reaches = sym (in_turn (Some row) reaches)
+  pub next_before : (o : Option Piece) (row : Piece) → o ≡ Some row → o ≡ reaching_beyond wanted after before → Some row ≡ first_of (ending_from (from_of asked) (filter wanted ps))
+  next_before o row same reaches = sym (in_turn (Some row) (sym same ∙ reaches))
 
-  pub next_later : (row : Option Piece) → None ≡ reaching_beyond wanted after before → row ≡ find (λ p. wanted p && nat_lt after p.first) ps → row ≡ first_of (ending_from (after + 1) (filter wanted ps))
-  next_later row reaches found = found ∙ sym (in_turn None reaches)
+  pub next_later : (o row : Option Piece) → o ≡ None → o ≡ reaching_beyond wanted after before → row ≡ find (λ p. wanted p && nat_lt after p.first) ps → row ≡ first_of (ending_from (from_of asked) (filter wanted ps))
+  next_later o row same reaches found = found ∙ sym (in_turn None (sym same ∙ reaches))
 
 -- ---- the rows of tables that keep the rules
 
@@ -106,7 +108,8 @@ module _ (t : Tables) (kept : AreKept t) where
     subst (λ o. IfSome o (EndsFrom (after + 1))) (sym (beyond_found sought dated after (option_map joined_in row) (option_map piece_of (option_map joined_in row)) is refl)) (found_ends (is_sought sought) after 0 (rows_of t) kept.rising),
   )
 
-  -- without a number, all rows are above none
-  pub first_of_all : (db : Database) → Stands db t → (wanted : Piece → Bool) → first_of (ending_from 0 (filter wanted (rows_of t))) ≡ find (λ p. wanted p && nat_lt 0 p.first) (rows_of t)
+  -- where no number was asked about, all rows are above it
+  pub first_of_all : (db : Database) → Stands db t → (wanted : Piece → Bool) (asked : Option ℕ) → asked ≡ None → first_of (ending_from (from_of asked) (filter wanted (rows_of t))) ≡ find (λ p. wanted p && nat_lt 0 p.first) (rows_of t)
   unfolding rows_of
-  first_of_all db stands wanted = first_beyond wanted 0 0 1 (rows_of t) (from_one (pieces_beside t) (pieces_kept db t stands kept) kept.rising) (omega arith) (omega arith)
+  first_of_all db stands wanted asked none =
+      ap (λ a. first_of (ending_from (from_of a) (filter wanted (rows_of t)))) none ∙ first_beyond wanted 0 0 1 (rows_of t) (from_one (pieces_beside t) (pieces_kept db t stands kept) kept.rising) (omega arith) (omega arith)

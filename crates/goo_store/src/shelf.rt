@@ -185,11 +185,7 @@ impl<S: Alter> Shelf for SqlShelf<S> {
         self.rows_naming(alloc, account)
     }
 
-    fn next_of(
-        &mut self,
-        account: AccountNo,
-        after: Option<Number>,
-    ) -> Result<Option<Piece>, Fault>
+    fn next_of(&mut self, account: AccountNo, after: Option<Number>) -> Result<Option<Piece>, Fault>
         ensures looks { Looks (moment (view S.Store self.old.conn) self.old.refused) (moment (view S.Store self.new.conn) self.new.refused) result (λ found. found ≡ next_row account after (moment (view S.Store self.old.conn) self.old.refused).rows) }
         ensures store { BlamesStore (view S.Store self.old.conn) (view S.Store self.new.conn) self.old.refused result }
         ensures ahead { IfOk result (λ found. IfSome found (EndsFrom (from_of after))) }
@@ -197,11 +193,7 @@ impl<S: Alter> Shelf for SqlShelf<S> {
         self.next_row(&Sought::Naming(account), after)
     }
 
-    fn next_expiring(
-        &mut self,
-        day: Day,
-        after: Option<Number>,
-    ) -> Result<Option<Piece>, Fault>
+    fn next_expiring(&mut self, day: Day, after: Option<Number>) -> Result<Option<Piece>, Fault>
         ensures looks { Looks (moment (view S.Store self.old.conn) self.old.refused) (moment (view S.Store self.new.conn) self.new.refused) result (λ found. found ≡ next_expiring_row day after (moment (view S.Store self.old.conn) self.old.refused).rows) }
         ensures store { BlamesStore (view S.Store self.old.conn) (view S.Store self.new.conn) self.old.refused result }
         ensures ahead { IfOk result (λ found. IfSome found (EndsFrom (from_of after))) }

@@ -1,4 +1,4 @@
-use Rattle.std.proofs.Common.{◌≡◌, List, Option, None}
+use Rattle.std.proofs.Common.{◌≡◌, Option, None}
 use Rattle.std.specs.FinMap.{get}
 use Rattle.goo_types.specs.declared.piece.Piece.{Piece}
 use Rattle.goo_shelf.specs.Rows.{naming_account, next_row}

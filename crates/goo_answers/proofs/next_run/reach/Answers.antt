@@ -1,4 +1,4 @@
-use Rattle.std.proofs.Common.{rules, ◌≡◌, ◌<◌, ◌≤◌, List, Some, Ok, Option, sym, subst}
+use Rattle.std.proofs.Common.{rules, ◌≡◌, ◌≤◌, List, Some, Option, sym, subst}
 use Rattle.std.specs.FinMap.{get}
 use Rattle.goo_types.specs.declared.piece.Piece.{Piece}
 use Rattle.goo_types.specs.Piece.{Follows}

@@ -1,4 +1,4 @@
-use Rattle.std.proofs.Common.{◌≡◌, ◌<◌, ◌≤◌, ◌-◌, Ok}
+use Rattle.std.proofs.Common.{◌≤◌, ◌-◌, Ok}
 use Rattle.std.specs.FinMap.{get}
 use Rattle.goo_shelf.specs.Shelf.{Looks}
 use Rattle.goo_shelf.specs.Rows.{naming_account}

@@ -1,5 +1,6 @@
 use Rattle.std.proofs.Common.{rules, ◌<◌, ◌≡◌, length, IsErrAnd}
 use Rattle.goo_lines.specs.Faults.{of_desk}
+use Rattle.goo_lines.specs.declared.answer.Answer.{Answer}
 use Rattle.goo_lines.proofs.AnswerFacts.{answers-good, answers-bad, writes-part, on-any-err, told_by_desk}
 use Rattle.goo_lines.proofs.run.answer_next.Goals as goal
 
@@ -28,4 +29,4 @@ returns-in_err-write_line-clause-prefix g c =
 pub returns-in_err-answer-clause-told : goal.returns-in_err-answer-clause-told
 returns-in_err-answer-clause-told g c none =
     let is : IsErrAnd c.from_residual.result (λ e. e ≡ of_desk c.in_err-answer.field-0.0) = search rules in
-    told_by_desk c.in_err-answer.field-0.0 c.from_residual.result _ is (c.in_err-answer.ensures.told none)
+    told_by_desk Answer c.in_err-answer.field-0.0 c.from_residual.result _ is (c.in_err-answer.ensures.told none)

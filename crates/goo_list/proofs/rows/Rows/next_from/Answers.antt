@@ -1,4 +1,4 @@
-use Rattle.std.proofs.Common.{◌≡◌, ◌∙◌, ◌+◌, ◌++◌, Some, None, take, drop, get_or, ap, sym, subst, arith, take-append-drop}
+use Rattle.std.proofs.Common.{◌≡◌, ◌∙◌, ◌+◌, ◌++◌, Some, take, drop, get_or, ap, sym, subst, arith, take-append-drop}
 use Rattle.goo_pages.specs.Paging.{joined}
 use Rattle.goo_spec_runs.specs.NextRun.{first_of}
 use Rattle.goo_ranges.proofs.JoinedPages.{joined-next, joined-append}
