@@ -1,10 +1,13 @@
 """Prints the request lines of a workload, deterministic by its seed. Each request is one that a new registry accepts.
 
-usage: python3 bench/workloads.py (declarations|trades) N
+usage: python3 bench/workloads.py (declarations|trades|devices|table|runs) N
 
 declarations: devices, each with the twelve months of 2024 declared, N lines in all.
 trades:       1,200,000 certificates of one lot, N transfers of random sub-ranges of at most 51 among 50 accounts, and then
               a cancellation for every tenth of them.
+devices:      what a registry needs before a table of N rows.
+table:        such a table as CSV: the twelve months of 2024 of each of these devices.
+runs:         certificates of one lot, every second of which goes to another account: N runs in the first account.
 """
 import calendar
 import json
@@ -84,7 +87,31 @@ def trades(count):
                    key=f'c{number}', last=certificate(last), use_first='2025-01-01', use_last='2025-01-31')
 
 
-WORKLOADS = {'declarations': declarations, 'trades': trades}
+def devices(rows):
+    yield from holders(1)
+    for index in range(1, rows // 12 + 2):
+        yield registration(device_number(index), f'r{index}', 2_000_000)
+
+
+def table(rows):
+    yield 'key,device,first_day,last_day,gross_wh,aux_wh'
+    for row in range(rows):
+        index, month = row // 12 + 1, row % 12 + 1
+        last = calendar.monthrange(2024, month)[1]
+        yield f'd{index}.{month},{device_number(index)},2024-{month:02d}-01,2024-{month:02d}-{last},1234567891,0'
+
+
+def runs(count):
+    yield from holders(2)
+    device = device_number(1)
+    yield registration(device, 'r', 100_000_000_000)
+    yield line(ISSUING_BODY, aux_wh=0, command='declare', device=device, first_day='2025-01-01', gross_wh=2 * count * 1_000_000, key='d', last_day='2025-01-31')
+    for index in range(count):
+        number = certificate(2 * index + 2)
+        yield line('H1', command='transfer', first=number, giver=1, key=f't{index}', last=number, taker=2)
+
+
+WORKLOADS = {'declarations': declarations, 'trades': trades, 'devices': devices, 'table': table, 'runs': runs}
 
 if __name__ == '__main__':
     if len(sys.argv) != 3 or sys.argv[1] not in WORKLOADS:

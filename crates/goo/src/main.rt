@@ -2,11 +2,22 @@
 //! the command line asks for nothing that it does, and 3 after a fault. What it says of these goes to standard error.
 #![tactic(auto)]
 
-use goo_command_line::{Place, Task, read_task};
+ghost use Rattle.std.specs.Prelude.{IsTrue};
+ghost use Rattle.sqlite_std_file.specs.File.{file_is_usable};
+
+mod files;
+
+use crate::files::{Opened, let_go, open_kept, open_new};
+use goo_command_line::{Opening, Place, Task, read_task};
 use goo_ending::{Ending, Failure};
-use goo_running::running::run_in_memory;
+use goo_running::closing::Left;
+use goo_running::creating::init_in_files;
+use goo_running::running::{run_in_files, run_in_memory};
+use goo_running::texts::{audit_in_files, declare_in_files, statement_in_files};
+use goo_types::account_no::AccountNo;
+use sqlite::{FileFrom, Files, Start, Unknown};
 use std::env;
-use std::io::{self, BufWriter, ErrorKind};
+use std::io::{self, BufWriter, ErrorKind, Write};
 use std::process::ExitCode;
 
 fn main(rt: HostRuntime) -> ExitCode {
@@ -29,18 +40,110 @@ fn perform(rt: &HostRuntime) -> Ending {
 
 /// Does what these words ask for.
 fn perform_words(rt: &HostRuntime, words: &[String]) -> Ending {
-    match read_task(rt.alloc(), words) {
-        Ok(Task::Run(place)) => run(rt, place),
-        Err(fault) => Ending::from(fault),
+    let task = match read_task(rt.alloc(), words) {
+        Ok(task) => task,
+        Err(fault) => return Ending::from(fault),
+    };
+    match BufWriter::new(rt.alloc(), io::writer(rt)) {
+        Ok(mut writer) => perform_task(rt, task, &mut writer),
+        Err(_) => Ending::Failed(Failure::Memory),
     }
 }
 
-/// Answers the requests of standard input on standard output.
-fn run(rt: &HostRuntime, place: Place) -> Ending {
-    let Ok(mut writer) = BufWriter::new(rt.alloc(), io::writer(rt)) else {
-        return Ending::Failed(Failure::Memory);
-    };
-    match place {
-        Place::Memory(opening) => run_in_memory(rt.alloc(), opening, &mut rt.reader(), &mut writer),
+/// Does a task. What it shows goes to the writer.
+fn perform_task<W: Write + Drop>(
+    rt: &HostRuntime,
+    task: Task<'_>,
+    writer: &mut BufWriter<W>,
+) -> Ending {
+    match task {
+        Task::Init(path, opening) => init(rt, path, Unknown, opening, writer),
+        Task::Run(Place::Memory(opening)) => {
+            run_in_memory(rt.alloc(), opening, &mut rt.reader(), writer)
+        }
+        Task::Run(Place::File(path)) => work_at(rt, path, Unknown, Work::Run, writer),
+        Task::Declare(path) => work_at(rt, path, Unknown, Work::Declare, writer),
+        Task::Statement(path, account) => work_at(rt, path, Unknown, Work::Statement(account), writer),
+        Task::Audit(path) => work_at(rt, path, Unknown, Work::Audit, writer),
+        Task::Serve(..) => Ending::Misused("goo: serve is not there yet"),
+    }
+}
+
+/// Makes a new registry in the file at a path.
+fn init<S: Start, W: Write + Drop>(
+    rt: &HostRuntime,
+    path: &str,
+    start: S,
+    opening: Opening,
+    writer: &mut BufWriter<W>,
+) -> Ending {
+    match open_new(rt, path, start) {
+        Ok(opened) => {
+            let Opened {
+                files,
+                seed,
+                traces,
+            } = opened;
+            let (ending, left) = init_in_files(rt.alloc(), files, seed, opening, writer);
+            let_go(rt, &traces, left);
+            ending
+        }
+        Err(failure) => Ending::Failed(failure),
+    }
+}
+
+/// What is done with the registry in a file.
+#[derive(Clone, Copy)]
+enum Work {
+    /// The requests of standard input are answered.
+    Run,
+    /// The declarations of standard input are imported.
+    Declare,
+    /// The statement of an account is shown.
+    Statement(AccountNo),
+    /// The audit is shown.
+    Audit,
+}
+
+/// Works with the registry in the file at a path.
+fn work_at<S: Start, W: Write + Drop>(
+    rt: &HostRuntime,
+    path: &str,
+    start: S,
+    work: Work,
+    writer: &mut BufWriter<W>,
+) -> Ending {
+    match open_kept(rt, path, start) {
+        Ok(opened) => {
+            let Opened {
+                files,
+                seed,
+                traces,
+            } = opened;
+            let (ending, left) = work_in(rt, files, seed, work, writer);
+            let_go(rt, &traces, left);
+            ending
+        }
+        Err(failure) => Ending::Failed(failure),
+    }
+}
+
+/// Works with the registry that files hold.
+fn work_in<S: Start, W: Write + Drop>(
+    rt: &HostRuntime,
+    files: Files<FileFrom<S>>,
+    seed: u64,
+    work: Work,
+    writer: &mut BufWriter<W>,
+) -> (Ending, Left<FileFrom<S>>)
+    requires log { IsTrue (file_is_usable S.Start files.log) }
+    requires db { IsTrue (file_is_usable S.Start files.db) }
+{
+    let alloc = rt.alloc();
+    match work {
+        Work::Run => run_in_files(alloc, files, seed, &mut rt.reader(), writer),
+        Work::Declare => declare_in_files(alloc, files, seed, &mut rt.reader(), writer),
+        Work::Statement(account) => statement_in_files(alloc, files, seed, account, writer),
+        Work::Audit => audit_in_files(alloc, files, seed, writer),
     }
 }

@@ -19,3 +19,12 @@ code_in text = number_in 1 99 text
 
 abbrev pub serial_in : List ℕ → Option ℕ
 serial_in text = number_in 1 999999999999 text
+
+abbrev pub account_in : List ℕ → Option ℕ
+account_in text = number_in 1 999999999 text
+
+abbrev pub port_in : List ℕ → Option ℕ
+port_in text = number_in 1 65535 text
+
+abbrev pub count_in : List ℕ → Option ℕ
+count_in text = number_in 0 1000000000 text

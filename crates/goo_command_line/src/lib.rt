@@ -4,12 +4,18 @@
 //! decided here.
 #![tactic(auto)]
 
+mod given;
+mod help;
 mod line_fault;
+mod setting;
 mod task;
+mod tasks;
 mod values;
+mod verb;
 mod words;
 
 pub use line_fault::LineFault;
-pub use task::{Opening, Place, Task};
+pub use setting::Setting;
+pub use task::{Opening, Place, Serving, Task};
 pub use values::{code_in, day_in, serial_in};
 pub use words::read_task;

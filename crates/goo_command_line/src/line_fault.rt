@@ -2,6 +2,7 @@ ghost use Rattle.std.specs.Prelude.{◌≡◌};
 ghost use Rattle.goo_command_line.specs.declared.line_fault.LineFault.TheVariants as fault;
 ghost use Rattle.goo_command_line.specs.Faults.{TellsWords};
 
+use crate::setting::Setting;
 use clap::Error;
 use clap::error::ErrorKind;
 use std::alloc::AllocError;
@@ -13,14 +14,16 @@ pub enum LineFault {
     Words(Error),
     /// There is no command.
     Command,
-    /// No place of the records is named.
-    Place,
-    /// `--code` is missing or no number of 1 to 99.
-    Code,
-    /// `--today` is missing or no day.
-    Today,
-    /// `--next-serial` is no number of 1 to 999,999,999,999.
-    NextSerial,
+    /// Neither `--db` nor `--memory` says where the records are.
+    NoPlace,
+    /// Both `--db` and `--memory` say where the records are.
+    TwoPlaces,
+    /// `--code`, `--today` or `--next-serial` is given for a registry that is there already.
+    NotNew,
+    /// This option is missing.
+    Missing(Setting),
+    /// The value of this option is none that it may have.
+    Wrong(Setting),
     /// There was no room to read the words.
     Memory,
 }

@@ -4,8 +4,9 @@ ghost use Rattle.std.specs.Result.{result_ok};
 ghost use Rattle.std.specs.List.{list_all};
 ghost use Rattle.std.specs.Char.{is_ascii_digit};
 ghost use Rattle.goo_types.specs.Day.{day_reading};
-ghost use Rattle.goo_command_line.specs.Values.{is_number, number_in, code_in, serial_in};
+ghost use Rattle.goo_command_line.specs.Values.{is_number, number_in, code_in, serial_in, account_in, port_in, count_in};
 
+use goo_types::account_no::AccountNo;
 use goo_types::day::Day;
 use goo_types::registry_code::RegistryCode;
 use goo_types::serial::Serial;
@@ -51,6 +52,27 @@ pub fn serial_in(text: &str) -> Option<Serial>
     ensures { result ≡ serial_in text.now }
 {
     Serial::new(number_in(text, 1, 999_999_999_999)?)
+}
+
+/// The number of an account, 1 to 999,999,999 in decimal digits.
+pub fn account_in(text: &str) -> Option<AccountNo>
+    ensures { result ≡ account_in text.now }
+{
+    AccountNo::new(number_in(text, 1, 999_999_999)? as u32)
+}
+
+/// A port, 1 to 65535 in decimal digits.
+pub fn port_in(text: &str) -> Option<u16>
+    ensures { result ≡ port_in text.now }
+{
+    Some(number_in(text, 1, 65_535)? as u16)
+}
+
+/// A count of connections, 0 to 1,000,000,000 in decimal digits.
+pub fn count_in(text: &str) -> Option<u32>
+    ensures { result ≡ count_in text.now }
+{
+    Some(number_in(text, 0, 1_000_000_000)? as u32)
 }
 
 /// A day, as `2025-03-01`.

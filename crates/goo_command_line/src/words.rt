@@ -1,29 +1,40 @@
 //! The words, by `clap`.
-ghost use Rattle.std.specs.Prelude.{◌≡◌, Some, None, false, codes, map, IfOk, IfErr, OnErr};
-ghost use Rattle.clap.specs.Words.{app_of, first_value, found_of, subcommand_rows_of, with_rule};
+ghost use Rattle.std.specs.Prelude.{◌≡◌, Some, None, false, codes, map, IfOk, IfErr};
+ghost use Rattle.clap.specs.Words.{app_of, subcommand_rows_of, with_rule, with_subcommand};
 ghost use Rattle.clap.specs.declared.builder.command.Command.TheViews.{out-Command as fields_of};
-ghost use Rattle.goo_command_line.specs.Line.{option_rule, flag_rule, run_app, goo_app, code_reading, today_reading, serial_reading, opening_given, place_given, task_named, task_in, NoTask, FaultIn};
+ghost use Rattle.goo_command_line.specs.Asked.{asked, asked_by};
+ghost use Rattle.goo_command_line.specs.Line.{option_rule, flag_rule, word_rule, with_opening, with_place, with_init, with_run, with_declare, with_statement, with_audit, with_serve, init_app, run_app, declare_app, statement_app, audit_app, serve_app, goo_app, task_named, task_in, NoTask, FaultIn};
 
+use crate::given::read_options;
+use crate::help;
 use crate::line_fault::LineFault;
-use crate::task::{Opening, Place, Task};
-use crate::values::{code_in, day_in, serial_in};
+use crate::task::Task;
+use crate::tasks::task_by;
+use crate::verb::verb_in;
 use clap::{Arg, ArgAction, ArgMatches, Command};
-use goo_types::day::Day;
-use goo_types::registry_code::RegistryCode;
-use goo_types::serial::Serial;
 use std::alloc::{AllocError, Global};
 use std::convert::AsStr;
+
+/// The command with what its help says first, and the example at the end.
+fn with_help<'a>(command: Command<'a>, about: &'a str, example: &'a str) -> Command<'a>
+    ensures app { app_of result ≡ app_of command.entry }
+    ensures local { (fields_of result).has_globals ≡ (fields_of command.entry).has_globals }
+{
+    command.about(about).after_help(example)
+}
 
 /// The command with an option more that takes one value.
 fn with_option<'a>(
     alloc: Global,
     command: Command<'a>,
     name: &'a str,
+    about: &'a str,
 ) -> Result<Command<'a>, AllocError>
     ensures app { IfOk result (λ r. app_of r ≡ with_rule (app_of command.entry) (option_rule name.now)) }
     ensures local { IfOk result (λ r. (fields_of r).has_globals ≡ (fields_of command.entry).has_globals) }
 {
-    command.arg(Arg::new(alloc, name).long(name).action(ArgAction::Set))
+    let option = Arg::new(alloc, name).long(name).action(ArgAction::Set);
+    command.arg(option.help(about))
 }
 
 /// The command with a flag more, which takes no value.
@@ -31,11 +42,66 @@ fn with_flag<'a>(
     alloc: Global,
     command: Command<'a>,
     name: &'a str,
+    about: &'a str,
 ) -> Result<Command<'a>, AllocError>
     ensures app { IfOk result (λ r. app_of r ≡ with_rule (app_of command.entry) (flag_rule name.now)) }
     ensures local { IfOk result (λ r. (fields_of r).has_globals ≡ (fields_of command.entry).has_globals) }
 {
-    command.arg(Arg::new(alloc, name).long(name).action(ArgAction::SetTrue))
+    let flag = Arg::new(alloc, name).long(name).action(ArgAction::SetTrue);
+    command.arg(flag.help(about))
+}
+
+/// The command with a word more that stands by itself.
+fn with_word<'a>(
+    alloc: Global,
+    command: Command<'a>,
+    name: &'a str,
+    about: &'a str,
+) -> Result<Command<'a>, AllocError>
+    ensures app { IfOk result (λ r. app_of r ≡ with_rule (app_of command.entry) (word_rule name.now)) }
+    ensures local { IfOk result (λ r. (fields_of r).has_globals ≡ (fields_of command.entry).has_globals) }
+{
+    let word = Arg::new(alloc, name).action(ArgAction::Set);
+    command.arg(word.help(about))
+}
+
+/// The command with the option that names the file.
+fn with_file<'a>(alloc: Global, command: Command<'a>) -> Result<Command<'a>, AllocError>
+    ensures app { IfOk result (λ r. app_of r ≡ with_rule (app_of command.entry) (option_rule (codes "db"))) }
+    ensures local { IfOk result (λ r. (fields_of r).has_globals ≡ (fields_of command.entry).has_globals) }
+{
+    with_option(alloc, command, "db", help::FILE)
+}
+
+/// The command with the options that a new registry begins with.
+fn with_opening<'a>(alloc: Global, command: Command<'a>) -> Result<Command<'a>, AllocError>
+    ensures app { IfOk result (λ r. app_of r ≡ with_opening (app_of command.entry)) }
+    ensures local { IfOk result (λ r. (fields_of r).has_globals ≡ (fields_of command.entry).has_globals) }
+{
+    let command = with_option(alloc, command, "code", help::CODE)?;
+    let command = with_option(alloc, command, "today", help::TODAY)?;
+    Ok(with_option(alloc, command, "next-serial", help::NEXT_SERIAL)?)
+}
+
+/// The command with the options that say where the records are.
+fn with_place<'a>(alloc: Global, command: Command<'a>) -> Result<Command<'a>, AllocError>
+    ensures app { IfOk result (λ r. app_of r ≡ with_place (app_of command.entry)) }
+    ensures local { IfOk result (λ r. (fields_of r).has_globals ≡ (fields_of command.entry).has_globals) }
+{
+    let command = with_file(alloc, command)?;
+    let command = with_flag(alloc, command, "memory", help::MEMORY)?;
+    Ok(with_opening(alloc, command)?)
+}
+
+/// The command `init` with its options.
+#[tactic(auto, unfolding(crate::specs::Line::init_app))]
+fn init_command<'a>(alloc: Global) -> Result<Command<'a>, AllocError>
+    ensures app { IfOk result (λ command. app_of command ≡ init_app) }
+    ensures local { IfOk result (λ command. (fields_of command).has_globals ≡ false) }
+{
+    let command = with_help(Command::new(alloc, "init"), help::INIT, help::INIT_EXAMPLE);
+    let command = with_file(alloc, command)?;
+    Ok(with_opening(alloc, command)?)
 }
 
 /// The command `run` with its options.
@@ -44,10 +110,71 @@ fn run_command<'a>(alloc: Global) -> Result<Command<'a>, AllocError>
     ensures app { IfOk result (λ command. app_of command ≡ run_app) }
     ensures local { IfOk result (λ command. (fields_of command).has_globals ≡ false) }
 {
-    let command = with_flag(alloc, Command::new(alloc, "run"), "memory")?;
-    let command = with_option(alloc, command, "code")?;
-    let command = with_option(alloc, command, "today")?;
-    Ok(with_option(alloc, command, "next-serial")?)
+    let command = with_help(Command::new(alloc, "run"), help::RUN, help::RUN_EXAMPLE);
+    Ok(with_place(alloc, command)?)
+}
+
+/// The command `declare` with its options.
+#[tactic(auto, unfolding(crate::specs::Line::declare_app))]
+fn declare_command<'a>(alloc: Global) -> Result<Command<'a>, AllocError>
+    ensures app { IfOk result (λ command. app_of command ≡ declare_app) }
+    ensures local { IfOk result (λ command. (fields_of command).has_globals ≡ false) }
+{
+    let command = Command::new(alloc, "declare");
+    let command = with_help(command, help::DECLARE, help::DECLARE_EXAMPLE);
+    Ok(with_file(alloc, command)?)
+}
+
+/// The command `statement` with its account and its options.
+#[tactic(auto, unfolding(crate::specs::Line::statement_app))]
+fn statement_command<'a>(alloc: Global) -> Result<Command<'a>, AllocError>
+    ensures app { IfOk result (λ command. app_of command ≡ statement_app) }
+    ensures local { IfOk result (λ command. (fields_of command).has_globals ≡ false) }
+{
+    let command = Command::new(alloc, "statement");
+    let command = with_help(command, help::STATEMENT, help::STATEMENT_EXAMPLE);
+    let command = with_word(alloc, command, "account", help::ACCOUNT)?;
+    Ok(with_file(alloc, command)?)
+}
+
+/// The command `audit` with its options.
+#[tactic(auto, unfolding(crate::specs::Line::audit_app))]
+fn audit_command<'a>(alloc: Global) -> Result<Command<'a>, AllocError>
+    ensures app { IfOk result (λ command. app_of command ≡ audit_app) }
+    ensures local { IfOk result (λ command. (fields_of command).has_globals ≡ false) }
+{
+    let command = with_help(Command::new(alloc, "audit"), help::AUDIT, help::AUDIT_EXAMPLE);
+    Ok(with_file(alloc, command)?)
+}
+
+/// The command `serve` with its options.
+#[tactic(auto, unfolding(crate::specs::Line::serve_app))]
+fn serve_command<'a>(alloc: Global) -> Result<Command<'a>, AllocError>
+    ensures app { IfOk result (λ command. app_of command ≡ serve_app) }
+    ensures local { IfOk result (λ command. (fields_of command).has_globals ≡ false) }
+{
+    let command = with_help(Command::new(alloc, "serve"), help::SERVE, help::SERVE_EXAMPLE);
+    let command = with_option(alloc, command, "port", help::PORT)?;
+    let command = with_option(alloc, command, "count", help::COUNT)?;
+    Ok(with_place(alloc, command)?)
+}
+
+/// The program with the commands that make and fill a registry.
+fn with_makers<'a>(alloc: Global, program: Command<'a>) -> Result<Command<'a>, AllocError>
+    ensures { IfOk result (λ r. app_of r ≡ with_declare (with_run (with_init (app_of program.entry)))) }
+{
+    let program = program.subcommand(init_command(alloc)?)?;
+    let program = program.subcommand(run_command(alloc)?)?;
+    Ok(program.subcommand(declare_command(alloc)?)?)
+}
+
+/// The program with the commands that show a registry.
+fn with_viewers<'a>(alloc: Global, program: Command<'a>) -> Result<Command<'a>, AllocError>
+    ensures { IfOk result (λ r. app_of r ≡ with_serve (with_audit (with_statement (app_of program.entry)))) }
+{
+    let program = program.subcommand(statement_command(alloc)?)?;
+    let program = program.subcommand(audit_command(alloc)?)?;
+    Ok(program.subcommand(serve_command(alloc)?)?)
 }
 
 /// The program with its commands.
@@ -55,67 +182,20 @@ fn run_command<'a>(alloc: Global) -> Result<Command<'a>, AllocError>
 fn program_command<'a>(alloc: Global) -> Result<Command<'a>, AllocError>
     ensures { IfOk result (λ command. app_of command ≡ goo_app) }
 {
-    Command::new(alloc, "goo").subcommand(run_command(alloc)?)
-}
-
-/// The value of `--code`.
-fn code_given(under: &ArgMatches<'_>) -> Result<RegistryCode, LineFault>
-    ensures { result ≡ code_reading (first_value (found_of under.now) (codes "code")) }
-{
-    match under.get_str("code") {
-        Some(text) => code_in(text).ok_or(LineFault::Code),
-        None => Err(LineFault::Code),
-    }
-}
-
-/// The value of `--today`.
-fn day_given(under: &ArgMatches<'_>) -> Result<Day, LineFault>
-    ensures { result ≡ today_reading (first_value (found_of under.now) (codes "today")) }
-{
-    match under.get_str("today") {
-        Some(text) => day_in(text).ok_or(LineFault::Today),
-        None => Err(LineFault::Today),
-    }
-}
-
-/// The value of `--next-serial`, which is 1 where it isn't given.
-fn serial_given(under: &ArgMatches<'_>) -> Result<Serial, LineFault>
-    ensures { result ≡ serial_reading (first_value (found_of under.now) (codes "next-serial")) }
-{
-    match under.get_str("next-serial") {
-        Some(text) => serial_in(text).ok_or(LineFault::NextSerial),
-        None => Serial::new(1).ok_or(LineFault::NextSerial),
-    }
-}
-
-/// What a new registry begins with.
-fn opening_given(under: &ArgMatches<'_>) -> Result<Opening, LineFault>
-    ensures { result ≡ opening_given (first_value (found_of under.now) (codes "code")) (first_value (found_of under.now) (codes "today")) (first_value (found_of under.now) (codes "next-serial")) }
-{
-    Ok(Opening {
-        code: code_given(under)?,
-        today: day_given(under)?,
-        next_serial: serial_given(under)?,
-    })
-}
-
-/// Where the records are.
-fn place_given(under: &ArgMatches<'_>) -> Result<Place, LineFault>
-    ensures { result ≡ place_given (first_value (found_of under.now) (codes "memory")) (opening_given (first_value (found_of under.now) (codes "code")) (first_value (found_of under.now) (codes "today")) (first_value (found_of under.now) (codes "next-serial"))) }
-{
-    match under.get_str("memory") {
-        Some("true") => Ok(Place::Memory(opening_given(under)?)),
-        _ => Err(LineFault::Place),
-    }
+    let program = with_help(Command::new(alloc, "goo"), help::GOO, help::GOO_EXAMPLE);
+    let program = with_makers(alloc, program)?;
+    Ok(with_viewers(alloc, program)?)
 }
 
 /// The task of the command that the words name.
-fn task_named(matches: &ArgMatches<'_>) -> Result<Task, LineFault>
-    ensures { result ≡ task_named (subcommand_rows_of matches.now) }
+fn task_named<'a>(matches: &ArgMatches<'a>) -> Result<Task<'a>, LineFault>
+    ensures { asked result ≡ task_named (subcommand_rows_of matches.now) }
 {
     match matches.subcommand() {
-        Some(("run", under)) => Ok(Task::Run(place_given(under)?)),
-        Some(_) => Err(LineFault::Command),
+        Some((name, under)) => match verb_in(name) {
+            Some(verb) => task_by(verb, &read_options(under)),
+            None => Err(LineFault::Command),
+        },
         None => Err(LineFault::Command),
     }
 }
@@ -124,10 +204,10 @@ fn task_named(matches: &ArgMatches<'_>) -> Result<Task, LineFault>
 ///
 /// # Errors
 ///
-/// Where the words aren't a command of the program with its options, a value is refused, or they ask for help; and
-/// `Memory`, where there is no room to read them.
-pub fn read_task<'a, S: AsStr>(alloc: Global, words: &'a [S]) -> Result<Task, LineFault>
-    ensures task { IfOk result (λ task. task_in (map S.text words.now) ≡ Some task) }
+/// Where the words aren't a command of the program with its options, a value is missing or refused, or they ask for help;
+/// and `Memory`, where there is no room to read them.
+pub fn read_task<'a, S: AsStr>(alloc: Global, words: &'a [S]) -> Result<Task<'a>, LineFault>
+    ensures task { IfOk result (λ task. task_in (map S.text words.now) ≡ Some (asked_by task)) }
     ensures none { IfErr result (NoTask (task_in (map S.text words.now))) }
     ensures told { IfErr result (FaultIn (map S.text words.now)) }
 {

@@ -1,18 +1,17 @@
-//! The HTTP desk: what the bytes of a request are answered, and what that does to the registry.
+//! The desk: what an issuing body's registry answers over HTTP and over lines of text.
 //!
-//! The response is a function of the bytes and of what the registry knows: ten cases, the first of which that holds answers. Four
-//! go by the head of the request (`goo_desk_heads`) and one by its body having come; four by its target, its method and its caller
-//! (`handling`); the last is the route's own answer (`own`).
+//! [`answer`] is the response to all the bytes of a stream; [`serve_one`] reads a request from a stream until it is decided, and answers it;
+//! [`serve`] does so for a listener's connections, one after another. [`run_lines`] answers an input line by line, and [`read_command`] reads
+//! the body of one request. Each goes by any desk (`goo_desk_counter::Counter`, `goo_registry_desk::Desk`), which a registry over any shelf is.
 #![tactic(auto)]
 
-pub mod answered;
-mod apply;
-mod counter;
-mod desk;
-mod handling;
-mod import;
-mod show;
+mod law;
 
-pub use counter::{Counter, Imported, Shown};
-pub use desk::answer;
-pub use handling::Handling;
+pub use goo_body::{BodyFault, read_command};
+pub use goo_desk_answers::answer;
+pub use goo_desk_connection::{ServeFault, Served, serve_one};
+pub use goo_desk_counter::Counter;
+pub use goo_desk_responses::Status;
+pub use goo_desk_server::{ServerFault, serve, serve_stream};
+pub use goo_lines::{LinesFault, Tally, run_lines};
+pub use law::one_response;

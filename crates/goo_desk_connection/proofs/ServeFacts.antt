@@ -9,8 +9,8 @@ use Rattle.goo_registry_desk.specs.Desk.{Seen}
 use Rattle.goo_desk_heads.specs.Requests.{IsSure}
 use Rattle.goo_desk_responses.specs.declared.status.Status.{Status}
 use Rattle.goo_desk_responses.specs.declared.status.Status.TheVariants.{Unavailable}
-use Rattle.goo_desk.specs.Counters.{Showing, Importing, Beginning}
-use Rattle.goo_desk.specs.Responds.{Responds, Fails}
+use Rattle.goo_desk_counter.specs.Counters.{Showing, Importing, Beginning}
+use Rattle.goo_desk_answers.specs.Responds.{Responds, Fails}
 use Rattle.goo_desk_connection.specs.declared.sending.Served.{Served}
 use Rattle.goo_desk_connection.specs.Reading.{StandsFor}
 use Rattle.goo_desk_connection.specs.Serving.{IsApology, IsServed, Sends, SendsPart, SendsExcuse}
@@ -43,15 +43,15 @@ module _ (shows : Showing) (imports : Importing) (begins : Beginning) where
   part-answered s bytes status text new had has response prefix = (status, text, inl (record { response = response }), prefix)
 
   pub part-excused : (s : State) (bytes text : List ℕ) (new : Seen) (had has : Option (List ℕ))
-      → IsApology bytes text → (new.doubts ≡ 0 → Fails imports begins s bytes new.state) → AppendsPrefix had has text → SendsPart shows imports begins s bytes new had has
+      → IsApology bytes text → (new.lies ≡ 0 → new.doubts ≡ 0 → Fails imports begins s bytes new.state) → AppendsPrefix had has text → SendsPart shows imports begins s bytes new had has
   part-excused s bytes text new had has apology state prefix = (Unavailable, text, inr (record { unavailable = refl; text_is = apology; state = state }), prefix)
 
   pub all-excused : (s : State) (bytes text : List ℕ) (new : Seen) (had has : Option (List ℕ))
-      → IsApology bytes text → (new.doubts ≡ 0 → Fails imports begins s bytes new.state) → Appends had has text → Sends shows imports begins s bytes Unavailable new had has
+      → IsApology bytes text → (new.lies ≡ 0 → new.doubts ≡ 0 → Fails imports begins s bytes new.state) → Appends had has text → Sends shows imports begins s bytes Unavailable new had has
   all-excused s bytes text new had has apology state written = (text, inr (record { unavailable = refl; text_is = apology; state = state }), written)
 
   pub excuse-sent : {E : Type 0} (r : Result (Unit {0}) E) (s : State) (bytes text : List ℕ) (new : Seen) (had has : Option (List ℕ))
-      → IsApology bytes text → (new.doubts ≡ 0 → Fails imports begins s bytes new.state) → OnOk r (Appends had has text) → OnErr r (AppendsPrefix had has text) → SendsExcuse shows imports begins s bytes new had has
+      → IsApology bytes text → (new.lies ≡ 0 → new.doubts ≡ 0 → Fails imports begins s bytes new.state) → OnOk r (Appends had has text) → OnErr r (AppendsPrefix had has text) → SendsExcuse shows imports begins s bytes new had has
   excuse-sent (Ok u) s bytes text new had has apology state written prefix = (text, record { unavailable = refl; text_is = apology; state = state }, prefix-whole had has text written)
   excuse-sent (Err e) s bytes text new had has apology state written prefix = (text, record { unavailable = refl; text_is = apology; state = state }, prefix)
 
@@ -60,7 +60,7 @@ module _ (shows : Showing) (imports : Importing) (begins : Beginning) where
   served-stands s bytes input status text new stands (inr excused) = inr (record {
     unavailable = excused.unavailable;
     text_is = let (d, decides, is) = excused.text_is in (d, stands d decides, is);
-    state = λ fine. let (d, decides, stops) = excused.state fine in (d, stands d decides, stops);
+    state = λ honest fine. let (d, decides, stops) = excused.state honest fine in (d, stands d decides, stops);
   })
 
   pub sends-stands : {E : Type 0} (r : Result Served E) (known : Option (List ℕ)) (s : State) (bytes : List ℕ) (new : Seen) (had has : Option (List ℕ)) → StandsFor known bytes
@@ -85,7 +85,7 @@ module _ (shows : Showing) (imports : Importing) (begins : Beginning) where
         record {
           unavailable = excused.unavailable;
           text_is = let (d, decides, is_text) = excused.text_is in (d, stands d decides, is_text);
-          state = λ fine. let (d, decides, stops) = excused.state fine in (d, stands d decides, stops);
+          state = λ honest fine. let (d, decides, stops) = excused.state honest fine in (d, stands d decides, stops);
         },
         wrote,
       )

@@ -9,8 +9,8 @@ use Rattle.goo_desk_heads.specs.declared.request.RefusedHead.{RefusedHead}
 use Rattle.goo_desk_responses.specs.Responses.{response_text, fixed}
 use Rattle.goo_desk_responses.specs.declared.status.Status.{Status}
 use Rattle.goo_desk_responses.specs.declared.status.Status.TheVariants.{Unavailable}
-use Rattle.goo_desk.specs.Counters.{Showing, Importing, Beginning}
-use Rattle.goo_desk.specs.Responds.{Responds, Fails}
+use Rattle.goo_desk_counter.specs.Counters.{Showing, Importing, Beginning}
+use Rattle.goo_desk_answers.specs.Responds.{Responds, Fails}
 
 -- whether a head alone is asked for
 abbrev pub asks_for_head : Result Parts RefusedHead → Bool
@@ -30,7 +30,7 @@ module _ (shows : Showing) (imports : Importing) (begins : Beginning) where
   pub record IsExcused (s : State) (bytes : List ℕ) (status : Status) (text : List ℕ) (new : Seen) : Type 0 where
     pub unavailable : status ≡ Unavailable
     pub text_is : IsApology bytes text
-    pub state : new.doubts ≡ 0 → Fails imports begins s bytes new.state
+    pub state : new.lies ≡ 0 → new.doubts ≡ 0 → Fails imports begins s bytes new.state
 
   abbrev pub IsServed : State → List ℕ → Status → List ℕ → Seen → Type 0
   IsServed s bytes status text new = IsAnswered s bytes status text new ⊎ IsExcused s bytes status text new

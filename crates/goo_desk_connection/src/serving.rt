@@ -8,7 +8,8 @@ ghost use Rattle.goo_desk_connection.specs.declared.serve_fault.ServeFault.TheVa
 use crate::reading::read_decided;
 use crate::sending::{Served, apology};
 use crate::serve_fault::ServeFault;
-use goo_desk::{Counter, answer};
+use goo_desk_answers::answer;
+use goo_desk_counter::Counter;
 use goo_desk_responses::Status;
 use goo_streams::write_whole;
 use goo_types::fault::Fault;

@@ -1,0 +1,3 @@
+pub mod ShowFacts
+pub mod ImportFacts
+pub mod OneShown

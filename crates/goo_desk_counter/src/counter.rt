@@ -1,71 +1,50 @@
-//! A registry as a counter.
-ghost use Rattle.std.specs.Prelude.{◌≡◌};
-ghost use Rattle.goo_desk_counter.specs.Showing.{seen_of, shown_by, imported_by, begun_by};
-
-use crate::showing::{import_nothing, show_subject};
-use goo_desk::{Counter, Imported, Shown};
-use goo_registry_desk::Desk;
-use goo_registry::Registry;
+use goo_answers::denial::Denial;
 use goo_desk_routes::Subject;
-use goo_shelf::shelf::Shelf;
+use goo_registry_desk::Desk;
 use goo_types::fault::Fault;
 use goo_types::holder_code::HolderCode;
-use goo_types::outcome::Outcome;
-use goo_types::request::Request;
 use std::alloc::Global;
 
-/// A registry over any shelf, as a counter.
-pub struct ShelfCounter<S: Shelf> {
-    registry: Registry<S>,
+/// What a caller is shown.
+#[derive(Drop)]
+pub enum Shown {
+    /// This text.
+    Text(Vec<u8>),
+    /// Nothing.
+    Denied(Denial),
 }
 
-impl<S: Shelf> ShelfCounter<S> {
-    /// The counter of a registry.
-    pub fn new(registry: Registry<S>) -> ShelfCounter<S>
-        ensures { result.registry ≡ registry }
-    {
-        ShelfCounter { registry }
-    }
-
-    /// What keeps the records, as the counter leaves it.
-    pub fn into_shelf(self) -> S
-        ensures { result ≡ self.registry.shelf }
-    {
-        let ShelfCounter { registry } = self;
-        registry.into_shelf()
-    }
+/// What an import of declarations comes to.
+#[derive(Drop)]
+pub enum Imported {
+    /// A line for each row.
+    Report(Vec<u8>),
+    /// Nothing: the first record isn't the header.
+    NoHeader,
 }
 
-impl<S: Shelf> Desk for ShelfCounter<S> {
-    ghost seen = { λ d. seen_of (S.seen d.registry.shelf) };
+/// A desk that also shows what its registry knows, as texts, and takes in declarations.
+pub trait Counter: Desk {
+    ghost use Rattle.std.specs.Prelude.{ℕ, List, Option, Result};
+    ghost use Rattle.goo_spec.specs.State.{State};
+    ghost use Rattle.goo_desk_routes.specs.declared.task.Subject.{Subject};
+    ghost use Rattle.goo_answers.specs.declared.denial.Denial.{Denial};
+    ghost use Rattle.goo_desk_counter.specs.Counters.{Shows, Imports};
 
-    fn apply(&mut self, alloc: Global, request: &Request) -> Result<Outcome, Fault> {
-        self.registry.apply(alloc, request)
-    }
-}
+    /// Whether a caller is shown this of a subject.
+    ghost shows: { State → List ℕ → Subject → Result (List ℕ) Denial → Type 0 };
 
-impl<S: Shelf> Counter for ShelfCounter<S> {
-    ghost shows = { shown_by };
+    /// Whether an import comes to this report, none where there is no header, and to this state.
+    ghost imports: { State → List ℕ → List ℕ → Option (List ℕ) → State → Type 0 };
 
-    ghost imports = { imported_by };
+    /// Whether the first rows of an import come to this state.
+    ghost begins: { State → List ℕ → List ℕ → State → Type 0 };
 
-    ghost begins = { begun_by };
+    /// What a caller is shown of a subject. It changes nothing.
+    fn show(&mut self, alloc: Global, caller: &HolderCode, subject: Subject) -> Result<Shown, Fault>
+        ensures { Shows shows (Self.seen self.old) (Self.seen self.new) caller.now subject result };
 
-    fn show(
-        &mut self,
-        alloc: Global,
-        caller: &HolderCode,
-        subject: Subject,
-    ) -> Result<Shown, Fault> {
-        show_subject(alloc, &mut self.registry, caller, subject)
-    }
-
-    fn import(
-        &mut self,
-        alloc: Global,
-        caller: &HolderCode,
-        rows: &[u8],
-    ) -> Result<Imported, Fault> {
-        import_nothing(alloc, &mut self.registry, caller, rows)
-    }
+    /// Takes in declarations in CSV. After a fault the rows before it stand.
+    fn import(&mut self, alloc: Global, caller: &HolderCode, rows: &[u8]) -> Result<Imported, Fault>
+        ensures { Imports imports begins (Self.seen self.old) (Self.seen self.new) caller.now rows.now result };
 }

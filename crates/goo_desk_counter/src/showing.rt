@@ -1,17 +1,21 @@
 //! What a registry shows, as texts.
-ghost use Rattle.std.specs.Prelude.{◌≡◌, IfOk, IfErr};
-ghost use Rattle.goo_desk.specs.Counters.{Shows, Imports};
+ghost use Rattle.std.specs.Prelude.{◌≡◌};
+ghost use Rattle.goo_registry.specs.Desks.{seen_of};
 ghost use Rattle.goo_registry.specs.Shown.{apart as apart_stated};
-ghost use Rattle.goo_desk_routes.specs.declared.task.Subject.TheVariants.{Certificate, Notice as SentNotice, Audit};
-ghost use Rattle.goo_desk_counter.specs.Showing.{seen_of, shown_by, imported_by, begun_by};
+ghost use Rattle.goo_desk_routes.specs.declared.task.Subject.TheVariants.{Statement, Certificate, Cancellation, Notice as SentNotice, Audit};
+ghost use Rattle.goo_desk_counter.specs.Counters.{Shows};
+ghost use Rattle.goo_desk_counter.specs.Made.{shown_as};
+ghost use Rattle.goo_desk_counter.specs.Showing.{shown_by};
 
+use crate::counter::Shown;
 use goo_answers::denial::Denial;
-use goo_desk::{Imported, Shown};
-use goo_registry::{ReadFault, Registry};
 use goo_desk_routes::Subject;
+use goo_desk_shown::certificate_text;
+use goo_files::{TextFault, write_audit, write_cancellation, write_statement};
+use goo_registry::{ReadFault, Registry};
 use goo_sent::write;
 use goo_shelf::shelf::Shelf;
-use goo_desk_shown::{audit_text, certificate_text};
+use goo_types::account_no::AccountNo;
 use goo_types::act_no::ActNo;
 use goo_types::fault::Fault;
 use goo_types::holder_code::HolderCode;
@@ -31,6 +35,33 @@ fn apart<T: Drop>(read: Result<T, ReadFault>) -> Result<Result<T, Denial>, Fault
     }
 }
 
+/// What is shown of a text that was written in memory. A write there fails only for want of it.
+fn shown_from(bytes: Vec<u8>, written: Result<(), TextFault>) -> Result<Shown, Fault>
+    ensures { result ≡ shown_as bytes written }
+{
+    match written {
+        Ok(()) => Ok(Shown::Text(bytes)),
+        Err(TextFault::NotAllowed) => Ok(Shown::Denied(Denial::NotAllowed)),
+        Err(TextFault::Unknown) => Ok(Shown::Denied(Denial::Unknown)),
+        Err(TextFault::Store) => Err(Fault::Store),
+        Err(TextFault::Write) | Err(TextFault::Memory) => Err(Fault::Memory),
+    }
+}
+
+/// The statement of an account.
+fn show_statement<S: Shelf>(
+    alloc: Global,
+    registry: &mut Registry<S>,
+    caller: &HolderCode,
+    account: AccountNo,
+) -> Result<Shown, Fault>
+    ensures { Shows shown_by (seen_of (S.seen registry.old.shelf)) (seen_of (S.seen registry.new.shelf)) caller.now (Statement account) result }
+{
+    let mut text = Vec::new(alloc);
+    let written = write_statement(registry, caller, account, &mut text);
+    shown_from(text, written)
+}
+
 /// A certificate.
 fn show_certificate<S: Shelf>(
     alloc: Global,
@@ -44,6 +75,20 @@ fn show_certificate<S: Shelf>(
         Ok((lot, place)) => Ok(Shown::Text(certificate_text(alloc, number, &lot, &place)?)),
         Err(denial) => Ok(Shown::Denied(denial)),
     }
+}
+
+/// The document of a cancellation.
+fn show_cancellation<S: Shelf>(
+    alloc: Global,
+    registry: &mut Registry<S>,
+    caller: &HolderCode,
+    act: ActNo,
+) -> Result<Shown, Fault>
+    ensures { Shows shown_by (seen_of (S.seen registry.old.shelf)) (seen_of (S.seen registry.new.shelf)) caller.now (Cancellation act) result }
+{
+    let mut text = Vec::new(alloc);
+    let written = write_cancellation(alloc, registry, caller, act, &mut text);
+    shown_from(text, written)
 }
 
 /// A notice that was sent.
@@ -69,23 +114,9 @@ fn show_audit<S: Shelf>(
 ) -> Result<Shown, Fault>
     ensures { Shows shown_by (seen_of (S.seen registry.old.shelf)) (seen_of (S.seen registry.new.shelf)) caller.now Audit result }
 {
-    match apart(registry.audit(alloc, caller))? {
-        Ok(totals) => Ok(Shown::Text(audit_text(alloc, &totals)?)),
-        Err(denial) => Ok(Shown::Denied(denial)),
-    }
-}
-
-/// Nothing: this stands for the texts of goo_files.
-fn show_nothing<S: Shelf>(
-    alloc: Global,
-    registry: &mut Registry<S>,
-    caller: &HolderCode,
-    subject: Subject,
-) -> Result<Shown, Fault>
-    ensures { Shows shown_by (seen_of (S.seen registry.old.shelf)) (seen_of (S.seen registry.new.shelf)) caller.now subject result }
-{
-    let _read = apart(registry.audit(alloc, caller))?;
-    Err(Fault::Memory)
+    let mut text = Vec::new(alloc);
+    let written = write_audit(alloc, registry, caller, &mut text);
+    shown_from(text, written)
 }
 
 /// What a caller is shown of a subject.
@@ -98,24 +129,10 @@ pub(crate) fn show_subject<S: Shelf>(
     ensures { Shows shown_by (seen_of (S.seen registry.old.shelf)) (seen_of (S.seen registry.new.shelf)) caller.now subject result }
 {
     match subject {
+        Subject::Statement(account) => show_statement(alloc, registry, caller, account),
         Subject::Certificate(number) => show_certificate(alloc, registry, caller, number),
+        Subject::Cancellation(act) => show_cancellation(alloc, registry, caller, act),
         Subject::Notice(act) => show_notice(alloc, registry, caller, act),
         Subject::Audit => show_audit(alloc, registry, caller),
-        Subject::Statement(_) | Subject::Cancellation(_) => show_nothing(
-            alloc, registry, caller, subject,
-        ),
     }
-}
-
-/// No import: this stands for that of goo_files.
-pub(crate) fn import_nothing<S: Shelf>(
-    alloc: Global,
-    registry: &mut Registry<S>,
-    caller: &HolderCode,
-    _rows: &[u8],
-) -> Result<Imported, Fault>
-    ensures { Imports imported_by begun_by (seen_of (S.seen registry.old.shelf)) (seen_of (S.seen registry.new.shelf)) caller.now _rows.now result }
-{
-    let _read = apart(registry.audit(alloc, caller))?;
-    Err(Fault::Memory)
 }

@@ -1,6 +1,8 @@
 ghost use Rattle.std.specs.Prelude.{◌≡◌, ◌≤◌, length};
 ghost use Rattle.goo_desk_responses.specs.Responses.{status_code, status_phrase};
 
+use http::StatusCode;
+
 /// The statuses that the desk answers with.
 #[derive(Debug, Clone, Copy, PartialEq, Eq, Drop)]
 pub enum Status {
@@ -25,24 +27,31 @@ pub enum Status {
 }
 
 impl Status {
+    /// The status code, as the crate `http` has it.
+    pub fn standard(self) -> StatusCode
+        ensures { result ≡ status_code self }
+    {
+        match self {
+            Status::Done => StatusCode::OK,
+            Status::BadRequest => StatusCode::BAD_REQUEST,
+            Status::Forbidden => StatusCode::FORBIDDEN,
+            Status::NotFound => StatusCode::NOT_FOUND,
+            Status::MethodNotAllowed => StatusCode::METHOD_NOT_ALLOWED,
+            Status::Conflict => StatusCode::CONFLICT,
+            Status::TooLarge => StatusCode::PAYLOAD_TOO_LARGE,
+            Status::NotImplemented => StatusCode::NOT_IMPLEMENTED,
+            Status::Unavailable => StatusCode::SERVICE_UNAVAILABLE,
+        }
+    }
+
     /// The number that a response states.
     pub fn code(self) -> u16
         ensures { result ≡ status_code self }
     {
-        match self {
-            Status::Done => 200,
-            Status::BadRequest => 400,
-            Status::Forbidden => 403,
-            Status::NotFound => 404,
-            Status::MethodNotAllowed => 405,
-            Status::Conflict => 409,
-            Status::TooLarge => 413,
-            Status::NotImplemented => 501,
-            Status::Unavailable => 503,
-        }
+        self.standard().as_u16()
     }
 
-    /// The phrase beside it.
+    /// The phrase that a response states, by RFC 9110. The crate `http` has an older one for 413.
     pub fn phrase(self) -> &'static str
         ensures value { result.now ≡ status_phrase self }
         ensures short { length result.now ≤ 20 }

@@ -1,11 +1,13 @@
 //! How the program ends: its exit status, and what it says on standard error.
-ghost use Rattle.std.specs.Prelude.{◌≡◌, option_map};
-ghost use Rattle.goo_ending.specs.Endings.{status_of, failure_text, failure_of, failure_of_desk, ending_of, line_told, TellsLine};
+ghost use Rattle.std.specs.Prelude.{◌≡◌, Some};
+ghost use Rattle.goo_ending.specs.Endings.{status_of, failure_text, denial_text, failure_of, failure_of_desk, ending_of, reason_of, TellsLine};
 
+use crate::settings::{missing_text, wrong_text};
 use clap::Error;
 use goo_command_line::LineFault;
 use goo_lines::{LinesFault, Tally};
 use goo_types::fault::Fault;
+use std::fmt;
 
 /// What kept the program from doing all that it was asked.
 #[derive(Debug, Clone, Copy, PartialEq, Eq)]
@@ -18,18 +20,26 @@ pub enum Failure {
     Read,
     /// The output failed.
     Write,
+    /// There is no registry in the file.
+    NotARegistry,
+    /// The registry in the file is of this version, which is not read here.
+    Version(u32),
+    /// The registry in the file breaks a rule of its tables, or a table is missing.
+    Damaged,
 }
 
-impl Failure {
-    /// The line that tells it.
-    pub fn text(self) -> &'static str
-        ensures { result.now ≡ failure_text self }
-    {
+impl fmt::Display for Failure {
+    ghost output = { λ failure. Some (failure_text failure) };
+
+    fn fmt<W: fmt::Write>(&self, f: &mut fmt::Formatter<W>) -> fmt::Result {
         match self {
-            Failure::Store => "goo: store fault",
-            Failure::Memory => "goo: out of memory",
-            Failure::Read => "goo: read fault",
-            Failure::Write => "goo: write fault",
+            Failure::Store => f.write_str("goo: store fault"),
+            Failure::Memory => f.write_str("goo: out of memory"),
+            Failure::Read => f.write_str("goo: read fault"),
+            Failure::Write => f.write_str("goo: write fault"),
+            Failure::NotARegistry => f.write_str("goo: not a registry"),
+            Failure::Version(version) => write!(f, "goo: version {version}"),
+            Failure::Damaged => f.write_str("goo: damaged"),
         }
     }
 }
@@ -58,6 +68,30 @@ impl From<LinesFault> for Failure {
     }
 }
 
+/// Why nothing was done, where what was asked for is not there, or is there already.
+#[derive(Debug, Clone, Copy, PartialEq, Eq)]
+pub enum Denial {
+    /// A registry is in the file already.
+    AlreadyThere,
+    /// No account has this number.
+    UnknownAccount,
+    /// The CSV file doesn't begin with its header.
+    Header,
+}
+
+impl Denial {
+    /// The line that tells it.
+    pub fn text(self) -> &'static str
+        ensures { result.now ≡ denial_text self }
+    {
+        match self {
+            Denial::AlreadyThere => "goo: already there",
+            Denial::UnknownAccount => "goo: unknown account",
+            Denial::Header => "goo: header",
+        }
+    }
+}
+
 /// How the program ends.
 #[derive(Drop)]
 pub enum Ending {
@@ -65,6 +99,8 @@ pub enum Ending {
     Done,
     /// Something was refused or unreadable; all else was done.
     PartlyDone,
+    /// Nothing was done: why.
+    Denied(Denial),
     /// `clap` refuses the command line, or it asks for help.
     Words(Error),
     /// The command line asks for nothing that the program does: why.
@@ -80,12 +116,13 @@ impl From<LineFault> for Ending {
         match fault {
             LineFault::Words(error) => Ending::Words(error),
             LineFault::Command => Ending::Misused("goo: no command: see goo --help"),
-            LineFault::Place => Ending::Misused("goo: --memory is missing"),
-            LineFault::Code => Ending::Misused("goo: --code is a number of 1 to 99"),
-            LineFault::Today => Ending::Misused("goo: --today is a day as 2025-03-01"),
-            LineFault::NextSerial => Ending::Misused(
-                "goo: --next-serial is a number of 1 to 999999999999",
+            LineFault::NoPlace => Ending::Misused("goo: --db FILE or --memory is missing"),
+            LineFault::TwoPlaces => Ending::Misused("goo: --db and --memory exclude one another"),
+            LineFault::NotNew => Ending::Misused(
+                "goo: --code, --today and --next-serial are for a new registry: with --memory, or with init",
             ),
+            LineFault::Missing(setting) => Ending::Misused(missing_text(setting)),
+            LineFault::Wrong(setting) => Ending::Misused(wrong_text(setting)),
             LineFault::Memory => Ending::Failed(Failure::Memory),
         }
     }
@@ -110,30 +147,20 @@ impl Ending {
     {
         match self {
             Ending::Done => 0,
-            Ending::PartlyDone => 1,
+            Ending::PartlyDone | Ending::Denied(_) => 1,
             Ending::Words(_) | Ending::Misused(_) => 2,
             Ending::Failed(_) => 3,
         }
     }
 
-    /// The program's own line that tells what isn't all right; none where the parser's words do.
-    fn line(&self) -> Option<&'static str>
-        ensures { option_map (λ line. line.now) result ≡ line_told self.now }
-    {
-        match self {
-            Ending::Done | Ending::PartlyDone | Ending::Words(_) => None,
-            Ending::Misused(reason) => Some(reason),
-            Ending::Failed(failure) => Some(failure.text()),
-        }
-    }
-
     /// Says on standard error what isn't all right. Where that fails too, the exit status alone tells it.
     pub fn tell(&self, rt: &HostRuntime) {
-        if let Ending::Words(error) = self {
-            let _ = rt.eprint(error);
-        }
-        if let Some(line) = self.line() {
-            let _ = rt.eprintln(line);
-        }
+        let _ = match self {
+            Ending::Done | Ending::PartlyDone => Ok(()),
+            Ending::Denied(denial) => rt.eprintln(denial.text()),
+            Ending::Words(error) => rt.eprint(error),
+            Ending::Misused(reason) => rt.eprintln(reason),
+            Ending::Failed(failure) => rt.eprintln(failure),
+        };
     }
 }

@@ -4,6 +4,7 @@
 
 mod answering;
 mod ending;
+mod settings;
 
 pub use answering::answer_input;
-pub use ending::{Ending, Failure};
+pub use ending::{Denial, Ending, Failure};

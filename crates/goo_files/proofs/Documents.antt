@@ -1,47 +1,29 @@
 -- The document of a cancellation from two reads.
-use Rattle.std.proofs.Common.{◌≡◌, ◌∙◌, ℕ, ◌+◌, ◌<◌, List, [], ◌∷◌, ◌++◌, Option, Some, None, Result, Ok, Err, OnOk, OnErr, IfErr, refl, ap, sym, subst, inl, inr, true, false, Bool, cond, take, drop, get_or, length, append_assoc, take-append-drop}
-use Rattle.std.proofs.lemmas.List.{append-nil, take_more}
-use Rattle.std.proofs.lemmas.Bool.{cases_Bool}
-use Rattle.std.specs.Prelude.{⊤}
+use Rattle.std.proofs.Common.{◌≡◌, ◌∙◌, ℕ, List, Option, Some, None, Result, Ok, Err, OnOk, OnErr, IfErr, refl, ap, sym, subst, inl, inr, true, false, cond}
 use Rattle.std.specs.FinMap.{get}
 use Rattle.std.specs.Io.KnownBytes.{Appends, Keeps}
 use Rattle.goo_streams.specs.Streams.{AppendsPrefix}
 use Rattle.goo_types.specs.declared.fault.Fault.TheVariants as fault
-use Rattle.goo_types.specs.declared.piece.Piece.{Piece}
 use Rattle.goo_spec.specs.State.{State, Account, Cancellation}
 use Rattle.goo_shelf.specs.Shelf.{Moment, Looks}
 use Rattle.goo_answers.specs.Reads.{may_see}
 use Rattle.goo_answers.specs.declared.denial.Denial.{Denial}
 use Rattle.goo_answers.specs.declared.denial.Denial.TheVariants as denial
-use Rattle.goo_registry.specs.Reads.{account_denial, absent_denial, holder_shown, IsCancellationOf, IsCancellationDenied, IsCancellationShown}
-use Rattle.goo_registry.specs.AccountReads.{IsHeadingShown, IsHeadingOf}
+use Rattle.goo_registry.specs.Reads.{account_denial, holder_shown, IsCancellationOf, IsCancellationDenied, IsCancellationShown}
+use Rattle.goo_registry.specs.AccountReads.{IsHeadingShown}
 use Rattle.goo_registry.specs.Shown.{apart}
 use Rattle.goo_registry.specs.declared.cancellation_statement.CancellationStatement.{CancellationStatement}
 use Rattle.goo_registry.specs.declared.heading.Heading.{Heading}
 use Rattle.goo_registry.specs.declared.read_fault.ReadFault.{ReadFault}
 use Rattle.goo_registry.specs.declared.read_fault.ReadFault.TheVariants.{NotAllowed, Unknown, Store, Memory}
-use Rattle.goo_files_documents.specs.Cancellation.{document_lines, cancellation_text}
-use Rattle.goo_files_documents.specs.Runs.{document_line}
+use Rattle.goo_files_documents.specs.Cancellation.{cancellation_text}
 use Rattle.goo_files_documents.specs.declared.cancellation.CancellationHead.{CancellationHead}
 use Rattle.goo_files.specs.Faults.{of_read}
-use Rattle.goo_files.specs.Texts.{IsDocument, head_of, denial_in, denial_by, cancellation_denial}
+use Rattle.goo_files.specs.Texts.{IsDocument, denial_in, denial_by, cancellation_denial}
 use Rattle.goo_files.specs.Writes.{Writes}
 use Rattle.goo_files.specs.declared.text_fault.TextFault.{TextFault}
 use Rattle.goo_files.specs.declared.text_fault.TextFault.TheVariants as text
 use Rattle.goo_files.proofs.Chaining.{chain_ok, chain_err}
-
--- the lines of runs, one more
-
-pub documents-append : (ps qs : List Piece) → document_lines (ps ++ qs) ≡ document_lines ps ++ document_lines qs
-documents-append [] qs = refl
-documents-append (p ∷ ps) qs = ap (λ t. document_line p ++ t) (documents-append ps qs) ∙ sym (append_assoc (document_line p) (document_lines ps) (document_lines qs))
-
-pub documents-next : (ps : List Piece) (i : ℕ) (p : Piece) → i < length ps → p ≡ get_or ps i p → document_lines (take (i + 1) ps) ≡ document_lines (take i ps) ++ document_line p
-documents-next ps i p lt is =
-    ap document_lines (take_more ps i p lt ∙ ap (λ y. take i ps ++ y ∷ []) (sym is)) ∙ documents-append (take i ps) (p ∷ []) ∙ ap (λ t. document_lines (take i ps) ++ t) (append-nil (document_line p))
-
-pub documents-front : (ps : List Piece) (i : ℕ) → document_lines ps ≡ document_lines (take i ps) ++ document_lines (drop i ps)
-documents-front ps i = ap document_lines (sym (take-append-drop i ps)) ∙ documents-append (take i ps) (drop i ps)
 
 -- who may see it
 

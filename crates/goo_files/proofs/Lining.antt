@@ -1,5 +1,5 @@
 -- An account's runs, read and written one at a time, each by its line.
-use Rattle.std.proofs.Common.{◌≡◌, ◌∙◌, ◌+◌, ℕ, List, [], ◌∷◌, ◌++◌, Option, Some, None, Result, Ok, Err, refl, ap, sym, subst, inl, inr, append_assoc, rules}
+use Rattle.std.proofs.Common.{◌≡◌, ◌∙◌, ◌+◌, ℕ, List, [], ◌∷◌, ◌++◌, flat_map, Option, Some, None, Result, Ok, Err, refl, ap, sym, subst, inr}
 use Rattle.std.specs.Prelude.{⊤}
 use Rattle.std.specs.FinMap.{get}
 use Rattle.std.specs.Io.KnownBytes.{Appends, Keeps}
@@ -10,31 +10,28 @@ use Rattle.goo_spec.specs.Sound.{IsSound}
 use Rattle.goo_spec.specs.State.{State}
 use Rattle.goo_rows.specs.Rows.{AreRowsOf}
 use Rattle.goo_shelf.specs.Shelf.{Moment, Looks, IsReady}
-use Rattle.goo_spec_runs.specs.NextRun.{from_of, IsNextRun, BeginsFrom}
+use Rattle.goo_spec_runs.specs.NextRun.{from_of, BeginsFrom}
 use Rattle.goo_spec_runs.proofs.Walking.{IsWalking, walk_start, walk_on, walk_end}
 use Rattle.goo_answers.specs.Reads.{kept_where, names}
 use Rattle.goo_answers.specs.declared.denial.Denial.{Denial}
 use Rattle.goo_answers.specs.declared.denial.Denial.TheVariants as denial
 use Rattle.goo_types.specs.declared.fault.Fault.TheVariants as fault
-use Rattle.goo_answers.proofs.Looking.{still}
+use Rattle.goo_shelf.proofs.Looking.{still}
 use Rattle.goo_answers.proofs.Naming.{some_runs}
 use Rattle.goo_registry.specs.Reads.{account_denial}
 use Rattle.goo_registry.specs.AccountReads.{IsNextRunShown}
 use Rattle.goo_registry.specs.Shown.{apart}
 use Rattle.goo_registry.specs.declared.read_fault.ReadFault.{ReadFault}
 use Rattle.goo_registry.specs.declared.read_fault.ReadFault.TheVariants.{NotAllowed, Unknown, Store, Memory}
-use Rattle.goo_files_documents.specs.Counts.{no_counts, with_run, counts_of}
-use Rattle.goo_files.specs.Lines.{lines_by, AreLines, IsRowFault}
-use Rattle.goo_files_documents.specs.declared.counts.Counts.{Counts}
+use Rattle.goo_files.specs.Lines.{AreLines, IsRowFault}
 use Rattle.goo_files.specs.Faults.{of_read}
 use Rattle.goo_files.specs.Texts.{AreRunsNaming}
 use Rattle.goo_files.specs.Writes.{Writes, Began}
 use Rattle.goo_files.specs.declared.text_fault.TextFault.{TextFault}
 use Rattle.goo_files.specs.declared.text_fault.TextFault.TheVariants as text
-use Rattle.goo_files.proofs.Going.{IsWell}
 use Rattle.goo_files.proofs.Chaining.{chain_ok, chain_err}
-use Rattle.goo_files.proofs.LineFacts.{lines-append, lines-last}
-use Rattle.goo_files.proofs.Lines.{counts-last}
+use Rattle.std.proofs.lemmas.List.Concat.{flat_map-append}
+use Rattle.goo_files.proofs.LineFacts.{lines-last}
 
 -- there was no room after a look-up that was answered
 pub full : (a b : Moment) (u : Unit {0}) → Looks a b (Ok u) (λ (u : Unit {0}). ⊤) → Looks {T = Unit {0}} a b (Err fault.Memory) (λ u. ⊤)
@@ -50,27 +47,32 @@ full a b u look = record {
   crash = look.crash;
 }
 
--- the same for any line: one proof would serve the statement as well
-module _ (line : Piece → List ℕ) where
+-- the registry is well as long as nothing is in doubt
+pub record IsWell (m : Moment) : Type 0 where
+  pub sound : m.doubts ≡ 0 → IsSound m.state
+  pub rows : m.doubts ≡ 0 → AreRowsOf m.state.at m.rows
+
+-- a line a run, and a sum over the runs
+module _ {T : Type 0} (line : Piece → List ℕ) (sum : List Piece → T) where
   -- some of the runs were written, and the others are those from a number on
-  pub record IsBegun (s : State) (account from : ℕ) (counts : Counts) (before at : Option (List ℕ)) : Type 0 where
+  pub record IsBegun (s : State) (account from : ℕ) (total : T) (before at : Option (List ℕ)) : Type 0 where
     pub all : List Piece
     pub are_runs : AreRunsNaming s account all
     pub done : List Piece
     pub walk : IsWalking (kept_where (names account) (get s.at)) all from done
-    pub written : Appends before at (lines_by line done)
-    pub counted : counts ≡ counts_of done
+    pub written : Appends before at (flat_map line done)
+    pub summed : total ≡ sum done
 
-  pub record IsGoing (old mid : Moment) (before at : Option (List ℕ)) (account from : ℕ) (counts : Counts) : Type 0 where
+  pub record IsGoing (old mid : Moment) (before at : Option (List ℕ)) (account from : ℕ) (total : T) : Type 0 where
     pub looks : Looks old mid (Ok tt) (λ (u : Unit {0}). ⊤)
-    pub begun : mid.doubts ≡ 0 → IsBegun old.state account from counts before at
+    pub begun : mid.doubts ≡ 0 → IsBegun old.state account from total before at
 
-  pub going_start : (m : Moment) (before : Option (List ℕ)) (account : ℕ) → IsReady m → IsWell m → IsGoing m m before before account 0 no_counts
+  pub going_start : (m : Moment) (before : Option (List ℕ)) (account : ℕ) → IsReady m → IsWell m → IsGoing m m before before account 0 (sum [])
   going_start m before account ready well = record {
     looks = still m tt (λ (u : Unit {0}). ⊤) ready (λ none. tt);
     begun = λ none.
         let all = some_runs m.state m.rows account (well.rows none) (well.sound none) in
-        record { all = all.0; are_runs = all.1; done = []; walk = walk_start (kept_where (names account) (get m.state.at)) all.0 all.1; written = appends-none before; counted = refl };
+        record { all = all.0; are_runs = all.1; done = []; walk = walk_start (kept_where (names account) (get m.state.at)) all.0 all.1; written = appends-none before; summed = refl };
   }
 
   kept_none : (a : Option (List ℕ)) → Keeps a a
@@ -81,30 +83,30 @@ module _ (line : Piece → List ℕ) where
   shown_at : (s t : State) (caller : List ℕ) (account : ℕ) (after : Option ℕ) (r : Result (Option Piece) Denial) → s ≡ t → IsNextRunShown s caller account after r → IsNextRunShown t caller account after r
   shown_at s t caller account after r same shown = subst (λ (u : State). IsNextRunShown u caller account after r) same shown
 
-  module _ (old mid new : Moment) (before at : Option (List ℕ)) (caller : List ℕ) (account : ℕ) (after : Option ℕ) (counts : Counts) (going : IsGoing old mid before at account (from_of after) counts) where
-    begun_run : (later : Option (List ℕ)) (p : Piece) → BeginsFrom (from_of after) p → IsNextRunShown old.state caller account after (Ok (Some p)) → Appends at later (line p) → IsBegun old.state account (from_of after) counts before at
-        → IsBegun old.state account (p.last + 1) (with_run counts p) before later
-    begun_run later p begins shown wrote b = record {
+  module _ (old mid new : Moment) (before at : Option (List ℕ)) (caller : List ℕ) (account : ℕ) (after : Option ℕ) (total : T) (going : IsGoing old mid before at account (from_of after) total) where
+    begun_run : (more : T → Piece → T) → ((ps : List Piece) (p : Piece) → sum (ps ++ p ∷ []) ≡ more (sum ps) p) → (later : Option (List ℕ)) (p : Piece) → BeginsFrom (from_of after) p → IsNextRunShown old.state caller account after (Ok (Some p)) → Appends at later (line p) → IsBegun old.state account (from_of after) total before at
+        → IsBegun old.state account (p.last + 1) (more total p) before later
+    begun_run more adds later p begins shown wrote b = record {
       all = b.all;
       are_runs = b.are_runs;
       done = b.done ++ p ∷ [];
       walk = walk_on (kept_where (names account) (get old.state.at)) b.all (from_of after) b.done p begins b.walk shown.1;
-      written = subst (Appends before later) (sym (lines-last line b.done p)) (appends-more before at later (lines_by line b.done) (line p) b.written wrote);
-      counted = ap (λ c. with_run c p) b.counted ∙ sym (counts-last no_counts b.done p);
+      written = subst (Appends before later) (sym (lines-last line b.done p)) (appends-more before at later (flat_map line b.done) (line p) b.written wrote);
+      summed = ap (λ t. more t p) b.summed ∙ sym (adds b.done p);
     }
 
     -- one more run was written
-    pub going_on : (later : Option (List ℕ)) (p : Piece) → BeginsFrom (from_of after) p → Looks mid new (Ok (Ok (Some p))) (IsNextRunShown mid.state caller account after) → Appends at later (line p)
-        → IsGoing old new before later account (p.last + 1) (with_run counts p)
-    going_on later p begins look wrote = record {
+    pub going_on : (more : T → Piece → T) → ((ps : List Piece) (p : Piece) → sum (ps ++ p ∷ []) ≡ more (sum ps) p) → (later : Option (List ℕ)) (p : Piece) → BeginsFrom (from_of after) p → Looks mid new (Ok (Ok (Some p))) (IsNextRunShown mid.state caller account after) → Appends at later (line p)
+        → IsGoing old new before later account (p.last + 1) (more total p)
+    going_on more adds later p begins look wrote = record {
       looks = chain_ok old mid new tt (λ (u : Unit {0}). ⊤) going.looks (Ok (Some p)) (IsNextRunShown mid.state caller account after) tt look;
       begun = λ none.
           let sure = look.doubted none in
-          begun_run later p begins (shown_at mid.state old.state caller account after (Ok (Some p)) (going.looks.same sure) (look.found none)) wrote (going.begun sure);
+          begun_run more adds later p begins (shown_at mid.state old.state caller account after (Ok (Some p)) (going.looks.same sure) (look.found none)) wrote (going.begun sure);
     }
 
     -- all were
-    pub going_ends : Looks mid new (Ok (Ok None)) (IsNextRunShown mid.state caller account after) → Writes old new before at (Ok counts) None (AreLines line old.state account)
+    pub going_ends : Looks mid new (Ok (Ok None)) (IsNextRunShown mid.state caller account after) → Writes old new before at (Ok total) None (AreLines line sum old.state account)
     going_ends look = record {
       looks = chain_ok old mid new tt (λ (u : Unit {0}). ⊤) going.looks (Ok None) (IsNextRunShown mid.state caller account after) tt look;
       shown = λ none. refl;
@@ -113,38 +115,38 @@ module _ (line : Piece → List ℕ) where
           let b = going.begun sure in
           let shown = shown_at mid.state old.state caller account after (Ok None) (going.looks.same sure) (look.found none) in
           let same : b.all ≡ b.done = walk_end (kept_where (names account) (get old.state.at)) b.all (from_of after) b.done b.walk shown.1 in
-          (lines_by line b.all, record { runs = b.all; are_runs = b.are_runs; is = refl; counted = b.counted ∙ ap counts_of (sym same) }, subst (λ l. Appends before at (lines_by line l)) (sym same) b.written);
+          (flat_map line b.all, record { runs = b.all; are_runs = b.are_runs; is = refl; summed = b.summed ∙ ap sum (sym same) }, subst (λ l. Appends before at (flat_map line l)) (sym same) b.written);
       denied = λ none. tt;
       silent = λ none. tt;
       begun = λ late none. tt;
     }
 
     -- the lines so far are a beginning of all
-    begun_prefix : (later : Option (List ℕ)) → IsBegun old.state account (from_of after) counts before at → Keeps at later → Began before later (λ t. (c : Counts) × AreLines line old.state account c t)
+    begun_prefix : (later : Option (List ℕ)) → IsBegun old.state account (from_of after) total before at → Keeps at later → Began before later (λ t. (c : T) × AreLines line sum old.state account c t)
     begun_prefix later b kept =
         inr (
-          lines_by line b.all,
-          (counts_of b.all, record { runs = b.all; are_runs = b.are_runs; is = refl; counted = refl }),
-          subst (AppendsPrefix before later) (sym (ap (lines_by line) b.walk.order ∙ lines-append line b.done b.walk.rest))
-              (prefix-front before later (lines_by line b.done) (lines_by line b.walk.rest) (prefix-whole before later (lines_by line b.done) (appends-kept before at later (lines_by line b.done) b.written kept))),
+          flat_map line b.all,
+          (sum b.all, record { runs = b.all; are_runs = b.are_runs; is = refl; summed = refl }),
+          subst (AppendsPrefix before later) (sym (ap (flat_map line) b.walk.order ∙ flat_map-append line b.done b.walk.rest))
+              (prefix-front before later (flat_map line b.done) (flat_map line b.walk.rest) (prefix-whole before later (flat_map line b.done) (appends-kept before at later (flat_map line b.done) b.written kept))),
         )
 
     -- and so they are with a beginning of the next line
-    begun_part : (later : Option (List ℕ)) (p : Piece) → BeginsFrom (from_of after) p → IsNextRunShown old.state caller account after (Ok (Some p)) → IsBegun old.state account (from_of after) counts before at → AppendsPrefix at later (line p)
-        → Began before later (λ t. (c : Counts) × AreLines line old.state account c t)
+    begun_part : (later : Option (List ℕ)) (p : Piece) → BeginsFrom (from_of after) p → IsNextRunShown old.state caller account after (Ok (Some p)) → IsBegun old.state account (from_of after) total before at → AppendsPrefix at later (line p)
+        → Began before later (λ t. (c : T) × AreLines line sum old.state account c t)
     begun_part later p begins shown b part =
         let on = walk_on (kept_where (names account) (get old.state.at)) b.all (from_of after) b.done p begins b.walk shown.1 in
-        let lines : lines_by line b.all ≡ (lines_by line b.done ++ line p) ++ lines_by line on.rest =
-        ap (lines_by line) on.order ∙ lines-append line (b.done ++ p ∷ []) on.rest ∙ ap (λ t. t ++ lines_by line on.rest) (lines-last line b.done p) in
+        let lines : flat_map line b.all ≡ (flat_map line b.done ++ line p) ++ flat_map line on.rest =
+        ap (flat_map line) on.order ∙ flat_map-append line (b.done ++ p ∷ []) on.rest ∙ ap (λ t. t ++ flat_map line on.rest) (lines-last line b.done p) in
         inr (
-          lines_by line b.all,
-          (counts_of b.all, record { runs = b.all; are_runs = b.are_runs; is = refl; counted = refl }),
-          subst (AppendsPrefix before later) (sym lines) (prefix-front before later (lines_by line b.done ++ line p) (lines_by line on.rest) (prefix-more before at later (lines_by line b.done) (line p) b.written part)),
+          flat_map line b.all,
+          (sum b.all, record { runs = b.all; are_runs = b.are_runs; is = refl; summed = refl }),
+          subst (AppendsPrefix before later) (sym lines) (prefix-front before later (flat_map line b.done ++ line p) (flat_map line on.rest) (prefix-more before at later (flat_map line b.done) (line p) b.written part)),
         )
 
     -- the writer failed
     pub going_cut : (later : Option (List ℕ)) (p : Piece) → BeginsFrom (from_of after) p → Looks mid new (Ok (Ok (Some p))) (IsNextRunShown mid.state caller account after) → AppendsPrefix at later (line p)
-        → Writes {T = Counts} old new before later (Err text.Write) None (AreLines line old.state account)
+        → Writes {T = T} old new before later (Err text.Write) None (AreLines line sum old.state account)
     going_cut later p begins look part = record {
       looks = chain_ok old mid new tt (λ (u : Unit {0}). ⊤) going.looks (Ok (Some p)) (IsNextRunShown mid.state caller account after) tt look;
       shown = λ none. tt;
@@ -165,7 +167,7 @@ module _ (line : Piece → List ℕ) where
 
     -- what keeps the records failed
     pub going_fails : (mid.doubts ≡ 0 → account_denial caller (get old.state.accounts account) ≡ None) → (fault : ReadFault) → Looks mid new (apart {T = Option Piece} (Err fault)) (IsNextRunShown mid.state caller account after)
-        → Writes {T = Counts} old new before at (Err (of_read fault)) None (AreLines line old.state account)
+        → Writes {T = T} old new before at (Err (of_read fault)) None (AreLines line sum old.state account)
     going_fails shown NotAllowed look = record {
       looks = chain_ok old mid new tt (λ (u : Unit {0}). ⊤) going.looks (Err denial.NotAllowed) (IsNextRunShown mid.state caller account after) tt look;
       shown = λ none. tt;
@@ -201,7 +203,7 @@ module _ (line : Piece → List ℕ) where
 
     -- the row wasn't written
     going_full : (later : Option (List ℕ)) (p : Piece) → BeginsFrom (from_of after) p → Looks mid new (Ok (Ok (Some p))) (IsNextRunShown mid.state caller account after) → AppendsPrefix at later (line p)
-        → Writes {T = Counts} old new before later (Err text.Memory) None (AreLines line old.state account)
+        → Writes {T = T} old new before later (Err text.Memory) None (AreLines line sum old.state account)
     going_full later p begins look part =
         let ok = chain_ok {V = Unit {0}} old mid new tt (λ (u : Unit {0}). ⊤) going.looks (Ok (Some p)) (IsNextRunShown mid.state caller account after) tt look in
         record {
@@ -217,7 +219,7 @@ module _ (line : Piece → List ℕ) where
         }
 
     pub going_broken : (later : Option (List ℕ)) (p : Piece) (f : TextFault) → IsRowFault f → BeginsFrom (from_of after) p → Looks mid new (Ok (Ok (Some p))) (IsNextRunShown mid.state caller account after) → AppendsPrefix at later (line p)
-        → Writes {T = Counts} old new before later (Err f) None (AreLines line old.state account)
+        → Writes {T = T} old new before later (Err f) None (AreLines line sum old.state account)
     going_broken later p text.NotAllowed is begins look part = absurd is
     going_broken later p text.Unknown is begins look part = absurd is
     going_broken later p text.Write is begins look part = going_cut later p begins look part

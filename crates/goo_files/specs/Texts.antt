@@ -1,5 +1,5 @@
 -- The texts that a registry gives out.
-use Rattle.std.specs.Prelude.{◌≡◌, ℕ, List, [], ◌∷◌, ◌++◌, Option, Some, None, Result, Ok, Err, if◌then◌else◌}
+use Rattle.std.specs.Prelude.{◌≡◌, ℕ, List, flat_map, Option, Some, None, Result, Ok, Err, if◌then◌else◌}
 use Rattle.std.specs.FinMap.{get}
 use Rattle.std.specs.List.{filter}
 use Rattle.goo_types.specs.declared.piece.Piece.{Piece}
@@ -15,9 +15,7 @@ use Rattle.goo_answers.specs.declared.denial.Denial.TheVariants.{NotAllowed}
 use Rattle.goo_files_csv.specs.Holdings.{holdings_text}
 use Rattle.goo_files_documents.specs.Audit.{audit_line}
 use Rattle.goo_files_documents.specs.Cancellation.{cancellation_text}
-use Rattle.goo_files_documents.specs.Counts.{counts_of}
-use Rattle.goo_files_documents.specs.Statement.{statement_text, statement_lines}
-use Rattle.goo_files_documents.specs.declared.counts.Counts.{Counts}
+use Rattle.goo_files_documents.specs.Statement.{statement_text}
 use Rattle.goo_files_documents.specs.declared.cancellation.CancellationHead.{CancellationHead}
 use Rattle.goo_registry.specs.Reads.{is_cancelled_by, absent_denial, holder_shown}
 
@@ -32,13 +30,6 @@ pub record IsStatement (s : State) (account : ℕ) (text : List ℕ) : Type 0 wh
   pub runs : List Piece
   pub are_runs : AreRunsNaming s account runs
   pub is : text ≡ statement_text s.own s.today account row.holder row.closed runs
-
--- the lines of its runs, and how many certificates they count
-pub record AreRunLines (s : State) (account : ℕ) (counts : Counts) (text : List ℕ) : Type 0 where
-  pub runs : List Piece
-  pub are_runs : AreRunsNaming s account runs
-  pub is : text ≡ statement_lines runs
-  pub counted : counts ≡ counts_of runs
 
 -- the holdings of an account as CSV: those of its runs that are held
 abbrev pub held_runs : List Piece → List Piece
@@ -72,12 +63,11 @@ pub record IsDocument (s : State) (act : ℕ) (text : List ℕ) : Type 0 where
   pub is : text ≡ cancellation_text (head_of s act cancellation row.holder) runs
 
 -- the audit: a line a device
-abbrev pub audit_lines : List DeviceTotals → List ℕ
-audit_lines [] = []
-audit_lines (d ∷ ds) = audit_line d.device d.declared d.issued d.carry ++ audit_lines ds
+abbrev pub device_line : DeviceTotals → List ℕ
+device_line d = audit_line d.device d.declared d.issued d.carry
 
 abbrev pub IsAuditText : State → List ℕ → Type 0
-IsAuditText s text = text ≡ audit_lines (totals_of s)
+IsAuditText s text = text ≡ flat_map device_line (totals_of s)
 
 -- why the audit isn't shown; None where it is
 abbrev pub audit_denial : List ℕ → Option Denial

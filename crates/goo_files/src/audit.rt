@@ -1,9 +1,9 @@
 //! The audit of the devices.
-ghost use Rattle.std.specs.Prelude.{◌≡◌, OnOk, OnErr};
+ghost use Rattle.std.specs.Prelude.{◌≡◌, OnOk, OnErr, flat_map};
 ghost use Rattle.std.specs.Io.KnownBytes.{Appends};
 ghost use Rattle.goo_streams.specs.Streams.{AppendsPrefix};
 ghost use Rattle.goo_files.specs.Writes.{Writes};
-ghost use Rattle.goo_files.specs.Texts.{IsAuditText, audit_lines, audit_denial};
+ghost use Rattle.goo_files.specs.Texts.{IsAuditText, device_line, audit_denial};
 
 use crate::text_fault::TextFault;
 use crate::writing::write_line;
@@ -18,8 +18,8 @@ use std::io::Write;
 
 /// Writes a line for each device.
 fn write_devices<W: Write>(writer: &mut W, totals: &[DeviceTotals]) -> Result<(), WriteFault>
-    ensures written { OnOk result (Appends (W.contents writer.old) (W.contents writer.new) (audit_lines totals.now)) }
-    ensures prefix { OnErr result (AppendsPrefix (W.contents writer.old) (W.contents writer.new) (audit_lines totals.now)) }
+    ensures written { OnOk result (Appends (W.contents writer.old) (W.contents writer.new) (flat_map device_line totals.now)) }
+    ensures prefix { OnErr result (AppendsPrefix (W.contents writer.old) (W.contents writer.new) (flat_map device_line totals.now)) }
 {
     for device in totals {
         let line = audit_line(&device.device, device.declared, device.issued, device.carry);

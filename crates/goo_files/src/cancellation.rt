@@ -1,9 +1,10 @@
 //! The document of a cancellation.
-ghost use Rattle.std.specs.Prelude.{◌≡◌, OnOk, OnErr, IfErr};
+ghost use Rattle.std.specs.Prelude.{◌≡◌, OnOk, OnErr, IfErr, flat_map};
 ghost use Rattle.std.specs.Io.KnownBytes.{Appends};
 ghost use Rattle.goo_streams.specs.Streams.{AppendsPrefix};
 ghost use Rattle.goo_types.specs.Piece.{IsRising};
-ghost use Rattle.goo_files_documents.specs.Cancellation.{document_lines, cancellation_foot as foot_text, certificates_in as count_in, cancellation_text};
+ghost use Rattle.goo_files_documents.specs.Cancellation.{cancellation_foot as foot_text, certificates_in as count_in, cancellation_text};
+ghost use Rattle.goo_files_documents.specs.Runs.{document_line as document_text};
 ghost use Rattle.goo_files.specs.Writes.{Writes};
 ghost use Rattle.goo_files.specs.declared.text_fault.TextFault.TheVariants.{Write as Unwritten};
 ghost use Rattle.goo_files.specs.Texts.{IsDocument, cancellation_denial};
@@ -54,8 +55,8 @@ fn head_of_document(
 
 /// Writes a line for each run.
 fn write_runs<W: Write>(writer: &mut W, runs: &[Piece]) -> Result<(), WriteFault>
-    ensures written { OnOk result (Appends (W.contents writer.old) (W.contents writer.new) (document_lines runs.now)) }
-    ensures prefix { OnErr result (AppendsPrefix (W.contents writer.old) (W.contents writer.new) (document_lines runs.now)) }
+    ensures written { OnOk result (Appends (W.contents writer.old) (W.contents writer.new) (flat_map document_text runs.now)) }
+    ensures prefix { OnErr result (AppendsPrefix (W.contents writer.old) (W.contents writer.new) (flat_map document_text runs.now)) }
 {
     for run in runs {
         write_line(writer, &document_line(run))?;

@@ -1,6 +1,6 @@
 //! What a registry gives out as files: statements of accounts, documents of cancellations, holdings as CSV, audits; and imports of declarations from CSV.
 //!
-//! Each text is written line by line as its rows are read, so that no call holds all rows of an account.
+//! Statements and holdings are written run by run as these are read, so that no call holds all runs of an account.
 #![tactic(auto)]
 
 mod audit;
@@ -14,9 +14,9 @@ mod writing;
 
 pub use audit::write_audit;
 pub use cancellation::write_cancellation;
-pub use goo_files_import::{Cause, ImportFault, Report, RowResult, write_report};
+pub use goo_files_import::{Cause, ImportFault, Progress, Report, RowResult, Unwatched};
 pub use holdings::write_holdings_csv;
-pub use import::import_declarations;
-pub use laws::{one_holdings_csv, one_statement};
+pub use import::{import_declarations, import_declarations_watched, write_report};
+pub use laws::{one_document, one_holdings_csv, one_statement};
 pub use statement::write_statement;
 pub use text_fault::TextFault;

@@ -7,7 +7,8 @@ ghost use Rattle.goo_streams.specs.Streams.{AppendsPrefix};
 ghost use Rattle.goo_files_documents.specs.Statement.{statement_head as head_text};
 ghost use Rattle.goo_registry.specs.Reads.{account_denial};
 ghost use Rattle.goo_files.specs.Writes.{Writes};
-ghost use Rattle.goo_files.specs.Texts.{IsStatement, AreRunLines};
+ghost use Rattle.goo_files.specs.Lines.{AreRunLines};
+ghost use Rattle.goo_files.specs.Texts.{IsStatement};
 
 use crate::text_fault::TextFault;
 use crate::writing::write_line;

@@ -1,5 +1,5 @@
 -- The document of a cancellation.
-use Rattle.std.specs.Prelude.{ℕ, ◌+◌, List, [], ◌∷◌, ◌++◌, codes, decimal}
+use Rattle.std.specs.Prelude.{ℕ, ◌+◌, List, [], ◌∷◌, ◌++◌, flat_map, codes, decimal}
 use Rattle.goo_types.specs.Texts.{day_text}
 use Rattle.goo_types.specs.declared.piece.Piece.{Piece}
 use Rattle.goo_files_documents.specs.Words.{code_text, period_text}
@@ -21,13 +21,11 @@ cancellation_head h =
 unfoldable pub cancellation_foot : ℕ → List ℕ
 cancellation_foot count = codes "certificates " ++ decimal count ++ codes "\nEND\n"
 
-abbrev pub document_lines : List Piece → List ℕ
-document_lines [] = []
-document_lines (p ∷ ps) = document_line p ++ document_lines ps
-
+-- how many certificates some runs have
 abbrev pub certificates_in : List Piece → ℕ
 certificates_in [] = 0
 certificates_in (p ∷ ps) = count_of p + certificates_in ps
 
+-- the document with these runs, a line each
 abbrev pub cancellation_text : CancellationHead → List Piece → List ℕ
-cancellation_text h runs = cancellation_head h ++ (document_lines runs ++ cancellation_foot (certificates_in runs))
+cancellation_text h runs = cancellation_head h ++ (flat_map document_line runs ++ cancellation_foot (certificates_in runs))

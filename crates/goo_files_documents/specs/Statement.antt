@@ -1,5 +1,5 @@
 -- The statement of an account.
-use Rattle.std.specs.Prelude.{ℕ, List, [], ◌∷◌, ◌++◌, Bool, cond, codes, decimal}
+use Rattle.std.specs.Prelude.{ℕ, List, ◌++◌, flat_map, Bool, cond, codes, decimal}
 use Rattle.goo_types.specs.Day.{CalendarDay}
 use Rattle.goo_types.specs.Texts.{day_text}
 use Rattle.goo_types.specs.declared.piece.Piece.{Piece}
@@ -21,12 +21,7 @@ statement_foot c =
     codes "held " ++ decimal c.held ++ codes "\ncancelled " ++ decimal c.cancelled ++ codes "\nexpired " ++ decimal c.expired
     ++ codes "\nwithdrawn " ++ decimal c.withdrawn ++ codes "\nexported " ++ decimal c.exported ++ codes "\nEND\n"
 
--- a line a run
-abbrev pub statement_lines : List Piece → List ℕ
-statement_lines [] = []
-statement_lines (p ∷ ps) = statement_line p ++ statement_lines ps
-
--- the statement of an account with these runs
+-- the statement of an account with these runs, a line each
 abbrev pub statement_text : ℕ → CalendarDay → ℕ → List ℕ → Bool → List Piece → List ℕ
 statement_text code today account holder closed runs =
-    statement_head code today account holder closed ++ (statement_lines runs ++ statement_foot (counts_of runs))
+    statement_head code today account holder closed ++ (flat_map statement_line runs ++ statement_foot (counts_of runs))

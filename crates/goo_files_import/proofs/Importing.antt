@@ -1,12 +1,7 @@
 -- Rows imported in turn.
 use Rattle.std.proofs.Common.{◌≡◌, ◌∙◌, ℕ, List, [], ◌∷◌, ◌++◌, Option, Some, None, IfSome, refl, ap, sym}
-use Rattle.csv.specs.Reading.{Reached, default_config, strip_bom}
-use Rattle.csv.specs.declared.parser.State as parser
-use Rattle.csv.specs.declared.parser.State.TheVariants as st
-use Rattle.csv.specs.Machine.{next_record}
 use Rattle.goo_spec.specs.State.{State}
 use Rattle.goo_registry_desk.specs.Desk.{Seen}
-use Rattle.goo_files_csv.specs.Rows.{header}
 use Rattle.goo_files_import.specs.Import.{Imported, with_row, with_rows, importing, nothing_imported, row_result, state_after}
 use Rattle.goo_files_import.specs.Table.{AreFirstRows, AreRows}
 use Rattle.goo_files_import.specs.Stands.{IsImported, StandsInPart}
@@ -23,20 +18,22 @@ with-last caller a (first ∷ rows) row = with-last caller (with_row caller a fi
 -- these rows were applied, and no others
 pub record IsImporting (old mid : Seen) (caller : List ℕ) (done : List Fields) (lines : List RowResult) : Type 0 where
   pub lied : mid.lies ≡ 0 → old.lies ≡ 0
+  pub told : old.refusals ≡ 0 → mid.refusals ≡ 0
   pub lines_are : mid.lies ≡ 0 → lines ≡ (importing old.state caller done).lines
   pub state : mid.lies ≡ 0 → mid.state ≡ (importing old.state caller done).state
 
 pub importing_start : (m : Seen) (caller : List ℕ) → IsImporting m m caller [] []
 unfolding with_rows
-importing_start m caller = record { lied = λ none. none; lines_are = λ none. refl; state = λ none. refl }
+importing_start m caller = record { lied = λ none. none; told = λ none. none; lines_are = λ none. refl; state = λ none. refl }
 
 -- one more row
 pub importing_on : (old mid new : Seen) (caller : List ℕ) (done : List Fields) (lines more : List RowResult) (row : Fields) → IsImporting old mid caller done lines → (new.lies ≡ 0 → mid.lies ≡ 0)
-    → (new.lies ≡ 0 → more ≡ lines ++ row_result mid.state caller row ∷ []) → (new.lies ≡ 0 → new.state ≡ state_after mid.state caller row) → IsImporting old new caller (done ++ row ∷ []) more
-importing_on old mid new caller done lines more row so lied added state =
+    → (mid.refusals ≡ 0 → new.refusals ≡ 0) → (new.lies ≡ 0 → more ≡ lines ++ row_result mid.state caller row ∷ []) → (new.lies ≡ 0 → new.state ≡ state_after mid.state caller row) → IsImporting old new caller (done ++ row ∷ []) more
+importing_on old mid new caller done lines more row so lied told added state =
     let last : importing old.state caller (done ++ row ∷ []) ≡ with_row caller (importing old.state caller done) row = with-last caller (nothing_imported old.state) done row in
     record {
       lied = λ none. so.lied (lied none);
+      told = λ none. told (so.told none);
       lines_are = λ none.
           added none ∙ (λ i. so.lines_are (lied none) i ++ row_result (so.state (lied none) i) caller row ∷ []) ∙ ap (λ (a : Imported). a.lines) (sym last);
       state = λ none. state none ∙ ap (λ (s : State). state_after s caller row) (so.state (lied none)) ∙ ap (λ (a : Imported). a.state) (sym last);

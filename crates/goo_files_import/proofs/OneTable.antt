@@ -1,10 +1,11 @@
 -- An input has one list of records.
-use Rattle.std.proofs.Common.{◌≡◌, ◌∙◌, ℕ, List, [], ◌∷◌, Option, Some, None, refl, ap, sym, subst}
+use Rattle.std.proofs.Common.{◌≡◌, ◌∙◌, ℕ, List, [], ◌∷◌, Option, Some, None, inl, inr, refl, ap, sym, subst}
 use Rattle.csv.specs.Machine.{Read, next_record}
-use Rattle.csv.specs.Reading.{AreRecords, Reached}
+use Rattle.csv.specs.Reading.{Reached}
 use Rattle.csv.specs.declared.parser.Config.{Config}
 use Rattle.csv.specs.declared.parser.State.{State}
-use Rattle.goo_files_import.specs.Laws.{OneTable}
+use Rattle.goo_files_import.specs.Laws.{OneTable, HeaderOrRows}
+use Rattle.goo_files_csv.specs.Rows.{header}
 
 abbrev Records : Type 0
 Records = List (List (List ℕ))
@@ -33,3 +34,14 @@ one cfg s xs (r ∷ rs) (q ∷ qs) s1 s2 ys zs a an b bn =
 
 pub one_table : OneTable
 one_table input rows others (s1, ys, a, an) (s2, zs, b, bn) = one _ _ _ rows others s1 s2 ys zs a an b bn
+
+-- the first of them is the first record of any beginning
+first_is : (cfg : Config) (s : State) (xs : List ℕ) (first row : List (List ℕ)) (rows : Records) (s1 s2 : State) (ys zs : List ℕ) → Reached cfg s xs (first ∷ []) s1 ys → Reached cfg s xs (row ∷ rows) s2 zs → first ≡ row
+unfolding Reached
+first_is cfg s xs first row rows s1 s2 ys zs a b =
+    let same = same_read (next_record cfg s [] [] xs) a.0 b.0 a.1 b.1 in
+    a.2 ∙ ap (λ (p : Read). p.0) same ∙ sym b.2
+
+pub header_or_rows : HeaderOrRows
+header_or_rows input rows (inl none) table = let clash : [] ≡ header ∷ rows = one_table input [] (header ∷ rows) none table in cc
+header_or_rows input rows (inr (first, (s1, ys, a), other)) (s2, zs, b, bn) = other (first_is _ _ _ first header rows s1 s2 ys zs a b)

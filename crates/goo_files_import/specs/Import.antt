@@ -1,5 +1,5 @@
 -- What the rows of an import come to, one after another.
-use Rattle.std.specs.Prelude.{ℕ, List, [], ◌∷◌, ◌++◌, map, Option, Some, None}
+use Rattle.std.specs.Prelude.{ℕ, List, [], ◌∷◌, ◌++◌, Option, Some, None}
 use Rattle.goo_types.specs.declared.request.Request.{Request}
 use Rattle.goo_spec.specs.State.{State}
 use Rattle.goo_spec.specs.Step.{outcome, next}

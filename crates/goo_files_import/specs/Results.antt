@@ -1,5 +1,4 @@
 -- What a row of an import comes to.
-use Rattle.std.specs.Prelude.{Option, Some, None}
 use Rattle.goo_types.specs.declared.fault.Fault.{Fault}
 use Rattle.goo_types.specs.declared.fault.Fault.TheVariants as fault
 use Rattle.goo_types.specs.declared.outcome.Outcome.{Outcome}

@@ -1,10 +1,11 @@
 -- What stands of an import.
-use Rattle.std.specs.Prelude.{◌≡◌, ℕ, List}
+use Rattle.std.specs.Prelude.{◌≡◌, ℕ, List, Result, Ok, Err}
 use Rattle.goo_spec.specs.State.{State}
 use Rattle.goo_registry_desk.specs.Desk.{Seen}
 use Rattle.goo_files_import.specs.Import.{importing}
 use Rattle.goo_files_import.specs.Table.{AreRows, AreFirstRows}
 use Rattle.goo_files_import.specs.declared.cause.Cause.{Cause}
+use Rattle.goo_files_import.specs.declared.cause.ImportFault.{ImportFault}
 use Rattle.goo_files_import.specs.declared.cause.Cause.TheVariants.{Header, Read, Store, Memory}
 use Rattle.goo_files_import.specs.declared.row_result.RowResult.{RowResult}
 
@@ -34,3 +35,14 @@ IsBetweenRows Header = ⊥
 IsBetweenRows Read = ⊥
 IsBetweenRows Store = Unit {0}
 IsBetweenRows Memory = Unit {0}
+
+-- an import stops because of the store just where a call was refused
+abbrev pub IsToldBy : Cause → ℕ → Type 0
+IsToldBy Header refusals = refusals ≡ 0
+IsToldBy Read refusals = refusals ≡ 0
+IsToldBy Store refusals = refusals ≡ 1
+IsToldBy Memory refusals = refusals ≡ 0
+
+abbrev pub IsToldIn : {T : Type 0} → Result T ImportFault → ℕ → Type 0
+IsToldIn (Ok report) refusals = refusals ≡ 0
+IsToldIn (Err fault) refusals = IsToldBy fault.cause refusals

@@ -4,15 +4,17 @@ ghost use Rattle.std.specs.Io.KnownBytes.{IsAtEnd};
 ghost use Rattle.csv.specs.Records.{fields_of};
 ghost use Rattle.goo_files_import.specs.Import.{row_result, state_after};
 ghost use Rattle.goo_files_import.specs.Table.{LacksHeader};
-ghost use Rattle.goo_files_import.specs.Stands.{IsImported, StandsInPart, IsBeforeRows, IsBetweenRows};
+ghost use Rattle.goo_shelf.specs.Shelf.{IsTold};
+ghost use Rattle.goo_files_import.specs.Stands.{IsImported, StandsInPart, IsBeforeRows, IsBetweenRows, IsToldIn};
 ghost use Rattle.goo_files_import.specs.declared.cause.Cause.TheVariants.{Header as NoHeader, Read as Unread};
 
 use crate::cause::{Cause, ImportFault};
+use crate::progress::Progress;
 use crate::report::Report;
 use crate::row_result::RowResult;
 use csv::{ByteRecord, ReaderBuilder};
-use goo_registry_desk::Desk;
 use goo_files_csv::{is_header, read_row};
+use goo_registry_desk::Desk;
 use goo_streams::{ReadFault, read_whole};
 use goo_types::fault::Fault;
 use goo_types::holder_code::HolderCode;
@@ -34,6 +36,7 @@ fn apply_row<D: Desk>(
     ensures state { (D.seen desk.new).lies ≡ 0 → OnOk result ((D.seen desk.new).state ≡ state_after (D.seen desk.old).state caller.now (fields_of row.now)) }
     ensures unchanged { (D.seen desk.new).doubts ≡ 0 → OnErr result ((D.seen desk.new).state ≡ (D.seen desk.old).state) }
     ensures lied { (D.seen desk.new).lies ≡ 0 → (D.seen desk.old).lies ≡ 0 }
+    ensures told { (D.seen desk.old).refusals ≡ 0 → IsTold result (D.seen desk.new).refusals }
 {
     match read_row(caller, row) {
         Some(request) => Ok(RowResult::of(desk.apply(alloc, &request)?)),
@@ -54,6 +57,7 @@ fn import_row<D: Desk>(
     ensures kept { OnErr result (lines.new.items ≡ lines.old.items) }
     ensures unchanged { (D.seen desk.new).doubts ≡ 0 → OnErr result ((D.seen desk.new).state ≡ (D.seen desk.old).state) }
     ensures lied { (D.seen desk.new).lies ≡ 0 → (D.seen desk.old).lies ≡ 0 }
+    ensures told { (D.seen desk.old).refusals ≡ 0 → IsTold result (D.seen desk.new).refusals }
 {
     if lines.try_reserve(1).is_err() {
         return Err(Fault::Memory);
@@ -76,12 +80,39 @@ fn stopped(lines: Vec<RowResult>, cause: Cause) -> ImportFault
     }
 }
 
-/// Applies the rows of an input in turn, after its header.
-fn import_table<D: Desk>(
+/// How many rows an input has after its header, as far as there is memory to tell.
+fn count_rows(alloc: Global, input: &[u8]) -> u64 {
+    let reader = ReaderBuilder::new()
+        .has_headers(false)
+        .flexible(true)
+        .from_reader(alloc, input);
+    let mut records = 0u64;
+    for record in reader.into_byte_records() {
+        if record.is_ok() {
+            records = records.saturating_add(1);
+        }
+    }
+    records.saturating_sub(1)
+}
+
+/// Tells that an import begins.
+fn announce<P: Progress>(alloc: Global, input: &[u8], progress: &mut P) {
+    if progress.is_watched() {
+        progress.begin(count_rows(alloc, input));
+    }
+}
+
+/// Applies the rows of a CSV in turn, after its header: what [`import_declarations`] does with an input once it is read.
+///
+/// # Errors
+///
+/// See [`Cause`]: after `Header` nothing was applied; after `Store` and `Memory` the rows of the report stand. `Read` never comes.
+pub fn import_bytes<D: Desk, P: Progress>(
     alloc: Global,
     desk: &mut D,
     caller: &HolderCode,
     input: &[u8],
+    progress: &mut P,
 ) -> Result<Report, ImportFault>
     ensures whole { (D.seen desk.new).lies ≡ 0 → IfOk result (λ report. IsImported caller.now input.now (D.seen desk.old).state (D.seen desk.new).state report.lines.items) }
     ensures kinds { IfErr result (λ fault. fault.cause ≢ Unread) }
@@ -90,7 +121,9 @@ fn import_table<D: Desk>(
     ensures before_lines { IfErr result (λ fault. IsBeforeRows fault.cause → fault.report.lines.items ≡ []) }
     ensures part { (D.seen desk.new).lies ≡ 0 → IfErr result (λ fault. IsBetweenRows fault.cause → StandsInPart caller.now input.now (D.seen desk.old).state (D.seen desk.new) fault.report.lines.items) }
     ensures lied { (D.seen desk.new).lies ≡ 0 → (D.seen desk.old).lies ≡ 0 }
+    ensures told { (D.seen desk.old).refusals ≡ 0 → IsToldIn result (D.seen desk.new).refusals }
 {
+    announce(alloc, input, progress);
     let reader = ReaderBuilder::new()
         .has_headers(false)
         .flexible(true)
@@ -113,22 +146,24 @@ fn import_table<D: Desk>(
         if let Err(fault) = import_row(alloc, desk, caller, &mut lines, &row) {
             return Err(stopped(lines, Cause::of(fault)));
         }
+        progress.advance(lines.len() as u64);
     }
     Ok(Report { lines })
 }
 
 /// Reads the whole of a CSV and then applies each row as one declaration of the caller, under the row's key. Room for the line of
 /// a row is taken before the row is applied, so the rows of the report stand and no others, whatever happens. A row whose
-/// key is kept is repeated, so a file may come twice.
+/// key is kept is repeated, so a file may come twice. `progress` is told how far it is.
 ///
 /// # Errors
 ///
 /// See [`Cause`]: after `Header` and `Read` nothing was applied; after `Store` and `Memory` the rows of the report stand.
-pub fn import_declarations<D: Desk, R: Read>(
+pub fn import_declarations<D: Desk, R: Read, P: Progress>(
     alloc: Global,
     desk: &mut D,
     caller: &HolderCode,
     reader: &mut R,
+    progress: &mut P,
 ) -> Result<Report, ImportFault>
     ensures whole { (D.seen desk.new).lies ≡ 0 → IfSome (R.remaining reader.old) (λ input. IfOk result (λ report. IsImported caller.now input (D.seen desk.old).state (D.seen desk.new).state report.lines.items)) }
     ensures header { IfSome (R.remaining reader.old) (λ input. IfErr result (λ fault. fault.cause ≡ NoHeader → LacksHeader input)) }
@@ -136,10 +171,11 @@ pub fn import_declarations<D: Desk, R: Read>(
     ensures before_lines { IfErr result (λ fault. IsBeforeRows fault.cause → fault.report.lines.items ≡ []) }
     ensures part { (D.seen desk.new).lies ≡ 0 → IfSome (R.remaining reader.old) (λ input. IfErr result (λ fault. IsBetweenRows fault.cause → StandsInPart caller.now input (D.seen desk.old).state (D.seen desk.new) fault.report.lines.items)) }
     ensures lied { (D.seen desk.new).lies ≡ 0 → (D.seen desk.old).lies ≡ 0 }
+    ensures told { (D.seen desk.old).refusals ≡ 0 → IsToldIn result (D.seen desk.new).refusals }
     ensures end { OnOk result (IsAtEnd (R.remaining reader.new)) }
 {
     match read_whole(alloc, reader, MOST_INPUT) {
-        Ok(input) => import_table(alloc, desk, caller, &input),
+        Ok(input) => import_bytes(alloc, desk, caller, &input, progress),
         Err(ReadFault::Read) => Err(stopped(Vec::new(alloc), Cause::Read)),
         Err(ReadFault::Memory) => Err(stopped(Vec::new(alloc), Cause::Memory)),
     }

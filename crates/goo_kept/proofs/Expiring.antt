@@ -1,10 +1,9 @@
 -- The held rows whose lot is over.
-use Rattle.std.proofs.Common.{◌≡◌, ℕ, ℤ, pos, ◌==◌, ◌&&◌, List, [], ◌∷◌, Bool, true, false, cond, find, map, Option, Some, None, option_map, Result, Ok, Err, refl, sym, ap, subst, ◌∙◌, true≢false}
-use Rattle.std.specs.List.{filter, cons_option, list_all, AllByRecursion}
+use Rattle.std.proofs.Common.{◌≡◌, ℕ, ℤ, pos, ◌==◌, ◌&&◌, nat_lt, List, [], ◌∷◌, Bool, true, false, cond, find, map, Option, Some, None, option_map, Result, Ok, Err, refl, sym, ap, subst, ◌∙◌, true≢false}
+use Rattle.std.specs.List.{cons_option, list_all, AllByRecursion}
 use Rattle.std.specs.Ordering.{int_eq}
 use Rattle.sqlite_typed.specs.Tests.{bytes_lt, both_and}
 use Rattle.sqlite_keyed.specs.Keyed.{get_by}
-use Rattle.sqlite_keyed.proofs.ListLemmas.{filter-map}
 use Rattle.sqlite_keyed.proofs.RuleLemmas.{first_of_both, second_of_both}
 use Rattle.goo_types.specs.Day.{CalendarDay, IsDay, day_reading, months_after}
 use Rattle.goo_types.specs.Texts.{day_text}
@@ -26,6 +25,7 @@ use Rattle.goo_kept.specs.Texts.{day_of, no_day}
 use Rattle.std.specs.Result.{result_unwrap_or}
 use Rattle.goo_kept.proofs.DayTexts.{earlier_text, later_day}
 use Rattle.goo_kept.proofs.Known.{number_is}
+use Rattle.goo_kept.proofs.RowsFound.{first_found}
 
 pub place_held : (kind account act : ℕ) → is_held (place_of kind account act) ≡ (kind == 1)
 place_held kind account act = go (kind == 1) (kind == 2) (kind == 3) (kind == 4)
@@ -70,9 +70,17 @@ all_beside P lots each (p ∷ ps) = go (get_by lot_key lots (pos p.lot)) refl (a
     go None is rest = rest
     go (Some l) is rest = (each (pos p.lot) l is, rest)
 
-same_filter : {X : Type 0} (p q : X → Bool) (P : X → Type 0) → ((x : X) → P x → p x ≡ q x) → (xs : List X) → AllByRecursion P xs → filter p xs ≡ filter q xs
-same_filter p q P same [] all = refl
-same_filter p q P same (x ∷ xs) all = λ i. cond (same x all.0 i) (x ∷ same_filter p q P same xs all.1 i) (same_filter p q P same xs all.1 i)
+same_find : {X : Type 0} (p q : X → Bool) (P : X → Type 0) → ((x : X) → P x → p x ≡ q x) → (xs : List X) → AllByRecursion P xs → find p xs ≡ find q xs
+same_find p q P same [] all = refl
+same_find p q P same (x ∷ xs) all = λ i. cond (same x all.0 i) (Some x) (same_find p q P same xs all.1 i)
+
+-- the third of three tests, made before the second
+third_before : (a b c : Bool) → a && (b && c) ≡ (a && c) && b
+third_before false b c = refl
+third_before true false false = refl
+third_before true false true = refl
+third_before true true false = refl
+third_before true true true = refl
 
 abbrev Datable : Lot → Type 0
 Datable l = IsKeptLot l × IsDay (day_of l.last_day)
@@ -85,12 +93,13 @@ last_day_read l good =
     stated_day l.last_day (day_reading l.last_day) refl
     (fifth (is_code l.origin) (reads (gsrn_reading l.device)) (is_plant l.plant) (reads (day_reading l.first_day)) (reads (day_reading l.last_day)) (reads (day_reading l.issued_on)) good)
 
--- the rows that the statement finds are the held ones whose lot is over
-pub expiring_found : (t : Tables) → AreKept t → (day : CalendarDay) → IsDay day → (found : List (PieceRow × Lot)) (ps : List Piece)
-    → found ≡ filter (λ a. int_eq (pos a.0.kind) (pos 1) && both_and bytes_lt a.1.expires_on (Some (day_text day))) (pieces_beside t) → ps ≡ map piece_of found
-    → ps ≡ filter (λ p. expires day p.lot p.place) (map piece_of (pieces_beside t))
-expiring_found t kept day valid found ps is read =
-    read ∙ ap (map piece_of) (is ∙ same_filter _ (λ a. expires day (lot_of a.1) (place_of a.0.kind a.0.account a.0.act)) (λ a. Datable a.1)
-    (λ a it. λ i. (number_is a.0.kind 1 ∙ sym (place_held a.0.kind a.0.account a.0.act)) i && over_text a.1 day valid it.0 it.1 i)
+-- the row that the statement finds is the first held one above a number whose lot is over
+pub expiring_found : (t : Tables) → AreKept t → (day : CalendarDay) → IsDay day → (after : ℕ) (found : Option (PieceRow × Lot)) (row : Option Piece)
+    → found ≡ find (λ a. int_eq (pos a.0.kind) (pos 1) && (nat_lt after a.0.first && both_and bytes_lt a.1.expires_on (Some (day_text day)))) (pieces_beside t) → row ≡ option_map piece_of found
+    → row ≡ find (λ p. expires day p.lot p.place && nat_lt after p.first) (map piece_of (pieces_beside t))
+expiring_found t kept day valid after found row is read =
+    read ∙ ap (option_map piece_of) (is ∙ same_find _ (λ a. expires day (lot_of a.1) (place_of a.0.kind a.0.account a.0.act) && nat_lt after a.0.first) (λ a. Datable a.1)
+    (λ a it. (λ i. (number_is a.0.kind 1 ∙ sym (place_held a.0.kind a.0.account a.0.act)) i && (nat_lt after a.0.first && over_text a.1 day valid it.0 it.1 i))
+    ∙ third_before (is_held (place_of a.0.kind a.0.account a.0.act)) (nat_lt after a.0.first) (is_over (lot_of a.1) day))
     (pieces_beside t) (all_beside Datable t.lots (λ id l here. (kept.lots id l here, last_day_read l (found_passes is_lot _ t.lots l kept.readable.lots here))) t.pieces))
-    ∙ sym (filter-map (λ p. expires day p.lot p.place) piece_of (pieces_beside t))
+    ∙ first_found (λ a. expires day (lot_of a.1) (place_of a.0.kind a.0.account a.0.act) && nat_lt after a.0.first) (λ p. expires day p.lot p.place && nat_lt after p.first) (λ a. refl) (pieces_beside t)

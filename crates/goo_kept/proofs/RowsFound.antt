@@ -26,7 +26,7 @@ place_account kind account act = go (kind == 1) (kind == 2) (kind == 3) (kind ==
     go false false false true = refl
     go false false false false = refl
 
-first_found : (test : PieceRow × Lot → Bool) (p : Piece → Bool) → ((a : PieceRow × Lot) → test a ≡ p (piece_of a)) → (xs : List (PieceRow × Lot)) → option_map piece_of (find test xs) ≡ find p (map piece_of xs)
+pub first_found : (test : PieceRow × Lot → Bool) (p : Piece → Bool) → ((a : PieceRow × Lot) → test a ≡ p (piece_of a)) → (xs : List (PieceRow × Lot)) → option_map piece_of (find test xs) ≡ find p (map piece_of xs)
 first_found test p same [] = refl
 first_found test p same (x ∷ xs) = go (test x) (p (piece_of x)) (same x) (first_found test p same xs)
   where
@@ -45,3 +45,8 @@ reversed f (x ∷ xs) =
 pub last_found : (test : PieceRow × Lot → Bool) (p : Piece → Bool) → ((a : PieceRow × Lot) → test a ≡ p (piece_of a)) → (xs : List (PieceRow × Lot)) (found : Option (PieceRow × Lot)) (row : Option Piece)
     → found ≡ find test (reverse xs) → row ≡ option_map piece_of found → row ≡ find p (reverse (map piece_of xs))
 last_found test p same xs found row is read = read ∙ ap (option_map piece_of) is ∙ first_found test p same (reverse xs) ∙ ap (find p) (reversed piece_of xs)
+
+-- the first row that passes a test
+pub next_found : (test : PieceRow × Lot → Bool) (p : Piece → Bool) → ((a : PieceRow × Lot) → test a ≡ p (piece_of a)) → (xs : List (PieceRow × Lot)) (found : Option (PieceRow × Lot)) (row : Option Piece)
+    → found ≡ find test xs → row ≡ option_map piece_of found → row ≡ find p (map piece_of xs)
+next_found test p same xs found row is read = read ∙ ap (option_map piece_of) is ∙ first_found test p same xs

@@ -1,5 +1,5 @@
 -- From what was found and judged to what opening says.
-use Rattle.std.proofs.Common.{◌≡◌, inl, inr, Ok, Err, IsTrue, refl, sym, ap, subst, ◌∙◌}
+use Rattle.std.proofs.Common.{◌≡◌, inl, inr, None, Ok, Err, Result, IfErr, IsTrue, refl, sym, ap, subst, ◌∙◌, true≢false}
 use Rattle.sqlite.specs.State.{State, HasCleanDisk}
 use Rattle.sqlite.specs.Effect.{Database}
 use Rattle.goo_columns.specs.Rows.{Tables, tables_of}
@@ -12,15 +12,15 @@ use Rattle.goo_rows.specs.Rows.{AreRowsOf}
 use Rattle.goo_kept.specs.Kept.{AreKept}
 use Rattle.goo_kept.specs.Places.{rows_of}
 use Rattle.goo_kept.specs.States.{state_of}
-use Rattle.goo_opening.specs.Found.{Finds, IsWord, ShowsTables}
+use Rattle.goo_opening.specs.Found.{Finds, IsWord, ShowsTables, HasStoreFailed}
 use Rattle.goo_opening.specs.Reading.{IsMet}
 use Rattle.goo_opening.specs.declared.fault.OpenFault.{OpenFault}
-use Rattle.goo_opening.specs.declared.fault.OpenFault.TheVariants.{Damaged, Memory}
+use Rattle.goo_opening.specs.declared.fault.OpenFault.TheVariants.{Damaged, Memory, Store}
 use Rattle.goo_opening.specs.declared.finding.Found.{Found}
 use Rattle.goo_rules.specs.Rules.{KeepsRules, RulesAreThose}
 use Rattle.goo_rules.proofs.CanBeRead.{kept_can_be_read}
 use Rattle.goo_lookups.specs.Moments.{IsWell, tables_in}
-use Rattle.goo_lookups.specs.Opening.{IsRefusal, Judges}
+use Rattle.goo_lookups.specs.Opening.{BlamesOpening, IsRefusal, Judges}
 use Rattle.goo_lookups.specs.Holding.{sure}
 
 pub met_ours : (s : State) → s.now.schema ≡ registry_schema → (IsTrue s.is_open → HasOurTables s.now) → IsSettled s → IsMet s
@@ -35,6 +35,15 @@ refusal_of : (db : Database) (t : Tables) (f : OpenFault) → Stands db t → Is
 refusal_of db t f stands (inl outside) = inl outside
 refusal_of db t f stands (inr (inl unread)) = inr (inl (unread.0, ((λ kept. unread.1 (kept_can_be_read db t stands kept).0), (λ can. absurd (unread.1 can)))))
 refusal_of db t f stands (inr (inr other)) = inr (inr other)
+
+-- only where the disk failed in this call, if the connection was open
+blamed : {T : Type 0} (old new : State) (r : Result T OpenFault) → (HasCleanDisk new → old.step_limit ≡ None → IfErr r (λ f. f ≡ Store → HasStoreFailed old new)) → IfErr r (BlamesOpening old new)
+blamed old new (Ok x) blames = tt
+blamed old new (Err f) blames = λ clean live unlimited is. elim (blames clean unlimited is) [ inl more ↦ more | inr shut ↦ absurd (true≢false (sym live ∙ shut)) ]
+
+-- another word than `Store`
+unblamed : (old new : State) (f : OpenFault) → (f ≡ Store → ⊥) → BlamesOpening old new f
+unblamed old new f other clean live unlimited is = absurd (other is)
 
 module _ (rules : RulesAreThose) (old new : State) where
   was_ours : (x : Found) → Finds old new (Ok x) ShowsTables → HasCleanDisk new → IsMet old → HasOurTables old.now
@@ -54,6 +63,7 @@ module _ (rules : RulesAreThose) (old new : State) where
       right = λ _ _ _ _ _ _. tt;
       words = λ _ _ _ _ _. tt;
       crash = finds.crash;
+      blames = λ _. tt;
     }
 
     -- it doesn't
@@ -78,15 +88,16 @@ module _ (rules : RulesAreThose) (old new : State) where
             ),
           ));
       crash = finds.crash;
+      blames = λ _. unblamed old new Damaged (λ same. absurd cc);
     }
 
     -- memory was refused
     pub judged_short : Judges {T = T} old new (Err Memory)
-    judged_short = record { clean = finds.clean; outside = finds.outside; rests = finds.rests; works = tt; kept = λ _ _. tt; right = λ _ _ _ _ _ _. inr refl; words = λ _ _ _ _ _. inl (inr refl); crash = finds.crash }
+    judged_short = record { clean = finds.clean; outside = finds.outside; rests = finds.rests; works = tt; kept = λ _ _. tt; right = λ _ _ _ _ _ _. inr refl; words = λ _ _ _ _ _. inl (inr refl); crash = finds.crash; blames = λ _. unblamed old new Memory (λ same. absurd cc) }
 
   -- the tables weren't found
   pub not_judged : {T : Type 0} (f : OpenFault) → Finds {T = Found} old new (Err f) ShowsTables → Judges {T = T} old new (Err f)
-  not_judged f finds = record {
+  not_judged {T = T} f finds = record {
     clean = finds.clean;
     outside = finds.outside;
     rests = finds.rests;
@@ -95,6 +106,7 @@ module _ (rules : RulesAreThose) (old new : State) where
     right = λ clean met unlimited t stands kept. finds.right clean met unlimited t stands (kept_can_be_read old.now t stands kept);
     words = λ clean met unlimited t stands. refusal_of old.now t f stands (finds.words clean met unlimited t stands);
     crash = finds.crash;
+    blames = λ met. blamed {T = T} old new (Err f) (λ clean. finds.blames clean (met clean));
   }
 
 module _ {T : Type 0} (old new : State) (y : T) (judges : Judges {T = T} old new (Ok y)) (met : HasCleanDisk old → IsMet old) where

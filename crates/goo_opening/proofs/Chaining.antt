@@ -1,5 +1,5 @@
 -- Calls that only read, one after another.
-use Rattle.std.proofs.Common.{◌≡◌, ◌≤◌, inl, inr, Ok, Err, Result, false, IfOk, IfErr, OnOk, IsTrue, sym, ap, subst, ◌∙◌, arith, true≢false}
+use Rattle.std.proofs.Common.{◌≡◌, ◌≤◌, ◌⊎◌, inl, inr, Ok, Err, Result, false, IfOk, IfErr, OnOk, IsTrue, sym, ap, subst, ◌∙◌, arith, true≢false}
 use Rattle.sqlite.specs.State.{State, HasCleanDisk, Survives}
 use Rattle.sqlite.specs.Tree.{Trees}
 use Rattle.sqlite.specs.Effect.{Database}
@@ -7,7 +7,8 @@ use Rattle.sqlite.specs.declared.error.Error.{Error}
 use Rattle.goo_columns.specs.Rows.{Tables}
 use Rattle.goo_columns.specs.Stands.{Stands, Rests, Looks}
 use Rattle.goo_columns.specs.Met.{HasOurTables}
-use Rattle.goo_columns.specs.Refused.{IsFault, FailsOnlyByFault}
+use Rattle.goo_columns.specs.Readable.{is_read_error}
+use Rattle.goo_columns.specs.Refused.{IsFault, FailsByFault, FailsOnlyByFault}
 use Rattle.goo_opening.specs.Reading.{CanBeRead, IsMet, OnlyReads}
 
 pub no_more : (old new : State) → Survives old new (λ _. ⊥) → HasCleanDisk new → (db : Trees) → new.may_leave db → old.may_leave db
@@ -20,8 +21,8 @@ once_open P (Err e) opens shows = tt
 
 -- one statement on a whole table
 pub reads_table : {T : Type 0} (old new : State) (r : Result T Error) (right : Tables → T → Type 0) (Shows : Database → T → Type 0) (P : Tables → Type 0) → Looks old new r right
-    → (old.in_transaction ≡ false → new.in_transaction ≡ false) → (HasCleanDisk new → HasOurTables old.now → IfOk r (Shows old.now)) → FailsOnlyByFault old new r P → ((t : Tables) → CanBeRead t → P t) → OnlyReads old new r Shows
-reads_table old new r right Shows P looks outside met readable can = record {
+    → (old.in_transaction ≡ false → new.in_transaction ≡ false) → (HasCleanDisk new → HasOurTables old.now → IfOk r (Shows old.now)) → FailsOnlyByFault old new r P → FailsByFault old new r → ((t : Tables) → CanBeRead t → P t) → OnlyReads old new r Shows
+reads_table old new r right Shows P looks outside met readable refused can = record {
   clean = λ h. omega (arith, h, looks.clean);
   outside = outside;
   rests = λ clean it. looks.rests clean it.schema it.settled;
@@ -30,6 +31,7 @@ reads_table old new r right Shows P looks outside met readable can = record {
   crash = λ clean it. no_more old new (looks.crash it.schema) clean;
   counts = λ clean it. (looks.crash it.schema).counts;
   limit = λ clean it. (looks.crash it.schema).limit;
+  refused = λ clean it unlimited. refused clean it.schema unlimited;
   faulty = λ clean it unlimited t stands reads. readable clean unlimited t stands (can t reads);
 }
 
@@ -67,6 +69,11 @@ module _ {T U : Type 0} (a b c : State) (x : T) (r : Result U Error) (First : Da
   worse_all (Ok y) up live h = tt
   worse_all (Err e) up live h = worse e up live h
 
+  worse_or_unread : (q : Result U Error) → a.faults ≤ b.faults → IsTrue b.is_open → IfErr q (λ e. IsFault b c e ⊎ IsTrue (is_read_error e)) → IfErr q (λ e. IsFault a c e ⊎ IsTrue (is_read_error e))
+  worse_or_unread (Ok y) up live h = tt
+  worse_or_unread (Err e) up live (inl fault) = inl (worse e up live fault)
+  worse_or_unread (Err e) up live (inr unread) = inr unread
+
   pub reads_then : OnlyReads a c r (λ db y. First db x × Next db y)
   reads_then = record {
     clean = λ h. one.clean (two.clean h);
@@ -77,14 +84,15 @@ module _ {T U : Type 0} (a b c : State) (x : T) (r : Result U Error) (First : Da
     crash = λ clean it db left. one.crash (two.clean clean) it db (two.crash clean (middle clean it) db left);
     counts = λ clean it. omega (arith, one.counts (two.clean clean) it, two.counts clean (middle clean it));
     limit = λ clean it. two.limit clean (middle clean it) ∙ one.limit (two.clean clean) it;
+    refused = λ clean it unlimited. worse_or_unread r (one.counts (two.clean clean) it) (one.works (two.clean clean)) (two.refused clean (middle clean it) (one.limit (two.clean clean) it ∙ unlimited));
     faulty = λ clean it unlimited t stands reads.
         worse_all r (one.counts (two.clean clean) it) (one.works (two.clean clean))
         (two.faulty clean (middle clean it) (one.limit (two.clean clean) it ∙ unlimited) t (subst (λ (d : Database). Stands d t) (sym (same clean it)) stands) reads);
   }
 
 pub reads_failed : {T U : Type 0} (a b : State) (e : Error) (First : Database → T → Type 0) (Next : Database → U → Type 0) → OnlyReads a b (Err e) First → OnlyReads a b (Err e) Next
-reads_failed a b e First Next h = record { clean = h.clean; outside = h.outside; rests = h.rests; works = tt; seen = λ clean it. tt; crash = h.crash; counts = h.counts; limit = h.limit; faulty = h.faulty }
+reads_failed a b e First Next h = record { clean = h.clean; outside = h.outside; rests = h.rests; works = tt; seen = λ clean it. tt; crash = h.crash; counts = h.counts; limit = h.limit; refused = h.refused; faulty = h.faulty }
 
 pub reads_made : {T U : Type 0} (a b : State) (x : T) (y : U) (First : Database → T → Type 0) (Next : Database → U → Type 0) → OnlyReads a b (Ok x) First → ((db : Database) → First db x → Next db y)
     → OnlyReads a b (Ok y) Next
-reads_made a b x y First Next h made = record { clean = h.clean; outside = h.outside; rests = h.rests; works = h.works; seen = λ clean it. made a.now (h.seen clean it); crash = h.crash; counts = h.counts; limit = h.limit; faulty = λ clean it unlimited t stands reads. tt }
+reads_made a b x y First Next h made = record { clean = h.clean; outside = h.outside; rests = h.rests; works = h.works; seen = λ clean it. made a.now (h.seen clean it); crash = h.crash; counts = h.counts; limit = h.limit; refused = λ clean it unlimited. tt; faulty = λ clean it unlimited t stands reads. tt }

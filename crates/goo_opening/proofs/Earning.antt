@@ -14,7 +14,7 @@ use Rattle.goo_columns.specs.Stands.{Looks}
 use Rattle.goo_columns.specs.declared.meta.MetaRow.{MetaRow}
 use Rattle.goo_opening.specs.Reading.{CanBeRead, OnlyReads}
 use Rattle.goo_opening.specs.Shown.{ShowsAll}
-use Rattle.goo_opening.specs.Found.{Finds, ShowsMeta, ShowsTables, IsOutside, IsWord}
+use Rattle.goo_opening.specs.Found.{Finds, ShowsMeta, ShowsTables, IsOutside, IsWord, HasStoreFailed}
 use Rattle.goo_opening.specs.declared.rows.AllRows.{AllRows}
 use Rattle.goo_opening.specs.declared.fault.OpenFault.{OpenFault}
 use Rattle.goo_opening.specs.declared.fault.OpenFault.TheVariants.{Damaged, Store, Memory}
@@ -86,7 +86,7 @@ not_damaged f is (inr memory) = absurd (apart (sym is ∙ memory))
     apart same = absurd cc
 
 -- the word where a value can't be read and where a table is missing is the same
-pub once : (f : OpenFault) → IsOutside f ⊎ ((f ≡ Damaged) ⊎ (f ≡ Damaged)) → IsOutside f ⊎ (f ≡ Damaged)
+once : (f : OpenFault) → IsOutside f ⊎ ((f ≡ Damaged) ⊎ (f ≡ Damaged)) → IsOutside f ⊎ (f ≡ Damaged)
 once f (inl out) = inl out
 once f (inr (inl is)) = inr is
 once f (inr (inr is)) = inr is
@@ -96,11 +96,28 @@ unread_word : (t : Tables) (f : OpenFault) → IsOutside f ⊎ (f ≡ Damaged) �
 unread_word t f (inl outside) readable = inl outside
 unread_word t f (inr damaged) readable = inr (inl (damaged, λ can. not_damaged f damaged (readable can)))
 
--- the row of `meta` wasn't read
+-- `Store` is neither `Memory` nor `Damaged`
+store_apart : (f : OpenFault) → (f ≡ Memory) ⊎ (f ≡ Damaged) → f ≡ Store → ⊥
+store_apart f (inl memory) is = absurd (apart (sym is ∙ memory))
+  where
+    apart : Store ≡ Memory → ⊥
+    apart same = absurd cc
+store_apart f (inr damaged) is = absurd (apart (sym is ∙ damaged))
+  where
+    apart : Store ≡ Damaged → ⊥
+    apart same = absurd cc
+
+-- a statement failed
 module _ (a c : State) (e : Error) (f : OpenFault) (memory : e ≡ SqliteFailure OutOfMemory → f ≡ Memory) (store : IsTrue (is_store_error e) → f ≡ Store) where
   outside_of : IsFault a c e → IsOutside f
   outside_of (inl want) = inr (memory want)
   outside_of (inr fault) = inl (store fault.0)
+
+  -- `Store` is told only where the store failed
+  blamed_of : (IsTrue (is_read_error e) → f ≡ Damaged) → IsFault a c e ⊎ IsTrue (is_read_error e) → f ≡ Store → HasStoreFailed a c
+  blamed_of unread (inl (inl want)) is = absurd (store_apart f (inl (memory want)) is)
+  blamed_of unread (inl (inr fault)) is = fault.1
+  blamed_of unread (inr wrong) is = absurd (store_apart f (inr (unread wrong)) is)
 
   told_of : (IsTrue (is_read_error e) → f ≡ Damaged) → IsFault a c e ⊎ IsTrue (is_read_error e) → IsOutside f ⊎ (f ≡ Damaged)
   told_of unread (inl fault) = inl (outside_of fault)
@@ -110,7 +127,7 @@ module _ (a c : State) (e : Error) (f : OpenFault) (memory : e ≡ SqliteFailure
       → FailsOnlyByFault {T = T} a c (Err e) (λ t. All numbered_meta_readable (map (λ m. Int (pos 1) ∷ meta_columns m) (t.meta ∷ []))) → FailsByFault {T = T} a c (Err e)
       → (IsTrue (is_read_error e) → f ≡ Damaged) → Finds a c (Err f) ShowsMeta
   row_unread {T} right looks outside readable refused unread =
-      let base = reads_table {T = T} a c (Err e) right (λ _ _. ⊥) _ looks outside (λ _ _. tt) readable (λ _ can. can.meta) in
+      let base = reads_table {T = T} a c (Err e) right (λ _ _. ⊥) _ looks outside (λ _ _. tt) readable refused (λ _ can. can.meta) in
       record {
         clean = base.clean;
         outside = base.outside;
@@ -122,11 +139,12 @@ module _ (a c : State) (e : Error) (f : OpenFault) (memory : e ≡ SqliteFailure
         limit = base.limit;
         right = λ clean it unlimited t stands good. outside_of (base.faulty clean it unlimited t stands good.0);
         words = λ clean it unlimited t stands. unread_word t f (told_of unread (refused clean it.schema unlimited)) (λ can. outside_of (base.faulty clean it unlimited t stands can));
+        blames = λ clean it unlimited. blamed_of unread (refused clean it.schema unlimited);
       }
 
 module _ (a b c : State) (m : MetaRow) (one : Finds a b (Ok m) ShowsMeta) where
   first : OnlyReads a b (Ok m) ShowsMeta
-  first = record { clean = one.clean; outside = one.outside; rests = one.rests; works = one.works; seen = one.seen; crash = one.crash; counts = one.counts; limit = one.limit; faulty = λ _ _ _ _ _ _. tt }
+  first = record { clean = one.clean; outside = one.outside; rests = one.rests; works = one.works; seen = one.seen; crash = one.crash; counts = one.counts; limit = one.limit; refused = λ _ _ _. tt; faulty = λ _ _ _ _ _ _. tt }
 
   -- all was read
   pub found : (x : AllRows) → OnlyReads b c (Ok x) ShowsAll → Finds a c (Ok (record { meta = m; rows = x })) ShowsTables
@@ -145,11 +163,13 @@ module _ (a b c : State) (m : MetaRow) (one : Finds a b (Ok m) ShowsMeta) where
         limit = both.limit;
         right = λ _ _ _ _ _ _. tt;
         words = λ _ _ _ _ _. tt;
+        blames = λ _ _ _. tt;
       }
 
   -- the rows of the tables weren't read
-  pub not_found : (e : Error) (f : OpenFault) → OnlyReads b c (Err e) ShowsAll → (e ≡ SqliteFailure OutOfMemory → f ≡ Memory) → (IsTrue (is_store_error e) → f ≡ Store) → IsOutside f ⊎ ((f ≡ Damaged) ⊎ (f ≡ Damaged)) → Finds a c (Err f) ShowsTables
-  not_found e f two memory store said =
+  pub not_found : (e : Error) (f : OpenFault) → OnlyReads b c (Err e) ShowsAll → (e ≡ SqliteFailure OutOfMemory → f ≡ Memory) → (IsTrue (is_store_error e) → f ≡ Store) → (IsTrue (is_read_error e) → f ≡ Damaged)
+      → IsOutside f ⊎ ((f ≡ Damaged) ⊎ (f ≡ Damaged)) → Finds a c (Err f) ShowsTables
+  not_found e f two memory store unread said =
       let both = reads_then a b c m (Err e) ShowsMeta ShowsAll first two in
       record {
         clean = both.clean;
@@ -162,4 +182,5 @@ module _ (a b c : State) (m : MetaRow) (one : Finds a b (Ok m) ShowsMeta) where
         limit = both.limit;
         right = λ clean it unlimited t stands good. outside_of a c e f memory store (both.faulty clean it unlimited t stands good.0);
         words = λ clean it unlimited t stands. unread_word t f (once f said) (λ can. outside_of a c e f memory store (both.faulty clean it unlimited t stands can));
+        blames = λ clean it unlimited. blamed_of a c e f memory store unread (both.refused clean it unlimited);
       }

@@ -9,7 +9,7 @@ use Rattle.sqlite.specs.State.{State, Shown, FailsToQuery}
 use Rattle.sqlite.specs.Table.{Table}
 use Rattle.goo_columns.specs.Columns.{meta}
 use Rattle.goo_columns.specs.Readable.{IsSmall}
-use Rattle.goo_opening.specs.Found.{IsOutside}
+use Rattle.goo_opening.specs.Found.{IsOutside, word_of}
 use Rattle.goo_opening.specs.declared.fault.OpenFault.{OpenFault}
 use Rattle.goo_opening.specs.declared.fault.OpenFault.TheVariants.{NotARegistry, Version, Damaged, Memory}
 
@@ -37,11 +37,11 @@ IsRowWord [] f = f ≡ NotARegistry
 IsRowWord (row ∷ rows) f =
     (f ≡ Memory) ⊎ (((version : ℕ) × (column row 0 ≡ Int (pos version)) × (f ≡ version_word version)) ⊎ ((f ≡ Damaged) × ¬ version_readable row))
 
--- the word for what the tables tell of their version, or for the failure of the question
+-- the word for what the tables tell of their version, or for the error of the question
 abbrev pub TellsVersion : State → State → OpenFault → Type 0
 TellsVersion old new f =
     ((rows : List Row) × Shown version_text [] old new rows × IsRowWord rows f)
-    ⊎ ((e : Error) × FailsToQuery version_text [] old new e × (IsOutside f ⊎ (f ≡ Damaged)))
+    ⊎ ((e : Error) × FailsToQuery version_text [] old new e × (f ≡ word_of Damaged e))
 
 -- a word for tables that aren't a registry's: never that they are there, or of version 1
 abbrev pub IsForeignWord : OpenFault → Type 0

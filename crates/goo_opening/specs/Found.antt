@@ -1,7 +1,11 @@
 -- What is found where the tables of a registry are looked for.
 use Rattle.std.specs.Prelude.{◌≡◌, ◌⊎◌, ◌≤◌, ◌==◌, if◌then◌else◌, false, List, [], ◌∷◌, map, None, Result, IfOk, IfErr, OnOk, IsTrue}
+use Rattle.sqlite_disk.specs.Disk.{MoreFaults}
 use Rattle.sqlite.specs.State.{State, HasCleanDisk}
 use Rattle.sqlite.specs.Tree.{Trees}
+use Rattle.sqlite.specs.declared.error.Error.{Error}
+use Rattle.sqlite.specs.declared.error.Error.TheVariants.{SqliteFailure, SqlInputError, InvalidColumnIndex, InvalidColumnType, IntegralValueOutOfRange, Utf8Error}
+use Rattle.sqlite.specs.declared.error.ErrorCode.TheVariants.{OutOfMemory}
 use Rattle.sqlite.specs.Effect.{Database}
 use Rattle.goo_columns.specs.Rows.{Tables, Kept, Numbered, meta_row, meta_in, holder_in, account_in, device_in, declaration_in, lot_in, receipt_in, cancellation_in, withdrawal_in, notice_out_in, notice_in_in}
 use Rattle.goo_columns.specs.Stands.{Stands, Rests}
@@ -58,7 +62,23 @@ IsOutside f = (f ≡ Store) ⊎ (f ≡ Memory)
 abbrev pub IsWord : Tables → OpenFault → Type 0
 IsWord t f = IsOutside f ⊎ (((f ≡ Damaged) × ¬ CanBeRead t) ⊎ ((f ≡ Version t.meta.version) × ¬ (t.meta.version ≡ 1)))
 
+-- The word for the error of a statement: for want of memory; the one that is given where a table or a column is missing; for a value that
+-- can't be read; and for all others that of the store.
+abbrev pub word_of : OpenFault → Error → OpenFault
+word_of missing (SqliteFailure OutOfMemory) = Memory
+word_of missing (SqlInputError cause) = missing
+word_of missing (InvalidColumnIndex at) = Damaged
+word_of missing (InvalidColumnType at kind) = Damaged
+word_of missing (IntegralValueOutOfRange at) = Damaged
+word_of missing (Utf8Error at) = Damaged
+word_of missing _ = Store
+
+-- the disk failed in this call, or an earlier failure had shut the connection
+abbrev pub HasStoreFailed : State → State → Type 0
+HasStoreFailed old new = MoreFaults old.faults new.faults ⊎ (old.is_open ≡ false)
+
 -- A call that reads and changes nothing, as `OnlyReads`, whose refusals are words on the tables.
+-- `blames`: `Store` is told only where the store failed, whatever the tables hold.
 -- `right`: tables that can be read are refused for want of memory or a fault of the store alone.
 pub record Finds {T : Type 0} (old new : State) (result : Result T OpenFault) (Shows : Database → T → Type 0) : Type 0 where
   pub clean : HasCleanDisk new → HasCleanDisk old
@@ -71,3 +91,4 @@ pub record Finds {T : Type 0} (old new : State) (result : Result T OpenFault) (S
   pub limit : HasCleanDisk new → IsMet old → new.step_limit ≡ old.step_limit
   pub right : HasCleanDisk new → IsMet old → old.step_limit ≡ None → (t : Tables) → Stands old.now t → IsReadable t → IfErr result IsOutside
   pub words : HasCleanDisk new → IsMet old → old.step_limit ≡ None → (t : Tables) → Stands old.now t → IfErr result (IsWord t)
+  pub blames : HasCleanDisk new → IsMet old → old.step_limit ≡ None → IfErr result (λ f. f ≡ Store → HasStoreFailed old new)

@@ -1,5 +1,5 @@
 -- What a call that only reads the tables says.
-use Rattle.std.specs.Prelude.{◌≡◌, ◌≤◌, false, pos, [], ◌∷◌, All, map, None, Result, IfOk, IfErr, OnOk, IsTrue}
+use Rattle.std.specs.Prelude.{◌≡◌, ◌⊎◌, ◌≤◌, false, pos, [], ◌∷◌, All, map, None, Result, IfOk, IfErr, OnOk, IsTrue}
 use Rattle.sqlite.specs.State.{State, HasCleanDisk}
 use Rattle.sqlite.specs.Tree.{Trees}
 use Rattle.sqlite.specs.Effect.{Database}
@@ -10,7 +10,7 @@ use Rattle.goo_columns.specs.Stands.{Stands, Rests, IsSettled}
 use Rattle.goo_columns.specs.Met.{HasOurTables}
 use Rattle.goo_columns.specs.Columns.{registry_schema}
 use Rattle.goo_columns.specs.Refused.{IsFault}
-use Rattle.goo_columns.specs.Readable.{numbered_meta_readable, holder_readable, account_readable, device_readable, declaration_readable, lot_readable, piece_readable, peer_readable, receipt_readable, cancellation_readable, withdrawal_readable, notice_out_readable, notice_in_readable}
+use Rattle.goo_columns.specs.Readable.{is_read_error, numbered_meta_readable, holder_readable, account_readable, device_readable, declaration_readable, lot_readable, piece_readable, peer_readable, receipt_readable, cancellation_readable, withdrawal_readable, notice_out_readable, notice_in_readable}
 
 -- each value is one that its column's reader takes: a number of its size, a text in UTF-8
 pub record CanBeRead (t : Tables) : Type 0 where
@@ -36,7 +36,8 @@ pub record IsMet (s : State) : Type 0 where
 
 -- Everything is said of a disk that has returned what was written.
 -- `seen` is what was found, in the database as it was and is; `rests` holds after an error too; `crash`: a crash finds nothing new;
--- `outside`: no transaction is begun; `faulty`: over tables that can be read, an error is a fault of memory or of the store.
+-- `outside`: no transaction is begun; `refused`: an error is a fault of memory or of the store, or tells of a value that can't be read;
+-- `faulty`: over tables that can be read, it is a fault of memory or of the store.
 pub record OnlyReads {T : Type 0} (old new : State) (result : Result T Error) (Shows : Database → T → Type 0) : Type 0 where
   pub clean : HasCleanDisk new → HasCleanDisk old
   pub outside : old.in_transaction ≡ false → new.in_transaction ≡ false
@@ -46,4 +47,5 @@ pub record OnlyReads {T : Type 0} (old new : State) (result : Result T Error) (S
   pub crash : HasCleanDisk new → IsMet old → (db : Trees) → new.may_leave db → old.may_leave db
   pub counts : HasCleanDisk new → IsMet old → old.faults ≤ new.faults
   pub limit : HasCleanDisk new → IsMet old → new.step_limit ≡ old.step_limit
+  pub refused : HasCleanDisk new → IsMet old → old.step_limit ≡ None → IfErr result (λ e. IsFault old new e ⊎ IsTrue (is_read_error e))
   pub faulty : HasCleanDisk new → IsMet old → old.step_limit ≡ None → (t : Tables) → Stands old.now t → CanBeRead t → IfErr result (IsFault old new)

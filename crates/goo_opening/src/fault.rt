@@ -3,6 +3,7 @@
 ghost use Rattle.std.specs.Prelude.{◌≡◌, ◌⊎◌, IsTrue};
 ghost use Rattle.goo_columns.specs.Readable.{is_read_error};
 ghost use Rattle.goo_columns.specs.Refused.{is_store_error};
+ghost use Rattle.goo_opening.specs.Found.{word_of};
 
 use sqlite::{Error, ErrorCode};
 
@@ -25,6 +26,7 @@ pub enum OpenFault {
 
 /// The word for the error of a statement; `missing` is the one where the statement's table or a column of it is missing.
 pub fn fault_of(error: Error, missing: OpenFault) -> OpenFault
+    ensures told { result ≡ word_of missing error }
     ensures memory { error ≡ Error.SqliteFailure ErrorCode.OutOfMemory → result ≡ OpenFault.Memory }
     ensures store { IsTrue (is_store_error error) → result ≡ OpenFault.Store }
     ensures unread { IsTrue (is_read_error error) → result ≡ OpenFault.Damaged }

@@ -30,6 +30,7 @@ fn the_row(rows: Vec<NumberedMeta>) -> Result<MetaRow, OpenFault>
     ensures version { IfOk result (λ m. m.version ≡ 1) }
     ensures refused { (m : Meta) → map numbered_in rows.items ≡ record { id = 1; meta = m } ∷ [] → m.version ≡ 1 → IfErr result (λ _. ⊥) }
     ensures told { IfErr result (λ fault. fault ≡ row_fault (map numbered_in rows.items)) }
+    ensures unblamed { IfErr result (λ fault. fault ≡ OpenFault.Store → ⊥) }
     ensures words { (t : Tables) → map numbered_in rows.items ≡ record { id = 1; meta = t.meta } ∷ [] → IfErr result (IsWord t) }
 {
     let mut rows = rows;

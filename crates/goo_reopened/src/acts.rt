@@ -3,6 +3,7 @@
 //! All of it goes through one function (`works`): each further call of what is written over any shelf, at a shelf of tables,
 //! costs a check of this crate several seconds.
 
+use crate::account_runs::shows_runs;
 use crate::asking::plays;
 use crate::claims::holds;
 use crate::found::{MEMBERS, finds_members, finds_nothing};
@@ -33,6 +34,8 @@ pub enum Act<'a> {
     FindsNothing,
     /// Its members, whom its shelf finds then.
     FindsMembers,
+    /// The requests up to a transfer, and the giver's account run by run.
+    ShowsRuns,
     /// All requests, and what it shows before the first and after each is told.
     Sights,
     /// All requests, up to the first `Store`.
@@ -90,6 +93,7 @@ fn asks_for<S: Shelf>(rt: &impl Abort, alloc: Global, registry: &mut Registry<S>
         Act::Plays(case, false) => answers(rt, alloc, registry, case),
         Act::Plays(case, true) => runs(rt, alloc, registry, case),
         Act::SendsParts => sends_parts(rt, alloc, registry),
+        Act::ShowsRuns => shows_runs(rt, alloc, registry),
         Act::FindsMembers => answers(rt, alloc, registry, &MEMBERS),
         Act::GoesOn(answered, wanted) => goes_on_from(rt, alloc, registry, *answered, wanted),
         _ => (),

@@ -145,6 +145,11 @@ fn are_none(rt: &impl Abort, rows: Result<Vec<Piece>, Fault>) {
     holds(rt, rows.expect(rt, "rows").is_empty(), "no rows")
 }
 
+/// There is no further row.
+fn is_none(rt: &impl Abort, row: Result<Option<Piece>, Fault>) {
+    holds(rt, matches!(row, Ok(None)), "no further row")
+}
+
 /// A new registry's shelf has no rows.
 fn is_empty<S: Shelf>(rt: &impl Abort, alloc: Global, shelf: &mut S) {
     let first = Number::new(7, 1).expect(rt, "no number");
@@ -152,8 +157,9 @@ fn is_empty<S: Shelf>(rt: &impl Abort, alloc: Global, shelf: &mut S) {
     let account = AccountNo::new(1).expect(rt, "no account");
     let last_day = Day::read(b"2099-12-31").expect(rt, "a day");
     are_none(rt, shelf.meeting(alloc, range));
-    are_none(rt, shelf.expiring(alloc, last_day));
     are_none(rt, shelf.pieces_of(alloc, account));
+    is_none(rt, shelf.next_of(account, None));
+    is_none(rt, shelf.next_expiring(last_day, Some(first)));
     holds(
         rt,
         shelf.totals(alloc).expect(rt, "totals").is_empty(),
@@ -236,4 +242,9 @@ fn in_a_new_registry(rt: HostRuntime) {
 #[test]
 fn among_members(rt: HostRuntime) {
     is_alike(&rt, rt.alloc(), 1, Act::FindsMembers, "members")
+}
+
+#[test]
+fn run_by_run(rt: HostRuntime) {
+    is_alike(&rt, rt.alloc(), 1, Act::ShowsRuns, "runs")
 }

@@ -7,6 +7,8 @@
 #![tactic(auto)]
 
 #[cfg(test)]
+mod account_runs;
+#[cfg(test)]
 mod acts;
 #[cfg(test)]
 mod asking;

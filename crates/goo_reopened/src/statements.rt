@@ -5,22 +5,18 @@ use crate::claims::holds;
 use crate::deeds::{Deed, after, shown};
 use crate::disks::blank;
 use crate::worked::Case;
-use goo_columns::joined::JoinedRow;
-use goo_held::joined::{next_expiring, next_of_account};
 use goo_held::piece::find_piece;
 use goo_tables::declaration::find_declaration;
 use goo_tables::lot::find_lot_by_id;
 use goo_tables::withdrawal::find_withdrawal;
-use sqlite::{Alter, Connection, Error};
+use sqlite::{Alter, Connection};
 use std::alloc::Global;
 use std::process::Abort;
 
-/// The certificate that is withdrawn, and the next one.
+/// The certificate that is withdrawn.
 const FIFTH: u64 = 7_000_000_000_005;
 
-const SIXTH: u64 = 7_000_000_000_006;
-
-/// The fifth certificate of January is withdrawn. One of March is there too.
+/// The fifth certificate of January is withdrawn.
 const WITHDRAWN: Case = Case {
     name: "a withdrawal",
     serial: 1,
@@ -65,45 +61,14 @@ fn finds_the_fifth<S: Alter>(rt: &impl Abort, alloc: Global, conn: &mut Connecti
     );
 }
 
-/// The first number of a row, if it was found.
-fn first_of(rt: &impl Abort, found: Result<Option<JoinedRow>, Error>) -> Option<u64> {
-    match found {
-        Ok(Some(row)) => Some(row.piece.first),
-        Ok(None) => None,
-        Err(_) => panic!(rt; "rows that can't be read"),
-    }
-}
-
-/// The piece behind the withdrawn one; those of January expire after the last day of July of the next year.
-fn finds_next<S: Alter>(rt: &impl Abort, alloc: Global, conn: &mut Connection<S>) {
-    let behind = first_of(rt, next_of_account(alloc, conn, 1, FIFTH));
-    holds(
-        rt,
-        behind == Some(SIXTH),
-        "the piece behind the withdrawn one",
-    );
-    let held = first_of(rt, next_expiring(alloc, conn, "2026-08-01", FIFTH));
-    holds(rt, held == Some(SIXTH), "a held piece of January");
-}
-
-/// March's don't expire yet, and on the last day none does.
-fn finds_no_more<S: Alter>(rt: &impl Abort, alloc: Global, conn: &mut Connection<S>) {
-    let march = first_of(rt, next_expiring(alloc, conn, "2026-08-01", SIXTH));
-    holds(rt, march == None, "no piece of March");
-    let july = first_of(rt, next_expiring(alloc, conn, "2026-07-31", 0));
-    holds(rt, july == None, "no piece on the last day");
-}
-
 /// The tables of a registry that was asked for the withdrawal are asked for rows.
 pub fn finds_withdrawn<S: Alter>(rt: &impl Abort, alloc: Global, conn: &mut Connection<S>) {
     finds_january(rt, alloc, conn);
-    finds_the_fifth(rt, alloc, conn);
-    finds_next(rt, alloc, conn);
-    finds_no_more(rt, alloc, conn)
+    finds_the_fifth(rt, alloc, conn)
 }
 
 #[test]
-fn by_keys_and_in_order(rt: HostRuntime) {
+fn by_keys(rt: HostRuntime) {
     let alloc = rt.alloc();
     let withdraws = Deed::Begins(1, Act::Plays(&WITHDRAWN, false));
     let (_, disks) = shown(&rt, alloc, blank(alloc), &withdraws);

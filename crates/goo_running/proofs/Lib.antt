@@ -1,2 +1,2 @@
-mod DeskLemmas
+mod Files
 mod RunLemmas

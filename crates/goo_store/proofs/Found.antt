@@ -105,15 +105,19 @@ beside_states lots row piece is each = ap (option_map lot_of) (All-head (λ r. I
 pub kept_one : (found : Result (Option JoinedRow) Error) (row : JoinedRow) (old new : List NumberedLot) → found ≡ Ok (Some row) → KeepsLots (row ∷ []) old new → KeepsRead found (λ o. cons_option o []) old new
 kept_one found row old new is kept = subst (λ (f : Result (Option JoinedRow) Error). KeepsRead f (λ o. cons_option o []) old new) (sym is) kept
 
+one_beside : (lots : List Lot) (o : Option JoinedRow) → IfSome o (λ r. IsBeside lots (joined_in r)) → All (λ r. IsBeside lots (joined_in r)) (cons_option o [])
+one_beside lots None is = All-nil (λ r. IsBeside lots (joined_in r))
+one_beside lots (Some r) is = All-cons (λ r. IsBeside lots (joined_in r)) r [] is (All-nil (λ r. IsBeside lots (joined_in r)))
+
 -- the last row that passes a test
 pub last_beside : (t : Tables) (test : PieceRow × Lot → Bool) (row : Option JoinedRow) → option_map joined_in row ≡ find test (reverse (pieces_beside t)) → All (λ r. IsBeside t.lots (joined_in r)) (cons_option row [])
 last_beside t test row is =
-    one row
+    one_beside t.lots row
     (found_row joined_in (IsBeside t.lots) test (reverse (pieces_beside t)) (All-permutation (IsBeside t.lots) (pieces_beside t) (reverse (pieces_beside t)) (IsPermutation-reverse (pieces_beside t)) (all_beside t.lots t.pieces)) row is)
-  where
-    one : (o : Option JoinedRow) → IfSome o (λ r. IsBeside t.lots (joined_in r)) → All (λ r. IsBeside t.lots (joined_in r)) (cons_option o [])
-    one None is = All-nil (λ r. IsBeside t.lots (joined_in r))
-    one (Some r) is = All-cons (λ r. IsBeside t.lots (joined_in r)) r [] is (All-nil (λ r. IsBeside t.lots (joined_in r)))
+
+-- the first one
+pub first_beside : (t : Tables) (test : PieceRow × Lot → Bool) (row : Option JoinedRow) → option_map joined_in row ≡ find test (pieces_beside t) → All (λ r. IsBeside t.lots (joined_in r)) (cons_option row [])
+first_beside t test row is = one_beside t.lots row (found_row joined_in (IsBeside t.lots) test (pieces_beside t) (all_beside t.lots t.pieces) row is)
 
 -- all rows that pass a test
 pub some_beside : (t : Tables) (test : PieceRow × Lot → Bool) (rows : List JoinedRow) → map joined_in rows ≡ filter test (pieces_beside t) → All (λ r. IsBeside t.lots (joined_in r)) rows

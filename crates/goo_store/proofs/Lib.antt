@@ -9,3 +9,6 @@ pub mod Found
 pub mod RowsRead
 pub mod Gathering
 pub mod CommitBlamed
+pub mod Next
+pub mod NextRow
+pub mod CreationBlamed

@@ -5,3 +5,4 @@ pub mod Near
 pub mod Creating
 pub mod Preparing
 pub mod Gathering
+pub mod NextRows

@@ -11,6 +11,7 @@ mod devices;
 mod holders;
 mod kept_lots;
 mod lots;
+mod next_rows;
 mod notices;
 pub mod opening;
 mod peers;

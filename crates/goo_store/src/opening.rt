@@ -16,7 +16,7 @@ ghost use Rattle.goo_rows.specs.Rows.{AreRowsOf};
 ghost use Rattle.goo_spec.specs.Sound.{IsSound};
 ghost use Rattle.goo_shelf.specs.Shelf.{IsReady};
 ghost use Rattle.goo_lookups.specs.Moments.{moment};
-ghost use Rattle.goo_lookups.specs.Opening.{IsRefusal};
+ghost use Rattle.goo_lookups.specs.Opening.{BlamesOpening, IsRefusal};
 
 use crate::sql_shelf::SqlShelf;
 use goo_lookups::judge::judge;
@@ -48,6 +48,7 @@ impl<S: Alter> SqlShelf<S> {
         ensures rests { IfOk result (λ shelf. HasCleanDisk (view S.Store shelf.conn) → Rests (view S.Store conn) (view S.Store shelf.conn)) }
         ensures refused { IfErr result (λ e. HasCleanDisk (view S.Store e.0) → (view S.Store conn).step_limit ≡ None → (t : Tables) → Stands (view S.Store conn).now t → AreKept t → IsOutside e.1) }
         ensures words { IfErr result (λ e. HasCleanDisk (view S.Store e.0) → (view S.Store conn).step_limit ≡ None → (t : Tables) → Stands (view S.Store conn).now t → IsRefusal t e.1) }
+        ensures blames { (view S.Store conn).now.schema ≡ registry_schema → IfErr result (λ e. BlamesOpening (view S.Store conn) (view S.Store e.0) e.1) }
         ensures foreign { ((view S.Store conn).now.schema ≡ registry_schema → ⊥) → IsErrAnd result (λ e. IsForeignWord e.1) }
         ensures version { ((view S.Store conn).now.schema ≡ registry_schema → ⊥) → (LacksMeta (view S.Store conn).now.schema → ⊥)
             → IfErr result (λ e. HasCleanDisk (view S.Store e.0) → TellsVersion (view S.Store conn) (view S.Store e.0) e.1) }
@@ -55,6 +56,8 @@ impl<S: Alter> SqlShelf<S> {
         ensures empty { (view S.Store conn).now.schema ≡ no_schema → result ≡ Err (conn, OpenFault.NotARegistry) }
         ensures unchanged { IfErr result (λ e. HasCleanDisk (view S.Store e.0) → Rests (view S.Store conn) (view S.Store e.0)) }
         ensures outside { IfErr result (λ e. e.0.in_transaction ≡ false) }
+        ensures clean { IfOk result (λ shelf. HasCleanDisk (view S.Store shelf.conn) → HasCleanDisk (view S.Store conn)) }
+        ensures clean_before { IfErr result (λ e. HasCleanDisk (view S.Store e.0) → HasCleanDisk (view S.Store conn)) }
         ensures crash { IfErr result (λ e. HasCleanDisk (view S.Store e.0) → (db : Trees) → (view S.Store e.0).may_leave db → (view S.Store conn).may_leave db) }
     {
         let mut conn = conn;

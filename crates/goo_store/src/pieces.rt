@@ -1,8 +1,9 @@
 //! Rows of `piece` beside their lots, as pieces.
 
-ghost use Rattle.std.specs.Prelude.{◌≡◌, ◌++◌, ◌↔◌, [], ◌∷◌, All, IfOk, IfSome, IsOk, IsOkUnless, OnOk, IsTrue, map, option_map};
+ghost use Rattle.std.specs.Prelude.{◌≡◌, ◌+◌, ◌++◌, ◌↔◌, [], ◌∷◌, All, IfOk, IfSome, IsOk, IsOkUnless, OnOk, IsTrue, map, option_map};
 ghost use Rattle.std.specs.List.{cons_option};
 ghost use Rattle.goo_types.specs.Piece.{IsRising};
+ghost use Rattle.goo_shelf.specs.Rows.{EndsFrom};
 ghost use Rattle.goo_columns.specs.Beside.{joined_in};
 ghost use Rattle.goo_kept.specs.Places.{place_of, piece_of};
 ghost use Rattle.goo_kept.specs.Readable.{is_act, names_act};
@@ -76,6 +77,42 @@ pub fn read_maybe(
     match found? {
         Some(row) => Ok(Some(read_beside(&row, lots)?)),
         None => Ok(None),
+    }
+}
+
+/// Whether a piece is a range that ends above a number.
+pub fn is_beyond(piece: &Piece, after: u64) -> bool
+    ensures { IsTrue result ↔ EndsFrom (after + 1) piece.now }
+{
+    piece.is_forward() && after < piece.last.get()
+}
+
+/// Whether the piece, if there is one, is a range that ends above a number.
+fn is_none_or_beyond(piece: &Option<Piece>, after: u64) -> bool
+    ensures { IsTrue result ↔ IfSome piece.now (EndsFrom (after + 1)) }
+{
+    match piece {
+        Some(piece) => is_beyond(piece, after),
+        None => true,
+    }
+}
+
+/// The piece, if there is one, which must be a range that ends above a number. Its lot is kept.
+pub fn read_beyond(
+    found: Result<Option<JoinedRow>, Error>,
+    after: u64,
+    lots: &mut Vec<NumberedLot>,
+) -> Result<Option<Piece>, Trouble>
+    ensures value { Passes found result (λ row piece. piece ≡ option_map piece_of (option_map joined_in row)) }
+    ensures accepts { Accepts found result (λ row. IfSome row (λ r. IsReadablePiece (joined_in r)) × IfSome (option_map piece_of (option_map joined_in row)) (EndsFrom (after + 1))) }
+    ensures ahead { IfOk result (λ piece. IfSome piece (EndsFrom (after + 1))) }
+    ensures kept { KeepsRead found (λ row. cons_option row []) lots.old.items lots.new.items }
+{
+    let piece = read_maybe(found, lots)?;
+    if is_none_or_beyond(&piece, after) {
+        Ok(piece)
+    } else {
+        Err(Trouble::Refused)
     }
 }
 

@@ -1,23 +1,26 @@
 //! The rows of a registry's certificates, as they are found.
 
-ghost use Rattle.std.specs.Prelude.{◌≡◌, ◌<◌, ◌^◌, ◌&&◌, IfOk, find, reverse, nat_le, nat_lt};
+ghost use Rattle.std.specs.Prelude.{◌≡◌, ◌+◌, ◌<◌, ◌^◌, ◌&&◌, IfOk, IfSome, find, reverse, nat_le, nat_lt};
 ghost use Rattle.std.specs.List.{filter};
 ghost use Rattle.sqlite.specs.Held.{state as view};
 ghost use Rattle.goo_types.specs.Piece.{IsRising};
 ghost use Rattle.goo_rows.specs.Rows.{meeting as near};
-ghost use Rattle.goo_shelf.specs.Rows.{naming_account, expiring_on};
+ghost use Rattle.goo_spec_runs.specs.NextRun.{ending_from, first_of, from_of};
+ghost use Rattle.goo_shelf.specs.Rows.{naming_account, EndsFrom};
 ghost use Rattle.goo_shelf.specs.Shelf.{Looks};
+ghost use Rattle.goo_shelf.specs.Sought.{is_sought};
 ghost use Rattle.goo_lookups.specs.Moments.{moment};
 ghost use Rattle.goo_lookups.specs.StoreFaults.{BlamesStore};
 
-use crate::pieces::{join_near, read_maybe, read_rising};
+use crate::next_rows::{ask_next, reaching_row};
+use crate::pieces::{join_near, read_beyond, read_maybe, read_rising};
 use crate::sql_shelf::SqlShelf;
-use goo_held::joined::{piece_before, pieces_beginning, pieces_expiring, pieces_of_account};
+use goo_held::joined::{piece_before, pieces_beginning, pieces_of_account};
 use goo_lookups::told::told;
-use goo_notice::texts::day_text;
+use goo_shelf::sought::Sought;
 use goo_types::account_no::AccountNo;
-use goo_types::day::Day;
 use goo_types::fault::Fault;
+use goo_types::number::Number;
 use goo_types::piece::Piece;
 use goo_types::range::Range;
 use sqlite::Alter;
@@ -100,18 +103,42 @@ impl<S: Alter> SqlShelf<S> {
         told(rows, &mut self.refused)
     }
 
-    /// The held rows whose lot is over on a day, rising.
-    pub(crate) fn rows_expiring(&mut self, alloc: Global, day: Day) -> Result<Vec<Piece>, Fault>
-        ensures looks { Looks (moment (view S.Store self.old.conn) self.old.refused) (moment (view S.Store self.new.conn) self.new.refused) result (λ met. met.items ≡ expiring_on day (moment (view S.Store self.old.conn) self.old.refused).rows) }
+    /// The first row that is looked for and begins above a number.
+    fn first_beyond(&mut self, sought: &Sought, after: u64) -> Result<Option<Piece>, Fault>
+        requires { after < 2 ^ 63 }
+        ensures looks { Looks (moment (view S.Store self.old.conn) self.old.refused) (moment (view S.Store self.new.conn) self.new.refused) result (λ row. row ≡ find (λ p. is_sought sought.now p && nat_lt after p.first) (moment (view S.Store self.old.conn) self.old.refused).rows) }
         ensures store { BlamesStore (view S.Store self.old.conn) (view S.Store self.new.conn) self.old.refused result }
-        ensures rising { IfOk result (λ met. IsRising met.items) }
+        ensures ahead { IfOk result (λ row. IfSome row (EndsFrom (after + 1))) }
     {
         if self.refused {
             return Err(Fault::Store);
         }
-        let text = day_text(day);
-        let found = pieces_expiring(alloc, &mut self.conn, text.as_str());
-        let rows = read_rising(alloc, found, &mut self.findings.lots);
-        told(rows, &mut self.refused)
+        let found = ask_next(self.alloc, &mut self.conn, sought, after);
+        let row = read_beyond(found, after, &mut self.findings.lots);
+        told(row, &mut self.refused)
+    }
+
+    /// The first row that is looked for and ends after a number, or the first of all such rows.
+    ///
+    /// That is the last row that begins at the number or before it, or else the first that begins after it: two statements
+    /// that each show one row, whatever lies between.
+    pub(crate) fn next_row(
+        &mut self,
+        sought: &Sought,
+        after: Option<Number>,
+    ) -> Result<Option<Piece>, Fault>
+        ensures looks { Looks (moment (view S.Store self.old.conn) self.old.refused) (moment (view S.Store self.new.conn) self.new.refused) result (λ row. row ≡ first_of (ending_from (from_of after) (filter (is_sought sought.now) (moment (view S.Store self.old.conn) self.old.refused).rows))) }
+        ensures store { BlamesStore (view S.Store self.old.conn) (view S.Store self.new.conn) self.old.refused result }
+        ensures ahead { IfOk result (λ row. IfSome row (EndsFrom (from_of after))) }
+    {
+        let Some(after) = after else {
+            return self.first_beyond(sought, 0);
+        };
+        let after = after.get();
+        let before = self.row_before(self.alloc, after + 1)?;
+        match reaching_row(before, sought, after) {
+            Some(row) => Ok(Some(row)),
+            None => self.first_beyond(sought, after),
+        }
     }
 }

@@ -10,6 +10,7 @@ use goo_shelf::own::Meta;
 use goo_shelf::plan::Plan;
 use goo_shelf::sent::Sent;
 use goo_shelf::shelf::Shelf;
+use goo_shelf::sought::Sought;
 use goo_types::account_no::AccountNo;
 use goo_types::act_no::ActNo;
 use goo_types::command::Command;
@@ -21,6 +22,7 @@ use goo_types::key::Key;
 use goo_types::lot::Lot;
 use goo_types::name::Name;
 use goo_types::notice::Notice;
+use goo_types::number::Number;
 use goo_types::piece::Piece;
 use goo_types::range::Range;
 use goo_types::registry_code::RegistryCode;
@@ -29,14 +31,15 @@ use std::alloc::Global;
 
 impl<S: Alter> Shelf for SqlShelf<S> {
     ghost use Rattle.sqlite.specs.Held.{state as view};
-    ghost use Rattle.std.specs.Prelude.{◌≡◌, IfOk};
+    ghost use Rattle.std.specs.Prelude.{◌≡◌, IfOk, IfSome};
     ghost use Rattle.std.specs.FinMap.{get, contains_key};
     ghost use Rattle.goo_types.specs.Piece.{IsRising};
     ghost use Rattle.goo_spec.specs.Lots.{lot_key};
     ghost use Rattle.goo_rows.specs.Rows.{meeting as near};
     ghost use Rattle.goo_shelf.specs.Counters.{counters_of};
     ghost use Rattle.goo_shelf.specs.Meta.{meta_of};
-    ghost use Rattle.goo_shelf.specs.Rows.{expiring_on, naming_account};
+    ghost use Rattle.goo_spec_runs.specs.NextRun.{from_of};
+    ghost use Rattle.goo_shelf.specs.Rows.{naming_account, next_row, next_expiring_row, EndsFrom};
     ghost use Rattle.goo_shelf.specs.Shelf.{Looks, progress_of, IsRecordOf, receipt_of, arrival_of, totals_of};
     ghost use Rattle.goo_shelf.specs.Plan.{Fits, Commits};
     ghost use Rattle.goo_store.specs.Gathering.{BlamesCommit, CanCarryOut};
@@ -174,20 +177,28 @@ impl<S: Alter> Shelf for SqlShelf<S> {
         self.rows_near(alloc, range)
     }
 
-    fn expiring(&mut self, alloc: Global, day: Day) -> Result<Vec<Piece>, Fault>
-        ensures looks { Looks (moment (view S.Store self.old.conn) self.old.refused) (moment (view S.Store self.new.conn) self.new.refused) result (λ met. met.items ≡ expiring_on day (moment (view S.Store self.old.conn) self.old.refused).rows) }
-        ensures store { BlamesStore (view S.Store self.old.conn) (view S.Store self.new.conn) self.old.refused result }
-        ensures rising { IfOk result (λ met. IsRising met.items) }
-    {
-        self.rows_expiring(alloc, day)
-    }
-
     fn pieces_of(&mut self, alloc: Global, account: AccountNo) -> Result<Vec<Piece>, Fault>
         ensures looks { Looks (moment (view S.Store self.old.conn) self.old.refused) (moment (view S.Store self.new.conn) self.new.refused) result (λ met. met.items ≡ naming_account account (moment (view S.Store self.old.conn) self.old.refused).rows) }
         ensures store { BlamesStore (view S.Store self.old.conn) (view S.Store self.new.conn) self.old.refused result }
         ensures rising { IfOk result (λ met. IsRising met.items) }
     {
         self.rows_naming(alloc, account)
+    }
+
+    fn next_of(&mut self, account: AccountNo, after: Option<Number>) -> Result<Option<Piece>, Fault>
+        ensures looks { Looks (moment (view S.Store self.old.conn) self.old.refused) (moment (view S.Store self.new.conn) self.new.refused) result (λ found. found ≡ next_row account after (moment (view S.Store self.old.conn) self.old.refused).rows) }
+        ensures store { BlamesStore (view S.Store self.old.conn) (view S.Store self.new.conn) self.old.refused result }
+        ensures ahead { IfOk result (λ found. IfSome found (EndsFrom (from_of after))) }
+    {
+        self.next_row(&Sought::Naming(account), after)
+    }
+
+    fn next_expiring(&mut self, day: Day, after: Option<Number>) -> Result<Option<Piece>, Fault>
+        ensures looks { Looks (moment (view S.Store self.old.conn) self.old.refused) (moment (view S.Store self.new.conn) self.new.refused) result (λ found. found ≡ next_expiring_row day after (moment (view S.Store self.old.conn) self.old.refused).rows) }
+        ensures store { BlamesStore (view S.Store self.old.conn) (view S.Store self.new.conn) self.old.refused result }
+        ensures ahead { IfOk result (λ found. IfSome found (EndsFrom (from_of after))) }
+    {
+        self.next_row(&Sought::Expiring(day), after)
     }
 
     fn totals(&mut self, alloc: Global) -> Result<Vec<DeviceTotals>, Fault>

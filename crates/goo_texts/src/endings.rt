@@ -6,7 +6,7 @@ use goo_command_line::read_task;
 use goo_ending::{Ending, answer_input};
 use goo_types::fault::Fault;
 use std::alloc::Global;
-use std::io::{self, ErrorKind, Read, Write};
+use std::io::{self, BufWriter, ErrorKind, Read, Write};
 use std::process::Abort;
 
 /// A line with a request.
@@ -34,17 +34,19 @@ impl Write for Broken {
 }
 
 /// The exit status of a run from this reader to this writer.
-fn status_of<R: Read, W: Write>(alloc: Global, reader: &mut R, writer: &mut W) -> u8 {
+fn status_of<R: Read, W: Write + Drop>(alloc: Global, reader: &mut R, writer: W) -> u8 {
     let mut desk = FailingDesk {
         fault: Fault::Store,
     };
-    answer_input(alloc, &mut desk, reader, writer).status()
+    match BufWriter::new(alloc, writer) {
+        Ok(mut writer) => answer_input(alloc, &mut desk, reader, &mut writer).status(),
+        Err(_) => 4,
+    }
 }
 
 /// A run of an input whose outcomes are all written ends with this status.
 fn ends_with(rt: &impl Abort, alloc: Global, input: &str, wanted: u8) {
-    let mut output = Vec::new(alloc);
-    let status = status_of(alloc, &mut input.as_bytes(), &mut output);
+    let status = status_of(alloc, &mut input.as_bytes(), Vec::new(alloc));
     holds(rt, status == wanted, input);
 }
 
@@ -52,17 +54,16 @@ fn ends_with(rt: &impl Abort, alloc: Global, input: &str, wanted: u8) {
 fn fails_unwritten(rt: &impl Abort, alloc: Global, mut input: &[u8]) {
     holds(
         rt,
-        status_of(alloc, &mut input, &mut Broken) == 3,
+        status_of(alloc, &mut input, Broken) == 3,
         "an output that fails",
     );
 }
 
 /// A run of an input that can't be read is a failure.
 fn fails_unread(rt: &impl Abort, alloc: Global) {
-    let mut output = Vec::new(alloc);
     holds(
         rt,
-        status_of(alloc, &mut Broken, &mut output) == 3,
+        status_of(alloc, &mut Broken, Vec::new(alloc)) == 3,
         "an input that fails",
     );
 }
@@ -80,22 +81,15 @@ fn each_exit_status_of_a_run(rt: HostRuntime) {
 }
 
 /// Command lines that are no task.
-static LINES: [&str; 15] = [
+static LINES: [&str; 8] = [
     "goo",
     "goo --help",
     "goo run",
     "goo run --memory --code 7",
-    "goo run --memory --code 0 --today 2025-03-01",
-    "goo run --memory --code +7 --today 2025-03-01",
-    "goo run --memory --code 7 --today 2025-02-29",
-    "goo run --memory --code 7 --today 2025-03-01 --next-serial 0",
-    "goo run --db registry.db",
-    "goo run --db registry.db --memory --code 7 --today 2025-03-01",
-    "goo init --db registry.db --code 7 --today 2025-03-01",
-    "goo declare --db registry.db",
-    "goo statement 1 --db registry.db",
-    "goo audit --db registry.db",
-    "goo serve --port 8080 --count 1 --memory --code 7 --today 2025-03-01",
+    "goo run --db x --memory",
+    "goo run --db x --code 7",
+    "goo statement 0 --db x",
+    "goo init --memory --code 7 --today 2025-03-01",
 ];
 
 /// The exit status that a command line ends with, where it is no task.

@@ -1,15 +1,15 @@
 use Rattle.std.proofs.Common.{◌≡◌, ap, map, true}
 use Rattle.clap.specs.Words.{App, app_of, is_simple, is_simple_and_free, subcommand_rows_of}
-use Rattle.goo_command_line.specs.Line.{goo_app, run_app, task_named}
-use Rattle.goo_command_line.proofs.Tasks.{task-taken, task-refused, task-given, no-task-given, fault-refused, fault-given, fault-out_of_memory}
+use Rattle.goo_command_line.specs.Line.{goo_app, init_app, run_app, declare_app, statement_app, audit_app, serve_app, task_named}
+use Rattle.goo_command_line.proofs.Parsing.{task-taken, task-refused, task-given, no-task-given, fault-refused, fault-given, fault-out_of_memory}
 use Rattle.goo_command_line.proofs.words.read_task.Goals as goal
 
 simple : (a : App) → a ≡ goo_app → is_simple a ≡ true
-unfolding goo_app run_app
+unfolding goo_app init_app run_app declare_app statement_app audit_app serve_app
 simple a same = ap is_simple same
 
 free : (a : App) → a ≡ goo_app → is_simple_and_free a ≡ true
-unfolding goo_app run_app
+unfolding goo_app init_app run_app declare_app statement_app audit_app serve_app
 free a same = ap is_simple_and_free same
 
 pub returns-in_err-matches-clause-none : goal.returns-in_err-matches-clause-none

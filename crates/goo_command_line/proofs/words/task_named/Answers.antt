@@ -1,16 +1,16 @@
-use Rattle.std.proofs.Common.{rules}
-use Rattle.goo_command_line.proofs.Tasks.{run-named}
+use Rattle.std.proofs.Common.{◌≡◌, ◌∙◌, ap, sym, Some}
+use Rattle.clap.specs.Words.{found_of, rows_of}
+use Rattle.goo_command_line.specs.Verbs.{verb_in}
+use Rattle.goo_command_line.specs.Options.{values_in}
+use Rattle.goo_command_line.specs.Readings.{task_by}
+use Rattle.goo_command_line.specs.Line.{task_of}
+use Rattle.goo_command_line.proofs.Parsing.{command-named}
 use Rattle.goo_command_line.proofs.words.task_named.Goals as goal
-use Rattle.clap.specs.Words.{found_of}
 
-pub returns-in_err-place_given-in-Some-run-default : goal.returns-in_err-place_given-in-Some-run-default
-returns-in_err-place_given-in-Some-run-default c =
-    let named = c.in-Some-run-default in
-    let run = run-named c.args.matches.now named.field-0-0.now (found_of named.under.now) named.ensures.name named.ensures.rows named.is-run in
-    search (rules, run)
-
-pub returns-in_ok-place_given-in-Some-run-default : goal.returns-in_ok-place_given-in-Some-run-default
-returns-in_ok-place_given-in-Some-run-default c =
-    let named = c.in-Some-run-default in
-    let run = run-named c.args.matches.now named.field-0-0.now (found_of named.under.now) named.ensures.name named.ensures.rows named.is-run in
-    search (rules, run)
+pub returns-in-Some-verb_in : goal.returns-in-Some-verb_in
+returns-in-Some-verb_in c =
+    let it = c.in-Some in
+    let verb = c.in-Some-verb_in.verb in
+    let whole = command-named c.args.matches.now it.name.now (found_of it.under.now) it.ensures.name it.ensures.rows in
+    let known : verb_in it.name.now ≡ Some verb = sym c.verb_in.ensures ∙ c.in-Some-verb_in.is in
+    c.task_by.ensures ∙ ap (task_by verb) c.read_options.ensures ∙ sym (whole ∙ ap (λ v. task_of v (values_in (rows_of (found_of it.under.now)))) known)

@@ -10,7 +10,7 @@ or-false false b e = e
 
 pub returns : goal.returns
 returns c =
-    let rule : rule_of c.action.result ≡ option_rule c.args.name.now = search rules in
+    let rule : rule_of c.help.result ≡ option_rule c.args.name.now = search rules in
     record {
       app = IfOk-weaker c.arg.result _ _ (λ r adds. adds.shape (search rules) ∙ ap (with_rule (app_of c.args.command)) rule) c.arg.ensures;
       local = IfOk-weaker c.arg.result _ _ (λ r adds. adds.globals ∙ or-false _ _ (search rules)) c.arg.ensures;

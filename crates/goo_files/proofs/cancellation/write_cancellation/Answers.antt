@@ -1,12 +1,9 @@
-use Rattle.std.proofs.Common.{◌≡◌, Ok, Result, OnOk, OnErr}
-use Rattle.std.specs.Io.KnownBytes.{Appends}
-use Rattle.goo_streams.specs.Streams.{AppendsPrefix}
+use Rattle.std.proofs.Common.{◌≡◌, Ok}
 use Rattle.goo_types.specs.Piece.{IsRising}
 use Rattle.goo_shelf.specs.Shelf.{Looks}
 use Rattle.goo_registry.specs.AccountReads.{IsHeadingShown}
-use Rattle.goo_files_documents.specs.Cancellation.{cancellation_text}
-use Rattle.goo_files.proofs.Auditing.{on_ok_as, on_err_as}
-use Rattle.goo_files.proofs.Documents.{document_done, head_by}
+use Rattle.goo_files.proofs.Cases.{on_ok_as, on_err_as}
+use Rattle.goo_files.proofs.Documents.{document_done}
 use Rattle.goo_files.proofs.cancellation.write_cancellation.Goals as goal
 
 pub returns : goal.returns

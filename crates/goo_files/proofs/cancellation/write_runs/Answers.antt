@@ -1,11 +1,9 @@
-use Rattle.std.proofs.Common.{rules, ◌≡◌, ◌+◌, ◌<◌, ◌++◌, length, get_or, sym, subst, take, drop}
+use Rattle.std.proofs.Common.{rules, ◌≡◌, ◌<◌, length, get_or}
 use Rattle.std.specs.Io.KnownBytes.{Appends}
 use Rattle.goo_streams.specs.Streams.{AppendsPrefix}
-use Rattle.goo_streams.proofs.AppendsFacts.{appends-more, prefix-more, prefix-front}
-use Rattle.goo_files.proofs.Auditing.{on_err}
 use Rattle.goo_files_documents.specs.Runs.{document_line}
-use Rattle.goo_files_documents.specs.Cancellation.{document_lines}
-use Rattle.goo_files.proofs.Documents.{documents-next, documents-front}
+use Rattle.goo_files.proofs.Cases.{on_err}
+use Rattle.goo_files.proofs.LineFacts.{lines_on, lines_part}
 use Rattle.goo_files.proofs.cancellation.write_runs.Goals as goal
 
 pub returns-in_err-write_line-clause-prefix : goal.returns-in_err-write_line-clause-prefix
@@ -18,10 +16,7 @@ returns-in_err-write_line-clause-prefix g c =
     let lt : i < length items = search rules in
     let is : c.run-item.result ≡ get_or items i c.run-item.result = search rules in
     let part : AppendsPrefix mid new (document_line c.run-item.result) = search rules in
-    let next = documents-next items i c.run-item.result lt is in
-    on_err c.from_residual.result
-    (subst (AppendsPrefix old new) (sym (documents-front items (i + 1)))
-    (prefix-front old new (document_lines (take (i + 1) items)) _ (subst (AppendsPrefix old new) (sym next) (prefix-more old mid new (document_lines (take i items)) (document_line c.run-item.result) c.loop-run.invariant part))))
+    on_err c.from_residual.result (lines_part document_line items i c.run-item.result lt is old mid new c.loop-run.invariant part)
 
 pub loop-run-preserved : goal.loop-run-preserved
 loop-run-preserved g c =
@@ -33,4 +28,4 @@ loop-run-preserved g c =
     let lt : i < length items = search rules in
     let is : c.run-item.result ≡ get_or items i c.run-item.result = search rules in
     let wrote : Appends mid new (document_line c.run-item.result) = search rules in
-    subst (Appends old new) (sym (documents-next items i c.run-item.result lt is)) (appends-more old mid new (document_lines (take i items)) (document_line c.run-item.result) c.loop-run.invariant wrote)
+    lines_on document_line items i c.run-item.result lt is old mid new c.loop-run.invariant wrote

@@ -1,12 +1,11 @@
-use Rattle.std.proofs.Common.{◌≤◌, ◌-◌}
+use Rattle.std.proofs.Common.{◌-◌}
 use Rattle.goo_spec_runs.specs.NextRun.{from_of}
-use Rattle.goo_files_documents.specs.declared.counts.Counts.{Counts}
-use Rattle.goo_files.specs.Lines.{held_row}
+use Rattle.goo_files.specs.Lines.{held_row, no_sum}
 use Rattle.goo_files.proofs.Lining.{IsGoing}
 use Rattle.goo_files.proofs.holdings.write_rows.Given as goal
 
 abbrev pub invariant-loop-run : goal.invariant-loop-run
-invariant-loop-run g l = (counts : Counts) × IsGoing held_row (g.S.Shelf.seen l.fn.registry.shelf) (g.S.Shelf.seen l.registry.shelf) (g.W.Write.contents l.fn.writer) (g.W.Write.contents l.writer) l.account (from_of l.after) counts
+invariant-loop-run g l = IsGoing held_row no_sum (g.S.Shelf.seen l.fn.registry.shelf) (g.S.Shelf.seen l.registry.shelf) (g.W.Write.contents l.fn.writer) (g.W.Write.contents l.writer) l.account (from_of l.after) tt
 
 abbrev pub decreases-loop-run : goal.decreases-loop-run
 decreases-loop-run g l = 100000000000000 - from_of l.after

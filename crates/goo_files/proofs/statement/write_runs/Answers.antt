@@ -1,17 +1,16 @@
-use Rattle.std.proofs.Common.{rules, ◌≡◌, ◌+◌, ◌≤◌, Ok, Err, Some, None, List, Option, Result, sym, subst, arith}
+use Rattle.std.proofs.Common.{rules, ◌≡◌, ◌+◌, ◌≤◌, Ok, Err, Some, None, sym, subst, arith}
 use Rattle.std.specs.Io.KnownBytes.{Appends}
 use Rattle.goo_streams.specs.Streams.{AppendsPrefix}
-use Rattle.goo_types.specs.declared.piece.Piece.{Piece}
 use Rattle.goo_shelf.specs.Shelf.{Looks}
 use Rattle.goo_spec_runs.specs.NextRun.{from_of, BeginsFrom}
-use Rattle.goo_answers.specs.declared.denial.Denial.{Denial}
 use Rattle.goo_registry.specs.AccountReads.{IsNextRunShown}
-use Rattle.goo_files_documents.specs.Counts.{all_of, no_counts, with_run}
+use Rattle.goo_files_documents.specs.Counts.{all_of, no_counts, with_run, counts_of}
 use Rattle.goo_files_documents.specs.Runs.{statement_line, count_of}
 use Rattle.goo_files_documents.specs.declared.counts.Counts.{Counts}
-use Rattle.goo_files.specs.Texts.{AreRunLines}
+use Rattle.goo_files.specs.Lines.{AreRunLines}
 use Rattle.goo_files.specs.Writes.{Writes}
-use Rattle.goo_files.proofs.Going.{IsGoing, IsWell, going_start, going_on, going_ends, going_cut, going_fails}
+use Rattle.goo_files.proofs.LineFacts.{counts-last}
+use Rattle.goo_files.proofs.Lining.{IsGoing, going_start, going_on, going_ends, going_cut, going_fails}
 use Rattle.goo_files.proofs.statement.write_runs.Goals as goal
 
 pub loop-run-init : goal.loop-run-init
@@ -19,7 +18,7 @@ loop-run-init g c =
     let m = g.S.Shelf.seen c.args.registry.now.shelf in
     let b = g.W.Write.contents c.args.writer.now in
     record {
-      going = subst (IsGoing m m b b c.args.account 0) (sym c.none-counts.ensures) (going_start m b c.args.account c.requires.ready (record { sound = c.args.registry.now.sound; rows = c.args.registry.now.kept }));
+      going = subst (IsGoing statement_line counts_of m m b b c.args.account 0) (sym c.none-counts.ensures) (going_start statement_line counts_of m b c.args.account c.requires.ready (record { sound = c.args.registry.now.sound; rows = c.args.registry.now.kept }));
       counted = subst (λ (k : Counts). all_of k ≤ 0) (sym c.none-counts.ensures) (omega arith);
     }
 
@@ -32,7 +31,7 @@ returns-then-is_err g c =
     let look : Looks mid new (Ok (Ok (Some p))) (IsNextRunShown mid.state c.args.caller.now c.args.account c.loop-run.after) = rw c.in-Ok-Some.field-0-is at c.in-Ok-Some.ensures.shows in
     let begins : BeginsFrom (from_of c.loop-run.after) p = rw c.in-Ok-Some.field-0-is at c.in-Ok-Some.ensures.begins in
     let part : AppendsPrefix (g.W.Write.contents c.loop-run.writer) (g.W.Write.contents c.write_line.new.writer) c.statement_line.result.bytes = search rules in
-    going_cut old mid new (g.W.Write.contents c.args.writer.now) (g.W.Write.contents c.loop-run.writer) c.args.caller.now c.args.account c.loop-run.after c.loop-run.counts c.loop-run.invariant.going
+    going_cut statement_line counts_of old mid new (g.W.Write.contents c.args.writer.now) (g.W.Write.contents c.loop-run.writer) c.args.caller.now c.args.account c.loop-run.after c.loop-run.counts c.loop-run.invariant.going
     (g.W.Write.contents c.write_line.new.writer) p begins look (rw c.statement_line.ensures at part)
 
 pub loop-run-preserved : goal.loop-run-preserved
@@ -49,9 +48,9 @@ loop-run-preserved g c =
     let was : all_of c.loop-run.counts ≤ from_of c.loop-run.after = c.loop-run.invariant.counted in
     let more : all_of c.add.new.self ≡ all_of c.loop-run.counts + count_of p = c.add.ensures.all in
     record {
-      going = subst (IsGoing old new (g.W.Write.contents c.args.writer.now) (g.W.Write.contents c.write_line.new.writer) c.args.account (p.last + 1)) (sym c.add.ensures.counts)
-          (going_on old mid new (g.W.Write.contents c.args.writer.now) (g.W.Write.contents c.loop-run.writer) c.args.caller.now c.args.account c.loop-run.after c.loop-run.counts c.loop-run.invariant.going
-          (g.W.Write.contents c.write_line.new.writer) p begins look (rw c.statement_line.ensures at wrote));
+      going = subst (IsGoing statement_line counts_of old new (g.W.Write.contents c.args.writer.now) (g.W.Write.contents c.write_line.new.writer) c.args.account (p.last + 1)) (sym c.add.ensures.counts)
+          (going_on statement_line counts_of old mid new (g.W.Write.contents c.args.writer.now) (g.W.Write.contents c.loop-run.writer) c.args.caller.now c.args.account c.loop-run.after c.loop-run.counts c.loop-run.invariant.going
+          with_run (counts-last no_counts) (g.W.Write.contents c.write_line.new.writer) p begins look (rw c.statement_line.ensures at wrote));
       counted = omega (arith, low, high, was, more);
     }
 
@@ -61,7 +60,7 @@ returns-in-Ok-None g c =
     let mid = g.S.Shelf.seen c.loop-run.registry.shelf in
     let new = g.S.Shelf.seen c.next_run.new.self.shelf in
     let look : Looks mid new (Ok (Ok None)) (IsNextRunShown mid.state c.args.caller.now c.args.account c.loop-run.after) = rw c.in-Ok-None.field-0-is at c.in-Ok-None.ensures.shows in
-    going_ends old mid new (g.W.Write.contents c.args.writer.now) (g.W.Write.contents c.loop-run.writer) c.args.caller.now c.args.account c.loop-run.after c.loop-run.counts c.loop-run.invariant.going look
+    going_ends statement_line counts_of old mid new (g.W.Write.contents c.args.writer.now) (g.W.Write.contents c.loop-run.writer) c.args.caller.now c.args.account c.loop-run.after c.loop-run.counts c.loop-run.invariant.going look
 
 pub returns-in-Err : goal.returns-in-Err
 returns-in-Err g c =
@@ -69,5 +68,5 @@ returns-in-Err g c =
     let mid = g.S.Shelf.seen c.loop-run.registry.shelf in
     let new = g.S.Shelf.seen c.next_run.new.self.shelf in
     subst (λ f. Writes {T = Counts} old new (g.W.Write.contents c.args.writer.now) (g.W.Write.contents c.loop-run.writer) (Err f) None (AreRunLines old.state c.args.account)) (sym c.from.ensures)
-    (going_fails old mid new (g.W.Write.contents c.args.writer.now) (g.W.Write.contents c.loop-run.writer) c.args.caller.now c.args.account c.loop-run.after c.loop-run.counts c.loop-run.invariant.going
+    (going_fails statement_line counts_of old mid new (g.W.Write.contents c.args.writer.now) (g.W.Write.contents c.loop-run.writer) c.args.caller.now c.args.account c.loop-run.after c.loop-run.counts c.loop-run.invariant.going
     (λ sure. c.requires.shown (c.loop-run.invariant.going.looks.doubted sure)) c.in-Err.fault c.in-Err.ensures.shows)

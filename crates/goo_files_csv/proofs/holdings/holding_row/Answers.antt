@@ -1,4 +1,3 @@
-use Rattle.std.proofs.Common.{rules, ◌≡◌}
 use Rattle.goo_files_csv.specs.Holdings.{holding_row}
 use Rattle.goo_files_csv.proofs.holdings.holding_row.Goals as goal
 

@@ -1,4 +1,4 @@
-use Rattle.std.proofs.Common.{rules, append_assoc, refl}
+use Rattle.std.proofs.Common.{append_assoc, refl}
 use Rattle.goo_files_documents.proofs.cancelling.push_registry.Goals as goal
 
 pub returns-clause-bytes : goal.returns-clause-bytes

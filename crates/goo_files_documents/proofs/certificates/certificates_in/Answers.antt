@@ -1,4 +1,4 @@
-use Rattle.std.proofs.Common.{rules, ◌≡◌, ◌+◌, ◌<◌, ◌≤◌, arith}
+use Rattle.std.proofs.Common.{rules, ◌≡◌, ◌+◌, ◌<◌, ◌≤◌}
 use Rattle.goo_files_documents.specs.Runs.{count_of}
 use Rattle.goo_files_documents.proofs.Sums.{sum_on}
 use Rattle.goo_files_documents.proofs.certificates.certificates_in.Goals as goal

@@ -8,4 +8,4 @@ returns-in-Ok g c =
 
 pub returns-in-Err : goal.returns-in-Err
 returns-in-Err g c =
-    not_found (state g.S.Store c.args.conn.now) (state g.S.Store c.find_registry.new.conn) (state g.S.Store c.read_rows.new.conn) c.in_ok-meta.meta c.in_ok-meta.ensures c.in-Err.error _ c.in-Err.ensures c.fault_of.ensures.memory c.fault_of.ensures.store c.fault_of.ensures.words
+    not_found (state g.S.Store c.args.conn.now) (state g.S.Store c.find_registry.new.conn) (state g.S.Store c.read_rows.new.conn) c.in_ok-meta.meta c.in_ok-meta.ensures c.in-Err.error _ c.in-Err.ensures c.fault_of.ensures.memory c.fault_of.ensures.store c.fault_of.ensures.unread c.fault_of.ensures.words

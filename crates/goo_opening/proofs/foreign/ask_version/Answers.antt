@@ -3,7 +3,6 @@ use Rattle.sqlite.specs.Held.{state}
 use Rattle.goo_columns.proofs.Reading.{rests_failed}
 use Rattle.goo_opening.specs.Foreign.{version_text}
 use Rattle.goo_opening.proofs.Chaining.{no_more}
-use Rattle.goo_opening.proofs.Earning.{once}
 use Rattle.goo_opening.proofs.Selecting.{version_bare, shown_rests, commits_nothing}
 use Rattle.goo_opening.proofs.foreign.ask_version.Goals as goal
 
@@ -20,7 +19,7 @@ returns-in-Ok-clause-crash g c =
     no_more old new (commits_nothing version_text [] old new (version_bare old.now.schema) c.in-Ok.ensures.survives)
 
 pub returns-in-Err-clause-told : goal.returns-in-Err-clause-told
-returns-in-Err-clause-told g c = λ clean. inr (c.in-Err.error, c.in-Err.ensures.err clean, once _ c.fault_of.ensures.words)
+returns-in-Err-clause-told g c = λ clean. inr (c.in-Err.error, c.in-Err.ensures.err clean, c.fault_of.ensures.told)
 
 pub returns-in-Err-clause-rests : goal.returns-in-Err-clause-rests
 returns-in-Err-clause-rests g c = λ clean settled.

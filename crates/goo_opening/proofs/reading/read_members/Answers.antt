@@ -13,7 +13,7 @@ pub returns-in_err-all_holders : goal.returns-in_err-all_holders
 returns-in_err-all_holders g c =
     let s0 = state g.S.Store c.args.conn.now in
     let s1 = state g.S.Store c.all_holders.new.conn in
-    let t1 = reads_table s0 s1 _ _ (λ _ _. ⊤) _ c.in_err-all_holders.ensures.looks c.in_err-all_holders.ensures.outside (λ _ _. tt) c.in_err-all_holders.ensures.readable (λ _ can. can.holders) in
+    let t1 = reads_table s0 s1 _ _ (λ _ _. ⊤) _ c.in_err-all_holders.ensures.looks c.in_err-all_holders.ensures.outside (λ _ _. tt) c.in_err-all_holders.ensures.readable c.in_err-all_holders.ensures.refused (λ _ can. can.holders) in
     let same : c.from_residual.result ≡ Err c.in_err-all_holders.field-0.0 = search rules in
     subst (λ r. OnlyReads s0 s1 r ShowsMembers) (sym same) (reads_failed s0 s1 _ _ ShowsMembers t1)
 
@@ -22,8 +22,8 @@ returns-in_err-all_accounts g c =
     let s0 = state g.S.Store c.args.conn.now in
     let s1 = state g.S.Store c.all_holders.new.conn in
     let s2 = state g.S.Store c.all_accounts.new.conn in
-    let t1 = reads_table s0 s1 _ _ (λ _ _. ⊤) _ c.in_ok-all_holders.ensures.looks c.in_ok-all_holders.ensures.outside (λ _ _. tt) c.in_ok-all_holders.ensures.readable (λ _ can. can.holders) in
-    let t2 = reads_table s1 s2 _ _ (λ _ _. ⊤) _ c.in_err-all_accounts.ensures.looks c.in_err-all_accounts.ensures.outside (λ _ _. tt) c.in_err-all_accounts.ensures.readable (λ _ can. can.accounts) in
+    let t1 = reads_table s0 s1 _ _ (λ _ _. ⊤) _ c.in_ok-all_holders.ensures.looks c.in_ok-all_holders.ensures.outside (λ _ _. tt) c.in_ok-all_holders.ensures.readable c.in_ok-all_holders.ensures.refused (λ _ can. can.holders) in
+    let t2 = reads_table s1 s2 _ _ (λ _ _. ⊤) _ c.in_err-all_accounts.ensures.looks c.in_err-all_accounts.ensures.outside (λ _ _. tt) c.in_err-all_accounts.ensures.readable c.in_err-all_accounts.ensures.refused (λ _ can. can.accounts) in
     let r1 = reads_then s0 s1 s2 _ _ _ _ t1 t2 in
     let same : c.from_residual-in_err-all_accounts.result ≡ Err c.in_err-all_accounts.field-0.0 = search rules in
     subst (λ r. OnlyReads s0 s2 r ShowsMembers) (sym same) (reads_failed s0 s2 _ _ ShowsMembers r1)
@@ -34,9 +34,9 @@ returns-in_err-all_peers g c =
     let s1 = state g.S.Store c.all_holders.new.conn in
     let s2 = state g.S.Store c.all_accounts.new.conn in
     let s3 = state g.S.Store c.all_peers.new.conn in
-    let t1 = reads_table s0 s1 _ _ (λ _ _. ⊤) _ c.in_ok-all_holders.ensures.looks c.in_ok-all_holders.ensures.outside (λ _ _. tt) c.in_ok-all_holders.ensures.readable (λ _ can. can.holders) in
-    let t2 = reads_table s1 s2 _ _ (λ _ _. ⊤) _ c.in_ok-all_accounts.ensures.looks c.in_ok-all_accounts.ensures.outside (λ _ _. tt) c.in_ok-all_accounts.ensures.readable (λ _ can. can.accounts) in
-    let t3 = reads_table s2 s3 _ _ (λ _ _. ⊤) _ c.in_err-all_peers.ensures.looks c.in_err-all_peers.ensures.outside (λ _ _. tt) c.in_err-all_peers.ensures.readable (λ _ can. can.peers) in
+    let t1 = reads_table s0 s1 _ _ (λ _ _. ⊤) _ c.in_ok-all_holders.ensures.looks c.in_ok-all_holders.ensures.outside (λ _ _. tt) c.in_ok-all_holders.ensures.readable c.in_ok-all_holders.ensures.refused (λ _ can. can.holders) in
+    let t2 = reads_table s1 s2 _ _ (λ _ _. ⊤) _ c.in_ok-all_accounts.ensures.looks c.in_ok-all_accounts.ensures.outside (λ _ _. tt) c.in_ok-all_accounts.ensures.readable c.in_ok-all_accounts.ensures.refused (λ _ can. can.accounts) in
+    let t3 = reads_table s2 s3 _ _ (λ _ _. ⊤) _ c.in_err-all_peers.ensures.looks c.in_err-all_peers.ensures.outside (λ _ _. tt) c.in_err-all_peers.ensures.readable c.in_err-all_peers.ensures.refused (λ _ can. can.peers) in
     let r1 = reads_then s0 s1 s2 _ _ _ _ t1 t2 in
     let r2 = reads_then s0 s2 s3 _ _ _ _ r1 t3 in
     let same : c.from_residual-in_err-all_peers.result ≡ Err c.in_err-all_peers.field-0.0 = search rules in
@@ -48,9 +48,9 @@ returns g c =
     let s1 = state g.S.Store c.all_holders.new.conn in
     let s2 = state g.S.Store c.all_accounts.new.conn in
     let s3 = state g.S.Store c.all_peers.new.conn in
-    let t1 = reads_table s0 s1 (Ok c.in_ok-all_holders.field-0) _ (λ db x. KeepsSome (db.trees 1) holder_row (map holder_in x.items)) _ c.in_ok-all_holders.ensures.looks c.in_ok-all_holders.ensures.outside c.in_ok-all_holders.ensures.met c.in_ok-all_holders.ensures.readable (λ _ can. can.holders) in
-    let t2 = reads_table s1 s2 (Ok c.in_ok-all_accounts.field-0) _ (λ db x. Keeps (db.trees 3) account_row account_key (map account_in x.items)) _ c.in_ok-all_accounts.ensures.looks c.in_ok-all_accounts.ensures.outside c.in_ok-all_accounts.ensures.met c.in_ok-all_accounts.ensures.readable (λ _ can. can.accounts) in
-    let t3 = reads_table s2 s3 (Ok c.in_ok-all_peers.field-0) _ (λ db x. KeepsSome (db.trees 11) peer_row x.items) _ c.in_ok-all_peers.ensures.looks c.in_ok-all_peers.ensures.outside c.in_ok-all_peers.ensures.met c.in_ok-all_peers.ensures.readable (λ _ can. can.peers) in
+    let t1 = reads_table s0 s1 (Ok c.in_ok-all_holders.field-0) _ (λ db x. KeepsSome (db.trees 1) holder_row (map holder_in x.items)) _ c.in_ok-all_holders.ensures.looks c.in_ok-all_holders.ensures.outside c.in_ok-all_holders.ensures.met c.in_ok-all_holders.ensures.readable c.in_ok-all_holders.ensures.refused (λ _ can. can.holders) in
+    let t2 = reads_table s1 s2 (Ok c.in_ok-all_accounts.field-0) _ (λ db x. Keeps (db.trees 3) account_row account_key (map account_in x.items)) _ c.in_ok-all_accounts.ensures.looks c.in_ok-all_accounts.ensures.outside c.in_ok-all_accounts.ensures.met c.in_ok-all_accounts.ensures.readable c.in_ok-all_accounts.ensures.refused (λ _ can. can.accounts) in
+    let t3 = reads_table s2 s3 (Ok c.in_ok-all_peers.field-0) _ (λ db x. KeepsSome (db.trees 11) peer_row x.items) _ c.in_ok-all_peers.ensures.looks c.in_ok-all_peers.ensures.outside c.in_ok-all_peers.ensures.met c.in_ok-all_peers.ensures.readable c.in_ok-all_peers.ensures.refused (λ _ can. can.peers) in
     let r1 = reads_then s0 s1 s2 _ _ _ _ t1 t2 in
     let r2 = reads_then s0 s2 s3 _ _ _ _ r1 t3 in
     reads_made s0 s3 _ _ _ ShowsMembers r2 (λ db h. record { holders = h.0.0; accounts = h.0.1; peers = h.1 })

@@ -48,6 +48,9 @@ returns-in-Ok-clause-rests g c =
     subst (λ conn. HasCleanDisk (view g.S.Store conn) → Rests (view g.S.Store c.args.conn) (view g.S.Store conn)) (sym c.over.ensures.conn)
     (λ clean. c.in-Ok.ensures.rests clean (met (c.in-Ok.ensures.clean clean)))
 
+pub returns-in-Ok-clause-clean : goal.returns-in-Ok-clause-clean
+returns-in-Ok-clause-clean g c = subst (λ conn. HasCleanDisk (view g.S.Store conn) → HasCleanDisk (view g.S.Store c.args.conn)) (sym c.over.ensures.conn) c.in-Ok.ensures.clean
+
 pub returns-in-Err-clause-refused : goal.returns-in-Err-clause-refused
 returns-in-Err-clause-refused g c = λ clean unlimited t stands kept.
     let out : IsTrue c.is_autocommit-settled.result = search rules in
@@ -61,6 +64,13 @@ returns-in-Err-clause-words g c = λ clean unlimited t stands.
     let is_ours : IsTrue c.has_our_schema.result = search rules in
     let met : HasCleanDisk (view g.S.Store c.args.conn) → IsMet (view g.S.Store c.args.conn) = λ clean. met_ours (view g.S.Store c.args.conn) (c.has_our_schema.ensures.schema.0 is_ours) (λ live. c.has_our_schema.ensures.ours is_ours live (c.requires.ordered clean)) (c.is_autocommit-settled.ensures.settled out) in
     c.in-Err.ensures.words clean (met (c.in-Err.ensures.clean clean)) unlimited t stands
+
+pub returns-in-Err-clause-blames : goal.returns-in-Err-clause-blames
+returns-in-Err-clause-blames g c = λ ours.
+    let out : IsTrue c.is_autocommit-settled.result = search rules in
+    let is_ours : IsTrue c.has_our_schema.result = search rules in
+    let met : HasCleanDisk (view g.S.Store c.args.conn) → IsMet (view g.S.Store c.args.conn) = λ clean. met_ours (view g.S.Store c.args.conn) (c.has_our_schema.ensures.schema.0 is_ours) (λ live. c.has_our_schema.ensures.ours is_ours live (c.requires.ordered clean)) (c.is_autocommit-settled.ensures.settled out) in
+    c.in-Err.ensures.blames (λ clean. met (c.in-Err.ensures.clean clean))
 
 pub returns-in-Ok-clause-sound : goal.returns-in-Ok-clause-sound
 returns-in-Ok-clause-sound g c = λ none. (c.over.result.well.kept none).sound

@@ -1,0 +1,123 @@
+//! The answer to all the bytes of a stream.
+ghost use Rattle.std.specs.Prelude.{◌≡◌, ◌⊎◌, IfOk, OnErr};
+ghost use Rattle.goo_desk_heads.specs.Requests.{seen as parts_seen, parts_of};
+ghost use Rattle.goo_desk_responses.specs.Responses.{response_text, fixed};
+ghost use Rattle.goo_shelf.specs.Shelf.{IsTold};
+ghost use Rattle.goo_desk_answers.specs.Responds.{Does, Handles, RespondsTo, Responds, Stops, StopsIn, StopsAt, Fails, status_of_head};
+
+use crate::answered::Answer;
+use crate::apply::answer_apply;
+use crate::handling::{Handling, handling_for};
+use crate::import::answer_import;
+use crate::show::answer_show;
+use goo_desk_counter::Counter;
+use goo_desk_heads::{Method, Received, Refusal, RefusedHead, is_for_head, read_request};
+use goo_desk_responses::{Status, fixed_response};
+use goo_desk_routes::Task;
+use goo_types::fault::Fault;
+use goo_types::holder_code::HolderCode;
+use std::alloc::{AllocError, Global};
+
+/// The status of a request that is refused for its head.
+fn status_of(why: Refusal) -> Status
+    ensures { result ≡ status_of_head why }
+{
+    match why {
+        Refusal::BadRequest => Status::BadRequest,
+        Refusal::TooLarge => Status::TooLarge,
+        Refusal::NotImplemented => Status::NotImplemented,
+    }
+}
+
+/// An answer that says no more than its status.
+pub(crate) fn answer_fixed(
+    alloc: Global,
+    status: Status,
+    allow: Option<Method>,
+    for_head: bool,
+) -> Result<Answer, AllocError>
+    ensures status { IfOk result (λ answer. answer.status ≡ status) }
+    ensures bytes { IfOk result (λ answer. answer.bytes.items ≡ response_text for_head (fixed status allow)) }
+{
+    let text = fixed_response(status, allow, for_head);
+    let bytes = Vec::from_slice(alloc, text.as_str().as_bytes())?;
+    Ok(Answer { status, bytes })
+}
+
+/// The answer to a caller's task.
+fn answer_task<D: Counter>(
+    alloc: Global,
+    desk: &mut D,
+    caller: &HolderCode,
+    body: &[u8],
+    task: Task,
+) -> Result<Answer, Fault>
+    ensures answered { (D.seen desk.new).lies ≡ 0 → IfOk result (λ answer. Does D.shows D.imports (D.seen desk.old).state caller.now body.now task answer.status answer.bytes.items (D.seen desk.new).state) }
+    ensures stopped { (D.seen desk.new).lies ≡ 0 → (D.seen desk.new).doubts ≡ 0 → OnErr result (Stops D.imports D.begins (D.seen desk.old).state caller.now body.now task (D.seen desk.new).state) }
+    ensures lied { (D.seen desk.new).lies ≡ 0 → (D.seen desk.old).lies ≡ 0 }
+    ensures told { (D.seen desk.old).refusals ≡ 0 → IsTold result (D.seen desk.new).refusals }
+{
+    match task {
+        Task::Apply => answer_apply(alloc, desk, caller, body),
+        Task::Import => answer_import(alloc, desk, caller, body),
+        Task::Show(subject) => answer_show(alloc, desk, caller, body, subject),
+    }
+}
+
+/// The answer to a whole request.
+fn answer_handled<D: Counter>(
+    alloc: Global,
+    desk: &mut D,
+    request: &Received<'_>,
+    handling: Handling,
+) -> Result<Answer, Fault>
+    ensures answered { (D.seen desk.new).lies ≡ 0 → IfOk result (λ answer. Handles D.shows D.imports (D.seen desk.old).state (parts_of request.now) handling answer.status answer.bytes.items (D.seen desk.new).state) }
+    ensures stopped { (D.seen desk.new).lies ≡ 0 → (D.seen desk.new).doubts ≡ 0 → OnErr result (StopsIn D.imports D.begins (D.seen desk.old).state (parts_of request.now) handling (D.seen desk.new).state) }
+    ensures lied { (D.seen desk.new).lies ≡ 0 → (D.seen desk.old).lies ≡ 0 }
+    ensures told { (D.seen desk.old).refusals ≡ 0 → IsTold result (D.seen desk.new).refusals }
+{
+    match handling {
+        Handling::Fixed(status, allow) => {
+            Ok(answer_fixed(alloc, status, allow, is_for_head(request.method))?)
+        }
+        Handling::Own(caller, task) => answer_task(alloc, desk, &caller, request.body, task),
+    }
+}
+
+/// The answer to what all the bytes of a stream come to.
+fn answer_request<D: Counter>(
+    alloc: Global,
+    desk: &mut D,
+    request: &Result<Received<'_>, RefusedHead>,
+) -> Result<Answer, Fault>
+    ensures answered { (D.seen desk.new).lies ≡ 0 → IfOk result (λ answer. RespondsTo D.shows D.imports (D.seen desk.old).state (parts_seen request.now) answer.status answer.bytes.items (D.seen desk.new).state) }
+    ensures stopped { (D.seen desk.new).lies ≡ 0 → (D.seen desk.new).doubts ≡ 0 → OnErr result (StopsAt D.imports D.begins (D.seen desk.old).state (parts_seen request.now) (D.seen desk.new).state) }
+    ensures lied { (D.seen desk.new).lies ≡ 0 → (D.seen desk.old).lies ≡ 0 }
+    ensures told { (D.seen desk.old).refusals ≡ 0 → IsTold result (D.seen desk.new).refusals }
+{
+    match request {
+        Err(refused) => {
+            let status = status_of(refused.why);
+            Ok(answer_fixed(alloc, status, None, refused.is_head)?)
+        }
+        Ok(request) => {
+            let handling = handling_for(alloc, request)?;
+            answer_handled(alloc, desk, request, handling)
+        }
+    }
+}
+
+/// The answer to all the bytes that a stream holds.
+///
+/// # Errors
+///
+/// `Store` where what keeps the records failed, `Memory` where there was no room. Nothing changed then, but for an import of
+/// declarations: the rows before the fault stand, and the file is to be sent again.
+pub fn answer<D: Counter>(alloc: Global, desk: &mut D, bytes: &[u8]) -> Result<Answer, Fault>
+    ensures answered { (D.seen desk.new).lies ≡ 0 → IfOk result (λ answer. Responds D.shows D.imports (D.seen desk.old).state bytes.now answer.status answer.bytes.items (D.seen desk.new).state) }
+    ensures stopped { (D.seen desk.new).lies ≡ 0 → (D.seen desk.new).doubts ≡ 0 → OnErr result (Fails D.imports D.begins (D.seen desk.old).state bytes.now (D.seen desk.new).state) }
+    ensures lied { (D.seen desk.new).lies ≡ 0 → (D.seen desk.old).lies ≡ 0 }
+    ensures told { (D.seen desk.old).refusals ≡ 0 → IsTold result (D.seen desk.new).refusals }
+{
+    answer_request(alloc, desk, &read_request(bytes))
+}

@@ -1,0 +1,38 @@
+//! A registry as a counter.
+ghost use Rattle.goo_desk_counter.specs.Showing.{shown_by, imported_by, begun_by};
+
+use crate::counter::{Counter, Imported, Shown};
+use crate::importing::import_rows;
+use crate::showing::show_subject;
+use goo_desk_routes::Subject;
+use goo_registry::Registry;
+use goo_shelf::shelf::Shelf;
+use goo_types::fault::Fault;
+use goo_types::holder_code::HolderCode;
+use std::alloc::Global;
+
+impl<S: Shelf> Counter for Registry<S> {
+    ghost shows = { shown_by };
+
+    ghost imports = { imported_by };
+
+    ghost begins = { begun_by };
+
+    fn show(
+        &mut self,
+        alloc: Global,
+        caller: &HolderCode,
+        subject: Subject,
+    ) -> Result<Shown, Fault> {
+        show_subject(alloc, self, caller, subject)
+    }
+
+    fn import(
+        &mut self,
+        alloc: Global,
+        caller: &HolderCode,
+        rows: &[u8],
+    ) -> Result<Imported, Fault> {
+        import_rows(alloc, self, caller, rows)
+    }
+}

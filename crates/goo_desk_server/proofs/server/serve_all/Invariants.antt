@@ -1,0 +1,6 @@
+use Rattle.std.proofs.Common.{◌≡◌}
+use Rattle.goo_desk_server.proofs.server.serve_all.Given as goal
+
+-- no fault of the store so far
+abbrev pub invariant-loop : goal.invariant-loop
+invariant-loop g l = ((g.D.Desk.seen l.desk).lies ≡ 0 → (g.D.Desk.seen l.initial.desk).lies ≡ 0) × ((g.D.Desk.seen l.initial.desk).refusals ≡ 0 → (g.D.Desk.seen l.desk).refusals ≡ 0)

@@ -1,0 +1,73 @@
+use Rattle.std.proofs.Common.{rules, ◌≡◌, ◌∙◌, [], ◌∷◌, ◌++◌, true, false, refl, ap, sym, subst, inl, inr}
+use Rattle.csv.specs.Records.{fields_of}
+use Rattle.goo_files_csv.specs.Rows.{header, is_header}
+use Rattle.goo_files_csv.proofs.Header.{header_is, header_passes}
+use Rattle.goo_files_import.proofs.Importing.{importing_start, importing_on, importing_ends, importing_stops}
+use Rattle.goo_files_import.proofs.Reading.{IsAt, at_start, at_more, at_end, at_begins}
+use Rattle.goo_files_import.proofs.import.import_bytes.Goals as goal
+
+pub returns-then-not-is_header-clause-header : goal.returns-then-not-is_header-clause-header
+returns-then-not-is_header-clause-header g c =
+    let fr = c.from_reader-reader.ensures in
+    let e = c.flexible.ensures in
+    let h = c.has_headers.ensures in
+    let input = c.args.input.now in
+    let start : IsAt c.into_byte_records-rows.result.rdr c.into_byte_records-rows.result.left input [] =
+    subst (λ r. IsAt r c.into_byte_records-rows.result.left input []) (sym c.into_byte_records-rows.ensures.rdr)
+    (at_start c.from_reader-reader.result c.into_byte_records-rows.result.left input (rw (e, h) at fr.trim ∙ c.new.ensures.trim) (rw (e, h) at fr.has_headers) fr.headers c.into_byte_records-rows.ensures.left (rw (e, h) at fr.config ∙ c.new.ensures.config) fr.source fr.state) in
+    let step = rw (c.in-Some-Ok.is, c.in-Some-Ok.field-0-is) at ((c.next.ensures.steps start.turns start.trim).0 start.ready) in
+    let now = at_more c.into_byte_records-rows.result.rdr c.next.new.self.rdr c.into_byte_records-rows.result.left c.next.new.self.left input [] c.in-Some-Ok.first start step in
+    let other : is_header (fields_of c.in-Some-Ok.first) ≡ false = search rules in
+    λ cause. inr (fields_of c.in-Some-Ok.first, at_begins c.next.new.self.rdr c.next.new.self.left input (fields_of c.in-Some-Ok.first ∷ []) now, λ same. let clash : true ≡ false = sym header_passes ∙ ap is_header (sym same) ∙ other in cc)
+
+pub returns-in-Some-Err-clause-part : goal.returns-in-Some-Err-clause-part
+returns-in-Some-Err-clause-part g c none between =
+    importing_stops (g.D.Desk.seen c.args.desk.now) (g.D.Desk.seen c.args.desk.now) (g.D.Desk.seen c.args.desk.now) c.args.caller.now c.args.input.now [] [] c.stopped-in-Some-Err.result.report.lines.items (importing_start (g.D.Desk.seen c.args.desk.now) c.args.caller.now)
+    (inl refl) (λ n. n) (λ sure. refl) (c.stopped-in-Some-Err.ensures.lines ∙ c.new-lines.ensures.items) none
+
+pub returns-in-None-clause-header : goal.returns-in-None-clause-header
+returns-in-None-clause-header g c =
+    let fr = c.from_reader-reader.ensures in
+    let e = c.flexible.ensures in
+    let h = c.has_headers.ensures in
+    let input = c.args.input.now in
+    let start : IsAt c.into_byte_records-rows.result.rdr c.into_byte_records-rows.result.left input [] =
+    subst (λ r. IsAt r c.into_byte_records-rows.result.left input []) (sym c.into_byte_records-rows.ensures.rdr)
+    (at_start c.from_reader-reader.result c.into_byte_records-rows.result.left input (rw (e, h) at fr.trim ∙ c.new.ensures.trim) (rw (e, h) at fr.has_headers) fr.headers c.into_byte_records-rows.ensures.left (rw (e, h) at fr.config ∙ c.new.ensures.config) fr.source fr.state) in
+    let step = rw c.in-None.is at ((c.next.ensures.steps start.turns start.trim).0 start.ready) in
+    λ cause. inl (at_end c.into_byte_records-rows.result.rdr c.next.new.self.rdr c.into_byte_records-rows.result.left input [] start step)
+
+pub loop-row-init : goal.loop-row-init
+loop-row-init g c =
+    let fr = c.from_reader-reader.ensures in
+    let e = c.flexible.ensures in
+    let h = c.has_headers.ensures in
+    let input = c.args.input.now in
+    let start : IsAt c.into_byte_records-rows.result.rdr c.into_byte_records-rows.result.left input [] =
+    subst (λ r. IsAt r c.into_byte_records-rows.result.left input []) (sym c.into_byte_records-rows.ensures.rdr)
+    (at_start c.from_reader-reader.result c.into_byte_records-rows.result.left input (rw (e, h) at fr.trim ∙ c.new.ensures.trim) (rw (e, h) at fr.has_headers) fr.headers c.into_byte_records-rows.ensures.left (rw (e, h) at fr.config ∙ c.new.ensures.config) fr.source fr.state) in
+    let step = rw (c.in-Some-Ok.is, c.in-Some-Ok.field-0-is) at ((c.next.ensures.steps start.turns start.trim).0 start.ready) in
+    let now = at_more c.into_byte_records-rows.result.rdr c.next.new.self.rdr c.into_byte_records-rows.result.left c.next.new.self.left input [] c.in-Some-Ok.first start step in
+    let passes : is_header (fields_of c.in-Some-Ok.first) ≡ true = search rules in
+    let headed : IsAt c.next.new.self.rdr c.next.new.self.left input (header ∷ []) = subst (λ f. IsAt c.next.new.self.rdr c.next.new.self.left input (f ∷ [])) (header_is (fields_of c.in-Some-Ok.first) passes) now in
+    rw (c.into_iter-row-iterator.ensures.into_iter_gives ∙ refl, c.new-lines.ensures.items) ([], headed, importing_start (g.D.Desk.seen c.args.desk.now) c.args.caller.now)
+
+pub loop-row-preserved : goal.loop-row-preserved
+loop-row-preserved g c =
+    let inv = c.loop-row.invariant in
+    let old = g.D.Desk.seen c.args.desk.now in
+    let mid = g.D.Desk.seen c.loop-row.desk in
+    let new = g.D.Desk.seen c.import_row.new.desk in
+    let step = rw (c.in-Some.is, c.in-Ok.is) at ((c.next-in-loop-row.ensures.steps inv.1.turns inv.1.trim).0 inv.1.ready) in
+    let now = at_more c.loop-row.row-iterator.rdr c.next-in-loop-row.new.self.rdr c.loop-row.row-iterator.left c.next-in-loop-row.new.self.left c.args.input.now (header ∷ inv.0) c.in-Ok.row inv.1 step in (
+      inv.0 ++ fields_of c.in-Ok.row ∷ [],
+      now,
+      importing_on old mid new c.args.caller.now inv.0 c.loop-row.lines.items c.import_row.new.lines.items (fields_of c.in-Ok.row) inv.2 c.import_row.ensures.lied (search rules) (search rules) (search rules),
+    )
+
+pub returns-clause-whole : goal.returns-clause-whole
+returns-clause-whole g c none =
+    let inv = c.loop-row.invariant in
+    let step = rw c.in-None-row.is at ((c.next-in-loop-row.ensures.steps inv.1.turns inv.1.trim).0 inv.1.ready) in
+    let table = at_end c.loop-row.row-iterator.rdr c.next-in-loop-row.new.self.rdr c.loop-row.row-iterator.left c.args.input.now (header ∷ inv.0) inv.1 step in
+    importing_ends (g.D.Desk.seen c.args.desk.now) (g.D.Desk.seen c.loop-row.desk) c.args.caller.now c.args.input.now inv.0 c.loop-row.lines.items inv.2 table none

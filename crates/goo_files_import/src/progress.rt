@@ -1,0 +1,25 @@
+/// What is told how far an import is. It can change nothing of it.
+pub trait Progress {
+    /// Whether anybody looks; if not, rows aren't counted beforehand.
+    fn is_watched(&self) -> bool;
+
+    /// The import begins, of so many rows.
+    fn begin(&mut self, rows: u64);
+
+    /// So many rows stand.
+    fn advance(&mut self, rows: u64);
+}
+
+/// Nobody looks.
+#[derive(Clone, Copy, Debug)]
+pub struct Unwatched;
+
+impl Progress for Unwatched {
+    fn is_watched(&self) -> bool {
+        false
+    }
+
+    fn begin(&mut self, _rows: u64) {}
+
+    fn advance(&mut self, _rows: u64) {}
+}

@@ -1,0 +1,102 @@
+//! The command `init`.
+ghost use Rattle.std.specs.Prelude.{◌≡◌, ◌⊎◌, IsTrue, IfOk, IfErr};
+ghost use Rattle.std.specs.Io.Buffered.{writer_contents};
+ghost use Rattle.std.specs.Io.KnownBytes.{Keeps};
+ghost use Rattle.goo_spec.specs.Created.{created};
+ghost use Rattle.goo_ending.specs.Endings.{status_of};
+ghost use Rattle.goo_running.specs.Openings.{ending_of_opening};
+ghost use Rattle.goo_running.specs.Closings.{HoldState, IfWhole, IsMade};
+
+use crate::closing::{Left, close_registry};
+use crate::opening::{begin, failure_of, open_database};
+use crate::start::Start;
+use goo_command_line::Opening;
+use goo_ending::{Denial, Ending, Failure};
+use goo_opening::fault::OpenFault;
+use goo_types::registry_code::RegistryCode;
+use sqlite::{Files, Leftover};
+use sqlite_disk::Disk;
+use std::alloc::Global;
+use std::io::{self, BufWriter, Write};
+
+/// How the program ends where no registry was made.
+fn ending_of(fault: OpenFault) -> Ending
+    ensures { result ≡ ending_of_opening fault }
+{
+    match fault {
+        OpenFault::AlreadyThere => Ending::Denied(Denial::AlreadyThere),
+        other => Ending::Failed(failure_of(other)),
+    }
+}
+
+/// Makes a registry in files that hold none, and closes it.
+///
+/// # Errors
+///
+/// How the program ends where none was made.
+fn create_registry<D: Disk + Drop>(
+    alloc: Global,
+    files: Files<D>,
+    seed: u64,
+    opening: Opening,
+) -> Result<Left<D>, (Ending, Left<D>)>
+    requires log { IsTrue (D.Disk.is_usable files.log) }
+    requires db { IsTrue (D.Disk.is_usable files.db) }
+    ensures made { IfOk result (λ left. IfWhole left (λ files. HoldState files (created opening.code opening.today opening.next_serial))) }
+    ensures words { IfErr result (λ e. (fault : OpenFault) × (e.0 ≡ ending_of_opening fault)) }
+{
+    let conn = match open_database(alloc, files, seed) {
+        Ok(conn) => conn,
+        Err((fault, left)) => {
+            return Err((Ending::Failed(Failure::from(fault)), Left::Parts(left)));
+        }
+    };
+    match begin(alloc, conn, Start::New(opening)) {
+        Ok(shelf) => Ok(close_registry(shelf)),
+        Err((conn, fault)) => {
+            let left = Leftover::Store(conn.into_store());
+            match fault {
+                OpenFault::AlreadyThere => Err((ending_of(fault), Left::Refused(left))),
+                _ => Err((ending_of(fault), Left::Parts(left))),
+            }
+        }
+    }
+}
+
+/// Says that a registry of this code is ready.
+fn say_ready<W: Write + Drop>(writer: &mut BufWriter<W>, code: RegistryCode) -> io::Result<()> {
+    let code = code.get();
+    writer.write_all(b"ready ")?;
+    writer.write_all(&[b'0' + code / 10, b'0' + code % 10, b'\n'])?;
+    writer.flush()
+}
+
+/// Makes a new registry in files that hold none, closes it, and says that it is ready.
+///
+/// - `made`: status 0 only where the database file alone holds a new registry with this code, this date and this next serial.
+/// - `unready`: nothing is written before that.
+/// - `there`: status 1 only where a registry is there already.
+///
+/// After any other status the files hold what they held before, or what a crash could leave of making it.
+pub fn init_in_files<D: Disk + Drop, W: Write + Drop>(
+    alloc: Global,
+    files: Files<D>,
+    seed: u64,
+    opening: Opening,
+    writer: &mut BufWriter<W>,
+) -> (Ending, Left<D>)
+    requires log { IsTrue (D.Disk.is_usable files.log) }
+    requires db { IsTrue (D.Disk.is_usable files.db) }
+    ensures made { status_of result.0 ≡ 0 → IsMade result.1 (created opening.code opening.today opening.next_serial) }
+    ensures unready { IsMade result.1 (created opening.code opening.today opening.next_serial) ⊎ Keeps (writer_contents W.contents writer.old) (writer_contents W.contents writer.new) }
+    ensures there { status_of result.0 ≡ 1 → result.0 ≡ Ending.Denied Denial.AlreadyThere }
+{
+    match create_registry(alloc, files, seed, opening) {
+        Ok(left) if !left.is_whole() => (Ending::Failed(Failure::Store), left),
+        Ok(left) => match say_ready(writer, opening.code) {
+            Ok(()) => (Ending::Done, left),
+            Err(_) => (Ending::Failed(Failure::Write), left),
+        },
+        Err((ending, left)) => (ending, left),
+    }
+}

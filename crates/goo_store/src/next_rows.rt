@@ -1,0 +1,56 @@
+//! Rows that are looked up one at a time: the next one of an account, and the next one that expires.
+
+ghost use Rattle.std.specs.Prelude.{◌≡◌, ◌+◌, ◌<◌, ◌^◌, All, false, find, map, option_map, IfSome};
+ghost use Rattle.sqlite.specs.Held.{state as view};
+ghost use Rattle.goo_types.specs.Piece.{IsForward};
+ghost use Rattle.goo_shelf.specs.Rows.{EndsFrom};
+ghost use Rattle.goo_shelf.specs.Sought.{is_sought};
+ghost use Rattle.goo_columns.specs.Beside.{joined_columns, joined_in, pieces_beside};
+ghost use Rattle.goo_columns.specs.Readable.{joined_readable};
+ghost use Rattle.goo_columns.specs.Refused.{FailsOnlyByFault};
+ghost use Rattle.goo_columns.specs.Stands.{Looks};
+ghost use Rattle.goo_store.specs.NextRows.{begins_beyond, IsDated, reaching_beyond};
+
+use crate::pieces::is_beyond;
+use goo_columns::joined::JoinedRow;
+use goo_held::joined::{next_expiring, next_of_account};
+use goo_notice::texts::day_text;
+use goo_shelf::sought::{Sought, is_sought};
+use goo_types::piece::Piece;
+use sqlite::{Alter, Connection, Error};
+use std::alloc::Global;
+
+/// The row before, where it is looked for and ends above a number.
+pub fn reaching_row(before: Option<Piece>, sought: &Sought, after: u64) -> Option<Piece>
+    ensures value { IfSome before IsForward → result ≡ reaching_beyond (is_sought sought.now) after before }
+    ensures ahead { IfSome result (EndsFrom (after + 1)) }
+{
+    let row = before?;
+    if is_sought(&row, sought) && is_beyond(&row, after) {
+        Some(row)
+    } else {
+        None
+    }
+}
+
+/// The first piece that is looked for and begins above a number, beside its lot.
+pub fn ask_next<S: Alter>(
+    alloc: Global,
+    conn: &mut Connection<S>,
+    sought: &Sought,
+    after: u64,
+) -> Result<Option<JoinedRow>, Error>
+    requires { after < 2 ^ 63 }
+    ensures looks { Looks (view S.Store conn.old) (view S.Store conn.new) result (λ t found. option_map joined_in found ≡ find (begins_beyond sought.now after) (pieces_beside t)) }
+    ensures readable { FailsOnlyByFault (view S.Store conn.old) (view S.Store conn.new) result (λ t. All joined_readable (map joined_columns (pieces_beside t))) }
+    ensures outside { conn.old.in_transaction ≡ false → conn.new.in_transaction ≡ false }
+    ensures dated { IsDated sought.now }
+{
+    match sought {
+        Sought::Naming(account) => next_of_account(alloc, conn, account.get(), after),
+        Sought::Expiring(day) => {
+            let text = day_text(*day);
+            next_expiring(alloc, conn, text.as_str(), after)
+        }
+    }
+}

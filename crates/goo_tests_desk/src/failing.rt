@@ -1,0 +1,107 @@
+//! Streams and records that fail.
+use goo_desk_counter::{Counter, Imported, Shown};
+use goo_desk_routes::Subject;
+use goo_registry_desk::Desk;
+use goo_types::fault::Fault;
+use goo_types::holder_code::HolderCode;
+use goo_types::outcome::Outcome;
+use goo_types::request::Request;
+use std::alloc::Global;
+use std::io::{self, ErrorKind, Read, Write};
+
+/// A client that sends one byte a read, and is gone after so many reads.
+#[derive(Drop)]
+pub struct Sending<'a> {
+    /// What it has yet to send.
+    pub text: &'a [u8],
+    /// How many reads it answers.
+    pub good_reads: usize,
+}
+
+impl Read for Sending<'_> {
+    fn read(&mut self, buffer: &mut [u8]) -> io::Result<usize> {
+        if self.good_reads == 0 {
+            return Err(io::Error::from(ErrorKind::ConnectionReset));
+        }
+        self.good_reads -= 1;
+        match self.text.split_first() {
+            Some((first, others)) if !buffer.is_empty() => {
+                buffer[0] = *first;
+                self.text = others;
+                Ok(1)
+            }
+            _ => Ok(0),
+        }
+    }
+}
+
+/// A client that takes one byte a write, and is gone after so many.
+#[derive(Drop)]
+pub struct Taking {
+    /// What it took.
+    pub text: Vec<u8>,
+    /// How many bytes it takes.
+    pub room: usize,
+}
+
+impl Write for Taking {
+    fn write(&mut self, text: &[u8]) -> io::Result<usize> {
+        match text.first() {
+            Some(first) if self.text.len() < self.room => {
+                self.text.push(*first)?;
+                Ok(1)
+            }
+            _ => Err(io::Error::from(ErrorKind::BrokenPipe)),
+        }
+    }
+
+    fn flush(&mut self) -> io::Result<()> {
+        Ok(())
+    }
+}
+
+/// A counter over records that fail at each call.
+#[derive(Drop)]
+pub struct Failing {
+    /// How they fail.
+    pub fault: Fault,
+}
+
+impl Desk for Failing {
+    ghost use Rattle.goo_spec.specs.Created.{created};
+    ghost use Rattle.goo_tests_desk.specs.Failing.{refused_by};
+
+    ghost seen = { λ d. record { state = created 7 (record { year = 2025; month = 3; day = 1 }) 1; lies = 0; doubts = 0; refusals = refused_by d.fault } };
+
+    fn apply(&mut self, _alloc: Global, _request: &Request) -> Result<Outcome, Fault> {
+        Err(self.fault)
+    }
+}
+
+impl Counter for Failing {
+    ghost use Rattle.std.specs.Prelude.{◌≡◌};
+
+    ghost shows = { λ s caller subject shown. Unit {0} };
+
+    ghost imports = { λ s caller rows report after. after ≡ s };
+
+    ghost begins = { λ s caller rows after. after ≡ s };
+
+    fn show(
+        &mut self,
+        _alloc: Global,
+        _caller: &HolderCode,
+        _subject: Subject,
+    ) -> Result<Shown, Fault> {
+        Err(self.fault)
+    }
+
+    fn import(
+        &mut self,
+        _alloc: Global,
+        _caller: &HolderCode,
+        _rows: &[u8],
+    ) -> Result<Imported, Fault> {
+        Err(self.fault)
+    }
+}

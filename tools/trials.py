@@ -1,0 +1,239 @@
+"""What tools/over-http and tools/on-a-file share: the program, the worked cases, and a table of trials that is run and counted.
+
+A trial is a name and a function without arguments. It returns where all is well, raises Differs with what was wanted and what came, or Skipped with
+why it can't be tried here. Each stands alone, so that `--only NAME` repeats it.
+"""
+import argparse
+import difflib
+import json
+import os
+import re
+import shlex
+import signal
+import subprocess
+import sys
+import tempfile
+import time
+from contextlib import contextmanager
+from pathlib import Path
+
+TOP = Path(__file__).resolve().parent.parent
+NEW = ['--code', '7', '--today', '2025-03-01']
+PATIENCE = 120
+"""Seconds that a single run of the program may take."""
+
+
+class Differs(Exception):
+    """Something else came than was wanted."""
+
+
+class Skipped(Exception):
+    """A trial that can't be made here, and why."""
+
+
+def expect(what, given, wanted):
+    """Ends the trial where `given` isn't `wanted`."""
+    if given != wanted:
+        raise Differs(f'{what}\n{difference(given, wanted)}')
+
+
+def difference(given, wanted):
+    """What differs: of two lists of lines the lines that do, of anything else all of it."""
+    if all(isinstance(value, list) and all(isinstance(line, str) for line in value) for value in (given, wanted)):
+        return '\n'.join(f'    {line}' for line in difflib.unified_diff(wanted, given, 'wanted', 'came', n=0, lineterm=''))
+    return f'    wanted {shown(wanted)}\n    came   {shown(given)}'
+
+
+def shown(value):
+    """A value on one line of bearable length; of a longer one its beginning, its end and how long it is."""
+    text = repr(value)
+    return text if len(text) <= 900 else f'{text[:600]} .. {text[-200:]} ({len(text)} characters)'
+
+
+# The worked cases
+
+class Case:
+    """A worked case: who asks what of a new registry, what each is answered, and what is shown in the end where that is written down."""
+
+    def __init__(self, path):
+        self.name = path.stem
+        self.requests = path.read_bytes()
+        self.outcomes = path.with_suffix('.outcomes').read_bytes()
+        serial = path.with_suffix('.serial')
+        self.opening = NEW + (['--next-serial', serial.read_text(encoding='utf-8').strip()] if serial.exists() else [])
+        ending = path.with_suffix('.shown')
+        self.shown = ending.read_text(encoding='utf-8').splitlines() if ending.exists() else None
+
+    def exchanges(self):
+        """Each line with its outcome, both without the line feed; empty lines are no requests."""
+        lines = [line for line in self.requests.split(b'\n') if line]
+        return list(zip(lines, self.outcomes.splitlines(), strict=True))
+
+    def status(self):
+        """The exit status of a run of all lines."""
+        return status_of(self.outcomes.splitlines())
+
+
+def status_of(outcomes):
+    """What a run ends with that gives these outcomes: 1 where one is refused or unreadable."""
+    return int(any(json.loads(outcome)['outcome'] in ('refused', 'unreadable') for outcome in outcomes))
+
+
+def named(cases, name):
+    """The case of this name."""
+    return next(case for case in cases if case.name == name)
+
+
+# The program
+
+class Program:
+    """The program under trial."""
+
+    def __init__(self, path):
+        self.path = path
+
+    def run(self, *words, given=b'', **options):
+        """Runs it to its end: exit status, standard output, standard error."""
+        ended = subprocess.run([self.path, *map(str, words)], input=given, capture_output=True, timeout=PATIENCE, check=False, **options)
+        return ended.returncode, ended.stdout, ended.stderr
+
+    def start(self, *words, **options):
+        """Starts it with pipes; the caller ends it."""
+        return subprocess.Popen([self.path, *map(str, words)], stdout=subprocess.PIPE, stderr=subprocess.PIPE, **options)
+
+
+@contextmanager
+def folder():
+    """A folder of its own for one trial."""
+    with tempfile.TemporaryDirectory(prefix='goo-') as name:
+        yield Path(name)
+
+
+def wait_for(what, test, seconds=10):
+    """Waits until the test holds."""
+    until = time.monotonic() + seconds
+    while not test():
+        if time.monotonic() > until:
+            raise Differs(f'{what}: not within {seconds} seconds')
+        time.sleep(0.01)
+
+
+# Pages
+
+def command_lines(page):
+    """The command lines of a page with what each prints, in order; a command goes on until its quotes are closed."""
+    for block in re.findall(r'^```console\n(.*?)^```', page.read_text(encoding='utf-8'), re.S | re.M):
+        for part in re.split(r'^\$ ', block, flags=re.M)[1:]:
+            lines = part.splitlines()
+            last = next(number for number in range(1, len(lines) + 1) if '\n'.join(lines[:number]).count("'") % 2 == 0)
+            yield '\n'.join(lines[:last]), lines[last:]
+
+
+# Small disks
+
+def mount(*words):
+    """Mounts, or tells that it isn't allowed."""
+    try:
+        done = subprocess.run(['mount', *map(str, words)], capture_output=True, check=False)
+    except OSError as fault:
+        raise Skipped(f'mount: {fault}') from None
+    if done.returncode != 0:
+        raise Skipped(f'no mount here: {done.stderr.decode().strip()}')
+
+
+@contextmanager
+def small_disk(size):
+    """A disk of this many bytes, rounded up to a page."""
+    with folder() as place:
+        mount('-t', 'tmpfs', '-o', f'size={size}', 'goo-trial', place)
+        try:
+            yield place
+        finally:
+            subprocess.run(['umount', str(place)], check=True)
+
+
+def larger(place):
+    """Makes the disk large enough."""
+    mount('-o', 'remount,size=256m', place)
+
+
+def skip_all(chosen, *words):
+    """Ends the tool where the program has no such command yet: exit 2."""
+    if not chosen.list and chosen.program.run(*words)[0] == 2:
+        print(f'skipped: there is no goo {words[0]} yet')
+        print('0 passed, 0 failed')
+        sys.exit(0)
+
+
+# The table of trials
+
+def arguments(text, more=()):
+    """The command line that both tools have."""
+    parser = argparse.ArgumentParser(description=text, formatter_class=argparse.RawDescriptionHelpFormatter)
+    parser.add_argument('program', nargs='?', default=os.environ.get('GOO', str(TOP / 'crates/goo/out/goo')),
+                        help='the built program (else the variable GOO, else crates/goo/out/goo)')
+    parser.add_argument('--cases', type=Path, default=TOP / 'cases', help='the folder of the worked cases (cases/)')
+    parser.add_argument('--only', action='append', default=[], metavar='TEXT', help='only trials whose name has this text')
+    parser.add_argument('--without', action='append', default=[], metavar='TEXT', help='no trial whose name has this text')
+    parser.add_argument('--lacks', action='append', default=[], metavar='TEXT',
+                        help='trials whose name has this text are expected to fail with this program, and counted apart')
+    parser.add_argument('--list', action='store_true', help='only the names of the trials')
+    for words, options in more:
+        parser.add_argument(*words, **options)
+    chosen = parser.parse_args()
+    chosen.cases_folder = chosen.cases
+    chosen.cases = [Case(path) for path in sorted(chosen.cases.glob('*.requests'))]
+    if not chosen.cases:
+        parser.error('no worked cases there')
+    if not chosen.list and not os.access(chosen.program, os.X_OK):
+        parser.error(f'{chosen.program} is no program; ./goo --help builds crates/goo/out/goo')
+    chosen.program = Program(str(Path(chosen.program).resolve()))
+    return chosen
+
+
+def has_one_of(name, texts):
+    """Whether a trial's name has one of these texts."""
+    return any(text in name for text in texts)
+
+
+def verdict(trial):
+    """How one trial ends: a word, and what there is to say."""
+    try:
+        trial()
+    except Differs as told:
+        return 'FAILED', str(told)
+    except Skipped as why:
+        return 'skipped', str(why)
+    except Exception as fault:  # whatever else breaks a trial is told, and the next one is tried
+        return 'FAILED', f'{type(fault).__name__}: {fault}'
+    return 'passed', ''
+
+
+def again(chosen, name):
+    """The command line that repeats one trial."""
+    return shlex.join([sys.argv[0], chosen.program.path, '--cases', str(chosen.cases_folder), '--only', name])
+
+
+def run_all(chosen, table):
+    """Runs the table of trials, tells each that isn't passed with the command that repeats it, and ends with the counts."""
+    signal.signal(signal.SIGTERM, lambda *_: sys.exit(143))  # so that a tool that is ended ends what it has started
+    counts = dict.fromkeys(('passed', 'FAILED', 'skipped', 'lacking'), 0)
+    for name, trial in table:
+        if chosen.only and not has_one_of(name, chosen.only) or has_one_of(name, chosen.without):
+            continue
+        if chosen.list:
+            print(name)
+            continue
+        word, text = verdict(trial)
+        told_as_lacking = has_one_of(name, chosen.lacks)
+        if told_as_lacking:
+            word, text = {'FAILED': ('lacking', text.split('\n')[0]), 'passed': ('passed', 'though told as lacking')}.get(word, (word, text))
+        counts[word] += 1
+        if text:
+            print(f'{word} {name}: {text}', flush=True)
+        if word == 'FAILED':
+            print('    again: ' + again(chosen, name), flush=True)
+    if not chosen.list:
+        print(f"{counts['skipped']} skipped, {counts['lacking']} lacking as told")
+        print(f"{counts['passed']} passed, {counts['FAILED']} failed")
+    return int(counts['FAILED'] > 0)
