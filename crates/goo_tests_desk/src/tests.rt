@@ -2,9 +2,7 @@
 use crate::asking::{answers, begins, new_registry, tries};
 use crate::cases::{CASES, WORKED};
 use crate::failing::Failing;
-use crate::wire::{
-    ACCEPTED, APOLOGY, AUDIT, AUDITED, AUDITED_NEW, OPENING, PLANT, REPEATED,
-};
+use crate::wire::{ACCEPTED, APOLOGY, AUDIT, AUDITED, AUDITED_NEW, OPENING, PLANT, REPEATED};
 use goo_desk_connection::{ServeFault, serve_one};
 use goo_desk_counter::Counter;
 use goo_desk_responses::Status;
@@ -70,7 +68,10 @@ fn a_client_that_breaks_off_while_it_sends_changes_nothing(rt: HostRuntime) {
     let mut registry = new_registry(&rt, alloc);
     for good_reads in 0..OPENING.len() {
         let (served, text) = tries(alloc, &mut registry, OPENING, good_reads, 1_000);
-        assert!(rt; served == Err(ServeFault::Read) && text.is_empty(), "read {good_reads}");
+        assert!(rt;
+            served == Err(ServeFault::Read) && text.is_empty(),
+            "read {good_reads}"
+        );
     }
     let accepted = answers(alloc, &mut registry, OPENING, ACCEPTED);
     assert!(rt; accepted, "nothing was applied before");
@@ -83,7 +84,10 @@ fn a_client_that_breaks_off_while_it_takes_the_answer_sends_again(rt: HostRuntim
         let mut registry = new_registry(&rt, alloc);
         let (served, text) = tries(alloc, &mut registry, OPENING, OPENING.len(), room);
         assert!(rt; served == Err(ServeFault::Write), "write {room}");
-        assert!(rt; text.as_slice() == &ACCEPTED.as_bytes()[..room], "a beginning of {room}");
+        assert!(rt;
+            text.as_slice() == &ACCEPTED.as_bytes()[..room],
+            "a beginning of {room}"
+        );
         let repeated = answers(alloc, &mut registry, OPENING, REPEATED);
         assert!(rt; repeated, "sent again after {room}");
     }

@@ -22,7 +22,8 @@ pub const PLANT: [&str; 7] = [
 ];
 
 /// A request, the answer where it is accepted, and where it was.
-pub const OPENING: &str = PLANT[0];
+pub const OPENING: &str =
+    "POST /v1/requests HTTP/1.1\r\nHost: x\r\nGOO-Caller: ISSUER\r\nContent-Length: 70\r\n\r\n{\"command\":\"open_holder\",\"holder\":\"SUN\",\"key\":\"a1\",\"name\":\"Sun Power\"}";
 
 pub const ACCEPTED: &str =
     "HTTP/1.1 200 OK\r\nContent-Type: application/json\r\nContent-Length: 33\r\nConnection: close\r\n\r\n{\"outcome\":\"accepted\",\"reply\":{}}";
