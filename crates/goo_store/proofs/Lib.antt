@@ -11,3 +11,4 @@ pub mod Gathering
 pub mod CommitBlamed
 pub mod Next
 pub mod NextRow
+pub mod CreationBlamed

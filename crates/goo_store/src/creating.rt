@@ -1,13 +1,15 @@
 //! A new registry in an empty database.
 
-ghost use Rattle.std.specs.Prelude.{◌≡◌, ◌↔◌, ◌≤◌, ◌∷◌, [], false, IsTrue, IfOk, OnOk, OnErr};
-ghost use Rattle.sqlite.specs.State.{HasCleanDisk, KeepsCommit, Survives};
+ghost use Rattle.std.specs.Prelude.{◌≡◌, ◌↔◌, ◌≤◌, ◌∷◌, [], false, None, IsTrue, IfErr, IfOk, OnOk, OnErr};
+ghost use Rattle.sqlite_disk.specs.Disk.{MoreFaults};
+ghost use Rattle.sqlite.specs.State.{HasCleanDisk, IsLive, KeepsCommit, Survives};
 ghost use Rattle.sqlite.specs.Held.{state};
 ghost use Rattle.sqlite_trees.specs.View.{doubt};
 ghost use Rattle.goo_types.specs.Number.{IsCode};
 ghost use Rattle.goo_types.specs.Day.{IsDay};
 ghost use Rattle.goo_columns.specs.Columns.{no_schema};
-ghost use Rattle.goo_columns.specs.Rows.{meta_in};
+ghost use Rattle.goo_columns.specs.Refused.{IsFault, IsSmall};
+ghost use Rattle.goo_columns.specs.Rows.{meta_in, meta_row};
 ghost use Rattle.goo_columns.specs.Stands.{Sees, Settled, Holds};
 ghost use Rattle.goo_held.specs.Changes.{MetaFits, begun};
 ghost use Rattle.goo_store.specs.Creating.{meta_of, IsFirst};
@@ -61,6 +63,8 @@ fn write_tables<S: Alter>(tx: &mut Transaction<'_, S>, meta: &MetaRow) -> Result
     ensures same_reference { tx.new.conn.ghost_name ≡ tx.old.conn.ghost_name }
     ensures made { HasCleanDisk (state S.Store tx.new.conn.now) → IsTrue (state S.Store tx.old.conn.now).in_transaction → (state S.Store tx.old.conn.now).now.schema ≡ no_schema
         → OnOk result (Sees (state S.Store tx.new.conn.now) (begun (meta_in meta.now))) }
+    ensures refused { HasCleanDisk (state S.Store tx.new.conn.now) → IsLive (state S.Store tx.old.conn.now) → (state S.Store tx.old.conn.now).step_limit ≡ None → IsTrue (state S.Store tx.old.conn.now).in_transaction
+        → (state S.Store tx.old.conn.now).now.schema ≡ no_schema → IsSmall (meta_row (meta_in meta.now)) → IfErr result (IsFault (state S.Store tx.old.conn.now) (state S.Store tx.new.conn.now)) }
     ensures uncommitted { HasCleanDisk (state S.Store tx.new.conn.now) → KeepsCommit (state S.Store tx.old.conn.now) (state S.Store tx.new.conn.now) }
     ensures survives { Survives (state S.Store tx.old.conn.now) (state S.Store tx.new.conn.now) (λ _. ⊥) }
 {
@@ -78,11 +82,13 @@ pub fn commit_tables<S: Alter>(conn: &mut Connection<S>, meta: &MetaRow) -> Resu
     ensures outside { conn.new.in_transaction ≡ false }
     ensures works { OnOk result (HasCleanDisk (state S.Store conn.new) → IsTrue (state S.Store conn.new).is_open) }
     ensures done { HasCleanDisk (state S.Store conn.new) → OnOk result (Settled (state S.Store conn.new) (begun (meta_in meta.now))) }
+    ensures refused { HasCleanDisk (state S.Store conn.new) → (state S.Store conn.old).step_limit ≡ None → IsSmall (meta_row (meta_in meta.now)) → IfErr result (IsFault (state S.Store conn.old) (state S.Store conn.new)) }
     ensures kept { HasCleanDisk (state S.Store conn.new) → IsTrue (state S.Store conn.new).is_open
         → OnErr result (((state S.Store conn.new).now ≡ (state S.Store conn.old).now) × ((state S.Store conn.new).committed ≡ (state S.Store conn.old).committed)) }
     ensures crash { Survives (state S.Store conn.old) (state S.Store conn.new) (Holds (begun (meta_in meta.now))) }
 {
     let _settled = conn.is_autocommit();
+    let _known = conn.schema();
     let mut tx = conn.transaction();
     write_tables(&mut tx, meta)?;
     tx.commit()?;
@@ -90,6 +96,10 @@ pub fn commit_tables<S: Alter>(conn: &mut Connection<S>, meta: &MetaRow) -> Resu
 }
 
 /// Makes a registry with this code, this next serial and this date in an empty database.
+///
+/// # Errors
+///
+/// `Memory` where memory was refused; `Refused`, while the connection works, only where the disk failed.
 pub fn begin<S: Alter>(
     alloc: Global,
     conn: &mut Connection<S>,
@@ -104,6 +114,8 @@ pub fn begin<S: Alter>(
     ensures works { OnOk result (HasCleanDisk (state S.Store conn.new) → IsTrue (state S.Store conn.new).is_open) }
     ensures done { HasCleanDisk (state S.Store conn.new) → OnOk result (Settled (state S.Store conn.new) (begun (meta_of code today next_serial))) }
     ensures limits { OnOk result (IsFirst code today next_serial) }
+    ensures blames { HasCleanDisk (state S.Store conn.new) → IsTrue (state S.Store conn.old).is_open → (state S.Store conn.old).step_limit ≡ None
+        → IfErr result (λ trouble. trouble ≡ Trouble.Refused → MoreFaults (state S.Store conn.old).faults (state S.Store conn.new).faults) }
     ensures kept { HasCleanDisk (state S.Store conn.new) → IsTrue (state S.Store conn.new).is_open
         → OnErr result (((state S.Store conn.new).now ≡ (state S.Store conn.old).now) × ((state S.Store conn.new).committed ≡ (state S.Store conn.old).committed)) }
     ensures crash { Survives (state S.Store conn.old) (state S.Store conn.new) (Holds (begun (meta_of code today next_serial))) }

@@ -12,6 +12,7 @@ ghost use Rattle.goo_shelf.specs.Shelf.{IsReady};
 ghost use Rattle.goo_held.specs.Changes.{begun};
 ghost use Rattle.goo_store.specs.Creating.{meta_of};
 ghost use Rattle.goo_lookups.specs.Moments.{IsWell, IsWell-prop, count, moment};
+ghost use Rattle.goo_lookups.specs.Opening.{BlamesOpening};
 ghost use Rattle.goo_store.specs.Found.{Knows, Knows-prop};
 ghost use Rattle.goo_opening.specs.Found.{IsOutside};
 ghost use Rattle.goo_opening.specs.declared.fault.OpenFault.TheVariants.{AlreadyThere};
@@ -70,8 +71,8 @@ impl<S: Alter> SqlShelf<S> {
     ///
     /// # Errors
     ///
-    /// The database with `AlreadyThere` where it has a table, an index or a view; with `Store` where a
-    /// call was refused, and `Memory` where memory was. The database is as it was then.
+    /// The database with `AlreadyThere` where it has a table, an index or a view; with `Store` where the
+    /// disk failed, and `Memory` where memory was refused. The database is as it was then.
     pub fn create(
         alloc: Global,
         conn: Connection<S>,
@@ -89,6 +90,7 @@ impl<S: Alter> SqlShelf<S> {
         ensures taken { (view S.Store conn).now.schema ≢ no_schema → IsErrAnd result (λ e. e.1 ≡ AlreadyThere) }
         ensures untaken { (view S.Store conn).now.schema ≡ no_schema → IfErr result (λ e. e.1 ≢ AlreadyThere) }
         ensures words { IfErr result (λ e. (e.1 ≡ AlreadyThere) ⊎ IsOutside e.1) }
+        ensures blames { (view S.Store conn).now.schema ≡ no_schema → IfErr result (λ e. BlamesOpening (view S.Store conn) (view S.Store e.0) e.1) }
         ensures kept { IfErr result (λ e. HasCleanDisk (view S.Store e.0) → IsTrue (view S.Store e.0).is_open → ((view S.Store e.0).now ≡ (view S.Store conn).now) × ((view S.Store e.0).committed ≡ (view S.Store conn).committed)) }
         ensures outside { IfErr result (λ e. e.0.in_transaction ≡ false) }
         ensures crash { IfErr result (λ e. Survives (view S.Store conn) (view S.Store e.0) (Holds (begun (meta_of code today next_serial)))) }

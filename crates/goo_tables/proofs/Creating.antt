@@ -1,5 +1,5 @@
 -- What each CREATE leaves.
-use Rattle.std.proofs.Common.{◌≡◌, ℕ, ◌+◌, ◌<◌, zero, suc, IsTrue, arith, List, [], ◌∷◌, get_or, slice_get, codes, false, Some, None, Ok, refl, sym, ap, subst, ◌∙◌}
+use Rattle.std.proofs.Common.{◌≡◌, ◌⊎◌, inl, inr, true≢false, true, Err, ℕ, ◌+◌, ◌<◌, zero, suc, IsTrue, arith, List, [], ◌∷◌, get_or, slice_get, codes, false, Some, None, Ok, refl, sym, ap, subst, ◌∙◌}
 use Rattle.std.specs.List.{AllByRecursion}
 use Rattle.sqlite_tied.specs.Compute.{everything}
 use Rattle.sqlite.specs.Table.{Table}
@@ -8,25 +8,30 @@ use Rattle.sqlite.specs.Command.TheVariants.{CreateTable, CreateIndex}
 use Rattle.sqlite.specs.Compile.{table_defined_by, index_defined_by}
 use Rattle.sqlite.specs.Change.{created, indexed, next_tree, KeepsRows}
 use Rattle.sqlite.specs.Does.{Tally, lacks_sequence, AtPlace, Defines, MakesIndex}
-use Rattle.sqlite.specs.Effect.{Database}
+use Rattle.sqlite_disk.specs.Disk.{MoreFaults}
+use Rattle.sqlite.specs.Effect.{Database, IsDatabase}
+use Rattle.sqlite.specs.declared.error.Error.{Error}
+use Rattle.std.proofs.lemmas.Bool.{cases_Bool}
 use Rattle.sqlite.specs.Tree.{Trees}
 use Rattle.sqlite.specs.Listing.{understood}
-use Rattle.sqlite.specs.State.{State, Writes, Executes, ExecutesInside, HasCleanDisk, KeepsCommit, Survives, mode_of}
+use Rattle.sqlite.specs.State.{State, Writes, Executes, ExecutesInside, HasCleanDisk, IsLive, KeepsCommit, Survives, mode_of}
 use Rattle.sqlite.proofs.Callers.{IsPlain, command_of, statement_of, runs_as}
 use Rattle.sqlite_schema.specs.declared.schema.Index.{Index}
 use Rattle.sqlite_keyed.proofs.ListLemmas.{all_both, all-append}
 use Rattle.goo_columns.specs.Columns.{meta, holder, account, device, declaration, lot, piece, peer, receipt, cancellation, withdrawal, notice_out, notice_in, index_on, no_schema, registry_schema}
+use Rattle.goo_columns.specs.Refused.{IsFault}
 use Rattle.goo_columns.specs.Stands.{IsBare}
 use Rattle.goo_columns.proofs.Inside.{keeps_itself, stays, keeps_then, survives_both}
 use Rattle.goo_columns.proofs.Writing.{went, same_value}
 use Rattle.goo_tables.specs.Created.{begun_schema, create_texts, stages, IsMade}
+use Rattle.goo_tables.proofs.CreatingFails.{FailsByFault}
 
 still_bare : (tables : List Table) (old new : Trees) → KeepsRows tables old new → AllByRecursion (λ (t : Table). old t.tree ≡ []) tables → AllByRecursion (λ (t : Table). new t.tree ≡ []) tables
 still_bare tables old new same bare = all_both (λ (t : Table). new t.tree ≡ old t.tree) (λ t. old t.tree ≡ []) (λ t. new t.tree ≡ []) (λ t s b. s ∙ b) tables same bare
 
 module _ (schema next : Schema) (sql : List ℕ) (table : Table) (is : command_of (understood schema sql) ≡ CreateTable) (plain : IsPlain (understood schema sql)) (text : statement_of sql (understood schema sql) ≡ sql)
     (defined : table_defined_by sql ≡ Ok table) (makes : created schema table ≡ next) (uncounted : lacks_sequence next ≡ false) (old new : State) (count : ℕ) where
-  creates : IsMade schema old.now → Executes sql [] old new (Ok count) → IsMade next new.now
+  creates : IsMade schema old.now → Executes sql [] old new (Ok count) → IsMade next new.now × IsDatabase new.now
   creates it h =
       let has = it.schema_is in
       let w = subst (λ t. Writes old new None CreateTable t [] count) text (runs_as sql [] old new schema has CreateTable is plain count h) in
@@ -42,12 +47,12 @@ module _ (schema next : Schema) (sql : List ℕ) (table : Table) (is : command_o
       let kept = subst (λ (d : Database). KeepsRows schema.tables old.now.trees d.trees) (sym now) (subst (λ (s : Schema). KeepsRows s.tables old.now.trees first.0.trees) has made.others) in
       let all_bare : AllByRecursion (λ (t : Table). new.now.trees t.tree ≡ []) (created schema table).tables =
       all-append (λ (t : Table). new.now.trees t.tree ≡ []) schema.tables (record table { tree = next_tree schema } ∷ []) (still_bare schema.tables old.now.trees new.now.trees kept it.bare) (empty, tt) in
-      record { schema_is = ap (λ (d : Database). d.schema) now ∙ is_next; bare = subst (λ (s : Schema). AllByRecursion (λ (t : Table). new.now.trees t.tree ≡ []) s.tables) makes all_bare }
+      (record { schema_is = ap (λ (d : Database). d.schema) now ∙ is_next; bare = subst (λ (s : Schema). AllByRecursion (λ (t : Table). new.now.trees t.tree ≡ []) s.tables) makes all_bare }, w.sound)
 
 module _ (schema next : Schema) (sql : List ℕ) (at : ℕ) (table : Table) (index : Index) (there : slice_get schema.tables at ≡ Some table) (is : command_of (understood schema sql) ≡ CreateIndex at)
     (plain : IsPlain (understood schema sql)) (text : statement_of sql (understood schema sql) ≡ sql) (defined : index_defined_by table sql ≡ Ok index) (makes : indexed schema table index ≡ next)
     (old new : State) (count : ℕ) where
-  creates_index : IsMade schema old.now → Executes sql [] old new (Ok count) → IsMade next new.now
+  creates_index : IsMade schema old.now → Executes sql [] old new (Ok count) → IsMade next new.now × IsDatabase new.now
   creates_index it h =
       let has = it.schema_is in
       let found : slice_get old.now.schema.tables at ≡ Some table = ap (λ (s : Schema). slice_get s.tables at) has ∙ there in
@@ -60,11 +65,11 @@ module _ (schema next : Schema) (sql : List ℕ) (at : ℕ) (table : Table) (ind
       let now : new.now ≡ all.0 = ap (λ (p : Tally × Database). p.1) (same_value all.2) in
       let kept = subst (λ (d : Database). KeepsRows schema.tables old.now.trees d.trees) (sym now) (subst (λ (s : Schema). KeepsRows s.tables old.now.trees all.0.trees) has made.rows) in
       let all_bare : AllByRecursion (λ (t : Table). new.now.trees t.tree ≡ []) (indexed schema table index).tables = still_bare schema.tables old.now.trees new.now.trees kept it.bare in
-      record { schema_is = ap (λ (d : Database). d.schema) now ∙ is_next; bare = subst (λ (s : Schema). AllByRecursion (λ (t : Table). new.now.trees t.tree ≡ []) s.tables) makes all_bare }
+      (record { schema_is = ap (λ (d : Database). d.schema) now ∙ is_next; bare = subst (λ (s : Schema). AllByRecursion (λ (t : Table). new.now.trees t.tree ≡ []) s.tables) makes all_bare }, w.sound)
 
--- one text leads from a schema to the next
+-- one text leads from a schema to the next, and to a database
 abbrev pub Leads : List ℕ → Schema → Schema → Type 1
-Leads sql schema next = (old new : State) (count : ℕ) → IsMade schema old.now → Executes sql [] old new (Ok count) → IsMade next new.now
+Leads sql schema next = (old new : State) (count : ℕ) → IsMade schema old.now → Executes sql [] old new (Ok count) → IsMade next new.now × IsDatabase new.now
 
 makes_meta : Leads (codes "CREATE TABLE meta (id INTEGER PRIMARY KEY, version INTEGER NOT NULL, code INTEGER NOT NULL, today TEXT NOT NULL, next_serial INTEGER NOT NULL, next_account INTEGER NOT NULL, next_cancellation INTEGER NOT NULL, next_withdrawal INTEGER NOT NULL, next_notice INTEGER NOT NULL) STRICT") (begun_schema 0 0) (begun_schema 1 0)
 unfolding understood everything
@@ -150,14 +155,28 @@ leads (suc (suc (suc (suc (suc (suc (suc (suc (suc (suc (suc (suc (suc (suc (suc
 
 pub record Makes (schema : Schema) (a b : State) : Type 0 where
   pub made : HasCleanDisk b → IsTrue a.in_transaction → a.now.schema ≡ no_schema → IsTrue b.in_transaction × IsMade schema b.now
+  pub live : HasCleanDisk b → IsLive a → IsTrue a.in_transaction → a.now.schema ≡ no_schema → IsLive b
   pub uncommitted : HasCleanDisk b → KeepsCommit a b
   pub survives : Survives a b (λ _. ⊥)
 
 pub makes_nothing : (a : State) → Makes (get_or stages 0 no_schema) a a
-makes_nothing a = record { made = λ clean inside none. (inside, record { schema_is = none; bare = tt }); uncommitted = λ _. keeps_itself a; survives = stays a }
+makes_nothing a = record { made = λ clean inside none. (inside, record { schema_is = none; bare = tt }); live = λ clean live inside none. live; uncommitted = λ _. keeps_itself a; survives = stays a }
 
 ran_made : (schema next : Schema) (sql : List ℕ) (b c : State) (count : ℕ) → Leads sql schema next → IsMade schema b.now → ExecutesInside 0 sql [] b c (Ok count) → IsTrue c.in_transaction × IsMade next c.now
-ran_made schema next sql b c count lead it h = (h.1.mode, lead b c count it h.0)
+ran_made schema next sql b c count lead it h = (h.1.mode, (lead b c count it h.0).0)
+
+ran_live : (schema next : Schema) (sql : List ℕ) (b c : State) (count : ℕ) → Leads sql schema next → IsMade schema b.now → IsLive b → ExecutesInside 0 sql [] b c (Ok count) → IsLive c
+ran_live schema next sql b c count lead it live h = λ _. ((lead b c count it h.0).1, subst IsDatabase (sym h.1.committed_is) (live h.1.was_open).1)
+
+-- what an earlier call shut, a fault shut
+fault_since : (a b c : State) (e : Error) → HasCleanDisk b → Survives a b (λ _. ⊥) → Survives b c (λ _. ⊥) → IsFault b c e → IsFault a c e
+fault_since a b c e clean first next (inl memory) = inl memory
+fault_since a b c e clean first next (inr (told, inl more)) = inr (told, inl (omega (arith, first.counts, more)))
+fault_since a b c e clean first next (inr (told, inr shut)) = inr (told, shut_since (cases_Bool a.is_open))
+  where
+    shut_since : (a.is_open ≡ true) ⊎ (a.is_open ≡ false) → MoreFaults a.faults c.faults ⊎ (a.is_open ≡ false)
+    shut_since (inl live) = elim (first.closes clean live) [ inl still ↦ absurd (true≢false (sym still ∙ shut)) | inr more ↦ inl (omega (arith, more, next.counts)) ]
+    shut_since (inr was) = inr was
 
 module _ (schema next : Schema) (sql : List ℕ) (a b c : State) (before : Makes schema a b) (keeps : HasCleanDisk c → KeepsCommit b c) (survives : Survives b c (λ _. ⊥)) where
   early : HasCleanDisk c → HasCleanDisk b
@@ -172,9 +191,14 @@ module _ (schema next : Schema) (sql : List ℕ) (a b c : State) (before : Makes
   pub makes_next : (count : ℕ) → Leads sql schema next → (HasCleanDisk c → IsTrue b.in_transaction → ExecutesInside 0 sql [] b c (Ok count)) → Makes next a c
   makes_next count lead runs = record {
     made = λ clean inside none. (let was = before.made (early clean) inside none in ran_made schema next sql b c count lead was.1 (runs clean was.0));
+    live = λ clean live inside none. (let was = before.made (early clean) inside none in ran_live schema next sql b c count lead was.1 (before.live (early clean) live inside none) (runs clean was.0));
     uncommitted = makes_keeps;
     survives = makes_survives;
   }
+
+  -- a text that fails only by a fault
+  pub makes_no_more : (e : Error) → FailsByFault sql schema → (HasCleanDisk c → IsTrue b.in_transaction → ExecutesInside 0 sql [] b c (Err e)) → HasCleanDisk c → IsTrue a.in_transaction → a.now.schema ≡ no_schema → IsFault a c e
+  makes_no_more e fails runs clean inside none = (let was = before.made (early clean) inside none in fault_since a b c e (early clean) before.survives survives (fails b c e was.1 (runs clean was.0)))
 
 pub bare_from : (db : Database) → IsMade registry_schema db → IsBare db
 bare_from db it = record {

@@ -8,4 +8,5 @@ pub mod Withdrawals
 pub mod NoticesOut
 pub mod NoticesIn
 pub mod MetaTable
+pub mod CreatingFails
 pub mod Creating

@@ -1,9 +1,10 @@
 //! The statements that make the tables.
 
-ghost use Rattle.std.specs.Prelude.{◌≡◌, ◌<◌, get_or, [], IsTrue, OnOk};
-ghost use Rattle.sqlite.specs.State.{HasCleanDisk, KeepsCommit, Survives};
+ghost use Rattle.std.specs.Prelude.{◌≡◌, ◌<◌, get_or, [], IsTrue, IfErr, OnOk};
+ghost use Rattle.sqlite.specs.State.{HasCleanDisk, IsLive, KeepsCommit, Survives};
 ghost use Rattle.sqlite.specs.Held.{state};
 ghost use Rattle.goo_columns.specs.Columns.{no_schema};
+ghost use Rattle.goo_columns.specs.Refused.{IsFault};
 ghost use Rattle.goo_columns.specs.Stands.{IsBare};
 ghost use Rattle.goo_tables.specs.Created.{create_texts};
 
@@ -49,10 +50,18 @@ fn statement(at: u32) -> &'static str
 ///
 /// No table ends in a column that may be NULL: a stored row may lack its last columns, and no query tells that from NULL.
 /// What a later version adds comes after these.
+///
+/// # Errors
+///
+/// Want of memory, or a fault of the disk: no name is taken in a database that has none, and no text is too long.
 pub fn create_tables<S: Alter>(tx: &mut Transaction<'_, S>) -> Result<(), Error>
     ensures same_reference { tx.new.conn.ghost_name ≡ tx.old.conn.ghost_name }
     ensures made { HasCleanDisk (state S.Store tx.new.conn.now) → IsTrue (state S.Store tx.old.conn.now).in_transaction → (state S.Store tx.old.conn.now).now.schema ≡ no_schema
         → OnOk result (IsTrue (state S.Store tx.new.conn.now).in_transaction × IsBare (state S.Store tx.new.conn.now).now) }
+    ensures refused { HasCleanDisk (state S.Store tx.new.conn.now) → IsTrue (state S.Store tx.old.conn.now).in_transaction → (state S.Store tx.old.conn.now).now.schema ≡ no_schema
+        → IfErr result (IsFault (state S.Store tx.old.conn.now) (state S.Store tx.new.conn.now)) }
+    ensures live { HasCleanDisk (state S.Store tx.new.conn.now) → IsLive (state S.Store tx.old.conn.now) → IsTrue (state S.Store tx.old.conn.now).in_transaction → (state S.Store tx.old.conn.now).now.schema ≡ no_schema
+        → OnOk result (IsLive (state S.Store tx.new.conn.now)) }
     ensures uncommitted { HasCleanDisk (state S.Store tx.new.conn.now) → KeepsCommit (state S.Store tx.old.conn.now) (state S.Store tx.new.conn.now) }
     ensures survives { Survives (state S.Store tx.old.conn.now) (state S.Store tx.new.conn.now) (λ _. ⊥) }
 {

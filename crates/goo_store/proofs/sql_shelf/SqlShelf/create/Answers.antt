@@ -11,6 +11,7 @@ use Rattle.goo_opening.specs.declared.fault.OpenFault.TheVariants.{AlreadyThere}
 use Rattle.goo_plans.specs.declared.trouble.Trouble.{Trouble}
 use Rattle.goo_plans.specs.declared.trouble.Trouble.TheVariants.{Memory, Refused}
 use Rattle.goo_store.proofs.Created.{begun_state, created_tables, created_well}
+use Rattle.goo_store.proofs.CreationBlamed.{word_blames}
 use Rattle.goo_lookups.specs.Holding.{is_sure, safe}
 use Rattle.goo_store.proofs.sql_shelf.SqlShelf.create.Goals as goal
 
@@ -53,3 +54,6 @@ returns-in-Err-clause-there g c is = absurd (told_apart c.in-Err.trouble (sym c.
 
 pub returns-in-Err-clause-untaken : goal.returns-in-Err-clause-untaken
 returns-in-Err-clause-untaken g c empty is = told_apart c.in-Err.trouble (sym c.from.ensures ∙ is)
+
+pub returns-in-Err-clause-blames : goal.returns-in-Err-clause-blames
+returns-in-Err-clause-blames g c empty = word_blames (view g.S.Store c.args.conn) (view g.S.Store c.begin.new.conn) c.in-Err.trouble c.from.result c.from.ensures c.in-Err.ensures.blames
