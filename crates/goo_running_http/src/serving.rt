@@ -22,7 +22,8 @@ const SALT: u64 = 7;
 
 /// How the program ends where a server ended.
 fn ending_of(served: Result<(), ServerFault>) -> Ending
-    ensures { result ≡ ending_of_server served }
+    ensures value { result ≡ ending_of_server served }
+    ensures words { status_of result ≢ 2 }
 {
     match served {
         Ok(()) => Ending::Done,
