@@ -46,7 +46,6 @@ pub fn show_statement<S: Shelf, W: Write + Drop>(
     ensures unknown { (S.seen registry.new.shelf).lies ≡ 0 → status_of result ≡ 1 → get (S.seen registry.old.shelf).state.accounts account ≡ None }
     ensures silent { (S.seen registry.new.shelf).lies ≡ 0 → status_of result ≡ 1 → Keeps (writer_contents W.contents writer.old) (writer_contents W.contents writer.new) }
     ensures flushed { status_of result ≡ 0 → writer_buffer writer.new ≡ [] }
-    ensures lied { (S.seen registry.new.shelf).lies ≡ 0 → (S.seen registry.old.shelf).lies ≡ 0 }
     ensures rests { (S.seen registry.new.shelf).doubts ≡ 0 → (S.seen registry.new.shelf).state ≡ (S.seen registry.old.shelf).state }
     ensures lied { (S.seen registry.new.shelf).lies ≡ 0 → (S.seen registry.old.shelf).lies ≡ 0 }
 {
@@ -67,7 +66,6 @@ pub fn show_audit<S: Shelf, W: Write + Drop>(
 ) -> Ending
     ensures shown { (S.seen registry.new.shelf).lies ≡ 0 → status_of result ≡ 0 → Wrote (writer_contents W.contents writer.old) (writer_contents W.contents writer.new) (IsAuditText (S.seen registry.old.shelf).state) }
     ensures flushed { status_of result ≡ 0 → writer_buffer writer.new ≡ [] }
-    ensures lied { (S.seen registry.new.shelf).lies ≡ 0 → (S.seen registry.old.shelf).lies ≡ 0 }
     ensures rests { (S.seen registry.new.shelf).doubts ≡ 0 → (S.seen registry.new.shelf).state ≡ (S.seen registry.old.shelf).state }
     ensures lied { (S.seen registry.new.shelf).lies ≡ 0 → (S.seen registry.old.shelf).lies ≡ 0 }
 {
