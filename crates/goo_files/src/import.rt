@@ -34,6 +34,7 @@ pub fn import_declarations_watched<S: Shelf, R: Read, P: Progress>(
     ensures before { IfErr result (λ fault. IsBeforeRows fault.cause → seen_of (S.seen registry.new.shelf) ≡ seen_of (S.seen registry.old.shelf)) }
     ensures before_lines { IfErr result (λ fault. IsBeforeRows fault.cause → fault.report.lines.items ≡ []) }
     ensures part { (S.seen registry.new.shelf).lies ≡ 0 → IfSome (R.remaining reader.old) (λ input. IfErr result (λ fault. IsBetweenRows fault.cause → StandsInPart caller.now input (S.seen registry.old.shelf).state (seen_of (S.seen registry.new.shelf)) fault.report.lines.items)) }
+    ensures lied { (S.seen registry.new.shelf).lies ≡ 0 → (S.seen registry.old.shelf).lies ≡ 0 }
     ensures told { (S.seen registry.old.shelf).refusals ≡ 0 → IsToldIn result (S.seen registry.new.shelf).refusals }
     ensures end { OnOk result (IsAtEnd (R.remaining reader.new)) }
 {
@@ -58,6 +59,7 @@ pub fn import_declarations<S: Shelf, R: Read>(
     ensures before { IfErr result (λ fault. IsBeforeRows fault.cause → seen_of (S.seen registry.new.shelf) ≡ seen_of (S.seen registry.old.shelf)) }
     ensures before_lines { IfErr result (λ fault. IsBeforeRows fault.cause → fault.report.lines.items ≡ []) }
     ensures part { (S.seen registry.new.shelf).lies ≡ 0 → IfSome (R.remaining reader.old) (λ input. IfErr result (λ fault. IsBetweenRows fault.cause → StandsInPart caller.now input (S.seen registry.old.shelf).state (seen_of (S.seen registry.new.shelf)) fault.report.lines.items)) }
+    ensures lied { (S.seen registry.new.shelf).lies ≡ 0 → (S.seen registry.old.shelf).lies ≡ 0 }
     ensures told { (S.seen registry.old.shelf).refusals ≡ 0 → IsToldIn result (S.seen registry.new.shelf).refusals }
     ensures end { OnOk result (IsAtEnd (R.remaining reader.new)) }
 {
