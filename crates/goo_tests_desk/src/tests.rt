@@ -55,7 +55,8 @@ fn a_listener_on_loopback_serves_its_client(rt: HostRuntime) {
     let asked = asked(&rt, &mut registry);
     let same = match &asked {
         Ok((told, text)) => {
-            told.as_slice() == b"listening 127.0.0.1:8347\n" && text.as_str() == AUDITED_NEW
+            told.as_slice() == b"listening 127.0.0.1:8347\n".as_slice()
+                && text.as_str() == AUDITED_NEW
         }
         Err(_) => false,
     };
