@@ -8,12 +8,13 @@ ghost use Rattle.sqlite_std_file.specs.File.{file_is_usable};
 mod files;
 
 use crate::files::{Opened, let_go, open_kept, open_new};
-use goo_command_line::{Opening, Place, Task, read_task};
+use goo_command_line::{Opening, Place, Serving, Task, read_task};
 use goo_ending::{Ending, Failure};
 use goo_running::closing::Left;
 use goo_running::creating::init_in_files;
 use goo_running::running::{run_in_files, run_in_memory};
-use goo_running::texts::{audit_in_files, declare_in_files, statement_in_files};
+use goo_running_http::{serve_in_files, serve_in_memory};
+use goo_running_texts::{audit_in_files, declare_in_files, statement_in_files};
 use goo_types::account_no::AccountNo;
 use sqlite::{FileFrom, Files, Start, Unknown};
 use std::env;
@@ -63,9 +64,20 @@ fn perform_task<W: Write + Drop>(
         }
         Task::Run(Place::File(path)) => work_at(rt, path, Unknown, Work::Run, writer),
         Task::Declare(path) => work_at(rt, path, Unknown, Work::Declare, writer),
-        Task::Statement(path, account) => work_at(rt, path, Unknown, Work::Statement(account), writer),
+        Task::Statement(path, account) => work_at(
+            rt,
+            path,
+            Unknown,
+            Work::Statement(account),
+            writer,
+        ),
         Task::Audit(path) => work_at(rt, path, Unknown, Work::Audit, writer),
-        Task::Serve(..) => Ending::Misused("goo: serve is not there yet"),
+        Task::Serve(Place::Memory(opening), serving) => {
+            serve_in_memory(rt, opening, serving, writer)
+        }
+        Task::Serve(Place::File(path), serving) => {
+            work_at(rt, path, Unknown, Work::Serve(serving), writer)
+        }
     }
 }
 
@@ -103,6 +115,8 @@ enum Work {
     Statement(AccountNo),
     /// The audit is shown.
     Audit,
+    /// Requests are answered over HTTP.
+    Serve(Serving),
 }
 
 /// Works with the registry in the file at a path.
@@ -145,5 +159,6 @@ fn work_in<S: Start, W: Write + Drop>(
         Work::Declare => declare_in_files(alloc, files, seed, &mut rt.reader(), writer),
         Work::Statement(account) => statement_in_files(alloc, files, seed, account, writer),
         Work::Audit => audit_in_files(alloc, files, seed, writer),
+        Work::Serve(serving) => serve_in_files(rt, files, seed, serving, writer),
     }
 }

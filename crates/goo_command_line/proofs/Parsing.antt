@@ -33,8 +33,16 @@ values_found f = record {
 
 pub values-read : (f : Found) → values_in (rows_of f) ≡ values_found f
 unfolding values_in
-values-read f = rw (first_value-rows f (codes "db"), first_value-rows f (codes "memory"), first_value-rows f (codes "code"), first_value-rows f (codes "today"),
-    first_value-rows f (codes "next-serial"), first_value-rows f (codes "account"), first_value-rows f (codes "port"), first_value-rows f (codes "count")) refl
+values-read f = rw (
+  first_value-rows f (codes "db"),
+  first_value-rows f (codes "memory"),
+  first_value-rows f (codes "code"),
+  first_value-rows f (codes "today"),
+  first_value-rows f (codes "next-serial"),
+  first_value-rows f (codes "account"),
+  first_value-rows f (codes "port"),
+  first_value-rows f (codes "count"),
+) refl
 
 -- two views of one value that may be missing
 pub both-views : {B X Y : Type 0} (f : B → X) (g : B → Y) (o : Option B) (x : X) (y : Y) → Some x ≡ option_map f o → Some y ≡ option_map {T = X × Y} (λ p. p.1) (option_map {U = X × Y} (λ b. (f b, g b)) o) → option_map {U = X × Y} (λ b. (f b, g b)) o ≡ Some (x, y)

@@ -143,7 +143,11 @@ fn audit_command<'a>(alloc: Global) -> Result<Command<'a>, AllocError>
     ensures app { IfOk result (λ command. app_of command ≡ audit_app) }
     ensures local { IfOk result (λ command. (fields_of command).has_globals ≡ false) }
 {
-    let command = with_help(Command::new(alloc, "audit"), help::AUDIT, help::AUDIT_EXAMPLE);
+    let command = with_help(
+        Command::new(alloc, "audit"),
+        help::AUDIT,
+        help::AUDIT_EXAMPLE,
+    );
     Ok(with_file(alloc, command)?)
 }
 
@@ -153,7 +157,11 @@ fn serve_command<'a>(alloc: Global) -> Result<Command<'a>, AllocError>
     ensures app { IfOk result (λ command. app_of command ≡ serve_app) }
     ensures local { IfOk result (λ command. (fields_of command).has_globals ≡ false) }
 {
-    let command = with_help(Command::new(alloc, "serve"), help::SERVE, help::SERVE_EXAMPLE);
+    let command = with_help(
+        Command::new(alloc, "serve"),
+        help::SERVE,
+        help::SERVE_EXAMPLE,
+    );
     let command = with_option(alloc, command, "port", help::PORT)?;
     let command = with_option(alloc, command, "count", help::COUNT)?;
     Ok(with_place(alloc, command)?)

@@ -1,5 +1,5 @@
 -- What is left of the files of a registry.
-use Rattle.std.specs.Prelude.{◌≡◌, Bool, true, false, ℕ, List, Option}
+use Rattle.std.specs.Prelude.{◌≡◌, Bool, true, false}
 use Rattle.sqlite_disk.specs.declared.Disk.{Ghosts}
 use Rattle.sqlite_disk.specs.declared.Files.{Files}
 use Rattle.sqlite_wal.specs.Reads.{AreClean}
@@ -9,14 +9,12 @@ use Rattle.sqlite.specs.Closing.{HoldsAlone}
 use Rattle.goo_columns.specs.Rows.{tables_of}
 use Rattle.goo_spec.specs.State.{State}
 use Rattle.goo_kept.specs.States.{state_of}
-use Rattle.goo_ending.specs.declared.ending.Ending.{Ending}
-use Rattle.goo_running_texts.specs.Declaring.{IsDeclared}
 use Rattle.goo_running.specs.declared.closing.Left.{Left}
 use Rattle.goo_running.specs.declared.closing.Left.TheVariants as left
 
 -- the files hold this state, and so does the database file with no log
-abbrev pub HoldState : {D : Type 0} {g : Ghosts D} → Files D → State → Type 0
-HoldState {D} {g} files s = AreClean g files.log files.db → (db : Trees) × HoldsAlone (image_of g files) db × (state_of (tables_of db) ≡ s)
+abbrev pub HoldState : {D : Type 0} → Ghosts D → Files D → State → Type 0
+HoldState g files s = AreClean g files.log files.db → (db : Trees) × HoldsAlone (image_of g files) db × (state_of (tables_of db) ≡ s)
 
 module _ {D : Type 0} {g : Ghosts D} where
   -- the files have returned what was written
@@ -36,14 +34,8 @@ module _ {D : Type 0} {g : Ghosts D} where
   is_whole (left.Refused rest) = false
   is_whole (left.Parts rest) = false
 
-  -- the rows of a CSV file were imported, and where the log was copied, the file holds what they come to
-  pub record DeclaredIn (old : State) (input : List ℕ) (had has : Option (List ℕ)) (told : Ending) (rest : Left D g) : Type 0 where
-    pub new : State
-    pub declared : IsDeclared input old new had has told
-    pub held : IfWhole rest (λ files. HoldState files new)
-
   -- a new registry
   abbrev pub IsMade : Left D g → State → Type 0
-  IsMade (left.Whole files) s = HoldState files s
+  IsMade (left.Whole files) s = HoldState g files s
   IsMade (left.Refused rest) s = ⊥
   IsMade (left.Parts rest) s = ⊥

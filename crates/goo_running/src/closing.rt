@@ -46,7 +46,7 @@ impl<D: Disk> Left<D> {
 /// opening finds it.
 pub fn close_registry<D: Disk + Drop>(shelf: SqlShelf<FileStore<D>>) -> Left<D>
     ensures clean { IsClean result → HasCleanDisk (file_state shelf.conn) }
-    ensures whole { IfWhole result (λ files. HoldState files (moment (file_state shelf.conn) shelf.refused).state) }
+    ensures whole { IfWhole result (λ files. HoldState D.Disk files (moment (file_state shelf.conn) shelf.refused).state) }
 {
     match shelf.into_connection().close_files() {
         Ok(files) => Left::Whole(files),

@@ -1,11 +1,11 @@
 //! The command `init`.
-ghost use Rattle.std.specs.Prelude.{◌≡◌, ◌⊎◌, IsTrue, IfOk, IfErr};
+ghost use Rattle.std.specs.Prelude.{◌≡◌, ◌≢◌, ◌⊎◌, IsTrue, IfOk, IfErr};
 ghost use Rattle.std.specs.Io.Buffered.{writer_contents};
 ghost use Rattle.std.specs.Io.KnownBytes.{Keeps};
 ghost use Rattle.goo_spec.specs.Created.{created};
 ghost use Rattle.goo_ending.specs.Endings.{status_of};
 ghost use Rattle.goo_running.specs.Openings.{ending_of_opening};
-ghost use Rattle.goo_running.specs.Closings.{HoldState, IfWhole, IsMade};
+ghost use Rattle.goo_running.specs.Closings.{HoldState, IfWhole, IsMade, is_whole};
 
 use crate::closing::{Left, close_registry};
 use crate::opening::{begin, failure_of, open_database};
@@ -42,7 +42,7 @@ fn create_registry<D: Disk + Drop>(
 ) -> Result<Left<D>, (Ending, Left<D>)>
     requires log { IsTrue (D.Disk.is_usable files.log) }
     requires db { IsTrue (D.Disk.is_usable files.db) }
-    ensures made { IfOk result (λ left. IfWhole left (λ files. HoldState files (created opening.code opening.today opening.next_serial))) }
+    ensures made { IfOk result (λ left. IfWhole left (λ files. HoldState D.Disk files (created opening.code opening.today opening.next_serial))) }
     ensures words { IfErr result (λ e. (fault : OpenFault) × (e.0 ≡ ending_of_opening fault)) }
 {
     let conn = match open_database(alloc, files, seed) {
@@ -71,6 +71,27 @@ fn say_ready<W: Write + Drop>(writer: &mut BufWriter<W>, code: RegistryCode) -> 
     writer.flush()
 }
 
+/// Says that a registry of this code is ready, where its file alone is the whole of it.
+fn announce<D: Disk + Drop, W: Write + Drop>(
+    left: Left<D>,
+    code: RegistryCode,
+    writer: &mut BufWriter<W>,
+) -> (Ending, Left<D>)
+    ensures left { result.1 ≡ left }
+    ensures whole { status_of result.0 ≡ 0 → IsTrue (is_whole left) }
+    ensures unready { IsTrue (is_whole left) ⊎ Keeps (writer_contents W.contents writer.old) (writer_contents W.contents writer.new) }
+    ensures words { status_of result.0 ≢ 1 }
+{
+    let is_whole = left.is_whole();
+    if !is_whole {
+        return (Ending::Failed(Failure::Store), left);
+    }
+    match say_ready(writer, code) {
+        Ok(()) => (Ending::Done, left),
+        Err(_) => (Ending::Failed(Failure::Write), left),
+    }
+}
+
 /// Makes a new registry in files that hold none, closes it, and says that it is ready.
 ///
 /// - `made`: status 0 only where the database file alone holds a new registry with this code, this date and this next serial.
@@ -91,12 +112,9 @@ pub fn init_in_files<D: Disk + Drop, W: Write + Drop>(
     ensures unready { IsMade result.1 (created opening.code opening.today opening.next_serial) ⊎ Keeps (writer_contents W.contents writer.old) (writer_contents W.contents writer.new) }
     ensures there { status_of result.0 ≡ 1 → result.0 ≡ Ending.Denied Denial.AlreadyThere }
 {
+    let code = opening.code;
     match create_registry(alloc, files, seed, opening) {
-        Ok(left) if !left.is_whole() => (Ending::Failed(Failure::Store), left),
-        Ok(left) => match say_ready(writer, opening.code) {
-            Ok(()) => (Ending::Done, left),
-            Err(_) => (Ending::Failed(Failure::Write), left),
-        },
+        Ok(left) => announce(left, code, writer),
         Err((ending, left)) => (ending, left),
     }
 }

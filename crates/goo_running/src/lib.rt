@@ -10,4 +10,3 @@ pub mod creating;
 pub mod opening;
 pub mod running;
 pub mod start;
-pub mod texts;

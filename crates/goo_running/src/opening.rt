@@ -24,6 +24,16 @@ use sqlite::{Alter, Connection, Error, ErrorCode, FileStore, Files, Leftover, Op
 use sqlite_disk::Disk;
 use std::alloc::Global;
 
+/// The word for what kept files from being opened.
+fn word_for(error: Error) -> Fault
+    ensures { error ≡ Error.SqliteFailure ErrorCode.OutOfMemory → result ≡ Fault.Memory }
+{
+    match error {
+        Error::SqliteFailure(ErrorCode::OutOfMemory) => Fault::Memory,
+        _ => Fault::Store,
+    }
+}
+
 /// The database that files hold, or a new one where they are empty. `seed` is what the salts of a new log begin with.
 ///
 /// # Errors
@@ -46,8 +56,7 @@ pub fn open_database<D: Disk + Drop>(
 {
     match open_ordered(alloc, files, Options::new(seed)) {
         Ok(conn) => Ok(conn),
-        Err((Error::SqliteFailure(ErrorCode::OutOfMemory), left)) => Err((Fault::Memory, left)),
-        Err((_, left)) => Err((Fault::Store, left)),
+        Err((error, left)) => Err((word_for(error), left)),
     }
 }
 
@@ -113,7 +122,7 @@ pub fn open_registry<D: Disk + Drop>(
     ensures ready { IfOk result (λ shelf. IsReady (moment (file_state shelf.conn) shelf.refused)) }
 {
     match open_database(alloc, files, seed) {
-        Ok(conn) => match begin(alloc, conn, Start::Kept) {
+        Ok(conn) => match SqlShelf::open(alloc, conn) {
             Ok(shelf) => Ok(shelf),
             Err((conn, fault)) => Err((failure_of(fault), Leftover::Store(conn.into_store()))),
         },

@@ -134,7 +134,7 @@ pub fn run_in_files<D: Disk + Drop, R: Read, W: Write + Drop>(
     ensures all_done { IsClean result.1 → (db : Trees) → HoldsDatabase (image_of D.Disk files) db → status_of result.0 ≡ 0 → IfSome (R.remaining reader.old) (λ input. (lines (state_of (tables_of db)) input).bad ≡ 0) }
     ensures not_all_done { IsClean result.1 → (db : Trees) → HoldsDatabase (image_of D.Disk files) db → status_of result.0 ≡ 1 → IfSome (R.remaining reader.old) (λ input. (lines (state_of (tables_of db)) input).bad ≢ 0) }
     ensures written { IsClean result.1 → (db : Trees) → HoldsDatabase (image_of D.Disk files) db → status_of result.0 < 2 → IfSome (R.remaining reader.old) (λ input. Appends (writer_contents W.contents writer.old) (writer_contents W.contents writer.new) (lines (state_of (tables_of db)) input).text) }
-    ensures kept { IsClean result.1 → (db : Trees) → HoldsDatabase (image_of D.Disk files) db → status_of result.0 < 2 → IfSome (R.remaining reader.old) (λ input. IfWhole result.1 (λ files. HoldState files (lines (state_of (tables_of db)) input).state)) }
+    ensures kept { IsClean result.1 → (db : Trees) → HoldsDatabase (image_of D.Disk files) db → status_of result.0 < 2 → IfSome (R.remaining reader.old) (λ input. IfWhole result.1 (λ files. HoldState D.Disk files (lines (state_of (tables_of db)) input).state)) }
     ensures flushed { status_of result.0 < 2 → writer_buffer writer.new ≡ [] }
     ensures no_words { status_of result.0 ≢ 2 }
 {

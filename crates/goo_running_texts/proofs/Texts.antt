@@ -25,7 +25,7 @@ module _ (old new : Moment) (before mid after : Option (List ℕ)) (denial : Opt
   pub shown : (result : Result (Unit {0}) TextFault) (out : Bool) → Writes old new before mid result denial (λ u given. right given) → Keeps mid after → new.lies ≡ 0 → status_of (ending_of_text result out) ≡ 0 → Wrote before after right
   shown (Ok done) true writes keeps clean status =
       let text = writes.whole (writes.looks.works clean) in
-      (text.0, text.1.0, kept before mid after text.0 text.1.1 keeps)
+      (text.0, text.1, kept before mid after text.0 text.2 keeps)
   shown (Ok done) false writes keeps clean status = absurd (omega (arith, status))
   shown (Err text.NotAllowed) out writes keeps clean status = absurd (omega (arith, status))
   shown (Err text.Unknown) out writes keeps clean status = absurd (omega (arith, status))
@@ -39,21 +39,21 @@ keeps_on (Some xs) None has a b = absurd a
 keeps_on (Some xs) (Some ys) None a b = absurd b
 keeps_on (Some xs) (Some ys) (Some zs) a b = rw a b
 
-absent : (row : Option Account) (why : Denial) → account_denial issuer row ≡ Some why → row ≡ None
-absent None why e = refl
-absent (Some account) why e = cc e
+absent : (caller : List ℕ) → caller ≡ issuer → (row : Option Account) (why : Denial) → account_denial caller row ≡ Some why → row ≡ None
+absent caller same None why e = refl
+absent caller same (Some account) why e = cc (rw same at e)
 
-module _ (old new : Moment) (before mid after : Option (List ℕ)) (row : Option Account) (right : List ℕ → Type 0) where
-  pub unknown : (result : Result (Unit {0}) TextFault) (out : Bool) → Writes old new before mid result (account_denial issuer row) (λ u given. right given) → new.lies ≡ 0 → status_of (ending_of_text result out) ≡ 1 → row ≡ None
+module _ (old new : Moment) (before mid after : Option (List ℕ)) (caller : List ℕ) (same : caller ≡ issuer) (row : Option Account) (right : List ℕ → Type 0) where
+  pub unknown : (result : Result (Unit {0}) TextFault) (out : Bool) → Writes old new before mid result (account_denial caller row) (λ u given. right given) → new.lies ≡ 0 → status_of (ending_of_text result out) ≡ 1 → row ≡ None
   unknown (Ok done) true writes clean status = absurd (omega (arith, status))
   unknown (Ok done) false writes clean status = absurd (omega (arith, status))
-  unknown (Err text.NotAllowed) out writes clean status = absent row _ (writes.denied (writes.looks.works clean))
-  unknown (Err text.Unknown) out writes clean status = absent row _ (writes.denied (writes.looks.works clean))
+  unknown (Err text.NotAllowed) out writes clean status = absent caller same row _ (writes.denied (writes.looks.works clean))
+  unknown (Err text.Unknown) out writes clean status = absent caller same row _ (writes.denied (writes.looks.works clean))
   unknown (Err text.Write) out writes clean status = absurd (omega (arith, status))
   unknown (Err text.Store) out writes clean status = absurd (omega (arith, status))
   unknown (Err text.Memory) out writes clean status = absurd (omega (arith, status))
 
-  pub silent : (result : Result (Unit {0}) TextFault) (out : Bool) → Writes old new before mid result (account_denial issuer row) (λ u given. right given) → Keeps mid after → new.lies ≡ 0 → status_of (ending_of_text result out) ≡ 1 → Keeps before after
+  pub silent : (result : Result (Unit {0}) TextFault) (out : Bool) → Writes old new before mid result (account_denial caller row) (λ u given. right given) → Keeps mid after → new.lies ≡ 0 → status_of (ending_of_text result out) ≡ 1 → Keeps before after
   silent (Ok done) true writes keeps clean status = absurd (omega (arith, status))
   silent (Ok done) false writes keeps clean status = absurd (omega (arith, status))
   silent (Err text.NotAllowed) out writes keeps clean status = keeps_on before mid after (writes.silent (writes.looks.works clean) tt) keeps

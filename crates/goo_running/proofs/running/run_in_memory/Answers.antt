@@ -1,7 +1,7 @@
 use Rattle.std.proofs.Common.{refl}
 use Rattle.sqlite.specs.Files.{file_state}
 use Rattle.sqlite_pool.specs.Pool.{state}
-use Rattle.goo_running.proofs.DeskLemmas.{honest}
+use Rattle.goo_running.proofs.Files.{honest}
 use Rattle.goo_running.proofs.running.run_in_memory.Goals as goal
 
 -- a file in memory tells no lie

@@ -1,4 +1,4 @@
-//! The commands `declare`, `statement` and `audit`.
+//! The commands `declare`, `statement` and `audit`, over files.
 ghost use Rattle.std.specs.Prelude.{◌≡◌, [], IfSome, IsTrue};
 ghost use Rattle.std.specs.Io.Buffered.{writer_buffer, writer_contents};
 ghost use Rattle.sqlite.specs.Files.{image_of, HoldsDatabase};
@@ -8,13 +8,15 @@ ghost use Rattle.goo_kept.specs.States.{state_of};
 ghost use Rattle.goo_files.specs.Texts.{IsStatement, IsAuditText};
 ghost use Rattle.goo_files.specs.Writes.{Wrote};
 ghost use Rattle.goo_ending.specs.Endings.{status_of};
-ghost use Rattle.goo_running.specs.Closings.{DeclaredIn, IsClean};
+ghost use Rattle.goo_running.specs.Closings.{IsClean};
+ghost use Rattle.goo_running_texts.specs.InFiles.{DeclaredIn};
 
-use crate::closing::{Left, close_registry};
-use crate::opening::open_registry;
+use crate::declaring::declare;
+use crate::showing::{show_audit, show_statement};
 use goo_ending::Ending;
 use goo_registry::Registry;
-use goo_running_texts::{declare, show_audit, show_statement};
+use goo_running::closing::{Left, close_registry};
+use goo_running::opening::open_registry;
 use goo_types::account_no::AccountNo;
 use sqlite::Files;
 use sqlite_disk::Disk;
