@@ -13,8 +13,9 @@ use goo_ending::{Ending, Failure};
 use goo_running::closing::Left;
 use goo_running::creating::init_in_files;
 use goo_running::running::{run_in_files, run_in_memory};
-use goo_running_http::{serve_in_files, serve_in_memory};
-use goo_running_texts::{audit_in_files, declare_in_files, statement_in_files};
+use goo_running_works::{
+    audit_in_files, declare_in_files, serve_in_files, serve_in_memory, statement_in_files,
+};
 use goo_types::account_no::AccountNo;
 use sqlite::{FileFrom, Files, Start, Unknown};
 use std::env;

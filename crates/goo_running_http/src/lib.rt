@@ -1,6 +1,6 @@
-//! The command `serve`: a registry in memory or in files answers requests over HTTP.
+//! A registry over any shelf, served over HTTP.
 #![tactic(auto)]
 
 mod serving;
 
-pub use serving::{serve_in_files, serve_in_memory};
+pub use serving::serve_registry;

@@ -1,0 +1,60 @@
+//! The command `serve`.
+ghost use Rattle.std.specs.Prelude.{IsTrue};
+
+use goo_command_line::{Opening, Serving};
+use goo_disk::MemoryFile;
+use goo_ending::{Ending, Failure};
+use goo_registry::Registry;
+use goo_running::closing::{Left, close_registry};
+use goo_running::opening::{begin, failure_of, open_database, open_registry};
+use goo_running::start::Start;
+use goo_running_http::serve_registry;
+use sqlite::Files;
+use sqlite_disk::Disk;
+use std::io::{BufWriter, Write};
+
+/// The number that the salts of the log in memory begin with. Nobody but this process reads it, so any number does.
+const SALT: u64 = 7;
+
+/// Serves so many connections by a new registry whose records are tables in memory, and are gone when the program ends.
+pub fn serve_in_memory<W: Write + Drop>(
+    rt: &HostRuntime,
+    opening: Opening,
+    serving: Serving,
+    writer: &mut BufWriter<W>,
+) -> Ending {
+    let alloc = rt.alloc();
+    let files = Files {
+        log: MemoryFile::new(alloc),
+        db: MemoryFile::new(alloc),
+    };
+    let conn = match open_database(alloc, files, SALT) {
+        Ok(conn) => conn,
+        Err((fault, _left)) => return Ending::Failed(Failure::from(fault)),
+    };
+    match begin(alloc, conn, Start::New(opening)) {
+        Ok(shelf) => serve_registry(rt, &mut Registry::new(shelf), serving, writer),
+        Err((_conn, fault)) => Ending::Failed(failure_of(fault)),
+    }
+}
+
+/// Serves so many connections by the registry that files hold, and closes it.
+pub fn serve_in_files<D: Disk + Drop, W: Write + Drop>(
+    rt: &HostRuntime,
+    files: Files<D>,
+    seed: u64,
+    serving: Serving,
+    writer: &mut BufWriter<W>,
+) -> (Ending, Left<D>)
+    requires log { IsTrue (D.Disk.is_usable files.log) }
+    requires db { IsTrue (D.Disk.is_usable files.db) }
+{
+    match open_registry(rt.alloc(), files, seed) {
+        Ok(shelf) => {
+            let mut registry = Registry::new(shelf);
+            let ending = serve_registry(rt, &mut registry, serving, writer);
+            (ending, close_registry(registry.into_shelf()))
+        }
+        Err((failure, left)) => (Ending::Failed(failure), Left::Refused(left)),
+    }
+}
