@@ -1,5 +1,5 @@
 -- What an ending tells of a text, and of an import.
-use Rattle.std.proofs.Common.{arith, refl, ◌≡◌, ◌≢◌, ℕ, List, Bool, true, false, true≢false, Result, Ok, Err, Option, Some, None, is_ok, OnOk, IfOk, IsTrue}
+use Rattle.std.proofs.Common.{arith, refl, ◌≡◌, ◌∙◌, ◌≢◌, ℕ, List, Bool, true, false, true≢false, Result, Ok, Err, Option, Some, None, is_ok, OnOk, IfOk, IsTrue}
 use Rattle.std.specs.Io.KnownBytes.{Appends, Keeps}
 use Rattle.goo_shelf.specs.Shelf.{Moment}
 use Rattle.goo_spec.specs.State.{State, Account}
@@ -17,9 +17,15 @@ use Rattle.goo_files_import.specs.Stands.{IsImported}
 use Rattle.goo_ending.specs.declared.ending.Ending.{Ending}
 use Rattle.goo_ending.specs.declared.ending.Ending.TheVariants as ending
 use Rattle.goo_ending.specs.Endings.{status_of}
-use Rattle.goo_ending.proofs.EndingLemmas.{kept}
 use Rattle.goo_running_texts.specs.Endings.{all_stand, ending_of_import, ending_of_text}
 use Rattle.goo_running_texts.specs.Declaring.{Finishes, IsDeclared}
+
+-- what was appended stands behind what was there, after a flush too
+kept : (had between has : Option (List ℕ)) (text : List ℕ) → Appends had between text → Keeps between has → Appends had has text
+kept None between has text appended same = tt
+kept (Some xs) None has text appended same = absurd appended
+kept (Some xs) (Some ys) None text appended same = absurd same
+kept (Some xs) (Some ys) (Some zs) text appended same = rw same appended
 
 module _ (old new : Moment) (before mid after : Option (List ℕ)) (denial : Option Denial) (right : List ℕ → Type 0) where
   pub shown : (result : Result (Unit {0}) TextFault) (out : Bool) → Writes old new before mid result denial (λ u given. right given) → Keeps mid after → new.lies ≡ 0 → status_of (ending_of_text result out) ≡ 0 → Wrote before after right
@@ -37,13 +43,13 @@ keeps_on : (had between has : Option (List ℕ)) → Keeps had between → Keeps
 keeps_on None between has a b = tt
 keeps_on (Some xs) None has a b = absurd a
 keeps_on (Some xs) (Some ys) None a b = absurd b
-keeps_on (Some xs) (Some ys) (Some zs) a b = rw a b
+keeps_on (Some xs) (Some ys) (Some zs) a b = b ∙ a
 
 absent : (caller : List ℕ) → caller ≡ issuer → (row : Option Account) (why : Denial) → account_denial caller row ≡ Some why → row ≡ None
 absent caller same None why e = refl
 absent caller same (Some account) why e = cc (rw same at e)
 
-module _ (old new : Moment) (before mid after : Option (List ℕ)) (caller : List ℕ) (same : caller ≡ issuer) (row : Option Account) (right : List ℕ → Type 0) where
+module _ (old new : Moment) (before mid : Option (List ℕ)) (caller : List ℕ) (same : caller ≡ issuer) (row : Option Account) (right : List ℕ → Type 0) where
   pub unknown : (result : Result (Unit {0}) TextFault) (out : Bool) → Writes old new before mid result (account_denial caller row) (λ u given. right given) → new.lies ≡ 0 → status_of (ending_of_text result out) ≡ 1 → row ≡ None
   unknown (Ok done) true writes clean status = absurd (omega (arith, status))
   unknown (Ok done) false writes clean status = absurd (omega (arith, status))
@@ -53,14 +59,14 @@ module _ (old new : Moment) (before mid after : Option (List ℕ)) (caller : Lis
   unknown (Err text.Store) out writes clean status = absurd (omega (arith, status))
   unknown (Err text.Memory) out writes clean status = absurd (omega (arith, status))
 
-  pub silent : (result : Result (Unit {0}) TextFault) (out : Bool) → Writes old new before mid result (account_denial caller row) (λ u given. right given) → Keeps mid after → new.lies ≡ 0 → status_of (ending_of_text result out) ≡ 1 → Keeps before after
-  silent (Ok done) true writes keeps clean status = absurd (omega (arith, status))
-  silent (Ok done) false writes keeps clean status = absurd (omega (arith, status))
-  silent (Err text.NotAllowed) out writes keeps clean status = keeps_on before mid after (writes.silent (writes.looks.works clean) tt) keeps
-  silent (Err text.Unknown) out writes keeps clean status = keeps_on before mid after (writes.silent (writes.looks.works clean) tt) keeps
-  silent (Err text.Write) out writes keeps clean status = absurd (omega (arith, status))
-  silent (Err text.Store) out writes keeps clean status = absurd (omega (arith, status))
-  silent (Err text.Memory) out writes keeps clean status = absurd (omega (arith, status))
+  pub silent : (after : Option (List ℕ)) (result : Result (Unit {0}) TextFault) (out : Bool) → Writes old new before mid result (account_denial caller row) (λ u given. right given) → Keeps mid after → new.lies ≡ 0 → status_of (ending_of_text result out) ≡ 1 → Keeps before after
+  silent after (Ok done) true writes keeps clean status = absurd (omega (arith, status))
+  silent after (Ok done) false writes keeps clean status = absurd (omega (arith, status))
+  silent after (Err text.NotAllowed) out writes keeps clean status = keeps_on before mid after (writes.silent (writes.looks.works clean) tt) keeps
+  silent after (Err text.Unknown) out writes keeps clean status = keeps_on before mid after (writes.silent (writes.looks.works clean) tt) keeps
+  silent after (Err text.Write) out writes keeps clean status = absurd (omega (arith, status))
+  silent after (Err text.Store) out writes keeps clean status = absurd (omega (arith, status))
+  silent after (Err text.Memory) out writes keeps clean status = absurd (omega (arith, status))
 
 -- what a flush leaves holds with status 0
 pub flushed : {T E : Type 0} (Holds : Type 0) (result : Result (Unit {0}) TextFault) (out : Bool) (flush : Result T E) → out ≡ is_ok flush → OnOk flush Holds → status_of (ending_of_text result out) ≡ 0 → Holds

@@ -61,7 +61,7 @@ fn finish<W: Write + Drop>(
     cause: Option<Cause>,
     writer: &mut BufWriter<W>,
 ) -> Ending
-    ensures { Finishes cause report.now.lines.items (writer_contents W.contents writer.old) (writer_contents W.contents writer.new) result }
+    ensures finished { Finishes cause report.now.lines.items (writer_contents W.contents writer.old) (writer_contents W.contents writer.new) result }
     ensures flushed { status_of result ≡ 0 → writer_buffer writer.new ≡ [] }
 {
     let flushed = send_report(report, writer);
@@ -73,6 +73,7 @@ fn finish<W: Write + Drop>(
 ///
 /// - `done`: with status 0 each row was imported and its declaration stands; with status 1 too, but for a file without its header,
 ///   and some declaration doesn't stand. The whole report is written.
+/// - `lied`: what keeps the records returned what was written before, where it did so to the end.
 pub fn declare<S: Shelf, R: Read, W: Write + Drop>(
     alloc: Global,
     registry: &mut Registry<S>,
@@ -80,6 +81,7 @@ pub fn declare<S: Shelf, R: Read, W: Write + Drop>(
     writer: &mut BufWriter<W>,
 ) -> Ending
     ensures done { (S.seen registry.new.shelf).lies ≡ 0 → IfSome (R.remaining reader.old) (λ input. IsDeclared input (S.seen registry.old.shelf).state (S.seen registry.new.shelf).state (writer_contents W.contents writer.old) (writer_contents W.contents writer.new) result) }
+    ensures lied { (S.seen registry.new.shelf).lies ≡ 0 → (S.seen registry.old.shelf).lies ≡ 0 }
     ensures flushed { status_of result ≡ 0 → writer_buffer writer.new ≡ [] }
 {
     match import_declarations(alloc, registry, &issuer(), reader) {

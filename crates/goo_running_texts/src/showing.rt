@@ -35,7 +35,8 @@ fn ending_of(written: Result<(), TextFault>, flushed: bool) -> Ending
 ///
 /// - `shown`, `flushed`: status 0 only where the whole statement is written after what the writer had, and nothing is left in its buffer.
 /// - `unknown`: status 1 only where there is no such account, and nothing is written then.
-/// - `rests`, `lied`: the registry stays as it is, and what keeps it returned what was written before, where it did so to the end.
+/// - `rests`: the registry stays as it is.
+/// - `lied`: what keeps the records returned what was written before, where it did so to the end.
 pub fn show_statement<S: Shelf, W: Write + Drop>(
     registry: &mut Registry<S>,
     account: AccountNo,
@@ -45,8 +46,8 @@ pub fn show_statement<S: Shelf, W: Write + Drop>(
     ensures unknown { (S.seen registry.new.shelf).lies ≡ 0 → status_of result ≡ 1 → get (S.seen registry.old.shelf).state.accounts account ≡ None }
     ensures silent { (S.seen registry.new.shelf).lies ≡ 0 → status_of result ≡ 1 → Keeps (writer_contents W.contents writer.old) (writer_contents W.contents writer.new) }
     ensures flushed { status_of result ≡ 0 → writer_buffer writer.new ≡ [] }
-    ensures lied { (S.seen registry.new.shelf).lies ≡ 0 → (S.seen registry.old.shelf).lies ≡ 0 }
     ensures rests { (S.seen registry.new.shelf).doubts ≡ 0 → (S.seen registry.new.shelf).state ≡ (S.seen registry.old.shelf).state }
+    ensures lied { (S.seen registry.new.shelf).lies ≡ 0 → (S.seen registry.old.shelf).lies ≡ 0 }
 {
     let written = write_statement(registry, &issuer(), account, writer);
     let flushed = writer.flush().is_ok();
@@ -56,7 +57,8 @@ pub fn show_statement<S: Shelf, W: Write + Drop>(
 /// Writes the audit of all devices, and tells how that ends. The output is flushed.
 ///
 /// - `shown`, `flushed`: status 0 only where the whole audit is written after what the writer had, and nothing is left in its buffer.
-/// - `rests`, `lied`: the registry stays as it is, and what keeps it returned what was written before, where it did so to the end.
+/// - `rests`: the registry stays as it is.
+/// - `lied`: what keeps the records returned what was written before, where it did so to the end.
 pub fn show_audit<S: Shelf, W: Write + Drop>(
     alloc: Global,
     registry: &mut Registry<S>,
@@ -64,8 +66,8 @@ pub fn show_audit<S: Shelf, W: Write + Drop>(
 ) -> Ending
     ensures shown { (S.seen registry.new.shelf).lies ≡ 0 → status_of result ≡ 0 → Wrote (writer_contents W.contents writer.old) (writer_contents W.contents writer.new) (IsAuditText (S.seen registry.old.shelf).state) }
     ensures flushed { status_of result ≡ 0 → writer_buffer writer.new ≡ [] }
-    ensures lied { (S.seen registry.new.shelf).lies ≡ 0 → (S.seen registry.old.shelf).lies ≡ 0 }
     ensures rests { (S.seen registry.new.shelf).doubts ≡ 0 → (S.seen registry.new.shelf).state ≡ (S.seen registry.old.shelf).state }
+    ensures lied { (S.seen registry.new.shelf).lies ≡ 0 → (S.seen registry.old.shelf).lies ≡ 0 }
 {
     let written = write_audit(alloc, registry, &issuer(), writer);
     let flushed = writer.flush().is_ok();

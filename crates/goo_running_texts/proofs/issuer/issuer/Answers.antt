@@ -1,0 +1,10 @@
+use Rattle.std.proofs.Common.{◌≡◌, ◌∙◌, Ok, Err, refl, sym}
+use Rattle.goo_spec.specs.Checks.{issuer}
+use Rattle.goo_running_texts.proofs.Callers.{is_read}
+use Rattle.goo_running_texts.proofs.issuer.issuer.Goals as goal
+
+pub unreachable-requires : goal.unreachable-requires
+unreachable-requires c = let clash : Ok issuer ≡ Err c.in-Err.field-0 = sym is_read ∙ sym c.read.ensures ∙ c.in-Err.is in cc
+
+pub returns : goal.returns
+returns c = let same : Ok c.in-Ok.code ≡ Ok issuer = sym c.in-Ok.is ∙ c.read.ensures ∙ is_read in cc
