@@ -11,11 +11,11 @@ ghost use Rattle.goo_ending.specs.Endings.{status_of};
 ghost use Rattle.goo_running.specs.Closings.{IsClean};
 ghost use Rattle.goo_running_works.specs.Declared.{DeclaredIn};
 
-use goo_running_texts::{declare, show_audit, show_statement};
 use goo_ending::Ending;
 use goo_registry::Registry;
 use goo_running::closing::{Left, close_registry};
 use goo_running::opening::open_registry;
+use goo_running_texts::{declare, show_audit, show_statement};
 use goo_types::account_no::AccountNo;
 use sqlite::Files;
 use sqlite_disk::Disk;

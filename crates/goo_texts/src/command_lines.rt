@@ -18,13 +18,31 @@ static FAULTS: [(&str, &str); 33] = [
     ("goo run --db x --next-serial 1", "not new"),
     ("goo run --db x --db x", "words"),
     ("goo run --memory --today 2025-03-01", "missing code"),
-    ("goo run --memory --today 2025-03-01 --code +7", "wrong code"),
-    ("goo run --memory --today 2025-03-01 --code 100", "wrong code"),
-    ("goo run --memory --today 2025-03-01 --code 7 --code 7", "words"),
-    ("goo run --memory --code 7 --today 2025-02-29", "wrong today"),
+    (
+        "goo run --memory --today 2025-03-01 --code +7",
+        "wrong code",
+    ),
+    (
+        "goo run --memory --today 2025-03-01 --code 100",
+        "wrong code",
+    ),
+    (
+        "goo run --memory --today 2025-03-01 --code 7 --code 7",
+        "words",
+    ),
+    (
+        "goo run --memory --code 7 --today 2025-02-29",
+        "wrong today",
+    ),
     ("goo run --memory --code 7", "missing today"),
-    ("goo run --memory --code 7 --today 2025-03-01 --next-serial 0", "wrong next serial"),
-    ("goo run --memory --code 7 --today 2025-03-01 --next-serial 1000000000000", "wrong next serial"),
+    (
+        "goo run --memory --code 7 --today 2025-03-01 --next-serial 0",
+        "wrong next serial",
+    ),
+    (
+        "goo run --memory --code 7 --today 2025-03-01 --next-serial 1000000000000",
+        "wrong next serial",
+    ),
     ("goo init --code 7 --today 2025-03-01", "missing file"),
     ("goo init --db x --today 2025-03-01", "missing code"),
     ("goo init --memory --code 7 --today 2025-03-01", "words"),
@@ -37,7 +55,10 @@ static FAULTS: [(&str, &str); 33] = [
     ("goo serve --count 1 --db x", "missing port"),
     ("goo serve --port 65536 --count 1 --db x", "wrong port"),
     ("goo serve --port 0 --count 1 --db x", "wrong port"),
-    ("goo serve --port 8080 --count 1000000001 --db x", "wrong count"),
+    (
+        "goo serve --port 8080 --count 1000000001 --db x",
+        "wrong count",
+    ),
     ("goo serve --port 8080 --count 1", "no place"),
 ];
 
@@ -112,8 +133,14 @@ fn is_told(task: &Task<'_>, wanted: &str) -> bool {
 
 /// Command lines, each with its task.
 static TASKS: [(&str, &str); 7] = [
-    ("goo init --db x --code 007 --today=2025-03-01 --next-serial 999999999999", "init"),
-    ("goo run --memory --code 7 --today 2025-03-01", "run in memory"),
+    (
+        "goo init --db x --code 007 --today=2025-03-01 --next-serial 999999999999",
+        "init",
+    ),
+    (
+        "goo run --memory --code 7 --today 2025-03-01",
+        "run in memory",
+    ),
     ("goo run --db x", "run"),
     ("goo declare --db x", "declare"),
     ("goo statement 0001 --db x", "statement"),
