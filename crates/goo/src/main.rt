@@ -47,7 +47,7 @@ fn perform_words(rt: &HostRuntime, words: &[String]) -> Ending {
         Err(fault) => return Ending::from(fault),
     };
     match BufWriter::new(rt.alloc(), io::writer(rt)) {
-        Ok(mut writer) => perform_task(rt, task, &mut writer),
+        Ok(mut writer) => perform_task(rt, &task, &mut writer),
         Err(_) => Ending::Failed(Failure::Memory),
     }
 }
@@ -55,30 +55,35 @@ fn perform_words(rt: &HostRuntime, words: &[String]) -> Ending {
 /// Does a task. What it shows goes to the writer.
 fn perform_task<W: Write + Drop>(
     rt: &HostRuntime,
-    task: Task<'_>,
+    task: &Task<'_>,
     writer: &mut BufWriter<W>,
 ) -> Ending {
     match task {
-        Task::Init(path, opening) => init(rt, path, Unknown, opening, writer),
+        Task::Init(path, opening) => init(rt, *path, Unknown, copy_of(opening), writer),
         Task::Run(Place::Memory(opening)) => {
-            run_in_memory(rt.alloc(), opening, &mut rt.reader(), writer)
+            run_in_memory(rt.alloc(), copy_of(opening), &mut rt.reader(), writer)
         }
-        Task::Run(Place::File(path)) => work_at(rt, path, Unknown, Work::Run, writer),
-        Task::Declare(path) => work_at(rt, path, Unknown, Work::Declare, writer),
-        Task::Statement(path, account) => work_at(
-            rt,
-            path,
-            Unknown,
-            Work::Statement(account),
-            writer,
-        ),
-        Task::Audit(path) => work_at(rt, path, Unknown, Work::Audit, writer),
+        Task::Run(Place::File(path)) => work_at(rt, *path, Unknown, &Work::Run, writer),
+        Task::Declare(path) => work_at(rt, *path, Unknown, &Work::Declare, writer),
+        Task::Statement(path, account) => {
+            work_at(rt, *path, Unknown, &Work::Statement(*account), writer)
+        }
+        Task::Audit(path) => work_at(rt, *path, Unknown, &Work::Audit, writer),
         Task::Serve(Place::Memory(opening), serving) => {
-            serve_in_memory(rt, opening, serving, writer)
+            serve_in_memory(rt, copy_of(opening), *serving, writer)
         }
         Task::Serve(Place::File(path), serving) => {
-            work_at(rt, path, Unknown, Work::Serve(serving), writer)
+            work_at(rt, *path, Unknown, &Work::Serve(*serving), writer)
         }
+    }
+}
+
+/// The same opening, field by field, as what is lent can't be given away.
+fn copy_of(opening: &Opening) -> Opening {
+    Opening {
+        code: opening.code,
+        today: opening.today,
+        next_serial: opening.next_serial,
     }
 }
 
@@ -106,7 +111,7 @@ fn init<S: Start, W: Write + Drop>(
 }
 
 /// What is done with the registry in a file.
-#[derive(Clone, Copy)]
+#[derive(Drop)]
 enum Work {
     /// The requests of standard input are answered.
     Run,
@@ -125,7 +130,7 @@ fn work_at<S: Start, W: Write + Drop>(
     rt: &HostRuntime,
     path: &str,
     start: S,
-    work: Work,
+    work: &Work,
     writer: &mut BufWriter<W>,
 ) -> Ending {
     match open_kept(rt, path, start) {
@@ -148,7 +153,7 @@ fn work_in<S: Start, W: Write + Drop>(
     rt: &HostRuntime,
     files: Files<FileFrom<S>>,
     seed: u64,
-    work: Work,
+    work: &Work,
     writer: &mut BufWriter<W>,
 ) -> (Ending, Left<FileFrom<S>>)
     requires log { IsTrue (file_is_usable S.Start files.log) }
@@ -158,8 +163,8 @@ fn work_in<S: Start, W: Write + Drop>(
     match work {
         Work::Run => run_in_files(alloc, files, seed, &mut rt.reader(), writer),
         Work::Declare => declare_in_files(alloc, files, seed, &mut rt.reader(), writer),
-        Work::Statement(account) => statement_in_files(alloc, files, seed, account, writer),
+        Work::Statement(account) => statement_in_files(alloc, files, seed, *account, writer),
         Work::Audit => audit_in_files(alloc, files, seed, writer),
-        Work::Serve(serving) => serve_in_files(rt, files, seed, serving, writer),
+        Work::Serve(serving) => serve_in_files(rt, files, seed, *serving, writer),
     }
 }
