@@ -1,1 +1,1 @@
-pub mod Declared
+pub mod Imports

@@ -9,7 +9,7 @@ ghost use Rattle.goo_files.specs.Texts.{IsStatement, IsAuditText};
 ghost use Rattle.goo_files.specs.Writes.{Wrote};
 ghost use Rattle.goo_ending.specs.Endings.{status_of};
 ghost use Rattle.goo_running.specs.Closings.{IsClean};
-ghost use Rattle.goo_running_works.specs.Declared.{DeclaredIn};
+ghost use Rattle.goo_running_works.specs.Imports.{DeclaredIn};
 
 use goo_ending::Ending;
 use goo_registry::Registry;

@@ -1,5 +1,8 @@
 //! The command `serve`.
-ghost use Rattle.std.specs.Prelude.{IsTrue};
+ghost use Rattle.std.specs.Prelude.{◌≡◌, false, IsTrue};
+ghost use Rattle.sqlite.specs.Held.{state as view};
+ghost use Rattle.sqlite.specs.State.{HasCleanDisk};
+ghost use Rattle.goo_columns.specs.Met.{IsInKeyOrder};
 
 use goo_command_line::{Opening, Serving};
 use goo_disk::MemoryFile;
@@ -9,12 +12,33 @@ use goo_running::closing::{Left, close_registry};
 use goo_running::opening::{begin, failure_of, open_database, open_registry};
 use goo_running::start::Start;
 use goo_running_http::serve_registry;
-use sqlite::Files;
+use sqlite::{Alter, Connection, Files};
 use sqlite_disk::Disk;
 use std::io::{BufWriter, Write};
 
 /// The number that the salts of the log in memory begin with. Nobody but this process reads it, so any number does.
 const SALT: u64 = 7;
+
+/// Serves so many connections by a new registry in a database that is empty, and hands the database back.
+fn serve_new<S: Alter, W: Write + Drop>(
+    rt: &HostRuntime,
+    conn: Connection<S>,
+    opening: Opening,
+    serving: Serving,
+    writer: &mut BufWriter<W>,
+) -> (Ending, Connection<S>)
+    requires outside { conn.in_transaction ≡ false }
+    requires ordered { HasCleanDisk (view S.Store conn) → IsInKeyOrder (view S.Store conn).now }
+{
+    match begin(rt.alloc(), conn, Start::New(opening)) {
+        Ok(shelf) => {
+            let mut registry = Registry::new(shelf);
+            let ending = serve_registry(rt, &mut registry, serving, writer);
+            (ending, registry.into_shelf().into_connection())
+        }
+        Err((conn, fault)) => (Ending::Failed(failure_of(fault)), conn),
+    }
+}
 
 /// Serves so many connections by a new registry whose records are tables in memory, and are gone when the program ends.
 pub fn serve_in_memory<W: Write + Drop>(
@@ -32,10 +56,8 @@ pub fn serve_in_memory<W: Write + Drop>(
         Ok(conn) => conn,
         Err((fault, _left)) => return Ending::Failed(Failure::from(fault)),
     };
-    match begin(alloc, conn, Start::New(opening)) {
-        Ok(shelf) => serve_registry(rt, &mut Registry::new(shelf), serving, writer),
-        Err((_conn, fault)) => Ending::Failed(failure_of(fault)),
-    }
+    let (ending, _conn) = serve_new(rt, conn, opening, serving, writer);
+    ending
 }
 
 /// Serves so many connections by the registry that files hold, and closes it.

@@ -5,7 +5,7 @@ use Rattle.goo_columns.specs.Rows.{tables_of}
 use Rattle.goo_kept.specs.States.{state_of}
 use Rattle.goo_lookups.specs.Moments.{moment}
 use Rattle.goo_running.specs.Closings.{HoldState, IfWhole}
-use Rattle.goo_running_works.proofs.Works.{declared_begun}
+use Rattle.goo_running_works.proofs.Works.{declared_begun, undeclared}
 use Rattle.goo_running_works.proofs.in_files.declare_in_files.Goals as goal
 
 pub returns-in-Ok-clause-done : goal.returns-in-Ok-clause-done
@@ -16,3 +16,6 @@ returns-in-Ok-clause-done g c = λ clean db holds.
     (subst (λ shelf. (moment (file_state shelf.conn) shelf.refused).state ≡ state_of (tables_of db)) (sym c.new-registry.ensures) (c.in-Ok.ensures.state db holds (c.in-Ok.ensures.ready.works before)))
     (c.declare-ending.ensures.done low)
     (subst (λ shelf. IfWhole c.close_registry.result (λ files. HoldState g.D.Disk files (moment (file_state shelf.conn) shelf.refused).state)) c.into_shelf.ensures c.close_registry.ensures.whole)
+
+pub returns-in-Err-clause-done : goal.returns-in-Err-clause-done
+returns-in-Err-clause-done g c = λ clean db holds. undeclared c.in-Err.left (g.R.Read.remaining c.args.reader.now) _ _ c.in-Err.failure (state_of (tables_of db))
