@@ -2,8 +2,8 @@
 
 usage: python3 bench/statement.py [RUNS ..]
 
-Opening reads and judges all tables, whatever is asked then: so `goo audit` over the same file is measured beside it, and what a statement takes beyond that is its
-own. The baseline goes over the rows of the account by one ordered query. Both texts are compared, byte for byte.
+Opening reads and judges all tables, whatever is asked then: so a run over the same file that asks for nothing is measured beside it, and what a statement takes beyond
+that is its own. The baseline goes over the rows of the account by one ordered query. Both texts are compared, byte for byte.
 """
 import sqlite3
 import sys
@@ -38,11 +38,11 @@ def main(sizes):
             workload('runs', runs, folder / 'lines')
             goo('init', '--db', folder / 'registry', *NEW)
             goo('run', '--db', folder / 'registry', given=folder / 'lines')
-            audit = min((goo('audit', '--db', folder / 'registry') for _ in range(3)), key=lambda it: it.seconds)
+            opening = min((goo('run', '--db', folder / 'registry') for _ in range(3)), key=lambda it: it.seconds)
             run = min((goo('statement', '1', '--db', folder / 'registry', to=folder / 'ours') for _ in range(3)), key=lambda it: it.seconds)
             theirs = min(plain(folder / 'registry', folder / 'theirs') for _ in range(3))
-            own = run.seconds - audit.seconds
-            print(f'| {runs:,} | {run.seconds:.2f} | {audit.seconds:.2f} | {run.memory:.0f} MB | {audit.memory:.0f} MB | {theirs:.2f} | {own / theirs:.2f} |', flush=True)
+            own = run.seconds - opening.seconds
+            print(f'| {runs:,} | {run.seconds:.2f} | {opening.seconds:.2f} | {run.memory:.0f} MB | {opening.memory:.0f} MB | {theirs:.2f} | {own / theirs:.2f} |', flush=True)
             if (folder / 'ours').read_bytes() != (folder / 'theirs').read_bytes():
                 print('the two texts differ')
                 wrong = 1
