@@ -86,7 +86,7 @@ def matching(counter, pattern):
 
 
 def asked(found):
-    """How often each function of goo_tables and goo_held was called, in words."""
+    """How often each function of goo_tables and goo_tables_holdings was called, in words."""
     counts = collections.Counter()
     for name, count in found.calls.items():
         if match := re.match(r'goo_(?:tables|held)::\w+::(\w+)', name):

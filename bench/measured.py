@@ -1,6 +1,7 @@
 """What the measurements share: the program, a run of it that is timed, and the better of runs taken in turn."""
 import math
 import os
+import shutil
 import subprocess
 import sys
 import tempfile
@@ -49,6 +50,17 @@ class Run:
 def goo(*words, **streams):
     """A run of the program."""
     return Run([PROGRAM, *words], **streams)
+
+
+def live(folder, *words):
+    """How often a run of the program writes to standard output, and the least and the most bytes live from the first to the last of it; None without a C compiler."""
+    if not shutil.which('cc'):
+        return None
+    library, told = folder / 'live.so', folder / 'live'
+    subprocess.run(['cc', '-O2', '-shared', '-fPIC', '-o', library, HERE / 'live.c'], check=True)
+    around = {**os.environ, 'LD_PRELOAD': str(library), 'LIVE': str(told)}
+    subprocess.run([PROGRAM, *map(str, words)], env=around, stdout=subprocess.DEVNULL, check=True, timeout=SECONDS)
+    return tuple(map(int, told.read_text(encoding='utf-8').split()))
 
 
 def plain(lines, path=':memory:'):

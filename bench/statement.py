@@ -4,13 +4,16 @@ usage: python3 bench/statement.py [RUNS ..]
 
 Opening reads and judges all tables, whatever is asked then: so a run over the same file that asks for nothing is measured beside it, and what a statement takes beyond
 that is its own. The baseline goes over the rows of the account by one ordered query. Both texts are compared, byte for byte.
+
+What a statement holds while it is written is measured apart (bench/live.c): the most bytes that are live between its first and its last write, and beside it those of a statement of ten
+runs, of another account of the same file.
 """
 import sqlite3
 import sys
 import time
 from contextlib import closing
 
-from measured import NEW, goo, load, room, workload
+from measured import NEW, goo, live, load, room, workload
 
 QUERY = '''SELECT first, last, device, first_day, last_day, tech, source FROM piece JOIN lot ON lot.id = piece.lot WHERE account = 1 AND kind = 1 ORDER BY first'''
 
@@ -46,6 +49,9 @@ def main(sizes):
             if (folder / 'ours').read_bytes() != (folder / 'theirs').read_bytes():
                 print('the two texts differ')
                 wrong = 1
+            whole, ten = (live(folder, 'statement', account, '--db', folder / 'registry') for account in (1, 3))
+            if whole and ten:
+                print(f'  live while it is written: {whole[2]:,} bytes at most in {whole[0]:,} writes; a statement of ten runs {ten[2]:,} in {ten[0]:,}', flush=True)
     return wrong
 
 

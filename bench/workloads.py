@@ -7,7 +7,7 @@ trades:       1,200,000 certificates of one lot, N transfers of random sub-range
               a cancellation for every tenth of them.
 devices:      what a registry needs before a table of N rows.
 table:        such a table as CSV: the twelve months of 2024 of each of these devices.
-runs:         certificates of one lot, every second of which goes to another account: N runs in the first account.
+runs:         certificates of one lot, every second of which goes to another account: N runs in the first account; ten of them to a third one.
 """
 import calendar
 import json
@@ -16,6 +16,8 @@ import sys
 
 ACCOUNTS = 50
 CERTIFICATES = 1_200_000
+TEN = 10
+"""Runs of the third account, whatever the others have."""
 ISSUING_BODY = 'ISSUER'
 
 
@@ -102,13 +104,13 @@ def table(rows):
 
 
 def runs(count):
-    yield from holders(2)
+    yield from holders(3)
     device = device_number(1)
     yield registration(device, 'r', 100_000_000_000)
     yield line(ISSUING_BODY, aux_wh=0, command='declare', device=device, first_day='2025-01-01', gross_wh=2 * count * 1_000_000, key='d', last_day='2025-01-31')
     for index in range(count):
         number = certificate(2 * index + 2)
-        yield line('H1', command='transfer', first=number, giver=1, key=f't{index}', last=number, taker=2)
+        yield line('H1', command='transfer', first=number, giver=1, key=f't{index}', last=number, taker=3 if index < TEN else 2)
 
 
 WORKLOADS = {'declarations': declarations, 'trades': trades, 'devices': devices, 'table': table, 'runs': runs}

@@ -4,16 +4,36 @@
 ghost use Rattle.std.specs.Prelude.{IfOk, IsTrue};
 ghost use Rattle.sqlite_std_file.specs.File.{file_is_usable};
 
-use goo_ending::Failure;
-use goo_running::closing::Left;
+use goo_cli_ending::Failure;
+use goo_cli_registry::closing::Left;
 use sqlite::{FileFrom, Files, Start};
 use sqlite_std_file::OpenError;
-use std::fs;
+use std::fs::{self, File};
 use std::hash::{BuildHasher, RandomState};
-use std::io::{self, Error, ErrorKind};
+use std::io::{self, Error, ErrorKind, Write};
 
 /// How many bytes the head of a database takes. A shorter file holds none.
 const HEAD: u64 = 100;
+
+/// How many bytes a page of a new registry has. A request changes few rows, so a small page is less to read, to check and to write.
+const PAGE: usize = 1_024;
+
+/// What the page of a database without tables begins with (SQLite, database file format): the hundred bytes of the head, and a leaf
+/// without cells. All else on the page is 0.
+const FIRST_PAGE: [u8; 108] = [
+    b'S', b'Q', b'L', b'i', b't', b'e', b' ', b'f', b'o', b'r', b'm', b'a', b't', b' ', b'3', 0,
+    // the bytes of a page; how it is written and read; none kept free; the shares of a page that a cell may take
+    4, 0, 1, 1, 0, 64, 32, 32,
+    // how often the file was changed; its pages; the first free one, and how many; the schema's version; its form
+    0, 0, 0, 1, 0, 0, 0, 1, 0, 0, 0, 0, 0, 0, 0, 0, 0, 0, 0, 1, 0, 0, 0, 4,
+    // no pages kept in memory, no pages moved, texts of UTF-8, no number of a user's, and twenty-four bytes for later
+    0, 0, 0, 0, 0, 0, 0, 0, 0, 0, 0, 1, 0, 0, 0, 0, 0, 0, 0, 0, 0, 0, 0, 0, 0, 0, 0, 0, 0, 0, 0, 0,
+    0, 0, 0, 0, 0, 0, 0, 0, 0, 0, 0, 0,
+    // the change for which the count of pages holds, and the version of SQLite that is known to read this file
+    0, 0, 0, 1, 0, 46, 99, 1,
+    // a leaf of a table: no free block, no cell, and the place where cells would begin
+    13, 0, 0, 0, 0, 4, 0, 0,
+];
 
 /// What was at a path before its files were opened.
 #[derive(Drop)]
@@ -68,9 +88,41 @@ pub fn open_new<S: Start>(rt: &HostRuntime, path: &str, start: S) -> Result<Open
             let real = fs::canonicalize(rt, path).map_err(failure_of)?;
             open_at(rt, real.as_str(), true, start)
         }
-        Err(error) if error.kind() == ErrorKind::NotFound => open_at(rt, path, false, start),
+        Err(error) if error.kind() == ErrorKind::NotFound => {
+            let had_file = match begin_database(rt, path) {
+                Ok(()) => false,
+                Err(error) => error.kind() == ErrorKind::AlreadyExists,
+            };
+            open_at(rt, path, had_file, start)
+        }
         Err(error) => Err(failure_of(error)),
     }
+}
+
+/// Makes a database of small pages at a path where nothing is: it is written whole under another name, and then gets its own, so that
+/// no crash leaves half of it.
+///
+/// # Errors
+///
+/// `AlreadyExists` where somebody else has put a file there meanwhile, which stays as it is. After any other error, as on a disk that
+/// knows no second name of a file, nothing is there, and the database is made where it is opened, with pages of the usual size.
+fn begin_database(rt: &HostRuntime, path: &str) -> io::Result<()> {
+    let seed = RandomState::new(rt)?.hash_one(&1u8);
+    let draft = format!(in rt.alloc(); "{path}-begun-{seed}")?;
+    let linked = match write_page(rt, draft.as_str()) {
+        Ok(()) => fs::hard_link(rt, draft.as_str(), path),
+        Err(error) => Err(error),
+    };
+    let _ = fs::remove_file(rt, draft.as_str());
+    linked
+}
+
+/// Writes the one page of a database without tables to a new file.
+fn write_page(rt: &HostRuntime, path: &str) -> io::Result<()> {
+    let mut file = File::create_new(rt, path)?;
+    file.write_all(&FIRST_PAGE)?;
+    file.write_all(&[0; PAGE - FIRST_PAGE.len()])?;
+    file.sync_all()
 }
 
 /// The files at this path, with a log that is made if need be.

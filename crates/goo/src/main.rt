@@ -8,19 +8,21 @@ ghost use Rattle.sqlite_std_file.specs.File.{file_is_usable};
 mod files;
 
 use crate::files::{Opened, let_go, open_kept, open_new};
-use goo_command_line::{Opening, Place, Serving, Task, read_task};
-use goo_ending::{Ending, Failure};
-use goo_running::closing::Left;
-use goo_running::creating::init_in_files;
-use goo_running::running::{run_in_files, run_in_memory};
-use goo_running_works::{
+use goo_cli::{Opening, Records, Serving, Task, read_task};
+use goo_cli_ending::{Ending, Failure};
+use goo_cli_files::{
     audit_in_files, declare_in_files, serve_in_files, serve_in_memory, statement_in_files,
 };
+use goo_cli_registry::closing::Left;
+use goo_cli_registry::creating::init_in_files;
+use goo_cli_registry::running::{run_in_files, run_in_memory};
+use goo_cli_texts::ProgressLine;
 use goo_types::account_no::AccountNo;
 use sqlite::{FileFrom, Files, Start, Unknown};
 use std::env;
-use std::io::{self, BufWriter, ErrorKind, Write};
+use std::io::{self, BufWriter, ErrorKind, IsTerminal, Write};
 use std::process::ExitCode;
+use std::rt::Stderr;
 
 fn main(rt: HostRuntime) -> ExitCode {
     let ending = perform(&rt);
@@ -60,19 +62,19 @@ fn perform_task<W: Write + Drop>(
 ) -> Ending {
     match task {
         Task::Init(path, opening) => init(rt, *path, Unknown, copy_of(opening), writer),
-        Task::Run(Place::Memory(opening)) => {
+        Task::Run(Records::Memory(opening)) => {
             run_in_memory(rt.alloc(), copy_of(opening), &mut rt.reader(), writer)
         }
-        Task::Run(Place::File(path)) => work_at(rt, *path, Unknown, &Work::Run, writer),
+        Task::Run(Records::File(path)) => work_at(rt, *path, Unknown, &Work::Run, writer),
         Task::Declare(path) => work_at(rt, *path, Unknown, &Work::Declare, writer),
         Task::Statement(path, account) => {
             work_at(rt, *path, Unknown, &Work::Statement(*account), writer)
         }
         Task::Audit(path) => work_at(rt, *path, Unknown, &Work::Audit, writer),
-        Task::Serve(Place::Memory(opening), serving) => {
+        Task::Serve(Records::Memory(opening), serving) => {
             serve_in_memory(rt, copy_of(opening), *serving, writer)
         }
-        Task::Serve(Place::File(path), serving) => {
+        Task::Serve(Records::File(path), serving) => {
             work_at(rt, *path, Unknown, &Work::Serve(*serving), writer)
         }
     }
@@ -148,6 +150,12 @@ fn work_at<S: Start, W: Write + Drop>(
     }
 }
 
+/// Standard error, where that is a terminal.
+fn terminal(rt: &HostRuntime) -> Option<Stderr> {
+    let errors = rt.stderr();
+    errors.is_terminal().then_some(errors)
+}
+
 /// Works with the registry that files hold.
 fn work_in<S: Start, W: Write + Drop>(
     rt: &HostRuntime,
@@ -162,7 +170,10 @@ fn work_in<S: Start, W: Write + Drop>(
     let alloc = rt.alloc();
     match work {
         Work::Run => run_in_files(alloc, files, seed, &mut rt.reader(), writer),
-        Work::Declare => declare_in_files(alloc, files, seed, &mut rt.reader(), writer),
+        Work::Declare => {
+            let mut line = ProgressLine::new(terminal(rt));
+            declare_in_files(alloc, files, seed, &mut rt.reader(), writer, &mut line)
+        }
         Work::Statement(account) => statement_in_files(alloc, files, seed, *account, writer),
         Work::Audit => audit_in_files(alloc, files, seed, writer),
         Work::Serve(serving) => serve_in_files(rt, files, seed, *serving, writer),

@@ -17,12 +17,12 @@ use Rattle.goo_ranges.specs.Change.{inside, moved, meets, one_if}
 use Rattle.goo_ranges.specs.Edit.{IsExact}
 use Rattle.goo_ranges.specs.declared.edits.Edit.{Edit}
 use Rattle.goo_spec.specs.Runs.{IsApart}
-use Rattle.goo_rows.specs.Plans.{IsEditWithin, AreEditsWithin}
-use Rattle.goo_rows.specs.Rows.{edited, edited_all}
-use Rattle.goo_rows.proofs.Chains.{within-of_book, within-push, edited-exact, edited_all-push}
-use Rattle.goo_rows.proofs.Framing.{absent-alike, failing-alike}
-use Rattle.goo_rows.proofs.Mapping.{get-place_each-range}
-use Rattle.goo_rows.specs.Rows.{AreRowsOf, meeting}
+use Rattle.goo_ranges_rows.specs.Plans.{IsEditWithin, AreEditsWithin}
+use Rattle.goo_ranges_rows.specs.Rows.{edited, edited_all}
+use Rattle.goo_ranges_rows.proofs.Chains.{within-of_book, within-push, edited-exact, edited_all-push}
+use Rattle.goo_ranges_rows.proofs.Framing.{absent-alike, failing-alike}
+use Rattle.goo_ranges_rows.proofs.Mapping.{get-place_each-range}
+use Rattle.goo_ranges_rows.specs.Rows.{AreRowsOf, meeting}
 use Rattle.goo_types.specs.declared.command.Withdraw.{Withdraw}
 use Rattle.goo_types.specs.declared.refusal.Refusal.TheVariants.{NotAllowed}
 use Rattle.goo_types.specs.declared.reply.Reply.TheVariants as reply
@@ -34,9 +34,9 @@ use Rattle.goo_spec.specs.Withdraw.{withdraw_refusal, withdraw_reply, with_withd
 use Rattle.goo_spec.proofs.Placing.{replaced}
 use Rattle.goo_core.specs.Moves.{IsChangeRuling}
 use Rattle.goo_core.specs.Ruling.{IsRuling, plain_meaning}
-use Rattle.goo_rulings.specs.declared.ruling.Ruling.{Ruling}
+use Rattle.goo_core_checks.specs.declared.ruling.Ruling.{Ruling}
 use Rattle.goo_core.proofs.Rulings.{ruled_change}
-use Rattle.goo_rulings.specs.Changes.{AreEditsFor}
+use Rattle.goo_core_checks.specs.Changes.{AreEditsFor}
 use Rattle.goo_core.specs.Changes.{AreMade}
 use Rattle.goo_core.specs.Withdraw.{withdrawn, run_withdrawn, runs_withdrawn, range_checks, AreCommon}
 use Rattle.goo_core.specs.AccountRuns.{account_in, account_runs}

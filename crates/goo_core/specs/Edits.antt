@@ -4,7 +4,7 @@ use Rattle.std.specs.FinMap.{get}
 use Rattle.goo_types.specs.declared.command.Command.{Command}
 use Rattle.goo_types.specs.declared.command.Command.TheVariants.{Declare, Transfer, Cancel, Withdraw, Advance, Export, Import}
 use Rattle.goo_types.specs.declared.piece.Piece.{Piece}
-use Rattle.goo_shelf.specs.Rows.{expiring_on}
+use Rattle.goo_core_shelf.specs.Rows.{expiring_on}
 use Rattle.goo_spec.specs.State.{State}
 use Rattle.goo_core.specs.AccountRuns.{account_runs}
 

@@ -1,8 +1,9 @@
+//! The decision on a request.
 ghost use Rattle.std.specs.Prelude.{◌≡◌, None};
 ghost use Rattle.std.specs.FinMap.{get};
 ghost use Rattle.goo_spec.specs.Sound.{IsSound};
-ghost use Rattle.goo_rows.specs.Rows.{AreRowsOf};
-ghost use Rattle.goo_shelf.specs.Shelf.{Looks, IsReady};
+ghost use Rattle.goo_ranges_rows.specs.Rows.{AreRowsOf};
+ghost use Rattle.goo_core_shelf.specs.Shelf.{Looks, IsReady};
 ghost use Rattle.goo_core.specs.Decision.{IsDecision, IsQuietRuling};
 ghost use Rattle.goo_core.specs.Ruling.{IsRuling, meaning_of};
 
@@ -19,17 +20,17 @@ use crate::register_device::judge_register_device;
 use crate::transfer::judge_transfer;
 use crate::verdict::Verdict;
 use crate::withdraw::judge_withdraw;
-use goo_answers::kept::kept_decision;
-use goo_rulings::decision::{Decision, decision_by};
-use goo_rulings::ruling::{Change, Ruling};
-use goo_shelf::shelf::Shelf;
+use goo_core_answers::kept::kept_decision;
+use goo_core_checks::decision::{Decision, decision_by};
+use goo_core_checks::ruling::{Change, Ruling};
+use goo_core_shelf::shelf::Shelf;
 use goo_types::command::Command;
 use goo_types::fault::Fault;
 use goo_types::holder_code::HolderCode;
 use goo_types::request::Request;
 use std::alloc::Global;
 
-/// What a command comes to that leaves the rows as they are.
+/// The ruling on a command that leaves the rows as they are.
 fn quiet(alloc: Global, verdict: Verdict) -> Ruling
     ensures { IsQuietRuling verdict result }
 {
@@ -43,7 +44,7 @@ fn quiet(alloc: Global, verdict: Verdict) -> Ruling
     }
 }
 
-/// What a command comes to, by its judge.
+/// The ruling on a command, by its judge.
 fn judge<S: Shelf>(
     alloc: Global,
     shelf: &mut S,
@@ -71,7 +72,7 @@ fn judge<S: Shelf>(
     }
 }
 
-/// What a request comes to whose key isn't kept.
+/// The decision on a request whose key isn't kept.
 fn decide_fresh<S: Shelf>(
     alloc: Global,
     shelf: &mut S,
@@ -87,13 +88,27 @@ fn decide_fresh<S: Shelf>(
     decision_by(alloc, request, ruling)
 }
 
-/// What a request comes to here. It changes nothing: an accepted one is carried out by committing
-/// its plan. A key that is kept answers first, then the command's checks in their order. A plan edits
-/// the rows once at most, but once for each run of one account that is withdrawn, for each part that
-/// is imported, and for each row that expires.
+/// Decides on a request. It changes nothing: an accepted request is carried out by committing its plan. A key that is
+/// kept answers first, then the command's checks in their order. A plan edits the rows once at most, but once for each
+/// run of one account that is withdrawn, for each part that is imported, and for each row that expires.
 ///
-/// A fault takes the place of any answer: `Store` as the shelf tells it, `Memory` where an
-/// allocation was refused. State and rows stay as they are.
+/// # Errors
+///
+/// `Store` where the shelf answers it, `Memory` where memory was refused: a fault takes the place of any answer. State
+/// and rows stay as they are.
+///
+/// # Example
+///
+/// ```rust,ignore
+/// match decide(alloc, &mut shelf, &request)? {
+///     // The change is made only here; `reply` is what the request is answered.
+///     Decision::Accept(plan, reply) => shelf.commit(alloc, &plan)?,
+///     // It was carried out before, with this reply.
+///     Decision::Repeated(reply) => {}
+///     // `refusal.name()` and `refusal.code()` say why.
+///     Decision::Refused(refusal) => {}
+/// }
+/// ```
 pub fn decide<S: Shelf>(alloc: Global, shelf: &mut S, request: &Request) -> Result<Decision, Fault>
     requires sound { (S.seen shelf.old).doubts ≡ 0 → IsSound (S.seen shelf.old).state }
     requires rows { (S.seen shelf.old).doubts ≡ 0 → AreRowsOf (S.seen shelf.old).state.at (S.seen shelf.old).rows }

@@ -1,3 +1,4 @@
+//! Declarations: their checks, and the certificates that they earn (Directive (EU) 2018/2001, Article 19(2)).
 ghost use Rattle.std.specs.Prelude.{◌≡◌, ◌+◌, ◌-◌, ◌≤◌, ◌*◌, ◌/◌, ◌%◌, ◌||◌, true, false, nat_lt};
 ghost use Rattle.goo_types.specs.declared.refusal.Refusal.TheVariants.{NumbersExhausted};
 ghost use Rattle.goo_types.specs.declared.command.Declare.{Declare};
@@ -7,26 +8,27 @@ ghost use Rattle.goo_spec.specs.Days.{is_before as before_test, are_in_one_month
 ghost use Rattle.goo_spec.specs.State.{State, serials};
 ghost use Rattle.goo_spec.specs.Declare.{device_checks, earned, lot_of as lot_def, begins_too_early as early_test, most_energy as most};
 ghost use Rattle.goo_spec.specs.Declare.{declare_refusal, declare_reply, with_issue};
-ghost use Rattle.goo_rows.specs.Rows.{AreRowsOf};
-ghost use Rattle.goo_shelf.specs.Shelf.{Looks, IsReady};
+ghost use Rattle.goo_ranges_rows.specs.Rows.{AreRowsOf};
+ghost use Rattle.goo_core_shelf.specs.Shelf.{Looks, IsReady};
 ghost use Rattle.goo_core.specs.Ruling.{IsRuling, plain_meaning};
 ghost use Rattle.goo_core.specs.Issue.{IsStandingIf, IsStanding, appraisal_of, appraisal_with, terms_of, energy_checks};
 
 use crate::issue::{Appraisal, Terms, issue_edits, issue_of, issued_range, numbers_from};
-use goo_answers::callers::is_issuer;
-use goo_rulings::days::{is_before, is_over};
-use goo_rulings::declare::{Earnings, earn};
-use goo_rulings::ruling::{Change, Ruling};
-use goo_shelf::account::Account;
-use goo_shelf::device::Device;
-use goo_shelf::found::Progress;
-use goo_shelf::own::Meta;
-use goo_shelf::shelf::Shelf;
+use goo_core_answers::callers::is_issuer;
+use goo_core_checks::days::{is_before, is_over};
+use goo_core_checks::declare::{Earnings, earn};
+use goo_core_checks::ruling::{Change, Ruling};
+use goo_core_shelf::account::Account;
+use goo_core_shelf::device::Device;
+use goo_core_shelf::found::Progress;
+use goo_core_shelf::own::Meta;
+use goo_core_shelf::shelf::Shelf;
 use goo_types::command::Declare;
 use goo_types::day::Day;
 use goo_types::fault::Fault;
 use goo_types::gsrn::Gsrn;
 use goo_types::holder_code::HolderCode;
+use goo_types::limits::SERIALS;
 use goo_types::lot::Lot;
 use goo_types::refusal::Refusal;
 use goo_types::reply::Reply;
@@ -44,9 +46,6 @@ pub struct Standing {
     /// What the registry knows of itself.
     pub meta: Meta,
 }
-
-/// The serials of one registry, with zero.
-const SERIALS: u64 = 1_000_000_000_000;
 
 /// Whether an account is there and closed.
 fn is_shut(account: Option<Account>) -> bool
@@ -116,7 +115,8 @@ fn read_standing<S: Shelf>(shelf: &mut S, device: &Gsrn) -> Result<Option<Standi
     }))
 }
 
-/// What a declaration earns: a certificate for each whole MWh of the net energy with the carry.
+/// What a declaration earns: a certificate for each whole MWh of the net energy with the carry (Directive (EU) 2018/2001,
+/// Article 19(2)).
 #[tactic(auto, using(goo_spec::proofs::Balancing::earned_from_carry, goo_spec::proofs::Balancing::carry_from_carry))]
 fn settle(declaration: &Declare, standing: &Standing, lot: &Lot) -> Appraisal
     requires { declaration.now.aux ≤ declaration.now.gross }
@@ -134,7 +134,7 @@ fn settle(declaration: &Declare, standing: &Standing, lot: &Lot) -> Appraisal
     })
 }
 
-/// What the checks of a declaration against its device's earlier ones and its capacity come to.
+/// The appraisal of a declaration, by the checks against its device's earlier ones and its capacity.
 #[tactic(auto, unfolding(goo_spec::specs::Days::is_over))]
 fn appraise_energy(declaration: &Declare, standing: &Standing, lot: &Lot) -> Appraisal
     requires { before_test declaration.now.last_day declaration.now.first_day ≡ false }
@@ -156,7 +156,7 @@ fn appraise_energy(declaration: &Declare, standing: &Standing, lot: &Lot) -> App
     settle(declaration, standing, lot)
 }
 
-/// What the checks of a declaration that ask for its device come to.
+/// The appraisal of a declaration, by the checks that ask for its device.
 fn appraise_standing(declaration: &Declare, standing: &Standing) -> Appraisal
     ensures { (s : State) → IsStanding s declaration.now.device standing.now → result ≡ appraisal_with (first_refusal (device_checks s declaration.now standing.now.device)) (terms_of s declaration.now standing.now.device) }
 {
@@ -178,7 +178,11 @@ fn appraise_standing(declaration: &Declare, standing: &Standing) -> Appraisal
     appraise_energy(declaration, standing, &lot)
 }
 
-/// What the checks of a declaration come to.
+/// The appraisal of a declaration, by all its checks.
+///
+/// # Errors
+///
+/// `Store` where the shelf answers it, `Memory` where memory was refused. State and rows stay as they are.
 #[tactic(auto, unfolding(crate::specs::Issue::appraisal_of))]
 pub fn appraise<S: Shelf>(
     shelf: &mut S,
@@ -197,7 +201,11 @@ pub fn appraise<S: Shelf>(
     }
 }
 
-/// What a declaration comes to.
+/// The ruling on a declaration.
+///
+/// # Errors
+///
+/// `Store` where the shelf answers it, `Memory` where memory was refused. State and rows stay as they are.
 pub fn judge_declare<S: Shelf>(
     alloc: Global,
     shelf: &mut S,

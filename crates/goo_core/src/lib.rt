@@ -1,4 +1,7 @@
-//! Decisions over any shelf.
+//! Decisions over any shelf: [`decide`] decides on a request and changes nothing.
+//!
+//! What keeps a registry is a [`Shelf`]; [`ListShelf`] is one of plain lists. A [`Decision`] that accepts a request hands out the
+//! [`Plan`] of its change, which the shelf commits.
 #![tactic(auto)]
 
 mod add_peer;
@@ -21,3 +24,15 @@ mod taking;
 mod transfer;
 mod verdict;
 mod withdraw;
+
+pub use decision::decide;
+pub use goo_core_checks::decision::Decision;
+pub use goo_core_list::list_shelf::ListShelf;
+pub use goo_core_shelf::account::Account;
+pub use goo_core_shelf::cancel_record::CancelRecord;
+pub use goo_core_shelf::counters::Counters;
+pub use goo_core_shelf::device::Device;
+pub use goo_core_shelf::found::{Arrival, DeviceTotals, Progress, Receipt};
+pub use goo_core_shelf::plan::Plan;
+pub use goo_core_shelf::sent::Sent;
+pub use goo_core_shelf::shelf::Shelf;

@@ -1,3 +1,4 @@
+//! Withdrawals: their checks, and the certificates that they take back.
 ghost use Rattle.std.specs.Prelude.{◌≡◌, ℕ, ◌+◌, ◌≤◌, None, List, length, count_by, Option, IfOk, IfErr, OnOk};
 ghost use Rattle.std.specs.FinMap.{get};
 ghost use Rattle.goo_types.specs.Piece.{Label, at_of, IsForward, IsRising};
@@ -8,10 +9,10 @@ ghost use Rattle.goo_spec.specs.Checks.{first_refusal};
 ghost use Rattle.goo_spec.specs.Maps.{count_of};
 ghost use Rattle.goo_spec.specs.Withdraw.{withdraw_refusal, withdraw_reply, with_withdrawal};
 ghost use Rattle.goo_ranges.specs.Change.{meets, one_if};
-ghost use Rattle.goo_rows.specs.Rows.{AreRowsOf};
-ghost use Rattle.goo_shelf.specs.Shelf.{Looks, IsReady};
+ghost use Rattle.goo_ranges_rows.specs.Rows.{AreRowsOf};
+ghost use Rattle.goo_core_shelf.specs.Shelf.{Looks, IsReady};
 ghost use Rattle.goo_core.specs.AccountRuns.{account_runs};
-ghost use Rattle.goo_rulings.specs.Changes.{AreEditsFor};
+ghost use Rattle.goo_core_checks.specs.Changes.{AreEditsFor};
 ghost use Rattle.goo_core.specs.Changes.{AreMade};
 ghost use Rattle.goo_core.specs.Moves.{IsChangeRuling};
 ghost use Rattle.goo_core.specs.Ruling.{IsRuling, plain_meaning};
@@ -19,11 +20,11 @@ ghost use Rattle.goo_core.specs.Withdraw.{range_checks, withdrawn, run_withdrawn
 
 use crate::change::push_edit;
 use crate::range_checks::least_not_held;
-use goo_answers::callers::is_issuer;
+use goo_core_answers::callers::is_issuer;
+use goo_core_checks::ruling::{Change, Ruling};
+use goo_core_shelf::counters::Counters;
+use goo_core_shelf::shelf::Shelf;
 use goo_ranges::{Book, Edit};
-use goo_rulings::ruling::{Change, Ruling};
-use goo_shelf::counters::Counters;
-use goo_shelf::shelf::Shelf;
 use goo_types::act_no::ActNo;
 use goo_types::command::Withdraw;
 use goo_types::fault::Fault;
@@ -101,7 +102,7 @@ fn withdraw_met(alloc: Global, mut book: Book, range: Range, act: ActNo) -> Resu
     withdraw_runs(alloc, &runs, &mut book, range, act)
 }
 
-/// What a withdrawal comes to on the rows that its range meets.
+/// The ruling on a withdrawal, from the rows that its range meets.
 fn withdraw_certificates(
     alloc: Global,
     met: Vec<Piece>,
@@ -134,7 +135,11 @@ fn withdraw_certificates(
     }))
 }
 
-/// What a withdrawal comes to.
+/// The ruling on a withdrawal.
+///
+/// # Errors
+///
+/// `Store` where the shelf answers it, `Memory` where memory was refused. State and rows stay as they are.
 #[tactic(auto, unfolding(goo_spec::specs::Withdraw::withdraw_refusal))]
 pub fn judge_withdraw<S: Shelf>(
     alloc: Global,

@@ -7,11 +7,11 @@
 
 mod law;
 
-pub use goo_body::{BodyFault, read_command};
 pub use goo_desk_answers::answer;
+pub use goo_desk_body::{BodyFault, read_command};
 pub use goo_desk_connection::{ServeFault, Served, serve_one};
 pub use goo_desk_counter::Counter;
+pub use goo_desk_lines::{LinesFault, Tally, run_lines};
 pub use goo_desk_responses::Status;
 pub use goo_desk_server::{ServerFault, serve, serve_stream};
-pub use goo_lines::{LinesFault, Tally, run_lines};
 pub use law::one_response;

@@ -5,11 +5,11 @@ use Rattle.goo_types.specs.declared.outcome.Outcome.TheVariants.{Accepted, Repea
 use Rattle.goo_types.specs.declared.refusal.Refusal.{Refusal}
 use Rattle.goo_types.specs.declared.refusal.Refusal.TheVariants.{NotAllowed}
 use Rattle.goo_spec.specs.State.{State}
-use Rattle.goo_body.specs.Body.{body_of}
-use Rattle.goo_lines.specs.Answers.{answer_by, state_by, answer_text}
-use Rattle.goo_lines.specs.Lines.{body_reading}
-use Rattle.goo_lines.specs.declared.answer.Answer.{Answer}
-use Rattle.goo_lines.specs.declared.answer.Answer.TheVariants as answer
+use Rattle.goo_desk_body.specs.Body.{body_of}
+use Rattle.goo_desk_lines.specs.Answers.{answer_by, state_by, answer_text}
+use Rattle.goo_desk_lines.specs.Lines.{body_reading}
+use Rattle.goo_desk_lines.specs.declared.answer.Answer.{Answer}
+use Rattle.goo_desk_lines.specs.declared.answer.Answer.TheVariants as answer
 use Rattle.goo_desk_heads.specs.Requests.{Decides, Parts, is_for_head}
 use Rattle.goo_desk_heads.specs.declared.refusal.Refusal.{Refusal as HeadRefusal}
 use Rattle.goo_desk_heads.specs.declared.refusal.Refusal.TheVariants as head
@@ -25,8 +25,8 @@ use Rattle.goo_desk_routes.specs.declared.task.Task.{Task}
 use Rattle.goo_desk_routes.specs.declared.task.Task.TheVariants.{Apply, Import, Show}
 use Rattle.goo_desk_counter.specs.Counters.{Showing, Importing, Beginning}
 use Rattle.goo_desk_answers.specs.Handling.{handling_of}
-use Rattle.goo_answers.specs.declared.denial.Denial.{Denial}
-use Rattle.goo_answers.specs.declared.denial.Denial.TheVariants as denial
+use Rattle.goo_core_answers.specs.declared.denial.Denial.{Denial}
+use Rattle.goo_core_answers.specs.declared.denial.Denial.TheVariants as denial
 use Rattle.goo_desk_answers.specs.declared.handling.Handling.{Handling}
 use Rattle.goo_desk_answers.specs.declared.handling.Handling.TheVariants.{Fixed, Own}
 

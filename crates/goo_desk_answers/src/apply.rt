@@ -1,18 +1,18 @@
 //! A request that is applied.
 ghost use Rattle.std.specs.Prelude.{◌≡◌, ◌≤◌, [], IfOk, OnOk, OnErr, length, vec_len, vec_capacity};
-ghost use Rattle.goo_body.specs.Body.{body_of};
-ghost use Rattle.goo_lines.specs.Lines.{body_reading};
-ghost use Rattle.goo_lines.specs.Reading.{Reads};
-ghost use Rattle.goo_shelf.specs.Shelf.{IsTold};
+ghost use Rattle.goo_desk_body.specs.Body.{body_of};
+ghost use Rattle.goo_desk_lines.specs.Lines.{body_reading};
+ghost use Rattle.goo_desk_lines.specs.Reading.{Reads};
+ghost use Rattle.goo_core_shelf.specs.Shelf.{IsTold};
 ghost use Rattle.goo_desk_answers.specs.Responds.{Does, applied, state_applied, status_of_refusal, status_of_outcome, status_of_answer};
 ghost use Rattle.goo_desk_routes.specs.declared.task.Task.TheVariants.{Apply};
 
 use crate::answered::Answer;
 use arrayvec::ArrayString;
-use goo_body::read_command;
+use goo_desk_body::read_command;
 use goo_desk_counter::Counter;
+use goo_desk_lines::{Answer as Given, Unread};
 use goo_desk_responses::{Content, ROOM, Status, short_response};
-use goo_lines::{Answer as Given, Unread};
 use goo_types::fault::Fault;
 use goo_types::holder_code::HolderCode;
 use goo_types::outcome::Outcome;
@@ -69,6 +69,7 @@ fn apply_body<D: Counter>(
     ensures given { (D.seen desk.new).lies ≡ 0 → IfOk result (λ given. given ≡ applied (D.seen desk.old).state caller.now body.now) }
     ensures state { (D.seen desk.new).lies ≡ 0 → OnOk result ((D.seen desk.new).state ≡ state_applied (D.seen desk.old).state caller.now body.now) }
     ensures unchanged { (D.seen desk.new).doubts ≡ 0 → OnErr result ((D.seen desk.new).state ≡ (D.seen desk.old).state) }
+    ensures doubted { (D.seen desk.new).doubts ≡ 0 → (D.seen desk.old).doubts ≡ 0 }
     ensures lied { (D.seen desk.new).lies ≡ 0 → (D.seen desk.old).lies ≡ 0 }
     ensures told { (D.seen desk.old).refusals ≡ 0 → IsTold result (D.seen desk.new).refusals }
 {
@@ -101,6 +102,7 @@ pub(crate) fn answer_apply<D: Counter>(
 ) -> Result<Answer, Fault>
     ensures answered { (D.seen desk.new).lies ≡ 0 → IfOk result (λ answer. Does D.shows D.imports (D.seen desk.old).state caller.now body.now Apply answer.status answer.bytes.items (D.seen desk.new).state) }
     ensures unchanged { (D.seen desk.new).doubts ≡ 0 → OnErr result ((D.seen desk.new).state ≡ (D.seen desk.old).state) }
+    ensures doubted { (D.seen desk.new).doubts ≡ 0 → (D.seen desk.old).doubts ≡ 0 }
     ensures lied { (D.seen desk.new).lies ≡ 0 → (D.seen desk.old).lies ≡ 0 }
     ensures told { (D.seen desk.old).refusals ≡ 0 → IsTold result (D.seen desk.new).refusals }
 {

@@ -2,7 +2,7 @@
 ghost use Rattle.std.specs.Prelude.{◌≡◌, ◌⊎◌, IfOk, OnErr};
 ghost use Rattle.goo_desk_heads.specs.Requests.{seen as parts_seen, parts_of};
 ghost use Rattle.goo_desk_responses.specs.Responses.{response_text, fixed};
-ghost use Rattle.goo_shelf.specs.Shelf.{IsTold};
+ghost use Rattle.goo_core_shelf.specs.Shelf.{IsTold};
 ghost use Rattle.goo_desk_answers.specs.Responds.{Does, Handles, RespondsTo, Responds, Stops, StopsIn, StopsAt, Fails, status_of_head};
 
 use crate::answered::Answer;
@@ -53,7 +53,8 @@ fn answer_task<D: Counter>(
     task: Task,
 ) -> Result<Answer, Fault>
     ensures answered { (D.seen desk.new).lies ≡ 0 → IfOk result (λ answer. Does D.shows D.imports (D.seen desk.old).state caller.now body.now task answer.status answer.bytes.items (D.seen desk.new).state) }
-    ensures stopped { (D.seen desk.new).lies ≡ 0 → (D.seen desk.new).doubts ≡ 0 → OnErr result (Stops D.imports D.begins (D.seen desk.old).state caller.now body.now task (D.seen desk.new).state) }
+    ensures stopped { (D.seen desk.new).doubts ≡ 0 → OnErr result (Stops D.imports D.begins (D.seen desk.old).state caller.now body.now task (D.seen desk.new).state) }
+    ensures doubted { (D.seen desk.new).doubts ≡ 0 → (D.seen desk.old).doubts ≡ 0 }
     ensures lied { (D.seen desk.new).lies ≡ 0 → (D.seen desk.old).lies ≡ 0 }
     ensures told { (D.seen desk.old).refusals ≡ 0 → IsTold result (D.seen desk.new).refusals }
 {
@@ -72,7 +73,8 @@ fn answer_handled<D: Counter>(
     handling: Handling,
 ) -> Result<Answer, Fault>
     ensures answered { (D.seen desk.new).lies ≡ 0 → IfOk result (λ answer. Handles D.shows D.imports (D.seen desk.old).state (parts_of request.now) handling answer.status answer.bytes.items (D.seen desk.new).state) }
-    ensures stopped { (D.seen desk.new).lies ≡ 0 → (D.seen desk.new).doubts ≡ 0 → OnErr result (StopsIn D.imports D.begins (D.seen desk.old).state (parts_of request.now) handling (D.seen desk.new).state) }
+    ensures stopped { (D.seen desk.new).doubts ≡ 0 → OnErr result (StopsIn D.imports D.begins (D.seen desk.old).state (parts_of request.now) handling (D.seen desk.new).state) }
+    ensures doubted { (D.seen desk.new).doubts ≡ 0 → (D.seen desk.old).doubts ≡ 0 }
     ensures lied { (D.seen desk.new).lies ≡ 0 → (D.seen desk.old).lies ≡ 0 }
     ensures told { (D.seen desk.old).refusals ≡ 0 → IsTold result (D.seen desk.new).refusals }
 {
@@ -91,7 +93,8 @@ fn answer_request<D: Counter>(
     request: &Result<Received<'_>, RefusedHead>,
 ) -> Result<Answer, Fault>
     ensures answered { (D.seen desk.new).lies ≡ 0 → IfOk result (λ answer. RespondsTo D.shows D.imports (D.seen desk.old).state (parts_seen request.now) answer.status answer.bytes.items (D.seen desk.new).state) }
-    ensures stopped { (D.seen desk.new).lies ≡ 0 → (D.seen desk.new).doubts ≡ 0 → OnErr result (StopsAt D.imports D.begins (D.seen desk.old).state (parts_seen request.now) (D.seen desk.new).state) }
+    ensures stopped { (D.seen desk.new).doubts ≡ 0 → OnErr result (StopsAt D.imports D.begins (D.seen desk.old).state (parts_seen request.now) (D.seen desk.new).state) }
+    ensures doubted { (D.seen desk.new).doubts ≡ 0 → (D.seen desk.old).doubts ≡ 0 }
     ensures lied { (D.seen desk.new).lies ≡ 0 → (D.seen desk.old).lies ≡ 0 }
     ensures told { (D.seen desk.old).refusals ≡ 0 → IsTold result (D.seen desk.new).refusals }
 {
@@ -115,7 +118,8 @@ fn answer_request<D: Counter>(
 /// declarations: the rows before the fault stand, and the file is to be sent again.
 pub fn answer<D: Counter>(alloc: Global, desk: &mut D, bytes: &[u8]) -> Result<Answer, Fault>
     ensures answered { (D.seen desk.new).lies ≡ 0 → IfOk result (λ answer. Responds D.shows D.imports (D.seen desk.old).state bytes.now answer.status answer.bytes.items (D.seen desk.new).state) }
-    ensures stopped { (D.seen desk.new).lies ≡ 0 → (D.seen desk.new).doubts ≡ 0 → OnErr result (Fails D.imports D.begins (D.seen desk.old).state bytes.now (D.seen desk.new).state) }
+    ensures stopped { (D.seen desk.new).doubts ≡ 0 → OnErr result (Fails D.imports D.begins (D.seen desk.old).state bytes.now (D.seen desk.new).state) }
+    ensures doubted { (D.seen desk.new).doubts ≡ 0 → (D.seen desk.old).doubts ≡ 0 }
     ensures lied { (D.seen desk.new).lies ≡ 0 → (D.seen desk.old).lies ≡ 0 }
     ensures told { (D.seen desk.old).refusals ≡ 0 → IsTold result (D.seen desk.new).refusals }
 {

@@ -1,7 +1,7 @@
 //! An import of declarations.
 ghost use Rattle.std.specs.Prelude.{◌≡◌, IfOk, OnErr};
 ghost use Rattle.goo_desk_counter.specs.Counters.{report_of};
-ghost use Rattle.goo_shelf.specs.Shelf.{IsTold};
+ghost use Rattle.goo_core_shelf.specs.Shelf.{IsTold};
 ghost use Rattle.goo_desk_answers.specs.Responds.{Does, Stopped, IsGiven, import_response};
 ghost use Rattle.goo_desk_routes.specs.declared.task.Task.TheVariants.{Import};
 
@@ -37,7 +37,8 @@ pub(crate) fn answer_import<D: Counter>(
     body: &[u8],
 ) -> Result<Answer, Fault>
     ensures answered { (D.seen desk.new).lies ≡ 0 → IfOk result (λ answer. Does D.shows D.imports (D.seen desk.old).state caller.now body.now Import answer.status answer.bytes.items (D.seen desk.new).state) }
-    ensures stopped { (D.seen desk.new).lies ≡ 0 → (D.seen desk.new).doubts ≡ 0 → OnErr result (Stopped D.imports D.begins (D.seen desk.old).state caller.now body.now (D.seen desk.new).state) }
+    ensures stopped { (D.seen desk.new).doubts ≡ 0 → OnErr result (Stopped D.imports D.begins (D.seen desk.old).state caller.now body.now (D.seen desk.new).state) }
+    ensures doubted { (D.seen desk.new).doubts ≡ 0 → (D.seen desk.old).doubts ≡ 0 }
     ensures lied { (D.seen desk.new).lies ≡ 0 → (D.seen desk.old).lies ≡ 0 }
     ensures told { (D.seen desk.old).refusals ≡ 0 → IsTold result (D.seen desk.new).refusals }
 {

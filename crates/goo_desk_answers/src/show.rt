@@ -1,13 +1,13 @@
 //! What is shown.
 ghost use Rattle.std.specs.Prelude.{◌≡◌, IfOk, OnErr};
 ghost use Rattle.goo_desk_counter.specs.Counters.{text_shown};
-ghost use Rattle.goo_shelf.specs.Shelf.{IsTold};
+ghost use Rattle.goo_core_shelf.specs.Shelf.{IsTold};
 ghost use Rattle.goo_desk_answers.specs.Responds.{Does, IsGiven, content_of as content_stated, status_of_denial, show_response};
 ghost use Rattle.goo_desk_routes.specs.declared.task.Task.TheVariants.{Show};
 
 use crate::answered::Answer;
 use crate::desk::answer_fixed;
-use goo_answers::denial::Denial;
+use goo_core_answers::denial::Denial;
 use goo_desk_counter::{Counter, Shown};
 use goo_desk_responses::{Content, Status, long_response};
 use goo_desk_routes::Subject;
@@ -61,6 +61,7 @@ pub(crate) fn answer_show<D: Counter>(
 ) -> Result<Answer, Fault>
     ensures answered { (D.seen desk.new).lies ≡ 0 → IfOk result (λ answer. Does D.shows D.imports (D.seen desk.old).state caller.now body.now (Show subject) answer.status answer.bytes.items (D.seen desk.new).state) }
     ensures unchanged { (D.seen desk.new).doubts ≡ 0 → OnErr result ((D.seen desk.new).state ≡ (D.seen desk.old).state) }
+    ensures doubted { (D.seen desk.new).doubts ≡ 0 → (D.seen desk.old).doubts ≡ 0 }
     ensures lied { (D.seen desk.new).lies ≡ 0 → (D.seen desk.old).lies ≡ 0 }
     ensures told { (D.seen desk.old).refusals ≡ 0 → IsTold result (D.seen desk.new).refusals }
 {

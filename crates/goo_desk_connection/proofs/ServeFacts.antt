@@ -2,8 +2,8 @@
 use Rattle.std.proofs.Common.{◌≡◌, ℕ, List, [], Option, Some, None, Result, Ok, Err, IfErr, IfOk, IfSome, OnOk, OnErr, refl, inl, inr}
 use Rattle.std.proofs.lemmas.List.{append-nil}
 use Rattle.std.specs.Io.KnownBytes.{Appends, Consumes, IsAtEnd}
-use Rattle.goo_streams.specs.Streams.{AppendsPrefix}
-use Rattle.goo_streams.proofs.AppendsFacts.{prefix-whole}
+use Rattle.goo_files_streams.specs.Streams.{AppendsPrefix}
+use Rattle.goo_files_streams.proofs.AppendsFacts.{prefix-whole}
 use Rattle.goo_spec.specs.State.{State}
 use Rattle.goo_registry_desk.specs.Desk.{Seen}
 use Rattle.goo_desk_heads.specs.Requests.{IsSure}
@@ -13,7 +13,7 @@ use Rattle.goo_desk_counter.specs.Counters.{Showing, Importing, Beginning}
 use Rattle.goo_desk_answers.specs.Responds.{Responds, Fails}
 use Rattle.goo_desk_connection.specs.declared.sending.Served.{Served}
 use Rattle.goo_desk_connection.specs.Reading.{StandsFor}
-use Rattle.goo_desk_connection.specs.Serving.{IsApology, IsServed, Sends, SendsPart, SendsExcuse}
+use Rattle.goo_desk_connection.specs.Serving.{Connects, IsApology, IsServed, Leaves, Sends, SendsPart, SendsExcuse}
 
 pub on-any-err : {T E : Type 0} (r : Result T E) (P : E → Type 0) → ((e : E) → P e) → IfErr r P
 on-any-err (Ok x) P p = tt
@@ -38,20 +38,34 @@ read-nothing (Some input) (Some rest) None bytes taken more = absurd more
 read-nothing (Some input) (Some rest) (Some left) bytes taken more = rw more at taken
 
 module _ (shows : Showing) (imports : Importing) (begins : Beginning) where
+  pub answered-leaves : (s : State) (bytes : List ℕ) (status : Status) (text : List ℕ) (new : Seen)
+      → (new.lies ≡ 0 → Responds shows imports s bytes status text new.state) → Leaves shows imports begins s bytes new
+  answered-leaves s bytes status text new response = (status, text, inl (record { response = response }))
+
+  pub excused-leaves : (s : State) (bytes text : List ℕ) (new : Seen)
+      → IsApology bytes text → (new.doubts ≡ 0 → Fails imports begins s bytes new.state) → Leaves shows imports begins s bytes new
+  excused-leaves s bytes text new apology state = (Unavailable, text, inr (record { unavailable = refl; text_is = apology; state = state }))
+
+  pub bytes-connect : (bytes : List ℕ) (old new : Seen) → Leaves shows imports begins old.state bytes new → (new.doubts ≡ 0 → old.doubts ≡ 0) → (new.lies ≡ 0 → old.lies ≡ 0) → Connects shows imports begins old new
+  bytes-connect bytes old new leaves doubted lied = record { leaves = inr (bytes, leaves); doubted = doubted; lied = lied }
+
+  pub none-connect : (seen : Seen) → Connects shows imports begins seen seen
+  none-connect seen = record { leaves = inl refl; doubted = λ none. none; lied = λ none. none }
+
   pub part-answered : (s : State) (bytes : List ℕ) (status : Status) (text : List ℕ) (new : Seen) (had has : Option (List ℕ))
       → (new.lies ≡ 0 → Responds shows imports s bytes status text new.state) → AppendsPrefix had has text → SendsPart shows imports begins s bytes new had has
   part-answered s bytes status text new had has response prefix = (status, text, inl (record { response = response }), prefix)
 
   pub part-excused : (s : State) (bytes text : List ℕ) (new : Seen) (had has : Option (List ℕ))
-      → IsApology bytes text → (new.lies ≡ 0 → new.doubts ≡ 0 → Fails imports begins s bytes new.state) → AppendsPrefix had has text → SendsPart shows imports begins s bytes new had has
+      → IsApology bytes text → (new.doubts ≡ 0 → Fails imports begins s bytes new.state) → AppendsPrefix had has text → SendsPart shows imports begins s bytes new had has
   part-excused s bytes text new had has apology state prefix = (Unavailable, text, inr (record { unavailable = refl; text_is = apology; state = state }), prefix)
 
   pub all-excused : (s : State) (bytes text : List ℕ) (new : Seen) (had has : Option (List ℕ))
-      → IsApology bytes text → (new.lies ≡ 0 → new.doubts ≡ 0 → Fails imports begins s bytes new.state) → Appends had has text → Sends shows imports begins s bytes Unavailable new had has
+      → IsApology bytes text → (new.doubts ≡ 0 → Fails imports begins s bytes new.state) → Appends had has text → Sends shows imports begins s bytes Unavailable new had has
   all-excused s bytes text new had has apology state written = (text, inr (record { unavailable = refl; text_is = apology; state = state }), written)
 
   pub excuse-sent : {E : Type 0} (r : Result (Unit {0}) E) (s : State) (bytes text : List ℕ) (new : Seen) (had has : Option (List ℕ))
-      → IsApology bytes text → (new.lies ≡ 0 → new.doubts ≡ 0 → Fails imports begins s bytes new.state) → OnOk r (Appends had has text) → OnErr r (AppendsPrefix had has text) → SendsExcuse shows imports begins s bytes new had has
+      → IsApology bytes text → (new.doubts ≡ 0 → Fails imports begins s bytes new.state) → OnOk r (Appends had has text) → OnErr r (AppendsPrefix had has text) → SendsExcuse shows imports begins s bytes new had has
   excuse-sent (Ok u) s bytes text new had has apology state written prefix = (text, record { unavailable = refl; text_is = apology; state = state }, prefix-whole had has text written)
   excuse-sent (Err e) s bytes text new had has apology state written prefix = (text, record { unavailable = refl; text_is = apology; state = state }, prefix)
 
@@ -60,7 +74,7 @@ module _ (shows : Showing) (imports : Importing) (begins : Beginning) where
   served-stands s bytes input status text new stands (inr excused) = inr (record {
     unavailable = excused.unavailable;
     text_is = let (d, decides, is) = excused.text_is in (d, stands d decides, is);
-    state = λ honest fine. let (d, decides, stops) = excused.state honest fine in (d, stands d decides, stops);
+    state = λ fine. let (d, decides, stops) = excused.state fine in (d, stands d decides, stops);
   })
 
   pub sends-stands : {E : Type 0} (r : Result Served E) (known : Option (List ℕ)) (s : State) (bytes : List ℕ) (new : Seen) (had has : Option (List ℕ)) → StandsFor known bytes
@@ -85,7 +99,7 @@ module _ (shows : Showing) (imports : Importing) (begins : Beginning) where
         record {
           unavailable = excused.unavailable;
           text_is = let (d, decides, is_text) = excused.text_is in (d, stands d decides, is_text);
-          state = λ honest fine. let (d, decides, stops) = excused.state honest fine in (d, stands d decides, stops);
+          state = λ fine. let (d, decides, stops) = excused.state fine in (d, stands d decides, stops);
         },
         wrote,
       )

@@ -1,7 +1,7 @@
 -- What a connection is sent, and the state that this leaves.
 use Rattle.std.specs.Prelude.{◌≡◌, ◌⊎◌, ℕ, Bool, List, None, Option, Result, Ok, Err}
 use Rattle.std.specs.Io.KnownBytes.{Appends}
-use Rattle.goo_streams.specs.Streams.{AppendsPrefix}
+use Rattle.goo_files_streams.specs.Streams.{AppendsPrefix}
 use Rattle.goo_spec.specs.State.{State}
 use Rattle.goo_registry_desk.specs.Desk.{Seen}
 use Rattle.goo_desk_heads.specs.Requests.{Decides, Parts, is_for_head}
@@ -30,10 +30,20 @@ module _ (shows : Showing) (imports : Importing) (begins : Beginning) where
   pub record IsExcused (s : State) (bytes : List ℕ) (status : Status) (text : List ℕ) (new : Seen) : Type 0 where
     pub unavailable : status ≡ Unavailable
     pub text_is : IsApology bytes text
-    pub state : new.lies ≡ 0 → new.doubts ≡ 0 → Fails imports begins s bytes new.state
+    pub state : new.doubts ≡ 0 → Fails imports begins s bytes new.state
 
   abbrev pub IsServed : State → List ℕ → Status → List ℕ → Seen → Type 0
   IsServed s bytes status text new = IsAnswered s bytes status text new ⊎ IsExcused s bytes status text new
+
+  -- what answering these bytes leaves, whether or not the answer is sent
+  abbrev pub Leaves : State → List ℕ → Seen → Type 0
+  Leaves s bytes new = (status : Status) × (text : List ℕ) × IsServed s bytes status text new
+
+  -- What a connection leaves, whatever its client does: all as it was, or what answering some bytes leaves. No doubt and no lie is forgotten.
+  pub record Connects (old new : Seen) : Type 0 where
+    pub leaves : (new ≡ old) ⊎ ((bytes : List ℕ) × Leaves old.state bytes new)
+    pub doubted : new.doubts ≡ 0 → old.doubts ≡ 0
+    pub lied : new.lies ≡ 0 → old.lies ≡ 0
 
   -- all of what is answered was written
   abbrev pub Sends : State → List ℕ → Status → Seen → Option (List ℕ) → Option (List ℕ) → Type 0

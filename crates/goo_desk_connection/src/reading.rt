@@ -3,7 +3,7 @@ ghost use Rattle.std.specs.Prelude.{◌≡◌, IfOk};
 ghost use Rattle.goo_desk_connection.specs.Reading.{StandsFor};
 
 use goo_desk_heads::is_decided;
-use goo_streams::{ReadFault, read_some};
+use goo_files_streams::{ReadFault, read_some};
 use std::alloc::Global;
 use std::io::Read;
 

@@ -2,7 +2,7 @@ ghost use Rattle.std.specs.Prelude.{◌≡◌};
 ghost use Rattle.goo_desk_connection.specs.Faults.{of_reading};
 ghost use Rattle.goo_desk_connection.specs.declared.serve_fault.ServeFault.TheVariants.{Write};
 
-use goo_streams::{ReadFault, WriteFault};
+use goo_files_streams::{ReadFault, WriteFault};
 
 /// Why a connection was not served.
 #[derive(Debug, Clone, Copy, PartialEq, Eq)]

@@ -1,7 +1,7 @@
 //! Serving one connection.
 ghost use Rattle.std.specs.Prelude.{◌≡◌, IfOk, IfErr, IfSome};
 ghost use Rattle.std.specs.Io.KnownBytes.{Keeps};
-ghost use Rattle.goo_desk_connection.specs.Serving.{Sends, SendsPart, SendsExcuse};
+ghost use Rattle.goo_desk_connection.specs.Serving.{Connects, Leaves, Sends, SendsPart, SendsExcuse};
 ghost use Rattle.goo_desk_connection.specs.Faults.{IsAfterReading, IsBeforeAnswer, IsToldIn};
 ghost use Rattle.goo_desk_connection.specs.declared.serve_fault.ServeFault.TheVariants.{Write as Writing, Store};
 
@@ -11,7 +11,7 @@ use crate::serve_fault::ServeFault;
 use goo_desk_answers::answer;
 use goo_desk_counter::Counter;
 use goo_desk_responses::Status;
-use goo_streams::write_whole;
+use goo_files_streams::write_whole;
 use goo_types::fault::Fault;
 use std::alloc::Global;
 use std::io::{Read, Write};
@@ -26,7 +26,9 @@ fn serve_bytes<D: Counter, W: Write>(
     ensures served { IfOk result (λ served. Sends D.shows D.imports D.begins (D.seen desk.old).state bytes.now served.status (D.seen desk.new) (W.contents writer.old) (W.contents writer.new)) }
     ensures part { IfErr result (λ fault. fault ≡ Writing → SendsPart D.shows D.imports D.begins (D.seen desk.old).state bytes.now (D.seen desk.new) (W.contents writer.old) (W.contents writer.new)) }
     ensures excuse { IfErr result (λ fault. fault ≡ Store → SendsExcuse D.shows D.imports D.begins (D.seen desk.old).state bytes.now (D.seen desk.new) (W.contents writer.old) (W.contents writer.new)) }
+    ensures leaves { Leaves D.shows D.imports D.begins (D.seen desk.old).state bytes.now (D.seen desk.new) }
     ensures kinds { IfErr result IsAfterReading }
+    ensures doubted { (D.seen desk.new).doubts ≡ 0 → (D.seen desk.old).doubts ≡ 0 }
     ensures lied { (D.seen desk.new).lies ≡ 0 → (D.seen desk.old).lies ≡ 0 }
     ensures told { (D.seen desk.old).refusals ≡ 0 → IsToldIn result (D.seen desk.new).refusals }
 {
@@ -66,6 +68,7 @@ pub fn serve_one<D: Counter, R: Read, W: Write>(
     ensures served { IfSome (R.remaining reader.old) (λ input. IfOk result (λ served. Sends D.shows D.imports D.begins (D.seen desk.old).state input served.status (D.seen desk.new) (W.contents writer.old) (W.contents writer.new))) }
     ensures part { IfSome (R.remaining reader.old) (λ input. IfErr result (λ fault. fault ≡ Writing → SendsPart D.shows D.imports D.begins (D.seen desk.old).state input (D.seen desk.new) (W.contents writer.old) (W.contents writer.new))) }
     ensures excuse { IfSome (R.remaining reader.old) (λ input. IfErr result (λ fault. fault ≡ Store → SendsExcuse D.shows D.imports D.begins (D.seen desk.old).state input (D.seen desk.new) (W.contents writer.old) (W.contents writer.new))) }
+    ensures connects { Connects D.shows D.imports D.begins (D.seen desk.old) (D.seen desk.new) }
     ensures unapplied { IfErr result (λ fault. IsBeforeAnswer fault → (D.seen desk.new).state ≡ (D.seen desk.old).state) }
     ensures silent { IfErr result (λ fault. IsBeforeAnswer fault → Keeps (W.contents writer.old) (W.contents writer.new)) }
     ensures lied { (D.seen desk.new).lies ≡ 0 → (D.seen desk.old).lies ≡ 0 }

@@ -2,7 +2,7 @@
 use Rattle.std.proofs.Common.{◌≡◌, ◌≢◌, ℕ, List, Option, Some, None, Result, Ok, Err, IfOk, IfErr, sym, subst, ap, refl, inl, inr}
 use Rattle.goo_types.specs.declared.fault.Fault.{Fault}
 use Rattle.goo_types.specs.declared.fault.Fault.TheVariants.{Memory}
-use Rattle.goo_shelf.specs.Shelf.{IsTold}
+use Rattle.goo_core_shelf.specs.Shelf.{IsTold}
 use Rattle.goo_registry_desk.specs.Desk.{Seen}
 use Rattle.goo_files_import.specs.Report.{report_text}
 use Rattle.goo_files_import.specs.Stands.{IsImported, StandsInPart, IsBeforeRows, IsBetweenRows, IsToldBy}
@@ -17,42 +17,53 @@ use Rattle.goo_desk_counter.specs.declared.counter.Imported.{Imported}
 
 pub imports-made : (old new : Seen) (caller input : List ℕ) (lines : List RowResult) (made : Result Imported Fault)
     → IfOk made (λ imported. report_of imported ≡ Some (report_text lines)) → IfErr made (λ fault. fault ≡ Memory)
-    → (new.lies ≡ 0 → IsImported caller input old.state new.state lines) → (new.lies ≡ 0 → old.lies ≡ 0) → (old.refusals ≡ 0 → new.refusals ≡ 0)
+    → (new.lies ≡ 0 → IsImported caller input old.state new.state lines) → (new.doubts ≡ 0 → IsImported caller input old.state new.state lines)
+    → (new.doubts ≡ 0 → old.doubts ≡ 0) → (new.lies ≡ 0 → old.lies ≡ 0) → (old.refusals ≡ 0 → new.refusals ≡ 0)
     → Imports imported_by begun_by old new caller input made
-imports-made old new caller input lines (Ok imported) text fault is lied told = record {
+imports-made old new caller input lines (Ok imported) text fault is sure doubted lied told = record {
   report = λ honest. subst (λ r. imported_by old.state caller input r new.state) (sym text) (lines, is honest, refl);
-  part = λ honest fine. tt;
+  sure = λ fine. subst (λ r. imported_by old.state caller input r new.state) (sym text) (lines, sure fine, refl);
+  part = λ fine. tt;
+  doubted = doubted;
   lied = lied;
   told = told;
 }
-imports-made old new caller input lines (Err e) text fault is lied told = record {
+imports-made old new caller input lines (Err e) text fault is sure doubted lied told = record {
   report = λ honest. tt;
-  part = λ honest fine. let whole = is honest in (whole.rows, inr whole.are_rows, whole.state);
+  sure = λ fine. tt;
+  part = λ fine. let whole = sure fine in (whole.rows, inr whole.are_rows, whole.state);
+  doubted = doubted;
   lied = lied;
   told = λ fresh. subst (λ f. IsTold {T = Imported} (Err f) new.refusals) (sym fault) (told fresh);
 }
 
 pub imports-stopped : (old new : Seen) (caller input : List ℕ) (why : Cause) (lines : List RowResult)
     → why ≢ cause.Read → (why ≡ cause.Header → LacksHeader input) → (IsBeforeRows why → new ≡ old)
-    → (new.lies ≡ 0 → IsBetweenRows why → StandsInPart caller input old.state new lines)
-    → (new.lies ≡ 0 → old.lies ≡ 0) → (old.refusals ≡ 0 → IsToldBy why new.refusals)
+    → (new.doubts ≡ 0 → IsBetweenRows why → StandsInPart caller input old.state new lines)
+    → (new.doubts ≡ 0 → old.doubts ≡ 0) → (new.lies ≡ 0 → old.lies ≡ 0) → (old.refusals ≡ 0 → IsToldBy why new.refusals)
     → Imports imported_by begun_by old new caller input (stopped_as why)
-imports-stopped old new caller input cause.Header lines unread lacks before part lied told = record {
+imports-stopped old new caller input cause.Header lines unread lacks before part doubted lied told = record {
   report = λ honest. (lacks refl, ap (λ (m : Seen). m.state) (before tt));
-  part = λ honest fine. tt;
+  sure = λ fine. (lacks refl, ap (λ (m : Seen). m.state) (before tt));
+  part = λ fine. tt;
+  doubted = doubted;
   lied = lied;
   told = told;
 }
-imports-stopped old new caller input cause.Read lines unread lacks before part lied told = absurd (unread refl)
-imports-stopped old new caller input cause.Store lines unread lacks before part lied told = record {
+imports-stopped old new caller input cause.Read lines unread lacks before part doubted lied told = absurd (unread refl)
+imports-stopped old new caller input cause.Store lines unread lacks before part doubted lied told = record {
   report = λ honest. tt;
-  part = λ honest fine. let stands = part honest tt in (stands.rows, inl stands.are_first, stands.state fine);
+  sure = λ fine. tt;
+  part = λ fine. let stands = part fine tt in (stands.rows, inl stands.are_first, stands.state fine);
+  doubted = doubted;
   lied = lied;
   told = told;
 }
-imports-stopped old new caller input cause.Memory lines unread lacks before part lied told = record {
+imports-stopped old new caller input cause.Memory lines unread lacks before part doubted lied told = record {
   report = λ honest. tt;
-  part = λ honest fine. let stands = part honest tt in (stands.rows, inl stands.are_first, stands.state fine);
+  sure = λ fine. tt;
+  part = λ fine. let stands = part fine tt in (stands.rows, inl stands.are_first, stands.state fine);
+  doubted = doubted;
   lied = lied;
   told = told;
 }

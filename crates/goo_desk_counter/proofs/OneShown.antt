@@ -3,7 +3,7 @@ use Rattle.std.proofs.Common.{◌≡◌, ◌∙◌, ℕ, List, ◌∷◌, Option
 use Rattle.std.specs.FinMap.{get}
 use Rattle.goo_spec.proofs.Mapping.{none_some}
 use Rattle.goo_spec.specs.State.{State}
-use Rattle.goo_answers.specs.declared.denial.Denial.{Denial}
+use Rattle.goo_core_answers.specs.declared.denial.Denial.{Denial}
 use Rattle.goo_registry.specs.Reads.{account_denial}
 use Rattle.goo_files.proofs.Agreeing.{one_statement, one_document}
 use Rattle.goo_files.specs.Texts.{IsStatement, IsDocument, IsAuditText, audit_denial, cancellation_denial}

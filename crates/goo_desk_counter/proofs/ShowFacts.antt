@@ -1,10 +1,10 @@
 -- A text that was written in memory, as it is shown.
 use Rattle.std.proofs.Common.{◌≡◌, ℕ, List, [], ◌++◌, Option, Some, None, Result, Ok, Err, Vec, sym, subst}
 use Rattle.std.specs.Global.{Global}
-use Rattle.goo_shelf.specs.Shelf.{Moment}
+use Rattle.goo_core_shelf.specs.Shelf.{Moment}
 use Rattle.goo_registry.specs.Desks.{seen_of}
-use Rattle.goo_answers.specs.declared.denial.Denial.{Denial}
-use Rattle.goo_answers.specs.declared.denial.Denial.TheVariants as denied
+use Rattle.goo_core_answers.specs.declared.denial.Denial.{Denial}
+use Rattle.goo_core_answers.specs.declared.denial.Denial.TheVariants as denied
 use Rattle.goo_files.specs.Writes.{Writes}
 use Rattle.goo_files.specs.declared.text_fault.TextFault.{TextFault}
 use Rattle.goo_files.specs.declared.text_fault.TextFault.TheVariants as fault
@@ -22,6 +22,7 @@ shows-text old new caller subject bytes before (Ok u) denial right none is w = r
   text = λ fine. let (text, good, appended) = w.whole fine in is (Ok bytes.items) (w.shown fine, subst right (sym (rw none at appended)) good);
   same = w.looks.same;
   works = w.looks.works;
+  doubted = w.looks.doubted;
   lied = w.looks.lied;
   told = w.looks.told;
 }
@@ -29,6 +30,7 @@ shows-text old new caller subject bytes before (Err fault.NotAllowed) denial rig
   text = λ fine. is (Err denied.NotAllowed) (w.denied fine);
   same = w.looks.same;
   works = w.looks.works;
+  doubted = w.looks.doubted;
   lied = w.looks.lied;
   told = w.looks.told;
 }
@@ -36,6 +38,7 @@ shows-text old new caller subject bytes before (Err fault.Unknown) denial right 
   text = λ fine. is (Err denied.Unknown) (w.denied fine);
   same = w.looks.same;
   works = w.looks.works;
+  doubted = w.looks.doubted;
   lied = w.looks.lied;
   told = w.looks.told;
 }
@@ -43,6 +46,7 @@ shows-text old new caller subject bytes before (Err fault.Write) denial right no
   text = λ fine. tt;
   same = w.looks.same;
   works = tt;
+  doubted = w.looks.doubted;
   lied = w.looks.lied;
   told = w.looks.told;
 }
@@ -50,6 +54,7 @@ shows-text old new caller subject bytes before (Err fault.Store) denial right no
   text = λ fine. tt;
   same = w.looks.same;
   works = tt;
+  doubted = w.looks.doubted;
   lied = w.looks.lied;
   told = w.looks.told;
 }
@@ -57,6 +62,7 @@ shows-text old new caller subject bytes before (Err fault.Memory) denial right n
   text = λ fine. tt;
   same = w.looks.same;
   works = tt;
+  doubted = w.looks.doubted;
   lied = w.looks.lied;
   told = w.looks.told;
 }

@@ -1,11 +1,11 @@
 -- What a counter's calls say.
 use Rattle.std.specs.Prelude.{◌≡◌, ℕ, List, Option, Some, None, Result, Ok, Err, IfOk, OnOk, OnErr}
 use Rattle.goo_types.specs.declared.fault.Fault.{Fault}
-use Rattle.goo_shelf.specs.Shelf.{IsTold}
+use Rattle.goo_core_shelf.specs.Shelf.{IsTold}
 use Rattle.goo_spec.specs.State.{State}
 use Rattle.goo_registry_desk.specs.Desk.{Seen}
 use Rattle.goo_desk_routes.specs.declared.task.Subject.{Subject}
-use Rattle.goo_answers.specs.declared.denial.Denial.{Denial}
+use Rattle.goo_core_answers.specs.declared.denial.Denial.{Denial}
 use Rattle.goo_desk_counter.specs.declared.counter.Shown.{Shown}
 use Rattle.goo_desk_counter.specs.declared.counter.Shown.TheVariants as shown
 use Rattle.goo_desk_counter.specs.declared.counter.Imported.{Imported}
@@ -28,18 +28,21 @@ abbrev pub report_of : Imported → Option (List ℕ)
 report_of (imported.Report report) = Some report.items
 report_of imported.NoHeader = None
 
--- what is shown is right, and nothing changes
+-- what is shown is right, and nothing changes; no doubt and no lie is forgotten
 pub record Shows (shows : Showing) (old new : Seen) (caller : List ℕ) (subject : Subject) (result : Result Shown Fault) : Type 0 where
   pub text : new.doubts ≡ 0 → IfOk result (λ given. shows old.state caller subject (text_shown given))
   pub same : new.doubts ≡ 0 → new.state ≡ old.state
   pub works : OnOk result (new.lies ≡ 0 → new.doubts ≡ 0)
+  pub doubted : new.doubts ≡ 0 → old.doubts ≡ 0
   pub lied : new.lies ≡ 0 → old.lies ≡ 0
   pub told : IsTold result new.refusals
 
--- the report and the state are right; after a fault the first rows stand
+-- the report and the state are right, where nothing lied and while nothing is in doubt; after a fault the first rows stand
 pub record Imports (imports : Importing) (begins : Beginning) (old new : Seen) (caller rows : List ℕ) (result : Result Imported Fault) : Type 0 where
   pub report : new.lies ≡ 0 → IfOk result (λ given. imports old.state caller rows (report_of given) new.state)
-  pub part : new.lies ≡ 0 → new.doubts ≡ 0 → OnErr result (begins old.state caller rows new.state)
+  pub sure : new.doubts ≡ 0 → IfOk result (λ given. imports old.state caller rows (report_of given) new.state)
+  pub part : new.doubts ≡ 0 → OnErr result (begins old.state caller rows new.state)
+  pub doubted : new.doubts ≡ 0 → old.doubts ≡ 0
   pub lied : new.lies ≡ 0 → old.lies ≡ 0
   pub told : old.refusals ≡ 0 → IsTold result new.refusals
 

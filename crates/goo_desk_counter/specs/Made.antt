@@ -3,8 +3,8 @@ use Rattle.std.specs.Prelude.{List, Option, Result, Ok, Err, Vec, ℕ}
 use Rattle.std.specs.Global.{Global}
 use Rattle.goo_types.specs.declared.fault.Fault.{Fault}
 use Rattle.goo_types.specs.declared.fault.Fault.TheVariants as fault
-use Rattle.goo_answers.specs.declared.denial.Denial.{Denial}
-use Rattle.goo_answers.specs.declared.denial.Denial.TheVariants as denial
+use Rattle.goo_core_answers.specs.declared.denial.Denial.{Denial}
+use Rattle.goo_core_answers.specs.declared.denial.Denial.TheVariants as denial
 use Rattle.goo_files.specs.declared.text_fault.TextFault.{TextFault}
 use Rattle.goo_files.specs.declared.text_fault.TextFault.TheVariants as text
 use Rattle.goo_files_import.specs.declared.cause.Cause.{Cause}

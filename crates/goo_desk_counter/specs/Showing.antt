@@ -4,8 +4,8 @@ use Rattle.std.specs.FinMap.{get}
 use Rattle.goo_types.specs.Notice.{NoticeContents}
 use Rattle.goo_types.specs.Piece.{Label}
 use Rattle.goo_spec.specs.State.{State}
-use Rattle.goo_sent.specs.Notice.{notice_text}
-use Rattle.goo_answers.specs.declared.denial.Denial.{Denial}
+use Rattle.goo_notice_text.specs.Notice.{notice_text}
+use Rattle.goo_core_answers.specs.declared.denial.Denial.{Denial}
 use Rattle.goo_registry.specs.Reads.{place_shown, notice_shown, account_denial}
 use Rattle.goo_files.specs.Texts.{IsStatement, IsDocument, IsAuditText, audit_denial, cancellation_denial}
 use Rattle.goo_files_import.specs.Import.{importing}

@@ -1,4 +1,4 @@
-use goo_answers::denial::Denial;
+use goo_core_answers::denial::Denial;
 use goo_desk_routes::Subject;
 use goo_registry_desk::Desk;
 use goo_types::fault::Fault;
@@ -28,7 +28,7 @@ pub trait Counter: Desk {
     ghost use Rattle.std.specs.Prelude.{ℕ, List, Option, Result};
     ghost use Rattle.goo_spec.specs.State.{State};
     ghost use Rattle.goo_desk_routes.specs.declared.task.Subject.{Subject};
-    ghost use Rattle.goo_answers.specs.declared.denial.Denial.{Denial};
+    ghost use Rattle.goo_core_answers.specs.declared.denial.Denial.{Denial};
     ghost use Rattle.goo_desk_counter.specs.Counters.{Shows, Imports};
 
     /// Whether a caller is shown this of a subject.

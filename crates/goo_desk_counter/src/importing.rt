@@ -8,9 +8,9 @@ ghost use Rattle.goo_desk_counter.specs.Made.{stopped_as};
 ghost use Rattle.goo_desk_counter.specs.Showing.{imported_by, begun_by};
 
 use crate::counter::Imported;
+use goo_core_shelf::shelf::Shelf;
 use goo_files_import::{Cause, Report, Unwatched, import_bytes, write_report};
 use goo_registry::Registry;
-use goo_shelf::shelf::Shelf;
 use goo_types::fault::Fault;
 use goo_types::holder_code::HolderCode;
 use std::alloc::Global;

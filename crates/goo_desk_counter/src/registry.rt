@@ -4,9 +4,9 @@ ghost use Rattle.goo_desk_counter.specs.Showing.{shown_by, imported_by, begun_by
 use crate::counter::{Counter, Imported, Shown};
 use crate::importing::import_rows;
 use crate::showing::show_subject;
+use goo_core_shelf::shelf::Shelf;
 use goo_desk_routes::Subject;
 use goo_registry::Registry;
-use goo_shelf::shelf::Shelf;
 use goo_types::fault::Fault;
 use goo_types::holder_code::HolderCode;
 use std::alloc::Global;

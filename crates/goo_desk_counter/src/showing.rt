@@ -8,13 +8,13 @@ ghost use Rattle.goo_desk_counter.specs.Made.{shown_as};
 ghost use Rattle.goo_desk_counter.specs.Showing.{shown_by};
 
 use crate::counter::Shown;
-use goo_answers::denial::Denial;
+use goo_core_answers::denial::Denial;
+use goo_core_shelf::shelf::Shelf;
 use goo_desk_routes::Subject;
 use goo_desk_shown::certificate_text;
 use goo_files::{TextFault, write_audit, write_cancellation, write_statement};
+use goo_notice_text::write;
 use goo_registry::{ReadFault, Registry};
-use goo_sent::write;
-use goo_shelf::shelf::Shelf;
 use goo_types::account_no::AccountNo;
 use goo_types::act_no::ActNo;
 use goo_types::fault::Fault;

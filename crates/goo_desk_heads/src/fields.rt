@@ -1,4 +1,5 @@
-//! The fields of a head.
+//! The fields of a head that tell how long the body is and who calls. A request of HTTP/1.1 without `Host`, and any with two, is
+//! refused (RFC 9112, section 3.2), and so is a transfer coding (section 6.1).
 ghost use Rattle.std.specs.Prelude.{◌≡◌, ◌≤◌, length, map, All, option_map, IfOk};
 ghost use Rattle.std.specs.List.{list_all};
 ghost use Rattle.std.specs.Char.{is_ascii_digit};
@@ -12,6 +13,7 @@ use httparse::spans::HeaderSpan;
 /// The most bytes of a body.
 pub const MOST_BODY: u64 = 1_048_576;
 
+/// Whether a field has this name, in letters of either case.
 fn is_named(name: &[u8], wanted: &str) -> bool
     ensures { result ≡ same_name name.now wanted.now }
 {
@@ -51,6 +53,7 @@ pub(crate) fn sole_value<'b>(
     }
 }
 
+/// Whether each byte is a digit.
 fn is_digits(text: &[u8]) -> bool
     ensures { result ≡ list_all is_ascii_digit text.now }
 {

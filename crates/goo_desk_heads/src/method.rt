@@ -1,3 +1,4 @@
+//! The methods that routes take.
 ghost use Rattle.std.specs.Prelude.{◌≡◌};
 ghost use Rattle.std.specs.Str.{bytes_eq};
 ghost use Rattle.goo_desk_heads.specs.Methods.{method_word};

@@ -1,4 +1,4 @@
-//! What all the bytes of a stream come to.
+//! The request that all the bytes of a stream are, or why they are refused.
 ghost use Rattle.std.specs.Prelude.{◌≡◌, ◌<◌, ◌+◌, false, length, IsTrue, option_map};
 ghost use Rattle.goo_desk_heads.specs.Requests.{Decides, seen, IsSure, IsWaiting, refused_as, whole_request, is_for_head as is_for_head_stated};
 ghost use Rattle.goo_desk_heads.specs.Heads.{most_head};
@@ -66,6 +66,13 @@ fn whole<'b>(head: &Head<'b>) -> Result<Received<'b>, RefusedHead>
 }
 
 /// The request at the front of all the bytes of a stream, or why it is refused.
+///
+/// # Errors
+///
+/// `BadRequest` where the bytes don't begin with a head. Else the first of these that holds: `BadRequest` for
+/// HTTP/1.1 without `Host` or for a second `Host` (RFC 9112, section 3.2), `NotImplemented` for a
+/// `Transfer-Encoding`, `BadRequest` for a second `Content-Length` or one that isn't 1 to 19 digits, `TooLarge` for
+/// a length above [`MOST_BODY`](crate::MOST_BODY), `BadRequest` where fewer bytes follow than the length.
 pub fn read_request(bytes: &[u8]) -> Result<Received<'_>, RefusedHead>
     ensures { Decides bytes.now (seen result) }
 {
@@ -78,8 +85,9 @@ pub fn read_request(bytes: &[u8]) -> Result<Received<'_>, RefusedHead>
     }
 }
 
-/// Whether the bytes that may follow these change nothing: what these come to, all bytes do that begin with them. Where they
-/// may, no head has come yet or not all of its body, and there are fewer bytes than the most of both together.
+/// Whether the bytes that may follow these change nothing: all bytes that begin with these are then read, or refused, as these
+/// are. Where they may change it, no head has come yet or not all of its body, and there are fewer bytes than the most of both
+/// together.
 pub fn is_decided(bytes: &[u8]) -> bool
     ensures sure { IsTrue result → IsSure bytes.now }
     ensures waits { result ≡ false → IsWaiting bytes.now }

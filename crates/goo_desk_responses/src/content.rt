@@ -1,3 +1,4 @@
+//! The kinds of bodies, and their media types.
 ghost use Rattle.std.specs.Prelude.{◌≡◌, ◌≤◌, length};
 ghost use Rattle.goo_desk_responses.specs.Responses.{content_type};
 

@@ -57,7 +57,7 @@ fn push_counted(out: &mut ArrayString<ROOM>, before: &str, number: u64, after: &
     out.push_str(after);
 }
 
-/// The head of a response whose body has so many bytes.
+/// The head of a response whose body has `length` bytes.
 #[tactic(auto, unfolding(crate::specs::Responses::head_text))]
 fn head(status: Status, content: Content, allow: Option<Method>, length: u64) -> ArrayString<ROOM>
     ensures bytes { result.bytes ≡ head_text status content allow length }
@@ -105,7 +105,7 @@ pub fn fixed_response(status: Status, allow: Option<Method>, for_head: bool) -> 
 ///
 /// # Errors
 ///
-/// Where there is no memory for it.
+/// `AllocError` where memory for it was refused.
 pub fn long_response(
     alloc: Global,
     status: Status,

@@ -1,3 +1,4 @@
+//! The statuses of responses.
 ghost use Rattle.std.specs.Prelude.{◌≡◌, ◌≤◌, length};
 ghost use Rattle.goo_desk_responses.specs.Responses.{status_code, status_phrase};
 

@@ -51,7 +51,8 @@ fn has_question_mark(text: &[u8]) -> bool
     text.iter().any(|byte| *byte == b'?')
 }
 
-/// Whether a target is a path: it begins with a slash and has no question mark.
+/// Whether a target is a path: it begins with a slash and has no question mark (the origin form of RFC 9112, section 3.2.1,
+/// without a query).
 fn is_path(target: &[u8]) -> bool
     ensures { result ≡ is_path_stated target.now }
 {
@@ -65,7 +66,7 @@ fn is_path(target: &[u8]) -> bool
 ///
 /// # Errors
 ///
-/// Where there is no memory for the routes.
+/// `AllocError` where memory for the routes was refused.
 #[tactic(auto, unfolding(crate::specs::Routes::found_by))]
 pub fn find_route<'p>(alloc: Global, target: &'p str) -> Result<Option<Met<'p>>, AllocError>
     ensures { IfOk result (λ found. option_map (λ m. (m.route, m.part.now)) found ≡ found_by target.now) }

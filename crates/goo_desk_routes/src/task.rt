@@ -1,3 +1,4 @@
+//! What a route and the part of a path that it names ask for.
 ghost use Rattle.std.specs.Prelude.{◌≡◌};
 ghost use Rattle.goo_desk_routes.specs.Tasks.{account_in as account_stated, act_in as act_stated, certificate_in as certificate_stated, task_of as task_stated};
 
@@ -33,6 +34,7 @@ pub enum Task {
     Show(Subject),
 }
 
+/// The account that a part of a path names.
 fn account_in(part: &[u8]) -> Option<AccountNo>
     ensures { result ≡ account_stated part.now }
 {
@@ -42,6 +44,7 @@ fn account_in(part: &[u8]) -> Option<AccountNo>
     }
 }
 
+/// The act that a part of a path names.
 fn act_in(part: &[u8]) -> Option<ActNo>
     ensures { result ≡ act_stated part.now }
 {
@@ -51,6 +54,7 @@ fn act_in(part: &[u8]) -> Option<ActNo>
     }
 }
 
+/// The certificate that a part of a path names.
 fn certificate_in(part: &[u8]) -> Option<Number>
     ensures { result ≡ certificate_stated part.now }
 {

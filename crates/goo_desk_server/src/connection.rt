@@ -1,6 +1,7 @@
 //! One accepted connection.
 ghost use Rattle.std.specs.Prelude.{◌≡◌, IfErr};
 ghost use Rattle.goo_desk_connection.specs.Faults.{IsBeforeAnswer, IsToldIn};
+ghost use Rattle.goo_desk_connection.specs.Serving.{Connects};
 
 use crate::deadline::deadline;
 use crate::receiver::Receiver;
@@ -23,6 +24,7 @@ pub fn serve_stream<D: Counter, C: Clock>(
     desk: &mut D,
     stream: &TcpStream,
 ) -> Result<Served, ServeFault>
+    ensures connects { Connects D.shows D.imports D.begins (D.seen desk.old) (D.seen desk.new) }
     ensures unapplied { IfErr result (λ fault. IsBeforeAnswer fault → (D.seen desk.new).state ≡ (D.seen desk.old).state) }
     ensures lied { (D.seen desk.new).lies ≡ 0 → (D.seen desk.old).lies ≡ 0 }
     ensures told { (D.seen desk.old).refusals ≡ 0 → IsToldIn result (D.seen desk.new).refusals }

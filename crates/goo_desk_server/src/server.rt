@@ -1,14 +1,15 @@
 //! A listener's connections, one after another.
 ghost use Rattle.std.specs.Prelude.{◌≡◌, ◌++◌, codes, decimal, OnOk};
 ghost use Rattle.std.specs.Io.KnownBytes.{Appends};
-ghost use Rattle.goo_desk_server.specs.Serving.{IsToldIn};
+ghost use Rattle.goo_desk_connection.specs.Serving.{Connects};
+ghost use Rattle.goo_desk_server.specs.Serving.{IsToldIn, StepsUpTo};
 
 use crate::connection::serve_stream;
 use crate::server_fault::ServerFault;
 use arrayvec::ArrayString;
 use goo_desk_connection::ServeFault;
 use goo_desk_counter::Counter;
-use goo_streams::{WriteFault, write_whole};
+use goo_files_streams::{WriteFault, write_whole};
 use itoa::Buffer;
 use std::alloc::Global;
 use std::io::Write;
@@ -45,6 +46,7 @@ fn serve_next<D: Counter, C: Clock>(
     desk: &mut D,
     listener: &TcpListener,
 ) -> Result<(), ServerFault>
+    ensures connects { Connects D.shows D.imports D.begins (D.seen desk.old) (D.seen desk.new) }
     ensures lied { (D.seen desk.new).lies ≡ 0 → (D.seen desk.old).lies ≡ 0 }
     ensures told { (D.seen desk.old).refusals ≡ 0 → IsToldIn result (D.seen desk.new).refusals }
 {
@@ -65,6 +67,7 @@ fn serve_all<D: Counter, C: Clock>(
     listener: &TcpListener,
     count: u32,
 ) -> Result<(), ServerFault>
+    ensures steps { StepsUpTo D.shows D.imports D.begins count (D.seen desk.old) (D.seen desk.new) }
     ensures lied { (D.seen desk.new).lies ≡ 0 → (D.seen desk.old).lies ≡ 0 }
     ensures told { (D.seen desk.old).refusals ≡ 0 → IsToldIn result (D.seen desk.new).refusals }
 {
@@ -75,7 +78,8 @@ fn serve_all<D: Counter, C: Clock>(
 }
 
 /// Tells on `writer` at which port of 127.0.0.1 it listens, and flushes that; then serves `count` connections, one after another.
-/// A connection that fails, or that a deadline cuts off, ends alone.
+/// A connection that fails, or that a deadline cuts off, ends alone. Each connection leaves the registry as answering some request
+/// leaves it, or as it was.
 ///
 /// # Errors
 ///
@@ -90,6 +94,7 @@ pub fn serve<D: Counter, C: Clock, W: Write>(
     writer: &mut W,
 ) -> Result<(), ServerFault>
     ensures announced { OnOk result (Appends (W.contents writer.old) (W.contents writer.new) (codes "listening 127.0.0.1:" ++ (decimal port ++ codes "\n"))) }
+    ensures steps { StepsUpTo D.shows D.imports D.begins count (D.seen desk.old) (D.seen desk.new) }
     ensures lied { (D.seen desk.new).lies ≡ 0 → (D.seen desk.old).lies ≡ 0 }
     ensures told { (D.seen desk.old).refusals ≡ 0 → IsToldIn result (D.seen desk.new).refusals }
 {

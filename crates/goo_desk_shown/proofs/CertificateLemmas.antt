@@ -3,7 +3,7 @@ use Rattle.std.proofs.Common.{◌≡◌, ℕ, false, refl}
 use Rattle.serde_json.specs.Written.{has_float}
 use Rattle.goo_types.specs.declared.lot_fields.LotFields.{LotFields}
 use Rattle.goo_types.specs.declared.place.Place.{Place}
-use Rattle.goo_members.specs.Lot.{lot_data}
+use Rattle.goo_notice_json.specs.Lot.{lot_data}
 use Rattle.goo_desk_shown.specs.Certificates.{certificate_data}
 
 pub no_float : (n : ℕ) (lot : LotFields) (place : Place) → has_float (certificate_data n lot place) ≡ false

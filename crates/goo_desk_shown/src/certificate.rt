@@ -2,12 +2,11 @@
 ghost use Rattle.std.specs.Prelude.{◌≡◌, IfOk, codes};
 ghost use Rattle.serde_json.specs.Data.{Members, put as with_member};
 ghost use Rattle.serde_json.specs.View.{view, members_view};
-ghost use Rattle.goo_members.specs.Lot.{lot_data};
+ghost use Rattle.goo_notice_json.specs.Lot.{lot_data};
 ghost use Rattle.goo_desk_shown.specs.Certificates.{act_of as act_stated, place_word as word_stated, certificate_data, certificate_text as text_stated};
 
-use crate::lot::fields_value;
-use goo_members::object::{nothing, object_of, with_integer, with_text};
-use goo_members::texts::number_text;
+use goo_notice_json::lot_value::lot_value;
+use goo_notice_json::object::{nothing, object_of, with_integer, with_text};
 use goo_types::lot::Lot;
 use goo_types::number::Number;
 use goo_types::place::Place;
@@ -49,12 +48,7 @@ fn with_lot(
     ensures { (ms : Members) → IfOk members (λ old. members_view old.entries ≡ ms) → IfOk result (λ new. members_view new.entries ≡ with_member (codes "lot") (lot_data lot.now) ms) }
 {
     let mut members = members?;
-    put(
-        &mut members,
-        alloc,
-        "lot",
-        fields_value(alloc, lot.fields())?,
-    )?;
+    put(&mut members, alloc, "lot", lot_value(alloc, lot)?)?;
     Ok(members)
 }
 
@@ -68,7 +62,7 @@ fn certificate_value(
 ) -> Result<Value, AllocError>
     ensures { IfOk result (λ value. view value ≡ certificate_data number lot.now place.now) }
 {
-    let text = number_text(number);
+    let text = number.text();
     let members = nothing(alloc);
     let members = with_integer(alloc, members, "account", u64::from(place.account().get()));
     let members = with_integer(alloc, members, "act", act_of(place));

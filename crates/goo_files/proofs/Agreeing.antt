@@ -5,7 +5,7 @@ use Rattle.goo_types.specs.declared.piece.Piece.{Piece}
 use Rattle.goo_spec.specs.Runs.{AreRunsOf}
 use Rattle.goo_spec.specs.State.{State, Cancellation}
 use Rattle.goo_spec.proofs.Unique.{one_list_of_runs}
-use Rattle.goo_answers.specs.Reads.{kept_where, names}
+use Rattle.goo_core_answers.specs.Reads.{kept_where, names}
 use Rattle.goo_files_csv.specs.Holdings.{holdings_text}
 use Rattle.goo_registry.specs.Reads.{is_cancelled_by}
 use Rattle.goo_files_documents.specs.Cancellation.{cancellation_text}

@@ -2,13 +2,13 @@
 use Rattle.std.proofs.Common.{◌≡◌, ◌∙◌, ℕ, List, Option, Some, None, Result, Ok, Err, OnOk, OnErr, IfErr, refl, ap, sym, subst, inl, inr, true, false, cond}
 use Rattle.std.specs.FinMap.{get}
 use Rattle.std.specs.Io.KnownBytes.{Appends, Keeps}
-use Rattle.goo_streams.specs.Streams.{AppendsPrefix}
+use Rattle.goo_files_streams.specs.Streams.{AppendsPrefix}
 use Rattle.goo_types.specs.declared.fault.Fault.TheVariants as fault
 use Rattle.goo_spec.specs.State.{State, Account, Cancellation}
-use Rattle.goo_shelf.specs.Shelf.{Moment, Looks}
-use Rattle.goo_answers.specs.Reads.{may_see}
-use Rattle.goo_answers.specs.declared.denial.Denial.{Denial}
-use Rattle.goo_answers.specs.declared.denial.Denial.TheVariants as denial
+use Rattle.goo_core_shelf.specs.Shelf.{Moment, Looks}
+use Rattle.goo_core_answers.specs.Reads.{may_see}
+use Rattle.goo_core_answers.specs.declared.denial.Denial.{Denial}
+use Rattle.goo_core_answers.specs.declared.denial.Denial.TheVariants as denial
 use Rattle.goo_registry.specs.Reads.{account_denial, holder_shown, IsCancellationOf, IsCancellationDenied, IsCancellationShown}
 use Rattle.goo_registry.specs.AccountReads.{IsHeadingShown}
 use Rattle.goo_registry.specs.Shown.{apart}

@@ -3,13 +3,13 @@ use Rattle.std.proofs.Common.{◌≡◌, ℕ, List, ◌++◌, flat_map, Option, 
 use Rattle.std.specs.Prelude.{⊤}
 use Rattle.std.specs.FinMap.{get}
 use Rattle.std.specs.Io.KnownBytes.{Appends}
-use Rattle.goo_streams.specs.Streams.{AppendsPrefix}
-use Rattle.goo_streams.proofs.AppendsFacts.{appends-more, appends-kept, prefix-more, prefix-front, prefix-whole}
+use Rattle.goo_files_streams.specs.Streams.{AppendsPrefix}
+use Rattle.goo_files_streams.proofs.AppendsFacts.{appends-more, appends-kept, prefix-more, prefix-front, prefix-whole}
 use Rattle.goo_types.specs.declared.fault.Fault.TheVariants as fault
 use Rattle.goo_types.specs.declared.piece.Piece.{Piece}
 use Rattle.goo_spec.specs.State.{State}
-use Rattle.goo_shelf.specs.Shelf.{Moment, Looks}
-use Rattle.goo_answers.proofs.Naming.{some_runs}
+use Rattle.goo_core_shelf.specs.Shelf.{Moment, Looks}
+use Rattle.goo_core_answers.proofs.Naming.{some_runs}
 use Rattle.goo_registry.specs.Reads.{account_denial}
 use Rattle.goo_registry.specs.AccountReads.{IsHeadingShown}
 use Rattle.goo_registry.specs.declared.heading.Heading.{Heading}

@@ -3,8 +3,8 @@ use Rattle.std.proofs.Common.{◌≡◌, ◌∙◌, ℕ, ◌+◌, ◌<◌, true,
 use Rattle.std.proofs.lemmas.List.{append-nil, take_more}
 use Rattle.std.proofs.lemmas.List.Concat.{flat_map-append}
 use Rattle.std.specs.Io.KnownBytes.{Appends}
-use Rattle.goo_streams.specs.Streams.{AppendsPrefix}
-use Rattle.goo_streams.proofs.AppendsFacts.{appends-more, prefix-more, prefix-front}
+use Rattle.goo_files_streams.specs.Streams.{AppendsPrefix}
+use Rattle.goo_files_streams.proofs.AppendsFacts.{appends-more, prefix-more, prefix-front}
 use Rattle.goo_types.specs.declared.piece.Piece.{Piece}
 use Rattle.goo_files_csv.specs.Holdings.{holding_row}
 use Rattle.goo_files_documents.specs.Counts.{with_run, with_runs}

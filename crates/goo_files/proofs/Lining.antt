@@ -3,21 +3,21 @@ use Rattle.std.proofs.Common.{◌≡◌, ◌∙◌, ◌+◌, ℕ, List, [], ◌�
 use Rattle.std.specs.Prelude.{⊤}
 use Rattle.std.specs.FinMap.{get}
 use Rattle.std.specs.Io.KnownBytes.{Appends, Keeps}
-use Rattle.goo_streams.specs.Streams.{AppendsPrefix}
-use Rattle.goo_streams.proofs.AppendsFacts.{appends-more, appends-none, appends-kept, prefix-more, prefix-front, prefix-whole}
+use Rattle.goo_files_streams.specs.Streams.{AppendsPrefix}
+use Rattle.goo_files_streams.proofs.AppendsFacts.{appends-more, appends-none, appends-kept, prefix-more, prefix-front, prefix-whole}
 use Rattle.goo_types.specs.declared.piece.Piece.{Piece}
 use Rattle.goo_spec.specs.Sound.{IsSound}
 use Rattle.goo_spec.specs.State.{State}
-use Rattle.goo_rows.specs.Rows.{AreRowsOf}
-use Rattle.goo_shelf.specs.Shelf.{Moment, Looks, IsReady}
+use Rattle.goo_ranges_rows.specs.Rows.{AreRowsOf}
+use Rattle.goo_core_shelf.specs.Shelf.{Moment, Looks, IsReady}
 use Rattle.goo_spec_runs.specs.NextRun.{from_of, BeginsFrom}
 use Rattle.goo_spec_runs.proofs.Walking.{IsWalking, walk_start, walk_on, walk_end}
-use Rattle.goo_answers.specs.Reads.{kept_where, names}
-use Rattle.goo_answers.specs.declared.denial.Denial.{Denial}
-use Rattle.goo_answers.specs.declared.denial.Denial.TheVariants as denial
+use Rattle.goo_core_answers.specs.Reads.{kept_where, names}
+use Rattle.goo_core_answers.specs.declared.denial.Denial.{Denial}
+use Rattle.goo_core_answers.specs.declared.denial.Denial.TheVariants as denial
 use Rattle.goo_types.specs.declared.fault.Fault.TheVariants as fault
-use Rattle.goo_shelf.proofs.Looking.{still}
-use Rattle.goo_answers.proofs.Naming.{some_runs}
+use Rattle.goo_core_shelf.proofs.Looking.{still}
+use Rattle.goo_core_answers.proofs.Naming.{some_runs}
 use Rattle.goo_registry.specs.Reads.{account_denial}
 use Rattle.goo_registry.specs.AccountReads.{IsNextRunShown}
 use Rattle.goo_registry.specs.Shown.{apart}

@@ -3,10 +3,10 @@ use Rattle.std.proofs.Common.{◌∙◌, ℕ, List, [], ◌++◌, flat_map, Opti
 use Rattle.std.proofs.lemmas.List.{append-nil}
 use Rattle.std.specs.FinMap.{get}
 use Rattle.std.specs.Io.KnownBytes.{Appends}
-use Rattle.goo_streams.proofs.AppendsFacts.{appends-none}
+use Rattle.goo_files_streams.proofs.AppendsFacts.{appends-none}
 use Rattle.goo_types.specs.declared.piece.Piece.{Piece}
 use Rattle.goo_spec.specs.State.{State}
-use Rattle.goo_shelf.specs.Shelf.{Moment, Looks}
+use Rattle.goo_core_shelf.specs.Shelf.{Moment, Looks}
 use Rattle.goo_registry.specs.Reads.{account_denial}
 use Rattle.goo_registry.specs.AccountReads.{IsHeadingShown, IsHeadingOf}
 use Rattle.goo_registry.specs.declared.heading.Heading.{Heading}

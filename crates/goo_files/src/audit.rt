@@ -1,17 +1,17 @@
 //! The audit of the devices.
 ghost use Rattle.std.specs.Prelude.{◌≡◌, OnOk, OnErr, flat_map};
 ghost use Rattle.std.specs.Io.KnownBytes.{Appends};
-ghost use Rattle.goo_streams.specs.Streams.{AppendsPrefix};
+ghost use Rattle.goo_files_streams.specs.Streams.{AppendsPrefix};
 ghost use Rattle.goo_files.specs.Writes.{Writes};
 ghost use Rattle.goo_files.specs.Texts.{IsAuditText, device_line, audit_denial};
 
 use crate::text_fault::TextFault;
 use crate::writing::write_line;
+use goo_core_shelf::found::DeviceTotals;
+use goo_core_shelf::shelf::Shelf;
 use goo_files_documents::audit_line;
+use goo_files_streams::WriteFault;
 use goo_registry::Registry;
-use goo_shelf::found::DeviceTotals;
-use goo_shelf::shelf::Shelf;
-use goo_streams::WriteFault;
 use goo_types::holder_code::HolderCode;
 use std::alloc::Global;
 use std::io::Write;

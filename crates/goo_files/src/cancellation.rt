@@ -1,7 +1,7 @@
 //! The document of a cancellation.
 ghost use Rattle.std.specs.Prelude.{◌≡◌, OnOk, OnErr, IfErr, flat_map};
 ghost use Rattle.std.specs.Io.KnownBytes.{Appends};
-ghost use Rattle.goo_streams.specs.Streams.{AppendsPrefix};
+ghost use Rattle.goo_files_streams.specs.Streams.{AppendsPrefix};
 ghost use Rattle.goo_types.specs.Piece.{IsRising};
 ghost use Rattle.goo_files_documents.specs.Cancellation.{cancellation_foot as foot_text, certificates_in as count_in, cancellation_text};
 ghost use Rattle.goo_files_documents.specs.Runs.{document_line as document_text};
@@ -11,12 +11,12 @@ ghost use Rattle.goo_files.specs.Texts.{IsDocument, cancellation_denial};
 
 use crate::text_fault::TextFault;
 use crate::writing::write_line;
+use goo_core_shelf::shelf::Shelf;
 use goo_files_documents::{
     CancellationHead, cancellation_foot, cancellation_head, certificates_in, document_line,
 };
+use goo_files_streams::WriteFault;
 use goo_registry::{CancellationStatement, Registry};
-use goo_shelf::shelf::Shelf;
-use goo_streams::WriteFault;
 use goo_types::act_no::ActNo;
 use goo_types::holder_code::HolderCode;
 use goo_types::piece::Piece;

@@ -2,8 +2,8 @@
 ghost use Rattle.std.specs.Prelude.{◌≡◌, None, OnOk, OnErr, IfOk, IfErr};
 ghost use Rattle.std.specs.FinMap.{get};
 ghost use Rattle.std.specs.Io.KnownBytes.{Appends};
-ghost use Rattle.goo_streams.specs.Streams.{AppendsPrefix};
-ghost use Rattle.goo_shelf.specs.Shelf.{IsReady};
+ghost use Rattle.goo_files_streams.specs.Streams.{AppendsPrefix};
+ghost use Rattle.goo_core_shelf.specs.Shelf.{IsReady};
 ghost use Rattle.goo_files_csv.specs.Holdings.{header_row};
 ghost use Rattle.goo_registry.specs.Reads.{account_denial};
 ghost use Rattle.goo_files.specs.Writes.{Writes};
@@ -12,10 +12,10 @@ ghost use Rattle.goo_files.specs.Lines.{held_row, AreHeldRows, IsRowFault};
 ghost use Rattle.goo_files.specs.Texts.{IsHoldingsCsv};
 
 use crate::text_fault::TextFault;
+use goo_core_shelf::shelf::Shelf;
 use goo_files_csv::{NoRoom, holding_row, holdings_header};
+use goo_files_streams::write_whole;
 use goo_registry::Registry;
-use goo_shelf::shelf::Shelf;
-use goo_streams::write_whole;
 use goo_types::account_no::AccountNo;
 use goo_types::holder_code::HolderCode;
 use goo_types::piece::Piece;

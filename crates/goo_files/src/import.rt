@@ -1,7 +1,7 @@
 //! Declarations imported from CSV, and the report of it.
 ghost use Rattle.std.specs.Prelude.{◌≡◌, [], IfOk, IfErr, IfSome, OnOk, OnErr};
 ghost use Rattle.std.specs.Io.KnownBytes.{Appends, IsAtEnd};
-ghost use Rattle.goo_streams.specs.Streams.{AppendsPrefix};
+ghost use Rattle.goo_files_streams.specs.Streams.{AppendsPrefix};
 ghost use Rattle.goo_registry.specs.Desks.{seen_of};
 ghost use Rattle.goo_files_import.specs.Report.{report_text};
 ghost use Rattle.goo_files_import.specs.Table.{LacksHeader};
@@ -10,9 +10,9 @@ ghost use Rattle.goo_files_import.specs.declared.cause.Cause.TheVariants.{Header
 ghost use Rattle.goo_files.specs.declared.text_fault.TextFault.TheVariants.{Write as Unwritten};
 
 use crate::text_fault::TextFault;
+use goo_core_shelf::shelf::Shelf;
 use goo_files_import::{ImportFault, Progress, Report, Unwatched};
 use goo_registry::Registry;
-use goo_shelf::shelf::Shelf;
 use goo_types::holder_code::HolderCode;
 use std::alloc::Global;
 use std::io::{Read, Write};

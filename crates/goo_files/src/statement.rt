@@ -2,8 +2,8 @@
 ghost use Rattle.std.specs.Prelude.{◌≡◌, None, OnOk, OnErr};
 ghost use Rattle.std.specs.Io.KnownBytes.{Appends};
 ghost use Rattle.std.specs.FinMap.{get};
-ghost use Rattle.goo_shelf.specs.Shelf.{IsReady};
-ghost use Rattle.goo_streams.specs.Streams.{AppendsPrefix};
+ghost use Rattle.goo_core_shelf.specs.Shelf.{IsReady};
+ghost use Rattle.goo_files_streams.specs.Streams.{AppendsPrefix};
 ghost use Rattle.goo_files_documents.specs.Statement.{statement_head as head_text};
 ghost use Rattle.goo_registry.specs.Reads.{account_denial};
 ghost use Rattle.goo_files.specs.Writes.{Writes};
@@ -12,10 +12,10 @@ ghost use Rattle.goo_files.specs.Texts.{IsStatement};
 
 use crate::text_fault::TextFault;
 use crate::writing::write_line;
+use goo_core_shelf::shelf::Shelf;
 use goo_files_documents::{Counts, statement_foot, statement_head, statement_line};
+use goo_files_streams::WriteFault;
 use goo_registry::{Heading, Registry};
-use goo_shelf::shelf::Shelf;
-use goo_streams::WriteFault;
 use goo_types::account_no::AccountNo;
 use goo_types::holder_code::HolderCode;
 use std::io::Write;

@@ -1,11 +1,11 @@
 //! Writing a text line by line.
 ghost use Rattle.std.specs.Prelude.{OnOk, OnErr};
 ghost use Rattle.std.specs.Io.KnownBytes.{Appends};
-ghost use Rattle.goo_streams.specs.Streams.{AppendsPrefix};
+ghost use Rattle.goo_files_streams.specs.Streams.{AppendsPrefix};
 
 use arrayvec::ArrayString;
 use goo_files_documents::ROOM;
-use goo_streams::{WriteFault, write_whole};
+use goo_files_streams::{WriteFault, write_whole};
 use std::io::Write;
 
 /// Writes a line, or the lines at the head or the foot of a text.

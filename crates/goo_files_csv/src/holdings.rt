@@ -24,7 +24,7 @@ fn row_bytes(alloc: Global, fields: &[&[u8]]) -> Result<Vec<u8>, Error>
     }
 }
 
-/// The same; the list that it is written to refuses nothing but for want of memory.
+/// The text of one record of the default writer. It is written to a list, which fails only for want of memory.
 fn row(alloc: Global, fields: &[&[u8]]) -> Result<Vec<u8>, NoRoom>
     ensures { IfOk result (λ row. row.items ≡ row_text default_writer (map (λ field. field.now) fields.now)) }
 {
@@ -35,6 +35,10 @@ fn row(alloc: Global, fields: &[&[u8]]) -> Result<Vec<u8>, NoRoom>
 }
 
 /// The row of the names of the fields.
+///
+/// # Errors
+///
+/// `NoRoom` where memory for the row was refused.
 #[tactic(auto, unfolding(crate::specs::Holdings::header_row))]
 pub fn holdings_header(alloc: Global) -> Result<Vec<u8>, NoRoom>
     ensures { IfOk result (λ row. row.items ≡ header_row) }
@@ -59,6 +63,10 @@ pub fn holdings_header(alloc: Global) -> Result<Vec<u8>, NoRoom>
 }
 
 /// The row of a run.
+///
+/// # Errors
+///
+/// `NoRoom` where memory for the row was refused.
 #[tactic(auto, unfolding(crate::specs::Holdings::holding_row))]
 pub fn holding_row(alloc: Global, run: &Piece) -> Result<Vec<u8>, NoRoom>
     ensures { IfOk result (λ row. row.items ≡ row_of run.now) }

@@ -29,7 +29,7 @@ pub(crate) fn push_integer(out: &mut ArrayString<ROOM>, integer: u64)
     out.push_str(digits.format(integer));
 }
 
-/// Writes so many spaces.
+/// Writes `count` spaces.
 fn push_spaces(out: &mut ArrayString<ROOM>, count: usize)
     requires { array_string_len out.old + count ≤ 256 }
     ensures bytes { out.new.bytes ≡ out.old.bytes ++ replicate count 32 }

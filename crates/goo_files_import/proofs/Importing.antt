@@ -15,44 +15,77 @@ unfolding with_rows
 with-last caller a [] row = refl
 with-last caller a (first ∷ rows) row = with-last caller (with_row caller a first) rows row
 
+-- the state and the lines after these rows
+pub record AreImported (old new : State) (caller : List ℕ) (done : List Fields) (lines : List RowResult) : Type 0 where
+  pub lines_are : lines ≡ (importing old caller done).lines
+  pub state : new ≡ (importing old caller done).state
+
+pub imported_none : (s : State) (caller : List ℕ) → AreImported s s caller [] []
+unfolding with_rows
+imported_none s caller = record { lines_are = refl; state = refl }
+
+-- one more row
+imported_more : (old mid new : State) (caller : List ℕ) (done : List Fields) (lines more : List RowResult) (row : Fields) → AreImported old mid caller done lines
+    → more ≡ lines ++ row_result mid caller row ∷ [] → new ≡ state_after mid caller row → AreImported old new caller (done ++ row ∷ []) more
+imported_more old mid new caller done lines more row so added state =
+    let last : importing old caller (done ++ row ∷ []) ≡ with_row caller (importing old caller done) row = with-last caller (nothing_imported old) done row in
+    record {
+      lines_are = added ∙ (λ i. so.lines_are i ++ row_result (so.state i) caller row ∷ []) ∙ ap (λ (a : Imported). a.lines) (sym last);
+      state = state ∙ ap (λ (s : State). state_after s caller row) so.state ∙ ap (λ (a : Imported). a.state) (sym last);
+    }
+
 -- these rows were applied, and no others
 pub record IsImporting (old mid : Seen) (caller : List ℕ) (done : List Fields) (lines : List RowResult) : Type 0 where
   pub lied : mid.lies ≡ 0 → old.lies ≡ 0
+  pub doubted : mid.doubts ≡ 0 → old.doubts ≡ 0
   pub told : old.refusals ≡ 0 → mid.refusals ≡ 0
-  pub lines_are : mid.lies ≡ 0 → lines ≡ (importing old.state caller done).lines
-  pub state : mid.lies ≡ 0 → mid.state ≡ (importing old.state caller done).state
+  pub honest : mid.lies ≡ 0 → AreImported old.state mid.state caller done lines
+  pub sure : mid.doubts ≡ 0 → AreImported old.state mid.state caller done lines
 
 pub importing_start : (m : Seen) (caller : List ℕ) → IsImporting m m caller [] []
-unfolding with_rows
-importing_start m caller = record { lied = λ none. none; told = λ none. none; lines_are = λ none. refl; state = λ none. refl }
+importing_start m caller = record { lied = λ none. none; doubted = λ none. none; told = λ none. none; honest = λ none. imported_none m.state caller; sure = λ none. imported_none m.state caller }
 
 -- one more row
-pub importing_on : (old mid new : Seen) (caller : List ℕ) (done : List Fields) (lines more : List RowResult) (row : Fields) → IsImporting old mid caller done lines → (new.lies ≡ 0 → mid.lies ≡ 0)
-    → (mid.refusals ≡ 0 → new.refusals ≡ 0) → (new.lies ≡ 0 → more ≡ lines ++ row_result mid.state caller row ∷ []) → (new.lies ≡ 0 → new.state ≡ state_after mid.state caller row) → IsImporting old new caller (done ++ row ∷ []) more
-importing_on old mid new caller done lines more row so lied told added state =
-    let last : importing old.state caller (done ++ row ∷ []) ≡ with_row caller (importing old.state caller done) row = with-last caller (nothing_imported old.state) done row in
-    record {
-      lied = λ none. so.lied (lied none);
-      told = λ none. told (so.told none);
-      lines_are = λ none.
-          added none ∙ (λ i. so.lines_are (lied none) i ++ row_result (so.state (lied none) i) caller row ∷ []) ∙ ap (λ (a : Imported). a.lines) (sym last);
-      state = λ none. state none ∙ ap (λ (s : State). state_after s caller row) (so.state (lied none)) ∙ ap (λ (a : Imported). a.state) (sym last);
-    }
+pub importing_on : (old mid new : Seen) (caller : List ℕ) (done : List Fields) (lines more : List RowResult) (row : Fields) → IsImporting old mid caller done lines
+    → (new.lies ≡ 0 → mid.lies ≡ 0) → (new.doubts ≡ 0 → mid.doubts ≡ 0) → (mid.refusals ≡ 0 → new.refusals ≡ 0)
+    → (new.lies ≡ 0 → more ≡ lines ++ row_result mid.state caller row ∷ []) → (new.lies ≡ 0 → new.state ≡ state_after mid.state caller row)
+    → (new.doubts ≡ 0 → more ≡ lines ++ row_result mid.state caller row ∷ []) → (new.doubts ≡ 0 → new.state ≡ state_after mid.state caller row)
+    → IsImporting old new caller (done ++ row ∷ []) more
+importing_on old mid new caller done lines more row so lied doubted told added state sure_added sure_state = record {
+  lied = λ none. so.lied (lied none);
+  doubted = λ none. so.doubted (doubted none);
+  told = λ none. told (so.told none);
+  honest = λ none. imported_more old.state mid.state new.state caller done lines more row (so.honest (lied none)) (added none) (state none);
+  sure = λ none. imported_more old.state mid.state new.state caller done lines more row (so.sure (doubted none)) (sure_added none) (sure_state none);
+}
 
 -- all rows were
+imported_all : (old new : State) (caller input : List ℕ) (done : List Fields) (lines : List RowResult) → AreImported old new caller done lines → AreRows input done → IsImported caller input old new lines
+imported_all old new caller input done lines are rows = record { rows = done; are_rows = rows; lines_are = are.lines_are; state = are.state }
+
 pub importing_ends : (old new : Seen) (caller input : List ℕ) (done : List Fields) (lines : List RowResult) → IsImporting old new caller done lines → AreRows input done → new.lies ≡ 0 → IsImported caller input old.state new.state lines
-importing_ends old new caller input done lines so rows none = record { rows = done; are_rows = rows; lines_are = so.lines_are none; state = so.state none }
+importing_ends old new caller input done lines so rows none = imported_all old.state new.state caller input done lines (so.honest none) rows
+
+pub importing_ends_sure : (old new : Seen) (caller input : List ℕ) (done : List Fields) (lines : List RowResult) → IsImporting old new caller done lines → AreRows input done → new.doubts ≡ 0 → IsImported caller input old.state new.state lines
+importing_ends_sure old new caller input done lines so rows none = imported_all old.state new.state caller input done lines (so.sure none) rows
 
 pub some_all : {A : Type 0} (o : Option A) (P : A → Type 0) → ((x : A) → P x) → IfSome o P
 some_all None P p = tt
 some_all (Some x) P p = p x
 
 -- no more were
-pub importing_stops : (old mid new : Seen) (caller input : List ℕ) (done : List Fields) (lines after : List RowResult) → IsImporting old mid caller done lines → AreFirstRows input done → (new.lies ≡ 0 → mid.lies ≡ 0) → (new.doubts ≡ 0 → new.state ≡ mid.state)
+imported_first : (old mid : State) (new : Seen) (caller input : List ℕ) (done : List Fields) (lines after : List RowResult) → AreImported old mid caller done lines → AreFirstRows input done
+    → after ≡ lines → (new.doubts ≡ 0 → new.state ≡ (importing old caller done).state) → StandsInPart caller input old new after
+imported_first old mid new caller input done lines after are first kept state = record { rows = done; are_first = first; lines_are = kept ∙ are.lines_are; state = state }
+
+pub importing_stops : (old mid new : Seen) (caller input : List ℕ) (done : List Fields) (lines after : List RowResult) → IsImporting old mid caller done lines → AreFirstRows input done
+    → (new.lies ≡ 0 → mid.lies ≡ 0) → (new.doubts ≡ 0 → mid.doubts ≡ 0) → (new.doubts ≡ 0 → new.state ≡ mid.state)
     → after ≡ lines → new.lies ≡ 0 → StandsInPart caller input old.state new after
-importing_stops old mid new caller input done lines after so first lied same kept none = record {
-  rows = done;
-  are_first = first;
-  lines_are = kept ∙ so.lines_are (lied none);
-  state = λ sure. same sure ∙ so.state (lied none);
-}
+importing_stops old mid new caller input done lines after so first lied doubted same kept none =
+    imported_first old.state mid.state new caller input done lines after (so.honest (lied none)) first kept (λ sure. same sure ∙ (so.sure (doubted sure)).state)
+
+pub importing_stops_sure : (old mid new : Seen) (caller input : List ℕ) (done : List Fields) (lines after : List RowResult) → IsImporting old mid caller done lines → AreFirstRows input done
+    → (new.doubts ≡ 0 → mid.doubts ≡ 0) → (new.doubts ≡ 0 → new.state ≡ mid.state)
+    → after ≡ lines → new.doubts ≡ 0 → StandsInPart caller input old.state new after
+importing_stops_sure old mid new caller input done lines after so first doubted same kept none =
+    imported_first old.state mid.state new caller input done lines after (so.sure (doubted none)) first kept (λ sure. same sure ∙ (so.sure (doubted sure)).state)

@@ -1,3 +1,5 @@
+//! Why an import stopped.
+
 use crate::report::Report;
 use goo_types::fault::Fault;
 
@@ -14,10 +16,10 @@ pub enum Cause {
     Memory,
 }
 
-/// Why an import stopped, and what the rows before came to.
+/// Why an import stopped, and what became of the rows before.
 #[derive(Drop)]
 pub struct ImportFault {
-    /// What the rows that stand came to.
+    /// The results of the rows that stand.
     pub report: Report,
     /// Why no more rows were applied.
     pub cause: Cause,

@@ -4,7 +4,7 @@ ghost use Rattle.std.specs.Io.KnownBytes.{IsAtEnd};
 ghost use Rattle.csv.specs.Records.{fields_of};
 ghost use Rattle.goo_files_import.specs.Import.{row_result, state_after};
 ghost use Rattle.goo_files_import.specs.Table.{LacksHeader};
-ghost use Rattle.goo_shelf.specs.Shelf.{IsTold};
+ghost use Rattle.goo_core_shelf.specs.Shelf.{IsTold};
 ghost use Rattle.goo_files_import.specs.Stands.{IsImported, StandsInPart, IsBeforeRows, IsBetweenRows, IsToldIn};
 ghost use Rattle.goo_files_import.specs.declared.cause.Cause.TheVariants.{Header as NoHeader, Read as Unread};
 
@@ -14,8 +14,8 @@ use crate::report::Report;
 use crate::row_result::RowResult;
 use csv::{ByteRecord, ReaderBuilder};
 use goo_files_csv::{is_header, read_row};
+use goo_files_streams::{ReadFault, read_whole};
 use goo_registry_desk::Desk;
-use goo_streams::{ReadFault, read_whole};
 use goo_types::fault::Fault;
 use goo_types::holder_code::HolderCode;
 use std::alloc::Global;
@@ -24,7 +24,7 @@ use std::io::Read;
 /// The most bytes that an import may have.
 pub const MOST_INPUT: usize = 16_777_216;
 
-/// What a row comes to.
+/// The result of a row, whose request is applied.
 #[tactic(auto, unfolding(crate::specs::Import::row_result, crate::specs::Import::state_after))]
 fn apply_row<D: Desk>(
     alloc: Global,
@@ -34,7 +34,10 @@ fn apply_row<D: Desk>(
 ) -> Result<RowResult, Fault>
     ensures answer { (D.seen desk.new).lies ≡ 0 → IfOk result (λ line. line ≡ row_result (D.seen desk.old).state caller.now (fields_of row.now)) }
     ensures state { (D.seen desk.new).lies ≡ 0 → OnOk result ((D.seen desk.new).state ≡ state_after (D.seen desk.old).state caller.now (fields_of row.now)) }
+    ensures sure_answer { (D.seen desk.new).doubts ≡ 0 → IfOk result (λ line. line ≡ row_result (D.seen desk.old).state caller.now (fields_of row.now)) }
+    ensures sure_state { (D.seen desk.new).doubts ≡ 0 → OnOk result ((D.seen desk.new).state ≡ state_after (D.seen desk.old).state caller.now (fields_of row.now)) }
     ensures unchanged { (D.seen desk.new).doubts ≡ 0 → OnErr result ((D.seen desk.new).state ≡ (D.seen desk.old).state) }
+    ensures doubted { (D.seen desk.new).doubts ≡ 0 → (D.seen desk.old).doubts ≡ 0 }
     ensures lied { (D.seen desk.new).lies ≡ 0 → (D.seen desk.old).lies ≡ 0 }
     ensures told { (D.seen desk.old).refusals ≡ 0 → IsTold result (D.seen desk.new).refusals }
 {
@@ -54,8 +57,11 @@ fn import_row<D: Desk>(
 ) -> Result<(), Fault>
     ensures lines { (D.seen desk.new).lies ≡ 0 → OnOk result (lines.new.items ≡ lines.old.items ++ row_result (D.seen desk.old).state caller.now (fields_of row.now) ∷ []) }
     ensures state { (D.seen desk.new).lies ≡ 0 → OnOk result ((D.seen desk.new).state ≡ state_after (D.seen desk.old).state caller.now (fields_of row.now)) }
+    ensures sure_lines { (D.seen desk.new).doubts ≡ 0 → OnOk result (lines.new.items ≡ lines.old.items ++ row_result (D.seen desk.old).state caller.now (fields_of row.now) ∷ []) }
+    ensures sure_state { (D.seen desk.new).doubts ≡ 0 → OnOk result ((D.seen desk.new).state ≡ state_after (D.seen desk.old).state caller.now (fields_of row.now)) }
     ensures kept { OnErr result (lines.new.items ≡ lines.old.items) }
     ensures unchanged { (D.seen desk.new).doubts ≡ 0 → OnErr result ((D.seen desk.new).state ≡ (D.seen desk.old).state) }
+    ensures doubted { (D.seen desk.new).doubts ≡ 0 → (D.seen desk.old).doubts ≡ 0 }
     ensures lied { (D.seen desk.new).lies ≡ 0 → (D.seen desk.old).lies ≡ 0 }
     ensures told { (D.seen desk.old).refusals ≡ 0 → IsTold result (D.seen desk.new).refusals }
 {
@@ -115,11 +121,14 @@ pub fn import_bytes<D: Desk, P: Progress>(
     progress: &mut P,
 ) -> Result<Report, ImportFault>
     ensures whole { (D.seen desk.new).lies ≡ 0 → IfOk result (λ report. IsImported caller.now input.now (D.seen desk.old).state (D.seen desk.new).state report.lines.items) }
+    ensures sure_whole { (D.seen desk.new).doubts ≡ 0 → IfOk result (λ report. IsImported caller.now input.now (D.seen desk.old).state (D.seen desk.new).state report.lines.items) }
     ensures kinds { IfErr result (λ fault. fault.cause ≢ Unread) }
     ensures header { IfErr result (λ fault. fault.cause ≡ NoHeader → LacksHeader input.now) }
     ensures before { IfErr result (λ fault. IsBeforeRows fault.cause → (D.seen desk.new ≡ D.seen desk.old)) }
     ensures before_lines { IfErr result (λ fault. IsBeforeRows fault.cause → fault.report.lines.items ≡ []) }
     ensures part { (D.seen desk.new).lies ≡ 0 → IfErr result (λ fault. IsBetweenRows fault.cause → StandsInPart caller.now input.now (D.seen desk.old).state (D.seen desk.new) fault.report.lines.items) }
+    ensures sure_part { (D.seen desk.new).doubts ≡ 0 → IfErr result (λ fault. IsBetweenRows fault.cause → StandsInPart caller.now input.now (D.seen desk.old).state (D.seen desk.new) fault.report.lines.items) }
+    ensures doubted { (D.seen desk.new).doubts ≡ 0 → (D.seen desk.old).doubts ≡ 0 }
     ensures lied { (D.seen desk.new).lies ≡ 0 → (D.seen desk.old).lies ≡ 0 }
     ensures told { (D.seen desk.old).refusals ≡ 0 → IsToldIn result (D.seen desk.new).refusals }
 {

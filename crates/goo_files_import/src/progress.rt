@@ -1,12 +1,14 @@
+//! What is told how far an import is.
+
 /// What is told how far an import is. It can change nothing of it.
 pub trait Progress {
     /// Whether anybody looks; if not, rows aren't counted beforehand.
     fn is_watched(&self) -> bool;
 
-    /// The import begins, of so many rows.
+    /// The import begins; it has `rows` rows.
     fn begin(&mut self, rows: u64);
 
-    /// So many rows stand.
+    /// The first `rows` rows have their results.
     fn advance(&mut self, rows: u64);
 }
 

@@ -2,14 +2,14 @@
 ghost use Rattle.std.specs.Prelude.{◌≡◌, ◌++◌, ◌+◌, ◌≤◌, decimal, OnOk, OnErr};
 ghost use Rattle.std.specs.Io.KnownBytes.{Appends};
 ghost use Rattle.arrayvec.specs.ArrayString.{array_string_len};
-ghost use Rattle.goo_streams.specs.Streams.{AppendsPrefix};
+ghost use Rattle.goo_files_streams.specs.Streams.{AppendsPrefix};
 ghost use Rattle.goo_files_import.specs.Report.{result_text, report_line as line_text, report_from, report_text};
 
 use crate::report::Report;
 use crate::row_result::RowResult;
 use arrayvec::ArrayString;
-pub use goo_streams::WriteFault;
-use goo_streams::write_whole;
+pub use goo_files_streams::WriteFault;
+use goo_files_streams::write_whole;
 use itoa::Buffer;
 use std::io::Write;
 
@@ -26,7 +26,7 @@ fn push_integer(out: &mut ArrayString<ROOM>, integer: u64)
     out.push_str(digits.format(integer));
 }
 
-/// Writes what a row came to.
+/// Writes the result of a row.
 fn push_result(out: &mut ArrayString<ROOM>, row: RowResult)
     requires { array_string_len out.old + 30 ≤ 64 }
     ensures bytes { out.new.bytes ≡ out.old.bytes ++ result_text row }
@@ -60,7 +60,7 @@ fn report_line(number: u64, row: RowResult) -> ArrayString<ROOM>
 ///
 /// # Errors
 ///
-/// Where a write fails. A beginning of the text was written then.
+/// `WriteFault` where a write fails. A beginning of the text was written then.
 pub fn write_report<W: Write>(report: &Report, writer: &mut W) -> Result<(), WriteFault>
     ensures written { OnOk result (Appends (W.contents writer.old) (W.contents writer.new) (report_text report.now.lines.items)) }
     ensures prefix { OnErr result (AppendsPrefix (W.contents writer.old) (W.contents writer.new) (report_text report.now.lines.items)) }

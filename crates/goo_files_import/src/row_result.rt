@@ -1,7 +1,9 @@
+//! What became of a row of an import.
+
 use goo_types::outcome::Outcome;
 use goo_types::refusal::Refusal;
 
-/// What a row of an import came to.
+/// What became of a row of an import.
 #[derive(Clone, Copy, Debug, PartialEq, Eq)]
 pub enum RowResult {
     /// Its declaration was accepted.
@@ -18,7 +20,7 @@ impl RowResult {
     ghost use Rattle.std.specs.Prelude.{◌≡◌};
     ghost use Rattle.goo_files_import.specs.Results.{result_of};
 
-    /// What a row came to by the outcome of its request.
+    /// The result of a row, by the outcome of its request.
     pub(crate) fn of(outcome: Outcome) -> RowResult
         ensures { result ≡ result_of outcome }
     {

@@ -27,12 +27,12 @@ use Rattle.goo_types.specs.declared.command.Export.{Export}
 use Rattle.goo_notice.specs.Export.{IsExport, export_of}
 use Rattle.goo_types.specs.declared.command.Import.{Import}
 use Rattle.goo_notice.specs.Import.{IsImport, import_of}
-use Rattle.goo_sent.specs.Notice.{notice_of}
-use Rattle.goo_sent.proofs.NoticeLimits.{notice}
-use Rattle.goo_members.specs.Members.{of_size, string_at, integer_at, member_at}
-use Rattle.goo_members.specs.Fields.{as_field, integer_in, range_of}
-use Rattle.goo_members.proofs.LimitLemmas.{IsDay-reading}
-use Rattle.goo_members.proofs.FieldLimits.{bind_ok, field_ok, ok_same, within_limits, range_numbers, holder_again, name_again, gsrn_again}
+use Rattle.goo_notice_text.specs.Notice.{notice_of}
+use Rattle.goo_notice_text.proofs.NoticeLimits.{notice}
+use Rattle.goo_notice_json.specs.Members.{of_size, string_at, integer_at, member_at}
+use Rattle.goo_notice_json.specs.Fields.{as_field, integer_in, range_of}
+use Rattle.goo_notice_json.proofs.LimitLemmas.{IsDay-reading}
+use Rattle.goo_notice_json.proofs.FieldLimits.{bind_ok, field_ok, ok_same, within_limits, range_numbers, holder_again, name_again, gsrn_again}
 
 pub open_holder : (others : ℕ) (d : Data) (c : OpenHolder) → open_holder_of others d ≡ Ok c → IsOpenHolder c
 unfolding open_holder_of

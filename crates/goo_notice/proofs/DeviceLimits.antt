@@ -8,10 +8,10 @@ use Rattle.goo_types.specs.Day.{day_reading}
 use Rattle.goo_types.specs.Support.{support_reading}
 use Rattle.goo_types.specs.declared.command.RegisterDevice.{RegisterDevice}
 use Rattle.goo_notice.specs.RegisterDevice.{IsRegisterDevice, device_of_members, register_device_of}
-use Rattle.goo_members.specs.Members.{of_size, string_at, integer_at}
-use Rattle.goo_members.specs.Fields.{as_field, integer_in}
-use Rattle.goo_members.proofs.LimitLemmas.{IsDay-reading}
-use Rattle.goo_members.proofs.FieldLimits.{bind_ok, field_ok, ok_same, within_limits, name_again, country_again, tech_again, source_again, gsrn_again}
+use Rattle.goo_notice_json.specs.Members.{of_size, string_at, integer_at}
+use Rattle.goo_notice_json.specs.Fields.{as_field, integer_in}
+use Rattle.goo_notice_json.proofs.LimitLemmas.{IsDay-reading}
+use Rattle.goo_notice_json.proofs.FieldLimits.{bind_ok, field_ok, ok_same, within_limits, name_again, country_again, tech_again, source_again, gsrn_again}
 
 limits : (account capacity_w : ℤ) (commissioned country device site source support tech : List ℕ) (c : RegisterDevice)
     → device_of_members account capacity_w commissioned country device site source support tech ≡ Ok c → IsRegisterDevice c

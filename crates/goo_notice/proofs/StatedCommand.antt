@@ -4,7 +4,7 @@ use Rattle.std.specs.Str.{bytes_eq}
 use Rattle.serde_json.specs.Data.{Data}
 use Rattle.goo_types.specs.declared.command.Command.{Command}
 use Rattle.goo_types.specs.declared.command.Command.TheVariants.{OpenHolder, OpenAccount, CloseAccount, RegisterDevice, Declare, Transfer, Cancel, Withdraw, Advance, AddPeer, Export, Import}
-use Rattle.goo_members.specs.declared.value_fault.ValueFault.{ValueFault}
+use Rattle.goo_notice_json.specs.declared.value_fault.ValueFault.{ValueFault}
 use Rattle.goo_notice.specs.OpenHolder.{open_holder_of}
 use Rattle.goo_notice.specs.OpenAccount.{open_account_of}
 use Rattle.goo_notice.specs.CloseAccount.{close_account_of}
@@ -18,10 +18,10 @@ use Rattle.goo_notice.specs.AddPeer.{add_peer_of}
 use Rattle.goo_notice.specs.Export.{export_of}
 use Rattle.goo_notice.specs.Import.{import_of}
 use Rattle.goo_notice.specs.Command.{IsCommand, as_command, command_named, command_of}
-use Rattle.goo_members.specs.Members.{string_at}
+use Rattle.goo_notice_json.specs.Members.{string_at}
 use Rattle.goo_notice.proofs.CommandLimits.{open_holder, open_account, close_account, declare, transfer, cancel, withdraw, advance, add_peer, export, import}
 use Rattle.goo_notice.proofs.DeviceLimits.{register_device}
-use Rattle.goo_members.proofs.FieldLimits.{bind_ok, ok_same}
+use Rattle.goo_notice_json.proofs.FieldLimits.{bind_ok, ok_same}
 
 as_limits : {A : Type 0} (kind : A → Command) (r : Result A ValueFault) (c : Command) → as_command kind r ≡ Ok c
     → ((x : A) → r ≡ Ok x → IsCommand (kind x)) → IsCommand c

@@ -9,7 +9,7 @@ use Rattle.goo_types.specs.declared.piece.Piece.{Piece}
 use Rattle.goo_types.specs.declared.place.Place.TheVariants.{Held}
 use Rattle.goo_spec.specs.Runs.{IsApart, AreRunsOf}
 use Rattle.goo_ranges.specs.Accounts.{by_account, AreAccountRuns, held}
-use Rattle.goo_pieces.specs.Joining.{IsJoining}
+use Rattle.goo_ranges_pieces.specs.Joining.{IsJoining}
 
 module _ (lot : LotFields) where
   pub held-rising : (low : ℕ) (ps : List Piece) → IsRisingFrom low ps → IsRisingFrom low (map (held lot) ps)

@@ -5,9 +5,9 @@ use Rattle.goo_types.specs.Number.{code_of, serial_of}
 use Rattle.goo_types.specs.declared.piece.Piece.{Piece}
 use Rattle.goo_types.specs.Piece.{label_of, at_of, IsRising}
 use Rattle.goo_spec.specs.Runs.{IsApart}
-use Rattle.goo_pieces.specs.Change.{set_to, meets, IsSet}
-use Rattle.goo_pieces.specs.Joining.{IsJoining}
-use Rattle.goo_pieces.specs.Touching.{IsAround, IsWidened}
+use Rattle.goo_ranges_pieces.specs.Change.{set_to, meets, IsSet}
+use Rattle.goo_ranges_pieces.specs.Joining.{IsJoining}
+use Rattle.goo_ranges_pieces.specs.Touching.{IsAround, IsWidened}
 use Rattle.goo_ranges.proofs.Few.{few-replaced}
 use Rattle.goo_ranges.proofs.Keeping.{cut-rising, added-rising, added-same, added-apart, added-few}
 use Rattle.goo_ranges.proofs.Reaching.{IsReady, IsDone, ready-before, done-after, given-more}

@@ -6,7 +6,7 @@ use Rattle.goo_types.specs.declared.piece.Piece.{Piece}
 use Rattle.goo_ranges.specs.declared.edits.Edit.{Edit}
 use Rattle.goo_types.specs.declared.fault.Fault.{Fault}
 use Rattle.goo_ranges.specs.Edit.{IsExact}
-use Rattle.goo_pieces.proofs.Touching.{in-three}
+use Rattle.goo_ranges_pieces.proofs.Touching.{in-three}
 
 pub exact-from_replaced : (r : Result Edit Fault) (old new insert : List Piece) (from to : ℕ) → from ≤ to → OnOk r (new ≡ take from old ++ (insert ++ drop to old)) → IfOk r (λ edit. edit.insert.items ≡ insert) → IfOk r (λ edit. edit.delete.items ≡ map (λ p. p.first) (take (to - from) (drop from old))) → IfOk r (IsExact old new)
 exact-from_replaced (Ok edit) old new insert from to up becomes inserted deleted = record {

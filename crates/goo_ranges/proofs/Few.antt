@@ -6,12 +6,12 @@ use Rattle.std.proofs.lemmas.List.{get_or-drop, length-take, length-take-le, len
 use Rattle.std.proofs.lemmas.List.Sums.{sum_by-append, count_by-le-length}
 use Rattle.goo_types.specs.declared.piece.Piece.{Piece}
 use Rattle.goo_types.specs.Piece.{IsRising, IsRisingFrom}
-use Rattle.goo_pieces.specs.Change.{meets, one_if}
-use Rattle.goo_pieces.specs.Touching.{AreMet, IsMeeting, IsJoinedBefore, IsFreeBefore, IsBegin, IsJoinedAfter, IsFreeAfter, IsEnd}
-use Rattle.goo_pieces.proofs.Joining.{take-piece}
-use Rattle.goo_pieces.proofs.Rest.{drop-piece}
+use Rattle.goo_ranges_pieces.specs.Change.{meets, one_if}
+use Rattle.goo_ranges_pieces.specs.Touching.{AreMet, IsMeeting, IsJoinedBefore, IsFreeBefore, IsBegin, IsJoinedAfter, IsFreeAfter, IsEnd}
+use Rattle.goo_ranges_pieces.proofs.Joining.{take-piece}
+use Rattle.goo_ranges_pieces.proofs.Rest.{drop-piece}
 use Rattle.goo_ranges.proofs.Splicing.{count-middle}
-use Rattle.goo_pieces.proofs.Touching.{in-three, between-rising}
+use Rattle.goo_ranges_pieces.proofs.Touching.{in-three, between-rising}
 
 count-cons : (test : Piece → Bool) (p : Piece) (ps : List Piece) → count_by test (p ∷ ps) ≡ one_if (test p) + count_by test ps
 count-cons test p ps = let e = sum_by-append (λ x. one_if (test x)) (p ∷ []) ps in omega arith

@@ -4,7 +4,7 @@ use Rattle.std.specs.Prelude.{◌⊎◌, Contains}
 use Rattle.goo_types.specs.declared.piece.Piece.{Piece}
 use Rattle.goo_types.specs.Piece.{Label, label_of, at_of, IsRisingFrom}
 use Rattle.goo_spec.specs.Runs.{IsApart, AreRunsOf, Gives}
-use Rattle.goo_pieces.proofs.Covers.{covers-inside, covers-above}
+use Rattle.goo_ranges_pieces.proofs.Covers.{covers-inside, covers-above}
 use Rattle.goo_ranges.proofs.Maximal.{not-after}
 
 -- p is one of the pieces

@@ -6,19 +6,19 @@ use Rattle.std.proofs.lemmas.Bool.{cases_lt}
 use Rattle.std.proofs.lemmas.Bool.Decides.{nat_tests}
 use Rattle.goo_types.specs.declared.piece.Piece.{Piece}
 use Rattle.goo_types.specs.Piece.{Label, label_of, at_of, IsForward, IsRising, IsRisingFrom}
-use Rattle.goo_pieces.specs.Walk.{end_of}
-use Rattle.goo_pieces.specs.Joining.{IsJoining}
-use Rattle.goo_pieces.specs.Touching.{IsAround}
+use Rattle.goo_ranges_pieces.specs.Walk.{end_of}
+use Rattle.goo_ranges_pieces.specs.Joining.{IsJoining}
+use Rattle.goo_ranges_pieces.specs.Touching.{IsAround}
 use Rattle.std.specs.List.{count_by}
 use Rattle.std.proofs.lemmas.List.Sums.{sum_by-append}
-use Rattle.goo_pieces.specs.Change.{inside, meets, one_if, kept, set_to, IsPart, IsKept, IsSet}
+use Rattle.goo_ranges_pieces.specs.Change.{inside, meets, one_if, kept, set_to, IsPart, IsKept, IsSet}
 use Rattle.goo_types.specs.Number.{code_of}
-use Rattle.goo_pieces.proofs.Covers.{covers-inside, covers-below, covers-above, or_else, at_of-append}
-use Rattle.goo_pieces.proofs.Changing.{or_else-none, end_of-mono, part-inside, part-below, part-above, part-rising, part-end}
-use Rattle.goo_pieces.proofs.Rising.{end_of-append, end_of-low, rising-weaken, rising-append, rising-front, rising-back, at_of-below, at_of-above}
-use Rattle.goo_pieces.proofs.Touching.{in-three}
+use Rattle.goo_ranges_pieces.proofs.Covers.{covers-inside, covers-below, covers-above, or_else, at_of-append}
+use Rattle.goo_ranges_pieces.proofs.Changing.{or_else-none, end_of-mono, part-inside, part-below, part-above, part-rising, part-end}
+use Rattle.goo_ranges_pieces.proofs.Rising.{end_of-append, end_of-low, rising-weaken, rising-append, rising-front, rising-back, at_of-below, at_of-above}
+use Rattle.goo_ranges_pieces.proofs.Touching.{in-three}
 use Rattle.goo_spec.specs.Runs.{IsApart}
-use Rattle.goo_pieces.proofs.Joining.{joining-append, joining-prepend}
+use Rattle.goo_ranges_pieces.proofs.Joining.{joining-append, joining-prepend}
 use Rattle.goo_ranges.proofs.Splicing.{spliced-apart-joined}
 
 pub kept-none : (low high n : ℕ) → kept low high n None ≡ None

@@ -7,13 +7,13 @@ use Rattle.goo_types.specs.declared.piece.Piece.{Piece}
 use Rattle.goo_types.specs.Piece.{at_of, IsRising, IsRisingFrom}
 use Rattle.goo_spec.specs.Lots.{is_absent, fails}
 use Rattle.goo_spec.specs.Maps.{least_absent, least_failing}
-use Rattle.goo_pieces.specs.Walk.{end_of, span}
+use Rattle.goo_ranges_pieces.specs.Walk.{end_of, span}
 use Rattle.goo_ranges.specs.Paging.{begin_of, IsLeft}
-use Rattle.goo_pieces.proofs.Changing.{or_else-none}
-use Rattle.goo_pieces.proofs.Covers.{or_else, at_of-append}
-use Rattle.goo_pieces.proofs.Find.{least-of_span, none-of_span, find-span-none, find-span-some}
+use Rattle.goo_ranges_pieces.proofs.Changing.{or_else-none}
+use Rattle.goo_ranges_pieces.proofs.Covers.{or_else, at_of-append}
+use Rattle.goo_ranges_pieces.proofs.Find.{least-of_span, none-of_span, find-span-none, find-span-some}
 use Rattle.goo_ranges.proofs.Paging.{left-page}
-use Rattle.goo_pieces.proofs.Rising.{rising-front, rising-back, at_of-below, at_of-above}
+use Rattle.goo_ranges_pieces.proofs.Rising.{rising-front, rising-back, at_of-below, at_of-above}
 
 -- ---- the least number that is missing
 

@@ -4,8 +4,8 @@ use Rattle.std.proofs.lemmas.Bool.{cases_lt}
 use Rattle.goo_types.specs.declared.piece.Piece.{Piece}
 use Rattle.goo_types.specs.Piece.{label_of, at_of, IsRising, IsRisingFrom, Follows}
 use Rattle.goo_spec.specs.Runs.{IsNotFollowed, IsApart}
-use Rattle.goo_pieces.proofs.Covers.{covers-inside, covers-below, covers-above}
-use Rattle.goo_pieces.proofs.Rising.{at_of-below}
+use Rattle.goo_ranges_pieces.proofs.Covers.{covers-inside, covers-below, covers-above}
+use Rattle.goo_ranges_pieces.proofs.Rising.{at_of-below}
 
 from-low : (low : ℕ) (front : List Piece) (q : Piece) (back : List Piece) → IsRisingFrom low (front ++ q ∷ back) → low ≤ q.first
 from-low low [] q back r = r.0

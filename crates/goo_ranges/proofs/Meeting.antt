@@ -4,9 +4,9 @@ use Rattle.std.specs.List.Sorted.{IsPartitionPoint}
 use Rattle.std.proofs.lemmas.Bool.Decides.{nat_tests}
 use Rattle.goo_types.specs.declared.piece.Piece.{Piece}
 use Rattle.goo_types.specs.Piece.{IsRising}
-use Rattle.goo_pieces.specs.Walk.{end_of}
-use Rattle.goo_pieces.specs.Touching.{AreNear, IsTouched, AreMet, IsMeeting}
-use Rattle.goo_pieces.proofs.Touching.{touched-from_points}
+use Rattle.goo_ranges_pieces.specs.Walk.{end_of}
+use Rattle.goo_ranges_pieces.specs.Touching.{AreNear, IsTouched, AreMet, IsMeeting}
+use Rattle.goo_ranges_pieces.proofs.Touching.{touched-from_points}
 
 met-near : (first last : ℕ) (ps : List Piece) → 1 ≤ last → AreNear (first + 1) (last - 1) ps → AreMet first last ps
 met-near first last [] some near = tt

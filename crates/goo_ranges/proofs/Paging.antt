@@ -8,12 +8,12 @@ use Rattle.std.proofs.lemmas.List.{drop_all, take-take, drop-take, drop-drop, ta
 use Rattle.std.specs.Prelude.{slice_get}
 use Rattle.goo_types.specs.declared.piece.Piece.{Piece}
 use Rattle.goo_types.specs.Piece.{at_of, IsRising, IsRisingFrom}
-use Rattle.goo_pieces.specs.Walk.{end_of}
+use Rattle.goo_ranges_pieces.specs.Walk.{end_of}
 use Rattle.goo_ranges.specs.Paging.{joined, between, begin_of, AreFilled, IsLeft}
-use Rattle.goo_pieces.proofs.Changing.{or_else-none}
+use Rattle.goo_ranges_pieces.proofs.Changing.{or_else-none}
 use Rattle.goo_ranges.proofs.JoinedPages.{joined-append, joined-split, joined-drop, sorted-ends}
-use Rattle.goo_pieces.proofs.Covers.{or_else, at_of-append}
-use Rattle.goo_pieces.proofs.Rising.{end_of-append, end_of-low, rising-weaken, rising-front, rising-back, at_of-below, at_of-above}
+use Rattle.goo_ranges_pieces.proofs.Covers.{or_else, at_of-append}
+use Rattle.goo_ranges_pieces.proofs.Rising.{end_of-append, end_of-low, rising-weaken, rising-front, rising-back, at_of-below, at_of-above}
 
 -- the pages before two indices, between them and behind them
 pub joined-three : (xs : List (List Piece)) (from to : ℕ) → from ≤ to → joined (take from xs) ++ (between xs from to ++ joined (drop to xs)) ≡ joined xs

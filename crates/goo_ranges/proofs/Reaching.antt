@@ -6,12 +6,12 @@ use Rattle.std.proofs.lemmas.List.{take-append-drop}
 use Rattle.goo_types.specs.Number.{code_of, serial_of}
 use Rattle.goo_types.specs.declared.piece.Piece.{Piece}
 use Rattle.goo_types.specs.Piece.{label_of, at_of, IsForward, IsRising, IsRisingFrom}
-use Rattle.goo_pieces.specs.Walk.{end_of}
-use Rattle.goo_pieces.specs.Change.{inside, set_to}
-use Rattle.goo_pieces.specs.Touching.{IsJoinedBefore, IsFreeBefore, IsBegin, IsJoinedAfter, IsFreeAfter, IsEnd}
+use Rattle.goo_ranges_pieces.specs.Walk.{end_of}
+use Rattle.goo_ranges_pieces.specs.Change.{inside, set_to}
+use Rattle.goo_ranges_pieces.specs.Touching.{IsJoinedBefore, IsFreeBefore, IsBegin, IsJoinedAfter, IsFreeAfter, IsEnd}
 use Rattle.goo_ranges.proofs.Maximal.{at-own}
-use Rattle.goo_pieces.proofs.Rest.{drop-piece}
-use Rattle.goo_pieces.proofs.Rising.{rising-back}
+use Rattle.goo_ranges_pieces.proofs.Rest.{drop-piece}
+use Rattle.goo_ranges_pieces.proofs.Rising.{rising-back}
 
 -- the last of some pieces is the one at the index before
 last-taken : (ps front : List Piece) (q : Piece) (i : ℕ) → i ≤ length ps → take i ps ≡ front ++ q ∷ [] → (1 ≤ i) × (q ≡ get_or ps (i - 1) q)

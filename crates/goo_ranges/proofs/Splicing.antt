@@ -9,12 +9,12 @@ use Rattle.goo_types.specs.declared.place.Place.{Place}
 use Rattle.goo_types.specs.declared.piece.Piece.{Piece}
 use Rattle.goo_types.specs.Piece.{Label, label_of, at_of, IsRising, IsRisingFrom}
 use Rattle.goo_spec.specs.Runs.{IsApart}
-use Rattle.goo_pieces.specs.Walk.{end_of}
-use Rattle.goo_pieces.specs.Change.{inside, moved, set_to, meets, one_if, cuts, IsChanged}
-use Rattle.goo_pieces.specs.Touching.{AreNear, IsTouched, IsAround}
+use Rattle.goo_ranges_pieces.specs.Walk.{end_of}
+use Rattle.goo_ranges_pieces.specs.Change.{inside, moved, set_to, meets, one_if, cuts, IsChanged}
+use Rattle.goo_ranges_pieces.specs.Touching.{AreNear, IsTouched, IsAround}
 use Rattle.goo_ranges.proofs.Maximal.{apart-front, apart-back, apart-append, joint-left, joint-right, at-own, forward-of}
-use Rattle.goo_pieces.proofs.Rising.{end_of-append}
-use Rattle.goo_pieces.proofs.Touching.{in-three, spliced-rising, spliced-same}
+use Rattle.goo_ranges_pieces.proofs.Rising.{end_of-append}
+use Rattle.goo_ranges_pieces.proofs.Touching.{in-three, spliced-rising, spliced-same}
 
 pub spliced-apart : (ps : List Piece) (first last from to : ℕ) (place : Place) (out : List Piece) → IsRising ps → IsTouched ps first last from to → IsChanged (moved first last place) (cuts first last) (take (to - from) (drop from ps)) out → IsApart out → IsApart ps → IsApart (take from ps ++ (out ++ drop to ps))
 spliced-apart ps first last from to place out r near changed joined a =

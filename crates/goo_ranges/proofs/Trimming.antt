@@ -3,9 +3,9 @@ use Rattle.std.proofs.Common.{◌≡◌, ℕ, suc, ◌+◌, ◌-◌, ◌<◌, �
 use Rattle.std.specs.List.{remove}
 use Rattle.std.proofs.lemmas.List.{length-take, length-take-le, length-drop}
 use Rattle.goo_types.specs.declared.piece.Piece.{Piece}
-use Rattle.goo_pieces.specs.Touching.{IsTrimmed}
-use Rattle.goo_pieces.proofs.Joining.{take-piece}
-use Rattle.goo_pieces.proofs.Rest.{drop-piece}
+use Rattle.goo_ranges_pieces.specs.Touching.{IsTrimmed}
+use Rattle.goo_ranges_pieces.proofs.Joining.{take-piece}
+use Rattle.goo_ranges_pieces.proofs.Rest.{drop-piece}
 
 head-is : (xs : List Piece) (x : Piece) → 0 < length xs → x ≡ get_or xs 0 x → xs ≡ x ∷ remove xs 0
 head-is [] x some is = absurd (omega arith)

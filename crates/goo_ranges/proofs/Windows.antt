@@ -8,13 +8,13 @@ use Rattle.goo_types.specs.declared.piece.Piece.{Piece}
 use Rattle.goo_types.specs.Piece.{Label, label_of, at_of, IsRising, IsRisingFrom}
 use Rattle.goo_spec.specs.Runs.{IsApart}
 use Rattle.goo_ranges.specs.declared.edits.Edit.{Edit}
-use Rattle.goo_pieces.specs.Walk.{end_of}
-use Rattle.goo_pieces.specs.Change.{inside, moved, set_to, meets}
+use Rattle.goo_ranges_pieces.specs.Walk.{end_of}
+use Rattle.goo_ranges_pieces.specs.Change.{inside, moved, set_to, meets}
 use Rattle.goo_ranges.specs.Edit.{IsExact}
-use Rattle.goo_pieces.proofs.Changing.{or_else-none}
-use Rattle.goo_pieces.proofs.Covers.{covers-inside, covers-above, or_else, at_of-append}
+use Rattle.goo_ranges_pieces.proofs.Changing.{or_else-none}
+use Rattle.goo_ranges_pieces.proofs.Covers.{covers-inside, covers-above, or_else, at_of-append}
 use Rattle.goo_ranges.proofs.Maximal.{apart-front, apart-back, apart-append, joint-left, joint-right}
-use Rattle.goo_pieces.proofs.Rising.{end_of-append, end_of-low, rising-weaken, rising-append, rising-front, rising-back, at_of-below, at_of-above}
+use Rattle.goo_ranges_pieces.proofs.Rising.{end_of-append, end_of-low, rising-weaken, rising-append, rising-front, rising-back, at_of-below, at_of-above}
 use Rattle.goo_ranges.proofs.Splicing.{count-middle}
 
 -- a list begins no earlier than another one where its map is the same before that

@@ -2,7 +2,7 @@
 use Rattle.std.specs.Prelude.{◌≡◌, ℕ, ◌+◌, ◌-◌, ◌<◌, ◌≤◌, List, [], ◌∷◌, ◌++◌, length, take, drop}
 use Rattle.goo_types.specs.declared.piece.Piece.{Piece}
 use Rattle.goo_types.specs.Piece.{at_of, IsRising, IsRisingFrom}
-use Rattle.goo_pieces.specs.Walk.{end_of}
+use Rattle.goo_ranges_pieces.specs.Walk.{end_of}
 
 -- the pieces of pages, one page after another
 abbrev pub joined : List (List Piece) → List Piece

@@ -53,9 +53,12 @@ impl Model for Book {
 }
 
 impl Book {
-    /// The book of these pieces. It is refused at the least index at fault: `Backwards` where that piece
-    /// runs backwards or has two codes, else `Overlap` where it begins at or before the end of the one
-    /// before. A refusal drops the pieces.
+    /// The book of these pieces.
+    ///
+    /// # Errors
+    ///
+    /// At the least index at fault: `Backwards` where that piece runs backwards or has two codes, else `Overlap` where
+    /// it begins at or before the end of the piece before it. The pieces are dropped.
     pub fn new(pieces: Vec<Piece>) -> Result<Self, BookFault>
         ensures ok { IfOk result (λ book. book ≡ pieces.items) }
         ensures sound { IfOk result IsRising }
@@ -77,7 +80,11 @@ impl Book {
         }
     }
 
-    /// A copy of its pieces, rising. `Memory` where an allocation was refused.
+    /// A copy of its pieces, rising.
+    ///
+    /// # Errors
+    ///
+    /// `Memory` where an allocation was refused.
     pub fn to_pieces(&self) -> Result<Vec<Piece>, Fault>
         ensures value { IfOk result (λ pieces. pieces.items ≡ self.now) }
         ensures rising { IfOk result (λ pieces. IsRising self.now) }
@@ -122,7 +129,7 @@ impl Book {
     }
 
     /// The least number of the range whose lot and place fail the test; None where none fails. Numbers
-    /// that the book lacks are passed over. The test is asked once a piece.
+    /// that the book lacks are passed over. The test is called at most once a piece.
     pub fn least_not<F: Fn(Lot, Place) -> bool + Drop>(
         &self,
         range: Range,
@@ -140,8 +147,12 @@ impl Book {
         }
     }
 
-    /// The maximal ranges of consecutive numbers with one lot and one place, rising: no list of ranges
-    /// that gives the same map is shorter. `Memory` where an allocation was refused.
+    /// The maximal ranges of consecutive numbers with one lot and one place, rising: no list of ranges that gives the
+    /// same map is shorter.
+    ///
+    /// # Errors
+    ///
+    /// `Memory` where an allocation was refused.
     pub fn runs(&self) -> Result<Vec<Piece>, Fault>
         ensures runs { IfOk result (λ runs. AreRunsOf (at_of self.now) runs.items) }
         ensures fewest { IfOk result (λ runs. (ranges : List Piece) → Gives ranges (at_of self.now) → length runs.items ≤ length ranges) }
@@ -153,8 +164,11 @@ impl Book {
         }
     }
 
-    /// The maximal ranges of consecutive numbers whose places name one account, whatever their lots,
-    /// rising: each as a piece that this account holds. All have one lot, which says nothing.
+    /// The maximal ranges of consecutive numbers whose places name one account, whatever their lots, rising: each as a
+    /// piece that this account holds. All have one lot, which says nothing.
+    ///
+    /// # Errors
+    ///
     /// `Memory` where an allocation was refused.
     pub fn account_runs(&self) -> Result<Vec<Piece>, Fault>
         ensures runs { IfOk result (λ runs. AreAccountRuns self.now runs.items) }

@@ -1,12 +1,12 @@
 //! Lists of pieces of which numbers are cut out, and into which others are put.
 
 ghost use Rattle.std.specs.Prelude.{◌≡◌, ◌+◌, ◌≤◌, ◌++◌, length, take, drop, OnOk, OnErr, IfOk};
-ghost use Rattle.goo_pieces.specs.Change.{IsKept, IsSet};
-ghost use Rattle.goo_pieces.specs.Walk.{end_of};
+ghost use Rattle.goo_ranges_pieces.specs.Change.{IsKept, IsSet};
+ghost use Rattle.goo_ranges_pieces.specs.Walk.{end_of};
 ghost use Rattle.goo_types.specs.Piece.{label_of, IsRising};
 
-use goo_pieces::joined::push_part;
-use goo_pieces::parts::part;
+use goo_ranges_pieces::joined::push_part;
+use goo_ranges_pieces::parts::part;
 use goo_types::lot::Lot;
 use goo_types::number::Number;
 use goo_types::piece::Piece;
@@ -14,6 +14,10 @@ use goo_types::place::Place;
 use std::alloc::{AllocError, Global};
 
 /// The pieces with their numbers from `low` to `high` alone.
+///
+/// # Errors
+///
+/// `AllocError` where memory was refused.
 pub fn kept_pieces(
     alloc: Global,
     pieces: &[Piece],
@@ -41,6 +45,10 @@ fn last_number(pieces: &[Piece], otherwise: u64) -> u64
 }
 
 /// The pieces with one more in the place of its numbers.
+///
+/// # Errors
+///
+/// `AllocError` where memory was refused.
 pub fn set_pieces(alloc: Global, replaced: &[Piece], new: &Piece) -> Result<Vec<Piece>, AllocError>
     requires { IsRising replaced.now }
     ensures { IfOk result (λ out. IsSet new.now.first new.now.last (label_of new.now) replaced.now out.items) }
@@ -55,8 +63,12 @@ pub fn set_pieces(alloc: Global, replaced: &[Piece], new: &Piece) -> Result<Vec<
     Ok(out)
 }
 
-/// Puts other pieces in the place of those from the index `from` on and below `to`. What stands
-/// before stays where it is. After an error the pieces are unchanged.
+/// Puts other pieces in the place of those from the index `from` on and below `to`. What stands before stays where it
+/// is.
+///
+/// # Errors
+///
+/// `AllocError` where memory was refused; the pieces are then unchanged.
 pub fn put_between(
     pieces: &mut Vec<Piece>,
     from: usize,

@@ -17,8 +17,11 @@ pub struct Edit {
 }
 
 impl Edit {
-    /// The edit that puts a whole row elsewhere, as when its certificates expire. An error where an
-    /// allocation was refused.
+    /// The edit that puts a whole row elsewhere, as when its certificates expire.
+    ///
+    /// # Errors
+    ///
+    /// `AllocError` where memory was refused.
     pub fn of_move(alloc: Global, row: &Piece, place: Place) -> Result<Edit, AllocError>
         ensures deleted { IfOk result (λ edit. edit.delete.items ≡ row.now.first ∷ []) }
         ensures inserted { IfOk result (λ edit. edit.insert.items ≡ record row.now { place = place } ∷ []) }

@@ -9,13 +9,13 @@ ghost use Rattle.goo_ranges.specs.BookFault.{IsLeastFault};
 ghost use Rattle.goo_types.specs.Number.{code_of};
 ghost use Rattle.goo_spec.specs.Maps.{least_absent, least_failing};
 ghost use Rattle.goo_ranges.specs.Paging.{begin_of};
-ghost use Rattle.goo_pieces.specs.Walk.{end_of, span, IsRest};
+ghost use Rattle.goo_ranges_pieces.specs.Walk.{end_of, span, IsRest};
 ghost use Rattle.goo_types.specs.Piece.{at_of, IsRising};
 ghost use Rattle.goo_spec.specs.Runs.{AreRunsOf, Gives};
 
 use crate::faults::BookFault;
-use goo_pieces::joined::push_joined;
-use goo_pieces::lookups::{least_missing, reaching};
+use goo_ranges_pieces::joined::push_joined;
+use goo_ranges_pieces::lookups::{least_missing, reaching};
 use goo_types::fault::Fault;
 use goo_types::lot::Lot;
 use goo_types::number::Number;
@@ -47,9 +47,12 @@ impl Model for Page {
 }
 
 impl Page {
-    /// The page of these pieces. It is refused at the least index at fault: `Backwards` where that piece
-    /// runs backwards or has two codes, else `Overlap` where it begins at or before the end of the one
-    /// before. A refusal drops the pieces.
+    /// The page of these pieces.
+    ///
+    /// # Errors
+    ///
+    /// At the least index at fault: `Backwards` where that piece runs backwards or has two codes, else `Overlap` where
+    /// it begins at or before the end of the piece before it. The pieces are dropped.
     pub fn new(pieces: Vec<Piece>) -> Result<Self, BookFault>
         ensures ok { IfOk result (λ book. book ≡ pieces.items) }
         ensures sound { IfOk result IsRising }
@@ -82,7 +85,11 @@ impl Page {
         self.pieces.as_slice()
     }
 
-    /// A copy of its pieces. `Memory` where an allocation was refused.
+    /// A copy of its pieces.
+    ///
+    /// # Errors
+    ///
+    /// `Memory` where an allocation was refused.
     pub fn to_pieces(&self) -> Result<Vec<Piece>, Fault>
         ensures value { IfOk result (λ pieces. pieces.items ≡ self.now) }
         ensures rising { IsRising self.now }
@@ -92,7 +99,7 @@ impl Page {
         Ok(pieces)
     }
 
-    /// What its memory comes from: there is one such thing only.
+    /// The allocator of its list.
     pub fn allocator(&self) -> Global
         ensures { (other : Memory) → result ≡ other }
     {
@@ -184,8 +191,12 @@ impl Page {
         None
     }
 
-    /// The maximal ranges of consecutive numbers with one lot and one place, rising: no list of ranges
-    /// that gives the same map is shorter. `Memory` where an allocation was refused.
+    /// The maximal ranges of consecutive numbers with one lot and one place, rising: no list of ranges that gives the
+    /// same map is shorter.
+    ///
+    /// # Errors
+    ///
+    /// `Memory` where an allocation was refused.
     pub fn runs(&self) -> Result<Vec<Piece>, Fault>
         ensures runs { IfOk result (λ runs. AreRunsOf (at_of self.now) runs.items) }
         ensures fewest { IfOk result (λ runs. (ranges : List Piece) → Gives ranges (at_of self.now) → length runs.items ≤ length ranges) }

@@ -7,7 +7,7 @@ ghost use Rattle.goo_types.specs.Number.{code_of};
 ghost use Rattle.goo_types.specs.Piece.{at_of, IsRising, IsRisingFrom};
 ghost use Rattle.goo_spec.specs.Maps.{least_absent, least_failing};
 ghost use Rattle.goo_ranges.specs.Paging.{joined, AreFilled, IsLeft};
-ghost use Rattle.goo_pieces.specs.Walk.{end_of, span};
+ghost use Rattle.goo_ranges_pieces.specs.Walk.{end_of, span};
 
 use crate::page::Page;
 use goo_types::lot::Lot;
@@ -41,7 +41,11 @@ fn count_begun(pages: &[Page], number: u64) -> usize
     pages.partition_point(|page| page.begins_by(number))
 }
 
-/// The pieces of all pages in one page. An error where an allocation was refused.
+/// The pieces of all pages in one page.
+///
+/// # Errors
+///
+/// `AllocError` where memory was refused.
 pub fn joined_page(alloc: Global, pages: &[Page]) -> Result<Page, AllocError>
     requires { IsRising (joined pages.now) }
     ensures { IfOk result (λ page. page ≡ joined pages.now) }

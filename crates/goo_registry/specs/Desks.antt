@@ -1,6 +1,6 @@
 -- A registry as a desk, at one moment.
 use Rattle.goo_registry_desk.specs.Desk.{Seen}
-use Rattle.goo_shelf.specs.Shelf.{Moment}
+use Rattle.goo_core_shelf.specs.Shelf.{Moment}
 
 abbrev pub seen_of : Moment → Seen
 seen_of m = record { state = m.state; lies = m.lies; doubts = m.doubts; refusals = m.refusals }

@@ -1,18 +1,18 @@
 //! An account's row, and its certificates run by run.
 
 ghost use Rattle.std.specs.Prelude.{◌≡◌, IfOk, IfSome};
-ghost use Rattle.goo_rows.specs.Rows.{AreRowsOf};
+ghost use Rattle.goo_ranges_rows.specs.Rows.{AreRowsOf};
 ghost use Rattle.goo_spec.specs.Sound.{IsSound};
-ghost use Rattle.goo_shelf.specs.Shelf.{Looks, IsReady};
+ghost use Rattle.goo_core_shelf.specs.Shelf.{Looks, IsReady};
 ghost use Rattle.goo_spec_runs.specs.NextRun.{from_of, BeginsFrom};
 ghost use Rattle.goo_registry.specs.AccountReads.{IsAccountShown, IsHeadingShown, IsNextRunShown};
 
 use crate::access::{absent_denial, account_denial};
 use crate::heading::Heading;
-use goo_answers::denial::Denial;
-use goo_answers::next_run::next_run_naming;
-use goo_shelf::account::Account;
-use goo_shelf::shelf::Shelf;
+use goo_core_answers::denial::Denial;
+use goo_core_answers::next_run::next_run_naming;
+use goo_core_shelf::account::Account;
+use goo_core_shelf::shelf::Shelf;
 use goo_types::account_no::AccountNo;
 use goo_types::fault::Fault;
 use goo_types::holder_code::HolderCode;
@@ -38,6 +38,12 @@ fn find_account<S: Shelf>(
 }
 
 /// What stands before an account's certificates, or why it isn't shown.
+///
+/// # Errors
+///
+/// `Store` where the shelf answers it, `Memory` where memory was refused. State and rows stay as they are. Within
+/// an answer, `NotAllowed` to a caller who is neither the issuing body nor the account's holder, and `Unknown` to
+/// the issuing body for an account that isn't there.
 pub fn find_heading<S: Shelf>(
     shelf: &mut S,
     caller: &HolderCode,
@@ -60,6 +66,12 @@ pub fn find_heading<S: Shelf>(
 }
 
 /// The first run of an account's certificates after a number, or why it isn't shown.
+///
+/// # Errors
+///
+/// `Store` where the shelf answers it, `Memory` where memory was refused. State and rows stay as they are. Within
+/// an answer, `NotAllowed` to a caller who is neither the issuing body nor the account's holder, and `Unknown` to
+/// the issuing body for an account that isn't there.
 pub fn find_next_run<S: Shelf>(
     shelf: &mut S,
     caller: &HolderCode,

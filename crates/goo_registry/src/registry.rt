@@ -1,7 +1,7 @@
 //! A registry over what keeps its records: requests, and what may be read of it.
 
 ghost use Rattle.std.specs.Prelude.{◌≡◌, IfOk, IfSome};
-ghost use Rattle.goo_rows.specs.Rows.{AreRowsOf, rows-prop};
+ghost use Rattle.goo_ranges_rows.specs.Rows.{AreRowsOf, rows-prop};
 ghost use Rattle.goo_spec.specs.Balanced.{IsBalanced};
 ghost use Rattle.goo_spec.specs.Promise.{HaveTheirPlace, AreThoseBrought, OthersAreIdle};
 ghost use Rattle.goo_spec.specs.Sound.{IsSound};
@@ -23,10 +23,10 @@ use crate::place::find_place;
 use crate::read_fault::ReadFault;
 use crate::run::run_all;
 use crate::run_fault::RunFault;
-use goo_answers::audit::find_totals;
-use goo_answers::denial::Denial;
-use goo_shelf::found::DeviceTotals;
-use goo_shelf::shelf::Shelf;
+use goo_core_answers::audit::find_totals;
+use goo_core_answers::denial::Denial;
+use goo_core_shelf::found::DeviceTotals;
+use goo_core_shelf::shelf::Shelf;
 use goo_types::account_no::AccountNo;
 use goo_types::act_no::ActNo;
 use goo_types::fault::Fault;
@@ -48,7 +48,7 @@ pub struct Registry<S: Shelf> {
     ghost kept: { (S.seen shelf).doubts ≡ 0 → AreRowsOf (S.seen shelf).state.at (S.seen shelf).rows } by { λ x y i none. rows-prop (S.seen shelf).state.at (S.seen shelf).rows (x none) (y none) i },
 }
 
-/// An answer that may deny or fail, in one.
+/// The result of an answer that may be a denial or a fault.
 fn told<T: Drop>(answer: Result<Result<T, Denial>, Fault>) -> Result<T, ReadFault>
     ensures { answer_of result ≡ answer }
 {
@@ -79,27 +79,53 @@ impl<S: Shelf> Registry<S> {
         shelf
     }
 
-    /// One request: what it comes to, and the state goes on as it says. A refused and a repeated request
-    /// change nothing; an accepted one is committed as a whole. A fault takes the place of the answer and
-    /// leaves everything as it was: `Store` where what lies below refused a call, `Memory` where memory
-    /// was refused.
+    /// Applies one request. A refused and a repeated request change nothing; an accepted one is committed as a whole.
+    ///
+    /// # Errors
+    ///
+    /// `Store` where what lies below refused a call, `Memory` where memory was refused: a fault takes the place of the
+    /// answer and leaves everything as it was.
+    ///
+    /// # Example
+    ///
+    /// ```rust,ignore
+    /// let sun = HolderCode::read("SUN".as_bytes())?;
+    /// let body = r#"{"command":"transfer","first":"07000000000100","giver":1,"key":"given","last":"07000000000199","taker":2}"#;
+    /// let request = read_command(alloc, &sun, body.as_bytes())?;
+    /// let outcome = registry.apply(alloc, &request)?;
+    /// // Accepted(Reply::Moved { count: 100 }) the first time, and Repeated with that reply when it is sent again;
+    /// // Refused(Refusal::NotHeld(number)) where account 1 doesn't hold them all: `number` is the least that it doesn't hold.
+    /// ```
     pub fn apply(&mut self, alloc: Global, request: &Request) -> Result<Outcome, Fault>
         ensures { Applies (S.seen self.old.shelf) (S.seen self.new.shelf) result request.now }
     {
         carry_out(alloc, &mut self.shelf, request)
     }
 
-    /// Requests in order: what each comes to, or the first fault and what was answered before. Those that
-    /// were answered stand; the request of the fault changed nothing, and the later ones weren't tried.
-    /// Room for all outcomes is taken first: where it is refused, that is a `Memory` with nothing done.
-    ///
-    /// A run of one request does what `apply` does.
+    /// Applies requests in order, and gives their outcomes in this order. A run of one request does what `apply` does.
     ///
     /// What a registry promises, of the requests that were answered:
     /// - `energy`: each device's declared net energy in Wh is 1,000,000 times its issued certificates plus a carry below 1,000,000;
     /// - `one_place`: each certificate known before, and each ever issued or imported, is in one place: the one that the
     ///   accepted requests, each once, give it when they are applied certificate by certificate (`known`: there are no others);
     /// - `others_idle`: refused and repeated requests change nothing.
+    ///
+    /// # Errors
+    ///
+    /// The first fault, and the outcomes of the requests before it, which stand; the request of the fault changed
+    /// nothing, and the later ones weren't tried. Room for all outcomes is taken first: where it is refused, that is a
+    /// `Memory` with nothing done.
+    ///
+    /// # Example
+    ///
+    /// ```rust,ignore
+    /// match registry.run(alloc, &requests) {
+    ///     // One outcome for each request, in order.
+    ///     Ok(outcomes) => show(&outcomes),
+    ///     // The requests of `stop.done` stand, and the others may be sent again; `stop.fault` is Store or Memory.
+    ///     Err(stop) => show(&stop.done),
+    /// }
+    /// ```
     pub fn run(&mut self, alloc: Global, requests: &[Request]) -> Result<Vec<Outcome>, RunFault>
         ensures runs { Runs (S.seen self.old.shelf) (S.seen self.new.shelf) result requests.now }
         ensures one { RunsAsOne (S.seen self.old.shelf) (S.seen self.new.shelf) result requests.now }
@@ -111,9 +137,13 @@ impl<S: Shelf> Registry<S> {
         run_all(alloc, &mut self.shelf, requests)
     }
 
-    /// The lot and the place of a certificate: `NotAllowed` to a caller that is neither the issuing body
-    /// nor a holder; `Unknown` where there is no such certificate, and to a holder where its place names
-    /// none of his accounts.
+    /// The lot and the place of a certificate.
+    ///
+    /// # Errors
+    ///
+    /// `NotAllowed` to a caller who is neither the issuing body nor a holder; `Unknown` where there is no such
+    /// certificate, and to a holder where its place names none of his accounts. `Store` where what lies below refused a
+    /// call, `Memory` where memory was refused. The registry stays as it is.
     pub fn place_of(
         &mut self,
         alloc: Global,
@@ -125,9 +155,14 @@ impl<S: Shelf> Registry<S> {
         told(find_place(alloc, &mut self.shelf, caller, number))
     }
 
-    /// The certificates whose place names an account, as maximal runs of one lot and one place, rising:
-    /// to the issuing body and to the account's holder. For an account that isn't there `Unknown` to the
-    /// issuing body, and `NotAllowed` to any other caller.
+    /// The certificates whose place names an account, as maximal runs of one lot and one place, rising. They are shown
+    /// to the issuing body and to the account's holder.
+    ///
+    /// # Errors
+    ///
+    /// `NotAllowed` to any other caller; for an account that isn't there `Unknown` to the issuing body, and
+    /// `NotAllowed` to all others. `Store` where what lies below refused a call, `Memory` where memory was refused. The
+    /// registry stays as it is.
     pub fn holdings(
         &mut self,
         alloc: Global,
@@ -139,18 +174,29 @@ impl<S: Shelf> Registry<S> {
         told(find_holdings(alloc, &mut self.shelf, caller, account))
     }
 
-    /// What stands before the certificates of an account: the registry's code and date, and who holds the account and whether
-    /// it is closed. It is shown to the issuing body and to the account's holder. For an account that isn't there `Unknown` to the
-    /// issuing body, and `NotAllowed` to any other caller.
+    /// What stands before the certificates of an account: the registry's code and date, who holds the account and
+    /// whether it is closed. It is shown to the issuing body and to the account's holder.
+    ///
+    /// # Errors
+    ///
+    /// `NotAllowed` to any other caller; for an account that isn't there `Unknown` to the issuing body, and
+    /// `NotAllowed` to all others. `Store` where what lies below refused a call, `Memory` where memory was refused. The
+    /// registry stays as it is.
     pub fn heading(&mut self, caller: &HolderCode, account: AccountNo) -> Result<Heading, ReadFault>
         ensures { Shows (S.seen self.old.shelf) (S.seen self.new.shelf) result (IsHeadingShown (S.seen self.old.shelf).state caller.now account) }
     {
         told(find_heading(&mut self.shelf, caller, account))
     }
 
-    /// The first of the maximal runs of an account's certificates after a number, or of all of them; None where there are
-    /// none. It is shown to those who may see [`holdings`](Registry::holdings). Asked with the last number of the run before each
-    /// time, it gives all of them, and holds no more than two rows at a time.
+    /// The first of the maximal runs of an account's certificates after a number, or of all of them; None where there
+    /// are none. It is shown to those who may see [`holdings`](Registry::holdings). Called each time with the last
+    /// number of the run before, it gives all of them, and holds no more than two rows at a time.
+    ///
+    /// # Errors
+    ///
+    /// `NotAllowed` to any other caller; for an account that isn't there `Unknown` to the issuing body, and
+    /// `NotAllowed` to all others. `Store` where what lies below refused a call, `Memory` where memory was refused. The
+    /// registry stays as it is.
     pub fn next_run(
         &mut self,
         caller: &HolderCode,
@@ -163,8 +209,14 @@ impl<S: Shelf> Registry<S> {
         told(find_next_run(&mut self.shelf, caller, account, after))
     }
 
-    /// What a cancellation came to: to the issuing body and to the holder of its account. For one that
-    /// isn't there `Unknown` to the issuing body, and `NotAllowed` to any other caller.
+    /// A cancellation: its record, its holder and its certificates. It is shown to the issuing body and to the holder
+    /// of its account.
+    ///
+    /// # Errors
+    ///
+    /// `NotAllowed` to any other caller; for a cancellation that isn't there `Unknown` to the issuing body, and
+    /// `NotAllowed` to all others. `Store` where what lies below refused a call, `Memory` where memory was refused. The
+    /// registry stays as it is.
     pub fn cancellation(
         &mut self,
         alloc: Global,
@@ -176,8 +228,13 @@ impl<S: Shelf> Registry<S> {
         told(find_cancellation(alloc, &mut self.shelf, caller, act))
     }
 
-    /// A notice that was sent: to the issuing body and to the holder of the account that it exports
-    /// from. For one that isn't there `Unknown` to the issuing body, and `NotAllowed` to any other caller.
+    /// A notice that was sent. It is shown to the issuing body and to the holder of the account that it exports from.
+    ///
+    /// # Errors
+    ///
+    /// `NotAllowed` to any other caller; for a notice that isn't there `Unknown` to the issuing body, and `NotAllowed`
+    /// to all others. `Store` where what lies below refused a call, `Memory` where memory was refused. The registry
+    /// stays as it is.
     pub fn notice(
         &mut self,
         alloc: Global,
@@ -191,6 +248,11 @@ impl<S: Shelf> Registry<S> {
 
     /// The declared net energy in Wh, the certificates issued and the carry in Wh of each device, by
     /// device: to the issuing body alone.
+    ///
+    /// # Errors
+    ///
+    /// `NotAllowed` to every caller but the issuing body. `Store` where what lies below refused a call, `Memory` where
+    /// memory was refused. The registry stays as it is.
     pub fn audit(
         &mut self,
         alloc: Global,

@@ -4,7 +4,7 @@ use Rattle.std.proofs.lemmas.Bool.{cases_lt, cases_Bool}
 use Rattle.goo_types.specs.Number.{code_of}
 use Rattle.goo_types.specs.declared.piece.Piece.{Piece}
 use Rattle.goo_types.specs.Piece.{label_of, at_of, covers, IsRising, IsRisingFrom, Follows}
-use Rattle.goo_pieces.proofs.Covers.{covers-inside, covers-below, covers-above}
+use Rattle.goo_ranges_pieces.proofs.Covers.{covers-inside, covers-below, covers-above}
 use Rattle.goo_spec.specs.Runs.{IsNotFollowed, IsApart, AreRunsOf}
 use Rattle.goo_spec_runs.specs.Joined.{follows, put_before, joined, AreCoded}
 use Rattle.goo_spec_runs.proofs.Labels.{Decides-follows}

@@ -5,8 +5,8 @@ use Rattle.std.proofs.lemmas.Bool.Decides.{nat_tests}
 use Rattle.goo_types.specs.Number.{code_of}
 use Rattle.goo_types.specs.declared.piece.Piece.{Piece}
 use Rattle.goo_types.specs.Piece.{at_of, covers, IsForward, IsRisingFrom}
-use Rattle.goo_pieces.proofs.Covers.{covers-inside, covers-below, covers-above}
-use Rattle.goo_pieces.proofs.Rising.{at_of-below}
+use Rattle.goo_ranges_pieces.proofs.Covers.{covers-inside, covers-below, covers-above}
+use Rattle.goo_ranges_pieces.proofs.Rising.{at_of-below}
 use Rattle.goo_spec.proofs.Pieces.{one_code}
 use Rattle.goo_spec_runs.specs.Joined.{AreCoded}
 use Rattle.goo_spec_runs.specs.NextRun.{above, ending_from, first_of, part_from}

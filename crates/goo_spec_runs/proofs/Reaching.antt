@@ -2,7 +2,7 @@
 use Rattle.std.proofs.Common.{◌≡◌, ◌∙◌, ℕ, ◌+◌, ◌≤◌, nat_le, List, [], ◌∷◌, cond, Option, Some, None, ap, arith}
 use Rattle.goo_types.specs.declared.piece.Piece.{Piece}
 use Rattle.goo_types.specs.Piece.{Label, label_of, at_of, covers, IsRising, IsRisingFrom, Follows}
-use Rattle.goo_pieces.proofs.Rising.{rising-weaken}
+use Rattle.goo_ranges_pieces.proofs.Rising.{rising-weaken}
 use Rattle.goo_spec_runs.specs.Joined.{joined, AreCoded}
 use Rattle.goo_spec_runs.specs.NextRun.{above, ending_from, first_of, part_from, IsNextRun}
 use Rattle.goo_spec_runs.proofs.Joining.{up_to, run_code, same_joined, joined_rising, joined_apart, joined_same, joined_free}

@@ -3,8 +3,8 @@ use Rattle.std.proofs.Common.{◌≡◌, ◌∙◌, ℕ, ◌+◌, ◌<◌, ◌�
 use Rattle.std.proofs.lemmas.List.{append-nil}
 use Rattle.goo_types.specs.declared.piece.Piece.{Piece}
 use Rattle.goo_types.specs.Piece.{Label, label_of, at_of}
-use Rattle.goo_pieces.proofs.Covers.{covers-above}
-use Rattle.goo_pieces.proofs.Rising.{at_of-below, rising-weaken}
+use Rattle.goo_ranges_pieces.proofs.Covers.{covers-above}
+use Rattle.goo_ranges_pieces.proofs.Rising.{at_of-below, rising-weaken}
 use Rattle.goo_spec.specs.Runs.{AreRunsOf}
 use Rattle.goo_spec.proofs.Unique.{one_list_of_runs}
 use Rattle.goo_spec_runs.specs.NextRun.{above, IsNextRun, BeginsFrom}

@@ -5,23 +5,23 @@ use Rattle.sqlite_trees.specs.View.{doubt}
 use Rattle.sqlite.specs.State.{State, HasCleanDisk, Survives}
 use Rattle.sqlite.specs.declared.error.Error.{Error}
 use Rattle.goo_types.specs.declared.fault.Fault.{Fault}
-use Rattle.goo_shelf.specs.declared.plan.Plan.{Plan}
-use Rattle.goo_columns.specs.Refused.{IsFault, IsTooBigOrFull}
-use Rattle.goo_columns.specs.Rows.{Tables}
-use Rattle.goo_columns.specs.Stands.{Stands, Holds, doubts}
-use Rattle.goo_changes.specs.Changes.{made_all, AreFor, AreFree, HaveRoom}
-use Rattle.goo_changes.specs.declared.change.Change.{Change}
-use Rattle.goo_plans.specs.Passing.{IsTroubleOf}
-use Rattle.goo_plans.specs.Planned.{IsPlanned}
-use Rattle.goo_plans.specs.Room.{HaveRowids}
-use Rattle.goo_plans.specs.declared.trouble.Trouble.{Trouble}
-use Rattle.goo_plans.specs.declared.trouble.Trouble.TheVariants.{Memory, Refused}
-use Rattle.goo_plans.proofs.Refusing.{more_faults}
+use Rattle.goo_core_shelf.specs.declared.plan.Plan.{Plan}
+use Rattle.goo_tables_rows.specs.Refused.{IsFault, IsTooBigOrFull}
+use Rattle.goo_tables_rows.specs.Rows.{Tables}
+use Rattle.goo_tables_rows.specs.Stands.{Stands, Holds, doubts}
+use Rattle.goo_store_changes.specs.Changes.{made_all, AreFor, AreFree, HaveRoom}
+use Rattle.goo_store_changes.specs.declared.change.TableChange.{TableChange}
+use Rattle.goo_store_values.specs.Passing.{IsTroubleOf}
+use Rattle.goo_store_plans.specs.Planned.{IsPlanned}
+use Rattle.goo_store_plans.specs.Room.{HaveRowids}
+use Rattle.goo_store_values.specs.declared.trouble.Trouble.{Trouble}
+use Rattle.goo_store_values.specs.declared.trouble.Trouble.TheVariants.{Memory, Refused}
+use Rattle.goo_store_plans.proofs.Refusing.{more_faults}
 use Rattle.goo_store.specs.Gathering.{BlamesCommit, CanCarryOut, HaveWhatItNeeds}
-use Rattle.goo_lookups.specs.Holding.{is_sure, sure}
-use Rattle.goo_lookups.specs.Moments.{moment, tables_in, IsWell}
+use Rattle.goo_store_lookups.specs.Holding.{is_sure, sure}
+use Rattle.goo_store_lookups.specs.Moments.{moment, tables_in, IsWell}
 use Rattle.goo_store.specs.Preparing.{Prepares}
-use Rattle.goo_lookups.specs.Telling.{PassesOn, Tells}
+use Rattle.goo_store_values.specs.Telling.{PassesOn, Tells}
 use Rattle.goo_store.proofs.Gathering.{told_so}
 
 -- what is gathered is refused, and nothing is committed
@@ -42,7 +42,7 @@ ended_so old mid new room has live up (Err e) (Err Refused) passes cause blames 
     λ _. elim blames [ inl fault ↦ (let more = more_faults mid new e live cause fault in omega (arith, up, more)) | inr big ↦ absurd (big.1 has) ]
 
 module _ (old mid new : State) (a b c : Bool) (plan : Plan) {T : Type 0} (gathered : T) (prepares : Prepares (moment old a) (moment mid b) (Ok gathered)) (first : BlamesCommit old mid a (Ok gathered) (λ t. HaveWhatItNeeds t plan))
-    (it : IsWell mid) (same : doubts mid ≡ 0 → tables_in mid ≡ tables_in old) (changes : List Change) (planned : doubts mid ≡ 0 → IsPlanned (tables_in mid) changes plan) (made : Result (Unit {0}) Error)
+    (it : IsWell mid) (same : doubts mid ≡ 0 → tables_in mid ≡ tables_in old) (changes : List TableChange) (planned : doubts mid ≡ 0 → IsPlanned (tables_in mid) changes plan) (made : Result (Unit {0}) Error)
     (clean : doubt mid.is_clean ≤ doubt new.is_clean) (crash : (t : Tables) → Stands mid.now t → AreFor t changes → Survives mid new (Holds (made_all t changes)))
     (refused : HasCleanDisk new → mid.step_limit ≡ None → (t : Tables) → Stands mid.now t → AreFor t changes → AreFree t changes → IfErr made (λ e. IsFault mid new e ⊎ (IsTooBigOrFull e × (HaveRoom t changes → ⊥))))
     (read : Result (Unit {0}) Trouble) (passes : PassesOn made read) (cause : IfErr made (λ e. IfErr read (IsTroubleOf e))) (result : Result (Unit {0}) Fault) (told : Tells read result b c) where

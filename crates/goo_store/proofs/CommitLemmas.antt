@@ -9,24 +9,24 @@ use Rattle.goo_types.specs.declared.fault.Fault.{Fault}
 use Rattle.goo_types.specs.declared.fault.Fault.TheVariants as fault
 use Rattle.goo_spec.specs.State as registry
 use Rattle.goo_spec.specs.Step.{accept}
-use Rattle.goo_shelf.specs.Shelf as shelf
-use Rattle.goo_shelf.specs.Plan.{Commits, IsEither}
-use Rattle.goo_shelf.specs.declared.plan.Plan.{Plan}
-use Rattle.goo_columns.specs.Columns.{registry_schema}
-use Rattle.goo_columns.specs.Rows.{Tables, tables_of}
-use Rattle.goo_columns.specs.Stands.{Stands, Settled, Holds, doubts}
-use Rattle.goo_columns.proofs.Decoded.{decoded}
-use Rattle.goo_changes.specs.declared.change.Change.{Change}
-use Rattle.goo_plans.specs.declared.trouble.Trouble.{Trouble}
-use Rattle.goo_plans.specs.declared.trouble.Trouble.TheVariants.{Memory, Refused}
-use Rattle.goo_changes.specs.Changes.{made_all, AreFor}
-use Rattle.goo_kept.specs.Kept.{AreKept}
-use Rattle.goo_lookups.specs.Moments.{tables_in, OpensAs, count, moment, IsWell}
-use Rattle.goo_kept.specs.Places.{rows_of}
-use Rattle.goo_plans.specs.Planned.{IsPlanned}
-use Rattle.goo_kept.specs.States.{state_of}
-use Rattle.goo_lookups.specs.Telling.{PassesOn, Tells}
-use Rattle.goo_lookups.specs.Holding.{is_sure, sure, LeavesCommit, opens_so, left_by}
+use Rattle.goo_core_shelf.specs.Shelf as shelf
+use Rattle.goo_core_shelf.specs.Plan.{Commits, IsEither}
+use Rattle.goo_core_shelf.specs.declared.plan.Plan.{Plan}
+use Rattle.goo_tables_rows.specs.Columns.{registry_schema}
+use Rattle.goo_tables_rows.specs.Rows.{Tables, tables_of}
+use Rattle.goo_tables_rows.specs.Stands.{Stands, Settled, Holds, doubts}
+use Rattle.goo_tables_rows.proofs.Decoded.{decoded}
+use Rattle.goo_store_changes.specs.declared.change.TableChange.{TableChange}
+use Rattle.goo_store_values.specs.declared.trouble.Trouble.{Trouble}
+use Rattle.goo_store_values.specs.declared.trouble.Trouble.TheVariants.{Memory, Refused}
+use Rattle.goo_store_changes.specs.Changes.{made_all, AreFor}
+use Rattle.goo_spec_tables.specs.Kept.{AreKept}
+use Rattle.goo_store_lookups.specs.Moments.{tables_in, OpensAs, count, moment, IsWell}
+use Rattle.goo_spec_tables.specs.Places.{rows_of}
+use Rattle.goo_store_plans.specs.Planned.{IsPlanned}
+use Rattle.goo_spec_tables.specs.States.{state_of}
+use Rattle.goo_store_values.specs.Telling.{PassesOn, Tells}
+use Rattle.goo_store_lookups.specs.Holding.{is_sure, sure, LeavesCommit, opens_so, left_by}
 
 -- trees that hold these tables are read as them
 held_tables : (t : Tables) (db : Trees) → Holds t db → tables_of db ≡ t
@@ -37,7 +37,7 @@ opens_held t db o holds kept opens =
     let same = held_tables t db holds in
     opens_so db o (subst (λ u. Holds u db) (sym same) holds) (subst AreKept (sym same) kept) opens ∙ ap (λ u. Some (state_of u)) same
 
-module _ (old new : State) (it : IsWell old) (changes : List Change) (plan : Plan) (planned : doubts old ≡ 0 → IsPlanned (tables_in old) changes plan) (r : Result (Unit {0}) Error)
+module _ (old new : State) (it : IsWell old) (changes : List TableChange) (plan : Plan) (planned : doubts old ≡ 0 → IsPlanned (tables_in old) changes plan) (r : Result (Unit {0}) Error)
     (clean : doubt old.is_clean ≤ doubt new.is_clean) (was_open : HasCleanDisk new → IsTrue new.is_open → IsTrue old.is_open) (works : OnOk r (HasCleanDisk new → IsTrue new.is_open))
     (done : HasCleanDisk new → (t : Tables) → Stands old.now t → AreFor t changes → OnOk r (Settled new (made_all t changes)))
     (kept : HasCleanDisk new → IsTrue new.is_open → (t : Tables) → Stands old.now t → AreFor t changes → OnErr r ((new.now ≡ old.now) × (new.committed ≡ old.committed)))

@@ -5,14 +5,14 @@ use Rattle.goo_types.specs.declared.fault.Fault.{Fault}
 use Rattle.goo_types.specs.declared.fault.Fault.TheVariants.{Store, Memory}
 use Rattle.goo_spec.specs.State.{State}
 use Rattle.goo_spec.specs.Step.{accept}
-use Rattle.goo_rows.specs.Rows.{edited_all}
-use Rattle.goo_shelf.specs.Plan.{Fits, Commits, IsEither}
-use Rattle.goo_shelf.specs.Shelf.{Moment, Looks, IsTold}
-use Rattle.goo_shelf.specs.declared.plan.Plan.{Plan}
-use Rattle.goo_lookups.specs.Holding.{LeavesCommit}
-use Rattle.goo_lookups.specs.Moments.{count, moment, IsWell}
+use Rattle.goo_ranges_rows.specs.Rows.{edited_all}
+use Rattle.goo_core_shelf.specs.Plan.{Fits, Commits, IsEither}
+use Rattle.goo_core_shelf.specs.Shelf.{Moment, Looks, IsTold}
+use Rattle.goo_core_shelf.specs.declared.plan.Plan.{Plan}
+use Rattle.goo_store_lookups.specs.Holding.{LeavesCommit}
+use Rattle.goo_store_lookups.specs.Moments.{count, moment, IsWell}
 use Rattle.goo_store.specs.Preparing.{Prepares}
-use Rattle.goo_lookups.proofs.Looking.{refused_look}
+use Rattle.goo_store_lookups.proofs.Looking.{refused_look}
 
 -- the flag of a shelf that answers is down
 pub not_refused : (f : Bool) → count f ≡ 0 → f ≡ false

@@ -8,18 +8,18 @@ use Rattle.goo_spec.specs.Created.{created}
 use Rattle.goo_spec.specs.Energy.{carry, total}
 use Rattle.goo_spec.specs.Sound.{IsSound}
 use Rattle.goo_spec.proofs.Creating.{created_is_sound}
-use Rattle.goo_rows.specs.Certificates.{certificates_of}
-use Rattle.goo_columns.specs.Stands.{Stands, Settled, doubts}
-use Rattle.goo_columns.proofs.Decoded.{decoded}
-use Rattle.goo_held.specs.Changes.{begun}
+use Rattle.goo_ranges_rows.specs.Certificates.{certificates_of}
+use Rattle.goo_tables_rows.specs.Stands.{Stands, Settled, doubts}
+use Rattle.goo_tables_rows.proofs.Decoded.{decoded}
+use Rattle.goo_tables_holdings.specs.Changes.{begun}
 use Rattle.goo_store.specs.Creating.{meta_of, IsFirst}
-use Rattle.goo_kept.specs.Kept.{AreKept}
-use Rattle.goo_lookups.specs.Moments.{IsWell, tables_in}
-use Rattle.goo_kept.specs.Places.{rows_of}
-use Rattle.goo_kept.specs.Readable.{is_meta, reads}
-use Rattle.goo_kept.specs.States.{state_of}
-use Rattle.goo_lookups.specs.Holding.{sure}
-use Rattle.goo_kept.proofs.Known.{day_back}
+use Rattle.goo_spec_tables.specs.Kept.{AreKept}
+use Rattle.goo_store_lookups.specs.Moments.{IsWell, tables_in}
+use Rattle.goo_spec_tables.specs.Places.{rows_of}
+use Rattle.goo_spec_tables.specs.Readable.{is_meta, reads}
+use Rattle.goo_spec_tables.specs.States.{state_of}
+use Rattle.goo_store_lookups.specs.Holding.{sure}
+use Rattle.goo_spec_tables.proofs.Known.{day_back}
 
 module _ (code : ℕ) (today : CalendarDay) (next_serial : ℕ) (it : IsFirst code today next_serial) where
   -- its tables stand for the state of a new registry

@@ -5,16 +5,16 @@ use Rattle.sqlite.specs.State.{State, HasCleanDisk}
 use Rattle.sqlite.specs.declared.error.Error.{Error}
 use Rattle.goo_types.specs.Day.{CalendarDay}
 use Rattle.goo_types.proofs.DayLemmas.{day_reading-day_text}
-use Rattle.goo_columns.specs.Refused.{IsFault, IsSmall}
-use Rattle.goo_columns.specs.Rows.{meta_row}
-use Rattle.goo_kept.specs.Readable.{reads}
-use Rattle.goo_lookups.specs.Opening.{BlamesOpening}
-use Rattle.goo_opening.specs.declared.fault.OpenFault.{OpenFault}
-use Rattle.goo_opening.specs.declared.fault.OpenFault.TheVariants as opening
-use Rattle.goo_plans.specs.Passing.{IsTroubleOf, open_fault_of}
-use Rattle.goo_plans.specs.declared.trouble.Trouble.{Trouble}
-use Rattle.goo_plans.specs.declared.trouble.Trouble.TheVariants.{Memory, Refused}
-use Rattle.goo_plans.proofs.SmallRows.{small_meta}
+use Rattle.goo_tables_rows.specs.Refused.{IsFault, IsSmall}
+use Rattle.goo_tables_rows.specs.Rows.{meta_row}
+use Rattle.goo_spec_tables.specs.Readable.{reads}
+use Rattle.goo_store_lookups.specs.Opening.{BlamesOpening}
+use Rattle.goo_store_open.specs.declared.fault.OpenFault.{OpenFault}
+use Rattle.goo_store_open.specs.declared.fault.OpenFault.TheVariants as opening
+use Rattle.goo_store_values.specs.Passing.{IsTroubleOf, open_fault_of}
+use Rattle.goo_store_values.specs.declared.trouble.Trouble.{Trouble}
+use Rattle.goo_store_values.specs.declared.trouble.Trouble.TheVariants.{Memory, Refused}
+use Rattle.goo_store_plans.proofs.SmallRows.{small_meta}
 use Rattle.goo_store.specs.Creating.{meta_of, IsFirst}
 
 -- the row of a new registry is small

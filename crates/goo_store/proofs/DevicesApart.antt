@@ -5,10 +5,10 @@ use Rattle.std.specs.Cmp.Lexicographic.{nat_list_cmp_total}
 use Rattle.std.specs.FinMap.{get, from_entries}
 use Rattle.sqlite_typed.specs.Tests.{bytes_eq}
 use Rattle.goo_spec.specs.State.{text_cmp}
-use Rattle.goo_columns.specs.Rows.{device_in}
-use Rattle.goo_columns.specs.declared.device.DeviceRow.{DeviceRow}
-use Rattle.goo_kept.specs.Devices.{device_entry}
-use Rattle.goo_kept.proofs.Known.{get-known, text_test, text_itself}
+use Rattle.goo_tables_rows.specs.Rows.{device_in}
+use Rattle.goo_tables_rows.specs.declared.device.DeviceRow.{DeviceRow}
+use Rattle.goo_spec_tables.specs.Devices.{device_entry}
+use Rattle.goo_spec_tables.proofs.Known.{get-known, text_test, text_itself}
 
 -- one that passes is counted
 counted : {X : Type 0} (test : X → Bool) (xs : List X) (i : ℕ) (x : X) → i < length xs → x ≡ get_or xs i x → test x ≡ true → 1 ≤ length (filter test xs)

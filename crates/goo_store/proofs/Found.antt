@@ -11,27 +11,27 @@ use Rattle.sqlite_keyed.specs.Keyed.{get_by}
 use Rattle.goo_spec.proofs.Mapping.{inside}
 use Rattle.goo_types.specs.declared.lot_fields.LotFields.{LotFields}
 use Rattle.goo_types.specs.declared.piece.Piece.{Piece}
-use Rattle.goo_columns.specs.Beside.{beside, pieces_beside, joined_in}
-use Rattle.goo_columns.specs.Rows.{Tables, Lot, device_in, lot_in, lot_key, meta_in}
-use Rattle.goo_columns.specs.Stands.{Looks, Stands, doubts}
-use Rattle.goo_columns.specs.declared.device.DeviceRow.{DeviceRow}
-use Rattle.goo_columns.specs.declared.joined.JoinedRow.{JoinedRow}
-use Rattle.goo_columns.specs.declared.lot.LotRow.{LotRow}
-use Rattle.goo_columns.specs.declared.meta.MetaRow.{MetaRow}
-use Rattle.goo_columns.specs.declared.piece.PieceRow.{PieceRow}
-use Rattle.goo_kept.specs.Devices.{device_of}
-use Rattle.goo_kept.specs.States.{state_of}
-use Rattle.goo_kept.specs.Places.{lot_of, piece_of}
-use Rattle.goo_plans.specs.Found.{IsRowOf, IsDeviceOf, IsStated, AreStated, AreNone}
+use Rattle.goo_tables_rows.specs.Beside.{beside, pieces_beside, joined_in}
+use Rattle.goo_tables_rows.specs.Rows.{Tables, Lot, device_in, lot_in, lot_key, meta_in}
+use Rattle.goo_tables_rows.specs.Stands.{Looks, Stands, doubts}
+use Rattle.goo_tables_rows.specs.declared.device.DeviceRow.{DeviceRow}
+use Rattle.goo_tables_rows.specs.declared.joined.JoinedRow.{JoinedRow}
+use Rattle.goo_tables_rows.specs.declared.lot.LotRow.{LotRow}
+use Rattle.goo_tables_rows.specs.declared.meta.MetaRow.{MetaRow}
+use Rattle.goo_tables_rows.specs.declared.piece.PieceRow.{PieceRow}
+use Rattle.goo_spec_tables.specs.Devices.{device_of}
+use Rattle.goo_spec_tables.specs.States.{state_of}
+use Rattle.goo_spec_tables.specs.Places.{lot_of, piece_of}
+use Rattle.goo_store_plans.specs.Found.{IsRowOf, IsDeviceOf, IsStated, AreStated, AreFindingsOf, AreNone}
 use Rattle.goo_store.specs.Found.{IsBeside, Knows, KeepsFound, KeepsDevice, KeepsLot, KeepsLots, KeepsRead, KeepsRow}
-use Rattle.goo_lookups.specs.Holding.{sure}
-use Rattle.goo_lookups.specs.Moments.{tables_in, IsWell}
-use Rattle.goo_plans.specs.declared.findings.Findings.{Findings}
-use Rattle.goo_plans.specs.declared.findings.KnownDevice.{KnownDevice}
-use Rattle.goo_plans.specs.declared.lot_numbers.NumberedLot.{NumberedLot}
-use Rattle.goo_lookups.proofs.Looking.{before, so_still, known}
-use Rattle.goo_plans.proofs.RowsGathered.{found_by_key}
-use Rattle.goo_plans.proofs.RowsRead.{found_row}
+use Rattle.goo_store_lookups.specs.Holding.{sure}
+use Rattle.goo_store_lookups.specs.Moments.{tables_in, IsWell}
+use Rattle.goo_store_plans.specs.declared.findings.Findings.{Findings}
+use Rattle.goo_store_plans.specs.declared.findings.KnownDevice.{KnownDevice}
+use Rattle.goo_store_plans.specs.declared.lot_numbers.NumberedLot.{NumberedLot}
+use Rattle.goo_store_lookups.proofs.Looking.{before, so_still}
+use Rattle.goo_store_plans.proofs.RowsGathered.{found_by_key}
+use Rattle.goo_store_values.proofs.RowsRead.{found_row}
 use Rattle.goo_store.proofs.RowsRead.{unmapped}
 
 -- nothing kept is right of all tables
@@ -41,6 +41,10 @@ none_known s findings is none = record {
   device = subst (λ o. IsDeviceOf o (tables_in s)) (sym is.device) tt;
   lots = subst (AreStated (tables_in s).lots) (sym is.lots) (All-nil _);
 }
+
+-- what is kept stays right
+pub known : (old new : State) (it : IsWell old) {T : Type 0} (r : Result T Error) (right : Tables → T → Type 0) → Looks old new r right → (findings : Findings) → Knows old findings → Knows new findings
+known old new it r right looks findings knows none = so_still old new it r right looks (AreFindingsOf findings) none (knows (before old new it r right looks none))
 
 -- the row that is kept after a look-up for it is right
 row_known : (old new : State) (it : IsWell old) (r : Result (Option MetaRow) Error) → Looks old new r (λ t row. option_map meta_in row ≡ Some t.meta) → (a b : Option MetaRow) → (doubts new ≡ 0 → IsRowOf a (tables_in new)) → KeepsFound r a b → doubts new ≡ 0 → IsRowOf b (tables_in new)

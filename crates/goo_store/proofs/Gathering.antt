@@ -4,20 +4,20 @@ use Rattle.sqlite_disk.specs.Disk.{MoreFaults}
 use Rattle.sqlite.specs.State.{State, HasCleanDisk}
 use Rattle.goo_types.specs.declared.fault.Fault.{Fault}
 use Rattle.goo_types.specs.declared.fault.Fault.TheVariants as fault
-use Rattle.goo_shelf.specs.declared.plan.Plan.{Plan}
-use Rattle.goo_columns.specs.Rows.{Tables}
-use Rattle.goo_columns.specs.Stands.{doubts}
-use Rattle.goo_plans.specs.LookingUp.{LooksUp, IsOurs}
-use Rattle.goo_plans.specs.PlanNeeds.{CanBePlanned}
-use Rattle.goo_plans.specs.StoreFaults.{BlamesDisk}
-use Rattle.goo_plans.specs.declared.findings.Findings.{Findings}
-use Rattle.goo_plans.specs.declared.trouble.Trouble.{Trouble}
-use Rattle.goo_plans.specs.declared.trouble.Trouble.TheVariants.{Memory, Refused}
+use Rattle.goo_core_shelf.specs.declared.plan.Plan.{Plan}
+use Rattle.goo_tables_rows.specs.Rows.{Tables}
+use Rattle.goo_tables_rows.specs.Stands.{doubts}
+use Rattle.goo_store_plans.specs.LookingUp.{LooksUp, IsOurs}
+use Rattle.goo_store_plans.specs.PlanNeeds.{CanBePlanned}
+use Rattle.goo_store_plans.specs.StoreFaults.{BlamesDisk}
+use Rattle.goo_store_plans.specs.declared.findings.Findings.{Findings}
+use Rattle.goo_store_values.specs.declared.trouble.Trouble.{Trouble}
+use Rattle.goo_store_values.specs.declared.trouble.Trouble.TheVariants.{Memory, Refused}
 use Rattle.goo_store.specs.Found.{Knows}
 use Rattle.goo_store.specs.Gathering.{BlamesCommit, HaveWhatItNeeds}
-use Rattle.goo_lookups.specs.Holding.{is_sure}
-use Rattle.goo_lookups.specs.Moments.{tables_in, IsWell}
-use Rattle.goo_lookups.specs.Telling.{Tells}
+use Rattle.goo_store_lookups.specs.Holding.{is_sure}
+use Rattle.goo_store_lookups.specs.Moments.{tables_in, IsWell}
+use Rattle.goo_store_values.specs.Telling.{Tells}
 use Rattle.goo_store.proofs.Prepared.{in_order}
 
 -- once the flag is up, nothing is said

@@ -8,7 +8,7 @@ use Rattle.std.proofs.lemmas.List.Folds.{find-append}
 use Rattle.goo_types.specs.Range.{Numbers}
 use Rattle.goo_types.specs.declared.piece.Piece.{Piece}
 use Rattle.goo_types.specs.Piece.{IsRisingFrom}
-use Rattle.goo_rows.specs.Rows.{meeting}
+use Rattle.goo_ranges_rows.specs.Rows.{meeting}
 use Rattle.goo_store.specs.Near.{reaching}
 
 module _ (range : Numbers) where

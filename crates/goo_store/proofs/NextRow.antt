@@ -15,23 +15,23 @@ use Rattle.goo_types.specs.Piece.{IsForward, IsRisingFrom, IsRising}
 use Rattle.goo_types.specs.Place.{account_of}
 use Rattle.goo_types.specs.declared.piece.Piece.{Piece}
 use Rattle.goo_spec_runs.specs.NextRun.{ending_from, first_of, from_of}
-use Rattle.goo_shelf.specs.Rows.{EndsFrom}
-use Rattle.goo_columns.specs.Beside.{pieces_beside, joined_in}
-use Rattle.goo_columns.specs.Rows.{Tables, Lot}
-use Rattle.goo_columns.specs.Stands.{Stands}
-use Rattle.goo_columns.specs.declared.joined.JoinedRow.{JoinedRow}
-use Rattle.goo_columns.specs.declared.piece.PieceRow.{PieceRow}
-use Rattle.goo_kept.specs.Kept.{AreKept}
-use Rattle.goo_kept.specs.Places.{piece_of, rows_of}
-use Rattle.goo_kept.specs.Readable.{are_ends, is_act, names_act, is_piece}
-use Rattle.goo_kept.proofs.Expiring.{expiring_found}
-use Rattle.goo_kept.proofs.Known.{number_is}
-use Rattle.goo_kept.proofs.RowsFound.{next_found as found_in, place_account}
-use Rattle.goo_plans.proofs.RowsRead.{found_row}
+use Rattle.goo_core_shelf.specs.Rows.{EndsFrom}
+use Rattle.goo_tables_rows.specs.Beside.{pieces_beside, joined_in}
+use Rattle.goo_tables_rows.specs.Rows.{Tables, Lot}
+use Rattle.goo_tables_rows.specs.Stands.{Stands}
+use Rattle.goo_tables_rows.specs.declared.joined.JoinedRow.{JoinedRow}
+use Rattle.goo_tables_rows.specs.declared.piece.PieceRow.{PieceRow}
+use Rattle.goo_spec_tables.specs.Kept.{AreKept}
+use Rattle.goo_spec_tables.specs.Places.{piece_of, rows_of}
+use Rattle.goo_spec_tables.specs.Readable.{are_ends, is_act, names_act, is_piece}
+use Rattle.goo_spec_tables.proofs.Expiring.{expiring_found}
+use Rattle.goo_spec_tables.proofs.Known.{number_is}
+use Rattle.goo_spec_tables.proofs.RowsFound.{next_found as found_in, place_account}
+use Rattle.goo_store_values.proofs.RowsRead.{found_row}
 use Rattle.goo_store.specs.Reading.{IsReadablePiece}
-use Rattle.goo_shelf.specs.Sought.{is_sought}
-use Rattle.goo_shelf.specs.declared.sought.Sought.{Sought}
-use Rattle.goo_shelf.specs.declared.sought.Sought.TheVariants.{Naming, Expiring}
+use Rattle.goo_core_shelf.specs.Sought.{is_sought}
+use Rattle.goo_core_shelf.specs.declared.sought.Sought.{Sought}
+use Rattle.goo_core_shelf.specs.declared.sought.Sought.TheVariants.{Naming, Expiring}
 use Rattle.goo_store.specs.NextRows.{begins_beyond, IsDated, reaching_beyond}
 use Rattle.goo_store.proofs.Next.{first_beyond, next_found}
 use Rattle.goo_store.proofs.RowsRead.{pieces_kept}

@@ -3,23 +3,23 @@ use Rattle.std.proofs.Common.{◌≡◌, ◌≤◌, Bool, false, IsTrue, sym, ap
 use Rattle.sqlite.specs.State.{State, HasCleanDisk}
 use Rattle.sqlite.specs.Effect.{Database}
 use Rattle.goo_types.specs.declared.fault.Fault.{Fault}
-use Rattle.goo_shelf.specs.Shelf as shelf
-use Rattle.goo_columns.specs.Rows.{Tables, tables_of}
-use Rattle.goo_columns.specs.Stands.{Stands, Rests, doubts}
-use Rattle.goo_kept.specs.Kept.{AreKept}
-use Rattle.goo_kept.specs.Places.{rows_of}
-use Rattle.goo_kept.specs.States.{state_of}
-use Rattle.goo_plans.specs.Carried.{AreInOrder}
-use Rattle.goo_plans.specs.LookingUp.{LooksUp, IsOurs}
-use Rattle.goo_lookups.specs.Moments.{tables_in, count, moment, IsWell}
-use Rattle.goo_plans.specs.Found.{AreFindingsOf}
+use Rattle.goo_core_shelf.specs.Shelf as shelf
+use Rattle.goo_tables_rows.specs.Rows.{Tables, tables_of}
+use Rattle.goo_tables_rows.specs.Stands.{Stands, Rests, doubts}
+use Rattle.goo_spec_tables.specs.Kept.{AreKept}
+use Rattle.goo_spec_tables.specs.Places.{rows_of}
+use Rattle.goo_spec_tables.specs.States.{state_of}
+use Rattle.goo_store_plans.specs.Carried.{AreInOrder}
+use Rattle.goo_store_plans.specs.LookingUp.{LooksUp, IsOurs}
+use Rattle.goo_store_lookups.specs.Moments.{tables_in, count, moment, IsWell}
+use Rattle.goo_store_plans.specs.Found.{AreFindingsOf}
 use Rattle.goo_store.specs.Found.{Knows}
 use Rattle.goo_store.specs.Preparing.{Prepares}
-use Rattle.goo_lookups.specs.Telling.{Tells}
-use Rattle.goo_plans.specs.declared.findings.Findings.{Findings}
-use Rattle.goo_plans.specs.declared.trouble.Trouble.{Trouble}
-use Rattle.goo_plans.specs.declared.trouble.Trouble.TheVariants.{Memory, Refused}
-use Rattle.goo_lookups.specs.Holding.{is_sure, sure, LeavesCommit, left_by}
+use Rattle.goo_store_values.specs.Telling.{Tells}
+use Rattle.goo_store_plans.specs.declared.findings.Findings.{Findings}
+use Rattle.goo_store_values.specs.declared.trouble.Trouble.{Trouble}
+use Rattle.goo_store_values.specs.declared.trouble.Trouble.TheVariants.{Memory, Refused}
+use Rattle.goo_store_lookups.specs.Holding.{is_sure, sure, LeavesCommit, left_by}
 
 -- tables that stand are in the order of their keys
 pub in_order : (d : Database) (t : Tables) → Stands d t → AreInOrder t

@@ -12,24 +12,24 @@ use Rattle.sqlite_typed.specs.Tests.{bytes_eq}
 use Rattle.goo_types.specs.Piece.{IsRising, IsRisingFrom}
 use Rattle.goo_types.specs.Range.{Numbers}
 use Rattle.goo_types.specs.declared.piece.Piece.{Piece}
-use Rattle.goo_rows.specs.Rows.{is_near, meeting}
+use Rattle.goo_ranges_rows.specs.Rows.{is_near, meeting}
 use Rattle.goo_store.specs.Near.{reaching}
 use Rattle.goo_store.proofs.Merging.{near_found}
-use Rattle.goo_pieces.proofs.Rising.{rising-weaken}
-use Rattle.goo_columns.specs.Beside.{beside, pieces_beside, joined_columns, joined_in}
-use Rattle.goo_columns.specs.Readable.{joined_readable, piece_readable, lot_readable}
-use Rattle.goo_columns.specs.Rows.{Tables, Meta, Device, Lot, lot_key, meta_in, device_in, piece_columns, lot_columns}
-use Rattle.goo_columns.specs.Stands.{Stands}
-use Rattle.goo_columns.specs.declared.device.DeviceRow.{DeviceRow}
-use Rattle.goo_columns.specs.declared.joined.JoinedRow.{JoinedRow}
-use Rattle.goo_columns.specs.declared.meta.MetaRow.{MetaRow}
-use Rattle.goo_columns.specs.declared.piece.PieceRow.{PieceRow}
-use Rattle.goo_opening.specs.Reading.{CanBeRead}
-use Rattle.goo_kept.specs.Kept.{AreKept}
-use Rattle.goo_kept.specs.Places.{piece_of, rows_of}
-use Rattle.goo_kept.specs.Readable.{is_meta, is_device, is_piece}
-use Rattle.goo_plans.specs.Reading.{IsReadableLot}
-use Rattle.goo_plans.proofs.RowsRead.{found_row, each_so, lots_kept}
+use Rattle.goo_ranges_pieces.proofs.Rising.{rising-weaken}
+use Rattle.goo_tables_rows.specs.Beside.{beside, pieces_beside, joined_columns, joined_in}
+use Rattle.goo_tables_rows.specs.Readable.{joined_readable, piece_readable, lot_readable}
+use Rattle.goo_tables_rows.specs.Rows.{Tables, Meta, Device, Lot, lot_key, meta_in, device_in, piece_columns, lot_columns}
+use Rattle.goo_tables_rows.specs.Stands.{Stands}
+use Rattle.goo_tables_rows.specs.declared.device.DeviceRow.{DeviceRow}
+use Rattle.goo_tables_rows.specs.declared.joined.JoinedRow.{JoinedRow}
+use Rattle.goo_tables_rows.specs.declared.meta.MetaRow.{MetaRow}
+use Rattle.goo_tables_rows.specs.declared.piece.PieceRow.{PieceRow}
+use Rattle.goo_store_open.specs.Reading.{CanBeRead}
+use Rattle.goo_spec_tables.specs.Kept.{AreKept}
+use Rattle.goo_spec_tables.specs.Places.{piece_of, rows_of}
+use Rattle.goo_spec_tables.specs.Readable.{is_meta, is_device, is_piece}
+use Rattle.goo_store_values.specs.Reading.{IsReadableLot}
+use Rattle.goo_store_values.proofs.RowsRead.{found_row, each_so, lots_kept}
 use Rattle.goo_store.specs.Reading.{IsReadablePiece, AreReadablePieces, AreReadableDevices}
 
 -- all rows, read from the table

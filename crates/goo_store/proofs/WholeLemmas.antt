@@ -12,16 +12,16 @@ use Rattle.goo_types.specs.declared.piece.Piece.{Piece}
 use Rattle.goo_spec.specs.Sound.{IsSound}
 use Rattle.goo_spec.specs.State.{State}
 use Rattle.goo_spec.specs.Energy.{total, carry, due, issued, is_issued_to}
-use Rattle.goo_shelf.specs.Shelf.{totals_for, totals_of}
-use Rattle.goo_columns.specs.Rows.{Tables, Lot, lot_key}
-use Rattle.goo_columns.specs.Beside.{beside}
-use Rattle.goo_columns.specs.declared.piece.PieceRow.{PieceRow}
-use Rattle.goo_rows.specs.Certificates.{certificates_of, issued_in}
-use Rattle.goo_rows.proofs.CertificateLemmas.{issued-rows, own-block}
-use Rattle.goo_kept.specs.Kept.{AreKept}
-use Rattle.goo_kept.specs.Readable.{is_piece, are_ends}
-use Rattle.goo_kept.specs.Places.{rows_of}
-use Rattle.goo_kept.specs.States.{state_of}
+use Rattle.goo_core_shelf.specs.Shelf.{totals_for, totals_of}
+use Rattle.goo_tables_rows.specs.Rows.{Tables, Lot, lot_key}
+use Rattle.goo_tables_rows.specs.Beside.{beside}
+use Rattle.goo_tables_rows.specs.declared.piece.PieceRow.{PieceRow}
+use Rattle.goo_ranges_rows.specs.Certificates.{certificates_of, issued_in}
+use Rattle.goo_ranges_rows.proofs.CertificateLemmas.{issued-rows, own-block}
+use Rattle.goo_spec_tables.specs.Kept.{AreKept}
+use Rattle.goo_spec_tables.specs.Readable.{is_piece, are_ends}
+use Rattle.goo_spec_tables.specs.Places.{rows_of}
+use Rattle.goo_spec_tables.specs.States.{state_of}
 use Rattle.goo_store.specs.Summing.{summed_for, HaveSmallSums}
 
 abbrev within : PieceRow × Lot → Bool

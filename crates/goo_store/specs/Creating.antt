@@ -3,7 +3,7 @@ use Rattle.std.specs.Prelude.{ℕ}
 use Rattle.std.specs.Int.{IsInRange}
 use Rattle.goo_types.specs.Day.{CalendarDay, IsDay}
 use Rattle.goo_types.specs.Texts.{day_text}
-use Rattle.goo_columns.specs.Rows.{Meta}
+use Rattle.goo_tables_rows.specs.Rows.{Meta}
 
 -- its row: nothing has a number yet
 abbrev pub meta_of : ℕ → CalendarDay → ℕ → Meta

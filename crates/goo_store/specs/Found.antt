@@ -9,21 +9,21 @@ use Rattle.sqlite.specs.declared.error.Error.{Error}
 use Rattle.sqlite_keyed.specs.Keyed.{get_by}
 use Rattle.goo_types.specs.declared.lot_fields.LotFields.{LotFields}
 use Rattle.goo_spec.specs.State.{Device}
-use Rattle.goo_columns.specs.Beside.{joined_in}
-use Rattle.goo_columns.specs.Rows.{Tables, Meta, Lot, device_in, lot_in, lot_key}
-use Rattle.goo_columns.specs.Stands.{doubts}
-use Rattle.goo_columns.specs.declared.device.DeviceRow.{DeviceRow}
-use Rattle.goo_columns.specs.declared.joined.JoinedRow.{JoinedRow}
-use Rattle.goo_columns.specs.declared.lot.LotRow.{LotRow}
-use Rattle.goo_columns.specs.declared.meta.MetaRow.{MetaRow}
-use Rattle.goo_columns.specs.declared.piece.PieceRow.{PieceRow}
-use Rattle.goo_kept.specs.Devices.{device_of}
-use Rattle.goo_kept.specs.States.{state_of}
-use Rattle.goo_plans.specs.Found.{IsRowOf, IsDeviceOf, AreStated, AreFindingsOf}
-use Rattle.goo_lookups.specs.Moments.{tables_in}
-use Rattle.goo_plans.specs.declared.findings.Findings.{Findings}
-use Rattle.goo_plans.specs.declared.findings.KnownDevice.{KnownDevice}
-use Rattle.goo_plans.specs.declared.lot_numbers.NumberedLot.{NumberedLot}
+use Rattle.goo_tables_rows.specs.Beside.{joined_in}
+use Rattle.goo_tables_rows.specs.Rows.{Tables, Meta, Lot, device_in, lot_in, lot_key}
+use Rattle.goo_tables_rows.specs.Stands.{doubts}
+use Rattle.goo_tables_rows.specs.declared.device.DeviceRow.{DeviceRow}
+use Rattle.goo_tables_rows.specs.declared.joined.JoinedRow.{JoinedRow}
+use Rattle.goo_tables_rows.specs.declared.lot.LotRow.{LotRow}
+use Rattle.goo_tables_rows.specs.declared.meta.MetaRow.{MetaRow}
+use Rattle.goo_tables_rows.specs.declared.piece.PieceRow.{PieceRow}
+use Rattle.goo_spec_tables.specs.Devices.{device_of}
+use Rattle.goo_spec_tables.specs.States.{state_of}
+use Rattle.goo_store_plans.specs.Found.{IsRowOf, IsDeviceOf, AreStated, AreFindingsOf}
+use Rattle.goo_store_lookups.specs.Moments.{tables_in}
+use Rattle.goo_store_plans.specs.declared.findings.Findings.{Findings}
+use Rattle.goo_store_plans.specs.declared.findings.KnownDevice.{KnownDevice}
+use Rattle.goo_store_plans.specs.declared.lot_numbers.NumberedLot.{NumberedLot}
 
 -- it is so while nothing is in doubt
 abbrev pub Knows : State → Findings → Type 0

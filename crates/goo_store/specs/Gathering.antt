@@ -5,15 +5,15 @@ use Rattle.sqlite.specs.State.{State, HasCleanDisk}
 use Rattle.goo_types.specs.declared.fault.Fault.{Fault}
 use Rattle.goo_types.specs.declared.fault.Fault.TheVariants.{Store}
 use Rattle.goo_spec.specs.Step.{accept}
-use Rattle.goo_shelf.specs.Plan.{Fits}
-use Rattle.goo_shelf.specs.declared.plan.Plan.{Plan}
-use Rattle.goo_columns.specs.Rows.{Tables}
-use Rattle.goo_kept.specs.Places.{rows_of}
-use Rattle.goo_kept.specs.States.{state_of}
-use Rattle.goo_plans.specs.EditsTaken.{HaveKeptNumbers, HaveKnownLots}
-use Rattle.goo_plans.specs.PlanNeeds.{HasRoomFor}
-use Rattle.goo_plans.specs.Room.{HaveRowids}
-use Rattle.goo_lookups.specs.Moments.{tables_in}
+use Rattle.goo_core_shelf.specs.Plan.{Fits}
+use Rattle.goo_core_shelf.specs.declared.plan.Plan.{Plan}
+use Rattle.goo_tables_rows.specs.Rows.{Tables}
+use Rattle.goo_spec_tables.specs.Places.{rows_of}
+use Rattle.goo_spec_tables.specs.States.{state_of}
+use Rattle.goo_store_plans.specs.EditsTaken.{HaveKeptNumbers, HaveKnownLots}
+use Rattle.goo_store_plans.specs.PlanNeeds.{HasRoomFor}
+use Rattle.goo_store_plans.specs.Room.{HaveRowids}
+use Rattle.goo_store_lookups.specs.Moments.{tables_in}
 
 -- The plan may be committed in the tables, which have room for its command. The registry knows the lots of the pieces that the edits
 -- insert, once the request is accepted; and columns keep the numbers of the lots that are there.

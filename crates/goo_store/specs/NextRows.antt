@@ -5,10 +5,10 @@ use Rattle.sqlite_typed.specs.Tests.{bytes_lt, both_and}
 use Rattle.goo_types.specs.Day.{IsDay}
 use Rattle.goo_types.specs.Texts.{day_text}
 use Rattle.goo_types.specs.declared.piece.Piece.{Piece}
-use Rattle.goo_columns.specs.Rows.{Lot}
-use Rattle.goo_columns.specs.declared.piece.PieceRow.{PieceRow}
-use Rattle.goo_shelf.specs.declared.sought.Sought.{Sought}
-use Rattle.goo_shelf.specs.declared.sought.Sought.TheVariants.{Naming, Expiring}
+use Rattle.goo_tables_rows.specs.Rows.{Lot}
+use Rattle.goo_tables_rows.specs.declared.piece.PieceRow.{PieceRow}
+use Rattle.goo_core_shelf.specs.declared.sought.Sought.{Sought}
+use Rattle.goo_core_shelf.specs.declared.sought.Sought.TheVariants.{Naming, Expiring}
 
 -- whether a look-up is for a row of the tables, and it begins above a number, as the statements test it
 abbrev pub begins_beyond : Sought → ℕ → PieceRow × Lot → Bool

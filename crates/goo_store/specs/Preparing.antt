@@ -1,7 +1,7 @@
 -- Look-ups with which a commit begins.
 use Rattle.std.specs.Prelude.{◌≡◌, ◌≤◌, Result, OnOk}
 use Rattle.goo_types.specs.declared.fault.Fault.{Fault}
-use Rattle.goo_shelf.specs.Shelf.{Moment, IsTold, IsSafe}
+use Rattle.goo_core_shelf.specs.Shelf.{Moment, IsTold, IsSafe}
 
 -- As a look-up, but for any number of statements, none among them: a success tells that no doubt has come, and not that there is none.
 -- That the database works is shown by the transaction that is made then.

@@ -3,14 +3,14 @@ use Rattle.std.specs.Prelude.{◌≡◌, ◌≤◌, ℕ, pos, true, IsTrue, List
 use Rattle.std.specs.List.{list_all}
 use Rattle.sqlite_typed.specs.Tests.{bytes_eq}
 use Rattle.goo_types.specs.Piece.{IsRising}
-use Rattle.goo_columns.specs.Beside.{joined_in}
-use Rattle.goo_columns.specs.Rows.{Lot, NoticeOut, device_in}
-use Rattle.goo_columns.specs.declared.device.DeviceRow.{DeviceRow}
-use Rattle.goo_columns.specs.declared.joined.JoinedRow.{JoinedRow}
-use Rattle.goo_columns.specs.declared.piece.PieceRow.{PieceRow}
-use Rattle.goo_kept.specs.Places.{piece_of}
-use Rattle.goo_kept.specs.Readable.{is_device, is_piece, is_notice_out}
-use Rattle.goo_plans.specs.Reading.{IsReadableLot}
+use Rattle.goo_tables_rows.specs.Beside.{joined_in}
+use Rattle.goo_tables_rows.specs.Rows.{Lot, NoticeOut, device_in}
+use Rattle.goo_tables_rows.specs.declared.device.DeviceRow.{DeviceRow}
+use Rattle.goo_tables_rows.specs.declared.joined.JoinedRow.{JoinedRow}
+use Rattle.goo_tables_rows.specs.declared.piece.PieceRow.{PieceRow}
+use Rattle.goo_spec_tables.specs.Places.{piece_of}
+use Rattle.goo_spec_tables.specs.Readable.{is_device, is_piece, is_notice_out}
+use Rattle.goo_store_values.specs.Reading.{IsReadableLot}
 
 -- rows of devices, no two of one number
 pub record AreReadableDevices (rows : List DeviceRow) : Type 0 where

@@ -3,8 +3,8 @@ use Rattle.std.specs.Prelude.{ℕ, ◌%◌, ◌<◌, ◌^◌, List, sum_by}
 use Rattle.goo_types.specs.declared.command.Declare.{Declare}
 use Rattle.goo_types.specs.declared.piece.Piece.{Piece}
 use Rattle.goo_spec.specs.Energy.{certificate, net_of}
-use Rattle.goo_shelf.specs.declared.found.DeviceTotals.{DeviceTotals}
-use Rattle.goo_rows.specs.Certificates.{issued_in}
+use Rattle.goo_core_shelf.specs.declared.found.DeviceTotals.{DeviceTotals}
+use Rattle.goo_ranges_rows.specs.Certificates.{issued_in}
 
 -- a device's energy by these declarations, and its certificates in these rows
 abbrev pub summed_for : ℕ → List Declare → List Piece → List ℕ → DeviceTotals

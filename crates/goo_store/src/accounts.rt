@@ -3,21 +3,21 @@
 ghost use Rattle.std.specs.Prelude.{◌≡◌, IfSome, IsTrue, option_map};
 ghost use Rattle.std.specs.FinMap.{get};
 ghost use Rattle.sqlite.specs.Held.{state as view};
-ghost use Rattle.goo_columns.specs.Rows.{account_in};
-ghost use Rattle.goo_shelf.specs.Shelf.{Looks};
-ghost use Rattle.goo_lookups.specs.Moments.{moment};
-ghost use Rattle.goo_lookups.specs.StoreFaults.{BlamesStore};
-ghost use Rattle.goo_kept.specs.States.{account_of};
-ghost use Rattle.goo_kept.specs.Readable.{is_account};
-ghost use Rattle.goo_plans.specs.Passing.{Accepts, Passes};
+ghost use Rattle.goo_tables_rows.specs.Rows.{account_in};
+ghost use Rattle.goo_core_shelf.specs.Shelf.{Looks};
+ghost use Rattle.goo_store_lookups.specs.Moments.{moment};
+ghost use Rattle.goo_store_lookups.specs.StoreFaults.{BlamesStore};
+ghost use Rattle.goo_spec_tables.specs.States.{account_of};
+ghost use Rattle.goo_spec_tables.specs.Readable.{is_account};
+ghost use Rattle.goo_store_values.specs.Passing.{Accepts, Passes};
 
 use crate::sql_shelf::SqlShelf;
-use goo_columns::account::AccountRow;
-use goo_held::account::find_account;
-use goo_lookups::told::told;
-use goo_plans::texts;
-use goo_plans::trouble::Trouble;
-use goo_shelf::account::Account;
+use goo_core_shelf::account::Account;
+use goo_store_values::texts;
+use goo_store_values::told::told;
+use goo_store_values::trouble::Trouble;
+use goo_tables_holdings::account::find_account;
+use goo_tables_rows::account::AccountRow;
 use goo_types::account_no::AccountNo;
 use goo_types::fault::Fault;
 use sqlite::{Alter, Error};
@@ -36,7 +36,7 @@ fn read_account(found: Result<Option<AccountRow>, Error>) -> Result<Option<Accou
 
 impl<S: Alter> SqlShelf<S> {
     /// An account.
-    pub(crate) fn known_account(&mut self, account: AccountNo) -> Result<Option<Account>, Fault>
+    pub(crate) fn look_up_account(&mut self, account: AccountNo) -> Result<Option<Account>, Fault>
         ensures looks { Looks (moment (view S.Store self.old.conn) self.old.refused) (moment (view S.Store self.new.conn) self.new.refused) result (λ found. found ≡ get (moment (view S.Store self.old.conn) self.old.refused).state.accounts account) }
         ensures store { BlamesStore (view S.Store self.old.conn) (view S.Store self.new.conn) self.old.refused result }
     {

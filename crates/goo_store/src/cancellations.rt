@@ -3,21 +3,21 @@
 ghost use Rattle.std.specs.Prelude.{◌≡◌, IfSome, IsTrue, option_map};
 ghost use Rattle.std.specs.FinMap.{get};
 ghost use Rattle.sqlite.specs.Held.{state as view};
-ghost use Rattle.goo_columns.specs.Rows.{cancellation_in};
-ghost use Rattle.goo_shelf.specs.Shelf.{Looks};
-ghost use Rattle.goo_lookups.specs.Moments.{moment};
-ghost use Rattle.goo_lookups.specs.StoreFaults.{BlamesStore};
-ghost use Rattle.goo_kept.specs.Records.{cancellation_of};
-ghost use Rattle.goo_kept.specs.Readable.{is_cancellation};
-ghost use Rattle.goo_plans.specs.Passing.{Accepts, Passes};
+ghost use Rattle.goo_tables_rows.specs.Rows.{cancellation_in};
+ghost use Rattle.goo_core_shelf.specs.Shelf.{Looks};
+ghost use Rattle.goo_store_lookups.specs.Moments.{moment};
+ghost use Rattle.goo_store_lookups.specs.StoreFaults.{BlamesStore};
+ghost use Rattle.goo_spec_tables.specs.Records.{cancellation_of};
+ghost use Rattle.goo_spec_tables.specs.Readable.{is_cancellation};
+ghost use Rattle.goo_store_values.specs.Passing.{Accepts, Passes};
 
 use crate::sql_shelf::SqlShelf;
-use goo_columns::cancellation::CancellationRow;
-use goo_lookups::told::told;
-use goo_plans::trouble::Trouble;
-use goo_plans::{numbers, texts};
-use goo_shelf::cancel_record::CancelRecord;
+use goo_core_shelf::cancel_record::CancelRecord;
+use goo_store_values::told::told;
+use goo_store_values::trouble::Trouble;
+use goo_store_values::{numbers, texts};
 use goo_tables::cancellation::find_cancellation;
+use goo_tables_rows::cancellation::CancellationRow;
 use goo_types::act_no::ActNo;
 use goo_types::command::Cancel;
 use goo_types::fault::Fault;
@@ -45,7 +45,7 @@ fn read_record(
 
 impl<S: Alter> SqlShelf<S> {
     /// The record of a cancellation.
-    pub(crate) fn known_cancellation(
+    pub(crate) fn look_up_cancelled(
         &mut self,
         cancellation: ActNo,
     ) -> Result<Option<CancelRecord>, Fault>

@@ -2,24 +2,24 @@
 
 ghost use Rattle.std.specs.Prelude.{◌≡◌, All, IfErr, IfOk};
 ghost use Rattle.sqlite.specs.Held.{state as view};
-ghost use Rattle.goo_shelf.specs.Plan.{Fits, Commits};
-ghost use Rattle.goo_changes.specs.Changes.{ChangeFits};
-ghost use Rattle.goo_plans.specs.Found.{AreNone};
-ghost use Rattle.goo_lookups.specs.Moments.{moment, tables_in};
-ghost use Rattle.goo_plans.specs.Planned.{IsPlanned};
+ghost use Rattle.goo_core_shelf.specs.Plan.{Fits, Commits};
+ghost use Rattle.goo_store_changes.specs.Changes.{ChangeFits};
+ghost use Rattle.goo_store_plans.specs.Found.{AreNone};
+ghost use Rattle.goo_store_lookups.specs.Moments.{moment, tables_in};
+ghost use Rattle.goo_store_plans.specs.Planned.{IsPlanned};
 ghost use Rattle.goo_store.specs.Preparing.{Prepares};
 ghost use Rattle.goo_store.specs.Gathering.{BlamesCommit, CanCarryOut, HaveWhatItNeeds};
-ghost use Rattle.goo_plans.specs.Passing.{IsTroubleOf};
-ghost use Rattle.goo_lookups.specs.Telling.{PassesOn};
+ghost use Rattle.goo_store_values.specs.Passing.{IsTroubleOf};
+ghost use Rattle.goo_store_values.specs.Telling.{PassesOn};
 
 use crate::sql_shelf::SqlShelf;
-use goo_changes::change::Change;
-use goo_changes::committing::commit_changes;
-use goo_lookups::told::told;
-use goo_plans::findings::Findings;
-use goo_plans::plan_changes::plan_changes;
-use goo_plans::trouble::Trouble;
-use goo_shelf::plan::Plan;
+use goo_core_shelf::plan::Plan;
+use goo_store_changes::change::TableChange;
+use goo_store_changes::committing::commit_changes;
+use goo_store_plans::findings::Findings;
+use goo_store_plans::plan_changes::plan_changes;
+use goo_store_values::told::told;
+use goo_store_values::trouble::Trouble;
 use goo_types::fault::Fault;
 use sqlite::{Alter, Error};
 use std::alloc::Global;
@@ -39,7 +39,7 @@ fn ending(made: Result<(), Error>) -> Result<(), Trouble>
 impl<S: Alter> SqlShelf<S> {
     /// The changes that carry out a plan. Nothing is changed yet, and nothing that was found is kept
     /// any more.
-    fn changes_for(&mut self, alloc: Global, plan: &Plan) -> Result<Vec<Change>, Fault>
+    fn changes_for(&mut self, alloc: Global, plan: &Plan) -> Result<Vec<TableChange>, Fault>
         ensures prepares { Prepares (moment (view S.Store self.old.conn) self.old.refused) (moment (view S.Store self.new.conn) self.new.refused) result }
         ensures planned { (moment (view S.Store self.new.conn) self.new.refused).doubts ≡ 0 → IfOk result (λ changes. Fits (moment (view S.Store self.new.conn) self.new.refused).state (moment (view S.Store self.new.conn) self.new.refused).rows plan.now → IsPlanned (tables_in (view S.Store self.new.conn)) changes.items plan.now) }
         ensures fits { IfOk result (λ changes. All ChangeFits changes.items) }

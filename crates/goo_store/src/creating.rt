@@ -7,18 +7,17 @@ ghost use Rattle.sqlite.specs.Held.{state};
 ghost use Rattle.sqlite_trees.specs.View.{doubt};
 ghost use Rattle.goo_types.specs.Number.{IsCode};
 ghost use Rattle.goo_types.specs.Day.{IsDay};
-ghost use Rattle.goo_columns.specs.Columns.{no_schema};
-ghost use Rattle.goo_columns.specs.Refused.{IsFault, IsSmall};
-ghost use Rattle.goo_columns.specs.Rows.{meta_in, meta_row};
-ghost use Rattle.goo_columns.specs.Stands.{Sees, Settled, Holds};
-ghost use Rattle.goo_held.specs.Changes.{MetaFits, begun};
+ghost use Rattle.goo_tables_rows.specs.Columns.{no_schema};
+ghost use Rattle.goo_tables_rows.specs.Refused.{IsFault, IsSmall};
+ghost use Rattle.goo_tables_rows.specs.Rows.{meta_in, meta_row};
+ghost use Rattle.goo_tables_rows.specs.Stands.{Sees, Settled, Holds};
+ghost use Rattle.goo_tables_holdings.specs.Changes.{MetaFits, begun};
 ghost use Rattle.goo_store.specs.Creating.{meta_of, IsFirst};
 
-use goo_columns::meta::MetaRow;
-use goo_notice::texts::day_text;
-use goo_plans::trouble::Trouble;
+use goo_store_values::trouble::Trouble;
 use goo_tables::create::create_tables;
 use goo_tables::meta::insert_meta;
+use goo_tables_rows::meta::MetaRow;
 use goo_types::day::Day;
 use goo_types::registry_code::RegistryCode;
 use goo_types::serial::Serial;
@@ -48,7 +47,7 @@ fn first_row(
     Ok(MetaRow {
         version: 1,
         code: u32::from(code.get()),
-        today: String::from_str(alloc, day_text(today).as_str())?,
+        today: String::from_str(alloc, today.text().as_str())?,
         next_serial: next_serial.get(),
         next_account: 1,
         next_cancellation: 1,

@@ -3,26 +3,26 @@
 ghost use Rattle.std.specs.Prelude.{◌≡◌, pos, is_ok, Some, IfOk, IfSome, IsOk, IsTrue, option_map, string_bytes};
 ghost use Rattle.std.specs.FinMap.{get};
 ghost use Rattle.sqlite.specs.Held.{state as view};
-ghost use Rattle.goo_columns.specs.Rows.{device_in};
-ghost use Rattle.goo_shelf.specs.Shelf.{Looks, progress_of, IsRecordOf};
-ghost use Rattle.goo_kept.specs.Devices.{device_of, progress_in, record_in};
+ghost use Rattle.goo_tables_rows.specs.Rows.{device_in};
+ghost use Rattle.goo_core_shelf.specs.Shelf.{Looks, progress_of, IsRecordOf};
+ghost use Rattle.goo_spec_tables.specs.Devices.{device_of, progress_in, record_in};
 ghost use Rattle.goo_store.specs.Found.{KeepsDevice};
-ghost use Rattle.goo_lookups.specs.Moments.{moment};
-ghost use Rattle.goo_lookups.specs.StoreFaults.{BlamesStore};
-ghost use Rattle.goo_kept.specs.Readable.{is_device, is_maybe_day};
-ghost use Rattle.goo_plans.specs.Passing.{Accepts, Passes};
-ghost use Rattle.goo_kept.specs.Texts.{day_of};
+ghost use Rattle.goo_store_lookups.specs.Moments.{moment};
+ghost use Rattle.goo_store_lookups.specs.StoreFaults.{BlamesStore};
+ghost use Rattle.goo_spec_tables.specs.Readable.{is_device, is_maybe_day};
+ghost use Rattle.goo_store_values.specs.Passing.{Accepts, Passes};
+ghost use Rattle.goo_spec_tables.specs.Texts.{day_of};
 
 use crate::sql_shelf::SqlShelf;
-use goo_columns::device::DeviceRow;
-use goo_lookups::told::told;
-use goo_plans::devices::device_in_row;
-use goo_plans::findings::KnownDevice;
-use goo_plans::trouble::Trouble;
-use goo_plans::{numbers, texts};
-use goo_shelf::device::Device;
-use goo_shelf::found::{DeviceRecord, Progress};
+use goo_core_shelf::device::Device;
+use goo_core_shelf::found::{DeviceRecord, Progress};
+use goo_store_plans::findings::KnownDevice;
+use goo_store_values::devices::device_in_row;
+use goo_store_values::told::told;
+use goo_store_values::trouble::Trouble;
+use goo_store_values::{numbers, texts};
 use goo_tables::device::find_device;
+use goo_tables_rows::device::DeviceRow;
 use goo_types::day::Day;
 use goo_types::fault::Fault;
 use goo_types::gsrn::Gsrn;
@@ -100,7 +100,7 @@ fn read_record(
 
 impl<S: Alter> SqlShelf<S> {
     /// A device.
-    pub(crate) fn known_device(&mut self, device: &Gsrn) -> Result<Option<Device>, Fault>
+    pub(crate) fn look_up_device(&mut self, device: &Gsrn) -> Result<Option<Device>, Fault>
         ensures looks { Looks (moment (view S.Store self.old.conn) self.old.refused) (moment (view S.Store self.new.conn) self.new.refused) result (λ found. found ≡ get (moment (view S.Store self.old.conn) self.old.refused).state.devices device.now) }
         ensures store { BlamesStore (view S.Store self.old.conn) (view S.Store self.new.conn) self.old.refused result }
     {
@@ -112,7 +112,7 @@ impl<S: Alter> SqlShelf<S> {
     }
 
     /// A device's last accepted period and its carry.
-    pub(crate) fn progress_for(&mut self, device: &Gsrn) -> Result<Progress, Fault>
+    pub(crate) fn look_up_progress(&mut self, device: &Gsrn) -> Result<Progress, Fault>
         ensures looks { Looks (moment (view S.Store self.old.conn) self.old.refused) (moment (view S.Store self.new.conn) self.new.refused) result (λ progress. progress ≡ progress_of (moment (view S.Store self.old.conn) self.old.refused).state device.now) }
         ensures store { BlamesStore (view S.Store self.old.conn) (view S.Store self.new.conn) self.old.refused result }
     {
@@ -124,7 +124,10 @@ impl<S: Alter> SqlShelf<S> {
     }
 
     /// A device with its last accepted period and its carry.
-    pub(crate) fn record_for(&mut self, device: &Gsrn) -> Result<Option<DeviceRecord>, Fault>
+    pub(crate) fn look_up_device_record(
+        &mut self,
+        device: &Gsrn,
+    ) -> Result<Option<DeviceRecord>, Fault>
         ensures looks { Looks (moment (view S.Store self.old.conn) self.old.refused) (moment (view S.Store self.new.conn) self.new.refused) result (IsRecordOf (moment (view S.Store self.old.conn) self.old.refused).state device.now) }
         ensures store { BlamesStore (view S.Store self.old.conn) (view S.Store self.new.conn) self.old.refused result }
     {

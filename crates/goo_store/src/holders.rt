@@ -3,12 +3,12 @@
 ghost use Rattle.std.specs.Prelude.{◌≡◌};
 ghost use Rattle.std.specs.FinMap.{get};
 ghost use Rattle.sqlite.specs.Held.{state as view};
-ghost use Rattle.goo_shelf.specs.Shelf.{Looks};
-ghost use Rattle.goo_lookups.specs.Moments.{moment};
-ghost use Rattle.goo_lookups.specs.StoreFaults.{BlamesStore};
+ghost use Rattle.goo_core_shelf.specs.Shelf.{Looks};
+ghost use Rattle.goo_store_lookups.specs.Moments.{moment};
+ghost use Rattle.goo_store_lookups.specs.StoreFaults.{BlamesStore};
 
 use crate::sql_shelf::SqlShelf;
-use goo_lookups::holders;
+use goo_store_lookups::holders;
 use goo_types::fault::Fault;
 use goo_types::holder_code::HolderCode;
 use goo_types::name::Name;
@@ -16,7 +16,7 @@ use sqlite::Alter;
 
 impl<S: Alter> SqlShelf<S> {
     /// The name of a holder.
-    pub(crate) fn name_of(&mut self, code: &HolderCode) -> Result<Option<Name>, Fault>
+    pub(crate) fn look_up_holder(&mut self, code: &HolderCode) -> Result<Option<Name>, Fault>
         ensures looks { Looks (moment (view S.Store self.old.conn) self.old.refused) (moment (view S.Store self.new.conn) self.new.refused) result (λ name. name ≡ get (moment (view S.Store self.old.conn) self.old.refused).state.holders code.now) }
         ensures store { BlamesStore (view S.Store self.old.conn) (view S.Store self.new.conn) self.old.refused result }
     {

@@ -2,12 +2,12 @@
 
 ghost use Rattle.std.specs.Prelude.{◌≡◌, ◌==◌, List, IsOkUnless};
 ghost use Rattle.std.specs.List.{list_any};
-ghost use Rattle.goo_columns.specs.Rows.{Lot as RowOfLot};
-ghost use Rattle.goo_plans.specs.Found.{AreStated, IsStated};
-ghost use Rattle.goo_plans.specs.declared.trouble.Trouble.TheVariants.{Memory};
+ghost use Rattle.goo_tables_rows.specs.Rows.{Lot as RowOfLot};
+ghost use Rattle.goo_store_plans.specs.Found.{AreStated, IsStated};
+ghost use Rattle.goo_store_values.specs.declared.trouble.Trouble.TheVariants.{Memory};
 
-use goo_plans::lot_numbers::NumberedLot;
-use goo_plans::trouble::Trouble;
+use goo_store_plans::lot_numbers::NumberedLot;
+use goo_store_values::trouble::Trouble;
 use goo_types::lot::Lot;
 
 /// How many lots are kept at most, so that a search of them takes little.

@@ -23,3 +23,6 @@ mod shelf;
 pub mod sql_shelf;
 mod sums;
 mod totals;
+
+pub use goo_store_open::fault::OpenFault;
+pub use sql_shelf::SqlShelf;

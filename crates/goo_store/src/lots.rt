@@ -5,25 +5,24 @@ ghost use Rattle.std.specs.FinMap.{get};
 ghost use Rattle.sqlite.specs.Held.{state as view};
 ghost use Rattle.goo_types.specs.Texts.{day_text};
 ghost use Rattle.goo_spec.specs.Lots.{lot_key};
-ghost use Rattle.goo_columns.specs.Rows.{lot_in};
-ghost use Rattle.goo_shelf.specs.Shelf.{Looks};
+ghost use Rattle.goo_tables_rows.specs.Rows.{lot_in};
+ghost use Rattle.goo_core_shelf.specs.Shelf.{Looks};
 ghost use Rattle.goo_store.specs.Found.{KeepsLot, KeepsRow};
-ghost use Rattle.goo_lookups.specs.Moments.{moment};
-ghost use Rattle.goo_lookups.specs.StoreFaults.{BlamesStore};
-ghost use Rattle.goo_kept.specs.Places.{lot_of};
-ghost use Rattle.goo_plans.specs.Reading.{IsReadableLot};
-ghost use Rattle.goo_plans.specs.Passing.{Accepts, Passes};
-ghost use Rattle.goo_plans.specs.declared.trouble.Trouble.TheVariants.{Memory};
+ghost use Rattle.goo_store_lookups.specs.Moments.{moment};
+ghost use Rattle.goo_store_lookups.specs.StoreFaults.{BlamesStore};
+ghost use Rattle.goo_spec_tables.specs.Places.{lot_of};
+ghost use Rattle.goo_store_values.specs.Reading.{IsReadableLot};
+ghost use Rattle.goo_store_values.specs.Passing.{Accepts, Passes};
+ghost use Rattle.goo_store_values.specs.declared.trouble.Trouble.TheVariants.{Memory};
 
 use crate::kept_lots::keep_lot;
 use crate::sql_shelf::SqlShelf;
-use goo_columns::lot::LotRow;
-use goo_lookups::told::told;
-use goo_notice::texts::day_text;
-use goo_plans::lot_numbers::NumberedLot;
-use goo_plans::lots::read_lot;
-use goo_plans::trouble::Trouble;
+use goo_store_plans::lot_numbers::NumberedLot;
+use goo_store_values::lots::read_lot;
+use goo_store_values::told::told;
+use goo_store_values::trouble::Trouble;
 use goo_tables::lot::find_lot;
+use goo_tables_rows::lot::LotRow;
 use goo_types::day::Day;
 use goo_types::fault::Fault;
 use goo_types::gsrn::Gsrn;
@@ -59,7 +58,7 @@ fn read_found(
 
 impl<S: Alter> SqlShelf<S> {
     /// The known lot of an origin, a device and a first day.
-    pub(crate) fn known_lot(
+    pub(crate) fn look_up_lot(
         &mut self,
         origin: RegistryCode,
         device: &Gsrn,
@@ -72,7 +71,7 @@ impl<S: Alter> SqlShelf<S> {
             return Err(Fault::Store);
         }
         let origin = u32::from(origin.get());
-        let day = day_text(first_day);
+        let day = first_day.text();
         let found = find_lot(
             self.alloc,
             &mut self.conn,

@@ -3,19 +3,18 @@
 ghost use Rattle.std.specs.Prelude.{◌≡◌, ◌+◌, ◌<◌, ◌^◌, All, false, find, map, option_map, IfSome};
 ghost use Rattle.sqlite.specs.Held.{state as view};
 ghost use Rattle.goo_types.specs.Piece.{IsForward};
-ghost use Rattle.goo_shelf.specs.Rows.{EndsFrom};
-ghost use Rattle.goo_shelf.specs.Sought.{is_sought};
-ghost use Rattle.goo_columns.specs.Beside.{joined_columns, joined_in, pieces_beside};
-ghost use Rattle.goo_columns.specs.Readable.{joined_readable};
-ghost use Rattle.goo_columns.specs.Refused.{FailsOnlyByFault};
-ghost use Rattle.goo_columns.specs.Stands.{Looks};
+ghost use Rattle.goo_core_shelf.specs.Rows.{EndsFrom};
+ghost use Rattle.goo_core_shelf.specs.Sought.{is_sought};
+ghost use Rattle.goo_tables_rows.specs.Beside.{joined_columns, joined_in, pieces_beside};
+ghost use Rattle.goo_tables_rows.specs.Readable.{joined_readable};
+ghost use Rattle.goo_tables_rows.specs.Refused.{FailsOnlyByFault};
+ghost use Rattle.goo_tables_rows.specs.Stands.{Looks};
 ghost use Rattle.goo_store.specs.NextRows.{begins_beyond, IsDated, reaching_beyond};
 
 use crate::pieces::is_beyond;
-use goo_columns::joined::JoinedRow;
-use goo_held::joined::{next_expiring, next_of_account};
-use goo_notice::texts::day_text;
-use goo_shelf::sought::{Sought, is_sought};
+use goo_core_shelf::sought::{Sought, is_sought};
+use goo_tables_holdings::joined::{next_expiring, next_of_account};
+use goo_tables_rows::joined::JoinedRow;
 use goo_types::piece::Piece;
 use sqlite::{Alter, Connection, Error};
 use std::alloc::Global;
@@ -49,7 +48,7 @@ pub fn ask_next<S: Alter>(
     match sought {
         Sought::Naming(account) => next_of_account(alloc, conn, account.get(), after),
         Sought::Expiring(day) => {
-            let text = day_text(*day);
+            let text = day.text();
             next_expiring(alloc, conn, text.as_str(), after)
         }
     }

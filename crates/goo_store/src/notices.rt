@@ -3,25 +3,25 @@
 ghost use Rattle.std.specs.Prelude.{◌≡◌, pos, Some, IfSome, IsTrue, option_map};
 ghost use Rattle.std.specs.FinMap.{get};
 ghost use Rattle.sqlite.specs.Held.{state as view};
-ghost use Rattle.goo_columns.specs.Rows.{notice_out_in, notice_in_in};
-ghost use Rattle.goo_shelf.specs.Shelf.{Looks, arrival_of};
-ghost use Rattle.goo_lookups.specs.Moments.{moment};
-ghost use Rattle.goo_lookups.specs.StoreFaults.{BlamesStore};
-ghost use Rattle.goo_kept.specs.Records.{sent_of, arrived_of};
-ghost use Rattle.goo_kept.specs.Readable.{is_notice_in};
+ghost use Rattle.goo_tables_rows.specs.Rows.{notice_out_in, notice_in_in};
+ghost use Rattle.goo_core_shelf.specs.Shelf.{Looks, arrival_of};
+ghost use Rattle.goo_store_lookups.specs.Moments.{moment};
+ghost use Rattle.goo_store_lookups.specs.StoreFaults.{BlamesStore};
+ghost use Rattle.goo_spec_tables.specs.Records.{sent_of, arrived_of};
+ghost use Rattle.goo_spec_tables.specs.Readable.{is_notice_in};
 ghost use Rattle.goo_store.specs.Reading.{IsReadableSent};
-ghost use Rattle.goo_plans.specs.Passing.{Accepts, Passes};
+ghost use Rattle.goo_store_values.specs.Passing.{Accepts, Passes};
 
 use crate::sql_shelf::SqlShelf;
-use goo_columns::notice_in::NoticeInRow;
-use goo_columns::notice_out::NoticeOutRow;
-use goo_lookups::told::told;
-use goo_plans::trouble::Trouble;
-use goo_plans::{numbers, texts};
-use goo_shelf::found::Arrival;
-use goo_shelf::sent::Sent;
+use goo_core_shelf::found::Arrival;
+use goo_core_shelf::sent::Sent;
+use goo_store_values::told::told;
+use goo_store_values::trouble::Trouble;
+use goo_store_values::{numbers, texts};
 use goo_tables::notice_in::find_notice_in;
 use goo_tables::notice_out::find_notice_out;
+use goo_tables_rows::notice_in::NoticeInRow;
+use goo_tables_rows::notice_out::NoticeOutRow;
 use goo_types::act_no::ActNo;
 use goo_types::fault::Fault;
 use goo_types::notice::Notice;
@@ -71,7 +71,11 @@ fn read_arrival(
 
 impl<S: Alter> SqlShelf<S> {
     /// A notice that was sent.
-    pub(crate) fn known_sent(&mut self, alloc: Global, notice: ActNo) -> Result<Option<Sent>, Fault>
+    pub(crate) fn look_up_sent(
+        &mut self,
+        alloc: Global,
+        notice: ActNo,
+    ) -> Result<Option<Sent>, Fault>
         ensures looks { Looks (moment (view S.Store self.old.conn) self.old.refused) (moment (view S.Store self.new.conn) self.new.refused) result (λ found. found ≡ get (moment (view S.Store self.old.conn) self.old.refused).state.sent notice) }
         ensures store { BlamesStore (view S.Store self.old.conn) (view S.Store self.new.conn) self.old.refused result }
     {
@@ -83,7 +87,11 @@ impl<S: Alter> SqlShelf<S> {
     }
 
     /// What is kept for a notice's sender and number, seen from the notice.
-    pub(crate) fn arrival_of(&mut self, alloc: Global, notice: &Notice) -> Result<Arrival, Fault>
+    pub(crate) fn look_up_arrived(
+        &mut self,
+        alloc: Global,
+        notice: &Notice,
+    ) -> Result<Arrival, Fault>
         ensures looks { Looks (moment (view S.Store self.old.conn) self.old.refused) (moment (view S.Store self.new.conn) self.new.refused) result (λ arrival. arrival ≡ arrival_of (get (moment (view S.Store self.old.conn) self.old.refused).state.arrived (notice.now.sender, notice.now.number)) notice.now) }
         ensures store { BlamesStore (view S.Store self.old.conn) (view S.Store self.new.conn) self.old.refused result }
     {

@@ -3,16 +3,16 @@
 ghost use Rattle.std.specs.Prelude.{◌≡◌, is_some, option_map, ⊤};
 ghost use Rattle.std.specs.FinMap.{contains_key};
 ghost use Rattle.sqlite.specs.Held.{state as view};
-ghost use Rattle.goo_shelf.specs.Shelf.{Looks};
-ghost use Rattle.goo_lookups.specs.Moments.{moment};
-ghost use Rattle.goo_lookups.specs.StoreFaults.{BlamesStore};
-ghost use Rattle.goo_plans.specs.Passing.{Accepts, Passes};
+ghost use Rattle.goo_core_shelf.specs.Shelf.{Looks};
+ghost use Rattle.goo_store_lookups.specs.Moments.{moment};
+ghost use Rattle.goo_store_lookups.specs.StoreFaults.{BlamesStore};
+ghost use Rattle.goo_store_values.specs.Passing.{Accepts, Passes};
 
 use crate::sql_shelf::SqlShelf;
-use goo_columns::peer::PeerRow;
-use goo_lookups::told::told;
-use goo_plans::trouble::Trouble;
+use goo_store_values::told::told;
+use goo_store_values::trouble::Trouble;
 use goo_tables::peer::find_peer;
+use goo_tables_rows::peer::PeerRow;
 use goo_types::fault::Fault;
 use goo_types::registry_code::RegistryCode;
 use sqlite::{Alter, Error};
@@ -27,7 +27,7 @@ fn is_there(found: Result<Option<PeerRow>, Error>) -> Result<bool, Trouble>
 
 impl<S: Alter> SqlShelf<S> {
     /// Whether another registry is known.
-    pub(crate) fn knows_peer(&mut self, code: RegistryCode) -> Result<bool, Fault>
+    pub(crate) fn look_up_peer(&mut self, code: RegistryCode) -> Result<bool, Fault>
         ensures looks { Looks (moment (view S.Store self.old.conn) self.old.refused) (moment (view S.Store self.new.conn) self.new.refused) result (λ known. known ≡ contains_key (moment (view S.Store self.old.conn) self.old.refused).state.peers code) }
         ensures store { BlamesStore (view S.Store self.old.conn) (view S.Store self.new.conn) self.old.refused result }
     {

@@ -5,23 +5,23 @@ ghost use Rattle.std.specs.FinMap.{get};
 ghost use Rattle.sqlite.specs.Held.{state as view};
 ghost use Rattle.goo_notice.specs.Law.{command_in};
 ghost use Rattle.goo_spec.specs.Step.{is_kept};
-ghost use Rattle.goo_columns.specs.Rows.{receipt_in};
-ghost use Rattle.goo_shelf.specs.Shelf.{Looks, receipt_of as seen_from};
-ghost use Rattle.goo_lookups.specs.Moments.{moment};
-ghost use Rattle.goo_lookups.specs.StoreFaults.{BlamesStore};
-ghost use Rattle.goo_kept.specs.Replies.{issued_of, reply_of, receipt_of};
-ghost use Rattle.goo_kept.specs.Readable.{are_ends, is_receipt, is_reply};
-ghost use Rattle.goo_plans.specs.Passing.{Accepts, Passes};
-ghost use Rattle.goo_plans.specs.declared.trouble.Trouble.TheVariants.{Memory};
+ghost use Rattle.goo_tables_rows.specs.Rows.{receipt_in};
+ghost use Rattle.goo_core_shelf.specs.Shelf.{Looks, receipt_of as seen_from};
+ghost use Rattle.goo_store_lookups.specs.Moments.{moment};
+ghost use Rattle.goo_store_lookups.specs.StoreFaults.{BlamesStore};
+ghost use Rattle.goo_spec_tables.specs.Replies.{issued_of, reply_of, receipt_of};
+ghost use Rattle.goo_spec_tables.specs.Readable.{are_ends, is_receipt, is_reply};
+ghost use Rattle.goo_store_values.specs.Passing.{Accepts, Passes};
+ghost use Rattle.goo_store_values.specs.declared.trouble.Trouble.TheVariants.{Memory};
 
 use crate::sql_shelf::SqlShelf;
-use goo_columns::receipt::ReceiptRow;
-use goo_lookups::told::told;
+use goo_core_shelf::found::Receipt;
 use goo_notice::{command_text, one_text};
-use goo_plans::numbers;
-use goo_plans::trouble::Trouble;
-use goo_shelf::found::Receipt;
+use goo_store_values::numbers;
+use goo_store_values::told::told;
+use goo_store_values::trouble::Trouble;
 use goo_tables::receipt::find_receipt;
+use goo_tables_rows::receipt::ReceiptRow;
 use goo_types::command::Command;
 use goo_types::fault::Fault;
 use goo_types::holder_code::HolderCode;
@@ -108,7 +108,7 @@ fn read_receipt(
 
 impl<S: Alter> SqlShelf<S> {
     /// What is kept for a caller's key, seen from a command.
-    pub(crate) fn receipt_for(
+    pub(crate) fn look_up_receipt(
         &mut self,
         alloc: Global,
         caller: &HolderCode,

@@ -2,34 +2,34 @@
 
 ghost use Rattle.std.specs.Prelude.{◌≡◌, Some, option_map, IfErr, IfOk, IsOk, IsSomeAnd, IsTrue};
 ghost use Rattle.sqlite.specs.Held.{state as view};
-ghost use Rattle.goo_columns.specs.Rows.{Tables, meta_in};
-ghost use Rattle.goo_shelf.specs.Counters.{counters_of};
-ghost use Rattle.goo_shelf.specs.Meta.{meta_of};
-ghost use Rattle.goo_shelf.specs.Shelf.{Looks};
-ghost use Rattle.goo_lookups.specs.Moments.{moment};
+ghost use Rattle.goo_tables_rows.specs.Rows.{Tables, meta_in};
+ghost use Rattle.goo_core_shelf.specs.Counters.{counters_of};
+ghost use Rattle.goo_core_shelf.specs.Meta.{meta_of};
+ghost use Rattle.goo_core_shelf.specs.Shelf.{Looks};
+ghost use Rattle.goo_store_lookups.specs.Moments.{moment};
 ghost use Rattle.goo_store.specs.Found.{KeepsFound};
-ghost use Rattle.goo_lookups.specs.StoreFaults.{BlamesStore};
-ghost use Rattle.goo_plans.specs.Passing.{Accepts, Passes};
-ghost use Rattle.goo_kept.specs.Readable.{is_meta};
-ghost use Rattle.goo_plans.specs.declared.trouble.Trouble.TheVariants.{Refused};
-ghost use Rattle.goo_kept.specs.States.{state_of};
+ghost use Rattle.goo_store_lookups.specs.StoreFaults.{BlamesStore};
+ghost use Rattle.goo_store_values.specs.Passing.{Accepts, Passes};
+ghost use Rattle.goo_spec_tables.specs.Readable.{is_meta};
+ghost use Rattle.goo_store_values.specs.declared.trouble.Trouble.TheVariants.{Refused};
+ghost use Rattle.goo_spec_tables.specs.States.{state_of};
 
 use crate::sql_shelf::SqlShelf;
-use goo_columns::meta::MetaRow;
-use goo_lookups::told::told;
-use goo_plans::registry_row::row;
-use goo_plans::trouble::Trouble;
-use goo_plans::{numbers, texts};
-use goo_shelf::counters::Counters;
-use goo_shelf::own::Meta;
+use goo_core_shelf::counters::Counters;
+use goo_core_shelf::own::Meta;
+use goo_store_values::registry_row::row;
+use goo_store_values::told::told;
+use goo_store_values::trouble::Trouble;
+use goo_store_values::{numbers, texts};
 use goo_tables::meta::find_meta;
+use goo_tables_rows::meta::MetaRow;
 use goo_types::day::Day;
 use goo_types::fault::Fault;
 use goo_types::registry_code::RegistryCode;
 use sqlite::{Alter, Error};
 
 /// The next number of each kind.
-#[tactic(auto, unfolding(goo_kept::specs::States::state_of))]
+#[tactic(auto, unfolding(goo_spec_tables::specs::States::state_of))]
 fn counters_in_row(row: &MetaRow) -> Result<Counters, Trouble>
     ensures value { IfOk result (λ counters. (t : Tables) → t.meta ≡ meta_in row.now → counters ≡ counters_of (state_of t)) }
     ensures accepts { IsTrue (is_meta (meta_in row.now)) → IsOk result }
@@ -46,7 +46,7 @@ fn counters_in_row(row: &MetaRow) -> Result<Counters, Trouble>
 }
 
 /// What the registry knows of itself, as its row tells.
-#[tactic(auto, unfolding(goo_kept::specs::States::state_of))]
+#[tactic(auto, unfolding(goo_spec_tables::specs::States::state_of))]
 fn meta_in_row(row: &MetaRow) -> Result<Meta, Trouble>
     ensures value { IfOk result (λ meta. (t : Tables) → t.meta ≡ meta_in row.now → meta ≡ meta_of (state_of t)) }
     ensures accepts { IsTrue (is_meta (meta_in row.now)) → IsOk result }
@@ -79,7 +79,7 @@ fn read_meta(
 
 impl<S: Alter> SqlShelf<S> {
     /// What the registry knows of itself.
-    pub(crate) fn own_meta(&mut self) -> Result<Meta, Fault>
+    pub(crate) fn look_up_registry(&mut self) -> Result<Meta, Fault>
         ensures looks { Looks (moment (view S.Store self.old.conn) self.old.refused) (moment (view S.Store self.new.conn) self.new.refused) result (λ meta. meta ≡ meta_of (moment (view S.Store self.old.conn) self.old.refused).state) }
         ensures store { BlamesStore (view S.Store self.old.conn) (view S.Store self.new.conn) self.old.refused result }
     {
@@ -91,29 +91,29 @@ impl<S: Alter> SqlShelf<S> {
     }
 
     /// The registry's own code.
-    pub(crate) fn own_code(&mut self) -> Result<RegistryCode, Fault>
+    pub(crate) fn look_up_code(&mut self) -> Result<RegistryCode, Fault>
         ensures looks { Looks (moment (view S.Store self.old.conn) self.old.refused) (moment (view S.Store self.new.conn) self.new.refused) result (λ code. code ≡ (moment (view S.Store self.old.conn) self.old.refused).state.own) }
         ensures store { BlamesStore (view S.Store self.old.conn) (view S.Store self.new.conn) self.old.refused result }
     {
-        let meta = self.own_meta()?;
+        let meta = self.look_up_registry()?;
         Ok(meta.code)
     }
 
     /// The registry's date.
-    pub(crate) fn own_date(&mut self) -> Result<Day, Fault>
+    pub(crate) fn look_up_today(&mut self) -> Result<Day, Fault>
         ensures looks { Looks (moment (view S.Store self.old.conn) self.old.refused) (moment (view S.Store self.new.conn) self.new.refused) result (λ day. day ≡ (moment (view S.Store self.old.conn) self.old.refused).state.today) }
         ensures store { BlamesStore (view S.Store self.old.conn) (view S.Store self.new.conn) self.old.refused result }
     {
-        let meta = self.own_meta()?;
+        let meta = self.look_up_registry()?;
         Ok(meta.today)
     }
 
     /// The next number of each kind.
-    pub(crate) fn next_numbers(&mut self) -> Result<Counters, Fault>
+    pub(crate) fn look_up_counters(&mut self) -> Result<Counters, Fault>
         ensures looks { Looks (moment (view S.Store self.old.conn) self.old.refused) (moment (view S.Store self.new.conn) self.new.refused) result (λ counters. counters ≡ counters_of (moment (view S.Store self.old.conn) self.old.refused).state) }
         ensures store { BlamesStore (view S.Store self.old.conn) (view S.Store self.new.conn) self.old.refused result }
     {
-        let meta = self.own_meta()?;
+        let meta = self.look_up_registry()?;
         Ok(meta.counters)
     }
 }

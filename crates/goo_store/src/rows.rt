@@ -4,20 +4,20 @@ ghost use Rattle.std.specs.Prelude.{◌≡◌, ◌+◌, ◌<◌, ◌^◌, ◌&&�
 ghost use Rattle.std.specs.List.{filter};
 ghost use Rattle.sqlite.specs.Held.{state as view};
 ghost use Rattle.goo_types.specs.Piece.{IsRising};
-ghost use Rattle.goo_rows.specs.Rows.{meeting as near};
+ghost use Rattle.goo_ranges_rows.specs.Rows.{meeting as near};
 ghost use Rattle.goo_spec_runs.specs.NextRun.{ending_from, first_of, from_of};
-ghost use Rattle.goo_shelf.specs.Rows.{naming_account, EndsFrom};
-ghost use Rattle.goo_shelf.specs.Shelf.{Looks};
-ghost use Rattle.goo_shelf.specs.Sought.{is_sought};
-ghost use Rattle.goo_lookups.specs.Moments.{moment};
-ghost use Rattle.goo_lookups.specs.StoreFaults.{BlamesStore};
+ghost use Rattle.goo_core_shelf.specs.Rows.{naming_account, EndsFrom};
+ghost use Rattle.goo_core_shelf.specs.Shelf.{Looks};
+ghost use Rattle.goo_core_shelf.specs.Sought.{is_sought};
+ghost use Rattle.goo_store_lookups.specs.Moments.{moment};
+ghost use Rattle.goo_store_lookups.specs.StoreFaults.{BlamesStore};
 
 use crate::next_rows::{ask_next, reaching_row};
 use crate::pieces::{join_near, read_beyond, read_maybe, read_rising};
 use crate::sql_shelf::SqlShelf;
-use goo_held::joined::{piece_before, pieces_beginning, pieces_of_account};
-use goo_lookups::told::told;
-use goo_shelf::sought::Sought;
+use goo_core_shelf::sought::Sought;
+use goo_store_values::told::told;
+use goo_tables_holdings::joined::{piece_before, pieces_beginning, pieces_of_account};
 use goo_types::account_no::AccountNo;
 use goo_types::fault::Fault;
 use goo_types::number::Number;
@@ -59,7 +59,11 @@ impl<S: Alter> SqlShelf<S> {
     }
 
     /// The rows with a number of the range or next to one, rising.
-    pub(crate) fn rows_near(&mut self, alloc: Global, range: Range) -> Result<Vec<Piece>, Fault>
+    pub(crate) fn look_up_meeting(
+        &mut self,
+        alloc: Global,
+        range: Range,
+    ) -> Result<Vec<Piece>, Fault>
         ensures looks { Looks (moment (view S.Store self.old.conn) self.old.refused) (moment (view S.Store self.new.conn) self.new.refused) result (λ met. met.items ≡ near range (moment (view S.Store self.old.conn) self.old.refused).rows) }
         ensures store { BlamesStore (view S.Store self.old.conn) (view S.Store self.new.conn) self.old.refused result }
         ensures rising { IfOk result (λ met. IsRising met.items) }
@@ -86,7 +90,7 @@ impl<S: Alter> SqlShelf<S> {
     }
 
     /// The rows whose place names an account, rising.
-    pub(crate) fn rows_naming(
+    pub(crate) fn look_up_pieces_of(
         &mut self,
         alloc: Global,
         account: AccountNo,

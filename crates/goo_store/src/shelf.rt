@@ -1,16 +1,16 @@
 //! The shelf over tables as a shelf.
 
 use crate::sql_shelf::SqlShelf;
-use goo_shelf::account::Account;
-use goo_shelf::cancel_record::CancelRecord;
-use goo_shelf::counters::Counters;
-use goo_shelf::device::Device;
-use goo_shelf::found::{Arrival, DeviceRecord, DeviceTotals, Progress, Receipt};
-use goo_shelf::own::Meta;
-use goo_shelf::plan::Plan;
-use goo_shelf::sent::Sent;
-use goo_shelf::shelf::Shelf;
-use goo_shelf::sought::Sought;
+use goo_core_shelf::account::Account;
+use goo_core_shelf::cancel_record::CancelRecord;
+use goo_core_shelf::counters::Counters;
+use goo_core_shelf::device::Device;
+use goo_core_shelf::found::{Arrival, DeviceRecord, DeviceTotals, Progress, Receipt};
+use goo_core_shelf::own::Meta;
+use goo_core_shelf::plan::Plan;
+use goo_core_shelf::sent::Sent;
+use goo_core_shelf::shelf::Shelf;
+use goo_core_shelf::sought::Sought;
 use goo_types::account_no::AccountNo;
 use goo_types::act_no::ActNo;
 use goo_types::command::Command;
@@ -35,17 +35,17 @@ impl<S: Alter> Shelf for SqlShelf<S> {
     ghost use Rattle.std.specs.FinMap.{get, contains_key};
     ghost use Rattle.goo_types.specs.Piece.{IsRising};
     ghost use Rattle.goo_spec.specs.Lots.{lot_key};
-    ghost use Rattle.goo_rows.specs.Rows.{meeting as near};
-    ghost use Rattle.goo_shelf.specs.Counters.{counters_of};
-    ghost use Rattle.goo_shelf.specs.Meta.{meta_of};
+    ghost use Rattle.goo_ranges_rows.specs.Rows.{meeting as near};
+    ghost use Rattle.goo_core_shelf.specs.Counters.{counters_of};
+    ghost use Rattle.goo_core_shelf.specs.Meta.{meta_of};
     ghost use Rattle.goo_spec_runs.specs.NextRun.{from_of};
-    ghost use Rattle.goo_shelf.specs.Rows.{naming_account, next_row, next_expiring_row, EndsFrom};
-    ghost use Rattle.goo_shelf.specs.Shelf.{Looks, progress_of, IsRecordOf, receipt_of, arrival_of, totals_of};
-    ghost use Rattle.goo_shelf.specs.Plan.{Fits, Commits};
+    ghost use Rattle.goo_core_shelf.specs.Rows.{naming_account, next_row, next_expiring_row, EndsFrom};
+    ghost use Rattle.goo_core_shelf.specs.Shelf.{Looks, progress_of, IsRecordOf, receipt_of, arrival_of, totals_of};
+    ghost use Rattle.goo_core_shelf.specs.Plan.{Fits, Commits};
     ghost use Rattle.goo_store.specs.Gathering.{BlamesCommit, CanCarryOut};
-    ghost use Rattle.goo_lookups.specs.Moments.{moment};
-    ghost use Rattle.goo_lookups.specs.StoreFaults.{BlamesStore};
-    ghost use Rattle.goo_lookups.specs.Holding.{safe};
+    ghost use Rattle.goo_store_lookups.specs.Moments.{moment};
+    ghost use Rattle.goo_store_lookups.specs.StoreFaults.{BlamesStore};
+    ghost use Rattle.goo_store_lookups.specs.Holding.{safe};
 
     ghost seen = { λ s. moment (view S.Store s.conn) s.refused };
 
@@ -57,63 +57,63 @@ impl<S: Alter> Shelf for SqlShelf<S> {
         ensures looks { Looks (moment (view S.Store self.old.conn) self.old.refused) (moment (view S.Store self.new.conn) self.new.refused) result (λ meta. meta ≡ meta_of (moment (view S.Store self.old.conn) self.old.refused).state) }
         ensures store { BlamesStore (view S.Store self.old.conn) (view S.Store self.new.conn) self.old.refused result }
     {
-        self.own_meta()
+        self.look_up_registry()
     }
 
     fn code(&mut self) -> Result<RegistryCode, Fault>
         ensures looks { Looks (moment (view S.Store self.old.conn) self.old.refused) (moment (view S.Store self.new.conn) self.new.refused) result (λ code. code ≡ (moment (view S.Store self.old.conn) self.old.refused).state.own) }
         ensures store { BlamesStore (view S.Store self.old.conn) (view S.Store self.new.conn) self.old.refused result }
     {
-        self.own_code()
+        self.look_up_code()
     }
 
     fn today(&mut self) -> Result<Day, Fault>
         ensures looks { Looks (moment (view S.Store self.old.conn) self.old.refused) (moment (view S.Store self.new.conn) self.new.refused) result (λ day. day ≡ (moment (view S.Store self.old.conn) self.old.refused).state.today) }
         ensures store { BlamesStore (view S.Store self.old.conn) (view S.Store self.new.conn) self.old.refused result }
     {
-        self.own_date()
+        self.look_up_today()
     }
 
     fn counters(&mut self) -> Result<Counters, Fault>
         ensures looks { Looks (moment (view S.Store self.old.conn) self.old.refused) (moment (view S.Store self.new.conn) self.new.refused) result (λ counters. counters ≡ counters_of (moment (view S.Store self.old.conn) self.old.refused).state) }
         ensures store { BlamesStore (view S.Store self.old.conn) (view S.Store self.new.conn) self.old.refused result }
     {
-        self.next_numbers()
+        self.look_up_counters()
     }
 
     fn holder(&mut self, code: &HolderCode) -> Result<Option<Name>, Fault>
         ensures looks { Looks (moment (view S.Store self.old.conn) self.old.refused) (moment (view S.Store self.new.conn) self.new.refused) result (λ name. name ≡ get (moment (view S.Store self.old.conn) self.old.refused).state.holders code.now) }
         ensures store { BlamesStore (view S.Store self.old.conn) (view S.Store self.new.conn) self.old.refused result }
     {
-        self.name_of(code)
+        self.look_up_holder(code)
     }
 
     fn account(&mut self, account: AccountNo) -> Result<Option<Account>, Fault>
         ensures looks { Looks (moment (view S.Store self.old.conn) self.old.refused) (moment (view S.Store self.new.conn) self.new.refused) result (λ found. found ≡ get (moment (view S.Store self.old.conn) self.old.refused).state.accounts account) }
         ensures store { BlamesStore (view S.Store self.old.conn) (view S.Store self.new.conn) self.old.refused result }
     {
-        self.known_account(account)
+        self.look_up_account(account)
     }
 
     fn device(&mut self, device: &Gsrn) -> Result<Option<Device>, Fault>
         ensures looks { Looks (moment (view S.Store self.old.conn) self.old.refused) (moment (view S.Store self.new.conn) self.new.refused) result (λ found. found ≡ get (moment (view S.Store self.old.conn) self.old.refused).state.devices device.now) }
         ensures store { BlamesStore (view S.Store self.old.conn) (view S.Store self.new.conn) self.old.refused result }
     {
-        self.known_device(device)
+        self.look_up_device(device)
     }
 
     fn progress(&mut self, device: &Gsrn) -> Result<Progress, Fault>
         ensures looks { Looks (moment (view S.Store self.old.conn) self.old.refused) (moment (view S.Store self.new.conn) self.new.refused) result (λ progress. progress ≡ progress_of (moment (view S.Store self.old.conn) self.old.refused).state device.now) }
         ensures store { BlamesStore (view S.Store self.old.conn) (view S.Store self.new.conn) self.old.refused result }
     {
-        self.progress_for(device)
+        self.look_up_progress(device)
     }
 
     fn device_record(&mut self, device: &Gsrn) -> Result<Option<DeviceRecord>, Fault>
         ensures looks { Looks (moment (view S.Store self.old.conn) self.old.refused) (moment (view S.Store self.new.conn) self.new.refused) result (IsRecordOf (moment (view S.Store self.old.conn) self.old.refused).state device.now) }
         ensures store { BlamesStore (view S.Store self.old.conn) (view S.Store self.new.conn) self.old.refused result }
     {
-        self.record_for(device)
+        self.look_up_device_record(device)
     }
 
     fn receipt(
@@ -126,7 +126,7 @@ impl<S: Alter> Shelf for SqlShelf<S> {
         ensures looks { Looks (moment (view S.Store self.old.conn) self.old.refused) (moment (view S.Store self.new.conn) self.new.refused) result (λ receipt. receipt ≡ receipt_of (get (moment (view S.Store self.old.conn) self.old.refused).state.receipts (caller.now, key.now)) command.now) }
         ensures store { BlamesStore (view S.Store self.old.conn) (view S.Store self.new.conn) self.old.refused result }
     {
-        self.receipt_for(alloc, caller, key, command)
+        self.look_up_receipt(alloc, caller, key, command)
     }
 
     fn lot(
@@ -138,35 +138,35 @@ impl<S: Alter> Shelf for SqlShelf<S> {
         ensures looks { Looks (moment (view S.Store self.old.conn) self.old.refused) (moment (view S.Store self.new.conn) self.new.refused) result (λ lot. lot ≡ get (moment (view S.Store self.old.conn) self.old.refused).state.lots (lot_key origin device.now first_day)) }
         ensures store { BlamesStore (view S.Store self.old.conn) (view S.Store self.new.conn) self.old.refused result }
     {
-        self.known_lot(origin, device, first_day)
+        self.look_up_lot(origin, device, first_day)
     }
 
     fn peer(&mut self, code: RegistryCode) -> Result<bool, Fault>
         ensures looks { Looks (moment (view S.Store self.old.conn) self.old.refused) (moment (view S.Store self.new.conn) self.new.refused) result (λ known. known ≡ contains_key (moment (view S.Store self.old.conn) self.old.refused).state.peers code) }
         ensures store { BlamesStore (view S.Store self.old.conn) (view S.Store self.new.conn) self.old.refused result }
     {
-        self.knows_peer(code)
+        self.look_up_peer(code)
     }
 
     fn arrived(&mut self, alloc: Global, notice: &Notice) -> Result<Arrival, Fault>
         ensures looks { Looks (moment (view S.Store self.old.conn) self.old.refused) (moment (view S.Store self.new.conn) self.new.refused) result (λ arrival. arrival ≡ arrival_of (get (moment (view S.Store self.old.conn) self.old.refused).state.arrived (notice.now.sender, notice.now.number)) notice.now) }
         ensures store { BlamesStore (view S.Store self.old.conn) (view S.Store self.new.conn) self.old.refused result }
     {
-        self.arrival_of(alloc, notice)
+        self.look_up_arrived(alloc, notice)
     }
 
     fn sent(&mut self, alloc: Global, notice: ActNo) -> Result<Option<Sent>, Fault>
         ensures looks { Looks (moment (view S.Store self.old.conn) self.old.refused) (moment (view S.Store self.new.conn) self.new.refused) result (λ found. found ≡ get (moment (view S.Store self.old.conn) self.old.refused).state.sent notice) }
         ensures store { BlamesStore (view S.Store self.old.conn) (view S.Store self.new.conn) self.old.refused result }
     {
-        self.known_sent(alloc, notice)
+        self.look_up_sent(alloc, notice)
     }
 
     fn cancelled(&mut self, cancellation: ActNo) -> Result<Option<CancelRecord>, Fault>
         ensures looks { Looks (moment (view S.Store self.old.conn) self.old.refused) (moment (view S.Store self.new.conn) self.new.refused) result (λ found. found ≡ get (moment (view S.Store self.old.conn) self.old.refused).state.cancellations cancellation) }
         ensures store { BlamesStore (view S.Store self.old.conn) (view S.Store self.new.conn) self.old.refused result }
     {
-        self.known_cancellation(cancellation)
+        self.look_up_cancelled(cancellation)
     }
 
     fn meeting(&mut self, alloc: Global, range: Range) -> Result<Vec<Piece>, Fault>
@@ -174,7 +174,7 @@ impl<S: Alter> Shelf for SqlShelf<S> {
         ensures store { BlamesStore (view S.Store self.old.conn) (view S.Store self.new.conn) self.old.refused result }
         ensures rising { IfOk result (λ met. IsRising met.items) }
     {
-        self.rows_near(alloc, range)
+        self.look_up_meeting(alloc, range)
     }
 
     fn pieces_of(&mut self, alloc: Global, account: AccountNo) -> Result<Vec<Piece>, Fault>
@@ -182,7 +182,7 @@ impl<S: Alter> Shelf for SqlShelf<S> {
         ensures store { BlamesStore (view S.Store self.old.conn) (view S.Store self.new.conn) self.old.refused result }
         ensures rising { IfOk result (λ met. IsRising met.items) }
     {
-        self.rows_naming(alloc, account)
+        self.look_up_pieces_of(alloc, account)
     }
 
     fn next_of(&mut self, account: AccountNo, after: Option<Number>) -> Result<Option<Piece>, Fault>
@@ -205,7 +205,7 @@ impl<S: Alter> Shelf for SqlShelf<S> {
         ensures looks { Looks (moment (view S.Store self.old.conn) self.old.refused) (moment (view S.Store self.new.conn) self.new.refused) result (λ totals. totals.items ≡ totals_of (moment (view S.Store self.old.conn) self.old.refused).state) }
         ensures store { BlamesStore (view S.Store self.old.conn) (view S.Store self.new.conn) self.old.refused result }
     {
-        self.all_totals(alloc)
+        self.look_up_totals(alloc)
     }
 
     fn commit(&mut self, alloc: Global, plan: &Plan) -> Result<(), Fault>

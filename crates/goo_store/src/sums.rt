@@ -2,23 +2,21 @@
 
 ghost use Rattle.std.specs.Prelude.{◌≡◌, ℕ, ◌+◌, ◌-◌, ◌^◌, ◌==◌, nat_lt, List, cond, map, sum_by, is_ok, IfOk, IsOkUnless};
 ghost use Rattle.goo_types.specs.Number.{code_of};
-ghost use Rattle.goo_rows.specs.Certificates.{issued_in};
-ghost use Rattle.goo_rules.specs.Summing.{sum_at};
+ghost use Rattle.goo_ranges_rows.specs.Certificates.{issued_in};
+ghost use Rattle.goo_store_rules.specs.Summing.{sum_at};
 ghost use Rattle.goo_store.specs.Summing.{summed_for, HaveSmallSums};
-ghost use Rattle.goo_plans.specs.declared.trouble.Trouble.TheVariants.{Memory};
+ghost use Rattle.goo_store_values.specs.declared.trouble.Trouble.TheVariants.{Memory};
 
-use goo_plans::trouble::Trouble;
-use goo_rules::sums::{add_to, sum_declared, sum_for};
-use goo_shelf::found::DeviceTotals;
+use goo_core_shelf::found::DeviceTotals;
+use goo_store_rules::sums::{add_to, sum_declared, sum_for};
+use goo_store_values::trouble::Trouble;
 use goo_types::command::Declare;
 use goo_types::gsrn::Gsrn;
+use goo_types::limits::CERTIFICATE;
 use goo_types::piece::Piece;
 use goo_types::registry_code::RegistryCode;
 use std::alloc::Global;
 use std::collections::BTreeMap;
-
-/// The watt hours of a certificate.
-const CERTIFICATE: u64 = 1_000_000;
 
 /// How many of a row's certificates are a registry's own ones.
 fn own_count(own: RegistryCode, row: &Piece) -> u64

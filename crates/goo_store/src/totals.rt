@@ -3,14 +3,14 @@
 ghost use Rattle.std.specs.Prelude.{◌≡◌};
 ghost use Rattle.std.specs.FinMap.{keys as keys_of};
 ghost use Rattle.sqlite.specs.Held.{state as view};
-ghost use Rattle.goo_shelf.specs.Shelf.{Looks, totals_of};
-ghost use Rattle.goo_lookups.specs.Moments.{moment};
-ghost use Rattle.goo_lookups.specs.StoreFaults.{BlamesStore};
+ghost use Rattle.goo_core_shelf.specs.Shelf.{Looks, totals_of};
+ghost use Rattle.goo_store_lookups.specs.Moments.{moment};
+ghost use Rattle.goo_store_lookups.specs.StoreFaults.{BlamesStore};
 
 use crate::sql_shelf::SqlShelf;
 use crate::sums::totals_over;
-use goo_lookups::told::told;
-use goo_shelf::found::DeviceTotals;
+use goo_core_shelf::found::DeviceTotals;
+use goo_store_values::told::told;
 use goo_types::fault::Fault;
 use goo_types::gsrn::Gsrn;
 use goo_types::registry_code::RegistryCode;
@@ -44,11 +44,11 @@ impl<S: Alter> SqlShelf<S> {
     }
 
     /// The energy and the certificates of each device, by device.
-    pub(crate) fn all_totals(&mut self, alloc: Global) -> Result<Vec<DeviceTotals>, Fault>
+    pub(crate) fn look_up_totals(&mut self, alloc: Global) -> Result<Vec<DeviceTotals>, Fault>
         ensures looks { Looks (moment (view S.Store self.old.conn) self.old.refused) (moment (view S.Store self.new.conn) self.new.refused) result (λ totals. totals.items ≡ totals_of (moment (view S.Store self.old.conn) self.old.refused).state) }
         ensures store { BlamesStore (view S.Store self.old.conn) (view S.Store self.new.conn) self.old.refused result }
     {
-        let own = self.own_code()?;
+        let own = self.look_up_code()?;
         self.totals_by(alloc, own)
     }
 }

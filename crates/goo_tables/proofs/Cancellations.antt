@@ -14,32 +14,32 @@ use Rattle.sqlite.specs.State.{State, IsLive, Executes}
 use Rattle.sqlite_sql.specs.declared.ops.BinaryOp.TheVariants.{Compare}
 use Rattle.sqlite_sql.specs.declared.ops.CompareOp.TheVariants.{Eq}
 use Rattle.sqlite_typed.proofs.TestLemmas.{at_ints, last_term, then_value}
-use Rattle.goo_columns.specs.Columns.{cancellation}
-use Rattle.goo_columns.specs.Rows.{Tables, Cancellation, cancellation_in, cancellation_columns, cancellation_row, cancellation_key}
-use Rattle.goo_columns.specs.declared.cancellation.CancellationRow.{CancellationRow}
-use Rattle.goo_columns.specs.Reads.{cancellation_reads}
-use Rattle.goo_columns.specs.Stands.{Stands, Keeps}
-use Rattle.goo_columns.specs.Asked.{FirstZip}
-use Rattle.goo_columns.proofs.Typed.{cast_int, cast_null}
-use Rattle.goo_columns.proofs.Alone.{cancellations_stand}
-use Rattle.goo_columns.proofs.Living.{KeepsLive, keeps_live}
-use Rattle.goo_columns.proofs.Same.{cancellation_same}
-use Rattle.goo_held.specs.Changes.{with_cancellation}
-use Rattle.goo_held.proofs.Queries.{in_order}
-use Rattle.goo_columns.specs.Met.{HasOurTables}
-use Rattle.goo_columns.proofs.Meeting.{type_rules, shape_rules, no_text, int_same}
+use Rattle.goo_tables_rows.specs.Columns.{cancellation}
+use Rattle.goo_tables_rows.specs.Rows.{Tables, Cancellation, cancellation_in, cancellation_columns, cancellation_row, cancellation_key}
+use Rattle.goo_tables_rows.specs.declared.cancellation.CancellationRow.{CancellationRow}
+use Rattle.goo_tables_rows.specs.Reads.{cancellation_reads}
+use Rattle.goo_tables_rows.specs.Stands.{Stands, Keeps}
+use Rattle.goo_tables_rows.specs.Asked.{FirstZip}
+use Rattle.goo_tables_rows.proofs.Typed.{cast_int, cast_null}
+use Rattle.goo_tables_rows.proofs.Alone.{cancellations_stand}
+use Rattle.goo_tables_rows.proofs.Living.{KeepsLive, keeps_live}
+use Rattle.goo_tables_rows.proofs.Same.{cancellation_same}
+use Rattle.goo_tables_holdings.specs.Changes.{with_cancellation}
+use Rattle.goo_tables_holdings.proofs.Queries.{in_order}
+use Rattle.goo_tables_rows.specs.Met.{HasOurTables}
+use Rattle.goo_tables_rows.proofs.Meeting.{type_rules, shape_rules, no_text, int_same}
 use Rattle.std.specs.Prelude.{⊤}
 use Rattle.std.proofs.lemmas.Iterator.Adapters.{option_map_id}
 use Rattle.std.proofs.lemmas.Bool.{lt-ltb}
 use Rattle.sqlite_keyed.specs.Keyed.{get_by}
 use Rattle.sqlite_keyed.proofs.ListLemmas.{all_of}
-use Rattle.goo_columns.proofs.Stored.{cancellation_stored}
-use Rattle.goo_columns.specs.Refused.{IsTooBig, IsSmall}
-use Rattle.goo_held.proofs.Adding.{Adds, adds_row}
-use Rattle.goo_held.proofs.Failing.{FailsOnly, not_there, adding_fails}
-use Rattle.goo_held.proofs.AnyTable.{TableOf, shown, shows_each, finds_one, IsListed, meets_listed}
-use Rattle.goo_held.proofs.Asking.{Asks, Tells, Says}
-use Rattle.goo_held.proofs.Values.{whole_is, null_at_key}
+use Rattle.goo_tables_rows.proofs.Stored.{cancellation_stored}
+use Rattle.goo_tables_rows.specs.Refused.{IsTooBig, IsSmall}
+use Rattle.goo_tables_holdings.proofs.Adding.{Adds, adds_row}
+use Rattle.goo_tables_holdings.proofs.Failing.{FailsOnly, not_there, adding_fails}
+use Rattle.goo_tables_holdings.proofs.AnyTable.{TableOf, shown, shows_each, finds_one, IsListed, meets_listed}
+use Rattle.goo_tables_holdings.proofs.Asking.{Asks, Tells, Says}
+use Rattle.goo_tables_holdings.proofs.Values.{whole_is, null_at_key}
 
 -- ---- cancellation: the table
 

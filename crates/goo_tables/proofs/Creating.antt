@@ -18,11 +18,11 @@ use Rattle.sqlite.specs.State.{State, Writes, Executes, ExecutesInside, HasClean
 use Rattle.sqlite.proofs.Callers.{IsPlain, command_of, statement_of, runs_as}
 use Rattle.sqlite_schema.specs.declared.schema.Index.{Index}
 use Rattle.sqlite_keyed.proofs.ListLemmas.{all_both, all-append}
-use Rattle.goo_columns.specs.Columns.{meta, holder, account, device, declaration, lot, piece, peer, receipt, cancellation, withdrawal, notice_out, notice_in, index_on, no_schema, registry_schema}
-use Rattle.goo_columns.specs.Refused.{IsFault}
-use Rattle.goo_columns.specs.Stands.{IsBare}
-use Rattle.goo_columns.proofs.Inside.{keeps_itself, stays, keeps_then, survives_both}
-use Rattle.goo_columns.proofs.Writing.{went, same_value}
+use Rattle.goo_tables_rows.specs.Columns.{meta, holder, account, device, declaration, lot, piece, peer, receipt, cancellation, withdrawal, notice_out, notice_in, index_on, no_schema, registry_schema}
+use Rattle.goo_tables_rows.specs.Refused.{IsFault}
+use Rattle.goo_tables_rows.specs.Stands.{IsBare}
+use Rattle.goo_tables_rows.proofs.Inside.{keeps_itself, stays, keeps_then, survives_both}
+use Rattle.goo_tables_rows.proofs.Writing.{went, same_value}
 use Rattle.goo_tables.specs.Created.{begun_schema, create_texts, stages, IsMade}
 use Rattle.goo_tables.proofs.CreatingFails.{FailsByFault}
 

@@ -19,7 +19,7 @@ use Rattle.sqlite_tied.specs.Compute.{everything}
 use Rattle.sqlite_trees.specs.Sound.{fits_kind, is_free_name, begins, same_name}
 use Rattle.sqlite_value.specs.Order.{value_cmp}
 use Rattle.sqlite_keyed.proofs.ListLemmas.{all-slice_get}
-use Rattle.goo_columns.specs.Columns.{meta, holder, account, device, declaration, lot, piece, peer, receipt, cancellation, withdrawal, notice_out, notice_in, index_on, no_schema}
+use Rattle.goo_tables_rows.specs.Columns.{meta, holder, account, device, declaration, lot, piece, peer, receipt, cancellation, withdrawal, notice_out, notice_in, index_on, no_schema}
 use Rattle.sqlite_catalog.specs.Change.{is_used, is_reserved, automatics, created, indexed}
 use Rattle.sqlite_catalog.specs.Listing.{is_formed, is_fit}
 use Rattle.sqlite_rules.specs.Lists.{Has}
@@ -39,8 +39,8 @@ use Rattle.sqlite.specs.State.{State, mode_of, ExecutesInside, ExecutesIn, EndsS
 use Rattle.sqlite.specs.Listing.{understood}
 use Rattle.sqlite.proofs.Callers.{IsPlain, command_of, statement_of}
 use Rattle.sqlite_resolve.specs.declared.compiled.Compiled.{Compiled}
-use Rattle.goo_columns.specs.Refused.{IsFault, is_whole}
-use Rattle.goo_columns.proofs.Refusing.{fault_of, runs_on}
+use Rattle.goo_tables_rows.specs.Refused.{IsFault, is_whole}
+use Rattle.goo_tables_rows.proofs.Refusing.{fault_of, runs_on}
 
 -- a text of ASCII alone
 abbrev pub is_plain_text : List ℕ → Bool

@@ -4,7 +4,7 @@ use Rattle.std.specs.List.{AllByRecursion}
 use Rattle.sqlite.specs.Table.{Table}
 use Rattle.sqlite.specs.Schema.{Schema}
 use Rattle.sqlite.specs.Effect.{Database}
-use Rattle.goo_columns.specs.Columns.{registry_tables, registry_indexes}
+use Rattle.goo_tables_rows.specs.Columns.{registry_tables, registry_indexes}
 
 abbrev pub create_texts : List (List ℕ)
 create_texts =

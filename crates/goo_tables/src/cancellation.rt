@@ -4,22 +4,27 @@ ghost use Rattle.std.specs.Prelude.{◌≡◌, None, false, pos, map, IfOk, OnOk
 ghost use Rattle.sqlite.specs.State.{HasCleanDisk, KeepsCommit, Survives};
 ghost use Rattle.sqlite.specs.Held.{state};
 ghost use Rattle.sqlite_keyed.specs.Keyed.{get_by};
-ghost use Rattle.goo_columns.specs.Rows.{Tables, cancellation_in, cancellation_key, cancellation_row, cancellation_columns};
-ghost use Rattle.goo_columns.specs.Readable.{cancellation_readable};
-ghost use Rattle.goo_columns.specs.Refused.{FailsByFault, FailsOnlyByFault, ChangeFailsBy, IsTooBig, IsSmall};
-ghost use Rattle.goo_columns.specs.Lives.{LeavesLive};
-ghost use Rattle.goo_columns.specs.Stands.{Sees, Looks, Keeps};
-ghost use Rattle.goo_columns.specs.Met.{HasOurTables};
-ghost use Rattle.goo_held.specs.Changes.{with_cancellation, CancellationFits};
+ghost use Rattle.goo_tables_rows.specs.Rows.{Tables, cancellation_in, cancellation_key, cancellation_row, cancellation_columns};
+ghost use Rattle.goo_tables_rows.specs.Readable.{cancellation_readable};
+ghost use Rattle.goo_tables_rows.specs.Refused.{FailsByFault, FailsOnlyByFault, ChangeFailsBy, IsTooBig, IsSmall};
+ghost use Rattle.goo_tables_rows.specs.Lives.{LeavesLive};
+ghost use Rattle.goo_tables_rows.specs.Stands.{Sees, Looks, Keeps};
+ghost use Rattle.goo_tables_rows.specs.Met.{HasOurTables};
+ghost use Rattle.goo_tables_holdings.specs.Changes.{with_cancellation, CancellationFits};
 
-use goo_columns::ask::{ask_all, ask_first};
-use goo_columns::cancellation::CancellationRow;
-use goo_columns::put::put;
-use goo_columns::values::{number, small, text};
+use goo_tables_rows::ask::{ask_all, ask_first};
+use goo_tables_rows::cancellation::CancellationRow;
+use goo_tables_rows::put::put;
+use goo_tables_rows::values::{number, small, text};
 use sqlite::{Alter, Connection, Error, Transaction};
 use std::alloc::Global;
 
 /// Adds a cancellation, whose number must be new.
+///
+/// # Errors
+///
+/// In a registry's transaction, where the number is new: a failure of memory or of the disk, or of a connection
+/// that an earlier failure shut, or `TooBig` for a row that is too big to be stored. Nothing is committed.
 pub fn insert_cancellation<S: Alter>(
     tx: &mut Transaction<'_, S>,
     cancellation: &CancellationRow,
@@ -50,6 +55,11 @@ pub fn insert_cancellation<S: Alter>(
 }
 
 /// The cancellation with this number.
+///
+/// # Errors
+///
+/// On the tables of a registry: `SqliteFailure` where memory was refused, the disk failed or an earlier failure
+/// shut the connection, and an error of reading where a row can't be read. The database stays as it was.
 pub fn find_cancellation<S: Alter>(
     alloc: Global,
     conn: &mut Connection<S>,
@@ -70,6 +80,11 @@ pub fn find_cancellation<S: Alter>(
 }
 
 /// All cancellations, by their numbers.
+///
+/// # Errors
+///
+/// On the tables of a registry: `SqliteFailure` where memory was refused, the disk failed or an earlier failure
+/// shut the connection, and an error of reading where a row can't be read. The database stays as it was.
 pub fn all_cancellations<S: Alter>(
     alloc: Global,
     conn: &mut Connection<S>,

@@ -3,12 +3,12 @@
 ghost use Rattle.std.specs.Prelude.{◌≡◌, ◌<◌, get_or, [], IsTrue, IfErr, OnOk};
 ghost use Rattle.sqlite.specs.State.{HasCleanDisk, IsLive, KeepsCommit, Survives};
 ghost use Rattle.sqlite.specs.Held.{state};
-ghost use Rattle.goo_columns.specs.Columns.{no_schema};
-ghost use Rattle.goo_columns.specs.Refused.{IsFault};
-ghost use Rattle.goo_columns.specs.Stands.{IsBare};
+ghost use Rattle.goo_tables_rows.specs.Columns.{no_schema};
+ghost use Rattle.goo_tables_rows.specs.Refused.{IsFault};
+ghost use Rattle.goo_tables_rows.specs.Stands.{IsBare};
 ghost use Rattle.goo_tables.specs.Created.{create_texts};
 
-use goo_columns::put::put;
+use goo_tables_rows::put::put;
 use sqlite::{Alter, Error, Transaction};
 
 /// The statements that `create_tables` runs, in turn.
@@ -53,7 +53,7 @@ fn statement(at: u32) -> &'static str
 ///
 /// # Errors
 ///
-/// Want of memory, or a fault of the disk: no name is taken in a database that has none, and no text is too long.
+/// In a transaction on a database without tables: a failure of memory or of the disk. Nothing is committed.
 pub fn create_tables<S: Alter>(tx: &mut Transaction<'_, S>) -> Result<(), Error>
     ensures same_reference { tx.new.conn.ghost_name ≡ tx.old.conn.ghost_name }
     ensures made { HasCleanDisk (state S.Store tx.new.conn.now) → IsTrue (state S.Store tx.old.conn.now).in_transaction → (state S.Store tx.old.conn.now).now.schema ≡ no_schema

@@ -1,8 +1,8 @@
 //! What a registry over lists is asked.
 use crate::failing::{Sending, Taking};
+use goo_core_list::list_shelf::ListShelf;
 use goo_desk_connection::{ServeFault, Served, serve_one};
 use goo_desk_counter::Counter;
-use goo_list::list_shelf::ListShelf;
 use goo_registry::Registry;
 use goo_types::day::Day;
 use goo_types::registry_code::RegistryCode;
@@ -26,9 +26,9 @@ pub fn answers<D: Counter>(alloc: Global, desk: &mut D, sent: &str, wanted: &str
 }
 
 /// Whether what is sent is answered with this first line.
-pub fn begins<D: Counter>(alloc: Global, desk: &mut D, sent: &str, line: &str) -> bool {
+pub fn begins<D: Counter>(alloc: Global, desk: &mut D, mut sent: &[u8], line: &str) -> bool {
     let mut text = Vec::new(alloc);
-    let served = serve_one(alloc, desk, &mut sent.as_bytes(), &mut text);
+    let served = serve_one(alloc, desk, &mut sent, &mut text);
     served.is_ok() && text.starts_with(line.as_bytes())
 }
 

@@ -1,7 +1,7 @@
 //! Requests, and what they are answered.
 
 /// What is sent, and the first line of the answer.
-pub const CASES: [(&str, &str); 18] = [
+pub const CASES: [(&str, &str); 27] = [
     ("garbage\r\n\r\n", "HTTP/1.1 400 Bad Request\r\n"),
     (
         "GET /v1/audit HTTP/1.1\r\nGOO-Caller: ISSUER\r\n\r\n",
@@ -14,6 +14,14 @@ pub const CASES: [(&str, &str); 18] = [
     (
         "POST /v1/requests HTTP/1.0\r\nTransfer-Encoding: identity\r\nContent-Length: x\r\n\r\n",
         "HTTP/1.1 501 Not Implemented\r\n",
+    ),
+    (
+        "POST /v1/requests HTTP/1.1\r\nHost: x\r\nTransfer-Encoding: chunked\r\n\r\n0\r\n\r\n",
+        "HTTP/1.1 501 Not Implemented\r\n",
+    ),
+    (
+        "POST /v1/requests HTTP/1.0\r\nContent-Length: 2\r\nContent-Length: 2\r\n\r\n{}",
+        "HTTP/1.1 400 Bad Request\r\n",
     ),
     (
         "POST /v1/requests HTTP/1.0\r\nContent-Length: +5\r\n\r\n12345",
@@ -44,6 +52,10 @@ pub const CASES: [(&str, &str); 18] = [
         "HTTP/1.1 404 Not Found\r\n",
     ),
     (
+        "GET /v1/audit?all HTTP/1.0\r\nGOO-Caller: ISSUER\r\n\r\n",
+        "HTTP/1.1 404 Not Found\r\n",
+    ),
+    (
         "POST /v1/notices/%31 HTTP/1.0\r\n\r\n",
         "HTTP/1.1 405 Method Not Allowed\r\n",
     ),
@@ -52,11 +64,31 @@ pub const CASES: [(&str, &str); 18] = [
         "HTTP/1.1 405 Method Not Allowed\r\n",
     ),
     (
+        "GET /v1/audit HTTP/1.0\r\n\r\n",
+        "HTTP/1.1 403 Forbidden\r\n",
+    ),
+    (
         "GET /v1/notices/0 HTTP/1.0\r\nGOO-Caller: ISSUER\r\nGOO-Caller: ISSUER\r\n\r\n",
         "HTTP/1.1 403 Forbidden\r\n",
     ),
     (
         "GET /v1/notices/0 HTTP/1.0\r\ngoo-caller:  ISSUER \r\n\r\n",
+        "HTTP/1.1 404 Not Found\r\n",
+    ),
+    (
+        "GET /v1/accounts/0/statement HTTP/1.0\r\nGOO-Caller: SUN\r\n\r\n",
+        "HTTP/1.1 404 Not Found\r\n",
+    ),
+    (
+        "GET /v1/accounts/1/statement HTTP/1.0\r\nGOO-Caller: SUN\r\n\r\n",
+        "HTTP/1.1 403 Forbidden\r\n",
+    ),
+    (
+        "GET /v1/accounts/1/statement HTTP/1.0\r\nGOO-Caller: ISSUER\r\n\r\n",
+        "HTTP/1.1 404 Not Found\r\n",
+    ),
+    (
+        "GET /v1/certificates/07000000000001 HTTP/1.0\r\nGOO-Caller: ISSUER\r\n\r\n",
         "HTTP/1.1 404 Not Found\r\n",
     ),
     (
@@ -69,6 +101,10 @@ pub const CASES: [(&str, &str); 18] = [
     ),
     (
         "POST /v1/requests HTTP/1.0\r\nGOO-Caller: ISSUER\r\nContent-Length: 2\r\n\r\n{}",
+        "HTTP/1.1 400 Bad Request\r\n",
+    ),
+    (
+        "POST /v1/declarations HTTP/1.0\r\nGOO-Caller: ISSUER\r\nContent-Length: 2\r\n\r\n{}",
         "HTTP/1.1 400 Bad Request\r\n",
     ),
 ];

@@ -9,7 +9,7 @@ use goo_desk_responses::Status;
 use goo_desk_server::serve;
 use goo_types::fault::Fault;
 use std::alloc::Global;
-use std::io::{self, Write};
+use std::io::{self, ErrorKind, Write};
 use std::net::{Shutdown, TcpListener, TcpStream};
 
 #[test]
@@ -17,7 +17,12 @@ fn worked_requests_are_answered_byte_for_byte(rt: HostRuntime) {
     let alloc = rt.alloc();
     let mut registry = new_registry(&rt, alloc);
     for request in PLANT {
-        let done = begins(alloc, &mut registry, request, "HTTP/1.1 200 OK\r\n");
+        let done = begins(
+            alloc,
+            &mut registry,
+            request.as_bytes(),
+            "HTTP/1.1 200 OK\r\n",
+        );
         assert!(rt; done, "{request}");
     }
     let audited = answers(alloc, &mut registry, AUDIT, AUDITED);
@@ -33,24 +38,46 @@ fn each_case_is_answered(rt: HostRuntime) {
     let alloc = rt.alloc();
     let mut registry = new_registry(&rt, alloc);
     for (request, line) in CASES {
-        let same = begins(alloc, &mut registry, request, line);
+        let same = begins(alloc, &mut registry, request.as_bytes(), line);
         assert!(rt; same, "{request}");
     }
 }
 
-/// What a server over loopback tells, and what its only client gets.
+#[test]
+fn each_beginning_of_a_request_is_refused(rt: HostRuntime) {
+    let alloc = rt.alloc();
+    let mut registry = new_registry(&rt, alloc);
+    for end in 0..AUDIT.len() {
+        let beginning = &AUDIT.as_bytes()[..end];
+        let refused = begins(
+            alloc,
+            &mut registry,
+            beginning,
+            "HTTP/1.1 400 Bad Request\r\n",
+        );
+        assert!(rt; refused, "the first {end} bytes");
+    }
+}
+
+/// What a server over loopback tells, and what its second client gets: the first is gone in the middle of its request.
 fn asked<D: Counter>(rt: &HostRuntime, desk: &mut D) -> io::Result<(Vec<u8>, String)> {
     let listener = TcpListener::bind(rt, ("127.0.0.1", 0))?;
-    let mut client = TcpStream::connect(rt, listener.local_addr()?)?;
+    let address = listener.local_addr()?;
+    let mut gone = TcpStream::connect(rt, address)?;
+    gone.write_all(&OPENING.as_bytes()[..OPENING.len() / 2])?;
+    drop(gone);
+    let mut client = TcpStream::connect(rt, address)?;
     client.write_all(AUDIT.as_bytes())?;
     client.shutdown(Shutdown::Write)?;
     let mut told = Vec::new(rt.alloc());
-    let _ = serve(rt.alloc(), rt, desk, &listener, 8347, 1, &mut told);
-    Ok((told, io::read_to_string(rt.alloc(), client)?))
+    match serve(rt.alloc(), rt, desk, &listener, 8347, 2, &mut told) {
+        Ok(()) => Ok((told, io::read_to_string(rt.alloc(), client)?)),
+        Err(_) => Err(io::Error::from(ErrorKind::Other)),
+    }
 }
 
 #[test]
-fn a_listener_on_loopback_serves_its_client(rt: HostRuntime) {
+fn a_listener_on_loopback_serves_its_clients(rt: HostRuntime) {
     let mut registry = new_registry(&rt, rt.alloc());
     let asked = asked(&rt, &mut registry);
     let same = match &asked {

@@ -2,9 +2,9 @@
 
 use crate::requests::{CANCELLATION, DEVICE, MEMBERS, QUARTER, THERE_AND_BACK, sends};
 use crate::wanted::{AUDIT, DOCUMENT, GIVEN, HOLDINGS, LEFT, STATEMENT};
+use goo_core_shelf::shelf::Shelf;
 use goo_files::{TextFault, write_audit, write_cancellation, write_holdings_csv, write_statement};
 use goo_registry::Registry;
-use goo_shelf::shelf::Shelf;
 use goo_types::account_no::AccountNo;
 use goo_types::act_no::ActNo;
 use goo_types::holder_code::HolderCode;

@@ -1,8 +1,8 @@
 //! Declarations imported from CSV.
 
+use goo_core_shelf::shelf::Shelf;
 use goo_files::{Cause, ImportFault, Progress, Report, import_declarations_watched, write_report};
 use goo_registry::Registry;
-use goo_shelf::shelf::Shelf;
 use goo_types::holder_code::HolderCode;
 use std::alloc::Global;
 use std::process::Abort;

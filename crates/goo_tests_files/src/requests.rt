@@ -1,9 +1,9 @@
 //! Requests that are sent, each of which is accepted.
 
-use goo_body::read_command;
-use goo_list::list_shelf::ListShelf;
+use goo_core_list::list_shelf::ListShelf;
+use goo_core_shelf::shelf::Shelf;
+use goo_desk_body::read_command;
 use goo_registry::Registry;
-use goo_shelf::shelf::Shelf;
 use goo_types::day::Day;
 use goo_types::holder_code::HolderCode;
 use goo_types::outcome::Outcome;

@@ -1,7 +1,7 @@
 //! Changes of a book.
 
 ghost use Rattle.std.specs.Prelude.{◌≡◌, ℕ, count_by, ◌+◌, ◌≤◌, length, OnOk, OnErr, IfOk, IfErr};
-ghost use Rattle.goo_pieces.specs.Change.{moved, meets, set_to};
+ghost use Rattle.goo_ranges_pieces.specs.Change.{moved, meets, set_to};
 ghost use Rattle.goo_types.specs.Number.{code_of};
 ghost use Rattle.goo_types.specs.Piece.{at_of, IsRising};
 ghost use Rattle.goo_ranges.specs.Edit.{IsExact};
@@ -17,7 +17,7 @@ use goo_types::place::Place;
 use goo_types::range::Range;
 use std::alloc::AllocError;
 
-/// A list of at most so many pieces stays one list: to move some of them costs no more than a page does.
+/// The most pieces of a list that stays one list: to move some of them costs no more than a page does.
 const FEW: usize = 128;
 
 impl Book {
@@ -37,9 +37,25 @@ impl Book {
         Ok(())
     }
 
-    /// Sets the place of each number of the range that the book has, and tells which rows this deletes
-    /// and inserts: those that the range meets, joined with equal ones next to them. `Memory` where an
-    /// allocation was refused; the book is then unchanged.
+    /// Sets the place of each number of the range that the book has, and tells which rows this deletes and inserts:
+    /// those that the range meets, joined with equal ones next to them.
+    ///
+    /// # Errors
+    ///
+    /// `Memory` where an allocation was refused; the book is then unchanged.
+    ///
+    /// # Example
+    ///
+    /// ```rust,ignore
+    /// // One piece: the numbers of the serials 1 to 20 of registry 7, held by `sun`.
+    /// let mut rows = Vec::new(alloc);
+    /// rows.push(Piece { first, last, lot, place: Place::Held(sun) })?;
+    /// let mut book = Book::new(rows)?;
+    /// // The range of the serials 5 to 15 goes to `volt`.
+    /// let edit = book.reassign(range, Place::Held(volt))?;
+    /// // `edit.delete` has the number of serial 1, with which the one row began; `edit.insert` has three rows:
+    /// // 1 to 4 of `sun`, 5 to 15 of `volt`, 16 to 20 of `sun`. `book.runs()` gives these three, too.
+    /// ```
     pub fn reassign(&mut self, range: Range, place: Place) -> Result<Edit, Fault>
         ensures map { OnOk result ((n : ℕ) → at_of self.new n ≡ moved range.first range.last place n (at_of self.old n)) }
         ensures disjoint { OnOk result (IsRising self.new) }
@@ -71,9 +87,12 @@ impl Book {
         }
     }
 
-    /// Sets the lot and the place of each number of the range, and tells which rows this deletes and
-    /// inserts: those that the range meets, and the new one, joined with equal ones next to it. `Memory`
-    /// where an allocation was refused; the book is then unchanged.
+    /// Sets the lot and the place of each number of the range, and tells which rows this deletes and inserts: those
+    /// that the range meets, and the new one, joined with equal ones next to it.
+    ///
+    /// # Errors
+    ///
+    /// `Memory` where an allocation was refused; the book is then unchanged.
     pub fn add(&mut self, range: Range, lot: Lot, place: Place) -> Result<Edit, Fault>
         ensures map { OnOk result ((n : ℕ) → at_of self.new n ≡ set_to range.first range.last (lot, place) n (at_of self.old n)) }
         ensures disjoint { OnOk result (IsRising self.new) }

@@ -3,11 +3,11 @@
 ghost use Rattle.std.specs.Prelude.{◌≡◌, map, IfOk, IfErr};
 ghost use Rattle.goo_types.specs.Piece.{IsRising};
 ghost use Rattle.goo_ranges.specs.Accounts.{AreAccountRuns, held};
-ghost use Rattle.goo_pieces.specs.Joining.{IsJoining};
+ghost use Rattle.goo_ranges_pieces.specs.Joining.{IsJoining};
 ghost use Rattle.goo_spec.specs.Runs.{IsApart};
 
 use super::Page;
-use goo_pieces::joined::push_joined;
+use goo_ranges_pieces::joined::push_joined;
 use goo_types::fault::Fault;
 use goo_types::lot::Lot;
 use goo_types::piece::Piece;
@@ -33,8 +33,11 @@ fn held_pieces(alloc: Global, pieces: &[Piece], lot: &Lot) -> Result<Vec<Piece>,
 }
 
 impl Page {
-    /// The maximal ranges of consecutive numbers whose places name one account, whatever their lots,
-    /// rising: each as a piece that this account holds. All have one lot, which says nothing.
+    /// The maximal ranges of consecutive numbers whose places name one account, whatever their lots, rising: each as a
+    /// piece that this account holds. All have one lot, which says nothing.
+    ///
+    /// # Errors
+    ///
     /// `Memory` where an allocation was refused.
     pub fn account_runs(&self) -> Result<Vec<Piece>, Fault>
         ensures runs { IfOk result (λ runs. AreAccountRuns self.now runs.items) }

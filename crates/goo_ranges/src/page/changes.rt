@@ -1,19 +1,19 @@
 //! Changes of a page.
 
 ghost use Rattle.std.specs.Prelude.{◌≡◌, ℕ, count_by, ◌+◌, ◌-◌, ◌<◌, ◌≤◌, ◌++◌, length, take, drop, map, OnOk, OnErr, IfOk, IfErr};
-ghost use Rattle.goo_pieces.specs.Change.{IsChanged, IsSet, moved, cuts, meets, set_to};
+ghost use Rattle.goo_ranges_pieces.specs.Change.{IsChanged, IsSet, moved, cuts, meets, set_to};
 ghost use Rattle.goo_types.specs.Number.{IsNumber, code_of};
 ghost use Rattle.goo_types.specs.Piece.{label_of, at_of, IsRising};
 ghost use Rattle.goo_ranges.specs.Edit.{IsExact};
-ghost use Rattle.goo_pieces.specs.Touching.{IsTouched, IsMeeting, IsBegin, IsEnd, IsWidened, IsTrimmed};
+ghost use Rattle.goo_ranges_pieces.specs.Touching.{IsTouched, IsMeeting, IsBegin, IsEnd, IsWidened, IsTrimmed};
 ghost use Rattle.goo_spec.specs.Runs.{IsApart};
 
 use super::Page;
 use crate::cutting::{put_between, set_pieces};
 use crate::edits::Edit;
-use goo_pieces::joined::{joined_pieces, moved_pieces};
-use goo_pieces::lookups::touched;
-use goo_pieces::parts::is_same;
+use goo_ranges_pieces::joined::{joined_pieces, moved_pieces};
+use goo_ranges_pieces::lookups::touched;
+use goo_ranges_pieces::parts::is_same;
 use goo_types::fault::Fault;
 use goo_types::lot::Lot;
 use goo_types::number::Number;
@@ -100,8 +100,12 @@ impl Page {
         Ok(Edit { delete, insert })
     }
 
-    /// Sets the place of each number from `first` to `last` that the page has, and tells which rows this deletes
-    /// and inserts. After an `Err` the page is unchanged.
+    /// Sets the place of each number from `first` to `last` that the page has, and tells which rows this deletes and
+    /// inserts.
+    ///
+    /// # Errors
+    ///
+    /// `Memory` where an allocation was refused; the page is then unchanged.
     pub fn reassign_between(
         &mut self,
         first: Number,
@@ -195,8 +199,11 @@ impl Page {
         (begin, end, wide)
     }
 
-    /// Sets the lot and the place of each number from `first` to `last`, and tells which rows this deletes and
-    /// inserts. After an `Err` the page is unchanged.
+    /// Sets the lot and the place of each number from `first` to `last`, and tells which rows this deletes and inserts.
+    ///
+    /// # Errors
+    ///
+    /// `Memory` where an allocation was refused; the page is then unchanged.
     pub fn add_between(
         &mut self,
         first: Number,

@@ -1,7 +1,7 @@
 //! Changes of pieces that are kept in pages.
 
 ghost use Rattle.std.specs.Prelude.{◌≡◌, ℕ, count_by, ◌+◌, ◌++◌, ◌≤◌, length, take, drop, OnOk, OnErr, IfOk, IfErr};
-ghost use Rattle.goo_pieces.specs.Change.{moved, meets, set_to};
+ghost use Rattle.goo_ranges_pieces.specs.Change.{moved, meets, set_to};
 ghost use Rattle.goo_types.specs.Number.{code_of};
 ghost use Rattle.goo_types.specs.Piece.{at_of, IsRising};
 ghost use Rattle.goo_ranges.specs.Edit.{IsExact};
@@ -18,13 +18,13 @@ use goo_types::piece::Piece;
 use goo_types::place::Place;
 use std::alloc::{AllocError, Global};
 
-/// At most so many pieces are put into a page.
+/// The most pieces that are put into a page.
 const PAGE: usize = 32;
 
-/// So many are put into each page of a long list, which leaves room for edits.
+/// How many pieces are put into each page of a long list, which leaves room for edits.
 const LOOSE: usize = 24;
 
-/// How many of so many pieces the first page takes.
+/// How many of `count` pieces the first page takes.
 fn share(count: usize) -> usize
     requires { 1 ≤ count }
     ensures some { 1 ≤ result }
@@ -39,7 +39,11 @@ fn share(count: usize) -> usize
     LOOSE
 }
 
-/// The pieces in pages. An error where an allocation was refused.
+/// The pieces in pages.
+///
+/// # Errors
+///
+/// `AllocError` where memory was refused.
 pub fn pages_of(alloc: Global, pieces: &[Piece]) -> Result<Vec<Page>, AllocError>
     requires { IsRising pieces.now }
     ensures pieces { IfOk result (λ pages. joined pages.items ≡ pieces.now) }
@@ -122,8 +126,12 @@ fn page_between(pages: &Vec<Page>, from: usize, to: usize) -> Result<Page, Alloc
     joined_page(*pages.allocator(), &pages[from..to])
 }
 
-/// Sets the place of each number from `first` to `last` that the pages have, and tells which rows this deletes
-/// and inserts. After an `Err` the pieces are unchanged.
+/// Sets the place of each number from `first` to `last` that the pages have, and tells which rows this deletes and
+/// inserts.
+///
+/// # Errors
+///
+/// `Memory` where an allocation was refused; the pages then have the same pieces as before.
 pub fn reassign_in(
     pages: &mut Vec<Page>,
     first: Number,
@@ -150,8 +158,11 @@ pub fn reassign_in(
     Ok(edit)
 }
 
-/// Sets the lot and the place of each number from `first` to `last`, and tells which rows this deletes and
-/// inserts. After an `Err` the pieces are unchanged.
+/// Sets the lot and the place of each number from `first` to `last`, and tells which rows this deletes and inserts.
+///
+/// # Errors
+///
+/// `Memory` where an allocation was refused; the pages then have the same pieces as before.
 pub fn add_in(
     pages: &mut Vec<Page>,
     first: Number,

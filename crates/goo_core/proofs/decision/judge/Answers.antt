@@ -4,10 +4,10 @@ use Rattle.goo_spec.specs.OpenAccount.{open_account_refusal, open_account_reply,
 use Rattle.goo_spec.specs.CloseAccount.{close_account_refusal, close_account_reply, with_closed}
 use Rattle.goo_spec.specs.RegisterDevice.{register_device_refusal, register_device_reply, with_device}
 use Rattle.goo_spec.specs.AddPeer.{add_peer_refusal, add_peer_reply, with_peer}
-use Rattle.goo_shelf.specs.Shelf.{Looks}
+use Rattle.goo_core_shelf.specs.Shelf.{Looks}
 use Rattle.goo_core.specs.Ruling.{IsRuling, meaning_of}
 use Rattle.goo_core.proofs.Deciding.{quiet_ruled}
-use Rattle.goo_shelf.proofs.Looking.{looked}
+use Rattle.goo_core_shelf.proofs.Looking.{looked}
 use Rattle.goo_core.proofs.Stopping.{looked_failed}
 use Rattle.goo_core.proofs.decision.judge.Goals as goal
 

@@ -1,6 +1,6 @@
 use Rattle.std.proofs.Common.{◌≡◌, true, rules}
 use Rattle.goo_spec.specs.Checks.{is_issuer}
-use Rattle.goo_shelf.proofs.Looking.{looked}
+use Rattle.goo_core_shelf.proofs.Looking.{looked}
 use Rattle.goo_core.proofs.Appraising.{appraised}
 use Rattle.goo_core.proofs.declare.appraise.Goals as goal
 

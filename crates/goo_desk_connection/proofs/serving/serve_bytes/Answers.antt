@@ -1,4 +1,4 @@
-use Rattle.goo_desk_connection.proofs.ServeFacts.{on-any-err, part-answered, part-excused, all-excused, excuse-sent}
+use Rattle.goo_desk_connection.proofs.ServeFacts.{answered-leaves, excused-leaves, on-any-err, part-answered, part-excused, all-excused, excuse-sent}
 use Rattle.goo_desk_connection.proofs.serving.serve_bytes.Goals as goal
 
 pub returns-in_err-write_whole-in-Ok-clause-part : goal.returns-in_err-write_whole-in-Ok-clause-part
@@ -28,3 +28,23 @@ returns-in-Err-Store-clause-excuse g c is =
     c.apology-in-Err-Store.ensures c.in-Err-Store.ensures.stopped
     (rw (c.as_bytes-in-Err-Store.ensures.value, c.as_str-in-Err-Store.ensures.value) at c.write_whole-in-Err-Store.ensures.written)
     (rw (c.as_bytes-in-Err-Store.ensures.value, c.as_str-in-Err-Store.ensures.value) at c.write_whole-in-Err-Store.ensures.prefix)
+
+pub returns-in_err-write_whole-in-Ok-clause-leaves : goal.returns-in_err-write_whole-in-Ok-clause-leaves
+returns-in_err-write_whole-in-Ok-clause-leaves g c =
+    answered-leaves g.D.Counter.shows g.D.Counter.imports g.D.Counter.begins (g.D.Desk.seen c.args.desk.now).state c.args.bytes.now c.in-Ok.answer.status c.in-Ok.answer.bytes.items (g.D.Desk.seen c.answer.new.desk) c.in-Ok.ensures.answered
+
+pub returns-in_err-write_whole-in-Err-Memory-clause-leaves : goal.returns-in_err-write_whole-in-Err-Memory-clause-leaves
+returns-in_err-write_whole-in-Err-Memory-clause-leaves g c =
+    excused-leaves g.D.Counter.shows g.D.Counter.imports g.D.Counter.begins (g.D.Desk.seen c.args.desk.now).state c.args.bytes.now c.apology.result.bytes (g.D.Desk.seen c.answer.new.desk) c.apology.ensures c.in-Err-Memory.ensures.stopped
+
+pub returns-in_ok-write_whole-in-Err-Memory-clause-leaves : goal.returns-in_ok-write_whole-in-Err-Memory-clause-leaves
+returns-in_ok-write_whole-in-Err-Memory-clause-leaves g c =
+    excused-leaves g.D.Counter.shows g.D.Counter.imports g.D.Counter.begins (g.D.Desk.seen c.args.desk.now).state c.args.bytes.now c.apology.result.bytes (g.D.Desk.seen c.answer.new.desk) c.apology.ensures c.in-Err-Memory.ensures.stopped
+
+pub returns-in-Err-Store-clause-leaves : goal.returns-in-Err-Store-clause-leaves
+returns-in-Err-Store-clause-leaves g c =
+    excused-leaves g.D.Counter.shows g.D.Counter.imports g.D.Counter.begins (g.D.Desk.seen c.args.desk.now).state c.args.bytes.now c.apology-in-Err-Store.result.bytes (g.D.Desk.seen c.answer.new.desk) c.apology-in-Err-Store.ensures c.in-Err-Store.ensures.stopped
+
+pub returns-in_ok-write_whole-in-Ok-clause-leaves : goal.returns-in_ok-write_whole-in-Ok-clause-leaves
+returns-in_ok-write_whole-in-Ok-clause-leaves g c =
+    answered-leaves g.D.Counter.shows g.D.Counter.imports g.D.Counter.begins (g.D.Desk.seen c.args.desk.now).state c.args.bytes.now c.in-Ok.answer.status c.in-Ok.answer.bytes.items (g.D.Desk.seen c.answer.new.desk) c.in-Ok.ensures.answered

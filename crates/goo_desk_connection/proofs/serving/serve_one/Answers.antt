@@ -1,5 +1,5 @@
 use Rattle.goo_desk_connection.specs.declared.serve_fault.ServeFault.TheVariants.{Write, Store}
-use Rattle.goo_desk_connection.proofs.ServeFacts.{sends-stands, part-stands, excuse-stands}
+use Rattle.goo_desk_connection.proofs.ServeFacts.{bytes-connect, sends-stands, part-stands, excuse-stands}
 use Rattle.goo_desk_connection.proofs.serving.serve_one.Goals as goal
 
 pub returns-clause-served : goal.returns-clause-served
@@ -16,3 +16,8 @@ pub returns-clause-excuse : goal.returns-clause-excuse
 returns-clause-excuse g c =
     excuse-stands g.D.Counter.shows g.D.Counter.imports g.D.Counter.begins c.serve_bytes.result Store (g.R.Read.remaining c.args.reader.now) (g.D.Desk.seen c.args.desk.now).state c.in_ok-bytes.bytes.items (g.D.Desk.seen c.serve_bytes.new.desk)
     (g.W.Write.contents c.args.writer.now) (g.W.Write.contents c.serve_bytes.new.writer) c.in_ok-bytes.ensures (rw c.deref.ensures.value at c.serve_bytes.ensures.excuse)
+
+pub returns-clause-connects : goal.returns-clause-connects
+returns-clause-connects g c =
+    bytes-connect g.D.Counter.shows g.D.Counter.imports g.D.Counter.begins c.in_ok-bytes.bytes.items (g.D.Desk.seen c.args.desk.now) (g.D.Desk.seen c.serve_bytes.new.desk)
+    (rw c.deref.ensures.value at c.serve_bytes.ensures.leaves) c.serve_bytes.ensures.doubted c.serve_bytes.ensures.lied

@@ -1,6 +1,6 @@
 use Rattle.std.proofs.Common.{◌≡◌, Ok}
 use Rattle.goo_types.specs.Piece.{IsRising}
-use Rattle.goo_shelf.specs.Shelf.{Looks}
+use Rattle.goo_core_shelf.specs.Shelf.{Looks}
 use Rattle.goo_registry.specs.AccountReads.{IsHeadingShown}
 use Rattle.goo_files.proofs.Cases.{on_ok_as, on_err_as}
 use Rattle.goo_files.proofs.Documents.{document_done}

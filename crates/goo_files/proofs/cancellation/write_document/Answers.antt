@@ -1,7 +1,7 @@
 use Rattle.std.proofs.Common.{rules, flat_map}
 use Rattle.std.specs.Io.KnownBytes.{Appends}
-use Rattle.goo_streams.specs.Streams.{AppendsPrefix}
-use Rattle.goo_streams.proofs.AppendsFacts.{prefix-more, prefix-front}
+use Rattle.goo_files_streams.specs.Streams.{AppendsPrefix}
+use Rattle.goo_files_streams.proofs.AppendsFacts.{prefix-more, prefix-front}
 use Rattle.goo_types.specs.Piece.{IsRising}
 use Rattle.goo_files_documents.specs.Cancellation.{cancellation_head, cancellation_foot, certificates_in}
 use Rattle.goo_files_documents.specs.Runs.{document_line}

@@ -1,6 +1,6 @@
 use Rattle.std.proofs.Common.{rules, ◌≡◌, ◌<◌, length, get_or}
 use Rattle.std.specs.Io.KnownBytes.{Appends}
-use Rattle.goo_streams.specs.Streams.{AppendsPrefix}
+use Rattle.goo_files_streams.specs.Streams.{AppendsPrefix}
 use Rattle.goo_files_documents.specs.Runs.{document_line}
 use Rattle.goo_files.proofs.Cases.{on_err}
 use Rattle.goo_files.proofs.LineFacts.{lines_on, lines_part}

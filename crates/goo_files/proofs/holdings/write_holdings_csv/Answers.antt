@@ -1,6 +1,6 @@
 use Rattle.std.proofs.Common.{rules}
 use Rattle.std.specs.Io.KnownBytes.{Appends}
-use Rattle.goo_streams.specs.Streams.{AppendsPrefix}
+use Rattle.goo_files_streams.specs.Streams.{AppendsPrefix}
 use Rattle.goo_files_csv.specs.Holdings.{header_row}
 use Rattle.goo_files.specs.Lines.{held_row, no_sum}
 use Rattle.goo_files.specs.Texts.{IsHoldingsCsv}

@@ -1,7 +1,7 @@
 use Rattle.std.proofs.Common.{rules, ◌≡◌, ◌+◌, ◌≤◌, Ok, Err, Some, None, sym, subst, arith}
 use Rattle.std.specs.Io.KnownBytes.{Appends}
-use Rattle.goo_streams.specs.Streams.{AppendsPrefix}
-use Rattle.goo_shelf.specs.Shelf.{Looks}
+use Rattle.goo_files_streams.specs.Streams.{AppendsPrefix}
+use Rattle.goo_core_shelf.specs.Shelf.{Looks}
 use Rattle.goo_spec_runs.specs.NextRun.{from_of, BeginsFrom}
 use Rattle.goo_registry.specs.AccountReads.{IsNextRunShown}
 use Rattle.goo_files_documents.specs.Counts.{all_of, no_counts, with_run, counts_of}

@@ -1,6 +1,6 @@
 use Rattle.std.proofs.Common.{rules}
 use Rattle.std.specs.Io.KnownBytes.{Appends}
-use Rattle.goo_streams.specs.Streams.{AppendsPrefix}
+use Rattle.goo_files_streams.specs.Streams.{AppendsPrefix}
 use Rattle.goo_files_documents.specs.Counts.{counts_of}
 use Rattle.goo_files_documents.specs.Runs.{statement_line}
 use Rattle.goo_files_documents.specs.Statement.{statement_foot}

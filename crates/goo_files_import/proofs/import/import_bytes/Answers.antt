@@ -2,7 +2,7 @@ use Rattle.std.proofs.Common.{rules, ◌≡◌, ◌∙◌, [], ◌∷◌, ◌++�
 use Rattle.csv.specs.Records.{fields_of}
 use Rattle.goo_files_csv.specs.Rows.{header, is_header}
 use Rattle.goo_files_csv.proofs.Header.{header_is, header_passes}
-use Rattle.goo_files_import.proofs.Importing.{importing_start, importing_on, importing_ends, importing_stops}
+use Rattle.goo_files_import.proofs.Importing.{importing_start, importing_on, importing_ends, importing_ends_sure, importing_stops, importing_stops_sure}
 use Rattle.goo_files_import.proofs.Reading.{IsAt, at_start, at_more, at_end, at_begins}
 use Rattle.goo_files_import.proofs.import.import_bytes.Goals as goal
 
@@ -23,6 +23,11 @@ returns-then-not-is_header-clause-header g c =
 pub returns-in-Some-Err-clause-part : goal.returns-in-Some-Err-clause-part
 returns-in-Some-Err-clause-part g c none between =
     importing_stops (g.D.Desk.seen c.args.desk.now) (g.D.Desk.seen c.args.desk.now) (g.D.Desk.seen c.args.desk.now) c.args.caller.now c.args.input.now [] [] c.stopped-in-Some-Err.result.report.lines.items (importing_start (g.D.Desk.seen c.args.desk.now) c.args.caller.now)
+    (inl refl) (λ n. n) (λ n. n) (λ sure. refl) (c.stopped-in-Some-Err.ensures.lines ∙ c.new-lines.ensures.items) none
+
+pub returns-in-Some-Err-clause-sure_part : goal.returns-in-Some-Err-clause-sure_part
+returns-in-Some-Err-clause-sure_part g c none between =
+    importing_stops_sure (g.D.Desk.seen c.args.desk.now) (g.D.Desk.seen c.args.desk.now) (g.D.Desk.seen c.args.desk.now) c.args.caller.now c.args.input.now [] [] c.stopped-in-Some-Err.result.report.lines.items (importing_start (g.D.Desk.seen c.args.desk.now) c.args.caller.now)
     (inl refl) (λ n. n) (λ sure. refl) (c.stopped-in-Some-Err.ensures.lines ∙ c.new-lines.ensures.items) none
 
 pub returns-in-None-clause-header : goal.returns-in-None-clause-header
@@ -62,7 +67,7 @@ loop-row-preserved g c =
     let now = at_more c.loop-row.row-iterator.rdr c.next-in-loop-row.new.self.rdr c.loop-row.row-iterator.left c.next-in-loop-row.new.self.left c.args.input.now (header ∷ inv.0) c.in-Ok.row inv.1 step in (
       inv.0 ++ fields_of c.in-Ok.row ∷ [],
       now,
-      importing_on old mid new c.args.caller.now inv.0 c.loop-row.lines.items c.import_row.new.lines.items (fields_of c.in-Ok.row) inv.2 c.import_row.ensures.lied (search rules) (search rules) (search rules),
+      importing_on old mid new c.args.caller.now inv.0 c.loop-row.lines.items c.import_row.new.lines.items (fields_of c.in-Ok.row) inv.2 c.import_row.ensures.lied c.import_row.ensures.doubted (search rules) (search rules) (search rules) (search rules) (search rules),
     )
 
 pub returns-clause-whole : goal.returns-clause-whole
@@ -71,3 +76,10 @@ returns-clause-whole g c none =
     let step = rw c.in-None-row.is at ((c.next-in-loop-row.ensures.steps inv.1.turns inv.1.trim).0 inv.1.ready) in
     let table = at_end c.loop-row.row-iterator.rdr c.next-in-loop-row.new.self.rdr c.loop-row.row-iterator.left c.args.input.now (header ∷ inv.0) inv.1 step in
     importing_ends (g.D.Desk.seen c.args.desk.now) (g.D.Desk.seen c.loop-row.desk) c.args.caller.now c.args.input.now inv.0 c.loop-row.lines.items inv.2 table none
+
+pub returns-clause-sure_whole : goal.returns-clause-sure_whole
+returns-clause-sure_whole g c none =
+    let inv = c.loop-row.invariant in
+    let step = rw c.in-None-row.is at ((c.next-in-loop-row.ensures.steps inv.1.turns inv.1.trim).0 inv.1.ready) in
+    let table = at_end c.loop-row.row-iterator.rdr c.next-in-loop-row.new.self.rdr c.loop-row.row-iterator.left c.args.input.now (header ∷ inv.0) inv.1 step in
+    importing_ends_sure (g.D.Desk.seen c.args.desk.now) (g.D.Desk.seen c.loop-row.desk) c.args.caller.now c.args.input.now inv.0 c.loop-row.lines.items inv.2 table none

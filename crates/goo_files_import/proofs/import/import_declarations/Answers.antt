@@ -6,4 +6,4 @@ pub returns-in-Err-Memory-clause-part : goal.returns-in-Err-Memory-clause-part
 returns-in-Err-Memory-clause-part g c none =
     some_all (g.R.Read.remaining c.args.reader.now) _ (λ input between.
     importing_stops (g.D.Desk.seen c.args.desk.now) (g.D.Desk.seen c.args.desk.now) (g.D.Desk.seen c.args.desk.now) c.args.caller.now input [] [] c.stopped-in-Err-Memory.result.report.lines.items
-    (importing_start (g.D.Desk.seen c.args.desk.now) c.args.caller.now) (inl refl) (λ n. n) (λ sure. refl) (c.stopped-in-Err-Memory.ensures.lines ∙ c.new-in-Err-Memory.ensures.items) none)
+    (importing_start (g.D.Desk.seen c.args.desk.now) c.args.caller.now) (inl refl) (λ n. n) (λ n. n) (λ sure. refl) (c.stopped-in-Err-Memory.ensures.lines ∙ c.new-in-Err-Memory.ensures.items) none)

@@ -1,7 +1,7 @@
 use Rattle.std.proofs.Common.{rules, ◌≡◌, ◌+◌, ◌<◌, length, get_or, sym, subst, take}
 use Rattle.std.specs.Io.KnownBytes.{Appends}
-use Rattle.goo_streams.specs.Streams.{AppendsPrefix}
-use Rattle.goo_streams.proofs.AppendsFacts.{appends-more, prefix-more, prefix-front}
+use Rattle.goo_files_streams.specs.Streams.{AppendsPrefix}
+use Rattle.goo_files_streams.proofs.AppendsFacts.{appends-more, prefix-more, prefix-front}
 use Rattle.goo_files_import.specs.Report.{report_line, report_from}
 use Rattle.goo_files_import.proofs.Reports.{report-next, report-front, on_err}
 use Rattle.goo_files_import.proofs.report_text.write_report.Goals as goal

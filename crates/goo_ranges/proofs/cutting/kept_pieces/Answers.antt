@@ -1,9 +1,9 @@
 use Rattle.std.proofs.Common.{◌+◌, ◌++◌, take, arith}
 use Rattle.std.specs.Option.{option_to_list}
-use Rattle.goo_pieces.specs.Change.{IsKept}
-use Rattle.goo_pieces.proofs.Joining.{piece-forward, rising-take, take-piece}
+use Rattle.goo_ranges_pieces.specs.Change.{IsKept}
+use Rattle.goo_ranges_pieces.proofs.Joining.{piece-forward, rising-take, take-piece}
 use Rattle.goo_ranges.proofs.Keeping.{kept-nil, kept-more, kept-joining}
-use Rattle.goo_pieces.proofs.Rising.{rising-weaken}
+use Rattle.goo_ranges_pieces.proofs.Rising.{rising-weaken}
 use Rattle.goo_ranges.proofs.cutting.kept_pieces.Goals as goal
 use Rattle.goo_ranges.proofs.cutting.kept_pieces.Goals.{After-part}
 

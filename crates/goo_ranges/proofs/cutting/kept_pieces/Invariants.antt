@@ -1,5 +1,5 @@
 use Rattle.std.proofs.Common.{take}
-use Rattle.goo_pieces.specs.Change.{IsKept}
+use Rattle.goo_ranges_pieces.specs.Change.{IsKept}
 use Rattle.goo_ranges.proofs.cutting.kept_pieces.Given as goal
 
 abbrev pub invariant-loop-piece : goal.invariant-loop-piece

@@ -2,7 +2,7 @@ use Rattle.std.proofs.Common.{◌≡◌, ltb, true, false, [], rules, arith}
 use Rattle.std.specs.List.Sorted.{IsPartitionPoint}
 use Rattle.std.proofs.lemmas.Bool.Decides.{nat_tests}
 use Rattle.std.proofs.lemmas.List.Sorted.{IsPartitionPoint-from_clause, IsPartitionedBy-ltb}
-use Rattle.goo_pieces.specs.Walk.{end_of}
+use Rattle.goo_ranges_pieces.specs.Walk.{end_of}
 use Rattle.goo_ranges.proofs.Paging.{ends-sorted, ended-below}
 use Rattle.goo_ranges.proofs.pages.count_before.Goals as goal
 use Rattle.goo_ranges.proofs.pages.count_before.Goals.{After-partition_point}

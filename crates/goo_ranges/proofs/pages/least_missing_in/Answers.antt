@@ -2,8 +2,8 @@ use Rattle.std.proofs.Common.{◌+◌, ◌∙◌, ◌≤◌, ◌++◌, drop, ari
 use Rattle.std.proofs.lemmas.Bool.Decides.{nat_tests}
 use Rattle.std.proofs.lemmas.List.{drop_all}
 use Rattle.goo_spec.proofs.Pieces.{one_code}
-use Rattle.goo_pieces.specs.Walk.{end_of}
-use Rattle.goo_pieces.proofs.Find.{least-of_span}
+use Rattle.goo_ranges_pieces.specs.Walk.{end_of}
+use Rattle.goo_ranges_pieces.proofs.Find.{least-of_span}
 use Rattle.goo_ranges.proofs.Leafing.{known-more, missing-none, missing-here, missing-last}
 use Rattle.goo_ranges.specs.Paging.{joined, IsLeft}
 use Rattle.goo_ranges.proofs.JoinedPages.{joined-drop}

@@ -6,7 +6,7 @@ use Rattle.goo_spec.specs.Lots.{fails}
 use Rattle.goo_ranges.specs.Paging.{joined, begin_of}
 use Rattle.goo_ranges.proofs.Leafing.{failing-here, failing-next, failing-past, failing-none}
 use Rattle.goo_ranges.proofs.JoinedPages.{joined-drop}
-use Rattle.goo_pieces.proofs.Rising.{rising-back, rising-weaken}
+use Rattle.goo_ranges_pieces.proofs.Rising.{rising-back, rising-weaken}
 use Rattle.goo_ranges.proofs.pages.least_not_in.Goals as goal
 
 pub loop-page-init : goal.loop-page-init

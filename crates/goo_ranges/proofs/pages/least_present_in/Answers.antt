@@ -3,8 +3,8 @@ use Rattle.std.specs.Prelude.{is_some}
 use Rattle.goo_types.specs.Piece.{Label, at_of}
 use Rattle.goo_spec.specs.Lots.{fails}
 use Rattle.goo_ranges.specs.Paging.{joined}
-use Rattle.goo_pieces.specs.Walk.{span}
-use Rattle.goo_pieces.proofs.Find.{find-alike}
+use Rattle.goo_ranges_pieces.specs.Walk.{span}
+use Rattle.goo_ranges_pieces.proofs.Find.{find-alike}
 use Rattle.goo_ranges.proofs.pages.least_present_in.Goals as goal
 
 -- a test that none passes is failed by each number that is there

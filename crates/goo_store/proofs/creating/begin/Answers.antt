@@ -1,8 +1,8 @@
 use Rattle.std.proofs.Common.{rules, IfErr, subst, sym}
 use Rattle.sqlite.specs.Held.{state}
-use Rattle.goo_columns.specs.Refused.{IsSmall}
-use Rattle.goo_columns.specs.Rows.{meta_row}
-use Rattle.goo_plans.specs.Passing.{IsTroubleOf}
+use Rattle.goo_tables_rows.specs.Refused.{IsSmall}
+use Rattle.goo_tables_rows.specs.Rows.{meta_row}
+use Rattle.goo_store_values.specs.Passing.{IsTroubleOf}
 use Rattle.goo_store.proofs.CreationBlamed.{first_small, refused_told}
 use Rattle.goo_store.proofs.creating.begin.Goals as goal
 

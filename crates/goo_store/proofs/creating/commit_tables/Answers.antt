@@ -1,13 +1,13 @@
 use Rattle.std.proofs.Common.{◌≡◌, IsTrue, true, arith, rules, subst, sym}
 use Rattle.sqlite.specs.State.{HasCleanDisk, KeepsCommit, Survives}
 use Rattle.sqlite.specs.Held.{state}
-use Rattle.goo_columns.specs.Stands.{Sees, Settled, Holds}
-use Rattle.goo_columns.specs.Rows.{meta_in}
-use Rattle.goo_held.specs.Changes.{begun}
-use Rattle.goo_columns.specs.Columns.{no_schema}
+use Rattle.goo_tables_rows.specs.Stands.{Sees, Settled, Holds}
+use Rattle.goo_tables_rows.specs.Rows.{meta_in}
+use Rattle.goo_tables_holdings.specs.Changes.{begun}
+use Rattle.goo_tables_rows.specs.Columns.{no_schema}
 use Rattle.std.proofs.Common.{refl}
-use Rattle.goo_columns.proofs.Results.{whenever}
-use Rattle.goo_columns.proofs.Committed.{committed, not_committed, survives_commit}
+use Rattle.goo_tables_rows.proofs.Results.{whenever}
+use Rattle.goo_tables_rows.proofs.Committed.{committed, not_committed, survives_commit}
 use Rattle.goo_store.proofs.creating.commit_tables.Goals as goal
 
 pub returns-clause-done : goal.returns-clause-done

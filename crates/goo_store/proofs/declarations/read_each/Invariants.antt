@@ -1,6 +1,6 @@
 use Rattle.std.proofs.Common.{◌≡◌, ◌++◌, map, drop}
-use Rattle.goo_columns.specs.Rows.{declaration_in}
-use Rattle.goo_kept.specs.Devices.{declaration_of}
+use Rattle.goo_tables_rows.specs.Rows.{declaration_in}
+use Rattle.goo_spec_tables.specs.Devices.{declaration_of}
 use Rattle.goo_store.proofs.declarations.read_each.Given as goal
 
 abbrev pub invariant-loop-row : goal.invariant-loop-row

@@ -3,10 +3,10 @@ use Rattle.std.specs.BTreeMap as tree
 use Rattle.std.specs.Cmp.Lexicographic.{nat_list_cmp_total}
 use Rattle.std.specs.FinMap.{get}
 use Rattle.goo_spec.specs.State.{text_cmp}
-use Rattle.goo_shelf.specs.Maps.{map_of}
-use Rattle.goo_shelf.proofs.MapLemmas.{get-map_of}
-use Rattle.goo_columns.specs.Rows.{device_in}
-use Rattle.goo_kept.proofs.DeviceLemmas.{noted_row}
+use Rattle.goo_core_shelf.specs.Maps.{map_of}
+use Rattle.goo_core_shelf.proofs.MapLemmas.{get-map_of}
+use Rattle.goo_tables_rows.specs.Rows.{device_in}
+use Rattle.goo_spec_tables.proofs.DeviceLemmas.{noted_row}
 use Rattle.goo_store.proofs.device_numbers.note.Goals as goal
 
 pub returns-in-None-clause-noted : goal.returns-in-None-clause-noted

@@ -1,12 +1,12 @@
 use Rattle.std.proofs.Common.{◌≡◌, ◌∙◌, IsErrAnd, pos, ap, rules}
 use Rattle.std.specs.FinMap.{get}
 use Rattle.std.specs.Cmp.Lexicographic.{nat_list_cmp_total}
-use Rattle.goo_shelf.proofs.MapLemmas.{map_of-empty}
-use Rattle.goo_columns.specs.Rows.{device_in}
-use Rattle.goo_kept.specs.Readable.{is_device}
-use Rattle.goo_rules.proofs.LotDevices.{at_true}
+use Rattle.goo_core_shelf.proofs.MapLemmas.{map_of-empty}
+use Rattle.goo_tables_rows.specs.Rows.{device_in}
+use Rattle.goo_spec_tables.specs.Readable.{is_device}
+use Rattle.goo_store_rules.proofs.LotDevices.{at_true}
 use Rattle.goo_store.proofs.DevicesApart.{number_free}
-use Rattle.goo_plans.proofs.Unread.{same_trouble}
+use Rattle.goo_store_values.proofs.Unread.{same_trouble}
 use Rattle.goo_store.proofs.device_numbers.note_each.Goals as goal
 
 pub loop-row-init : goal.loop-row-init

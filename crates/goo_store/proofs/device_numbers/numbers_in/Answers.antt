@@ -1,7 +1,7 @@
 use Rattle.std.proofs.Common.{◌∙◌, ap}
 use Rattle.std.specs.FinMap.{keys}
-use Rattle.goo_columns.proofs.Results.{if_ok}
-use Rattle.goo_kept.proofs.DeviceLemmas.{keys_same}
+use Rattle.goo_tables_rows.proofs.Results.{if_ok}
+use Rattle.goo_spec_tables.proofs.DeviceLemmas.{keys_same}
 use Rattle.goo_store.proofs.device_numbers.numbers_in.Goals as goal
 
 pub returns-clause-value : goal.returns-clause-value

@@ -1,5 +1,5 @@
 use Rattle.std.proofs.Common.{rules}
-use Rattle.goo_plans.proofs.Unread.{is_read}
+use Rattle.goo_store_values.proofs.Unread.{is_read}
 use Rattle.goo_store.proofs.devices.read_progress.Goals as goal
 
 pub returns-clause-accepts : goal.returns-clause-accepts

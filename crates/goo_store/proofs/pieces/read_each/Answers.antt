@@ -1,8 +1,8 @@
 use Rattle.std.proofs.Common.{◌<◌, ◌+◌, ◌++◌, [], ◌∷◌, map, drop, length, append_assoc, ap, sym, subst, ◌∙◌, arith}
 use Rattle.std.proofs.lemmas.List.{drop_more}
 use Rattle.std.proofs.lemmas.List.Elements.{All-cons, All-nil}
-use Rattle.goo_columns.specs.Beside.{joined_in}
-use Rattle.goo_kept.specs.Places.{piece_of}
+use Rattle.goo_tables_rows.specs.Beside.{joined_in}
+use Rattle.goo_spec_tables.specs.Places.{piece_of}
 use Rattle.goo_store.specs.Found.{IsBeside}
 use Rattle.goo_store.proofs.pieces.read_each.Goals as goal
 

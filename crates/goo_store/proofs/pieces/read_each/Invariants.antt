@@ -1,6 +1,6 @@
 use Rattle.std.proofs.Common.{◌≡◌, ◌++◌, map, drop}
-use Rattle.goo_columns.specs.Beside.{joined_in}
-use Rattle.goo_kept.specs.Places.{piece_of}
+use Rattle.goo_tables_rows.specs.Beside.{joined_in}
+use Rattle.goo_spec_tables.specs.Places.{piece_of}
 use Rattle.goo_store.specs.Found.{KeepsLots}
 use Rattle.goo_store.proofs.pieces.read_each.Given as goal
 

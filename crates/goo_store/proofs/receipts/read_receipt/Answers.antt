@@ -1,6 +1,6 @@
 use Rattle.std.proofs.Common.{rules, sym, pos, true≢false}
-use Rattle.goo_columns.specs.Rows.{receipt_in}
-use Rattle.goo_plans.proofs.Unread.{unread, reply_of_receipt}
+use Rattle.goo_tables_rows.specs.Rows.{receipt_in}
+use Rattle.goo_store_values.proofs.Unread.{unread, reply_of_receipt}
 use Rattle.goo_store.proofs.receipts.read_receipt.Goals as goal
 
 pub returns-in_err-read_reply-clause-accepts : goal.returns-in_err-read_reply-clause-accepts

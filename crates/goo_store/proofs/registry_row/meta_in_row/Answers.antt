@@ -1,7 +1,7 @@
 use Rattle.std.proofs.Common.{◌∙◌, ap, sym}
-use Rattle.goo_columns.specs.Rows.{Meta}
-use Rattle.goo_kept.specs.States.{state_of}
-use Rattle.goo_kept.specs.Texts.{day_of}
+use Rattle.goo_tables_rows.specs.Rows.{Meta}
+use Rattle.goo_spec_tables.specs.States.{state_of}
+use Rattle.goo_spec_tables.specs.Texts.{day_of}
 use Rattle.goo_store.proofs.registry_row.meta_in_row.Goals as goal
 
 pub returns-clause-value : goal.returns-clause-value

@@ -1,7 +1,7 @@
 use Rattle.std.proofs.Common.{◌≡◌, ◌≤◌, ◌*◌, ◌^◌, ℕ, List, take}
 use Rattle.std.specs.Prelude.{sum_by}
-use Rattle.goo_rows.specs.Certificates.{issued_in}
-use Rattle.goo_rules.specs.Summing.{sum_at}
+use Rattle.goo_ranges_rows.specs.Certificates.{issued_in}
+use Rattle.goo_store_rules.specs.Summing.{sum_at}
 use Rattle.goo_store.proofs.sums.count_issued.Given as goal
 
 abbrev pub invariant-loop-row : goal.invariant-loop-row

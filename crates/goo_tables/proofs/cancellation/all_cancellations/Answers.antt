@@ -1,8 +1,8 @@
 use Rattle.sqlite.specs.Held.{state}
-use Rattle.goo_columns.specs.Readable.{cancellation_readable}
+use Rattle.goo_tables_rows.specs.Readable.{cancellation_readable}
 use Rattle.goo_tables.proofs.Cancellations.{shows_all, meets_all, shown_all, all_asks}
 use Rattle.goo_tables.proofs.cancellation.all_cancellations.Goals as goal
-use Rattle.goo_held.proofs.Asking.{looks_up, met, refused, refused_readable}
+use Rattle.goo_tables_holdings.proofs.Asking.{looks_up, met, refused, refused_readable}
 
 pub returns-clause-looks : goal.returns-clause-looks
 returns-clause-looks g c =

@@ -1,7 +1,7 @@
 use Rattle.std.proofs.Common.{◌≡◌, ◌∙◌, ◌<◌, ◌+◌, arith, rules, get_or, [], Err, IfErr, refl, subst, sym}
-use Rattle.goo_columns.specs.Refused.{IsFault}
+use Rattle.goo_tables_rows.specs.Refused.{IsFault}
 use Rattle.sqlite.specs.Held.{state}
-use Rattle.goo_columns.specs.Columns.{no_schema}
+use Rattle.goo_tables_rows.specs.Columns.{no_schema}
 use Rattle.goo_tables.specs.Created.{create_texts, stages}
 use Rattle.goo_tables.proofs.Creating.{makes_nothing, makes_next, makes_no_more, leads}
 use Rattle.goo_tables.proofs.CreatingFails.{fails}

@@ -2,7 +2,7 @@ use Rattle.std.proofs.Common.{◌+◌, ◌-◌, take, drop}
 use Rattle.std.specs.List.{count_by}
 use Rattle.std.proofs.lemmas.Result.{on_ok_weaker}
 use Rattle.goo_types.specs.declared.piece.Piece.{Piece}
-use Rattle.goo_pieces.specs.Change.{meets}
+use Rattle.goo_ranges_pieces.specs.Change.{meets}
 use Rattle.goo_ranges.proofs.Adding.{in_order, cut_rises, all_rise, all_same, all_apart, few_deleted, few_inserted}
 use Rattle.goo_ranges.proofs.Exact.{exact-from_replaced, few-from_replaced}
 use Rattle.goo_ranges.proofs.page.Page.add_between.Goals as goal

@@ -1,6 +1,6 @@
 use Rattle.std.proofs.Common.{◌<◌, ◌≤◌, arith, sym}
 use Rattle.std.proofs.lemmas.Bool.Decides.{nat_tests}
-use Rattle.goo_pieces.proofs.Rest.{rest-head, rest-gap, rest-inside}
+use Rattle.goo_ranges_pieces.proofs.Rest.{rest-head, rest-gap, rest-inside}
 use Rattle.goo_ranges.proofs.page.Page.at.Goals as goal
 
 pub returns-then-lt : goal.returns-then-lt

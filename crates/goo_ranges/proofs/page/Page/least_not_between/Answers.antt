@@ -4,8 +4,8 @@ use Rattle.std.proofs.lemmas.Bool.Decides.{nat_tests}
 use Rattle.std.proofs.lemmas.List.{drop_all}
 use Rattle.goo_spec.specs.Lots.{fails}
 use Rattle.goo_types.specs.Piece.{at_of}
-use Rattle.goo_pieces.proofs.Find.{find-span-none, find-span-some}
-use Rattle.goo_pieces.proofs.Rest.{drop-piece, known-past, known-gap, known-end, rest-next, rest-inside, later-of, starts-self, starts-rising}
+use Rattle.goo_ranges_pieces.proofs.Find.{find-span-none, find-span-some}
+use Rattle.goo_ranges_pieces.proofs.Rest.{drop-piece, known-past, known-gap, known-end, rest-next, rest-inside, later-of, starts-self, starts-rising}
 use Rattle.goo_ranges.proofs.page.Page.least_not_between.Goals as goal
 
 pub loop-piece-init : goal.loop-piece-init

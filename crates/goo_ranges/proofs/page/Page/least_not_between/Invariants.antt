@@ -3,8 +3,8 @@ use Rattle.goo_types.specs.declared.lot_fields.LotFields.{LotFields}
 use Rattle.goo_types.specs.declared.place.Place.{Place}
 use Rattle.goo_spec.specs.Lots.{fails}
 use Rattle.goo_types.specs.Piece.{at_of}
-use Rattle.goo_pieces.specs.Walk.{IsRest}
-use Rattle.goo_pieces.proofs.Rest.{Starts}
+use Rattle.goo_ranges_pieces.specs.Walk.{IsRest}
+use Rattle.goo_ranges_pieces.proofs.Rest.{Starts}
 use Rattle.goo_ranges.proofs.page.Page.least_not_between.Given as goal
 
 abbrev pub invariant-loop-piece : goal.invariant-loop-piece

@@ -2,8 +2,8 @@ use Rattle.std.proofs.Common.{◌≡◌, suc, ◌<◌, ◌≤◌, arith, sym, re
 use Rattle.std.specs.Prelude.{is_some, max}
 use Rattle.std.proofs.lemmas.Bool.Decides.{nat_tests}
 use Rattle.goo_types.specs.Piece.{at_of}
-use Rattle.goo_pieces.proofs.Find.{find-span-none, find-span-some}
-use Rattle.goo_pieces.proofs.Rest.{rest-head, rest-empty, rest-end, rest-gap, rest-inside, later-of}
+use Rattle.goo_ranges_pieces.proofs.Find.{find-span-none, find-span-some}
+use Rattle.goo_ranges_pieces.proofs.Rest.{rest-head, rest-empty, rest-end, rest-gap, rest-inside, later-of}
 use Rattle.goo_ranges.proofs.page.Page.least_present_between.Goals as goal
 
 pub returns-in_err-piece : goal.returns-in_err-piece

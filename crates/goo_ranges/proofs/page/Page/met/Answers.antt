@@ -1,7 +1,7 @@
 use Rattle.std.proofs.Common.{rules, arith, ltb, leb, ◌≤◌}
 use Rattle.std.proofs.lemmas.List.Sorted.{IsPartitionPoint-from_clause}
-use Rattle.goo_pieces.proofs.Rest.{partitioned}
-use Rattle.goo_pieces.proofs.Touching.{partitioned-to}
+use Rattle.goo_ranges_pieces.proofs.Rest.{partitioned}
+use Rattle.goo_ranges_pieces.proofs.Touching.{partitioned-to}
 use Rattle.goo_ranges.proofs.Meeting.{meeting-from_points}
 use Rattle.goo_ranges.proofs.page.Page.met.Goals as goal
 

@@ -1,4 +1,4 @@
-use Rattle.goo_pieces.proofs.Touching.{between-rising}
+use Rattle.goo_ranges_pieces.proofs.Touching.{between-rising}
 use Rattle.goo_ranges.proofs.page.Page.moved_between.Goals as goal
 
 pub moved_pieces-requires-clause-rising : goal.moved_pieces-requires-clause-rising

@@ -2,7 +2,7 @@ use Rattle.std.proofs.Common.{◌-◌, ◌<◌, arith, rules}
 use Rattle.std.proofs.lemmas.Bool.Decides.{nat_tests}
 use Rattle.std.proofs.lemmas.List.{get_or_read}
 use Rattle.goo_types.specs.Piece.{IsForward}
-use Rattle.goo_pieces.proofs.Rising.{rising-more}
+use Rattle.goo_ranges_pieces.proofs.Rising.{rising-more}
 use Rattle.goo_ranges.proofs.page.Page.new.Goals as goal
 use Rattle.goo_ranges.proofs.page.Page.new.Goals.{else-i-gt0-via-then-i-gt0+else-le, else-i-gt0-via-else-i-gt0}
 

@@ -1,10 +1,10 @@
 use Rattle.std.proofs.Common.{arith, ◌≡◌, ◌+◌, ◌-◌, ◌≤◌, ◌++◌, take, drop, length, ◌∙◌}
 use Rattle.std.specs.List.{count_by}
-use Rattle.goo_pieces.specs.Change.{meets}
+use Rattle.goo_ranges_pieces.specs.Change.{meets}
 use Rattle.std.proofs.lemmas.Result.{on_ok_weaker}
 use Rattle.goo_ranges.proofs.Exact.{exact-from_replaced, few-from_replaced}
 use Rattle.goo_ranges.proofs.Splicing.{spliced-apart, few-cuts, length-cuts, count-middle}
-use Rattle.goo_pieces.proofs.Touching.{spliced-rising, spliced-same, between-rising, in-three}
+use Rattle.goo_ranges_pieces.proofs.Touching.{spliced-rising, spliced-same, between-rising, in-three}
 use Rattle.goo_ranges.proofs.Trimming.{length-between}
 use Rattle.goo_ranges.proofs.page.Page.reassign_between.Goals as goal
 

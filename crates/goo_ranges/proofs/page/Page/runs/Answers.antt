@@ -1,7 +1,7 @@
 use Rattle.std.proofs.Common.{◌+◌, [], ◌∷◌, take, arith}
 use Rattle.std.proofs.lemmas.List.{take_all}
 use Rattle.goo_types.specs.Piece.{IsRising, at_of}
-use Rattle.goo_pieces.proofs.Joining.{joining-self, joining-then, joining-append, rising-take, take-piece}
+use Rattle.goo_ranges_pieces.proofs.Joining.{joining-self, joining-then, joining-append, rising-take, take-piece}
 use Rattle.goo_spec.specs.Runs.{AreRunsOf}
 use Rattle.goo_ranges.proofs.Fewest.{fewest}
 use Rattle.goo_ranges.proofs.page.Page.runs.Goals as goal

@@ -1,5 +1,5 @@
 use Rattle.std.proofs.Common.{take}
-use Rattle.goo_pieces.specs.Joining.{IsJoining}
+use Rattle.goo_ranges_pieces.specs.Joining.{IsJoining}
 use Rattle.goo_spec.specs.Runs.{IsApart}
 use Rattle.goo_ranges.proofs.page.Page.runs.Given as goal
 

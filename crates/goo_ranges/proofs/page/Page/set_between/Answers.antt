@@ -1,4 +1,4 @@
-use Rattle.goo_pieces.proofs.Touching.{between-rising}
+use Rattle.goo_ranges_pieces.proofs.Touching.{between-rising}
 use Rattle.goo_ranges.proofs.page.Page.set_between.Goals as goal
 
 pub set_pieces-requires : goal.set_pieces-requires

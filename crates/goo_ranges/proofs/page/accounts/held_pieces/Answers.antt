@@ -2,7 +2,7 @@ use Rattle.std.proofs.Common.{◌+◌, [], ◌∷◌, take, map, arith, ap, ◌�
 use Rattle.std.proofs.lemmas.List.{take_all}
 use Rattle.goo_ranges.specs.Accounts.{held}
 use Rattle.goo_ranges.proofs.Accounting.{held-rising, held-push}
-use Rattle.goo_pieces.proofs.Joining.{joining-self, joining-then, joining-append, rising-take, take-piece}
+use Rattle.goo_ranges_pieces.proofs.Joining.{joining-self, joining-then, joining-append, rising-take, take-piece}
 use Rattle.goo_ranges.proofs.page.accounts.held_pieces.Goals as goal
 
 pub push_joined-requires : goal.push_joined-requires

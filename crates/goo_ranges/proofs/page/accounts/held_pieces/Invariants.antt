@@ -1,6 +1,6 @@
 use Rattle.std.proofs.Common.{take, map}
 use Rattle.goo_ranges.specs.Accounts.{held}
-use Rattle.goo_pieces.specs.Joining.{IsJoining}
+use Rattle.goo_ranges_pieces.specs.Joining.{IsJoining}
 use Rattle.goo_spec.specs.Runs.{IsApart}
 use Rattle.goo_ranges.proofs.page.accounts.held_pieces.Given as goal
 

@@ -1,7 +1,7 @@
 use Rattle.std.proofs.Common.{◌≡◌, ℕ, ◌++◌, ◌∙◌, List, take, drop, ap}
 use Rattle.goo_types.specs.declared.piece.Piece.{Piece}
 use Rattle.goo_types.specs.Piece.{at_of, IsRising}
-use Rattle.goo_pieces.specs.Change.{set_to}
+use Rattle.goo_ranges_pieces.specs.Change.{set_to}
 use Rattle.goo_ranges.specs.Paging.{joined, between}
 use Rattle.goo_ranges.proofs.Maximal.{apart-front, apart-back}
 use Rattle.goo_ranges.proofs.Paging.{joined-three}

@@ -3,7 +3,7 @@ use Rattle.std.proofs.lemmas.List.{length-take-le, length-drop, take_all}
 use Rattle.goo_ranges.specs.Paging.{joined}
 use Rattle.goo_ranges.proofs.JoinedPages.{joined-more}
 use Rattle.goo_ranges.proofs.Paging.{filled-append, take-on}
-use Rattle.goo_pieces.proofs.Touching.{between-rising}
+use Rattle.goo_ranges_pieces.proofs.Touching.{between-rising}
 use Rattle.goo_ranges.proofs.pages.changes.pages_of.Goals as goal
 
 pub of_rows-requires : goal.of_rows-requires

@@ -2,7 +2,7 @@ use Rattle.std.proofs.Common.{◌≡◌, ◌+◌, ◌-◌, ◌≤◌, ◌<◌, l
 use Rattle.std.proofs.lemmas.Bool.Decides.{nat_tests}
 use Rattle.goo_types.specs.Piece.{IsRisingFrom}
 use Rattle.goo_ranges.specs.Paging.{joined}
-use Rattle.goo_pieces.specs.Walk.{end_of}
+use Rattle.goo_ranges_pieces.specs.Walk.{end_of}
 use Rattle.goo_ranges.proofs.Paging.{above-more, ended-fewer}
 use Rattle.goo_ranges.proofs.pages.changes.window.Goals as goal
 use Rattle.goo_ranges.proofs.pages.changes.window.Goals.{After-count_begun-begun}

@@ -1,11 +1,11 @@
 use Rattle.std.proofs.Common.{◌∙◌, refl, ap, map}
 use Rattle.sqlite.specs.Held.{state as view}
-use Rattle.goo_lookups.specs.Moments.{tables_in}
-use Rattle.goo_kept.specs.Places.{rows_of, piece_of}
-use Rattle.goo_lookups.proofs.Looking.{looked, refused_look, well}
+use Rattle.goo_store_lookups.specs.Moments.{tables_in}
+use Rattle.goo_spec_tables.specs.Places.{rows_of, piece_of}
+use Rattle.goo_store_lookups.proofs.Looking.{looked, refused_look, well}
 use Rattle.goo_store.proofs.Found.{lots_known, some_beside}
 use Rattle.goo_store.proofs.WholeLemmas.{all_within}
-use Rattle.goo_lookups.proofs.Blaming.{blames, refused_blames}
+use Rattle.goo_store_lookups.proofs.Blaming.{blames, refused_blames}
 use Rattle.goo_store.proofs.RowsRead.{pieces_found, pieces_read}
 use Rattle.goo_store.proofs.sql_shelf.SqlShelf.all_rows.Goals as goal
 

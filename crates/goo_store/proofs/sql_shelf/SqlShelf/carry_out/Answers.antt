@@ -1,8 +1,8 @@
 use Rattle.std.proofs.Common.{◌≡◌, Err, rules, sym, subst}
 use Rattle.sqlite.specs.Held.{state as view}
-use Rattle.goo_columns.specs.Stands.{doubts}
-use Rattle.goo_lookups.specs.Moments.{moment, tables_in}
-use Rattle.goo_plans.specs.Planned.{IsPlanned}
+use Rattle.goo_tables_rows.specs.Stands.{doubts}
+use Rattle.goo_store_lookups.specs.Moments.{moment, tables_in}
+use Rattle.goo_store_plans.specs.Planned.{IsPlanned}
 use Rattle.goo_store.proofs.CommitBlamed.{blamed, blamed_before}
 use Rattle.goo_store.proofs.CommitLemmas.{well_after, committed}
 use Rattle.goo_store.proofs.Found.{none_known}

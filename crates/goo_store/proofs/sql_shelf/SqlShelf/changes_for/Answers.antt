@@ -1,6 +1,6 @@
 use Rattle.std.proofs.Common.{sym, subst}
 use Rattle.sqlite.specs.Held.{state as view}
-use Rattle.goo_plans.specs.Found.{AreNone}
+use Rattle.goo_store_plans.specs.Found.{AreNone}
 use Rattle.goo_store.specs.Found.{Knows}
 use Rattle.goo_store.specs.Gathering.{HaveWhatItNeeds}
 use Rattle.goo_store.proofs.CommitsAfter.{refused_prepared}

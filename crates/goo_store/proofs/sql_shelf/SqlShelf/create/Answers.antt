@@ -1,18 +1,18 @@
 use Rattle.std.proofs.Common.{◌≡◌, ◌∙◌, ap, sym, subst}
 use Rattle.sqlite.specs.Held.{state as view}
 use Rattle.goo_spec.specs.Created.{created}
-use Rattle.goo_rows.proofs.CertificateLemmas.{certificates-rows}
-use Rattle.goo_columns.specs.Stands.{doubts}
-use Rattle.goo_lookups.specs.Moments.{count, tables_in}
-use Rattle.goo_kept.specs.Places.{rows_of}
-use Rattle.goo_kept.specs.States.{state_of}
-use Rattle.goo_plans.specs.Passing.{open_fault_of}
-use Rattle.goo_opening.specs.declared.fault.OpenFault.TheVariants.{AlreadyThere}
-use Rattle.goo_plans.specs.declared.trouble.Trouble.{Trouble}
-use Rattle.goo_plans.specs.declared.trouble.Trouble.TheVariants.{Memory, Refused}
+use Rattle.goo_ranges_rows.proofs.CertificateLemmas.{certificates-rows}
+use Rattle.goo_tables_rows.specs.Stands.{doubts}
+use Rattle.goo_store_lookups.specs.Moments.{count, tables_in}
+use Rattle.goo_spec_tables.specs.Places.{rows_of}
+use Rattle.goo_spec_tables.specs.States.{state_of}
+use Rattle.goo_store_values.specs.Passing.{open_fault_of}
+use Rattle.goo_store_open.specs.declared.fault.OpenFault.TheVariants.{AlreadyThere}
+use Rattle.goo_store_values.specs.declared.trouble.Trouble.{Trouble}
+use Rattle.goo_store_values.specs.declared.trouble.Trouble.TheVariants.{Memory, Refused}
 use Rattle.goo_store.proofs.Created.{begun_state, created_tables, created_well}
 use Rattle.goo_store.proofs.CreationBlamed.{word_blames}
-use Rattle.goo_lookups.specs.Holding.{is_sure, safe}
+use Rattle.goo_store_lookups.specs.Holding.{is_sure, safe}
 use Rattle.goo_store.proofs.sql_shelf.SqlShelf.create.Goals as goal
 
 pub over-requires-clause-well : goal.over-requires-clause-well

@@ -1,13 +1,14 @@
 use Rattle.std.proofs.Common.{◌∙◌, ap, map, sym, map-id}
-use Rattle.goo_kept.specs.Devices.{declaration_of}
+use Rattle.goo_spec_tables.specs.Devices.{declaration_of}
 use Rattle.sqlite.specs.Held.{state as view}
-use Rattle.goo_kept.specs.States.{state_of}
-use Rattle.goo_lookups.proofs.Looking.{looked, refused_look, well, known}
-use Rattle.goo_lookups.proofs.Blaming.{blames, refused_blames}
+use Rattle.goo_spec_tables.specs.States.{state_of}
+use Rattle.goo_store_lookups.proofs.Looking.{looked, refused_look, well}
+use Rattle.goo_store.proofs.Found.{known}
+use Rattle.goo_store_lookups.proofs.Blaming.{blames, refused_blames}
 use Rattle.goo_store.proofs.RowsRead.{listed}
-use Rattle.goo_kept.specs.Readable.{is_declaration}
-use Rattle.goo_columns.specs.Rows.{declaration_in}
-use Rattle.goo_lookups.specs.Moments.{tables_in}
+use Rattle.goo_spec_tables.specs.Readable.{is_declaration}
+use Rattle.goo_tables_rows.specs.Rows.{declaration_in}
+use Rattle.goo_store_lookups.specs.Moments.{tables_in}
 use Rattle.goo_store.proofs.sql_shelf.SqlShelf.declarations.Goals as goal
 
 pub returns-then-self-clause-looks : goal.returns-then-self-clause-looks

@@ -1,13 +1,14 @@
 use Rattle.std.proofs.Common.{◌∙◌, ap, map}
 use Rattle.goo_spec.specs.State.{text_cmp}
 use Rattle.std.specs.FinMap.{from_entries, keys}
-use Rattle.goo_kept.specs.Devices.{device_entry}
-use Rattle.goo_kept.proofs.DeviceLemmas.{entries_same}
-use Rattle.goo_lookups.specs.Moments.{tables_in}
+use Rattle.goo_spec_tables.specs.Devices.{device_entry}
+use Rattle.goo_spec_tables.proofs.DeviceLemmas.{entries_same}
+use Rattle.goo_store_lookups.specs.Moments.{tables_in}
 use Rattle.sqlite.specs.Held.{state as view}
-use Rattle.goo_kept.specs.States.{state_of}
-use Rattle.goo_lookups.proofs.Looking.{looked, refused_look, well, known}
-use Rattle.goo_lookups.proofs.Blaming.{blames, refused_blames}
+use Rattle.goo_spec_tables.specs.States.{state_of}
+use Rattle.goo_store_lookups.proofs.Looking.{looked, refused_look, well}
+use Rattle.goo_store.proofs.Found.{known}
+use Rattle.goo_store_lookups.proofs.Blaming.{blames, refused_blames}
 use Rattle.goo_store.proofs.RowsRead.{devices_found}
 use Rattle.goo_store.proofs.sql_shelf.SqlShelf.device_numbers.Goals as goal
 

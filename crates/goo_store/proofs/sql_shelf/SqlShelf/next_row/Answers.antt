@@ -2,11 +2,11 @@ use Rattle.std.proofs.Common.{◌≡◌, ◌∙◌, ◌&&◌, nat_lt, List, Opti
 use Rattle.goo_spec.specs.State.{State}
 use Rattle.goo_types.specs.declared.piece.Piece.{Piece}
 use Rattle.sqlite.specs.Held.{state as view}
-use Rattle.goo_kept.specs.Places.{rows_of}
-use Rattle.goo_shelf.specs.Sought.{is_sought}
-use Rattle.goo_shelf.proofs.Looking.{looked, looked_as, looked_then}
-use Rattle.goo_lookups.specs.Moments.{moment, tables_in}
-use Rattle.goo_lookups.proofs.Blaming.{blamed_then}
+use Rattle.goo_spec_tables.specs.Places.{rows_of}
+use Rattle.goo_core_shelf.specs.Sought.{is_sought}
+use Rattle.goo_core_shelf.proofs.Looking.{looked, looked_as, looked_then}
+use Rattle.goo_store_lookups.specs.Moments.{moment, tables_in}
+use Rattle.goo_store_lookups.proofs.Blaming.{blamed_then}
 use Rattle.goo_store.proofs.NextRow.{before_forward, next_before, next_later, first_of_all}
 use Rattle.goo_store.proofs.sql_shelf.SqlShelf.next_row.Goals as goal
 

@@ -1,13 +1,13 @@
 use Rattle.std.proofs.Common.{rules, ◌≡◌, ap, sym, subst, IsTrue}
 use Rattle.sqlite.specs.Held.{state as view}
 use Rattle.sqlite.specs.State.{HasCleanDisk}
-use Rattle.goo_columns.specs.Stands.{Rests, doubts}
-use Rattle.goo_kept.specs.Kept.{AreKept}
-use Rattle.goo_kept.specs.States.{state_of}
-use Rattle.goo_opening.specs.Reading.{IsMet}
-use Rattle.goo_lookups.specs.Moments.{count, tables_in}
-use Rattle.goo_lookups.specs.Holding.{is_sure, safe}
-use Rattle.goo_lookups.proofs.Judging.{met_ours, opened_well, opened_state, opened_kept, rows_fit}
+use Rattle.goo_tables_rows.specs.Stands.{Rests, doubts}
+use Rattle.goo_spec_tables.specs.Kept.{AreKept}
+use Rattle.goo_spec_tables.specs.States.{state_of}
+use Rattle.goo_store_open.specs.Reading.{IsMet}
+use Rattle.goo_store_lookups.specs.Moments.{count, tables_in}
+use Rattle.goo_store_lookups.specs.Holding.{is_sure, safe}
+use Rattle.goo_store_lookups.proofs.Judging.{met_ours, opened_well, opened_state, opened_kept, rows_fit}
 use Rattle.goo_store.proofs.sql_shelf.SqlShelf.open.Goals as goal
 
 pub over-requires-clause-well : goal.over-requires-clause-well

@@ -2,13 +2,13 @@ use Rattle.std.proofs.Common.{refl, []}
 use Rattle.std.specs.List.{cons_option}
 use Rattle.sqlite.specs.Held.{state as view}
 use Rattle.std.proofs.Common.{nat_lt}
-use Rattle.goo_columns.specs.Beside.{pieces_beside}
-use Rattle.goo_lookups.specs.Moments.{tables_in}
-use Rattle.goo_kept.specs.Places.{rows_of}
-use Rattle.goo_kept.proofs.RowsFound.{last_found}
-use Rattle.goo_lookups.proofs.Looking.{looked, refused_look, well}
+use Rattle.goo_tables_rows.specs.Beside.{pieces_beside}
+use Rattle.goo_store_lookups.specs.Moments.{tables_in}
+use Rattle.goo_spec_tables.specs.Places.{rows_of}
+use Rattle.goo_spec_tables.proofs.RowsFound.{last_found}
+use Rattle.goo_store_lookups.proofs.Looking.{looked, refused_look, well}
 use Rattle.goo_store.proofs.Found.{lots_known, last_beside}
-use Rattle.goo_lookups.proofs.Blaming.{blames, refused_blames}
+use Rattle.goo_store_lookups.proofs.Blaming.{blames, refused_blames}
 use Rattle.goo_store.proofs.RowsRead.{last_piece, pieces_read}
 use Rattle.goo_store.proofs.sql_shelf.SqlShelf.row_before.Goals as goal
 

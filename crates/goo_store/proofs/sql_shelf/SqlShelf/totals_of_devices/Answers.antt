@@ -1,12 +1,12 @@
 use Rattle.std.proofs.Common.{◌≡◌, ◌∙◌, map, rules, sym, subst, Err}
 use Rattle.sqlite.specs.Held.{state as view}
-use Rattle.goo_columns.proofs.Results.{if_ok}
-use Rattle.goo_lookups.specs.Moments.{tables_in}
+use Rattle.goo_tables_rows.proofs.Results.{if_ok}
+use Rattle.goo_store_lookups.specs.Moments.{tables_in}
 use Rattle.goo_store.specs.Summing.{summed_for, HaveSmallSums}
-use Rattle.goo_lookups.proofs.Looking.{failed_then, looked_both}
+use Rattle.goo_store_lookups.proofs.Looking.{failed_then, looked_both}
 use Rattle.goo_store.proofs.WholeLemmas.{state_totals, tables_small}
-use Rattle.goo_kept.specs.States.{state_of}
-use Rattle.goo_lookups.proofs.Blaming.{blamed_then, blamed_both, blamed_err}
+use Rattle.goo_spec_tables.specs.States.{state_of}
+use Rattle.goo_store_lookups.proofs.Blaming.{blamed_then, blamed_both, blamed_err}
 use Rattle.goo_store.proofs.sql_shelf.SqlShelf.totals_of_devices.Goals as goal
 
 pub returns-in_err-rows-clause-looks : goal.returns-in_err-rows-clause-looks

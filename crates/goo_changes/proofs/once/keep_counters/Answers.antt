@@ -1,5 +1,0 @@
-use Rattle.std.proofs.Common.{rules}
-use Rattle.goo_changes.proofs.once.keep_counters.Goals as goal
-
-pub returns-clause-changed : goal.returns-clause-changed
-returns-clause-changed g c = search rules

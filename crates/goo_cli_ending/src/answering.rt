@@ -1,0 +1,44 @@
+//! A whole input, answered.
+ghost use Rattle.std.specs.Prelude.{◌≡◌, ◌≢◌, ◌<◌, [], IfSome};
+ghost use Rattle.std.specs.Io.KnownBytes.{Appends, IsAtEnd};
+ghost use Rattle.std.specs.Io.Buffered.{writer_buffer, writer_contents};
+ghost use Rattle.goo_desk_lines.specs.Fold.{lines};
+ghost use Rattle.goo_cli_ending.specs.Endings.{status_of, IsOfLines, IsAfterInput, IsToldOf};
+
+use crate::ending::Ending;
+use goo_desk_lines::run_lines;
+use goo_registry_desk::Desk;
+use std::alloc::Global;
+use std::io::{BufWriter, Read, Write};
+
+/// Answers the lines of an input by a desk, and tells how that ends. The output is flushed.
+///
+/// - `all_done`: status 0 only where no line was refused or unreadable.
+/// - `not_all_done`: status 1 only where some line was refused or unreadable.
+/// - `written`, `flushed`: with status 0 and 1, all outcomes of the lines are written after what the writer had, and nothing
+///   is left in its buffer.
+/// - `words`, `read`: it ends as a run of lines does, and a fault of the output or of the records is told only once the
+///   whole input was read.
+/// - `told`: a fault of the records is told just where what keeps them refused a call.
+/// - `kept`: with status 0 and 1 the desk knows what the lines come to.
+/// - `lied`: what lies below the desk returned what was written before, where it did so to the end.
+pub fn answer_input<D: Desk, R: Read, W: Write + Drop>(
+    alloc: Global,
+    desk: &mut D,
+    reader: &mut R,
+    writer: &mut BufWriter<W>,
+) -> Ending
+    ensures all_done { (D.seen desk.new).lies ≡ 0 → status_of result ≡ 0 → IfSome (R.remaining reader.old) (λ input. (lines (D.seen desk.old).state input).bad ≡ 0) }
+    ensures not_all_done { (D.seen desk.new).lies ≡ 0 → status_of result ≡ 1 → IfSome (R.remaining reader.old) (λ input. (lines (D.seen desk.old).state input).bad ≢ 0) }
+    ensures written { (D.seen desk.new).lies ≡ 0 → status_of result < 2 → IfSome (R.remaining reader.old) (λ input. Appends (writer_contents W.contents writer.old) (writer_contents W.contents writer.new) (lines (D.seen desk.old).state input).text) }
+    ensures kept { (D.seen desk.new).lies ≡ 0 → status_of result < 2 → IfSome (R.remaining reader.old) (λ input. (D.seen desk.new).state ≡ (lines (D.seen desk.old).state input).state) }
+    ensures flushed { status_of result < 2 → writer_buffer writer.new ≡ [] }
+    ensures words { IsOfLines result }
+    ensures read { IsAfterInput result → IsAtEnd (R.remaining reader.new) }
+    ensures told { (D.seen desk.old).refusals ≡ 0 → IsToldOf result (D.seen desk.new).refusals }
+    ensures lied { (D.seen desk.new).lies ≡ 0 → (D.seen desk.old).lies ≡ 0 }
+{
+    let answered = run_lines(alloc, desk, reader, writer);
+    let flushed = writer.flush().is_ok();
+    Ending::of_run(answered, flushed)
+}

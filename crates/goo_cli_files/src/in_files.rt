@@ -1,0 +1,99 @@
+//! The commands `declare`, `statement` and `audit`, over files.
+ghost use Rattle.std.specs.Prelude.{◌≡◌, [], IfSome, IsTrue};
+ghost use Rattle.std.specs.Io.Buffered.{writer_buffer, writer_contents};
+ghost use Rattle.sqlite.specs.Files.{image_of, HoldsDatabase};
+ghost use Rattle.sqlite.specs.Tree.{Trees};
+ghost use Rattle.goo_tables_rows.specs.Rows.{tables_of};
+ghost use Rattle.goo_spec_tables.specs.States.{state_of};
+ghost use Rattle.goo_files.specs.Texts.{IsStatement, IsAuditText};
+ghost use Rattle.goo_files.specs.Writes.{Wrote};
+ghost use Rattle.goo_cli_ending.specs.Endings.{status_of};
+ghost use Rattle.goo_cli_registry.specs.Closings.{IsClean};
+ghost use Rattle.goo_cli_files.specs.Imports.{DeclaredIn};
+
+use goo_cli_ending::Ending;
+use goo_cli_registry::closing::{Left, close_registry};
+use goo_cli_registry::opening::open_registry;
+use goo_cli_texts::{ProgressLine, declare, show_audit, show_statement};
+use goo_registry::Registry;
+use goo_types::account_no::AccountNo;
+use sqlite::Files;
+use sqlite_disk::Disk;
+use std::alloc::Global;
+use std::io::{BufWriter, Read, Write};
+
+/// Imports the declarations of a CSV file into the registry that files hold, writes the report, and closes the registry. `line` tells
+/// how far the import is. What is said holds so long as the files returned what was written, and `db` is the database that they held.
+///
+/// - `done`: status 0 only where each row was imported and its declaration stands, and status 1 only where one doesn't, but for a
+///   file without its header; the whole report is written then, and the database file alone holds what the rows come to.
+pub fn declare_in_files<D: Disk + Drop, R: Read, W: Write + Drop, T: Write>(
+    alloc: Global,
+    files: Files<D>,
+    seed: u64,
+    reader: &mut R,
+    writer: &mut BufWriter<W>,
+    line: &mut ProgressLine<T>,
+) -> (Ending, Left<D>)
+    requires log { IsTrue (D.Disk.is_usable files.log) }
+    requires db { IsTrue (D.Disk.is_usable files.db) }
+    ensures done { IsClean result.1 → (db : Trees) → HoldsDatabase (image_of D.Disk files) db → IfSome (R.remaining reader.old) (λ input. DeclaredIn (state_of (tables_of db)) input (writer_contents W.contents writer.old) (writer_contents W.contents writer.new) result.0 result.1) }
+    ensures flushed { status_of result.0 ≡ 0 → writer_buffer writer.new ≡ [] }
+{
+    match open_registry(alloc, files, seed) {
+        Ok(shelf) => {
+            let mut registry = Registry::new(shelf);
+            let ending = declare(alloc, &mut registry, reader, writer, line);
+            (ending, close_registry(registry.into_shelf()))
+        }
+        Err((failure, left)) => (Ending::Failed(failure), Left::Refused(left)),
+    }
+}
+
+/// Writes the statement of an account of the registry that files hold, and closes the registry. What is said holds so long as
+/// the files returned what was written, and `db` is the database that they held.
+///
+/// - `shown`, `flushed`: status 0 only where the whole statement is written, and nothing is left in the writer's buffer.
+pub fn statement_in_files<D: Disk + Drop, W: Write + Drop>(
+    alloc: Global,
+    files: Files<D>,
+    seed: u64,
+    account: AccountNo,
+    writer: &mut BufWriter<W>,
+) -> (Ending, Left<D>)
+    requires log { IsTrue (D.Disk.is_usable files.log) }
+    requires db { IsTrue (D.Disk.is_usable files.db) }
+    ensures shown { IsClean result.1 → (db : Trees) → HoldsDatabase (image_of D.Disk files) db → status_of result.0 ≡ 0 → Wrote (writer_contents W.contents writer.old) (writer_contents W.contents writer.new) (IsStatement (state_of (tables_of db)) account) }
+    ensures flushed { status_of result.0 ≡ 0 → writer_buffer writer.new ≡ [] }
+{
+    match open_registry(alloc, files, seed) {
+        Ok(shelf) => {
+            let mut registry = Registry::new(shelf);
+            let ending = show_statement(&mut registry, account, writer);
+            (ending, close_registry(registry.into_shelf()))
+        }
+        Err((failure, left)) => (Ending::Failed(failure), Left::Refused(left)),
+    }
+}
+
+/// Writes the audit of the registry that files hold, and closes the registry, as [`statement_in_files`] does a statement.
+pub fn audit_in_files<D: Disk + Drop, W: Write + Drop>(
+    alloc: Global,
+    files: Files<D>,
+    seed: u64,
+    writer: &mut BufWriter<W>,
+) -> (Ending, Left<D>)
+    requires log { IsTrue (D.Disk.is_usable files.log) }
+    requires db { IsTrue (D.Disk.is_usable files.db) }
+    ensures shown { IsClean result.1 → (db : Trees) → HoldsDatabase (image_of D.Disk files) db → status_of result.0 ≡ 0 → Wrote (writer_contents W.contents writer.old) (writer_contents W.contents writer.new) (IsAuditText (state_of (tables_of db))) }
+    ensures flushed { status_of result.0 ≡ 0 → writer_buffer writer.new ≡ [] }
+{
+    match open_registry(alloc, files, seed) {
+        Ok(shelf) => {
+            let mut registry = Registry::new(shelf);
+            let ending = show_audit(alloc, &mut registry, writer);
+            (ending, close_registry(registry.into_shelf()))
+        }
+        Err((failure, left)) => (Ending::Failed(failure), Left::Refused(left)),
+    }
+}

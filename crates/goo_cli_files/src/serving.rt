@@ -1,0 +1,80 @@
+//! The command `serve`.
+ghost use Rattle.std.specs.Prelude.{◌≡◌, false, IsTrue};
+ghost use Rattle.sqlite.specs.Held.{state as view};
+ghost use Rattle.sqlite.specs.State.{HasCleanDisk};
+ghost use Rattle.goo_tables_rows.specs.Met.{IsInKeyOrder};
+
+use goo_cli::{Opening, Serving};
+use goo_cli_ending::{Ending, Failure};
+use goo_cli_http::serve_registry;
+use goo_cli_registry::closing::{Left, close_registry};
+use goo_cli_registry::opening::{begin, failure_of, open_database, open_registry};
+use goo_cli_registry::running::SALT;
+use goo_cli_registry::start::Start;
+use goo_registry::Registry;
+use goo_store_memory::MemoryFile;
+use sqlite::{Alter, Connection, Files};
+use sqlite_disk::Disk;
+use std::io::{BufWriter, Write};
+
+/// Serves so many connections by a new registry in a database that is empty, and hands the database back.
+fn serve_new<S: Alter, W: Write + Drop>(
+    rt: &HostRuntime,
+    conn: Connection<S>,
+    opening: Opening,
+    serving: Serving,
+    writer: &mut BufWriter<W>,
+) -> (Ending, Connection<S>)
+    requires outside { conn.in_transaction ≡ false }
+    requires ordered { HasCleanDisk (view S.Store conn) → IsInKeyOrder (view S.Store conn).now }
+{
+    match begin(rt.alloc(), conn, Start::New(opening)) {
+        Ok(shelf) => {
+            let mut registry = Registry::new(shelf);
+            let ending = serve_registry(rt, &mut registry, serving, writer);
+            (ending, registry.into_shelf().into_connection())
+        }
+        Err((conn, fault)) => (Ending::Failed(failure_of(fault)), conn),
+    }
+}
+
+/// Serves so many connections by a new registry whose records are tables in memory, and are gone when the program ends.
+pub fn serve_in_memory<W: Write + Drop>(
+    rt: &HostRuntime,
+    opening: Opening,
+    serving: Serving,
+    writer: &mut BufWriter<W>,
+) -> Ending {
+    let alloc = rt.alloc();
+    let files = Files {
+        log: MemoryFile::new(alloc),
+        db: MemoryFile::new(alloc),
+    };
+    let conn = match open_database(alloc, files, SALT) {
+        Ok(conn) => conn,
+        Err((fault, _left)) => return Ending::Failed(Failure::from(fault)),
+    };
+    let (ending, _conn) = serve_new(rt, conn, opening, serving, writer);
+    ending
+}
+
+/// Serves so many connections by the registry that files hold, and closes it.
+pub fn serve_in_files<D: Disk + Drop, W: Write + Drop>(
+    rt: &HostRuntime,
+    files: Files<D>,
+    seed: u64,
+    serving: Serving,
+    writer: &mut BufWriter<W>,
+) -> (Ending, Left<D>)
+    requires log { IsTrue (D.Disk.is_usable files.log) }
+    requires db { IsTrue (D.Disk.is_usable files.db) }
+{
+    match open_registry(rt.alloc(), files, seed) {
+        Ok(shelf) => {
+            let mut registry = Registry::new(shelf);
+            let ending = serve_registry(rt, &mut registry, serving, writer);
+            (ending, close_registry(registry.into_shelf()))
+        }
+        Err((failure, left)) => (Ending::Failed(failure), Left::Refused(left)),
+    }
+}

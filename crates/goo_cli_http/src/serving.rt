@@ -1,0 +1,48 @@
+//! A registry served over HTTP on 127.0.0.1.
+ghost use Rattle.std.specs.Prelude.{◌≡◌, ◌≢◌};
+ghost use Rattle.goo_cli_ending.specs.Endings.{status_of};
+ghost use Rattle.goo_cli_http.specs.Endings.{ending_of_server};
+
+use goo_cli::Serving;
+use goo_cli_ending::{Ending, Failure};
+use goo_core_shelf::shelf::Shelf;
+use goo_desk_server::{ServerFault, serve};
+use goo_registry::Registry;
+use std::io::{BufWriter, Write};
+use std::net::TcpListener;
+
+/// How the program ends where a server ended.
+fn ending_of(served: Result<(), ServerFault>) -> Ending
+    ensures value { result ≡ ending_of_server served }
+    ensures words { status_of result ≢ 2 }
+{
+    match served {
+        Ok(()) => Ending::Done,
+        Err(ServerFault::Write) => Ending::Failed(Failure::Write),
+        Err(ServerFault::Accept) => Ending::Failed(Failure::Read),
+        Err(ServerFault::Store) => Ending::Failed(Failure::Store),
+    }
+}
+
+/// Serves so many connections by a registry, one after another. Where the port can't be had, that is a fault of what is read.
+pub fn serve_registry<S: Shelf, W: Write + Drop>(
+    rt: &HostRuntime,
+    registry: &mut Registry<S>,
+    serving: Serving,
+    writer: &mut BufWriter<W>,
+) -> Ending
+    ensures words { status_of result ≢ 2 }
+{
+    let Ok(listener) = TcpListener::bind(rt, ("127.0.0.1", serving.port)) else {
+        return Ending::Failed(Failure::Read);
+    };
+    ending_of(serve(
+        rt.alloc(),
+        rt,
+        registry,
+        &listener,
+        serving.port,
+        serving.count,
+        writer,
+    ))
+}

@@ -1,0 +1,193 @@
+-- What files that were opened and closed tell of the database.
+use Rattle.std.proofs.Common.{◌≡◌, ◌⊎◌, ◌≤◌, ◌∙◌, inl, inr, refl, sym, ap, subst, cond, ℕ, List, Option, Some, None, IfSome, arith, Bool, true, false}
+use Rattle.std.specs.Prelude.{IsTrue}
+use Rattle.sqlite_disk.specs.declared.Disk.{Ghosts}
+use Rattle.sqlite_disk.specs.declared.Files.{Files}
+use Rattle.sqlite.specs.declared.file.Leftover.{Leftover}
+use Rattle.sqlite.specs.declared.error.Error.{Error}
+use Rattle.sqlite.specs.declared.error.Error.TheVariants.{SqliteFailure}
+use Rattle.sqlite.specs.declared.error.ErrorCode.TheVariants.{OutOfMemory}
+use Rattle.sqlite_wal.proofs.LogLemmas.{SeenMayStay}
+use Rattle.sqlite_store.specs.FileStore.{recovers}
+use Rattle.sqlite_store.specs.Laws.{settled_at}
+use Rattle.sqlite_store.specs.declared.store.FileStore.{FileStore}
+use Rattle.sqlite.specs.declared.file.Leftover.TheVariants as rest
+use Rattle.sqlite.specs.Files.{file_state, AreFound, FailsToOpenFiles, Finds, LeavesFiles}
+use Rattle.sqlite.specs.Held.{Held}
+use Rattle.sqlite.specs.Tree.{Trees}
+use Rattle.sqlite.specs.Effect.{Database}
+use Rattle.sqlite.specs.State.{State, HasCleanDisk, Survives}
+use Rattle.sqlite_trees.specs.View.{doubt}
+use Rattle.goo_tables_rows.specs.Rows.{tables_of}
+use Rattle.goo_tables_holdings.specs.Changes.{begun}
+use Rattle.goo_tables_rows.proofs.Committed.{holds_from}
+use Rattle.goo_tables_rows.proofs.Decoded.{decoded}
+use Rattle.goo_tables_rows.specs.Columns.{registry_schema}
+use Rattle.goo_tables_rows.specs.Rows.{Tables}
+use Rattle.goo_tables_rows.specs.Stands.{doubts, Holds, Rests}
+use Rattle.goo_spec.specs.Created.{created}
+use Rattle.goo_spec_tables.specs.Kept.{AreKept}
+use Rattle.goo_store.proofs.Created.{begun_kept, begun_state}
+use Rattle.goo_store.specs.Creating.{IsFirst, meta_of}
+use Rattle.goo_types.specs.Day.{CalendarDay}
+use Rattle.goo_spec_tables.specs.States.{state_of}
+use Rattle.goo_store_lookups.specs.Holding.{sure}
+use Rattle.goo_store_lookups.specs.Moments.{IsWell, OpensAs, tables_in}
+use Rattle.goo_spec.specs.State as registry
+use Rattle.goo_store_open.specs.declared.fault.OpenFault.{OpenFault}
+use Rattle.goo_store_open.specs.declared.fault.OpenFault.TheVariants as opening
+use Rattle.goo_cli_ending.specs.declared.ending.Denial.TheVariants.{AlreadyThere}
+use Rattle.goo_cli_ending.specs.declared.ending.Ending.{Ending}
+use Rattle.goo_cli_ending.specs.declared.ending.Ending.TheVariants.{Denied, Failed}
+use Rattle.goo_cli_ending.specs.declared.ending.Failure.{Failure}
+use Rattle.goo_cli_ending.specs.Endings.{failure_of_desk, status_of}
+use Rattle.goo_types.specs.declared.fault.Fault.{Fault}
+use Rattle.goo_types.specs.declared.fault.Fault.TheVariants as desk
+use Rattle.goo_desk_lines.specs.Fold.{lines}
+use Rattle.goo_cli_registry.specs.Openings.{ending_of_opening, failure_of_opening, IsBlamed, IsRun}
+use Rattle.goo_cli_registry.specs.Closings.{HoldRegistry, HoldState, IfRefused, IfWhole, IsClean, IsKept, IsMade, LeavesOr, SparesOrMakes, is_whole}
+use Rattle.goo_cli.specs.declared.task.Opening.{Opening}
+use Rattle.goo_cli_registry.specs.declared.start.Start.TheVariants.{New, Kept}
+use Rattle.goo_cli_registry.specs.declared.closing.Left.{Left}
+use Rattle.goo_cli_registry.specs.declared.closing.Left.TheVariants as left
+
+-- what told no lie is in no doubt
+pub honest : (clean : Bool) → clean ≡ true → doubt clean ≡ 0
+unfolding doubt
+honest true same = refl
+honest false same = ap {B = ℕ} (λ (b : Bool). cond b 0 1) same
+
+pub blamed : {D : Type 0} {g : Ghosts D} (files : Files D) (left : Leftover D g) (e : Error) → FailsToOpenFiles files left e → (e ≡ SqliteFailure OutOfMemory → ⊥) → IsBlamed files left
+blamed files left e (inl memory) other = absurd (other memory)
+blamed files left e (inr (inl refused)) other = inl refused.1
+blamed files left e (inr (inr (inl fault))) other = inr (inl fault.1)
+blamed files left e (inr (inr (inr full))) other = inr (inr full.1)
+
+-- a registry that is opened is that of the tables that were there
+pub opened_as : (old new : State) → (HasCleanDisk new → Rests old new) → doubts new ≡ 0 → state_of (tables_in new) ≡ state_of (tables_in old)
+opened_as old new rests none =
+    let them = sure new none in
+    ap (λ (d : Database). state_of (tables_of d.trees)) ((rests them.0).now them.1)
+
+-- no fault of opening is told as an end of lines that were answered
+pub not_run : (fault : OpenFault) → IsRun (Failed (failure_of_opening fault)) → ⊥
+not_run opening.Memory told = told
+not_run opening.AlreadyThere told = told
+not_run opening.NotARegistry told = told
+not_run (opening.Version version) told = told
+not_run opening.Damaged told = told
+not_run opening.Store told = told
+
+-- what is whole and holds a new registry is one
+pub made_whole : {D : Type 0} {g : Ghosts D} (rest : Left D g) (s : registry.State) → IsTrue (is_whole rest) → IfWhole rest (λ files. HoldState g files s) → IsMade rest s
+made_whole (left.Whole files) s whole holds = holds
+made_whole (left.Refused rest) s whole holds = absurd (omega (arith, ap {B = ℕ} (λ (b : Bool). cond b 1 0) whole))
+made_whole (left.Parts rest) s whole holds = absurd (omega (arith, ap {B = ℕ} (λ (b : Bool). cond b 1 0) whole))
+
+-- what told no lie in the end told none before
+pub clean_before : (a b : Bool) → doubt a ≤ doubt b → b ≡ true → doubt a ≡ 0
+clean_before a b rises clean = omega (arith, rises, honest b clean)
+
+pub not_both : desk.Memory ≡ desk.Store → ⊥
+not_both e = cc e
+
+-- want of memory and a fault of the files are words of opening
+pub word_of_desk : (fault : Fault) (told : Failure) → told ≡ failure_of_desk fault → (word : OpenFault) × (Failed told ≡ ending_of_opening word)
+word_of_desk desk.Store told e = (opening.Store, ap Failed e)
+word_of_desk desk.Memory told e = (opening.Memory, ap Failed e)
+
+-- a state that files hold, told otherwise
+pub whole_as : {D : Type 0} {g : Ghosts D} (rest : Left D g) (seen : State) (s t : registry.State) → (IsClean rest → HasCleanDisk seen) → (HasCleanDisk seen → s ≡ t) → IfWhole rest (λ files. HoldState g files s) → IfWhole rest (λ files. HoldState g files t)
+whole_as (left.Whole files) seen s t clean same holds = λ sure. subst (HoldRegistry _ files) (same (clean sure)) (holds sure)
+whole_as (left.Refused rest) seen s t clean same holds = tt
+whole_as (left.Parts rest) seen s t clean same holds = tt
+
+kept_in : {D : Type 0} {g : Ghosts D} (rest : Left D g) (s t : registry.State) → s ≡ t → IfWhole rest (λ files. HoldState g files s) → IfWhole rest (λ files. HoldState g files t)
+kept_in (left.Whole files) s t same holds = λ sure. subst (HoldRegistry _ files) same (holds sure)
+kept_in (left.Refused rest) s t same holds = tt
+kept_in (left.Parts rest) s t same holds = tt
+
+-- what the lines come to is held
+pub kept_begun : {D : Type 0} {g : Ghosts D} (rest : Left D g) (read : Option (List ℕ)) (s seen begun : registry.State) → seen ≡ begun → IfSome read (λ input. s ≡ (lines seen input).state) → IfWhole rest (λ files. HoldState g files s) → IfSome read (λ input. IfWhole rest (λ files. HoldState g files (lines begun input).state))
+kept_begun rest None s seen begun same told holds = tt
+kept_begun rest (Some input) s seen begun same told holds = kept_in rest s (lines begun input).state (told ∙ ap (λ (m : registry.State). (lines m input).state) same) holds
+
+-- what was committed last opens as the state that is seen
+pub opens_committed : (s : State) → IsWell s → doubts s ≡ 0 → OpensAs s.committed.trees (Some (state_of (tables_in s)))
+opens_committed s well none =
+    subst (λ (d : Database). OpensAs d.trees (Some (state_of (tables_in s)))) (well.settled none) (holds_from s.now (tables_in s) (well.stands none), well.kept none, refl)
+
+-- trees that hold the tables of a new registry open as it
+opens_begun : (code : ℕ) (today : CalendarDay) (next_serial : ℕ) → IsFirst code today next_serial → (db : Trees) → Holds (begun (meta_of code today next_serial)) db → OpensAs db (Some (created code today next_serial))
+opens_begun code today next_serial it db holds =
+    subst (λ (t : Tables). Holds t db × AreKept t × (created code today next_serial ≡ state_of t)) (sym (decoded (record { schema = registry_schema; trees = db }) (begun (meta_of code today next_serial)) holds))
+    (holds, begun_kept code today next_serial it, sym (begun_state code today next_serial it))
+
+pub begun_or : (code : ℕ) (today : CalendarDay) (next_serial : ℕ) → IsFirst code today next_serial → (old new : State) → Survives old new (Holds (begun (meta_of code today next_serial)))
+    → HasCleanDisk new → (db : Trees) → new.may_leave db → old.may_leave db ⊎ OpensAs db (Some (created code today next_serial))
+begun_or code today next_serial it old new survives clean db may = go (survives.crash clean db may)
+  where
+    go : old.may_leave db ⊎ Holds (begun (meta_of code today next_serial)) db → old.may_leave db ⊎ OpensAs db (Some (created code today next_serial))
+    go (inl before) = inl before
+    go (inr holds) = inr (opens_begun code today next_serial it db holds)
+
+module _ {D : Type 0} {g : Ghosts D} (files : Files D) where
+  -- what an opened connection may leave is what it found
+  found_as : SeenMayStay g → (conn : Held (FileStore D g)) → IsTrue (file_state conn).is_open → Finds files conn → (found : Trees) → recovers conn.store found
+      → AreFound g files found × ((db : Trees) → Rattle.sqlite.specs.Files.HoldsDatabase (Rattle.sqlite.specs.Files.image_of g files) db → found ≡ db)
+  found_as stays conn live finds found may =
+      let same = settled_at conn.store stays found live may in
+      (subst (AreFound g files) (sym same) finds.reads, λ db held. same ∙ finds.holds db held)
+
+  pub leaves_store : SeenMayStay g → (conn : Held (FileStore D g)) → IsTrue (file_state conn).is_open → Finds files conn → (it : FileStore D g)
+      → ((db : Trees) → recovers it db → recovers conn.store db) → LeavesFiles files (rest.Store it)
+  leaves_store stays conn live finds it same = λ found may. found_as stays conn live finds found (same found may)
+
+  pub leaves_or_made : SeenMayStay g → (conn : Held (FileStore D g)) → IsTrue (file_state conn).is_open → Finds files conn → (s : registry.State) → (it : FileStore D g)
+      → ((db : Trees) → recovers it db → recovers conn.store db ⊎ OpensAs db (Some s)) → LeavesOr files s (rest.Store it)
+  leaves_or_made stays conn live finds s it same = λ found may. go found (same found may)
+    where
+      go : (found : Trees) → recovers conn.store found ⊎ OpensAs found (Some s) → (AreFound g files found × ((db : Trees) → Rattle.sqlite.specs.Files.HoldsDatabase (Rattle.sqlite.specs.Files.image_of g files) db → found ≡ db)) ⊎ OpensAs found (Some s)
+      go found (inl before) = inl (found_as stays conn live finds found before)
+      go found (inr made) = inr made
+
+  pub leaves_or : (s : registry.State) (left : Leftover D g) → LeavesFiles files left → LeavesOr files s left
+  leaves_or s (rest.Files now) leaves = leaves
+  leaves_or s (rest.Unopened now) leaves = leaves
+  leaves_or s (rest.Store now) leaves = λ found may. inl (leaves found may)
+
+  pub kept_spares : (s : registry.State) (left : Left D g) → IsKept s left → SparesOrMakes files s left
+  kept_spares s (left.Whole now) kept = kept
+  kept_spares s (left.Refused rest) kept = absurd kept
+  kept_spares s (left.Parts (rest.Files now)) kept = absurd kept
+  kept_spares s (left.Parts (rest.Unopened now)) kept = absurd kept
+  kept_spares s (left.Parts (rest.Store now)) kept = λ found may. inr (kept found may)
+
+pub not_refused : {D : Type 0} {g : Ghosts D} (rest : Left D g) (holds : Leftover D g → Type 0) → IfRefused rest (λ _. ⊥) → IfRefused rest holds
+not_refused (left.Whole files) holds none = tt
+not_refused (left.Refused rest) holds none = absurd none
+not_refused (left.Parts rest) holds none = tt
+
+told_as : (fault : OpenFault) (told : Ending) → told ≡ ending_of_opening fault → status_of told ≡ status_of (ending_of_opening fault)
+told_as fault told is = ap status_of is
+
+-- status 1 tells that a registry is there
+pub denied : (fault : OpenFault) (told : Ending) → told ≡ ending_of_opening fault → status_of told ≡ 1 → told ≡ Denied AlreadyThere
+denied opening.AlreadyThere told is one = is
+denied opening.Memory told is one = let three : status_of told ≡ 3 = told_as opening.Memory told is in absurd (omega (arith, three, one))
+denied opening.NotARegistry told is one = let three : status_of told ≡ 3 = told_as opening.NotARegistry told is in absurd (omega (arith, three, one))
+denied (opening.Version version) told is one = let three : status_of told ≡ 3 = told_as (opening.Version version) told is in absurd (omega (arith, three, one))
+denied opening.Damaged told is one = let three : status_of told ≡ 3 = told_as opening.Damaged told is in absurd (omega (arith, three, one))
+denied opening.Store told is one = let three : status_of told ≡ 3 = told_as opening.Store told is in absurd (omega (arith, three, one))
+
+-- and it tells nothing else
+pub only_there : (fault : OpenFault) → ending_of_opening fault ≡ Denied AlreadyThere → fault ≡ opening.AlreadyThere
+only_there opening.AlreadyThere is = refl
+only_there opening.Memory is = absurd cc
+only_there opening.NotARegistry is = absurd cc
+only_there (opening.Version version) is = absurd cc
+only_there opening.Damaged is = absurd cc
+only_there opening.Store is = absurd cc
+
+pub new_not_kept : (opening : Opening) → New opening ≡ Kept → ⊥
+new_not_kept opening same = cc same

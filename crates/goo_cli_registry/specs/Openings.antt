@@ -1,0 +1,75 @@
+-- How a registry is begun, and why it isn't.
+use Rattle.std.specs.Prelude.{◌⊎◌, ℕ, ◌+◌, ◌/◌, ◌%◌, List, [], ◌∷◌, ◌++◌, codes, Some}
+use Rattle.sqlite_disk.specs.declared.Disk.{Ghosts}
+use Rattle.sqlite_disk.specs.declared.Files.{Files}
+use Rattle.sqlite_disk.specs.Disk.{MoreFaults}
+use Rattle.sqlite.specs.declared.file.Leftover.{Leftover}
+use Rattle.sqlite.specs.Files.{image_of, faults_of, faults_left, HoldsDatabase, IsFullLeft, IsNothing}
+use Rattle.sqlite.specs.Tree.{Trees}
+use Rattle.sqlite.specs.State as sqlite
+use Rattle.goo_spec.specs.State.{State}
+use Rattle.goo_spec.specs.Created.{created}
+use Rattle.goo_spec_tables.specs.States.{state_of}
+use Rattle.goo_store_lookups.specs.Moments.{tables_in, OpensAs}
+use Rattle.goo_store_open.specs.declared.fault.OpenFault.{OpenFault}
+use Rattle.goo_store_open.specs.declared.fault.OpenFault.TheVariants as opening
+use Rattle.goo_cli_ending.specs.declared.ending.Ending.{Ending}
+use Rattle.goo_cli_ending.specs.declared.ending.Ending.TheVariants as ending
+use Rattle.goo_cli_ending.specs.declared.ending.Denial.TheVariants as denial
+use Rattle.goo_cli_ending.specs.declared.ending.Failure.{Failure}
+use Rattle.goo_cli_ending.specs.declared.ending.Failure.TheVariants as failure
+use Rattle.goo_cli_registry.specs.declared.start.Start.{Start}
+use Rattle.goo_cli_registry.specs.declared.start.Start.TheVariants.{New, Kept}
+
+-- the state that a run begins with, over what the database holds
+abbrev pub begun : Start → sqlite.State → State
+begun (New opening) s = created opening.code opening.today opening.next_serial
+begun Kept s = state_of (tables_in s)
+
+-- what a start that failed may have committed nevertheless, where a crash follows: a new registry, or nothing
+abbrev pub MayBegin : Start → Trees → Type 0
+MayBegin (New opening) db = OpensAs db (Some (created opening.code opening.today opening.next_serial))
+MayBegin Kept db = ⊥
+
+-- why there is no registry to run; a new one is made in an empty database alone
+abbrev pub failure_of_opening : OpenFault → Failure
+failure_of_opening opening.Memory = failure.Memory
+failure_of_opening opening.AlreadyThere = failure.Store
+failure_of_opening opening.NotARegistry = failure.NotARegistry
+failure_of_opening (opening.Version version) = failure.Version version
+failure_of_opening opening.Damaged = failure.Damaged
+failure_of_opening opening.Store = failure.Store
+
+-- how the program ends where none was made
+abbrev pub ending_of_opening : OpenFault → Ending
+ending_of_opening opening.AlreadyThere = ending.Denied denial.AlreadyThere
+ending_of_opening opening.Memory = ending.Failed failure.Memory
+ending_of_opening opening.NotARegistry = ending.Failed failure.NotARegistry
+ending_of_opening (opening.Version version) = ending.Failed (failure.Version version)
+ending_of_opening opening.Damaged = ending.Failed failure.Damaged
+ending_of_opening opening.Store = ending.Failed failure.Store
+
+-- what is written where a registry of this code was made
+abbrev pub ready_text : ℕ → List ℕ
+ready_text code = codes "ready " ++ (48 + code / 10) ∷ (48 + code % 10) ∷ codes "\n"
+
+-- what is told only of lines that were answered by a registry, or of the streams that they came and went by
+abbrev pub IsRun : Ending → Type 0
+IsRun ending.Done = Unit {0}
+IsRun ending.PartlyDone = Unit {0}
+IsRun (ending.Denied denial) = ⊥
+IsRun (ending.Words error) = ⊥
+IsRun (ending.Misused reason) = ⊥
+IsRun (ending.Failed failure.Read) = Unit {0}
+IsRun (ending.Failed failure.Write) = Unit {0}
+IsRun (ending.Failed failure.Store) = ⊥
+IsRun (ending.Failed failure.Memory) = ⊥
+IsRun (ending.Failed failure.NotARegistry) = ⊥
+IsRun (ending.Failed (failure.Version version)) = ⊥
+IsRun (ending.Failed failure.Damaged) = ⊥
+
+-- files that could not be opened, other than for want of memory: they hold no database, and could not become one, or a call failed
+abbrev pub IsBlamed : {D : Type 0} {g : Ghosts D} → Files D → Leftover D g → Type 0
+IsBlamed {D} {g} files left =
+    (¬ (((db : Trees) × HoldsDatabase (image_of g files) db) ⊎ IsNothing (image_of g files)))
+    ⊎ (MoreFaults (faults_of g files) (faults_left left) ⊎ IsFullLeft left)

@@ -1,0 +1,57 @@
+//! A registry closed, so that its file alone is the whole of it.
+ghost use Rattle.std.specs.Prelude.{◌≡◌};
+ghost use Rattle.sqlite.specs.Files.{file_state};
+ghost use Rattle.sqlite.specs.State.{HasCleanDisk};
+ghost use Rattle.goo_store_lookups.specs.Moments.{moment};
+ghost use Rattle.goo_cli_registry.specs.Closings.{is_whole, IfWhole, IfRefused, IsClean, IsKept, HoldState};
+
+use goo_store::sql_shelf::SqlShelf;
+use sqlite::{FileStore, Files, Leftover};
+use sqlite_disk::Disk;
+
+/// What is left of the files of a registry.
+pub enum Left<D: Disk> {
+    /// The log is copied into the database file, which alone is the registry.
+    Whole(Files<D>),
+    /// No registry was opened, and nothing was committed.
+    Refused(Leftover<D>),
+    /// The log was not copied: it belongs to the database file, and the next opening finds what both hold.
+    Parts(Leftover<D>),
+}
+
+// Written out, so that no caller proves again how each part is dropped.
+impl<D: Disk + Drop> Drop for Left<D> {
+    fn drop(self) {
+        match self {
+            Left::Whole(_files) => {}
+            Left::Refused(_left) => {}
+            Left::Parts(_left) => {}
+        }
+    }
+}
+
+impl<D: Disk> Left<D> {
+    /// Whether the database file alone is the registry.
+    pub fn is_whole(&self) -> bool
+        ensures { result ≡ is_whole self.now }
+    {
+        match self {
+            Left::Whole(_) => true,
+            Left::Refused(_) | Left::Parts(_) => false,
+        }
+    }
+}
+
+/// Copies the log into the database file and closes the database. Where that fails, what was committed stands, and the next
+/// opening finds it.
+pub fn close_registry<D: Disk + Drop>(shelf: SqlShelf<FileStore<D>>) -> Left<D>
+    ensures clean { IsClean result → HasCleanDisk (file_state shelf.conn) }
+    ensures whole { IfWhole result (λ files. HoldState D.Disk files (moment (file_state shelf.conn) shelf.refused).state) }
+    ensures opened { IfRefused result (λ _. ⊥) }
+    ensures kept { (moment (file_state shelf.conn) shelf.refused).doubts ≡ 0 → IsKept (moment (file_state shelf.conn) shelf.refused).state result }
+{
+    match shelf.into_connection().close_files() {
+        Ok(files) => Left::Whole(files),
+        Err((_, store)) => Left::Parts(Leftover::Store(store)),
+    }
+}

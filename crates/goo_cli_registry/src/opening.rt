@@ -1,0 +1,140 @@
+//! A registry opened, over a database or over files.
+ghost use Rattle.std.specs.Prelude.{◌≡◌, ◌≢◌, ◌⊎◌, false, IsTrue, IfOk, IfErr, Err};
+ghost use Rattle.sqlite.specs.Files.{file_state, image_of, Finds, HoldsDatabase, IsCleanLeft, IsOpened, LeavesFiles};
+ghost use Rattle.sqlite.specs.Held.{IsNew, state as view};
+ghost use Rattle.sqlite.specs.State.{HasCleanDisk};
+ghost use Rattle.sqlite.specs.Tree.{Trees};
+ghost use Rattle.goo_tables_rows.specs.Met.{IsInKeyOrder};
+ghost use Rattle.goo_tables_rows.specs.Rows.{tables_of};
+ghost use Rattle.goo_spec_tables.specs.States.{state_of};
+ghost use Rattle.goo_store_lookups.specs.Moments.{moment};
+ghost use Rattle.goo_store_open.specs.Foreign.{LacksMeta};
+ghost use Rattle.goo_ranges_rows.specs.Rows.{AreRowsOf};
+ghost use Rattle.goo_core_shelf.specs.Shelf.{IsReady};
+ghost use Rattle.goo_spec.specs.Sound.{IsSound};
+ghost use Rattle.goo_cli_registry.specs.Openings.{begun, failure_of_opening, IsBlamed, MayBegin};
+
+use crate::start::Start;
+use goo_cli_ending::Failure;
+use goo_store::sql_shelf::SqlShelf;
+use goo_store_open::connecting::open_ordered;
+use goo_store_open::fault::OpenFault;
+use goo_types::fault::Fault;
+use sqlite::{Alter, Connection, Error, ErrorCode, FileStore, Files, Leftover, Options};
+use sqlite_disk::Disk;
+use std::alloc::Global;
+
+/// The word for what kept files from being opened.
+fn word_for(error: Error) -> Fault
+    ensures { error ≡ Error.SqliteFailure ErrorCode.OutOfMemory → result ≡ Fault.Memory }
+{
+    match error {
+        Error::SqliteFailure(ErrorCode::OutOfMemory) => Fault::Memory,
+        _ => Fault::Store,
+    }
+}
+
+/// The database that files hold, or a new one where they are empty. `seed` is what the salts of a new log begin with.
+///
+/// # Errors
+///
+/// What is left of the files, with `Memory` where memory was refused, and `Store` where a call of a file failed or they hold
+/// no database.
+pub fn open_database<D: Disk + Drop>(
+    alloc: Global,
+    files: Files<D>,
+    seed: u64,
+) -> Result<Connection<FileStore<D>>, (Fault, Leftover<D>)>
+    requires log { IsTrue (D.Disk.is_usable files.log) }
+    requires db { IsTrue (D.Disk.is_usable files.db) }
+    ensures fresh { IfOk result IsNew }
+    ensures ordered { IfOk result (λ conn. HasCleanDisk (file_state conn) → IsInKeyOrder (file_state conn).now) }
+    ensures opened { IfOk result (λ conn. HasCleanDisk (file_state conn) → IsOpened conn) }
+    ensures found { IfOk result (λ conn. HasCleanDisk (file_state conn) → Finds files conn) }
+    ensures store { IfErr result (λ e. e.0 ≡ Fault.Store → IsCleanLeft e.1 → IsBlamed files e.1) }
+    ensures unharmed { IfErr result (λ e. IsCleanLeft e.1 → LeavesFiles files e.1) }
+{
+    match open_ordered(alloc, files, Options::new(seed)) {
+        Ok(conn) => Ok(conn),
+        Err((error, left)) => Err((word_for(error), left)),
+    }
+}
+
+/// Why there is no registry to run. A new one is made in an empty database alone, so none is there already.
+pub fn failure_of(fault: OpenFault) -> Failure
+    ensures { result ≡ failure_of_opening fault }
+{
+    match fault {
+        OpenFault::Memory => Failure::Memory,
+        OpenFault::NotARegistry => Failure::NotARegistry,
+        OpenFault::Version(version) => Failure::Version(version),
+        OpenFault::Damaged => Failure::Damaged,
+        OpenFault::AlreadyThere | OpenFault::Store => Failure::Store,
+    }
+}
+
+/// The registry that a run begins with, over a database.
+///
+/// # Errors
+///
+/// As `SqlShelf::create` and `SqlShelf::open`: the database, unchanged. After a crash that follows, a new registry may be there.
+pub fn begin<S: Alter>(
+    alloc: Global,
+    conn: Connection<S>,
+    start: Start,
+) -> Result<SqlShelf<S>, (Connection<S>, OpenFault)>
+    requires outside { conn.in_transaction ≡ false }
+    requires ordered { HasCleanDisk (view S.Store conn) → IsInKeyOrder (view S.Store conn).now }
+    ensures state { IfOk result (λ shelf. (moment (view S.Store shelf.conn) shelf.refused).doubts ≡ 0 → (moment (view S.Store shelf.conn) shelf.refused).state ≡ begun start (view S.Store conn)) }
+    ensures sound { IfOk result (λ shelf. (moment (view S.Store shelf.conn) shelf.refused).doubts ≡ 0 → IsSound (moment (view S.Store shelf.conn) shelf.refused).state) }
+    ensures rows_fit { IfOk result (λ shelf. (moment (view S.Store shelf.conn) shelf.refused).doubts ≡ 0 → AreRowsOf (moment (view S.Store shelf.conn) shelf.refused).state.at (moment (view S.Store shelf.conn) shelf.refused).rows) }
+    ensures ready { IfOk result (λ shelf. IsReady (moment (view S.Store shelf.conn) shelf.refused)) }
+    ensures lacking { start ≡ Start.Kept → LacksMeta (view S.Store conn).now.schema → result ≡ Err (conn, OpenFault.NotARegistry) }
+    ensures outside { IfErr result (λ e. e.0.in_transaction ≡ false) }
+    ensures there { IfErr result (λ e. e.1 ≡ OpenFault.AlreadyThere → start ≢ Start.Kept → e.0 ≡ conn) }
+    ensures clean { IfErr result (λ e. HasCleanDisk (view S.Store e.0) → HasCleanDisk (view S.Store conn)) }
+    ensures crash { IfErr result (λ e. HasCleanDisk (view S.Store e.0) → (db : Trees) → (view S.Store e.0).may_leave db → (view S.Store conn).may_leave db ⊎ MayBegin start db) }
+{
+    match start {
+        Start::New(opening) => {
+            let _code = opening.code.get();
+            let _serial = opening.next_serial.get();
+            let _day = opening.today.text();
+            SqlShelf::create(
+                alloc,
+                conn,
+                opening.code,
+                opening.next_serial,
+                opening.today,
+            )
+        }
+        Start::Kept => SqlShelf::open(alloc, conn),
+    }
+}
+
+/// The registry that files hold.
+///
+/// # Errors
+///
+/// What is left of the files, with why there is no registry. What they held is unharmed.
+pub fn open_registry<D: Disk + Drop>(
+    alloc: Global,
+    files: Files<D>,
+    seed: u64,
+) -> Result<SqlShelf<FileStore<D>>, (Failure, Leftover<D>)>
+    requires log { IsTrue (D.Disk.is_usable files.log) }
+    requires db { IsTrue (D.Disk.is_usable files.db) }
+    ensures state { IfOk result (λ shelf. (db : Trees) → HoldsDatabase (image_of D.Disk files) db → (moment (file_state shelf.conn) shelf.refused).doubts ≡ 0 → (moment (file_state shelf.conn) shelf.refused).state ≡ state_of (tables_of db)) }
+    ensures sound { IfOk result (λ shelf. (moment (file_state shelf.conn) shelf.refused).doubts ≡ 0 → IsSound (moment (file_state shelf.conn) shelf.refused).state) }
+    ensures rows_fit { IfOk result (λ shelf. (moment (file_state shelf.conn) shelf.refused).doubts ≡ 0 → AreRowsOf (moment (file_state shelf.conn) shelf.refused).state.at (moment (file_state shelf.conn) shelf.refused).rows) }
+    ensures ready { IfOk result (λ shelf. IsReady (moment (file_state shelf.conn) shelf.refused)) }
+    ensures unharmed { IfErr result (λ e. IsCleanLeft e.1 → LeavesFiles files e.1) }
+{
+    match open_database(alloc, files, seed) {
+        Ok(conn) => match SqlShelf::open(alloc, conn) {
+            Ok(shelf) => Ok(shelf),
+            Err((conn, fault)) => Err((failure_of(fault), Leftover::Store(conn.into_store()))),
+        },
+        Err((fault, left)) => Err((Failure::from(fault), left)),
+    }
+}

@@ -1,0 +1,150 @@
+//! The command `run`.
+ghost use Rattle.std.specs.Prelude.{◌≡◌, ◌≢◌, ◌<◌, [], false, IfSome, IsTrue};
+ghost use Rattle.std.specs.Io.Buffered.{writer_buffer, writer_contents};
+ghost use Rattle.std.specs.Io.KnownBytes.{Appends};
+ghost use Rattle.sqlite.specs.Files.{image_of, HoldsDatabase, LeavesFiles};
+ghost use Rattle.sqlite.specs.Held.{state as view};
+ghost use Rattle.sqlite.specs.State.{HasCleanDisk};
+ghost use Rattle.sqlite.specs.Tree.{Trees};
+ghost use Rattle.sqlite_trees.specs.View.{doubt};
+ghost use Rattle.goo_tables_rows.specs.Met.{IsInKeyOrder};
+ghost use Rattle.goo_tables_rows.specs.Rows.{tables_of};
+ghost use Rattle.goo_spec_tables.specs.States.{state_of};
+ghost use Rattle.goo_store_lookups.specs.Moments.{IsWell};
+ghost use Rattle.goo_spec.specs.Created.{created};
+ghost use Rattle.goo_desk_lines.specs.Fold.{lines};
+ghost use Rattle.goo_cli_ending.specs.Endings.{status_of, IsToldOf};
+ghost use Rattle.goo_store_open.specs.Foreign.{LacksMeta};
+ghost use Rattle.goo_cli_registry.specs.Openings.{begun, IsRun};
+ghost use Rattle.goo_cli_registry.specs.Closings.{IfRefused, IfWhole, IsClean, HoldState};
+
+use crate::closing::{Left, close_registry};
+use crate::opening::{begin, failure_of, open_database, open_registry};
+use crate::start::Start;
+use goo_cli::Opening;
+use goo_cli_ending::{Ending, Failure, answer_input};
+use goo_core_shelf::shelf::Shelf;
+use goo_registry::Registry;
+use goo_store_memory::MemoryFile;
+use sqlite::{Alter, Connection, Files};
+use sqlite_disk::Disk;
+use std::alloc::Global;
+use std::io::{BufWriter, Read, Write};
+
+/// The number that the salts of the log in memory begin with. Nobody but this process reads it, so any number does.
+pub const SALT: u64 = 7;
+
+/// Answers the lines of an input by a registry, and hands back what keeps its records. What is said holds so long as that
+/// returned what was written.
+pub fn answer_by<S: Shelf, R: Read, W: Write + Drop>(
+    alloc: Global,
+    registry: Registry<S>,
+    reader: &mut R,
+    writer: &mut BufWriter<W>,
+) -> (Ending, S)
+    ensures all_done { (S.seen result.1).lies ≡ 0 → status_of result.0 ≡ 0 → IfSome (R.remaining reader.old) (λ input. (lines (S.seen registry.shelf).state input).bad ≡ 0) }
+    ensures not_all_done { (S.seen result.1).lies ≡ 0 → status_of result.0 ≡ 1 → IfSome (R.remaining reader.old) (λ input. (lines (S.seen registry.shelf).state input).bad ≢ 0) }
+    ensures written { (S.seen result.1).lies ≡ 0 → status_of result.0 < 2 → IfSome (R.remaining reader.old) (λ input. Appends (writer_contents W.contents writer.old) (writer_contents W.contents writer.new) (lines (S.seen registry.shelf).state input).text) }
+    ensures kept { (S.seen result.1).lies ≡ 0 → status_of result.0 < 2 → IfSome (R.remaining reader.old) (λ input. (S.seen result.1).state ≡ (lines (S.seen registry.shelf).state input).state) }
+    ensures flushed { status_of result.0 < 2 → writer_buffer writer.new ≡ [] }
+    ensures no_words { status_of result.0 ≢ 2 }
+    ensures told { (S.seen registry.shelf).refusals ≡ 0 → IsToldOf result.0 (S.seen result.1).refusals }
+    ensures lied { (S.seen result.1).lies ≡ 0 → (S.seen registry.shelf).lies ≡ 0 }
+{
+    let mut registry = registry;
+    let ending = answer_input(alloc, &mut registry, reader, writer);
+    (ending, registry.into_shelf())
+}
+
+/// Answers the lines of an input by the registry of a database, new or kept, and hands the database back.
+pub fn answer_by_tables<S: Alter, R: Read, W: Write + Drop>(
+    alloc: Global,
+    conn: Connection<S>,
+    start: Start,
+    reader: &mut R,
+    writer: &mut BufWriter<W>,
+) -> (Ending, Connection<S>)
+    requires outside { conn.in_transaction ≡ false }
+    requires ordered { HasCleanDisk (view S.Store conn) → IsInKeyOrder (view S.Store conn).now }
+    ensures all_done { doubt (view S.Store result.1).is_clean ≡ 0 → status_of result.0 ≡ 0 → IfSome (R.remaining reader.old) (λ input. (lines (begun start (view S.Store conn)) input).bad ≡ 0) }
+    ensures not_all_done { doubt (view S.Store result.1).is_clean ≡ 0 → status_of result.0 ≡ 1 → IfSome (R.remaining reader.old) (λ input. (lines (begun start (view S.Store conn)) input).bad ≢ 0) }
+    ensures written { doubt (view S.Store result.1).is_clean ≡ 0 → status_of result.0 < 2 → IfSome (R.remaining reader.old) (λ input. Appends (writer_contents W.contents writer.old) (writer_contents W.contents writer.new) (lines (begun start (view S.Store conn)) input).text) }
+    ensures flushed { status_of result.0 < 2 → writer_buffer writer.new ≡ [] }
+    ensures no_words { status_of result.0 ≢ 2 }
+    ensures lacking { start ≡ Start.Kept → LacksMeta (view S.Store conn).now.schema → result ≡ (Ending.Failed Failure.NotARegistry, conn) }
+    ensures run { IsRun result.0 → IsWell (view S.Store result.1) }
+{
+    match begin(alloc, conn, start) {
+        Ok(shelf) => {
+            let (ending, shelf) = answer_by(alloc, Registry::new(shelf), reader, writer);
+            (ending, shelf.into_connection())
+        }
+        Err((conn, fault)) => (Ending::Failed(failure_of(fault)), conn),
+    }
+}
+
+/// Answers the lines of an input by a new registry whose records are tables in memory, and are gone when the program ends.
+///
+/// - `all_done`: status 0 only where no line was refused or unreadable.
+/// - `not_all_done`: status 1 only where some line was refused or unreadable.
+/// - `written`, `flushed`: with status 0 and 1, all outcomes of the lines are written after what the writer had, and none is
+///   left in its buffer.
+/// - `no_words`: it never says that the command line was at fault.
+pub fn run_in_memory<R: Read, W: Write + Drop>(
+    alloc: Global,
+    opening: Opening,
+    reader: &mut R,
+    writer: &mut BufWriter<W>,
+) -> Ending
+    ensures all_done { status_of result ≡ 0 → IfSome (R.remaining reader.old) (λ input. (lines (created opening.code opening.today opening.next_serial) input).bad ≡ 0) }
+    ensures not_all_done { status_of result ≡ 1 → IfSome (R.remaining reader.old) (λ input. (lines (created opening.code opening.today opening.next_serial) input).bad ≢ 0) }
+    ensures written { status_of result < 2 → IfSome (R.remaining reader.old) (λ input. Appends (writer_contents W.contents writer.old) (writer_contents W.contents writer.new) (lines (created opening.code opening.today opening.next_serial) input).text) }
+    ensures flushed { status_of result < 2 → writer_buffer writer.new ≡ [] }
+    ensures no_words { status_of result ≢ 2 }
+{
+    let files = Files {
+        log: MemoryFile::new(alloc),
+        db: MemoryFile::new(alloc),
+    };
+    let conn = match open_database(alloc, files, SALT) {
+        Ok(conn) => conn,
+        Err((fault, _left)) => return Ending::Failed(Failure::from(fault)),
+    };
+    let (ending, _conn) = answer_by_tables(alloc, conn, Start::New(opening), reader, writer);
+    ending
+}
+
+/// Answers the lines of an input by the registry that files hold, and closes it. What is said holds so long as the files
+/// returned what was written, and `db` is the database that they held.
+///
+/// - `all_done`, `not_all_done`, `written`, `flushed`, `no_words`: as for `run_in_memory`, from the state of the tables that were opened.
+/// - `kept`: with status 0 and 1, the database file alone holds the state that the lines come to, after a crash too, where the
+///   log could be copied into it.
+/// - `unharmed`: where there is no registry to run, no harm came to what the files held.
+///
+/// What a fault or a crash leaves is the shelf's: the lines that were answered, or one more.
+pub fn run_in_files<D: Disk + Drop, R: Read, W: Write + Drop>(
+    alloc: Global,
+    files: Files<D>,
+    seed: u64,
+    reader: &mut R,
+    writer: &mut BufWriter<W>,
+) -> (Ending, Left<D>)
+    requires log { IsTrue (D.Disk.is_usable files.log) }
+    requires db { IsTrue (D.Disk.is_usable files.db) }
+    ensures all_done { IsClean result.1 → (db : Trees) → HoldsDatabase (image_of D.Disk files) db → status_of result.0 ≡ 0 → IfSome (R.remaining reader.old) (λ input. (lines (state_of (tables_of db)) input).bad ≡ 0) }
+    ensures not_all_done { IsClean result.1 → (db : Trees) → HoldsDatabase (image_of D.Disk files) db → status_of result.0 ≡ 1 → IfSome (R.remaining reader.old) (λ input. (lines (state_of (tables_of db)) input).bad ≢ 0) }
+    ensures written { IsClean result.1 → (db : Trees) → HoldsDatabase (image_of D.Disk files) db → status_of result.0 < 2 → IfSome (R.remaining reader.old) (λ input. Appends (writer_contents W.contents writer.old) (writer_contents W.contents writer.new) (lines (state_of (tables_of db)) input).text) }
+    ensures kept { IsClean result.1 → (db : Trees) → HoldsDatabase (image_of D.Disk files) db → status_of result.0 < 2 → IfSome (R.remaining reader.old) (λ input. IfWhole result.1 (λ files. HoldState D.Disk files (lines (state_of (tables_of db)) input).state)) }
+    ensures flushed { status_of result.0 < 2 → writer_buffer writer.new ≡ [] }
+    ensures no_words { status_of result.0 ≢ 2 }
+    ensures unharmed { IsClean result.1 → IfRefused result.1 (LeavesFiles files) }
+{
+    match open_registry(alloc, files, seed) {
+        Ok(shelf) => {
+            let (ending, shelf) = answer_by(alloc, Registry::new(shelf), reader, writer);
+            (ending, close_registry(shelf))
+        }
+        Err((failure, left)) => (Ending::Failed(failure), Left::Refused(left)),
+    }
+}

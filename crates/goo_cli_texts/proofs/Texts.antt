@@ -1,0 +1,119 @@
+-- What an ending tells of a text, and of an import.
+use Rattle.std.proofs.Common.{arith, refl, ◌≡◌, ◌∙◌, ◌≢◌, ℕ, List, Bool, true, false, true≢false, Result, Ok, Err, Option, Some, None, is_ok, OnOk, IfOk, IsTrue}
+use Rattle.std.specs.Io.KnownBytes.{Appends, Keeps}
+use Rattle.goo_core_shelf.specs.Shelf.{Moment}
+use Rattle.goo_spec.specs.State.{State, Account}
+use Rattle.goo_spec.specs.Checks.{issuer}
+use Rattle.goo_core_answers.specs.declared.denial.Denial.{Denial}
+use Rattle.goo_registry.specs.Reads.{account_denial}
+use Rattle.goo_files.specs.declared.text_fault.TextFault.{TextFault}
+use Rattle.goo_files.specs.declared.text_fault.TextFault.TheVariants as text
+use Rattle.goo_files.specs.Writes.{Writes, Wrote}
+use Rattle.goo_files_import.specs.declared.cause.Cause.{Cause}
+use Rattle.goo_files_import.specs.declared.cause.Cause.TheVariants as cause
+use Rattle.goo_files_import.specs.declared.row_result.RowResult.{RowResult}
+use Rattle.goo_files_import.specs.Report.{report_text}
+use Rattle.goo_files_import.specs.Stands.{IsImported}
+use Rattle.goo_cli_ending.specs.declared.ending.Ending.{Ending}
+use Rattle.goo_cli_ending.specs.declared.ending.Ending.TheVariants as ending
+use Rattle.goo_cli_ending.specs.Endings.{status_of}
+use Rattle.goo_cli_texts.specs.Endings.{all_stand, ending_of_import, ending_of_text}
+use Rattle.goo_cli_texts.specs.Declaring.{Finishes, IsDeclared}
+
+-- what was appended stands behind what was there, after a flush too
+kept : (had between has : Option (List ℕ)) (text : List ℕ) → Appends had between text → Keeps between has → Appends had has text
+kept None between has text appended same = tt
+kept (Some xs) None has text appended same = absurd appended
+kept (Some xs) (Some ys) None text appended same = absurd same
+kept (Some xs) (Some ys) (Some zs) text appended same = rw same appended
+
+module _ (old new : Moment) (before mid after : Option (List ℕ)) (denial : Option Denial) (right : List ℕ → Type 0) where
+  pub shown : (result : Result (Unit {0}) TextFault) (out : Bool) → Writes old new before mid result denial (λ u given. right given) → Keeps mid after → new.lies ≡ 0 → status_of (ending_of_text result out) ≡ 0 → Wrote before after right
+  shown (Ok done) true writes keeps clean status =
+      let text = writes.whole (writes.looks.works clean) in
+      (text.0, text.1, kept before mid after text.0 text.2 keeps)
+  shown (Ok done) false writes keeps clean status = absurd (omega (arith, status))
+  shown (Err text.NotAllowed) out writes keeps clean status = absurd (omega (arith, status))
+  shown (Err text.Unknown) out writes keeps clean status = absurd (omega (arith, status))
+  shown (Err text.Write) out writes keeps clean status = absurd (omega (arith, status))
+  shown (Err text.Store) out writes keeps clean status = absurd (omega (arith, status))
+  shown (Err text.Memory) out writes keeps clean status = absurd (omega (arith, status))
+
+keeps_on : (had between has : Option (List ℕ)) → Keeps had between → Keeps between has → Keeps had has
+keeps_on None between has a b = tt
+keeps_on (Some xs) None has a b = absurd a
+keeps_on (Some xs) (Some ys) None a b = absurd b
+keeps_on (Some xs) (Some ys) (Some zs) a b = b ∙ a
+
+absent : (caller : List ℕ) → caller ≡ issuer → (row : Option Account) (why : Denial) → account_denial caller row ≡ Some why → row ≡ None
+absent caller same None why e = refl
+absent caller same (Some account) why e = cc (rw same at e)
+
+module _ (old new : Moment) (before mid : Option (List ℕ)) (caller : List ℕ) (same : caller ≡ issuer) (row : Option Account) (right : List ℕ → Type 0) where
+  pub unknown : (result : Result (Unit {0}) TextFault) (out : Bool) → Writes old new before mid result (account_denial caller row) (λ u given. right given) → new.lies ≡ 0 → status_of (ending_of_text result out) ≡ 1 → row ≡ None
+  unknown (Ok done) true writes clean status = absurd (omega (arith, status))
+  unknown (Ok done) false writes clean status = absurd (omega (arith, status))
+  unknown (Err text.NotAllowed) out writes clean status = absent caller same row _ (writes.denied (writes.looks.works clean))
+  unknown (Err text.Unknown) out writes clean status = absent caller same row _ (writes.denied (writes.looks.works clean))
+  unknown (Err text.Write) out writes clean status = absurd (omega (arith, status))
+  unknown (Err text.Store) out writes clean status = absurd (omega (arith, status))
+  unknown (Err text.Memory) out writes clean status = absurd (omega (arith, status))
+
+  pub silent : (after : Option (List ℕ)) (result : Result (Unit {0}) TextFault) (out : Bool) → Writes old new before mid result (account_denial caller row) (λ u given. right given) → Keeps mid after → new.lies ≡ 0 → status_of (ending_of_text result out) ≡ 1 → Keeps before after
+  silent after (Ok done) true writes keeps clean status = absurd (omega (arith, status))
+  silent after (Ok done) false writes keeps clean status = absurd (omega (arith, status))
+  silent after (Err text.NotAllowed) out writes keeps clean status = keeps_on before mid after (writes.silent (writes.looks.works clean) tt) keeps
+  silent after (Err text.Unknown) out writes keeps clean status = keeps_on before mid after (writes.silent (writes.looks.works clean) tt) keeps
+  silent after (Err text.Write) out writes keeps clean status = absurd (omega (arith, status))
+  silent after (Err text.Store) out writes keeps clean status = absurd (omega (arith, status))
+  silent after (Err text.Memory) out writes keeps clean status = absurd (omega (arith, status))
+
+-- what a flush leaves holds with status 0
+pub flushed : {T E : Type 0} (Holds : Type 0) (result : Result (Unit {0}) TextFault) (out : Bool) (flush : Result T E) → out ≡ is_ok flush → OnOk flush Holds → status_of (ending_of_text result out) ≡ 0 → Holds
+flushed Holds result out (Ok x) same told status = told
+flushed Holds (Ok done) true (Err e) same told status = absurd (true≢false same)
+flushed Holds (Ok done) false (Err e) same told status = absurd (omega (arith, status))
+flushed Holds (Err text.NotAllowed) out (Err e) same told status = absurd (omega (arith, status))
+flushed Holds (Err text.Unknown) out (Err e) same told status = absurd (omega (arith, status))
+flushed Holds (Err text.Write) out (Err e) same told status = absurd (omega (arith, status))
+flushed Holds (Err text.Store) out (Err e) same told status = absurd (omega (arith, status))
+flushed Holds (Err text.Memory) out (Err e) same told status = absurd (omega (arith, status))
+
+-- a report that was sent
+module _ (rows : List RowResult) (had has : Option (List ℕ)) where
+  sent : (all out : Bool) → all_stand rows ≡ all → (IsTrue out → Appends had has (report_text rows)) → Finishes None rows had has (ending_of_import None all out)
+  sent all false same written = tt
+  sent true true same written = record { unstopped = refl; written = written refl; stand = same }
+  sent false true same written = record { unstopped = refl; written = written refl; stand = same }
+
+  pub finished : (why : Option Cause) (out : Bool) → (IsTrue out → Appends had has (report_text rows)) → Finishes why rows had has (ending_of_import why (all_stand rows) out)
+  finished None out written = sent (all_stand rows) out refl written
+  finished (Some cause.Header) out written = tt
+  finished (Some cause.Read) out written = tt
+  finished (Some cause.Store) out written = tt
+  finished (Some cause.Memory) out written = tt
+
+pub emptied : (Holds : Type 0) (why : Option Cause) (all out : Bool) → (IsTrue out → Holds) → status_of (ending_of_import why all out) ≡ 0 → Holds
+emptied Holds None all true told status = told refl
+emptied Holds None all false told status = absurd (omega (arith, status))
+emptied Holds (Some cause.Header) all out told status = absurd (omega (arith, status))
+emptied Holds (Some cause.Read) all out told status = absurd (omega (arith, status))
+emptied Holds (Some cause.Store) all out told status = absurd (omega (arith, status))
+emptied Holds (Some cause.Memory) all out told status = absurd (omega (arith, status))
+
+module _ (input : List ℕ) (old new : State) (had has : Option (List ℕ)) (rows : List RowResult) where
+  pub imported : (told : Ending) → IsImported issuer input old new rows → Finishes None rows had has told → IsDeclared input old new had has told
+  imported ending.Done import sent = record { rows = rows; imported = import; written = sent.written; stand = sent.stand }
+  imported ending.PartlyDone import sent = record { rows = rows; imported = import; written = sent.written; stand = sent.stand }
+  imported (ending.Denied why) import sent = tt
+  imported (ending.Words error) import sent = tt
+  imported (ending.Misused reason) import sent = tt
+  imported (ending.Failed why) import sent = tt
+
+  pub stopped : (told : Ending) (why : Cause) → Finishes (Some why) rows had has told → IsDeclared input old new had has told
+  stopped ending.Done why sent = absurd (cc sent.unstopped)
+  stopped ending.PartlyDone why sent = absurd (cc sent.unstopped)
+  stopped (ending.Denied told) why sent = tt
+  stopped (ending.Words error) why sent = tt
+  stopped (ending.Misused reason) why sent = tt
+  stopped (ending.Failed told) why sent = tt

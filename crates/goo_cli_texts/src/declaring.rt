@@ -1,0 +1,95 @@
+//! The command `declare`.
+ghost use Rattle.std.specs.Prelude.{◌≡◌, [], IfSome, IsTrue};
+ghost use Rattle.std.specs.Io.Buffered.{writer_buffer, writer_contents};
+ghost use Rattle.std.specs.Io.KnownBytes.{Appends};
+ghost use Rattle.goo_files_import.specs.Report.{report_text};
+ghost use Rattle.goo_cli_ending.specs.Endings.{status_of};
+ghost use Rattle.goo_cli_texts.specs.Endings.{all_stand, ending_of_import, stands};
+ghost use Rattle.goo_cli_texts.specs.Declaring.{Finishes, IsDeclared};
+
+use crate::issuer::issuer;
+use crate::progress_line::ProgressLine;
+use goo_cli_ending::{Denial, Ending, Failure};
+use goo_core_shelf::shelf::Shelf;
+use goo_files::{Cause, Report, RowResult, import_declarations_watched, write_report};
+use goo_registry::Registry;
+use std::alloc::Global;
+use std::io::{BufWriter, Read, Write};
+
+/// Whether a row's declaration stands.
+fn stands(row: &RowResult) -> bool
+    ensures { result ≡ stands row.now }
+{
+    match row {
+        RowResult::Accepted | RowResult::Repeated => true,
+        RowResult::Refused(_) | RowResult::Unreadable => false,
+    }
+}
+
+/// Whether each row's declaration stands.
+fn all_stand(rows: &[RowResult]) -> bool
+    ensures { result ≡ all_stand rows.now }
+{
+    rows.iter().all(stands)
+}
+
+/// How an import ends that stopped for a cause or didn't, whose report went out whole or did not.
+fn ending_of(cause: Option<Cause>, all_stand: bool, flushed: bool) -> Ending
+    ensures { result ≡ ending_of_import cause all_stand flushed }
+{
+    match cause {
+        Some(Cause::Header) => Ending::Denied(Denial::Header),
+        Some(Cause::Read) => Ending::Failed(Failure::Read),
+        Some(Cause::Store) => Ending::Failed(Failure::Store),
+        Some(Cause::Memory) => Ending::Failed(Failure::Memory),
+        None if !flushed => Ending::Failed(Failure::Write),
+        None if all_stand => Ending::Done,
+        None => Ending::PartlyDone,
+    }
+}
+
+/// Writes a report whole, or tells that it could not.
+fn send_report<W: Write + Drop>(report: &Report, writer: &mut BufWriter<W>) -> bool
+    ensures written { IsTrue result → Appends (writer_contents W.contents writer.old) (writer_contents W.contents writer.new) (report_text report.now.lines.items) }
+    ensures flushed { IsTrue result → writer_buffer writer.new ≡ [] }
+{
+    write_report(report, writer).is_ok() && writer.flush().is_ok()
+}
+
+/// Writes the report of an import that stopped for a cause or didn't, and tells how that ends.
+fn finish<W: Write + Drop>(
+    report: &Report,
+    cause: Option<Cause>,
+    writer: &mut BufWriter<W>,
+) -> Ending
+    ensures finished { Finishes cause report.now.lines.items (writer_contents W.contents writer.old) (writer_contents W.contents writer.new) result }
+    ensures flushed { status_of result ≡ 0 → writer_buffer writer.new ≡ [] }
+{
+    let flushed = send_report(report, writer);
+    ending_of(cause, all_stand(&report.lines), flushed)
+}
+
+/// Imports the declarations of a CSV file, writes the report of it, after a fault that of the rows that stand, and tells how that
+/// ends. The output is flushed. `line` tells how far the import is, and is ended before the report is written.
+///
+/// - `done`: with status 0 each row was imported and its declaration stands; with status 1 too, but for a file without its header,
+///   and some declaration doesn't stand. The whole report is written.
+/// - `lied`: what keeps the records returned what was written before, where it did so to the end.
+pub fn declare<S: Shelf, R: Read, W: Write + Drop, T: Write>(
+    alloc: Global,
+    registry: &mut Registry<S>,
+    reader: &mut R,
+    writer: &mut BufWriter<W>,
+    line: &mut ProgressLine<T>,
+) -> Ending
+    ensures done { (S.seen registry.new.shelf).lies ≡ 0 → IfSome (R.remaining reader.old) (λ input. IsDeclared input (S.seen registry.old.shelf).state (S.seen registry.new.shelf).state (writer_contents W.contents writer.old) (writer_contents W.contents writer.new) result) }
+    ensures lied { (S.seen registry.new.shelf).lies ≡ 0 → (S.seen registry.old.shelf).lies ≡ 0 }
+    ensures flushed { status_of result ≡ 0 → writer_buffer writer.new ≡ [] }
+{
+    let imported = import_declarations_watched(alloc, registry, &issuer(), reader, line);
+    line.end();
+    match imported {
+        Ok(report) => finish(&report, None, writer),
+        Err(fault) => finish(&fault.report, Some(fault.cause), writer),
+    }
+}

@@ -1,0 +1,19 @@
+use Rattle.std.proofs.Common.{◌≤◌, ◌-◌, Ok}
+use Rattle.std.specs.FinMap.{get}
+use Rattle.goo_core_shelf.specs.Shelf.{Looks}
+use Rattle.goo_core_shelf.specs.Rows.{naming_account}
+use Rattle.goo_spec_runs.specs.NextRun.{from_of}
+use Rattle.goo_spec_runs.proofs.Reaching.{IsReaching}
+use Rattle.goo_core_answers.specs.Reads.{kept_where, names}
+use Rattle.goo_core_answers.proofs.next_run.reach.Given as goal
+
+abbrev pub invariant-loop-next : goal.invariant-loop-next
+invariant-loop-next g l = record {
+  reaches : Looks (g.S.Shelf.seen l.fn.shelf) (g.S.Shelf.seen l.shelf) (Ok l.run)
+      (IsReaching (kept_where (names l.account) (get (g.S.Shelf.seen l.fn.shelf).state.at)) (from_of l.after) (naming_account l.account (g.S.Shelf.seen l.fn.shelf).rows));
+  starts : from_of l.after ≤ l.run.first;
+  runs : l.run.first ≤ l.run.last;
+}
+
+abbrev pub decreases-loop-next : goal.decreases-loop-next
+decreases-loop-next g l = 100000000000000 - l.run.last

@@ -1,0 +1,102 @@
+-- What the calls of a shelf say.
+use Rattle.std.specs.Prelude.{◌≡◌, ℕ, ◌≤◌, cond, List, map, Option, Some, None, Result, Ok, Err, IfOk, OnOk}
+use Rattle.std.specs.FinMap.{entries, get}
+use Rattle.goo_types.specs.Day.{CalendarDay}
+use Rattle.goo_types.specs.Notice.{NoticeContents}
+use Rattle.goo_types.specs.declared.command.Cancel.{Cancel}
+use Rattle.goo_types.specs.declared.command.Command.{Command}
+use Rattle.goo_types.specs.declared.fault.Fault.{Fault}
+use Rattle.goo_types.specs.declared.fault.Fault.TheVariants.{Store, Memory}
+use Rattle.goo_types.specs.declared.piece.Piece.{Piece}
+use Rattle.goo_types.specs.declared.reply.Reply.{Reply}
+use Rattle.goo_spec.specs.State.{State, Cancellation}
+use Rattle.goo_spec.specs.Import.{same_notice}
+use Rattle.goo_spec.specs.Declare.{declared_by, last_end}
+use Rattle.goo_spec.specs.Energy.{total, carry, issued}
+use Rattle.goo_spec.specs.Step.{is_kept}
+use Rattle.goo_core_shelf.specs.declared.found.Progress.{Progress}
+use Rattle.goo_core_shelf.specs.declared.found.DeviceRecord.{DeviceRecord}
+use Rattle.goo_core_shelf.specs.declared.found.Receipt.{Receipt}
+use Rattle.goo_core_shelf.specs.declared.found.Receipt.TheVariants as receipt
+use Rattle.goo_core_shelf.specs.declared.found.Arrival.{Arrival}
+use Rattle.goo_core_shelf.specs.declared.found.Arrival.TheVariants as arrival
+use Rattle.goo_core_shelf.specs.declared.found.DeviceTotals.{DeviceTotals}
+
+-- a shelf at one moment
+pub record Moment : Type 1 where
+  -- what the registry knows
+  pub state : State
+  -- the rows that are kept of its certificates
+  pub rows : List Piece
+  -- how often a call was refused by what lies below: once at most
+  pub refusals : ℕ
+  -- 0 while what lies below has returned what was written, and nobody else wrote there
+  pub lies : ℕ
+  -- 0 while, besides, it works
+  pub doubts : ℕ
+  -- a crash at this moment may leave what opens with that state, or with none
+  pub leaves : Option State → Type 0
+
+-- a store fault is answered just where a call was refused
+abbrev pub IsTold : {T : Type 0} → Result T Fault → ℕ → Type 0
+IsTold (Ok x) refusals = refusals ≡ 0
+IsTold (Err Memory) refusals = refusals ≡ 0
+IsTold (Err Store) refusals = refusals ≡ 1
+
+-- a crash finds that state and no other
+abbrev pub IsSafe : Moment → State → Type 0
+IsSafe m s = (o : Option State) → m.leaves o → o ≡ Some s
+
+-- the last call was answered: no call was refused yet, without a lie there is no doubt, and without a doubt a crash finds the state
+pub record IsReady (m : Moment) : Type 0 where
+  pub told : m.refusals ≡ 0
+  pub works : m.lies ≡ 0 → m.doubts ≡ 0
+  pub settled : m.doubts ≡ 0 → IsSafe m m.state
+
+-- a look-up: what is found is right, the state and the rows stay, a fault is told, and a crash after it finds the state
+pub record Looks {T : Type 0} (old new : Moment) (result : Result T Fault) (right : T → Type 0) : Type 0 where
+  pub found : new.doubts ≡ 0 → IfOk result right
+  pub same : new.doubts ≡ 0 → new.state ≡ old.state
+  pub rows_same : new.doubts ≡ 0 → new.rows ≡ old.rows
+  pub doubted : new.doubts ≡ 0 → old.doubts ≡ 0
+  pub lied : new.lies ≡ 0 → old.lies ≡ 0
+  pub kept : old.refusals ≤ new.refusals
+  pub told : IsTold result new.refusals
+  pub works : OnOk result (new.lies ≡ 0 → new.doubts ≡ 0)
+  pub crash : new.lies ≡ 0 → old.doubts ≡ 0 → IsSafe new old.state
+
+abbrev pub progress_of : State → List ℕ → Progress
+progress_of s device = record { last_day = last_end None (declared_by device s.declarations); carry = carry s device }
+
+-- what is kept of a device, if it is known
+abbrev pub IsRecordOf : State → List ℕ → Option DeviceRecord → Type 0
+IsRecordOf s number None = get s.devices number ≡ None
+IsRecordOf s number (Some found) = (get s.devices number ≡ Some found.device) × (found.progress ≡ progress_of s number)
+
+-- what is kept under a key, seen from a command
+abbrev pub receipt_of : Option (Option Command × Reply) → Command → Receipt
+receipt_of None command = receipt.Absent
+receipt_of (Some kept) command = cond (is_kept kept.0 command) (receipt.Same kept.1) receipt.Other
+
+-- what is kept under a notice's sender and number, seen from the notice
+abbrev pub arrival_of : Option NoticeContents → NoticeContents → Arrival
+arrival_of None notice = arrival.Absent
+arrival_of (Some kept) notice = cond (same_notice kept notice) arrival.Same arrival.Other
+
+-- the record of a cancellation that is accepted on a day
+abbrev pub cancellation_on : CalendarDay → Cancel → Cancellation
+cancellation_on day x = record {
+  account = x.account;
+  range = x.range;
+  beneficiary = x.beneficiary;
+  use_first = x.use_first;
+  use_last = x.use_last;
+  day = day;
+}
+
+abbrev pub totals_for : State → List ℕ → DeviceTotals
+totals_for s device = record { device = device; declared = total s device; issued = issued s device; carry = carry s device }
+
+-- the energy of each device, by device
+abbrev pub totals_of : State → List DeviceTotals
+totals_of s = map (λ e. totals_for s e.0) (entries s.devices)

@@ -1,0 +1,49 @@
+use Rattle.std.proofs.Common.{rules, refl, ◌≡◌, ◌∷◌, Bor, ℕ, List, [], map, append_assoc, length-append, arith, IsErrAnd}
+use Rattle.std.proofs.lemmas.List.{map-append, length-map}
+use Rattle.goo_desk_lines.specs.Lines.{lines_left}
+use Rattle.goo_desk_lines.proofs.AnswerFacts.{lines-bound, none-stand, on-same-err, part-at, stands-next}
+use Rattle.goo_desk_lines.proofs.run.answer_lines.Goals as goal
+
+pub loop-line-init : goal.loop-line-init
+loop-line-init g c = rw c.into_iter-line-iterator.ensures.into_iter_gives (record {
+  order = refl;
+  count = omega arith;
+  lied = λ below. below;
+  told = λ none. none;
+  answered = λ below. none-stand (g.D.Desk.seen c.args.desk.now).state (g.W.Write.contents c.args.writer.now);
+})
+
+pub answer_next-requires : goal.answer_next-requires
+answer_next-requires g c =
+    let i = c.loop-line.invariant in
+    let most = lines-bound c.args.input.now (map (λ (line : Bor (List ℕ)). line.now) c.loop-line.yielded) (lines_left c.loop-line.line-iterator.0) i.order in
+    omega (arith, most, i.count, length-map c.loop-line.yielded (λ (line : Bor (List ℕ)). line.now), c.requires)
+
+pub loop-line-preserved : goal.loop-line-preserved
+loop-line-preserved g c =
+    let i = c.loop-line.invariant in
+    let made = c.in_ok-answer_next.ensures in
+    let done : List (List ℕ) = map (λ (line : Bor (List ℕ)). line.now) c.loop-line.yielded in
+    let order = rw c.in-Some.ensures.steps at i.order in
+    rw (map-append (λ (line : Bor (List ℕ)). line.now) c.loop-line.yielded (c.in-Some.line ∷ [])) (record {
+      order = rw (append_assoc done) order;
+      count = omega (arith, made.count, i.count, length-append c.loop-line.yielded (c.in-Some.line ∷ []));
+      lied = λ below. i.lied (made.lied below);
+      told = λ none. c.in_ok-answer_next.ensures.told (i.told none);
+      answered = λ below. stands-next (g.D.Desk.seen c.args.desk.now).state (g.D.Desk.seen c.loop-line.desk).state (g.D.Desk.seen c.answer_next.new.desk).state
+          (g.W.Write.contents c.args.writer.now) (g.W.Write.contents c.loop-line.writer) (g.W.Write.contents c.answer_next.new.writer)
+          done c.in-Some.line.now c.loop-line.tally c.answer_next.new.tally
+          (i.answered (made.lied below)) (made.answered below);
+    })
+
+pub returns-in_err-answer_next-clause-part : goal.returns-in_err-answer_next-clause-part
+returns-in_err-answer_next-clause-part g c =
+    let i = c.loop-line.invariant in
+    let order = rw c.in-Some.ensures.steps at i.order in
+    let stopped = c.in_err-answer_next.ensures in
+    let told : IsErrAnd c.from_residual.result (λ fault. fault ≡ c.in_err-answer_next.field-0.0) = search rules in
+    on-same-err c.from_residual.result c.in_err-answer_next.field-0.0 _ told (λ is below. part-at
+    (g.D.Desk.seen c.args.desk.now).state (g.D.Desk.seen c.loop-line.desk).state (g.D.Desk.seen c.answer_next.new.desk).state
+    (g.W.Write.contents c.args.writer.now) (g.W.Write.contents c.loop-line.writer) (g.W.Write.contents c.answer_next.new.writer)
+    c.args.input.now (map (λ (line : Bor (List ℕ)). line.now) c.loop-line.yielded) (lines_left c.next.new.self.0) c.in-Some.line.now c.loop-line.tally
+    order (i.answered (stopped.lied below)) (stopped.stands is below) (stopped.prefix is below))

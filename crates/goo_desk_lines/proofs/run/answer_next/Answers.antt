@@ -1,0 +1,32 @@
+use Rattle.std.proofs.Common.{rules, ◌<◌, ◌≡◌, length, IsErrAnd}
+use Rattle.goo_desk_lines.specs.Faults.{of_desk}
+use Rattle.goo_desk_lines.specs.declared.answer.Answer.{Answer}
+use Rattle.goo_desk_lines.proofs.AnswerFacts.{answers-good, answers-bad, writes-part, on-any-err, told_by_desk}
+use Rattle.goo_desk_lines.proofs.run.answer_next.Goals as goal
+
+pub returns-then-is_good-clause-answered : goal.returns-then-is_good-clause-answered
+returns-then-is_good-clause-answered g c true-below =
+    let some : 0 < length c.args.line.now = search rules in
+    answers-good (g.D.Desk.seen c.args.desk.now).state (g.D.Desk.seen c.answer_line.new.desk).state c.args.tally.now c.args.line.now c.in_ok-answer.answer
+    (g.W.Write.contents c.args.writer.now) (g.W.Write.contents c.write_line.new.writer) some
+    (c.in_ok-answer.ensures.answer true-below) (c.in_ok-answer.ensures.state true-below) (search rules) (search rules)
+
+pub returns-else-is_good-clause-answered : goal.returns-else-is_good-clause-answered
+returns-else-is_good-clause-answered g c true-below =
+    let some : 0 < length c.args.line.now = search rules in
+    answers-bad (g.D.Desk.seen c.args.desk.now).state (g.D.Desk.seen c.answer_line.new.desk).state c.args.tally.now c.args.line.now c.in_ok-answer.answer
+    (g.W.Write.contents c.args.writer.now) (g.W.Write.contents c.write_line.new.writer) some
+    (c.in_ok-answer.ensures.answer true-below) (c.in_ok-answer.ensures.state true-below) (search rules) (search rules)
+
+pub returns-in_err-write_line-clause-prefix : goal.returns-in_err-write_line-clause-prefix
+returns-in_err-write_line-clause-prefix g c =
+    let some : 0 < length c.args.line.now = search rules in
+    on-any-err c.from_residual-in_err-write_line.result _ (λ fault is true-below.
+    writes-part (g.D.Desk.seen c.args.desk.now).state (g.D.Desk.seen c.answer_line.new.desk).state c.args.tally.now c.args.line.now c.in_ok-answer.answer
+    (g.W.Write.contents c.args.writer.now) (g.W.Write.contents c.write_line.new.writer) some
+    (c.in_ok-answer.ensures.answer true-below) (c.in_ok-answer.ensures.state true-below) (search rules))
+
+pub returns-in_err-answer-clause-told : goal.returns-in_err-answer-clause-told
+returns-in_err-answer-clause-told g c none =
+    let is : IsErrAnd c.from_residual.result (λ e. e ≡ of_desk c.in_err-answer.field-0.0) = search rules in
+    told_by_desk Answer c.in_err-answer.field-0.0 c.from_residual.result _ is (c.in_err-answer.ensures.told none)

@@ -1,0 +1,21 @@
+use Rattle.std.proofs.Common.{rules, IsErrAnd, ◌≡◌}
+use Rattle.goo_desk_lines.specs.Faults.{of_reading}
+use Rattle.goo_desk_lines.proofs.AnswerFacts.{whole-unread, told_by_reader, down-unread, within-limit}
+use Rattle.goo_desk_lines.proofs.run.run_lines.Goals as goal
+
+pub returns-in_err-input-clause-whole : goal.returns-in_err-input-clause-whole
+returns-in_err-input-clause-whole g c below =
+    whole-unread c.from_residual.result (g.R.Read.remaining c.args.reader.now) (g.D.Desk.seen c.args.desk.now) (g.W.Write.contents c.args.writer.now)
+
+pub returns-in_err-input-clause-told : goal.returns-in_err-input-clause-told
+returns-in_err-input-clause-told g c none =
+    let is : IsErrAnd c.from_residual.result (λ e. e ≡ of_reading c.in_err-input.field-0.0) = search rules in
+    told_by_reader c.in_err-input.field-0.0 c.from_residual.result _ is none
+
+pub returns-in_err-input-clause-limit : goal.returns-in_err-input-clause-limit
+returns-in_err-input-clause-limit g c =
+    let is : IsErrAnd c.from_residual.result (λ e. e ≡ of_reading c.in_err-input.field-0.0) = search rules in
+    down-unread c.in_err-input.field-0.0 c.from_residual.result (g.R.Read.remaining c.args.reader.now) 16777216 (g.D.Desk.seen c.args.desk.now) (g.W.Write.contents c.args.writer.now) is
+
+pub returns-clause-limit : goal.returns-clause-limit
+returns-clause-limit g c = within-limit _ (g.R.Read.remaining c.args.reader.now) c.in_ok-input.input.items 16777216 c.in_ok-input.ensures.whole c.in_ok-input.ensures.within

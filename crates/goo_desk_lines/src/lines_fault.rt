@@ -1,0 +1,50 @@
+//! Why the lines of an input were not all answered.
+ghost use Rattle.std.specs.Prelude.{◌≡◌};
+ghost use Rattle.goo_desk_lines.specs.Faults.{of_reading, of_desk};
+ghost use Rattle.goo_desk_lines.specs.declared.lines_fault.LinesFault.TheVariants.{Write};
+
+use goo_files_streams::{ReadFault, WriteFault};
+use goo_types::fault::Fault;
+
+/// Why the lines after some were not answered.
+#[derive(Debug, Clone, Copy, PartialEq, Eq)]
+pub enum LinesFault {
+    /// The reader failed or held more than the limit. No line was answered.
+    Read,
+    /// The writer failed. The request of the line stands, and a beginning of its outcome may be written.
+    Write,
+    /// What keeps the records failed. The lines before stand, and their outcomes are written.
+    Store,
+    /// There was no room. The lines before stand, and their outcomes are written.
+    Memory,
+}
+
+impl From<ReadFault> for LinesFault {
+    ghost from_gives = { λ of fault. fault ≡ of_reading of };
+
+    fn from(fault: ReadFault) -> Self {
+        match fault {
+            ReadFault::Read => LinesFault::Read,
+            ReadFault::Memory => LinesFault::Memory,
+        }
+    }
+}
+
+impl From<WriteFault> for LinesFault {
+    ghost from_gives = { λ _ fault. fault ≡ Write };
+
+    fn from(_: WriteFault) -> Self {
+        LinesFault::Write
+    }
+}
+
+impl From<Fault> for LinesFault {
+    ghost from_gives = { λ of fault. fault ≡ of_desk of };
+
+    fn from(fault: Fault) -> Self {
+        match fault {
+            Fault::Store => LinesFault::Store,
+            Fault::Memory => LinesFault::Memory,
+        }
+    }
+}

@@ -1,0 +1,151 @@
+//! The lines of an input, answered in turn.
+ghost use Rattle.std.specs.Prelude.{◌≡◌, ◌≢◌, ◌≤◌, ◌<◌, ◌+◌, ◌^◌, ◌++◌, ◌∷◌, [], length, IfOk, IfErr, IfSome, OnOk, OnErr, Err};
+ghost use Rattle.std.specs.Io.KnownBytes.{Appends, IsAtEnd, Keeps};
+ghost use Rattle.goo_files_streams.specs.Streams.{AppendsPrefix};
+ghost use Rattle.goo_desk_lines.specs.Answers.{answer_to, state_after};
+ghost use Rattle.goo_desk_lines.specs.Lines.{request_in};
+ghost use Rattle.goo_desk_lines.specs.Fold.{counted, with_line, lines};
+ghost use Rattle.goo_core_shelf.specs.Shelf.{IsTold};
+ghost use Rattle.goo_desk_lines.specs.Stops.{AnswersLine, IsAfterReading, IsBetweenLines, IsToldIn, IsTurnedDown, StandsWhole, StandsInPart};
+ghost use Rattle.goo_desk_lines.specs.declared.lines_fault.LinesFault.TheVariants.{Read as Reading, Write as Writing};
+
+use crate::answer::Answer;
+use crate::line::read_line;
+use crate::lines::Lines;
+use crate::lines_fault::LinesFault;
+use crate::tally::Tally;
+use crate::unread::Unread;
+use goo_files_streams::{WriteFault, read_whole, write_whole};
+use goo_registry_desk::Desk;
+use goo_types::fault::Fault;
+use std::alloc::Global;
+use std::io::{Read, Write};
+
+/// The most bytes that an input of lines may have.
+pub const MOST_INPUT: usize = 16_777_216;
+
+/// The answer to one line.
+#[tactic(auto, unfolding(crate::specs::Answers::answer_to, crate::specs::Answers::state_after))]
+fn answer_line<D: Desk>(alloc: Global, desk: &mut D, line: &[u8]) -> Result<Answer, Fault>
+    ensures answer { (D.seen desk.new).lies ≡ 0 → IfOk result (λ given. given ≡ answer_to (D.seen desk.old).state line.now) }
+    ensures state { (D.seen desk.new).lies ≡ 0 → OnOk result ((D.seen desk.new).state ≡ state_after (D.seen desk.old).state line.now) }
+    ensures unchanged { (D.seen desk.new).doubts ≡ 0 → OnErr result ((D.seen desk.new).state ≡ (D.seen desk.old).state) }
+    ensures lied { (D.seen desk.new).lies ≡ 0 → (D.seen desk.old).lies ≡ 0 }
+    ensures unasked { (reason : _) → request_in line.now ≡ Err reason → IfErr result (λ fault. fault ≡ Fault.Memory) }
+    ensures told { (D.seen desk.old).refusals ≡ 0 → IsTold result (D.seen desk.new).refusals }
+{
+    match read_line(alloc, line) {
+        Ok(request) => Ok(Answer::Decided(desk.apply(alloc, &request)?)),
+        Err(Unread::Unreadable(reason)) => Ok(Answer::Unreadable(reason)),
+        Err(Unread::Memory) => Err(Fault::Memory),
+    }
+}
+
+/// Writes a text and a line feed.
+fn write_line<W: Write>(writer: &mut W, text: &[u8]) -> Result<(), WriteFault>
+    ensures written { OnOk result (Appends (W.contents writer.old) (W.contents writer.new) (text.now ++ 10 ∷ [])) }
+    ensures prefix { OnErr result (AppendsPrefix (W.contents writer.old) (W.contents writer.new) (text.now ++ 10 ∷ [])) }
+{
+    write_whole(writer, text)?;
+    write_whole(writer, b"\n")
+}
+
+/// Answers one line with one line, or passes it over where it is empty.
+fn answer_next<D: Desk, W: Write>(
+    alloc: Global,
+    desk: &mut D,
+    writer: &mut W,
+    tally: &mut Tally,
+    line: &[u8],
+) -> Result<(), LinesFault>
+    requires { tally.old.good + tally.old.bad + 1 < 2 ^ 64 }
+    ensures answered { (D.seen desk.new).lies ≡ 0 → OnOk result (AnswersLine line.now (D.seen desk.old).state (D.seen desk.new).state tally.old tally.new (W.contents writer.old) (W.contents writer.new)) }
+    ensures count { OnOk result (tally.new.good + tally.new.bad ≤ tally.old.good + tally.old.bad + 1) }
+    ensures kinds { IfErr result (λ fault. fault ≢ Reading) }
+    ensures unchanged { IfErr result (λ fault. IsBetweenLines fault → (D.seen desk.new).doubts ≡ 0 → (D.seen desk.new).state ≡ (D.seen desk.old).state) }
+    ensures unwritten { IfErr result (λ fault. IsBetweenLines fault → Keeps (W.contents writer.old) (W.contents writer.new)) }
+    ensures stands { IfErr result (λ fault. fault ≡ Writing → (D.seen desk.new).lies ≡ 0 → (D.seen desk.new).state ≡ (with_line (counted (D.seen desk.old).state tally.old) line.now).state) }
+    ensures prefix { IfErr result (λ fault. fault ≡ Writing → (D.seen desk.new).lies ≡ 0 → AppendsPrefix (W.contents writer.old) (W.contents writer.new) (with_line (counted (D.seen desk.old).state tally.old) line.now).text) }
+    ensures lied { (D.seen desk.new).lies ≡ 0 → (D.seen desk.old).lies ≡ 0 }
+    ensures unasked { (reason : _) → request_in line.now ≡ Err reason → IfErr result (λ fault. fault ≢ LinesFault.Store) }
+    ensures told { (D.seen desk.old).refusals ≡ 0 → IsToldIn result (D.seen desk.new).refusals }
+{
+    if line.is_empty() {
+        return Ok(());
+    }
+    let answer = answer_line(alloc, desk, line)?;
+    write_line(writer, answer.text().as_str().as_bytes())?;
+    if answer.is_good() {
+        tally.good += 1;
+    } else {
+        tally.bad += 1;
+    }
+    Ok(())
+}
+
+/// Answers the lines of an input in turn, those that aren't empty.
+fn answer_lines<D: Desk, W: Write>(
+    alloc: Global,
+    desk: &mut D,
+    input: &[u8],
+    writer: &mut W,
+) -> Result<Tally, LinesFault>
+    requires { length input.now + 3 < 2 ^ 64 }
+    ensures state { (D.seen desk.new).lies ≡ 0 → OnOk result ((D.seen desk.new).state ≡ (lines (D.seen desk.old).state input.now).state) }
+    ensures text { (D.seen desk.new).lies ≡ 0 → OnOk result (Appends (W.contents writer.old) (W.contents writer.new) (lines (D.seen desk.old).state input.now).text) }
+    ensures good { (D.seen desk.new).lies ≡ 0 → IfOk result (λ tally. tally.good ≡ (lines (D.seen desk.old).state input.now).good) }
+    ensures bad { (D.seen desk.new).lies ≡ 0 → IfOk result (λ tally. tally.bad ≡ (lines (D.seen desk.old).state input.now).bad) }
+    ensures kinds { IfErr result (λ fault. fault ≢ Reading) }
+    ensures whole { IfErr result (λ fault. IsBetweenLines fault → (D.seen desk.new).lies ≡ 0 → StandsWhole input.now (D.seen desk.old).state (D.seen desk.new) (W.contents writer.old) (W.contents writer.new)) }
+    ensures part { IfErr result (λ fault. fault ≡ Writing → (D.seen desk.new).lies ≡ 0 → StandsInPart input.now (D.seen desk.old).state (D.seen desk.new).state (W.contents writer.old) (W.contents writer.new)) }
+    ensures lied { (D.seen desk.new).lies ≡ 0 → (D.seen desk.old).lies ≡ 0 }
+    ensures told { (D.seen desk.old).refusals ≡ 0 → IsToldIn result (D.seen desk.new).refusals }
+{
+    let mut tally = Tally { good: 0, bad: 0 };
+    for line in Lines(Some(input)) {
+        answer_next(alloc, desk, writer, &mut tally, line)?;
+    }
+    Ok(tally)
+}
+
+/// Reads the whole of an input and then answers its lines in turn, each that isn't empty with one line. A line is a
+/// holder's code, one space and the body of a request, and ends with a line feed, which the last may lack.
+///
+/// # Errors
+///
+/// See [`LinesFault`]: after `Read` nothing was done; after `Store` and `Memory` the lines before stand and their
+/// outcomes are written whole; after `Write` the request of that line stands too, and a beginning of the outcomes is
+/// written. `Store` is answered exactly where the store refused a call. An input of more than [`MOST_INPUT`] bytes is a
+/// `Read`, or a `Memory` where there is no room for what is read of it, and none of its lines is applied. Nothing is flushed.
+///
+/// # Example
+///
+/// ```rust,ignore
+/// let mut input = "ISSUER {\"command\":\"open_holder\",\"holder\":\"SUN\",\"key\":\"s1\",\"name\":\"Sun Power\"}\n".as_bytes();
+/// let mut output = Vec::new(alloc);
+/// let tally = run_lines(alloc, &mut registry, &mut input, &mut output)?;
+/// // `output` has the line {"outcome":"accepted","reply":{}}; tally.good is 1 and tally.bad is 0.
+/// ```
+pub fn run_lines<D: Desk, R: Read, W: Write>(
+    alloc: Global,
+    desk: &mut D,
+    reader: &mut R,
+    writer: &mut W,
+) -> Result<Tally, LinesFault>
+    ensures state { (D.seen desk.new).lies ≡ 0 → IfSome (R.remaining reader.old) (λ input. OnOk result ((D.seen desk.new).state ≡ (lines (D.seen desk.old).state input).state)) }
+    ensures text { (D.seen desk.new).lies ≡ 0 → IfSome (R.remaining reader.old) (λ input. OnOk result (Appends (W.contents writer.old) (W.contents writer.new) (lines (D.seen desk.old).state input).text)) }
+    ensures good { (D.seen desk.new).lies ≡ 0 → IfSome (R.remaining reader.old) (λ input. IfOk result (λ tally. tally.good ≡ (lines (D.seen desk.old).state input).good)) }
+    ensures bad { (D.seen desk.new).lies ≡ 0 → IfSome (R.remaining reader.old) (λ input. IfOk result (λ tally. tally.bad ≡ (lines (D.seen desk.old).state input).bad)) }
+    ensures unread { IfErr result (λ fault. fault ≡ Reading → (D.seen desk.new).state ≡ (D.seen desk.old).state) }
+    ensures silent { IfErr result (λ fault. fault ≡ Reading → Keeps (W.contents writer.old) (W.contents writer.new)) }
+    ensures whole { (D.seen desk.new).lies ≡ 0 → IfSome (R.remaining reader.old) (λ input. IfErr result (λ fault. IsBetweenLines fault → StandsWhole input (D.seen desk.old).state (D.seen desk.new) (W.contents writer.old) (W.contents writer.new))) }
+    ensures part { (D.seen desk.new).lies ≡ 0 → IfSome (R.remaining reader.old) (λ input. IfErr result (λ fault. fault ≡ Writing → StandsInPart input (D.seen desk.old).state (D.seen desk.new).state (W.contents writer.old) (W.contents writer.new))) }
+    ensures lied { (D.seen desk.new).lies ≡ 0 → (D.seen desk.old).lies ≡ 0 }
+    ensures told { (D.seen desk.old).refusals ≡ 0 → IsToldIn result (D.seen desk.new).refusals }
+    ensures limit { IfSome (R.remaining reader.old) (λ input. 16_777_216 < length input → IsTurnedDown result (D.seen desk.old) (D.seen desk.new) (W.contents writer.old) (W.contents writer.new)) }
+    ensures end { OnOk result (IsAtEnd (R.remaining reader.new)) }
+    ensures read { IfErr result (λ fault. IsAfterReading fault → IsAtEnd (R.remaining reader.new)) }
+{
+    let input = read_whole(alloc, reader, MOST_INPUT)?;
+    answer_lines(alloc, desk, &input, writer)
+}

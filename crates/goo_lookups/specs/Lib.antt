@@ -1,5 +1,0 @@
-pub mod Moments
-pub mod Holding
-pub mod StoreFaults
-pub mod Telling
-pub mod Opening

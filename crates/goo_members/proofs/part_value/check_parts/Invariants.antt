@@ -1,7 +1,0 @@
-use Rattle.std.proofs.Common.{◌≡◌, drop}
-use Rattle.serde_json.specs.View.{items_view}
-use Rattle.goo_members.specs.Parts.{parts_shape}
-use Rattle.goo_members.proofs.part_value.check_parts.Given as goal
-
-abbrev pub invariant-loop-value : goal.invariant-loop-value
-invariant-loop-value l = parts_shape (items_view (drop l.value-index l.values)) ≡ parts_shape (items_view l.values)

@@ -1,5 +1,0 @@
-use Rattle.std.proofs.Common.{length}
-use Rattle.goo_opening.proofs.foreign.+lack_meta.Given as goal
-
-abbrev pub decreases-lack_meta : goal.decreases-lack_meta
-decreases-lack_meta l = length l.tables.now

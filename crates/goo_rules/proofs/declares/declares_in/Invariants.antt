@@ -1,7 +1,0 @@
-use Rattle.std.proofs.Common.{◌≡◌, ◌++◌, map, drop}
-use Rattle.goo_columns.specs.Rows.{declaration_in}
-use Rattle.goo_kept.specs.Devices.{declaration_of}
-use Rattle.goo_rules.proofs.declares.declares_in.Given as goal
-
-abbrev pub invariant-loop-row : goal.invariant-loop-row
-invariant-loop-row l = l.declared.items ++ map declaration_of (map declaration_in (drop l.row-index l.rows)) ≡ map declaration_of (map declaration_in l.rows)

@@ -1,7 +1,0 @@
-use Rattle.std.proofs.Common.{map, take}
-use Rattle.goo_columns.specs.Rows.{lot_in}
-use Rattle.goo_rules.specs.Production.{AreDevicesOf}
-use Rattle.goo_rules.proofs.issued.devices_of_lots.Given as goal
-
-abbrev pub invariant-loop-row : goal.invariant-loop-row
-invariant-loop-row l = AreDevicesOf (map lot_in (take l.row-index l.rows)) l.devices

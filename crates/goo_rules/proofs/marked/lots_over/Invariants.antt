@@ -1,9 +1,0 @@
-use Rattle.std.proofs.Common.{◌≡◌, ℕ, take, map}
-use Rattle.std.specs.Ordering.{nat_cmp}
-use Rattle.std.specs.BTreeSet.{contains}
-use Rattle.goo_columns.specs.Rows.{lot_in}
-use Rattle.goo_rules.specs.WellKept.{has_over}
-use Rattle.goo_rules.proofs.marked.lots_over.Given as goal
-
-abbrev pub invariant-loop-row : goal.invariant-loop-row
-invariant-loop-row l = (n : ℕ) → contains nat_cmp l.set n ≡ has_over l.fn.today (map lot_in (take l.row-index l.rows)) n

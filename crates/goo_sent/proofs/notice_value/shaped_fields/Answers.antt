@@ -1,5 +1,0 @@
-use Rattle.std.proofs.Common.{rules}
-use Rattle.goo_sent.proofs.notice_value.shaped_fields.Goals as goal
-
-pub returns : goal.returns
-returns c = search rules

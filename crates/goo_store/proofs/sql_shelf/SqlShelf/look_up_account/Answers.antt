@@ -1,0 +1,41 @@
+use Rattle.std.proofs.Common.{pos, ◌∙◌, ap, IsTrue}
+use Rattle.std.specs.Ordering.{int_eq}
+use Rattle.sqlite.specs.Held.{state as view}
+use Rattle.std.specs.Cmp.{nat_cmp_total}
+use Rattle.goo_spec_tables.specs.States.{account_of}
+use Rattle.goo_spec_tables.proofs.Known.{known_row, number_test}
+use Rattle.goo_spec_tables.specs.States.{state_of}
+use Rattle.goo_store_lookups.proofs.Looking.{looked, refused_look, well}
+use Rattle.goo_store.proofs.Found.{known}
+use Rattle.goo_store_lookups.proofs.Blaming.{blames, refused_blames}
+use Rattle.goo_store_values.proofs.RowsRead.{found_row, each_so}
+use Rattle.goo_spec_tables.specs.Readable.{is_account}
+use Rattle.goo_tables_rows.specs.Rows.{account_in}
+use Rattle.goo_store_lookups.specs.Moments.{tables_in}
+use Rattle.goo_store.proofs.sql_shelf.SqlShelf.look_up_account.Goals as goal
+
+pub returns-then-self-clause-looks : goal.returns-then-self-clause-looks
+returns-then-self-clause-looks g c = refused_look (view g.S.Store c.args.self.now.conn) c.args.self.now.well c.args.self.now.refused c.if-self.true (λ live db may. g.met.S.Store.settled c.args.self.now.conn.store db live may) _
+
+pub invariant_of-self : goal.invariant_of-self
+invariant_of-self g c = record {
+  outside = c.find_account-found.ensures.outside c.args.self.now.outside;
+  well = well (view g.S.Store c.args.self.now.conn) (view g.S.Store c.find_account-found.new.conn) c.args.self.now.well _ _ c.find_account-found.ensures.looks;
+  known = known (view g.S.Store c.args.self.now.conn) (view g.S.Store c.find_account-found.new.conn) c.args.self.now.well _ _ c.find_account-found.ensures.looks c.args.self.now.findings c.args.self.now.known;
+}
+
+pub returns-clause-looks : goal.returns-clause-looks
+unfolding state_of
+returns-clause-looks g c =
+    looked (view g.S.Store c.args.self.now.conn) (view g.S.Store c.find_account-found.new.conn) c.args.self.now.well _ _ c.find_account-found.ensures.looks _ _ c.read_account.result
+    c.args.self.now.refused c.told.new.refused c.told.result (λ live db may. g.met.S.Store.settled c.args.self.now.conn.store db live may) c.if-self.false c.read_account.ensures.value c.told.ensures
+    (λ kept row account found read. known_row nat_cmp_total (λ a. a.number) c.args.account _ (λ a. ap (λ n. int_eq (pos a.number) (pos n)) c.get.ensures.value ∙ number_test a.number c.args.account) account_of _ _ account found read)
+
+pub returns-then-self-clause-store : goal.returns-then-self-clause-store
+returns-then-self-clause-store g c = refused_blames (view g.S.Store c.args.self.now.conn) c.args.self.now.refused _ c.if-self.true
+
+pub returns-clause-store : goal.returns-clause-store
+returns-clause-store g c =
+    blames (view g.S.Store c.args.self.now.conn) (view g.S.Store c.find_account-found.new.conn) c.args.self.now.well _ _ c.find_account-found.ensures.looks _ _ c.read_account.result c.args.self.now.refused c.told.new.refused c.told.result
+    c.find_account-found.ensures.readable c.read_account.ensures.accepts c.told.ensures (λ can. can.accounts)
+    (λ stands kept row found. found_row account_in (λ r. IsTrue (is_account r)) _ (tables_in (view g.S.Store c.args.self.now.conn)).accounts (each_so is_account (λ r. IsTrue (is_account r)) (λ _ good. good) (tables_in (view g.S.Store c.args.self.now.conn)).accounts kept.readable.accounts) row found)

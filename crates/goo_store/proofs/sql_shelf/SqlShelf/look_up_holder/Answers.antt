@@ -1,0 +1,11 @@
+use Rattle.std.proofs.Common.{sym, subst}
+use Rattle.sqlite.specs.Held.{state as view}
+use Rattle.goo_store_plans.specs.Found.{AreFindingsOf}
+use Rattle.goo_store.proofs.sql_shelf.SqlShelf.look_up_holder.Goals as goal
+
+pub invariant_of-self : goal.invariant_of-self
+invariant_of-self g c = record {
+  outside = c.name_of.ensures.outside c.args.self.now.outside;
+  well = c.name_of.ensures.well;
+  known = λ none. subst (AreFindingsOf c.args.self.now.findings) (sym (c.name_of.ensures.same none).1) (c.args.self.now.known (c.name_of.ensures.same none).0);
+}

@@ -1,0 +1,124 @@
+//! Changes of the tables, one statement each.
+
+ghost use Rattle.std.specs.Prelude.{◌≡◌, OnOk, All};
+ghost use Rattle.sqlite.specs.State.{HasCleanDisk, IsLive, KeepsCommit, Survives};
+ghost use Rattle.sqlite.specs.Held.{state};
+ghost use Rattle.goo_tables_rows.specs.Rows.{Tables};
+ghost use Rattle.goo_tables_rows.specs.Refused.{ChangeFailsBy, IsTooBigOrFull};
+ghost use Rattle.goo_tables_rows.specs.Lives.{LeavesLive};
+ghost use Rattle.goo_tables_rows.specs.Stands.{Sees};
+ghost use Rattle.goo_store_changes.specs.Changes.{made, made_all, ChangeFits, IsFor, AreFor, IsFree, AreFree, HasRoom, HaveRoom};
+
+use crate::once::{keep_counters, keep_notice};
+use goo_tables::cancellation::insert_cancellation;
+use goo_tables::declaration::insert_declaration;
+use goo_tables::device::{insert_device, set_progress};
+use goo_tables::lot::insert_lot;
+use goo_tables::meta::set_today;
+use goo_tables::notice_out::insert_notice_out;
+use goo_tables::peer::insert_peer;
+use goo_tables::receipt::insert_receipt;
+use goo_tables::withdrawal::insert_withdrawal;
+use goo_tables_holdings::account::{close_account, insert_account};
+use goo_tables_holdings::counters::CountersRow;
+use goo_tables_holdings::holder::insert_holder;
+use goo_tables_holdings::piece::{delete_piece, insert_piece};
+use goo_tables_rows::account::AccountRow;
+use goo_tables_rows::cancellation::CancellationRow;
+use goo_tables_rows::declaration::DeclarationRow;
+use goo_tables_rows::device::DeviceRow;
+use goo_tables_rows::holder::HolderRow;
+use goo_tables_rows::lot::LotRow;
+use goo_tables_rows::notice_in::NoticeInRow;
+use goo_tables_rows::notice_out::NoticeOutRow;
+use goo_tables_rows::peer::PeerRow;
+use goo_tables_rows::piece::PieceRow;
+use goo_tables_rows::receipt::ReceiptRow;
+use goo_tables_rows::withdrawal::WithdrawalRow;
+use sqlite::{Alter, Error, Transaction};
+
+/// A change of the tables.
+#[derive(Drop)]
+pub enum TableChange {
+    AddHolder(HolderRow),
+    AddAccount(AccountRow),
+    /// The account with this number.
+    CloseAccount(u32),
+    AddDevice(DeviceRow),
+    AddDeclaration(DeclarationRow),
+    /// The device with this number: the last day of its last accepted period, and its carry in Wh.
+    SetProgress {
+        device: String,
+        last_day: String,
+        carry: u64,
+    },
+    AddLot(LotRow),
+    /// The piece that begins with this number.
+    DeletePiece(u64),
+    InsertPiece(PieceRow),
+    AddPeer(PeerRow),
+    AddReceipt(ReceiptRow),
+    AddCancellation(CancellationRow),
+    AddWithdrawal(WithdrawalRow),
+    AddNoticeOut(NoticeOutRow),
+    AddNoticeIn(NoticeInRow),
+    SetToday(String),
+    SetCounters(CountersRow),
+}
+
+/// Makes a change.
+fn make<S: Alter>(tx: &mut Transaction<'_, S>, change: &TableChange) -> Result<usize, Error>
+    requires { ChangeFits change.now }
+    ensures same_reference { tx.new.conn.ghost_name ≡ tx.old.conn.ghost_name }
+    ensures changed { HasCleanDisk (state S.Store tx.new.conn.now) → (t : Tables) → Sees (state S.Store tx.old.conn.now) t → IsFor t change.now
+        → OnOk result (Sees (state S.Store tx.new.conn.now) (made t change.now)) }
+    ensures refused { ChangeFailsBy IsTooBigOrFull (λ t. HasRoom t change.now) (state S.Store tx.old.conn.now) (state S.Store tx.new.conn.now) result (λ t. IsFree t change.now) }
+    ensures live { LeavesLive (state S.Store tx.old.conn.now) (state S.Store tx.new.conn.now) result }
+    ensures uncommitted { HasCleanDisk (state S.Store tx.new.conn.now) → KeepsCommit (state S.Store tx.old.conn.now) (state S.Store tx.new.conn.now) }
+    ensures survives { Survives (state S.Store tx.old.conn.now) (state S.Store tx.new.conn.now) (λ _. ⊥) }
+{
+    match change {
+        TableChange::AddHolder(row) => insert_holder(tx, row),
+        TableChange::AddAccount(row) => insert_account(tx, row),
+        TableChange::CloseAccount(number) => close_account(tx, *number),
+        TableChange::AddDevice(row) => insert_device(tx, row),
+        TableChange::AddDeclaration(row) => insert_declaration(tx, row),
+        TableChange::SetProgress {
+            device,
+            last_day,
+            carry,
+        } => set_progress(tx, device, last_day, *carry),
+        TableChange::AddLot(row) => insert_lot(tx, row),
+        TableChange::DeletePiece(first) => delete_piece(tx, *first),
+        TableChange::InsertPiece(row) => insert_piece(tx, row),
+        TableChange::AddPeer(row) => insert_peer(tx, row),
+        TableChange::AddReceipt(row) => insert_receipt(tx, row),
+        TableChange::AddCancellation(row) => insert_cancellation(tx, row),
+        TableChange::AddWithdrawal(row) => insert_withdrawal(tx, row),
+        TableChange::AddNoticeOut(row) => insert_notice_out(tx, row),
+        TableChange::AddNoticeIn(row) => keep_notice(tx, row),
+        TableChange::SetToday(day) => set_today(tx, day),
+        TableChange::SetCounters(counters) => keep_counters(tx, counters),
+    }
+}
+
+/// Makes the changes in turn.
+pub(crate) fn make_all<S: Alter>(
+    tx: &mut Transaction<'_, S>,
+    changes: &[TableChange],
+) -> Result<(), Error>
+    requires { All ChangeFits changes.now }
+    ensures same_reference { tx.new.conn.ghost_name ≡ tx.old.conn.ghost_name }
+    ensures changed { HasCleanDisk (state S.Store tx.new.conn.now) → (t : Tables) → Sees (state S.Store tx.old.conn.now) t → AreFor t changes.now
+        → OnOk result (Sees (state S.Store tx.new.conn.now) (made_all t changes.now)) }
+    ensures refused { ChangeFailsBy IsTooBigOrFull (λ t. HaveRoom t changes.now) (state S.Store tx.old.conn.now) (state S.Store tx.new.conn.now) result (λ t. AreFor t changes.now × AreFree t changes.now) }
+    ensures live { HasCleanDisk (state S.Store tx.new.conn.now) → IsLive (state S.Store tx.old.conn.now) → (t : Tables) → Sees (state S.Store tx.old.conn.now) t → AreFor t changes.now
+        → OnOk result (IsLive (state S.Store tx.new.conn.now)) }
+    ensures uncommitted { HasCleanDisk (state S.Store tx.new.conn.now) → KeepsCommit (state S.Store tx.old.conn.now) (state S.Store tx.new.conn.now) }
+    ensures survives { Survives (state S.Store tx.old.conn.now) (state S.Store tx.new.conn.now) (λ _. ⊥) }
+{
+    for change in changes {
+        make(tx, change)?;
+    }
+    Ok(())
+}

@@ -1,0 +1,4 @@
+pub mod Moments
+pub mod Holding
+pub mod StoreFaults
+pub mod Opening

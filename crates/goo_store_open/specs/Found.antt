@@ -1,0 +1,94 @@
+-- What is found where the tables of a registry are looked for.
+use Rattle.std.specs.Prelude.{◌≡◌, ◌⊎◌, ◌≤◌, ◌==◌, if◌then◌else◌, false, List, [], ◌∷◌, map, None, Result, IfOk, IfErr, OnOk, IsTrue}
+use Rattle.sqlite_disk.specs.Disk.{MoreFaults}
+use Rattle.sqlite.specs.State.{State, HasCleanDisk}
+use Rattle.sqlite.specs.Tree.{Trees}
+use Rattle.sqlite.specs.declared.error.Error.{Error}
+use Rattle.sqlite.specs.declared.error.Error.TheVariants.{SqliteFailure, SqlInputError, InvalidColumnIndex, InvalidColumnType, IntegralValueOutOfRange, Utf8Error}
+use Rattle.sqlite.specs.declared.error.ErrorCode.TheVariants.{OutOfMemory}
+use Rattle.sqlite.specs.Effect.{Database}
+use Rattle.goo_tables_rows.specs.Rows.{Tables, Kept, Numbered, meta_row, meta_in, holder_in, account_in, device_in, declaration_in, lot_in, receipt_in, cancellation_in, withdrawal_in, notice_out_in, notice_in_in}
+use Rattle.goo_tables_rows.specs.Stands.{Stands, Rests}
+use Rattle.goo_tables_rows.specs.declared.meta.MetaRow.{MetaRow}
+use Rattle.goo_store_open.specs.Reading.{CanBeRead, IsMet}
+use Rattle.goo_store_open.specs.declared.fault.OpenFault.{OpenFault}
+use Rattle.goo_store_open.specs.declared.fault.OpenFault.TheVariants.{NotARegistry, Version, Damaged, Store, Memory}
+use Rattle.goo_store_open.specs.declared.finding.Found.{Found}
+
+-- the values of rows under rowids of their own
+abbrev pub values : {X : Type 0} → List (Kept X) → List X
+values = map (λ k. k.1)
+
+-- what was read is what these tables hold
+pub record AreOf (t : Tables) (x : Found) : Type 0 where
+  pub meta : meta_in x.meta ≡ t.meta
+  pub holders : map holder_in x.rows.members.holders.items ≡ values t.holders
+  pub accounts : map account_in x.rows.members.accounts.items ≡ t.accounts
+  pub peers : x.rows.members.peers.items ≡ values t.peers
+  pub devices : map device_in x.rows.production.devices.items ≡ values t.devices
+  pub declarations : map declaration_in x.rows.production.declarations.items ≡ t.declarations
+  pub lots : map lot_in x.rows.production.lots.items ≡ t.lots
+  pub pieces : x.rows.production.pieces.items ≡ t.pieces
+  pub receipts : map receipt_in x.rows.acts.receipts.items ≡ values t.receipts
+  pub cancellations : map cancellation_in x.rows.acts.cancellations.items ≡ t.cancellations
+  pub withdrawals : map withdrawal_in x.rows.acts.withdrawals.items ≡ t.withdrawals
+  pub notices_out : map notice_out_in x.rows.notices.sent.items ≡ t.notices_out
+  pub notices_in : map notice_in_in x.rows.notices.came.items ≡ values t.notices_in
+
+-- the only row of `meta`
+pub record ShowsMeta (db : Database) (m : MetaRow) : Type 0 where
+  pub only : db.trees 0 ≡ meta_row (meta_in m) ∷ []
+  pub version : m.version ≡ 1
+
+-- why rows of `meta` are not those of a registry that is read here: not one row, or not under the number 1, or of this version
+abbrev pub row_fault : List Numbered → OpenFault
+row_fault [] = NotARegistry
+row_fault (row ∷ []) = if row.id == 1 then Version row.meta.version else NotARegistry
+row_fault (row ∷ other ∷ rows) = NotARegistry
+
+-- the database holds tables of version 1, and they are what was read
+abbrev pub ShowsTables : Database → Found → Type 0
+ShowsTables db x = (t : Tables) × Stands db t × AreOf t x × (t.meta.version ≡ 1)
+
+-- tables of version 1 whose values can be read
+abbrev pub IsReadable : Tables → Type 0
+IsReadable t = CanBeRead t × (t.meta.version ≡ 1)
+
+-- the database failed, or memory did
+abbrev pub IsOutside : OpenFault → Type 0
+IsOutside f = (f ≡ Store) ⊎ (f ≡ Memory)
+
+-- The word for tables that are refused: one from outside, `Damaged` where a value can't be read, or their version, which isn't 1.
+abbrev pub IsWord : Tables → OpenFault → Type 0
+IsWord t f = IsOutside f ⊎ (((f ≡ Damaged) × ¬ CanBeRead t) ⊎ ((f ≡ Version t.meta.version) × ¬ (t.meta.version ≡ 1)))
+
+-- The word for the error of a statement: for want of memory; the one that is given where a table or a column is missing; for a value that
+-- can't be read; and for all others that of the store.
+abbrev pub word_of : OpenFault → Error → OpenFault
+word_of missing (SqliteFailure OutOfMemory) = Memory
+word_of missing (SqlInputError cause) = missing
+word_of missing (InvalidColumnIndex at) = Damaged
+word_of missing (InvalidColumnType at kind) = Damaged
+word_of missing (IntegralValueOutOfRange at) = Damaged
+word_of missing (Utf8Error at) = Damaged
+word_of missing _ = Store
+
+-- the disk failed in this call, or an earlier failure had shut the connection
+abbrev pub HasStoreFailed : State → State → Type 0
+HasStoreFailed old new = MoreFaults old.faults new.faults ⊎ (old.is_open ≡ false)
+
+-- A call that reads and changes nothing, as `OnlyReads`, whose refusals are words on the tables.
+-- `blames`: `Store` is told only where the store failed, whatever the tables hold.
+-- `right`: tables that can be read are refused for want of memory or a fault of the store alone.
+pub record Finds {T : Type 0} (old new : State) (result : Result T OpenFault) (Shows : Database → T → Type 0) : Type 0 where
+  pub clean : HasCleanDisk new → HasCleanDisk old
+  pub outside : old.in_transaction ≡ false → new.in_transaction ≡ false
+  pub rests : HasCleanDisk new → IsMet old → Rests old new
+  pub works : OnOk result (HasCleanDisk new → IsTrue new.is_open)
+  pub seen : HasCleanDisk new → IsMet old → IfOk result (Shows old.now)
+  pub crash : HasCleanDisk new → IsMet old → (db : Trees) → new.may_leave db → old.may_leave db
+  pub counts : HasCleanDisk new → IsMet old → old.faults ≤ new.faults
+  pub limit : HasCleanDisk new → IsMet old → new.step_limit ≡ old.step_limit
+  pub right : HasCleanDisk new → IsMet old → old.step_limit ≡ None → (t : Tables) → Stands old.now t → IsReadable t → IfErr result IsOutside
+  pub words : HasCleanDisk new → IsMet old → old.step_limit ≡ None → (t : Tables) → Stands old.now t → IfErr result (IsWord t)
+  pub blames : HasCleanDisk new → IsMet old → old.step_limit ≡ None → IfErr result (λ f. f ≡ Store → HasStoreFailed old new)

@@ -1,0 +1,55 @@
+//! The rows of all tables but `meta`, each table in the order of its rowids.
+
+use goo_tables_rows::account::AccountRow;
+use goo_tables_rows::cancellation::CancellationRow;
+use goo_tables_rows::declaration::DeclarationRow;
+use goo_tables_rows::device::DeviceRow;
+use goo_tables_rows::holder::HolderRow;
+use goo_tables_rows::lot::LotRow;
+use goo_tables_rows::notice_in::NoticeInRow;
+use goo_tables_rows::notice_out::NoticeOutRow;
+use goo_tables_rows::peer::PeerRow;
+use goo_tables_rows::piece::PieceRow;
+use goo_tables_rows::receipt::ReceiptRow;
+use goo_tables_rows::withdrawal::WithdrawalRow;
+
+/// Those that the registry knows.
+#[derive(Drop)]
+pub struct Members {
+    pub holders: Vec<HolderRow>,
+    pub accounts: Vec<AccountRow>,
+    pub peers: Vec<PeerRow>,
+}
+
+/// What was produced, and the certificates for it.
+#[derive(Drop)]
+pub struct Production {
+    pub devices: Vec<DeviceRow>,
+    pub declarations: Vec<DeclarationRow>,
+    pub lots: Vec<LotRow>,
+    pub pieces: Vec<PieceRow>,
+}
+
+/// The requests that were accepted, and the records of acts.
+#[derive(Drop)]
+pub struct Acts {
+    pub receipts: Vec<ReceiptRow>,
+    pub cancellations: Vec<CancellationRow>,
+    pub withdrawals: Vec<WithdrawalRow>,
+}
+
+/// The notices that were sent and that came in.
+#[derive(Drop)]
+pub struct Notices {
+    pub sent: Vec<NoticeOutRow>,
+    pub came: Vec<NoticeInRow>,
+}
+
+/// The rows of all tables but `meta`.
+#[derive(Drop)]
+pub struct AllRows {
+    pub members: Members,
+    pub production: Production,
+    pub acts: Acts,
+    pub notices: Notices,
+}

@@ -1,0 +1,44 @@
+-- What the changes of a plan need of the tables.
+use Rattle.std.specs.Prelude.{length, Option}
+use Rattle.goo_types.specs.declared.command.Command.{Command}
+use Rattle.goo_types.specs.declared.command.Command.TheVariants.{OpenAccount, Declare, Cancel, Withdraw, Export, Import}
+use Rattle.goo_spec.specs.Step.{accept}
+use Rattle.goo_core_shelf.specs.Plan.{Fits}
+use Rattle.goo_core_shelf.specs.declared.plan.Plan.{Plan}
+use Rattle.goo_tables_rows.specs.Rows.{Tables, declaration_key, lot_key}
+use Rattle.goo_tables_rows.specs.declared.meta.MetaRow.{MetaRow}
+use Rattle.goo_spec_tables.specs.Places.{rows_of}
+use Rattle.goo_spec_tables.specs.States.{state_of}
+use Rattle.goo_store_plans.specs.AtHand.{HasRoom}
+use Rattle.goo_store_plans.specs.Carried.{AreInOrder}
+use Rattle.goo_store_plans.specs.EditsTaken.{HaveKeptNumbers, HaveKnownLots}
+use Rattle.goo_store_plans.specs.Found.{AreFindingsOf}
+use Rattle.goo_store_plans.specs.Needing.{CanGoByRow}
+use Rattle.goo_store_plans.specs.declared.findings.Findings.{Findings}
+use Rattle.goo_store_plans.specs.declared.findings.KnownDevice.{KnownDevice}
+
+-- an import has room for the lots of its parts, and a command that needs the registry's row can go by it
+abbrev pub CanGo : Tables → Option MetaRow → Option KnownDevice → Plan → Command → Type 0
+CanGo t own kept plan (Import x) = HasRoom (length x.notice.parts) lot_key t.lots
+CanGo t own kept plan (OpenAccount x) = CanGoByRow t own kept plan
+CanGo t own kept plan (Declare x) = CanGoByRow t own kept plan
+CanGo t own kept plan (Cancel x) = CanGoByRow t own kept plan
+CanGo t own kept plan (Withdraw x) = CanGoByRow t own kept plan
+CanGo t own kept plan (Export x) = CanGoByRow t own kept plan
+CanGo t own kept plan _ = Unit {0}
+
+-- what the command puts in under a number gets one that a column keeps: a declaration and its lot, and the lots of an import's parts
+abbrev pub HasRoomFor : Tables → Command → Type 0
+HasRoomFor t (Declare x) = HasRoom 1 declaration_key t.declarations × HasRoom 1 lot_key t.lots
+HasRoomFor t (Import x) = HasRoom (length x.notice.parts) lot_key t.lots
+HasRoomFor t _ = Unit {0}
+
+-- What was kept is so in the tables, in which the plan may be committed, and they have room for its command. The registry knows the
+-- lots of the pieces that the edits insert, once the request is accepted; and columns keep the numbers of the lots that are there.
+pub record CanBePlanned (t : Tables) (findings : Findings) (plan : Plan) : Type 0 where
+  pub found : AreFindingsOf findings t
+  pub order : AreInOrder t
+  pub fits : Fits (state_of t) (rows_of t) plan
+  pub room : HasRoomFor t plan.request.command
+  pub edits : HaveKnownLots (accept (state_of t) plan.request) plan.edits.items
+  pub lots : HaveKeptNumbers t.lots

@@ -1,0 +1,82 @@
+-- The rules on single values, judged over what was read, are those of the tables.
+use Rattle.std.proofs.Common.{◌≡◌, Bool, true, ◌&&◌, List, map, pos, sym, ap, ◌∙◌}
+use Rattle.std.specs.List.{list_all}
+use Rattle.std.proofs.lemmas.Bool.{and_parts, and_from}
+use Rattle.std.proofs.lemmas.List.Folds.{list_all-map}
+use Rattle.goo_tables_rows.specs.Rows.{Tables, Kept, holder_in, account_in, device_in, declaration_in, lot_in, receipt_in, cancellation_in, withdrawal_in, notice_out_in, notice_in_in}
+use Rattle.goo_store_open.specs.Found.{AreOf, values}
+use Rattle.goo_store_open.specs.declared.finding.Found.{Found}
+use Rattle.goo_spec_tables.specs.Kept.{AreReadable}
+use Rattle.goo_spec_tables.specs.Readable.{is_meta, is_holder, is_account, is_device, is_declaration, is_lot, is_piece, is_peer, is_receipt, is_cancellation, is_withdrawal, is_notice_out, is_notice_in}
+use Rattle.goo_store_rules.specs.Keeping.{has_good_values, has_its_notices}
+
+-- a rule over rows that were read, as one over the rows that are kept
+pub rows_same : {X Y : Type 0} (p : Y → Bool) (f : X → Y) (items : List X) (xs : List Y) → map f items ≡ xs → list_all (λ row. p (f row)) items ≡ list_all p xs
+rows_same p f items xs is = sym (list_all-map p f items) ∙ ap (list_all p) is
+
+-- the same where they are kept under rowids of their own
+pub kept_same : {X Y : Type 0} (p : Y → Bool) (f : X → Y) (items : List X) (ks : List (Kept Y)) → map f items ≡ values ks → list_all (λ row. p (f row)) items ≡ list_all (λ k. p k.1) ks
+kept_same p f items ks is = rows_same p f items (values ks) is ∙ list_all-map p (λ k. k.1) ks
+
+module _ (t : Tables) (x : Found) (are : AreOf t x) where
+  -- each of the rules on values, and all of them
+  good_values : has_good_values x
+      ≡ (is_meta t.meta && (list_all is_holder t.holders && (list_all is_account t.accounts && (list_all is_peer t.peers && (list_all is_device t.devices && (list_all is_declaration t.declarations
+      && (list_all is_lot t.lots && (list_all is_piece t.pieces && (list_all is_receipt t.receipts && (list_all is_cancellation t.cancellations && list_all is_withdrawal t.withdrawals))))))))))
+  good_values =
+      let holders = kept_same (λ h. is_holder (pos 0, h)) holder_in x.rows.members.holders.items t.holders are.holders in
+      let accounts = rows_same is_account account_in x.rows.members.accounts.items t.accounts are.accounts in
+      let peers : list_all (λ row. is_peer (pos 0, row)) x.rows.members.peers.items ≡ list_all is_peer t.peers = ap (list_all (λ p. is_peer (pos 0, p))) are.peers ∙ list_all-map (λ p. is_peer (pos 0, p)) (λ k. k.1) t.peers in
+      let devices = kept_same (λ d. is_device (pos 0, d)) device_in x.rows.production.devices.items t.devices are.devices in
+      let declarations = rows_same is_declaration declaration_in x.rows.production.declarations.items t.declarations are.declarations in
+      let lots = rows_same is_lot lot_in x.rows.production.lots.items t.lots are.lots in
+      let receipts = kept_same (λ r. is_receipt (pos 0, r)) receipt_in x.rows.acts.receipts.items t.receipts are.receipts in
+      let cancellations = rows_same is_cancellation cancellation_in x.rows.acts.cancellations.items t.cancellations are.cancellations in
+      let withdrawals = rows_same is_withdrawal withdrawal_in x.rows.acts.withdrawals.items t.withdrawals are.withdrawals in
+      λ i. is_meta (are.meta i) && (holders i && (accounts i && (peers i && (devices i && (declarations i && (lots i && (list_all is_piece (are.pieces i) && (receipts i && (cancellations i && withdrawals i)))))))))
+
+  notices : has_its_notices x ≡ (list_all (is_notice_out t.meta.code) t.notices_out && list_all is_notice_in t.notices_in)
+  notices =
+      let sent = rows_same (is_notice_out x.meta.code) notice_out_in x.rows.notices.sent.items t.notices_out are.notices_out ∙ (λ i. list_all (is_notice_out (are.meta i).code) t.notices_out) in
+      let came = kept_same (λ n. is_notice_in (pos 0, n)) notice_in_in x.rows.notices.came.items t.notices_in are.notices_in in
+      λ i. sent i && came i
+
+  -- what the rules on values say of the tables
+  pub readable : t.meta.version ≡ 1 → has_good_values x ≡ true → has_its_notices x ≡ true → AreReadable t
+  readable version good told =
+      let a = and_parts _ _ (sym good_values ∙ good) in
+      let b = and_parts _ _ a.1 in
+      let c = and_parts _ _ b.1 in
+      let d = and_parts _ _ c.1 in
+      let e = and_parts _ _ d.1 in
+      let f = and_parts _ _ e.1 in
+      let g = and_parts _ _ f.1 in
+      let h = and_parts _ _ g.1 in
+      let j = and_parts _ _ h.1 in
+      let k = and_parts _ _ j.1 in
+      let n = and_parts _ _ (sym notices ∙ told) in
+      record {
+        version = version;
+        meta = a.0;
+        holders = b.0;
+        accounts = c.0;
+        peers = d.0;
+        devices = e.0;
+        declarations = f.0;
+        lots = g.0;
+        pieces = h.0;
+        receipts = j.0;
+        cancellations = k.0;
+        withdrawals = k.1;
+        notices_out = n.0;
+        notices_in = n.1;
+      }
+
+  pub values_good : AreReadable t → has_good_values x ≡ true
+  values_good it =
+      good_values
+      ∙ and_from _ _ it.meta (and_from _ _ it.holders (and_from _ _ it.accounts (and_from _ _ it.peers (and_from _ _ it.devices (and_from _ _ it.declarations
+      (and_from _ _ it.lots (and_from _ _ it.pieces (and_from _ _ it.receipts (and_from _ _ it.cancellations it.withdrawals)))))))))
+
+  pub notices_good : AreReadable t → has_its_notices x ≡ true
+  notices_good it = notices ∙ and_from _ _ it.notices_out it.notices_in

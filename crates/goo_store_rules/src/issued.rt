@@ -1,0 +1,146 @@
+//! What was issued for what devices declared.
+
+ghost use Rattle.std.specs.Prelude.{◌≡◌, ◌+◌, ◌<◌, ◌^◌, ◌-◌, ◌≤◌, ℕ, List, true, map, sum_by, is_some, IsSome, IfSome, IfOk, OnOk};
+ghost use Rattle.std.specs.BTreeMap.{get};
+ghost use Rattle.std.specs.List.{list_all};
+ghost use Rattle.std.specs.Ordering.{nat_cmp};
+ghost use Rattle.goo_tables_rows.specs.Rows.{Lot, lot_in};
+ghost use Rattle.goo_spec_tables.specs.Readable.{is_lot};
+ghost use Rattle.goo_store_rules.specs.Production.{issued_by, is_due, is_lot_due, AreDevicesOf};
+ghost use Rattle.goo_store_rules.specs.Summing.{sum_at};
+
+use crate::declares::gsrn_in;
+use crate::numbers::CERTIFICATE;
+use crate::sums::{add_to, sum_for};
+use goo_tables_rows::lot::LotRow;
+use goo_tables_rows::piece::PieceRow;
+use goo_types::command::Declare;
+use goo_types::gsrn::Gsrn;
+use goo_types::limits::SERIALS;
+use std::alloc::{AllocError, Global};
+use std::collections::BTreeMap;
+
+/// Whether a lot of this number is there.
+fn is_known(devices: &BTreeMap<u64, Gsrn>, id: u64) -> bool
+    ensures { result ≡ is_some (get nat_cmp devices.now id) }
+{
+    devices.contains_key(&id)
+}
+
+/// The device of each lot, where each is the number of one.
+///
+/// # Errors
+///
+/// Where an allocation is refused.
+pub fn devices_of_lots(
+    alloc: Global,
+    rows: &[LotRow],
+) -> Result<Option<BTreeMap<u64, Gsrn>>, AllocError>
+    ensures value { IfOk result (λ o. IfSome o (AreDevicesOf (map lot_in rows.now))) }
+    ensures readable { list_all (λ row. is_lot (lot_in row)) rows.now ≡ true → IfOk result IsSome }
+{
+    let mut devices = BTreeMap::new(alloc);
+    for row in rows {
+        let Some(device) = gsrn_in(&row.device) else {
+            return Ok(None);
+        };
+        if !is_known(&devices, row.id) {
+            devices.insert(row.id, device)?;
+        }
+    }
+    Ok(Some(devices))
+}
+
+/// How many certificates a row has.
+fn count_in(row: &PieceRow) -> u128
+    ensures value { result ≡ row.now.last + 1 - row.now.first }
+    ensures small { result ≤ 2 ^ 64 }
+{
+    (u128::from(row.last) + 1).saturating_sub(u128::from(row.first))
+}
+
+/// Adds a row's certificates to their device, where they are the own ones of the registry of this code.
+fn add_issued(
+    counts: &mut BTreeMap<Gsrn, u128>,
+    own: u32,
+    row: &PieceRow,
+    devices: &BTreeMap<u64, Gsrn>,
+) -> Result<(), AllocError>
+    requires { (q : List ℕ) → sum_at counts.old q + 2 ^ 64 < 2 ^ 128 }
+    ensures added { OnOk result ((lots : List Lot) → AreDevicesOf lots devices.now → (q : List ℕ) → sum_at counts.new q ≡ sum_at counts.old q + issued_by own lots q row.now) }
+    ensures small { OnOk result ((q : List ℕ) → sum_at counts.new q ≤ sum_at counts.old q + 2 ^ 64) }
+{
+    if row.first / SERIALS != u64::from(own) {
+        return Ok(());
+    }
+    match devices.get(&row.lot) {
+        Some(device) => add_to(counts, *device, count_in(row)),
+        None => Ok(()),
+    }
+}
+
+/// How many certificates of the registry of this code were issued to each device.
+///
+/// # Errors
+///
+/// Where an allocation is refused.
+pub fn count_issued(
+    alloc: Global,
+    own: u32,
+    rows: &[PieceRow],
+    devices: &BTreeMap<u64, Gsrn>,
+) -> Result<BTreeMap<Gsrn, u128>, AllocError>
+    ensures { IfOk result (λ counts. (lots : List Lot) → AreDevicesOf lots devices.now → (q : List ℕ) → sum_at counts q ≡ sum_by (issued_by own lots q) rows.now) }
+{
+    let mut counts = BTreeMap::new(alloc);
+    for row in rows {
+        add_issued(&mut counts, own, row, devices)?;
+    }
+    Ok(counts)
+}
+
+/// Whether a device was issued what is due, by these counts and sums.
+fn has_its_due(counts: &BTreeMap<Gsrn, u128>, sums: &BTreeMap<Gsrn, u128>, device: &Gsrn) -> bool
+    ensures { result ≡ is_due (sum_at counts.now) (sum_at sums.now) device.now }
+{
+    sum_for(counts, device) == sum_for(sums, device) / CERTIFICATE
+}
+
+/// Whether each device of these declarations was issued what is due.
+pub fn have_declared_due(
+    declared: &[Declare],
+    counts: &BTreeMap<Gsrn, u128>,
+    sums: &BTreeMap<Gsrn, u128>,
+) -> bool
+    ensures { result ≡ list_all (λ x. is_due (sum_at counts.now) (sum_at sums.now) x.device) declared.now }
+{
+    declared.iter().all(|declaration| has_its_due(counts, sums, &declaration.device))
+}
+
+/// Whether the device of a row's lot was issued what is due.
+fn has_lot_due(
+    row: &PieceRow,
+    devices: &BTreeMap<u64, Gsrn>,
+    counts: &BTreeMap<Gsrn, u128>,
+    sums: &BTreeMap<Gsrn, u128>,
+) -> bool
+    ensures { result ≡ is_lot_due (sum_at counts.now) (sum_at sums.now) (get nat_cmp devices.now row.now.lot) }
+{
+    match devices.get(&row.lot) {
+        Some(device) => has_its_due(counts, sums, device),
+        None => true,
+    }
+}
+
+/// Whether each device of the lots of these rows was issued what is due.
+pub fn have_issued_due(
+    rows: &[PieceRow],
+    devices: &BTreeMap<u64, Gsrn>,
+    counts: &BTreeMap<Gsrn, u128>,
+    sums: &BTreeMap<Gsrn, u128>,
+) -> bool
+    ensures { result ≡ list_all (λ row. is_lot_due (sum_at counts.now) (sum_at sums.now) (get nat_cmp devices.now row.lot)) rows.now }
+{
+    rows.iter()
+        .all(|row| has_lot_due(row, devices, counts, sums))
+}

@@ -1,0 +1,62 @@
+//! All rules, judged over all that was read of a registry's tables.
+
+ghost use Rattle.std.specs.Prelude.{◌≡◌, ◌↔◌, ◌&&◌, IsTrue, IfOk};
+ghost use Rattle.goo_store_rules.specs.Keeping.{has_good_values, has_its_numbers};
+ghost use Rattle.goo_store_rules.specs.Rules.{KeepsValues, KeepsNames, KeepsRules};
+
+use crate::keeping::{are_accepted, are_named, are_notices, are_numbered, are_placed};
+use crate::lots::are_good;
+use crate::names::own_lots_have_declarations;
+use crate::produced::keeps_production;
+use goo_store_open::finding::Found;
+use std::alloc::{AllocError, Global};
+
+/// Whether the values of rows, and their numbers, are right.
+fn are_accepted_and_numbered(found: &Found) -> bool
+    ensures { result ≡ (has_good_values found.now && has_its_numbers found.now) }
+{
+    are_accepted(found) && are_numbered(found)
+}
+
+/// The same, and whether the days of lots are.
+fn keeps_values(found: &Found) -> bool
+    ensures { IsTrue result ↔ KeepsValues found.now }
+{
+    are_accepted_and_numbered(found) && are_good(&found.rows.production.lots)
+}
+
+/// Whether what rows name is there, and notices are their texts.
+///
+/// # Errors
+///
+/// Where an allocation is refused.
+fn keeps_names(alloc: Global, found: &Found) -> Result<bool, AllocError>
+    ensures { IfOk result (λ yes. IsTrue yes ↔ KeepsNames found.now) }
+{
+    let production = &found.rows.production;
+    Ok(
+        are_named(alloc, found)?
+            && are_placed(alloc, found)?
+            && are_notices(alloc, found)?
+            && own_lots_have_declarations(
+                alloc,
+                found.meta.code,
+                &production.lots,
+                &production.declarations,
+            )?,
+    )
+}
+
+/// Whether all rules are kept.
+///
+/// # Errors
+///
+/// Where an allocation is refused.
+pub fn keeps_rules(alloc: Global, found: &Found) -> Result<bool, AllocError>
+    ensures { IfOk result (λ yes. IsTrue yes ↔ KeepsRules found.now) }
+{
+    if !keeps_values(found) || !keeps_names(alloc, found)? {
+        return Ok(false);
+    }
+    keeps_production(alloc, found.meta.code, &found.rows.production)
+}

@@ -1,0 +1,170 @@
+//! Whether every name that rows give is there.
+
+ghost use Rattle.std.specs.Prelude.{◌≡◌, ◌&&◌, map, string_bytes, IfOk};
+ghost use Rattle.std.specs.List.{list_all};
+ghost use Rattle.goo_types.specs.Number.{code_of};
+ghost use Rattle.goo_tables_rows.specs.Rows.{holder_in, account_in, device_in, declaration_in, lot_in, cancellation_in, withdrawal_in, notice_out_in};
+ghost use Rattle.goo_store_rules.specs.WellKept.{has_holder, has_account, has_device, has_cancellation, has_withdrawal, has_sent, has_lot_of, has_over, has_closed, act_in, is_timely, has_declaration, is_declared};
+
+use crate::declared::{declared_periods, own_lots_are_declared};
+use crate::marked::{closed_accounts, lot_origins, lots_over};
+use crate::named::{account_numbers, cancellation_numbers, sent_numbers, withdrawal_numbers};
+use crate::named_texts::{device_gsrns, holder_codes};
+use crate::there::{
+    ActNumbers, accounts_are_held, cancellations_have_accounts, declarations_have_devices,
+    devices_have_accounts, notices_have_accounts, pieces_are_in_time, pieces_are_of_origins,
+    pieces_have_accounts, pieces_have_acts,
+};
+use goo_tables_rows::account::AccountRow;
+use goo_tables_rows::cancellation::CancellationRow;
+use goo_tables_rows::declaration::DeclarationRow;
+use goo_tables_rows::device::DeviceRow;
+use goo_tables_rows::holder::HolderRow;
+use goo_tables_rows::lot::LotRow;
+use goo_tables_rows::notice_out::NoticeOutRow;
+use goo_tables_rows::piece::PieceRow;
+use goo_tables_rows::withdrawal::WithdrawalRow;
+use std::alloc::{AllocError, Global};
+
+/// Whether each account's holder is there.
+///
+/// # Errors
+///
+/// Where an allocation is refused.
+pub fn holders_are_there(
+    alloc: Global,
+    accounts: &[AccountRow],
+    holders: &[HolderRow],
+) -> Result<bool, AllocError>
+    ensures { IfOk result (λ yes. yes ≡ list_all (λ row. has_holder (map holder_in holders.now) (string_bytes row.holder)) accounts.now) }
+{
+    let codes = holder_codes(alloc, holders)?;
+    Ok(accounts_are_held(accounts, &codes))
+}
+
+/// Whether each declaration's device is there.
+///
+/// # Errors
+///
+/// Where an allocation is refused.
+pub fn devices_are_there(
+    alloc: Global,
+    declarations: &[DeclarationRow],
+    devices: &[DeviceRow],
+) -> Result<bool, AllocError>
+    ensures { IfOk result (λ yes. yes ≡ list_all (λ row. has_device (map device_in devices.now) (string_bytes row.device)) declarations.now) }
+{
+    let gsrns = device_gsrns(alloc, devices)?;
+    Ok(declarations_have_devices(declarations, &gsrns))
+}
+
+/// Whether the accounts of devices and pieces are there.
+///
+/// # Errors
+///
+/// Where an allocation is refused.
+pub fn accounts_are_there(
+    alloc: Global,
+    accounts: &[AccountRow],
+    devices: &[DeviceRow],
+    pieces: &[PieceRow],
+) -> Result<bool, AllocError>
+    ensures { IfOk result (λ yes. yes ≡ (list_all (λ row. has_account (map account_in accounts.now) row.account) devices.now && list_all (λ row. has_account (map account_in accounts.now) row.account) pieces.now)) }
+{
+    let numbers = account_numbers(alloc, accounts)?;
+    Ok(devices_have_accounts(devices, &numbers) && pieces_have_accounts(pieces, &numbers))
+}
+
+/// Whether the accounts of cancellations and of notices that were sent are there.
+///
+/// # Errors
+///
+/// Where an allocation is refused.
+pub fn accounts_of_acts_are_there(
+    alloc: Global,
+    accounts: &[AccountRow],
+    cancellations: &[CancellationRow],
+    sent: &[NoticeOutRow],
+) -> Result<bool, AllocError>
+    ensures { IfOk result (λ yes. yes ≡ (list_all (λ row. has_account (map account_in accounts.now) row.account) cancellations.now && list_all (λ row. has_account (map account_in accounts.now) row.account) sent.now)) }
+{
+    let numbers = account_numbers(alloc, accounts)?;
+    Ok(
+        cancellations_have_accounts(cancellations, &numbers)
+            && notices_have_accounts(sent, &numbers),
+    )
+}
+
+/// Whether each act that a piece names is there.
+///
+/// # Errors
+///
+/// Where an allocation is refused.
+pub fn acts_are_there(
+    alloc: Global,
+    pieces: &[PieceRow],
+    cancellations: &[CancellationRow],
+    withdrawals: &[WithdrawalRow],
+    sent: &[NoticeOutRow],
+) -> Result<bool, AllocError>
+    ensures { IfOk result (λ yes. yes ≡ list_all (act_in (has_cancellation (map cancellation_in cancellations.now)) (has_withdrawal (map withdrawal_in withdrawals.now)) (has_sent (map notice_out_in sent.now))) pieces.now) }
+{
+    let acts = ActNumbers {
+        cancellations: cancellation_numbers(alloc, cancellations)?,
+        withdrawals: withdrawal_numbers(alloc, withdrawals)?,
+        sent: sent_numbers(alloc, sent)?,
+    };
+    Ok(pieces_have_acts(pieces, &acts))
+}
+
+/// Whether each piece's lot is there, with the code of its certificates as its origin.
+///
+/// # Errors
+///
+/// Where an allocation is refused.
+pub fn lots_are_there(
+    alloc: Global,
+    pieces: &[PieceRow],
+    lots: &[LotRow],
+) -> Result<bool, AllocError>
+    ensures { IfOk result (λ yes. yes ≡ list_all (λ row. has_lot_of (code_of row.first) (map lot_in lots.now) row.lot) pieces.now) }
+{
+    let origins = lot_origins(alloc, lots)?;
+    Ok(pieces_are_of_origins(pieces, &origins))
+}
+
+/// Whether held pieces are of lots that aren't over, in open accounts, and expired ones of lots that are over.
+///
+/// # Errors
+///
+/// Where an allocation is refused.
+pub fn places_are_in_time(
+    alloc: Global,
+    today: &str,
+    pieces: &[PieceRow],
+    lots: &[LotRow],
+    accounts: &[AccountRow],
+) -> Result<bool, AllocError>
+    ensures { IfOk result (λ yes. yes ≡ list_all (is_timely (has_over today.now (map lot_in lots.now)) (has_closed (map account_in accounts.now))) pieces.now) }
+{
+    let over = lots_over(alloc, today, lots)?;
+    let closed = closed_accounts(alloc, accounts)?;
+    Ok(pieces_are_in_time(pieces, &over, &closed))
+}
+
+/// Whether each lot of the registry of this code has a declaration of its device with its first day.
+///
+/// # Errors
+///
+/// Where an allocation is refused.
+pub fn own_lots_have_declarations(
+    alloc: Global,
+    own: u32,
+    lots: &[LotRow],
+    declarations: &[DeclarationRow],
+) -> Result<bool, AllocError>
+    ensures { IfOk result (λ yes. yes ≡ list_all (λ row. is_declared (has_declaration (map declaration_in declarations.now)) own (lot_in row)) lots.now) }
+{
+    let periods = declared_periods(alloc, declarations)?;
+    own_lots_are_declared(own, lots, &periods)
+}

@@ -1,0 +1,2 @@
+pub mod RowsRead
+pub mod Unread

@@ -1,0 +1,45 @@
+-- A row that is refused though memory is there can't be read.
+use Rattle.std.proofs.Common.{◌≡◌, ◌≤◌, arith, true, ◌&&◌, nat_le, Ok, Err, Some, Option, Result, IsErrAnd, IsOk, sym, subst, ◌∙◌, true≢false}
+use Rattle.std.specs.Result.{IsOkUnless}
+use Rattle.std.proofs.lemmas.Bool.{leb-true, le-leb}
+use Rattle.sqlite.specs.declared.error.Error.{Error}
+use Rattle.sqlite_keyed.proofs.RuleLemmas.{second_of_both}
+use Rattle.goo_types.specs.Codes.{holder_reading, key_reading}
+use Rattle.goo_types.specs.Gsrn.{gsrn_reading}
+use Rattle.goo_tables_rows.specs.Rows.{Kept, Device, Receipt}
+use Rattle.goo_spec_tables.specs.Readable.{reads, is_act, is_wh, is_plant, is_maybe_day, is_device, is_receipt, is_reply}
+use Rattle.goo_store_values.specs.Passing.{Accepts}
+use Rattle.goo_store_values.specs.declared.trouble.Trouble.{Trouble}
+use Rattle.goo_store_values.specs.declared.trouble.Trouble.TheVariants.{Memory}
+
+pub unread : {X U : Type 0} (found : Result (Option X) Error) (row : X) (read : Result U Trouble) (IsReadable : Option X → Type 0) → found ≡ Ok (Some row) → (IsReadable (Some row) → ⊥) → Accepts found read IsReadable
+unread {X} found row read IsReadable is bad = subst (λ (f : Result (Option X) Error). Accepts f read IsReadable) (sym is) (λ fits. absurd (bad fits))
+
+no_error : {U : Type 0} (read : Result U Trouble) → IsOk read → IsOkUnless read Memory
+no_error (Ok x) is = tt
+no_error (Err e) is = absurd (true≢false (sym is))
+
+-- a row that is read where it can be
+pub is_read : {X U : Type 0} (found : Result (Option X) Error) (row : X) (read : Result U Trouble) (IsReadable : Option X → Type 0) → found ≡ Ok (Some row) → (IsReadable (Some row) → IsOk read) → Accepts found read IsReadable
+is_read {X} found row read IsReadable is can = subst (λ (f : Result (Option X) Error). Accepts f read IsReadable) (sym is) (λ fits. no_error read (can fits))
+
+-- an error that is handed on
+pub same_trouble : {U : Type 0} (read : Result U Trouble) (e : Trouble) → IsErrAnd read (λ f. f ≡ e) → e ≡ Memory → IsOkUnless read Memory
+same_trouble (Ok x) e is memory = tt
+same_trouble (Err f) e is memory = is ∙ memory
+
+carry_low : (k : Kept Device) → is_device k ≡ true → k.1.carry ≤ 999999
+carry_low k h =
+    leb-true k.1.carry 999999
+    (second_of_both (is_maybe_day k.1.last_day) (nat_le k.1.carry 999999)
+    (second_of_both (is_plant k.1.plant) (is_maybe_day k.1.last_day && nat_le k.1.carry 999999)
+    (second_of_both (is_act k.1.account) (is_plant k.1.plant && (is_maybe_day k.1.last_day && nat_le k.1.carry 999999))
+    (second_of_both (reads (gsrn_reading k.1.gsrn)) (is_act k.1.account && (is_plant k.1.plant && (is_maybe_day k.1.last_day && nat_le k.1.carry 999999))) h))))
+
+pub carry_of_device : (k : Kept Device) → is_device k ≡ true → is_wh k.1.carry ≡ true
+carry_of_device k h = let low = carry_low k h in le-leb k.1.carry 1000000000000000 (omega (arith, low))
+
+pub reply_of_receipt : (k : Kept Receipt) → is_receipt k ≡ true → is_reply k.1.kind k.1.n1 k.1.n2 k.1.n3 ≡ true
+reply_of_receipt k h =
+    second_of_both (reads (key_reading k.1.key)) (is_reply k.1.kind k.1.n1 k.1.n2 k.1.n3)
+    (second_of_both (reads (holder_reading k.1.caller)) (reads (key_reading k.1.key) && is_reply k.1.kind k.1.n1 k.1.n2 k.1.n3) h)

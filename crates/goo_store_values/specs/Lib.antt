@@ -1,0 +1,4 @@
+pub mod Passing
+pub mod Reading
+pub mod Plants
+pub mod Telling

@@ -1,0 +1,12 @@
+//! Values that rows and columns of the tables hold, read: numbers, texts, plants, devices, lots and the registry's own row; why reading
+//! one fails, and what a caller is told of it.
+#![tactic(auto)]
+
+pub mod devices;
+pub mod lots;
+pub mod numbers;
+pub mod plants;
+pub mod registry_row;
+pub mod texts;
+pub mod told;
+pub mod trouble;

@@ -1,0 +1,41 @@
+-- The tables that a database holds are those that its trees say.
+use Rattle.std.proofs.Common.{◌≡◌, ℕ, List, [], ◌∷◌, map, Option, Some, None, refl, sym, ap, subst, ◌∙◌}
+use Rattle.sqlite.specs.Effect.{Database}
+use Rattle.goo_tables_rows.specs.Rows.{Tables, tables_of, first_row, meta_at, Device, Lot, Kept, holder_at, holder_row, account_at, account_row, device_at, device_row, declaration_at, declaration_row, lot_at, lot_row, piece_at, piece_row, peer_at, peer_row, receipt_at, receipt_row, cancellation_at, cancellation_row, withdrawal_at, withdrawal_row, notice_out_at, notice_out_row, notice_in_at, notice_in_row}
+use Rattle.goo_tables_rows.specs.Stands.{Stands}
+
+map_back : {X Y : Type 0} (f : X → Y) (g : Y → X) → ((x : X) → g (f x) ≡ x) → (xs : List X) → map g (map f xs) ≡ xs
+map_back f g back [] = refl
+map_back f g back (x ∷ xs) = λ i. back x i ∷ map_back f g back xs i
+
+decoded_device : (k : Kept Device) → device_at (device_row k) ≡ k
+decoded_device k = go k.1.last_day refl
+  where
+    go : (o : Option (List ℕ)) → k.1.last_day ≡ o → device_at (device_row k) ≡ k
+    go None is = rw is
+    go (Some day) is = rw is
+
+decoded_lot : (l : Lot) → lot_at (lot_row l) ≡ l
+decoded_lot l = go l.expires_on refl
+  where
+    go : (o : Option (List ℕ)) → l.expires_on ≡ o → lot_at (lot_row l) ≡ l
+    go None is = rw is
+    go (Some day) is = rw is
+
+pub decoded : (db : Database) (t : Tables) → Stands db t → tables_of db.trees ≡ t
+unfolding tables_of
+decoded db t it =
+    let meta = subst (λ rows. meta_at (first_row rows) ≡ t.meta) (sym it.meta) refl in
+    let holders = ap (map holder_at) it.holders.are ∙ map_back holder_row holder_at (λ _. refl) t.holders in
+    let accounts = ap (map account_at) it.accounts.are ∙ map_back account_row account_at (λ _. refl) t.accounts in
+    let devices = ap (map device_at) it.devices.are ∙ map_back device_row device_at decoded_device t.devices in
+    let declarations = ap (map declaration_at) it.declarations.are ∙ map_back declaration_row declaration_at (λ _. refl) t.declarations in
+    let lots = ap (map lot_at) it.lots.are ∙ map_back lot_row lot_at decoded_lot t.lots in
+    let pieces = ap (map piece_at) it.pieces.are ∙ map_back piece_row piece_at (λ _. refl) t.pieces in
+    let peers = ap (map peer_at) it.peers.are ∙ map_back peer_row peer_at (λ _. refl) t.peers in
+    let receipts = ap (map receipt_at) it.receipts.are ∙ map_back receipt_row receipt_at (λ _. refl) t.receipts in
+    let cancellations = ap (map cancellation_at) it.cancellations.are ∙ map_back cancellation_row cancellation_at (λ _. refl) t.cancellations in
+    let withdrawals = ap (map withdrawal_at) it.withdrawals.are ∙ map_back withdrawal_row withdrawal_at (λ _. refl) t.withdrawals in
+    let notices_out = ap (map notice_out_at) it.notices_out.are ∙ map_back notice_out_row notice_out_at (λ _. refl) t.notices_out in
+    let notices_in = ap (map notice_in_at) it.notices_in.are ∙ map_back notice_in_row notice_in_at (λ _. refl) t.notices_in in
+    λ i. record { meta = meta i; holders = holders i; accounts = accounts i; devices = devices i; declarations = declarations i; lots = lots i; pieces = pieces i; peers = peers i; receipts = receipts i; cancellations = cancellations i; withdrawals = withdrawals i; notices_out = notices_out i; notices_in = notices_in i }

@@ -1,0 +1,9 @@
+-- What a change leaves to the next one.
+use Rattle.std.specs.Prelude.{◌≡◌, IsTrue, Result, OnOk}
+use Rattle.sqlite.specs.State.{State, HasCleanDisk, IsLive}
+use Rattle.sqlite.specs.declared.error.Error.{Error}
+use Rattle.goo_tables_rows.specs.Columns.{registry_schema}
+
+-- A change inside a transaction on our tables that succeeds leaves a database, as `ChangeFailsBy` asks of the next one.
+abbrev pub LeavesLive : {T : Type 0} → State → State → Result T Error → Type 0
+LeavesLive old new result = HasCleanDisk new → IsLive old → IsTrue old.in_transaction → old.now.schema ≡ registry_schema → OnOk result (IsLive new)

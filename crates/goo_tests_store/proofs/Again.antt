@@ -1,0 +1,11 @@
+-- A registry that is opened again over its own connection: its tables are in the order of their rowids.
+use Rattle.std.specs.Prelude.{◌≡◌}
+use Rattle.sqlite.specs.State.{State, HasCleanDisk}
+use Rattle.goo_tables_rows.specs.Met.{IsInKeyOrder}
+use Rattle.goo_tables_rows.specs.Stands.{doubts}
+use Rattle.goo_tables_rows.proofs.Ordered.{in_key_order_kept}
+use Rattle.goo_store_lookups.specs.Moments.{IsWell, tables_in}
+
+-- a look-up that was answered, and no lie: then the tables are what the shelf keeps
+pub ordered_again : (s : State) → IsWell s → (HasCleanDisk s → doubts s ≡ 0) → HasCleanDisk s → IsInKeyOrder s.now
+ordered_again s well works clean = in_key_order_kept s.now (tables_in s) (well.stands (works clean))
