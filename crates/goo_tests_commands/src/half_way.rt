@@ -1,5 +1,4 @@
-//! An `init` that stops half-way, at each call of a disk in turn: what a crash leaves is taken by the next `init`, or is the
-//! registry.
+//! An `init` that stops half-way, at every third call of a disk: what a crash leaves is taken by the next `init`, or is the registry.
 
 use crate::claims::holds;
 use crate::disks::Disks;
@@ -8,8 +7,8 @@ use crate::steps::{Step, comes_to, does};
 use std::alloc::Global;
 use std::process::Abort;
 
-/// More calls than an `init` makes.
-const CALLS: u64 = 1000;
+/// More rounds than an `init` makes calls.
+const ROUNDS: u64 = 1000;
 
 const READY: &str = "0\nready 07\n";
 
@@ -36,21 +35,23 @@ fn stops_on(rt: &impl Abort, alloc: Global, disks: Disks) -> bool {
 #[test]
 fn at_a_call_of_the_log(rt: HostRuntime) {
     let alloc = rt.alloc();
-    for calls in 0..CALLS {
-        if !stops_on(&rt, alloc, Disks::blank(alloc).stopping(calls, u64::MAX)) {
+    for round in 0..ROUNDS {
+        let disks = Disks::blank(alloc).stopping(3 * round, u64::MAX);
+        if !stops_on(&rt, alloc, disks) {
             return;
         }
     }
-    panic!(&rt; "a stop at each call")
+    panic!(&rt; "a stop in each round")
 }
 
 #[test]
 fn at_a_call_of_the_database_file(rt: HostRuntime) {
     let alloc = rt.alloc();
-    for calls in 0..CALLS {
-        if !stops_on(&rt, alloc, Disks::blank(alloc).stopping(u64::MAX, calls)) {
+    for round in 0..ROUNDS {
+        let disks = Disks::blank(alloc).stopping(u64::MAX, 3 * round);
+        if !stops_on(&rt, alloc, disks) {
             return;
         }
     }
-    panic!(&rt; "a stop at each call")
+    panic!(&rt; "a stop in each round")
 }

@@ -1,8 +1,9 @@
 //! Each word that opening a registry can end with, after which the disks hold what they held.
 
+use crate::claims::holds;
 use crate::disks::Disks;
 use crate::requests::{ACCEPTED, FIRST, REPEATED};
-use crate::steps::{EDITED, Row, Step, come_to, comes_to};
+use crate::steps::{EDITED, Row, Step, come_to, comes_to, does};
 use std::alloc::Global;
 use std::process::Abort;
 
@@ -12,23 +13,27 @@ const REGISTRY: [Row; 2] = [
     (Step::Runs(FIRST), ACCEPTED),
 ];
 
-/// A run where there is no registry, before and after one is made.
+/// What is told where there is no registry.
+const NO_REGISTRY: &str = "3 goo: not a registry\n";
+
+/// Runs where there is no registry, until one is made.
 const NONE: [Row; 4] = [
-    (Step::Runs(FIRST), "3 goo: not a registry\n"),
-    (Step::Runs(""), "3 goo: not a registry\n"),
+    (Step::Runs(FIRST), NO_REGISTRY),
+    (Step::Runs(""), NO_REGISTRY),
     (Step::Inits(7, 1), "0\nready 07\n"),
     (Step::Runs(FIRST), ACCEPTED),
 ];
 
 /// A run over tables of somebody else.
-const SOMEBODY_ELSES: [Row; 2] = [
+const SOMEBODY_ELSES: [Row; 3] = [
     (
         Step::Edits(
             "CREATE TABLE plan (id INTEGER PRIMARY KEY) STRICT; INSERT INTO plan VALUES (1)",
         ),
         EDITED,
     ),
-    (Step::Runs(FIRST), "3 goo: not a registry\n"),
+    (Step::Runs(FIRST), NO_REGISTRY),
+    (Step::Runs(""), NO_REGISTRY),
 ];
 
 /// A registry of a later version, and one with a value that breaks a rule: each until that is undone.
@@ -50,7 +55,10 @@ const CHANGED: [Row; 12] = [
 #[test]
 fn of_disks_that_hold_no_registry(rt: HostRuntime) {
     let alloc = rt.alloc();
-    let _disks = come_to(&rt, alloc, Disks::blank(alloc), &NONE);
+    // SQLite makes an empty database of files that hold nothing, so what they hold is looked at from the second run on
+    let (told, disks) = does(&rt, alloc, Disks::blank(alloc), &Step::Runs(FIRST));
+    holds(&rt, told.as_str() == NO_REGISTRY, &told);
+    let _disks = come_to(&rt, alloc, disks, &NONE);
     let _disks = come_to(&rt, alloc, Disks::blank(alloc), &SOMEBODY_ELSES);
 }
 
