@@ -8,7 +8,7 @@ use Rattle.sqlite_wal.specs.Reads.{AreClean}
 use Rattle.sqlite_wal.specs.Recovery.{Image}
 use Rattle.sqlite.specs.Tree.{Trees}
 use Rattle.sqlite.specs.Files.{image_of, AreFound, HoldsDatabase, IsCleanLeft, LeavesFiles}
-use Rattle.sqlite.specs.Closing.{HoldsAlone}
+use Rattle.sqlite.specs.Closing.{HoldsAlone, files_left}
 use Rattle.sqlite.specs.declared.file.Leftover.{Leftover}
 use Rattle.sqlite.specs.declared.file.Leftover.TheVariants as rest
 use Rattle.goo_spec.specs.State.{State}
@@ -50,6 +50,12 @@ module _ {D : Type 0} {g : Ghosts D} where
   is_whole (left.Whole files) = true
   is_whole (left.Refused rest) = false
   is_whole (left.Parts rest) = false
+
+  -- the log and the database file
+  abbrev pub files_in : Left D g → D × D
+  files_in (left.Whole files) = (files.log, files.db)
+  files_in (left.Refused rest) = files_left rest
+  files_in (left.Parts rest) = files_left rest
 
   -- a new registry
   abbrev pub IsMade : Left D g → State → Type 0

@@ -3,7 +3,7 @@ ghost use Rattle.std.specs.Prelude.{◌≡◌};
 ghost use Rattle.sqlite.specs.Files.{file_state};
 ghost use Rattle.sqlite.specs.State.{HasCleanDisk};
 ghost use Rattle.goo_store_lookups.specs.Moments.{moment};
-ghost use Rattle.goo_cli_registry.specs.Closings.{is_whole, IfWhole, IfRefused, IsClean, IsKept, HoldState};
+ghost use Rattle.goo_cli_registry.specs.Closings.{is_whole, files_in, IfWhole, IfRefused, IsClean, IsKept, HoldState};
 
 use goo_store::sql_shelf::SqlShelf;
 use sqlite::{FileStore, Files, Leftover};
@@ -38,6 +38,17 @@ impl<D: Disk> Left<D> {
         match self {
             Left::Whole(_) => true,
             Left::Refused(_) | Left::Parts(_) => false,
+        }
+    }
+
+    /// The log and the database file, as the command left them. Nothing is read or written any more.
+    pub fn into_files(self) -> Files<D>
+        ensures { (result.log, result.db) ≡ files_in self }
+    {
+        match self {
+            Left::Whole(files) => files,
+            Left::Refused(left) => left.into_files(),
+            Left::Parts(left) => left.into_files(),
         }
     }
 }

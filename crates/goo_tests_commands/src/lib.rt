@@ -1,0 +1,21 @@
+//! The commands `init` and `run` over disks in memory: each word that opening can end with, runs one after another, and an `init`
+//! that stops half-way.
+//!
+//! It has tests alone, and they are data: `steps` has what is done to disks and what that comes to, `requests` the lines that are
+//! sent, and `disks` disks that fail where a test wants it.
+#![tactic(auto)]
+
+#[cfg(test)]
+mod claims;
+#[cfg(test)]
+mod disks;
+#[cfg(test)]
+mod going_on;
+#[cfg(test)]
+mod half_way;
+#[cfg(test)]
+mod requests;
+#[cfg(test)]
+mod steps;
+#[cfg(test)]
+mod words;

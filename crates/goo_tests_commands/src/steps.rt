@@ -1,0 +1,136 @@
+//! What is done to a registry's disks, and what that comes to.
+//!
+//! All goes through one function over disks (`performs`): each further one that calls what is written over any store costs a check
+//! of this crate twenty seconds.
+
+ghost use Rattle.std.specs.Prelude.{IsTrue};
+
+use crate::claims::holds;
+use crate::disks::Disks;
+use goo_cli::Opening;
+use goo_cli_ending::Ending;
+use goo_cli_registry::creating::init_in_files;
+use goo_cli_registry::running::run_in_files;
+use goo_types::day::Day;
+use goo_types::registry_code::RegistryCode;
+use goo_types::serial::Serial;
+use sqlite::{Connection, Files, Options};
+use sqlite_disk::Disk;
+use std::alloc::Global;
+use std::io::BufWriter;
+use std::process::Abort;
+
+/// What is done to disks.
+#[derive(Clone, Copy)]
+pub enum Step<'a> {
+    /// The command `init`, on 1 March 2025: a registry of this code, with this next serial.
+    Inits(u8, u64),
+    /// The command `run`, with these lines as its input.
+    Runs(&'a str),
+    /// A text is run on the database, by nobody who should.
+    Edits(&'a str),
+}
+
+/// A step and what it comes to: the exit status, the line on standard error if there is one, and then what standard output gets.
+pub type Row = (Step<'static>, &'static str);
+
+/// What is told of an edit.
+pub const EDITED: &str = "edited";
+
+/// What the salts of a new log begin with.
+const SEED: u64 = 7;
+
+/// What a registry begins with on 1 March 2025.
+fn in_march(rt: &impl Abort, code: u8, serial: u64) -> Opening {
+    Opening {
+        code: RegistryCode::new(code).expect(rt, "a code"),
+        today: Day::read(b"2025-03-01").expect(rt, "a day"),
+        next_serial: Serial::new(serial).expect(rt, "a serial"),
+    }
+}
+
+/// What a command comes to.
+fn told(rt: &impl Abort, alloc: Global, ending: &Ending, output: &[u8]) -> String {
+    let status = ending.status();
+    let output = str::from_utf8(output).expect(rt, "a text");
+    let text = match ending {
+        Ending::Done | Ending::PartlyDone => format!(in alloc; "{status}\n{output}"),
+        Ending::Denied(denial) => {
+            let word = denial.text();
+            format!(in alloc; "{status} {word}\n{output}")
+        }
+        Ending::Failed(failure) => format!(in alloc; "{status} {failure}\n{output}"),
+        Ending::Words(_) | Ending::Misused(_) => panic!(rt; "a command line that is wrong"),
+    };
+    text.expect(rt, "memory")
+}
+
+/// A text is run on the database that files hold.
+fn edited<D: Disk + Drop>(rt: &impl Abort, alloc: Global, files: Files<D>, sql: &str) -> Files<D>
+    requires log { IsTrue (D.Disk.is_usable files.log) }
+    requires db { IsTrue (D.Disk.is_usable files.db) }
+{
+    match Connection::open_files(alloc, files, Options::new(SEED)) {
+        Ok(mut conn) => {
+            conn.execute_batch(sql).expect(rt, "an edit");
+            conn.into_store().close()
+        }
+        Err((_, left)) => left.into_files(),
+    }
+}
+
+/// A step is done on files: what it comes to, and the files as it leaves them.
+fn performs<D: Disk + Drop>(
+    rt: &impl Abort,
+    alloc: Global,
+    files: Files<D>,
+    step: &Step<'_>,
+) -> (String, Files<D>) {
+    if !files.may_be_used() {
+        panic!(rt; "disks that may not be used");
+    }
+    let mut writer = BufWriter::new(alloc, Vec::new(alloc)).expect(rt, "memory");
+    let (ending, left) = match step {
+        Step::Inits(code, serial) => {
+            let opening = in_march(rt, *code, *serial);
+            init_in_files(alloc, files, SEED, opening, &mut writer)
+        }
+        Step::Runs(lines) => {
+            run_in_files(alloc, files, SEED, &mut lines.as_bytes(), &mut writer)
+        }
+        Step::Edits(sql) => {
+            let files = edited(rt, alloc, files, sql);
+            let text = String::from_str(alloc, EDITED).expect(rt, "memory");
+            return (text, files);
+        }
+    };
+    (
+        told(rt, alloc, &ending, writer.get_ref()),
+        left.into_files(),
+    )
+}
+
+/// A step is done on disks: what it comes to, and the disks as it leaves them.
+pub fn does(rt: &impl Abort, alloc: Global, disks: Disks, step: &Step<'_>) -> (String, Disks) {
+    let (told, files) = performs(rt, alloc, disks.files, step);
+    (told, Disks { files })
+}
+
+/// A step comes to what it should. Where it ends with a line on standard error, the disks hold what they held.
+pub fn comes_to(rt: &impl Abort, alloc: Global, disks: Disks, row: &Row) -> Disks {
+    let before = disks.contents(rt, alloc);
+    let (told, disks) = does(rt, alloc, disks, &row.0);
+    let is_spared = !row.1.contains("goo: ") || disks.hold(&before);
+    holds(rt, told.as_str() == row.1, &told);
+    holds(rt, is_spared, row.1);
+    disks
+}
+
+/// Steps that are done one after another come to what they should.
+pub fn come_to(rt: &impl Abort, alloc: Global, disks: Disks, rows: &[Row]) -> Disks {
+    let mut disks = disks;
+    for row in rows {
+        disks = comes_to(rt, alloc, disks, row);
+    }
+    disks
+}
