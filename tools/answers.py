@@ -8,7 +8,7 @@ from functools import cache
 
 ANSWERED = re.compile(r'^pub (\S+) : goal\.\1\n((?:(?!^pub ).*\n?)*)', re.M)
 SEARCHED = re.compile(r'=\s*(?:search|omega|grind) (?:rules|arith|\(\s*(?:rules|arith)(?:,\s*[\w.-]+)*\s*\))\s*$')
-"""An answer that is a search: it names rules, and nothing that the body makes."""
+"""An answer that is a search, of rules alone, and counts as one: it tries somewhat less than what is tried on a goal without an answer."""
 
 
 @cache
