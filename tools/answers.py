@@ -21,11 +21,20 @@ def answers_of(crate):
     return found
 
 
+IMPL = re.compile(r'^impl(?:<.*?>)? (?:(\w+)(?:<.*?>)? for )?(\w+)', re.M)
+
+
+def folders_of(crate, file):
+    """Where the proofs of a file's functions stand: in the folder of its module, or, for the methods of a type of another file, in one that ends in the type's name."""
+    module = () if file in ('src/lib.rt', 'src/main.rt') else tuple(file.removeprefix('src/').removesuffix('.rt').split('/'))
+    types = {kind + (law or '') for law, kind in IMPL.findall((crate / file).read_text(encoding='utf-8'))}
+    return lambda folders: folders[:len(module)] == module or len(folders) > 1 and folders[-2] in types
+
+
 def is_by_hand(crate, file, function, goal):
     """Whether a goal of this function of a file, or of a closure in it, is answered by hand."""
-    module = () if file in ('src/lib.rt', 'src/main.rt') else tuple(file.removeprefix('src/').removesuffix('.rt').split('/'))
-    return any(by_hand and goal == answered and folders[:len(module)] == module and function in folders[len(module):]
-               for folders, answered, by_hand in answers_of(crate))
+    stands = folders_of(crate, file)
+    return any(by_hand and goal == answered and function in folders and stands(folders) for folders, answered, by_hand in answers_of(crate))
 
 
 def stands_by_hand(crate, place, goal):
