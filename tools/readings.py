@@ -516,3 +516,81 @@ def routed(head, body, is_head):
     if digits and not names_something(found[1], digits):
         return Asked(404, is_head=is_head)
     return Asked(route=route, caller=ascii_of(callers[0]), body=body, part=found[1] if digits else None)
+
+
+# Command lines, as clap reads them for plain commands
+
+OPTIONS = {'init': ['db', 'code', 'today', 'next-serial'], 'run': ['db', 'code', 'today', 'next-serial'], 'declare': ['db'], 'statement': ['db'],
+           'audit': ['db'], 'serve': ['db', 'code', 'today', 'next-serial', 'port', 'count']}
+"""The options of each command that take a value; `run` and `serve` take `--memory` besides, and `statement` a word."""
+
+
+class Task:
+    """What a command line asks for; `file` is None for a registry in memory."""
+
+    def __init__(self, command, file, values):
+        self.command, self.file = command, file
+        self.account, self.port, self.count = values.get('account'), values.get('port'), values.get('count')
+        self.code, self.today, self.next_serial = values.get('code'), values.get('today'), values.get('next-serial', 1)
+
+    def __str__(self):
+        return self.command
+
+
+LIMITS = {'account': within(1, LAST_ACT), 'port': within(1, 65535), 'count': within(0, 10 ** 9), 'code': within(1, 99), 'next-serial': within(1, SERIALS - 1)}
+
+
+def value_in(name, text):
+    """What the text of an option states; Fault where that is nothing."""
+    if name == 'today':
+        value = text if is_day(text) else None
+    else:
+        value = int(text) if re.fullmatch('[0-9]+', text) and LIMITS[name](int(text)) else None
+    if value is None:
+        raise Fault('Usage')
+    return value
+
+
+def words_in(words, command):
+    """The texts of the options of a command by name, and its words; Fault where one isn't among them, comes twice or lacks its value."""
+    given, alone, left = {}, [], list(words)
+    while left:
+        word = left.pop(0)
+        if word == '--':
+            return given, alone + left
+        name, has_value, value = word.removeprefix('--').partition('=')
+        if not word.startswith('-') or word == '-':
+            alone.append(word)
+            continue
+        is_flag = name == 'memory' and command in ('run', 'serve')
+        if not word.startswith('--') or name in given or not is_flag and name not in OPTIONS[command] or is_flag and has_value:
+            raise Fault('Usage')
+        if not is_flag and not has_value:
+            if not left or left[0].startswith('-') and left[0] != '-':
+                raise Fault('Usage')
+            value = left.pop(0)
+        given[name] = value
+    return given, alone
+
+
+def asked_in(command, words):
+    """What the words after a command ask for; Fault."""
+    given, alone = words_in(words, command)
+    is_in_memory = given.pop('memory', None) is not None
+    if command == 'statement' and len(alone) == 1:
+        given['account'] = alone.pop()
+    wanted = {'statement': {'account'}, 'serve': {'port', 'count'}}.get(command, set())
+    wanted = wanted | ({'code', 'today'} if is_in_memory or command == 'init' else set()) | (set() if is_in_memory else {'db'})
+    if alone or not wanted <= set(given) <= wanted | ({'next-serial'} if 'code' in wanted else set()):
+        raise Fault('Usage')
+    file = given.pop('db', None)
+    return Task(command, file, {name: value_in(name, text) for name, text in given.items()})
+
+
+def task_in(words):
+    """The task that the words of a command line ask for, or None: a usage error."""
+    try:
+        command, *others = [word.decode('utf-8') for word in words]
+        return asked_in(command, others) if command in OPTIONS else None
+    except (Fault, UnicodeDecodeError, ValueError):
+        return None
