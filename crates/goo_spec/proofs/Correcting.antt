@@ -149,12 +149,12 @@ module _ (s : State) (caller : List ℕ) (x : Correct) (met : Passes s caller x)
   unfolding c
   lowered_net = only_one x.device x.first_day (λ y. nat_le (lowered_by s.corrections y) (net y)) (λ y. nat_le (lowered_by (s.corrections ++ c ∷ []) y) (net y))
       (λ y other fit. le-leb (lowered_by (s.corrections ++ c ∷ []) y) (net y)
-          (let sum = sum_by_push (less_from y) s.corrections c in let none : less_from y c ≡ 0 = ap (λ b. cond b x.less 0) other in let l = leb-true (lowered_by s.corrections y) (net y) fit in omega (arith, sum, none, l)))
+      (let sum = sum_by_push (less_from y) s.corrections c in let none : less_from y c ≡ 0 = ap (λ b. cond b x.less 0) other in let l = leb-true (lowered_by s.corrections y) (net y) fit in omega (arith, sum, none, l)))
       None s.declarations met.declaration (sound.declarations.rising x.device) met.found
       (λ fit. le-leb (lowered_by (s.corrections ++ c ∷ []) met.declaration) (net met.declaration)
-          (let sum = sum_by_push (less_from met.declaration) s.corrections c in
-          let most = at_most_less (corrects met.declaration c) x.less in
-          let l = leb-true (lowered_by s.corrections met.declaration) (net met.declaration) fit in let fits = met.fits in omega (arith, sum, most, l, fits)))
+      (let sum = sum_by_push (less_from met.declaration) s.corrections c in
+      let most = at_most_less (corrects met.declaration c) x.less in
+      let l = leb-true (lowered_by s.corrections met.declaration) (net met.declaration) fit in let fits = met.fits in omega (arith, sum, most, l, fits)))
       sound.corrections.net
     where
       at_most_less : (b : Bool) (less : ℕ) → cond b less 0 ≤ less

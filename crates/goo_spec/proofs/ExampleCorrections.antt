@@ -46,10 +46,10 @@ after_march n = cond (is_within (numbers 1201 1201) n) (Some (march_lot, Held 1)
 map_all : get all ≡ after_march
 unfolding all
 map_all = λ i n. (
-  get-give_each march_lot (Held 1) (numbers_from 7000000001201 1) certificates n
-  ∙ ap (λ b. cond b (Some (march_lot, Held 1)) (get certificates n)) (one_within (numbers 1201 1201) n)
-  ∙ ap (cond (is_within (numbers 1201 1201) n) (Some (march_lot, Held 1))) (at_january n)
-) i
+    get-give_each march_lot (Held 1) (numbers_from 7000000001201 1) certificates n
+    ∙ ap (λ b. cond b (Some (march_lot, Held 1)) (get certificates n)) (one_within (numbers 1201 1201) n)
+    ∙ ap (cond (is_within (numbers 1201 1201) n) (Some (march_lot, Held 1))) (at_january n)
+    ) i
 
 -- January, February and March are declared; it is 2025-04-05
 abbrev declared : State
@@ -90,9 +90,9 @@ after_first n = moved_one (numbers 1201 1201) (λ lot place. Withdrawn (account_
 map_first : get less_one ≡ after_first
 unfolding less_one
 map_first = λ i n. (
-  fate_moved (λ lot place. Withdrawn (account_of place) 1) (λ lot place. refl) (numbers 1201 1201) all n
-  ∙ ap (moved_one (numbers 1201 1201) (λ lot place. Withdrawn (account_of place) 1) n) (λ j. map_all j n)
-) i
+    fate_moved (λ lot place. Withdrawn (account_of place) 1) (λ lot place. refl) (numbers 1201 1201) all n
+    ∙ ap (moved_one (numbers 1201 1201) (λ lot place. Withdrawn (account_of place) 1) n) (λ j. map_all j n)
+    ) i
 
 abbrev after_one : State
 after_one = record declared {
@@ -184,10 +184,10 @@ with_both = give_each (numbers_from 7000000001203 1) other_lot (Held 1) less_one
 map_both : get with_both ≡ (λ n. cond (is_within (numbers 1203 1203) n) (Some (other_lot, Held 1)) (after_first n))
 unfolding with_both
 map_both = λ i n. (
-  get-give_each other_lot (Held 1) (numbers_from 7000000001203 1) less_one n
-  ∙ ap (λ b. cond b (Some (other_lot, Held 1)) (get less_one n)) (one_within (numbers 1203 1203) n)
-  ∙ ap (cond (is_within (numbers 1203 1203) n) (Some (other_lot, Held 1))) (λ j. map_first j n)
-) i
+    get-give_each other_lot (Held 1) (numbers_from 7000000001203 1) less_one n
+    ∙ ap (λ b. cond b (Some (other_lot, Held 1)) (get less_one n)) (one_within (numbers 1203 1203) n)
+    ∙ ap (cond (is_within (numbers 1203 1203) n) (Some (other_lot, Held 1))) (λ j. map_first j n)
+    ) i
 
 other_device : correct_refusal (record after_two { at = with_both }) issuer (lowers (day 2025 1 1) 1000000 (Some (numbers 1203 1203))) ≡ Some (OtherDevice 7000000001203)
 unfolding correct_refusal correctable excess due remaining lowered total

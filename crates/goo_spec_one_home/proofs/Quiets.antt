@@ -11,7 +11,6 @@ use Rattle.goo_types.specs.declared.command.OpenAccount.{OpenAccount}
 use Rattle.goo_types.specs.declared.command.CloseAccount.{CloseAccount}
 use Rattle.goo_types.specs.declared.command.RegisterDevice.{RegisterDevice}
 use Rattle.goo_types.specs.Range.{Numbers}
-use Rattle.goo_types.specs.declared.command.Correct.{Correct}
 use Rattle.goo_types.specs.declared.command.Transfer.{Transfer}
 use Rattle.goo_types.specs.declared.command.Cancel.{Cancel}
 use Rattle.goo_types.specs.declared.command.Withdraw.{Withdraw}
@@ -29,7 +28,7 @@ use Rattle.goo_spec.specs.AddPeer.{with_peer}
 use Rattle.goo_spec.specs.Transfer.{transfer_checks, transfer_refusal, with_transfer}
 use Rattle.goo_spec.specs.Cancel.{cancel_checks, cancel_refusal, with_cancellation}
 use Rattle.goo_spec.specs.Withdraw.{withdraw_checks, withdraw_refusal, with_withdrawal}
-use Rattle.goo_spec.specs.Correct.{correct_refusal, taken_out, with_correction}
+use Rattle.goo_spec.specs.Correct.{Correct, correct_refusal, taken_out, with_correction}
 use Rattle.goo_spec.specs.Advance.{aged, with_day}
 use Rattle.goo_spec.proofs.Placing.{is_one_of, replaced, get-place_each, passed_over}
 use Rattle.goo_spec.proofs.Checking.{none_fail, unfound}
