@@ -19,6 +19,7 @@ use Rattle.goo_spec.specs.OpenAccount.{with_account}
 use Rattle.goo_spec.specs.CloseAccount.{with_closed}
 use Rattle.goo_spec.specs.RegisterDevice.{with_device}
 use Rattle.goo_spec.specs.Declare.{with_issue, issued_for, next_number, earned, lot_of}
+use Rattle.goo_spec.specs.Correct.{Correct, with_correction, taken_out}
 use Rattle.goo_spec.specs.Transfer.{with_transfer}
 use Rattle.goo_spec.specs.Cancel.{with_cancellation}
 use Rattle.goo_spec.specs.Withdraw.{with_withdrawal}
@@ -28,7 +29,7 @@ use Rattle.goo_spec.specs.Export.{with_export}
 use Rattle.goo_spec.specs.Import.{taken, with_import}
 use Rattle.goo_spec.specs.Step.{changed, accept}
 use Rattle.goo_spec.specs.Run.{applied}
-use Rattle.goo_spec.specs.Fate.{issued_one, moved_one, taken_one, fate, fates}
+use Rattle.goo_spec.specs.Fate.{issued_one, moved_one, corrected_one, taken_one, fate, fates}
 use Rattle.goo_spec.proofs.Placing.{is_one_of, get-place_each, get-give_each}
 use Rattle.goo_spec.proofs.Numbers.{one_between, one_within}
 use Rattle.goo_spec.proofs.Advancing.{aged_again, is_key}
@@ -42,6 +43,16 @@ fate_issued s x (Some device) n =
 pub fate_moved : (new : LotFields → Place → Place) → ((lot : LotFields) (place : Place) → new lot (new lot place) ≡ new lot place)
     → (range : Numbers) (at : Certificates) (n : ℕ) → get (place_each new (each range) at) n ≡ moved_one range new n (get at n)
 fate_moved new again range at n = get-place_each new again (each range) at n ∙ ap (λ b. cond b (replaced new (get at n)) (get at n)) (one_within range n)
+
+fate_corrected : (s : State) (x : Correct) (o : Option Numbers) (n : ℕ) → get (taken_out s x o).at n ≡ corrected_one s o n (get s.at n)
+unfolding with_withdrawal
+fate_corrected s x None n = refl
+fate_corrected s x (Some range) n = fate_moved (λ lot place. Withdrawn (account_of place) s.next_withdrawal) (λ lot place. refl) range s.at n
+
+-- what a correction does to a certificate
+pub fate_correction : (s : State) (x : Correct) (n : ℕ) → get (with_correction s x).at n ≡ corrected_one s x.range n (get s.at n)
+unfolding with_correction
+fate_correction s x n = fate_corrected s x x.range n
 
 pub fate_aged : (new : LotFields → Place → Place) (at : Certificates) (n : ℕ) (o : Option (LotFields × Place)) → get at n ≡ o → cond (is_one_of (keys at) n) (replaced new o) o ≡ replaced new o
 fate_aged new at n None is = elim (is_one_of (keys at) n) as (λ b. cond b (replaced new None) None ≡ None) [ true ↦ refl | false ↦ refl ]

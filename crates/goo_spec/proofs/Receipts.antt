@@ -2,6 +2,7 @@
 use Rattle.std.proofs.Common.{◌≡◌, ◌≢◌, ℕ, Bool, true, false, cond, List, [], ◌∷◌, Option, Some, None, refl, sym, ap, ◌∙◌}
 use Rattle.std.specs.FinMap.{get}
 use Rattle.std.proofs.lemmas.Bool.{false_from_ne_true}
+use Rattle.goo_types.specs.Range.{Numbers}
 use Rattle.goo_types.specs.declared.command.Declare as declare
 use Rattle.goo_types.specs.declared.command.Command.{Command}
 use Rattle.goo_types.specs.declared.command.Command.TheVariants.{OpenHolder, OpenAccount, CloseAccount, RegisterDevice, Declare, Transfer, Cancel, Withdraw, Advance, AddPeer, Export, Import}
@@ -17,6 +18,7 @@ use Rattle.goo_spec.specs.OpenAccount.{with_account}
 use Rattle.goo_spec.specs.CloseAccount.{with_closed}
 use Rattle.goo_spec.specs.RegisterDevice.{with_device}
 use Rattle.goo_spec.specs.Declare.{with_declaration, with_issue, issued_for}
+use Rattle.goo_spec.specs.Correct.{Correct, with_correction, taken_out}
 use Rattle.goo_spec.specs.Transfer.{with_transfer}
 use Rattle.goo_spec.specs.Cancel.{with_cancellation}
 use Rattle.goo_spec.specs.Withdraw.{with_withdrawal}
@@ -35,6 +37,15 @@ same_issued : (s : State) (x : declare.Declare) (o : Option Device) → (issued_
 unfolding with_declaration
 same_issued s x None = refl
 same_issued s x (Some device) = refl
+
+same_taken : (s : State) (x : Correct) (o : Option Numbers) → (taken_out s x o).receipts ≡ s.receipts
+unfolding with_withdrawal
+same_taken s x None = refl
+same_taken s x (Some range) = refl
+
+pub same_corrected : (s : State) (x : Correct) → (with_correction s x).receipts ≡ s.receipts
+unfolding with_correction
+same_corrected s x = same_taken s x x.range
 
 -- no command's change touches a receipt
 same_receipts : (s : State) (command : Command) → (changed s command).receipts ≡ s.receipts

@@ -30,6 +30,11 @@ issued_one s x (Some device) n known = cond (is_new s x n) (Some (lot_of s x dev
 abbrev pub moved_one : Numbers → (LotFields → Place → Place) → ℕ → Option (LotFields × Place) → Option (LotFields × Place)
 moved_one range new n known = cond (is_within range n) (replaced new known) known
 
+-- a certificate that a correction withdraws stays with its account, if it withdraws any
+abbrev pub corrected_one : State → Option Numbers → ℕ → Option (LotFields × Place) → Option (LotFields × Place)
+corrected_one s None n known = known
+corrected_one s (Some range) n known = moved_one range (λ lot place. Withdrawn (account_of place) s.next_withdrawal) n known
+
 -- a certificate that a notice names has its part's lot and the place
 abbrev pub taken_one : List Part → Place → ℕ → Option (LotFields × Place) → Option (LotFields × Place)
 taken_one [] place n known = known
