@@ -1,5 +1,5 @@
 -- Tables that keep no corrections: nothing is taken off what was declared, and no certificate was taken back.
-use Rattle.std.proofs.Common.{◌≡◌, List, [], refl}
+use Rattle.std.proofs.Common.{◌≡◌, [], refl}
 use Rattle.goo_spec.specs.Sound.{AreCorrections}
 use Rattle.goo_spec.proofs.Uncorrected.{no_corrections}
 use Rattle.goo_tables_rows.specs.Rows.{Tables}
