@@ -1,8 +1,8 @@
 //! What can still be taken off a declaration. Nothing was taken off any yet.
 
-ghost use Rattle.std.specs.Prelude.{◌≡◌, [], IfOk, IfSome, IsOk, IsTrue, option_map};
+ghost use Rattle.std.specs.Prelude.{◌≡◌, IfSome, IsTrue, option_map};
 ghost use Rattle.sqlite.specs.Held.{state as view};
-ghost use Rattle.goo_spec.specs.Correct.{correctable, left_of};
+ghost use Rattle.goo_spec.specs.Correct.{correctable};
 ghost use Rattle.goo_spec.specs.Energy.{net};
 ghost use Rattle.goo_tables_rows.specs.Rows.{declaration_in};
 ghost use Rattle.goo_core_shelf.specs.Shelf.{Looks};
@@ -14,33 +14,32 @@ ghost use Rattle.goo_store_values.specs.Passing.{Accepts, Passes};
 
 use crate::declarations::declaration_in_row;
 use crate::sql_shelf::SqlShelf;
-use goo_store_values::numbers;
 use goo_store_values::told::told;
 use goo_store_values::trouble::Trouble;
 use goo_tables::declaration::find_declaration;
 use goo_tables_rows::declaration::DeclarationRow;
+use goo_types::command::Declare;
 use goo_types::day::Day;
 use goo_types::fault::Fault;
 use goo_types::gsrn::Gsrn;
 use goo_types::wh::Wh;
 use sqlite::{Alter, Error};
 
-/// The net energy of the declaration that a row states.
-fn net_in_row(row: &DeclarationRow) -> Result<Wh, Trouble>
-    ensures value { IfOk result (λ wh. wh ≡ net (declaration_of (declaration_in row.now))) }
-    ensures accepts { IsTrue (is_declaration (declaration_in row.now)) → IsOk result }
+/// The net energy of a declaration.
+fn net_energy(declared: &Declare) -> Wh
+    ensures { result ≡ net declared.now }
 {
-    let declared = declaration_in_row(row)?;
-    numbers::wh(declared.gross.get().saturating_sub(declared.aux.get()))
+    let net = declared.gross.get().saturating_sub(declared.aux.get());
+    Wh::new(net).unwrap()
 }
 
-/// What can be taken off the declaration that is found, where no correction is kept.
+/// What can be taken off the declaration that is found: all of its net energy, as no corrections are kept.
 fn read_left(found: Result<Option<DeclarationRow>, Error>) -> Result<Option<Wh>, Trouble>
-    ensures value { Passes found result (λ row left. left ≡ left_of [] (option_map declaration_of (option_map declaration_in row))) }
+    ensures value { Passes found result (λ row left. left ≡ option_map (λ d. net (declaration_of d)) (option_map declaration_in row)) }
     ensures accepts { Accepts found result (λ row. IfSome row (λ r. IsTrue (is_declaration (declaration_in r)))) }
 {
     match found? {
-        Some(row) => Ok(Some(net_in_row(&row)?)),
+        Some(row) => Ok(Some(net_energy(&declaration_in_row(&row)?))),
         None => Ok(None),
     }
 }

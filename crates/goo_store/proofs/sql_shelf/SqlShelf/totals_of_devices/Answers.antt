@@ -49,4 +49,4 @@ returns-clause-store g c =
     c.in_ok-rows.ensures.looks c.in_ok-rows.ensures.store c.told.ensures
     (λ fine same declared rows.
     c.totals_over-totals.ensures.accepts
-    (subst (HaveSmallCounts c.args.own) (sym (c.deref-2.ensures.value ∙ rows ∙ same)) (counts_small (rows_of (tables_in old)) (c.args.self.now.well.kept fine).rising c.args.own)))
+    (subst (λ rs. HaveSmallCounts c.args.own rs) (sym (c.deref-2.ensures.value ∙ rows ∙ same)) (counts_small (rows_of (tables_in old)) (c.args.self.now.well.kept fine).rising c.args.own)))
