@@ -5,6 +5,7 @@ use crate::claims::holds;
 use crate::deeds::is_alike;
 use crate::worked::Case;
 use goo_core_shelf::counters::Counters;
+use goo_core_shelf::found::DeviceTotals;
 use goo_core_shelf::shelf::Shelf;
 use goo_types::account_no::AccountNo;
 use goo_types::act_no::ActNo;
@@ -261,14 +262,16 @@ fn has_declarations<S: Shelf>(rt: &impl Abort, shelf: &mut S) {
 }
 
 /// The totals of the device, of whose energy nothing was taken off.
-fn has_totals<S: Shelf>(rt: &impl Abort, alloc: Global, shelf: &mut S) {
-    let totals = shelf.totals(alloc).expect(rt, "totals");
-    let energy =
-        matches!(&totals[..], [device] if device.declared == 1_200_999_999 && device.corrected_wh == 0 && device.carry == 999_999);
-    let certificates =
-        matches!(&totals[..], [device] if device.issued == 1_200 && device.corrected == 0);
-    holds(rt, energy, "the energy");
-    holds(rt, certificates, "the certificates");
+fn are_its_totals(rt: &impl Abort, totals: &[DeviceTotals]) {
+    holds(
+        rt,
+        matches!(totals, [device] if device.declared == 1_200_999_999
+            && device.corrected_wh == 0
+            && device.issued == 1_200
+            && device.corrected == 0
+            && device.carry == 999_999),
+        "the totals",
+    );
 }
 
 /// The other registry, the number of the next account, and the date.
@@ -290,7 +293,7 @@ pub fn finds_members<S: Shelf>(rt: &impl Abort, alloc: Global, shelf: &mut S) {
     has_accounts(rt, shelf);
     has_a_device(rt, shelf);
     has_declarations(rt, shelf);
-    has_totals(rt, alloc, shelf);
+    are_its_totals(rt, &shelf.totals(alloc).expect(rt, "totals"));
     has_a_peer(rt, shelf)
 }
 
