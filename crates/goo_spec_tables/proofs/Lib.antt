@@ -5,3 +5,4 @@ pub mod DeviceLemmas
 pub mod DayTexts
 pub mod Expiring
 pub mod ReadableLemmas
+pub mod Uncorrected

@@ -1,5 +1,5 @@
 -- The state that the tables stand for.
-use Rattle.std.specs.Prelude.{ℕ, ◌==◌, List, map, Option}
+use Rattle.std.specs.Prelude.{ℕ, ◌==◌, List, [], map, Option}
 use Rattle.std.specs.FinMap.{from_entries}
 use Rattle.goo_types.specs.Notice.{NoticeContents}
 use Rattle.goo_types.specs.declared.command.Command.{Command}
@@ -69,6 +69,8 @@ state_of t = record {
   accounts = from_entries (map known_account t.accounts);
   devices = from_entries (map known_device t.devices);
   declarations = map declaration_of t.declarations;
+  -- no table keeps corrections
+  corrections = [];
   peers = from_entries (map known_peer t.peers);
   receipts = from_entries (map known_receipt t.receipts);
   arrived = from_entries (map known_arrival t.notices_in);

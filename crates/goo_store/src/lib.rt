@@ -4,6 +4,7 @@
 mod accounts;
 mod cancellations;
 mod commits;
+mod correctable;
 mod creating;
 mod declarations;
 mod device_numbers;

@@ -1,10 +1,11 @@
 //! What each device declared and was issued, in one pass over the declarations and one over the rows.
 
-ghost use Rattle.std.specs.Prelude.{◌≡◌, ℕ, ◌+◌, ◌-◌, ◌^◌, ◌==◌, nat_lt, List, cond, map, sum_by, is_ok, IfOk, IsOkUnless};
+ghost use Rattle.std.specs.Prelude.{◌≡◌, ℕ, ◌+◌, ◌-◌, ◌^◌, ◌%◌, ◌==◌, nat_lt, List, cond, map, sum_by, is_ok, IfOk, IsOkUnless};
 ghost use Rattle.goo_types.specs.Number.{code_of};
+ghost use Rattle.goo_spec.specs.Energy.{certificate};
 ghost use Rattle.goo_ranges_rows.specs.Certificates.{issued_in};
 ghost use Rattle.goo_store_rules.specs.Summing.{sum_at};
-ghost use Rattle.goo_store.specs.Summing.{summed_for, HaveSmallSums};
+ghost use Rattle.goo_store.specs.Summing.{summed_for, HaveSmallCounts};
 ghost use Rattle.goo_store_values.specs.declared.trouble.Trouble.TheVariants.{Memory};
 
 use goo_core_shelf::found::DeviceTotals;
@@ -49,18 +50,25 @@ fn count_issued(
     Ok(counts)
 }
 
-/// A sum in 64 bits. One that they don't hold is refused.
-fn narrow(sum: u128) -> Result<u64, Trouble>
-    ensures value { IfOk result (λ n. n ≡ sum) }
-    ensures accepts { is_ok result ≡ nat_lt sum (2 ^ 64) }
+/// What certificates leave over of so much energy, in Wh.
+fn left_over(energy: u128) -> u64
+    ensures { result ≡ energy % certificate }
 {
-    match u64::try_from(sum) {
-        Ok(sum) => Ok(sum),
+    (energy % CERTIFICATE as u128) as u64
+}
+
+/// A count in 64 bits. One that they don't hold is refused.
+fn narrow(count: u128) -> Result<u64, Trouble>
+    ensures value { IfOk result (λ n. n ≡ count) }
+    ensures accepts { is_ok result ≡ nat_lt count (2 ^ 64) }
+{
+    match u64::try_from(count) {
+        Ok(count) => Ok(count),
         Err(_) => Err(Trouble::Refused),
     }
 }
 
-/// The energy and the certificates of these devices, by these declarations and rows.
+/// The energy and the certificates of these devices, by these declarations and rows; nothing was corrected.
 pub fn totals_over(
     alloc: Global,
     own: RegistryCode,
@@ -69,18 +77,20 @@ pub fn totals_over(
     rows: &[Piece],
 ) -> Result<Vec<DeviceTotals>, Trouble>
     ensures value { IfOk result (λ totals. totals.items ≡ map (summed_for own declared.now rows.now) devices.now) }
-    ensures accepts { HaveSmallSums own declared.now rows.now → IsOkUnless result Memory }
+    ensures accepts { HaveSmallCounts own rows.now → IsOkUnless result Memory }
 {
     let sums = sum_declared(alloc, declared)?;
     let counts = count_issued(alloc, own, rows)?;
     let mut totals = Vec::new(alloc);
     for device in devices {
-        let declared = narrow(sum_for(&sums, device))?;
+        let declared = sum_for(&sums, device);
         totals.push(DeviceTotals {
             device: *device,
             declared,
+            corrected_wh: 0,
             issued: narrow(sum_for(&counts, device))?,
-            carry: declared % CERTIFICATE,
+            corrected: 0,
+            carry: left_over(declared),
         })?;
     }
     Ok(totals)

@@ -220,7 +220,7 @@ module _ (t : Tables) (kept : AreKept t) (caller : List ℕ) (x : Import) (whole
     rows = of.0.rows;
     lots = of.0.lots_kept;
     devices = kept.devices;
-    progress = λ q. kept.progress q ∙ progress_same s (with_import s x) refl q;
+    progress = λ q. kept.progress q ∙ progress_same s (with_import s x) refl refl q;
   }
 
   -- the lots that weren't known, and the notice

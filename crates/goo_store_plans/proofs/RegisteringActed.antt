@@ -174,5 +174,5 @@ module _ (t : Tables) (kept : AreKept t) (x : RegisterDevice) (d : row.Device) (
         rows = refl;
         lots = kept.lots;
         devices = once;
-        progress = λ gsrn. progress_kept gsrn ∙ progress_same (state_of t) (with_device (state_of t) x) refl gsrn;
+        progress = λ gsrn. progress_kept gsrn ∙ progress_same (state_of t) (with_device (state_of t) x) refl refl gsrn;
       }

@@ -7,6 +7,7 @@ use Rattle.goo_tables_rows.specs.Stands.{Stands}
 use Rattle.goo_spec_tables.specs.Kept.{AreReadable, AreKept}
 use Rattle.goo_spec_tables.specs.Places.{rows_of}
 use Rattle.goo_spec_tables.specs.States.{state_of}
+use Rattle.goo_spec_tables.proofs.Uncorrected.{corrections_kept}
 use Rattle.goo_store_open.specs.Found.{AreOf}
 use Rattle.goo_store_open.specs.declared.finding.Found.{Found}
 use Rattle.goo_store_open.proofs.Ours.{ours_kept}
@@ -45,6 +46,7 @@ module _ (db : _) (t : Tables) (x : Found) (stands : Stands db t) (ours : HasOur
           places = pieces.places;
           times = pieces.times;
           periods = production_rises t x of keeps.production;
+          corrections = corrections_kept t;
           issued_when_due = production_issued t x of keeps.production pieces.rising;
         });
       }

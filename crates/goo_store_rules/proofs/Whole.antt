@@ -1,8 +1,8 @@
 -- The soundness of a state, as what is known by name and what is left: the certificates, their places, and the devices' production.
-use Rattle.std.proofs.Common.{◌≡◌, ℕ, true, None, List}
+use Rattle.std.proofs.Common.{◌≡◌, ℕ, ◌+◌, true, None, List}
 use Rattle.goo_spec.specs.Declare.{declared_by}
-use Rattle.goo_spec.specs.Energy.{due, issued}
-use Rattle.goo_spec.specs.Sound.{IsSound, AreOfKnownLots, ArePlacesThere, AreTimely, do_rise}
+use Rattle.goo_spec.specs.Energy.{due, issued, corrected}
+use Rattle.goo_spec.specs.Sound.{IsSound, AreOfKnownLots, ArePlacesThere, AreCorrections, AreTimely, do_rise}
 use Rattle.goo_tables_rows.specs.Rows.{Tables}
 use Rattle.goo_spec_tables.specs.Kept.{AreKept}
 use Rattle.goo_spec_tables.specs.States.{state_of}
@@ -15,7 +15,8 @@ pub record IsSoundOtherwise (t : Tables) : Type 0 where
   pub places : ArePlacesThere (state_of t).at (state_of t).accounts (state_of t).cancellations (state_of t).withdrawals (state_of t).sent
   pub times : AreTimely (state_of t).today (state_of t).at (state_of t).accounts
   pub periods : (device : List ℕ) → do_rise None (declared_by device (state_of t).declarations) ≡ true
-  pub issued_when_due : (device : List ℕ) → issued (state_of t) device ≡ due (state_of t) device
+  pub corrections : AreCorrections (state_of t).declarations (state_of t).corrections (state_of t).withdrawals
+  pub issued_when_due : (device : List ℕ) → issued (state_of t) device ≡ due (state_of t) device + corrected (state_of t) device
 
 -- the two together
 pub sound_whole : (t : Tables) → AreKeptByName t → IsSoundOtherwise t → IsSound (state_of t)
@@ -28,6 +29,7 @@ sound_whole t kept rest = record {
   holders = kept.sound.holders;
   devices = kept.sound.devices;
   declarations = record { device = kept.sound.declared; rising = rest.periods; aux = kept.sound.aux };
+  corrections = rest.corrections;
   times = rest.times;
   account_numbers = kept.sound.account_numbers;
   cancellation_numbers = kept.sound.cancellation_numbers;
@@ -62,5 +64,6 @@ sound_otherwise_of t sound = record {
   places = sound.places;
   times = sound.times;
   periods = sound.declarations.rising;
+  corrections = sound.corrections;
   issued_when_due = sound.issued_when_due;
 }

@@ -2,10 +2,10 @@ use Rattle.std.proofs.Common.{◌≡◌, ◌∙◌, map, rules, sym, subst, Err}
 use Rattle.sqlite.specs.Held.{state as view}
 use Rattle.goo_tables_rows.proofs.Results.{if_ok}
 use Rattle.goo_store_lookups.specs.Moments.{tables_in}
-use Rattle.goo_store.specs.Summing.{summed_for, HaveSmallSums}
+use Rattle.goo_store.specs.Summing.{summed_for, HaveSmallCounts}
 use Rattle.goo_store_lookups.proofs.Looking.{failed_then, looked_both}
-use Rattle.goo_store.proofs.WholeLemmas.{state_totals, tables_small}
-use Rattle.goo_spec_tables.specs.States.{state_of}
+use Rattle.goo_store.proofs.WholeLemmas.{state_totals, counts_small}
+use Rattle.goo_spec_tables.specs.Places.{rows_of}
 use Rattle.goo_store_lookups.proofs.Blaming.{blamed_then, blamed_both, blamed_err}
 use Rattle.goo_store.proofs.sql_shelf.SqlShelf.totals_of_devices.Goals as goal
 
@@ -49,5 +49,4 @@ returns-clause-store g c =
     c.in_ok-rows.ensures.looks c.in_ok-rows.ensures.store c.told.ensures
     (λ fine same declared rows.
     c.totals_over-totals.ensures.accepts
-    (subst (λ ds. HaveSmallSums c.args.own ds c.deref-2.result.now) (sym (c.deref.ensures.value ∙ declared))
-    (subst (λ rs. HaveSmallSums c.args.own (state_of (tables_in old)).declarations rs) (sym (c.deref-2.ensures.value ∙ rows ∙ same)) (tables_small (tables_in old) (c.args.self.now.well.kept fine) c.args.own))))
+    (subst (λ rs. HaveSmallCounts c.args.own rs) (sym (c.deref-2.ensures.value ∙ rows ∙ same)) (counts_small (rows_of (tables_in old)) (c.args.self.now.well.kept fine).rising c.args.own)))
