@@ -11,6 +11,7 @@ use Rattle.std.proofs.lemmas.Nat.{le-div}
 use Rattle.std.proofs.lemmas.Bool.{ltb-false, leb-true, le-leb, eqb-true, eq-eqb, ne_eqb, true≢false, and_parts, and_from}
 use Rattle.std.proofs.lemmas.Slice.Eq.{bytes_eq-Decides}
 use Rattle.std.proofs.Math.Nat.{div-mul-le_self}
+use Rattle.std.proofs.Math.Bool.{and-false, and-true, and_self, or-false}
 use Rattle.goo_types.specs.Number.{code_of}
 use Rattle.goo_types.specs.Range.{Numbers}
 use Rattle.goo_types.specs.Place.{account_of}
@@ -33,7 +34,7 @@ use Rattle.goo_spec.proofs.Counting.{one, one_at, count-insert, count-alike}
 use Rattle.goo_spec.proofs.Mapping.{none_some, get_other, contains_set}
 use Rattle.goo_spec.proofs.Placing.{is_one_of, passed_over}
 use Rattle.goo_spec.proofs.Checking.{none_fail, passes, holds, all_pass, unfound}
-use Rattle.goo_spec.proofs.Lowering.{and_false, never_withdrew, held_stays, next_is_free}
+use Rattle.goo_spec.proofs.Lowering.{never_withdrew, held_stays, next_is_free}
 use Rattle.goo_spec.proofs.Rising.{only_one}
 use Rattle.goo_spec.proofs.Importable.{one_of}
 use Rattle.goo_spec.proofs.Moving.{issued_after, sound_withdraw}
@@ -208,12 +209,8 @@ module _ (s : State) (caller : List ℕ) (x : Correct) (met : Passes s caller x)
   unchanged_back none d (Withdrawn a k) =
       list_any-append (withdrew d k) s.corrections (c ∷ [])
       ∙ ap (λ o. list_any (withdrew d k) s.corrections || ((bytes_eq x.device d && is_number k (withdrawal_for s o)) || false)) none
-      ∙ ap (λ b. list_any (withdrew d k) s.corrections || (b || false)) (and_false (bytes_eq x.device d))
-      ∙ or_false (list_any (withdrew d k) s.corrections)
-    where
-      or_false : (b : Bool) → (b || false) ≡ b
-      or_false true = refl
-      or_false false = refl
+      ∙ ap (λ b. list_any (withdrew d k) s.corrections || (b || false)) (and-false (bytes_eq x.device d))
+      ∙ or-false (list_any (withdrew d k) s.corrections)
 
   sound_none : x.range ≡ None → IsSound (with_more s c)
   unfolding issued corrected c
@@ -268,12 +265,8 @@ module _ (s : State) (caller : List ℕ) (x : Correct) (met : Passes s caller x)
         list_any-append (withdrew d k) s.corrections (c ∷ [])
         ∙ ap (λ o. list_any (withdrew d k) s.corrections || ((bytes_eq x.device d && is_number k (withdrawal_for s o)) || false)) is
         ∙ ap (λ b. list_any (withdrew d k) s.corrections || ((bytes_eq x.device d && b) || false)) (ne_eqb s.next_withdrawal k (λ (e : s.next_withdrawal ≡ k). let l = sound.withdrawal_numbers k there in absurd (omega (arith, e, l))))
-        ∙ ap (λ b. list_any (withdrew d k) s.corrections || (b || false)) (and_false (bytes_eq x.device d))
-        ∙ or_false (list_any (withdrew d k) s.corrections)
-      where
-        or_false : (b : Bool) → (b || false) ≡ b
-        or_false true = refl
-        or_false false = refl
+        ∙ ap (λ b. list_any (withdrew d k) s.corrections || (b || false)) (and-false (bytes_eq x.device d))
+        ∙ or-false (list_any (withdrew d k) s.corrections)
 
     -- the new withdrawal is the new correction's
     back_after : (d : List ℕ) (place : Place) → is_taken_back d (s.corrections ++ c ∷ []) (Withdrawn (account_of place) s.next_withdrawal) ≡ bytes_eq x.device d
@@ -283,11 +276,8 @@ module _ (s : State) (caller : List ℕ) (x : Correct) (met : Passes s caller x)
         ∙ ap (λ b. b || ((bytes_eq x.device d && is_number s.next_withdrawal (withdrawal_for s x.range)) || false)) (never_withdrew d s.withdrawals s.next_withdrawal s.corrections (next_is_free s.next_withdrawal s.withdrawals sound.withdrawal_numbers) sound.corrections.act)
         ∙ ap (λ o. (bytes_eq x.device d && is_number s.next_withdrawal (withdrawal_for s o)) || false) is
         ∙ ap (λ b. (bytes_eq x.device d && b) || false) (eq-eqb s.next_withdrawal s.next_withdrawal refl)
-        ∙ all_of (bytes_eq x.device d)
-      where
-        all_of : (b : Bool) → ((b && true) || false) ≡ b
-        all_of true = refl
-        all_of false = refl
+        ∙ or-false (bytes_eq x.device d && true)
+        ∙ and-true (bytes_eq x.device d)
 
     numbered : (n : ℕ) → range.first ≤ n → n < range.first + count_of range → is_one_of (numbers_in x.range) n ≡ true
     numbered n low high = ap (λ o. is_one_of (numbers_in o) n) is ∙ one_of (count_of range) range.first n low high
@@ -304,14 +294,10 @@ module _ (s : State) (caller : List ℕ) (x : Correct) (met : Passes s caller x)
         let device : lot.device ≡ x.device = (bytes_eq-Decides lot.device x.device).0 own.1 in
         let issued_to : is_issued_to s.own d (n, (lot, place)) ≡ bytes_eq x.device d = ap (λ b. b && bytes_eq lot.device d) code ∙ ap (λ v. bytes_eq v d) device in
         let was : one (is_corrected s.own d (s.corrections ++ c ∷ [])) (n, (lot, place)) ≡ 0 =
-        ap (λ b. cond b 1 0) (ap (λ b. is_issued_to s.own d (n, (lot, place)) && b) (held_stays d (s.corrections ++ c ∷ []) place held) ∙ and_false (is_issued_to s.own d (n, (lot, place)))) in
+        ap (λ b. cond b 1 0) (ap (λ b. is_issued_to s.own d (n, (lot, place)) && b) (held_stays d (s.corrections ++ c ∷ []) place held) ∙ and-false (is_issued_to s.own d (n, (lot, place)))) in
         let now : one (is_corrected s.own d (s.corrections ++ c ∷ [])) (n, (lot, Withdrawn (account_of place) s.next_withdrawal)) ≡ cond (bytes_eq x.device d) 1 0 =
-        ap (λ b. cond b 1 0) (ap (λ b. b && is_taken_back d (s.corrections ++ c ∷ []) (Withdrawn (account_of place) s.next_withdrawal)) issued_to ∙ ap (λ b. bytes_eq x.device d && b) (back_after d place) ∙ twice (bytes_eq x.device d)) in
+        ap (λ b. cond b 1 0) (ap (λ b. b && is_taken_back d (s.corrections ++ c ∷ []) (Withdrawn (account_of place) s.next_withdrawal)) issued_to ∙ ap (λ b. bytes_eq x.device d && b) (back_after d place) ∙ and_self (bytes_eq x.device d)) in
         omega (arith, was, now)
-      where
-        twice : (b : Bool) → (b && b) ≡ b
-        twice true = refl
-        twice false = refl
 
     corrected_moved : (d : List ℕ) → count_by (is_corrected s.own d (s.corrections ++ c ∷ [])) (entries (place_each new (each range) s.at)) ≡ corrected s d + count_of range * cond (bytes_eq x.device d) 1 0
     unfolding corrected

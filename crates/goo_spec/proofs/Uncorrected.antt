@@ -6,6 +6,7 @@ use Rattle.std.specs.Ordering.{nat_cmp}
 use Rattle.std.specs.FinMap.{FinMap, entries}
 use Rattle.std.proofs.lemmas.List.Sums.{sum_by-cons}
 use Rattle.std.proofs.lemmas.Bool.{le-leb, and_from}
+use Rattle.std.proofs.Math.Bool.{and-false}
 use Rattle.goo_types.specs.Day.{CalendarDay}
 use Rattle.goo_types.specs.declared.lot_fields.LotFields.{LotFields}
 use Rattle.goo_types.specs.declared.place.Place.{Place}
@@ -16,7 +17,6 @@ use Rattle.goo_spec.specs.Energy.{certificate, net, less_of, total, lowered, rem
 use Rattle.goo_spec.specs.Correct.{left_of, correctable}
 use Rattle.goo_spec.specs.Sound.{AreCorrections}
 use Rattle.goo_spec.proofs.Counting.{one}
-use Rattle.goo_spec.proofs.Lowering.{and_false}
 
 never_back : (device : List ℕ) (place : Place) → is_taken_back device [] place ≡ false
 never_back device (Held a) = refl
@@ -28,7 +28,7 @@ never_back device (Exported a k) = refl
 none_counted : (own : ℕ) (device : List ℕ) (es : List (ℕ × (LotFields × Place))) → count_by (is_corrected own device []) es ≡ 0
 none_counted own device [] = refl
 none_counted own device (e ∷ es) =
-    let here : one (is_corrected own device []) e ≡ 0 = ap (λ b. cond b 1 0) (ap (λ b. is_issued_to own device e && b) (never_back device e.1.1) ∙ and_false (is_issued_to own device e)) in
+    let here : one (is_corrected own device []) e ≡ 0 = ap (λ b. cond b 1 0) (ap (λ b. is_issued_to own device e && b) (never_back device e.1.1) ∙ and-false (is_issued_to own device e)) in
     omega (arith, here, none_counted own device es, sum_by-cons (one (is_corrected own device [])) e es)
 
 -- no correction is one of declarations that are there, and lowers none below nothing
