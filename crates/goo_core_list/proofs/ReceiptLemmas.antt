@@ -13,7 +13,7 @@ use Rattle.goo_spec.specs.OpenAccount.{open_account_refusal, with_account}
 use Rattle.goo_spec.specs.CloseAccount.{close_account_refusal, with_closed}
 use Rattle.goo_spec.specs.RegisterDevice.{register_device_refusal, with_device}
 use Rattle.goo_spec.specs.Declare.{declare_refusal, with_declaration, earned, issued_for, with_issue}
-use Rattle.goo_spec.specs.Energy.{total, due}
+use Rattle.goo_spec.specs.Energy.{total, lowered, remaining, due}
 use Rattle.goo_spec.specs.Transfer.{transfer_refusal, with_transfer}
 use Rattle.goo_spec.specs.Cancel.{cancel_refusal, with_cancellation}
 use Rattle.goo_spec.specs.Withdraw.{withdraw_refusal, with_withdrawal}
@@ -35,7 +35,7 @@ abbrev pub receipted : Receipts → State → State
 receipted r s = record s { receipts = r }
 
 pub refusal-receipted : (r : Receipts) (s : State) (caller : List ℕ) (c : Command) → refusal (receipted r s) caller c ≡ refusal s caller c
-unfolding open_holder_refusal open_account_refusal close_account_refusal register_device_refusal declare_refusal with_declaration earned total due transfer_refusal cancel_refusal withdraw_refusal advance_refusal add_peer_refusal export_refusal import_refusal
+unfolding open_holder_refusal open_account_refusal close_account_refusal register_device_refusal declare_refusal with_declaration earned total lowered remaining due transfer_refusal cancel_refusal withdraw_refusal advance_refusal add_peer_refusal export_refusal import_refusal
 refusal-receipted r s caller (OpenHolder x) = refl
 refusal-receipted r s caller (OpenAccount x) = refl
 refusal-receipted r s caller (CloseAccount x) = refl
@@ -50,7 +50,7 @@ refusal-receipted r s caller (Export x) = refl
 refusal-receipted r s caller (Import x) = refl
 
 issued-receipted : (r : Receipts) (s : State) (x : declared.Declare) (o : Option Device) → issued_for (receipted r s) x o ≡ receipted r (issued_for s x o)
-unfolding with_declaration earned total due
+unfolding with_declaration earned total lowered remaining due
 issued-receipted r s x None = refl
 issued-receipted r s x (Some device) = refl
 

@@ -108,21 +108,20 @@ module _ (own : ℕ) (device : List ℕ) where
   issued-rows low ps rising = counted-rows (λ c lot place. c == own && bytes_eq lot.device device) low ps rising
 
   pub corrected-rows : (cs : List Correction) (low : ℕ) (ps : List Piece) → IsRisingFrom low ps → count_by (is_corrected own device cs) (entries (certificates_of ps)) ≡ sum_by (corrected_in own device cs) ps
-  corrected-rows cs low ps rising = counted-rows (λ c lot place. (c == own && bytes_eq lot.device device) && is_taken_back device cs place) low ps rising
-
-  -- no more of a row were taken back than were issued
-  corrected-fewer : (cs : List Correction) (p : Piece) → corrected_in own device cs p ≤ issued_in own device p
-  corrected-fewer cs p = fewer (code_of p.first == own && bytes_eq p.lot.device device) (is_taken_back device cs p.place) (p.last + 1 - p.first)
+  corrected-rows cs low ps rising =
+      counted-rows (λ c lot place. (c == own && bytes_eq lot.device device) && is_taken_back device cs place) low ps rising
+      ∙ ap (λ count. sum_by count ps) (λ i p. other_order (code_of p.first == own && bytes_eq p.lot.device device) (is_taken_back device cs p.place) (p.last + 1 - p.first) i)
     where
-      fewer : (a b : Bool) (n : ℕ) → cond (a && b) n 0 ≤ cond a n 0
-      fewer true true n = omega arith
-      fewer true false n = omega arith
-      fewer false b n = omega arith
+      other_order : (a b : Bool) (n : ℕ) → cond (a && b) n 0 ≡ cond b (cond a n 0) 0
+      other_order true b n = refl
+      other_order false true n = refl
+      other_order false false n = refl
 
+  -- no more of some rows were taken back than were issued
   pub corrected-few : (cs : List Correction) (ps : List Piece) → sum_by (corrected_in own device cs) ps ≤ sum_by (issued_in own device) ps
   corrected-few cs [] = omega arith
   corrected-few cs (p ∷ ps) =
-      let here = corrected-fewer cs p in
+      let here = at_most_so (is_taken_back device cs p.place) (issued_in own device p) in
       let rest = corrected-few cs ps in
       omega (arith, here, rest, sum_by-cons (corrected_in own device cs) p ps, sum_by-cons (issued_in own device) p ps)
 

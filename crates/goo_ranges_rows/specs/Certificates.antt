@@ -19,7 +19,7 @@ issued_in own device p = cond (code_of p.first == own && bytes_eq p.lot.device d
 
 -- how many of a row's certificates are own ones of the device that its corrections withdrew
 abbrev pub corrected_in : ℕ → List ℕ → List Correction → Piece → ℕ
-corrected_in own device cs p = cond ((code_of p.first == own && bytes_eq p.lot.device device) && is_taken_back device cs p.place) (p.last + 1 - p.first) 0
+corrected_in own device cs p = cond (is_taken_back device cs p.place) (issued_in own device p) 0
 
 -- each number of each row has the row's lot and place
 unfoldable pub certificates_of : List Piece → Certificates
