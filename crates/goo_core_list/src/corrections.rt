@@ -59,7 +59,9 @@ impl Corrections {
     {
         let mut sum: u128 = 0;
         for correction in &self.list {
-            if declaration.device == correction.device && declaration.first_day == correction.first_day {
+            if declaration.device == correction.device
+                && declaration.first_day == correction.first_day
+            {
                 sum += u128::from(correction.less.get());
             }
         }

@@ -24,7 +24,10 @@ impl ListShelf {
         ensures { result ≡ due_for (state_of self.now) declared.now }
     {
         let lowered = self.corrections.lowered(&declared.device);
-        let before = self.production.net(&declared.device).saturating_sub(lowered);
+        let before = self
+            .production
+            .net(&declared.device)
+            .saturating_sub(lowered);
         let after = self.production.net_with(declared).saturating_sub(lowered);
         u64::try_from(after / CERTIFICATE - before / CERTIFICATE).unwrap()
     }

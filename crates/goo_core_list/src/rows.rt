@@ -70,7 +70,12 @@ pub struct Counted {
 }
 
 /// The count of some rows' certificates.
-fn counted_in_rows(rows: &[Piece], own: RegistryCode, device: &Gsrn, corrections: &Corrections) -> Counted
+fn counted_in_rows(
+    rows: &[Piece],
+    own: RegistryCode,
+    device: &Gsrn,
+    corrections: &Corrections,
+) -> Counted
     requires { IsRising rows.now }
     ensures issued { result.issued ≡ sum_by (issued_in own device.now) rows.now }
     ensures corrected { result.corrected ≡ sum_by (corrected_in own device.now corrections.now) rows.now }
