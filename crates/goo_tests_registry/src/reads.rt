@@ -241,7 +241,7 @@ fn no_audit(rt: &impl Abort, desk: &mut TestDesk, caller: &str) -> Option<ReadFa
     audit(rt, desk, caller).err()
 }
 
-/// One device, with what it declared, what was issued for it, and its carry; nothing was corrected.
+/// One device, with what it declared, what was issued for it, and its carry; no correction took anything off.
 fn has_one_device(rt: &impl Abort, totals: &[DeviceTotals]) {
     holds(
         rt,
