@@ -30,7 +30,7 @@ pub const FOURTH: [Case; 6] = [
             r#"{"command":"declare","device":"500000000000000012","first_day":"2025-01-01","last_day":"2025-01-31","gross_wh":2000000,"aux_wh":0,"key":"k645"}"#,
             r#"{"code":15,"name":"NumbersExhausted","outcome":"refused"}"#,
         )],
-        shown: "500000000000000012 0 0 0\n",
+        shown: "500000000000000012 0 0 0 0 0\n",
     },
     Case {
         name: "one_watt-hour_above_the_capacity",
@@ -84,7 +84,7 @@ pub const FOURTH: [Case; 6] = [
                 r#"{"outcome":"accepted","reply":{"count":10}}"#,
             ),
         ],
-        shown: "1 07000000000001 07000000001200 2025-01-01 held\n1 07000000001201 07000000001201 2025-03-01 held\n500000000000000012 1201000000 1201 0\n",
+        shown: "1 07000000000001 07000000001200 2025-01-01 held\n1 07000000001201 07000000001201 2025-03-01 held\n500000000000000012 1201000000 0 1201 0 0\n",
     },
     Case {
         name: "periods_that_are_refused",
