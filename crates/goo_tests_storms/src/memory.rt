@@ -1,5 +1,8 @@
 //! Calls over tables that are refused memory once. `tools/refuse-memory goo_tests_storms memory::TEST --marked` refuses each request
 //! in turn.
+//!
+//! The disks are in memory too. A call that writes can have the memory of its disk refused: the disk has failed then, the answer is `Store`, and that
+//! run of the tool is told as one that doesn't pass.
 
 use crate::claims::holds;
 use crate::deeds::{Deed, Done, does};

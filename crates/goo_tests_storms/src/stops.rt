@@ -135,12 +135,33 @@ fn stops_at_opening(rt: &impl Abort, alloc: Global, calls: u64) -> bool {
     answered < ALL
 }
 
-#[test]
-fn the_machine_loses_power_at_each_call_of_opening(rt: HostRuntime) {
-    for calls in 0..ROUNDS {
-        if !stops_at_opening(&rt, rt.alloc(), calls) {
+/// The same at every fourth call from this one on, until none meets it.
+fn storm_of_opening(rt: &impl Abort, alloc: Global, from: u64) {
+    for round in 0..ROUNDS {
+        let calls = from.saturating_add(4u64.saturating_mul(round));
+        if !stops_at_opening(rt, alloc, calls) {
             return;
         }
     }
-    panic!(&rt; "a stop at each call")
+    panic!(rt; "a stop at each call")
+}
+
+#[test]
+fn the_machine_loses_power_at_the_first_call_of_opening(rt: HostRuntime) {
+    storm_of_opening(&rt, rt.alloc(), 0)
+}
+
+#[test]
+fn the_machine_loses_power_at_the_second_call_of_opening(rt: HostRuntime) {
+    storm_of_opening(&rt, rt.alloc(), 1)
+}
+
+#[test]
+fn the_machine_loses_power_at_the_third_call_of_opening(rt: HostRuntime) {
+    storm_of_opening(&rt, rt.alloc(), 2)
+}
+
+#[test]
+fn the_machine_loses_power_at_the_fourth_call_of_opening(rt: HostRuntime) {
+    storm_of_opening(&rt, rt.alloc(), 3)
 }
