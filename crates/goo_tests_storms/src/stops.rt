@@ -138,7 +138,7 @@ fn stops_at_opening(rt: &impl Abort, alloc: Global, calls: u64) -> bool {
 /// The same at every fourth call from this one on, until none meets it.
 fn storm_of_opening(rt: &impl Abort, alloc: Global, from: u64) {
     for round in 0..ROUNDS {
-        let calls = from.saturating_add(4u64.saturating_mul(round));
+        let calls = from.saturating_add(4 * round);
         if !stops_at_opening(rt, alloc, calls) {
             return;
         }
