@@ -44,8 +44,8 @@ pub enum Done {
     Unopened,
 }
 
-/// A registry's shelf, or the database that holds none, and why.
-type Entered<S> = Result<SqlShelf<S>, (Connection<S>, OpenFault)>;
+/// A registry, or the database that holds none, and why.
+type Entered<S> = Result<Registry<SqlShelf<S>>, (Connection<S>, OpenFault)>;
 
 /// Registry 7 on 1 March 2025 in a database.
 fn begun<S: Alter>(rt: &impl Abort, alloc: Global, conn: Connection<S>) -> Entered<S> {
@@ -55,7 +55,10 @@ fn begun<S: Alter>(rt: &impl Abort, alloc: Global, conn: Connection<S>) -> Enter
     if !conn.is_autocommit() {
         return Err((conn, OpenFault::Store));
     }
-    SqlShelf::create(alloc, conn, code, serial, today)
+    match SqlShelf::create(alloc, conn, code, serial, today) {
+        Ok(shelf) => Ok(Registry::new(shelf)),
+        Err(refused) => Err(refused),
+    }
 }
 
 /// The registry that a database holds; between two marks, if memory is refused.
@@ -77,7 +80,10 @@ fn opened<S: Alter>(
     if is_short {
         mark(rt, alloc);
     }
-    found
+    match found {
+        Ok(shelf) => Ok(Registry::new(shelf)),
+        Err(refused) => Err(refused),
+    }
 }
 
 /// A registry that was entered is asked, if it was.
@@ -88,8 +94,8 @@ fn works_in<S: Alter + Drop>(
     act: &Act<'_>,
 ) -> (Done, Connection<S>) {
     match found {
-        Ok(shelf) => {
-            let (answered, shelf) = works(rt, alloc, Registry::new(shelf), act);
+        Ok(registry) => {
+            let (answered, shelf) = works(rt, alloc, registry, act);
             (Done::Answered(answered), shelf.into_connection())
         }
         Err((conn, fault)) => (Done::Refused(fault), conn),
