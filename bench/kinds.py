@@ -2,7 +2,7 @@
 
 usage: python3 bench/kinds.py KIND N      (N up to 20; with 0 only what comes before)
 
-The kinds are the twelve commands, `repeat` (a transfer under its key again) and `refuse` (a transfer that is not the caller's to ask for).
+The kinds are the thirteen commands, `repeat` (a transfer under its key again) and `refuse` (a transfer that is not the caller's to ask for).
 """
 import sys
 
@@ -49,6 +49,8 @@ KINDS = {
     'close_account': lambda at: line(ISSUING_BODY, account=3 + at, command='close_account', key=f'n{at}'),
     'register_device': lambda at: registration(device_number(100 + at), f'n{at}', 2_000_000),
     'declare': declaration,
+    'correct': lambda at: line(ISSUING_BODY, command='correct', device=device_number(1), first=certificate(20 * at + 10), first_day='2024-06-01', key=f'n{at}',
+                               last=certificate(20 * at + 19), less_wh=10_000_000, reason='meter read twice'),
     'transfer': lambda at: transfer(at, f'n{at}'),
     'cancel': lambda at: line('SUN', account=1, beneficiary='Town hall', command='cancel', first=certificate(20 * at + 10), key=f'n{at}',
                               last=certificate(20 * at + 19), use_first='2024-06-01', use_last='2024-06-30'),

@@ -43,7 +43,7 @@ class Plain:
             self.ask('PRAGMA synchronous=FULL')
         for text in re.findall(r'"(CREATE [^"]*)"', CREATE.read_text(encoding='utf-8')):
             self.ask(text)
-        self.ask('INSERT INTO meta VALUES (1, 1, ?, ?, 1, 1, 1, 1, 1)', CODE, TODAY)
+        self.ask('INSERT INTO meta VALUES (1, 2, ?, ?, 1, 1, 1, 1, 1)', CODE, TODAY)
 
     def ask(self, text, *values):
         return self.database.execute(text, values)

@@ -9,7 +9,8 @@ from contextlib import closing
 from measured import NEW, goo, plain, room, workload
 
 SIZES = {'trades': 817, 'declarations': 1_001}
-TABLES = ('meta', 'holder', 'account', 'device', 'declaration', 'lot', 'piece', 'peer', 'receipt', 'cancellation', 'withdrawal', 'notice_out', 'notice_in')
+TABLES = ('meta', 'holder', 'account', 'device', 'declaration', 'lot', 'piece', 'peer', 'receipt', 'cancellation', 'withdrawal', 'notice_out', 'notice_in',
+          'correction')
 
 
 def rows(path, table):

@@ -59,7 +59,8 @@ def base():
     commands += [('ISSUER', of('add_peer', peer=9)), ('ISSUER', of('add_peer', peer=8)),
                  ('SUN', of('transfer', giver=1, taker=2, **ends(100, 50))),
                  ('SUN', of('cancel', account=1, beneficiary='Bäckerei Müller', use_first='2024-01-01', use_last='2024-12-31', **ends(1, 10))),
-                 ('ISSUER', of('withdraw', reason='meter read twice', **ends(11, 5)))]
+                 ('ISSUER', of('withdraw', reason='meter read twice', **ends(11, 5))),
+                 ('ISSUER', of('correct', device=DEVICES[0], first_day='2024-09-01', less_wh=1_000_000, reason='meter read twice', **ends(16, 1)))]
     return [text_of(caller, command, f'b{number}') for number, (caller, command) in enumerate(commands)]
 
 
@@ -70,8 +71,8 @@ class World:
         self.chance, self.count, self.notices = chance, 0, 0
         self.days = {device: date(2024, 10, 1) for device in DEVICES}
         self.day = date(2025, 3, 1)
-        self.kinds = {'open_holder': 2, 'open_account': 2, 'close_account': 1, 'register_device': 2, 'declare': 6, 'transfer': 8, 'cancel': 5, 'withdraw': 3,
-                      'advance': 0.3, 'add_peer': 1, 'export': 5, 'import': 5}
+        self.kinds = {'open_holder': 2, 'open_account': 2, 'close_account': 1, 'register_device': 2, 'declare': 6, 'correct': 5, 'transfer': 8, 'cancel': 5,
+                      'withdraw': 3, 'advance': 0.3, 'add_peer': 1, 'export': 5, 'import': 5}
 
     def key(self):
         """A key that was not given before."""
@@ -121,6 +122,14 @@ class World:
         device, day = self.a_day()
         gross = self.chance.choice([0, 1, 999_999, 1_000_000, 3_333_333])
         return 'ISSUER', of('declare', device=device, first_day=day, last_day=day, gross_wh=gross, aux_wh=gross // 4)
+
+    def correct(self):
+        """Less of what a device made in September, or on the day that it declared last: certificates of its own for full MWh, and none for less than one."""
+        place, full = self.chance.randrange(len(DEVICES)), self.chance.choice([0, 0, 1, 2])
+        first = self.chance.choice([date(2024, 9, 1)] * 3 + [self.days[DEVICES[place]] - timedelta(1)])
+        numbers = ends(600 * place + self.chance.randrange(20, 590), full) if full else {'first': '', 'last': ''}
+        return 'ISSUER', of('correct', device=DEVICES[place], first_day=first.isoformat(), less_wh=full * 10 ** 6 or self.chance.choice([0, 1, 1000]),
+                            reason=self.chance.choice(NAMES), **numbers)
 
     def transfer(self):
         """Certificates from one account to another."""
@@ -189,7 +198,7 @@ JSON_TOKENS = [
     b'"\\u0000"', b'"\\ud800"', b'"\\udc00\\ud800"', b'"\\ud834\\udd1e"', b'"\\u004"', b'"\\x"', b'"\t"', b'"\xff"', b'"\xed\xa0\x80"', b'"\xc2\x85"', b'"\x7f"',
     b'" a"', b'"a "', b'"a\\u00a0"', b'NaN', b'Infinity', b'//', b'/**/', b'\xef\xbb\xbf', b'\x0c', b'\xa0', b'\r', b'\t', b'\n', b' ',
     b'"command"', b'"key"', b'"notice"', b'"k\\u0065y"', b'"first"', b'"last"', b'"account"', b'"holder"', b'"advance"', b'"import"', b'"ISSUER"', b'"none"',
-    b'"both"',
+    b'"both"', b'"correct"', b'"less_wh"', b'"reason"',
     b'"2025-02-29"', b'"2024-02-29"', b'"1899-12-31"', b'"1900-01-01"', b'"2099-12-31"', b'"2100-01-01"', b'"2025-3-01"', b'"07000000000000"', b'"07000000000001"',
     b'"00000000000001"', b'"99999999999999"', b'"7000000000001"', b'"500000000000000013"', b'"' + b'x' * 65 + b'"', b'"' + b'k' * 41 + b'"', b'2', b'7', b'9', b'99',
     b'100',

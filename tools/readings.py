@@ -250,6 +250,7 @@ COMMANDS = {
     'register_device': {'device': is_gsrn, 'account': is_account, 'country': is_country, 'site': is_name, 'tech': is_tech, 'source': is_source,
                         'capacity_w': is_watts, 'commissioned': is_day, 'support': is_support},
     'declare': {'device': is_gsrn, 'first_day': is_day, 'last_day': is_day, 'gross_wh': is_wh, 'aux_wh': is_wh},
+    'correct': {'device': is_gsrn, 'first_day': is_day, 'less_wh': is_wh, 'first': None, 'last': None, 'reason': is_name},
     'transfer': {'giver': is_account, 'taker': is_account, 'first': None, 'last': None},
     'cancel': {'account': is_account, 'first': None, 'last': None, 'beneficiary': is_name, 'use_first': is_day, 'use_last': is_day},
     'withdraw': {'first': None, 'last': None, 'reason': is_name},
@@ -258,7 +259,7 @@ COMMANDS = {
     'export': {'giver': is_account, 'peer': is_code, 'account': is_account, 'first': None, 'last': None},
     'import': {'notice': None},
 }
-INTEGERS = {'account', 'capacity_w', 'gross_wh', 'aux_wh', 'giver', 'taker', 'peer', 'origin', 'sender', 'addressee', 'number', 'version'}
+INTEGERS = {'account', 'capacity_w', 'gross_wh', 'aux_wh', 'less_wh', 'giver', 'taker', 'peer', 'origin', 'sender', 'addressee', 'number', 'version'}
 NOTICE = {'sender': is_code, 'addressee': is_code, 'number': is_account, 'account': is_account, 'version': within(1, 1)}
 
 
@@ -278,11 +279,11 @@ def need_shape(value, names):
 
 
 def need_fields(value, readers):
-    """Each value is one that its reader takes, and `first` and `last` are a range."""
+    """Each value is one that its reader takes, and `first` and `last` are a range; both empty they are none, where a correction needs none."""
     for name, takes in readers.items():
         if takes is not None and not takes(value[name]):
             raise Fault('Field')
-    if 'first' in value:
+    if 'first' in value and not (value.get('command') == 'correct' and value['first'] == value['last'] == ''):
         ends = number_in(value['first']), number_in(value['last'])
         if None in ends or not is_range(*ends):
             raise Fault('Field')

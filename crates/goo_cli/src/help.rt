@@ -43,7 +43,8 @@ pub const STATEMENT: &str = "Prints the statement of an account";
 pub const STATEMENT_EXAMPLE: &str = "Example:
   goo statement 1 --db registry.db";
 
-pub const AUDIT: &str = "Prints what each device declared, what was issued for it, and its carry";
+pub const AUDIT: &str =
+    "Prints what each device declared and was issued, what corrections took off both, and its carry";
 
 pub const AUDIT_EXAMPLE: &str = "Example:
   goo audit --db registry.db";

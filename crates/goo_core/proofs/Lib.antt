@@ -14,6 +14,7 @@ pub mod Takings
 pub mod Arrivals
 pub mod Importing
 pub mod Withdrawing
+pub mod Correcting
 pub mod Deciding
 pub mod Stopping
 pub mod AccountRuns

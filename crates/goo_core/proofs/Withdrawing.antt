@@ -137,7 +137,7 @@ withdrawn_edits range act runs book new edits are made = record {
 }
 
 -- a withdrawal as the definitions say it
-same_withdrawn : (act : ℕ) (b : Bool) (o : Option Label) → cond b (replaced (λ lot place. Withdrawn (account_of place) act) o) o ≡ (if b then option_map (λ (label : Label). (label.0, Withdrawn (account_of label.1) act)) o else o)
+pub same_withdrawn : (act : ℕ) (b : Bool) (o : Option Label) → cond b (replaced (λ lot place. Withdrawn (account_of place) act) o) o ≡ (if b then option_map (λ (label : Label). (label.0, Withdrawn (account_of label.1) act)) o else o)
 same_withdrawn act true None = refl
 same_withdrawn act true (Some label) = refl
 same_withdrawn act false o = refl

@@ -11,6 +11,7 @@ use crate::add_peer::judge_add_peer;
 use crate::advance::judge_advance;
 use crate::cancel::judge_cancel;
 use crate::close_account::judge_close_account;
+use crate::correct::judge_correct;
 use crate::declare::judge_declare;
 use crate::export::judge_export;
 use crate::import::judge_import;
@@ -62,6 +63,7 @@ fn judge<S: Shelf>(
         Command::CloseAccount(x) => Ok(quiet(alloc, judge_close_account(alloc, shelf, caller, x)?)),
         Command::RegisterDevice(x) => Ok(quiet(alloc, judge_register_device(shelf, caller, x)?)),
         Command::Declare(x) => judge_declare(alloc, shelf, caller, x),
+        Command::Correct(x) => judge_correct(alloc, shelf, caller, x),
         Command::Transfer(x) => judge_transfer(alloc, shelf, caller, x),
         Command::Cancel(x) => judge_cancel(alloc, shelf, caller, x),
         Command::Withdraw(x) => judge_withdraw(alloc, shelf, caller, x),

@@ -8,6 +8,8 @@ ghost use Rattle.goo_spec.specs.Days.{is_before as before_test, are_in_one_month
 ghost use Rattle.goo_spec.specs.State.{State, serials};
 ghost use Rattle.goo_spec.specs.Declare.{device_checks, earned, lot_of as lot_def, begins_too_early as early_test, most_energy as most};
 ghost use Rattle.goo_spec.specs.Declare.{declare_refusal, declare_reply, with_issue};
+ghost use Rattle.goo_spec.specs.Energy.{lowered, total};
+ghost use Rattle.goo_spec.specs.Sound.{IsSound};
 ghost use Rattle.goo_ranges_rows.specs.Rows.{AreRowsOf};
 ghost use Rattle.goo_core_shelf.specs.Shelf.{Looks, IsReady};
 ghost use Rattle.goo_core.specs.Ruling.{IsRuling, plain_meaning};
@@ -120,7 +122,7 @@ fn read_standing<S: Shelf>(shelf: &mut S, device: &Gsrn) -> Result<Option<Standi
 #[tactic(auto, using(goo_spec::proofs::Balancing::earned_from_carry, goo_spec::proofs::Balancing::carry_from_carry))]
 fn settle(declaration: &Declare, standing: &Standing, lot: &Lot) -> Appraisal
     requires { declaration.now.aux ≤ declaration.now.gross }
-    ensures { (s : State) → IsStanding s declaration.now.device standing.now → lot.now ≡ lot_def s declaration.now standing.now.device → result ≡ appraisal_with (when (nat_lt serials (s.next_serial + earned s declaration.now)) NumbersExhausted) (terms_of s declaration.now standing.now.device) }
+    ensures { (s : State) → lowered s declaration.now.device ≤ total s declaration.now.device → IsStanding s declaration.now.device standing.now → lot.now ≡ lot_def s declaration.now standing.now.device → result ≡ appraisal_with (when (nat_lt serials (s.next_serial + earned s declaration.now)) NumbersExhausted) (terms_of s declaration.now standing.now.device) }
 {
     let Earnings { count, carry } = earn(standing.progress.carry, declaration);
     let serial = standing.meta.counters.serial();
@@ -138,7 +140,7 @@ fn settle(declaration: &Declare, standing: &Standing, lot: &Lot) -> Appraisal
 #[tactic(auto, unfolding(goo_spec::specs::Days::is_over))]
 fn appraise_energy(declaration: &Declare, standing: &Standing, lot: &Lot) -> Appraisal
     requires { before_test declaration.now.last_day declaration.now.first_day ≡ false }
-    ensures { (s : State) → IsStanding s declaration.now.device standing.now → lot.now ≡ lot_def s declaration.now standing.now.device → result ≡ appraisal_with (first_refusal (energy_checks s declaration.now standing.now.device)) (terms_of s declaration.now standing.now.device) }
+    ensures { (s : State) → lowered s declaration.now.device ≤ total s declaration.now.device → IsStanding s declaration.now.device standing.now → lot.now ≡ lot_def s declaration.now standing.now.device → result ≡ appraisal_with (first_refusal (energy_checks s declaration.now standing.now.device)) (terms_of s declaration.now standing.now.device) }
 {
     if begins_too_early(standing.progress.last_day, declaration.first_day) {
         return Appraisal::Fails(Refusal::PeriodOrder);
@@ -158,7 +160,7 @@ fn appraise_energy(declaration: &Declare, standing: &Standing, lot: &Lot) -> App
 
 /// The appraisal of a declaration, by the checks that ask for its device.
 fn appraise_standing(declaration: &Declare, standing: &Standing) -> Appraisal
-    ensures { (s : State) → IsStanding s declaration.now.device standing.now → result ≡ appraisal_with (first_refusal (device_checks s declaration.now standing.now.device)) (terms_of s declaration.now standing.now.device) }
+    ensures { (s : State) → lowered s declaration.now.device ≤ total s declaration.now.device → IsStanding s declaration.now.device standing.now → result ≡ appraisal_with (first_refusal (device_checks s declaration.now standing.now.device)) (terms_of s declaration.now standing.now.device) }
 {
     if is_shut(standing.account) {
         return Appraisal::Fails(Refusal::AccountClosed);
@@ -189,7 +191,8 @@ pub fn appraise<S: Shelf>(
     caller: &HolderCode,
     declaration: &Declare,
 ) -> Result<Appraisal, Fault>
-    requires { IsReady (S.seen shelf.old) }
+    requires ready { IsReady (S.seen shelf.old) }
+    requires sound { (S.seen shelf.old).doubts ≡ 0 → IsSound (S.seen shelf.old).state }
     ensures { Looks (S.seen shelf.old) (S.seen shelf.new) result (λ appraisal. appraisal ≡ appraisal_of (S.seen shelf.old).state caller.now declaration.now) }
 {
     if !is_issuer(caller) {
@@ -213,6 +216,7 @@ pub fn judge_declare<S: Shelf>(
     declaration: &Declare,
 ) -> Result<Ruling, Fault>
     requires ready { IsReady (S.seen shelf.old) }
+    requires sound { (S.seen shelf.old).doubts ≡ 0 → IsSound (S.seen shelf.old).state }
     requires rows { (S.seen shelf.old).doubts ≡ 0 → AreRowsOf (S.seen shelf.old).state.at (S.seen shelf.old).rows }
     ensures { Looks (S.seen shelf.old) (S.seen shelf.new) result (IsRuling (plain_meaning (declare_refusal (S.seen shelf.old).state caller.now declaration.now) (declare_reply (S.seen shelf.old).state declaration.now) (with_issue (S.seen shelf.old).state declaration.now).at (λ rows. 1)) (S.seen shelf.old).rows) }
 {

@@ -10,6 +10,7 @@ mod arriving;
 mod cancel;
 mod change;
 mod close_account;
+mod correct;
 pub mod decision;
 mod declare;
 mod export;

@@ -92,7 +92,12 @@ fn withdraw_runs(
 
 /// The edits that withdraw the certificates of a range, from a book of the rows that it meets: one for
 /// each run of numbers of one account.
-fn withdraw_met(alloc: Global, mut book: Book, range: Range, act: ActNo) -> Result<Vec<Edit>, Fault>
+pub(crate) fn withdraw_met(
+    alloc: Global,
+    mut book: Book,
+    range: Range,
+    act: ActNo,
+) -> Result<Vec<Edit>, Fault>
     ensures edits { IfOk result (λ edits. (range.first ≤ range.last) × AreEditsFor range book (withdrawn range act) edits.items) }
     ensures few { IfOk result (λ edits. length edits.items ≤ account_runs (at_of book) range) }
     ensures memory { IfErr result (λ fault. fault ≡ Memory) }

@@ -1,19 +1,22 @@
 -- No check and no change looks at the receipts.
-use Rattle.std.proofs.Common.{◌≡◌, ℕ, List, Option, Some, None, refl, sym, ap, ◌∙◌}
+use Rattle.std.proofs.Common.{◌≡◌, ℕ, List, [], ◌∷◌, ◌++◌, Option, Some, None, refl, sym, ap, ◌∙◌}
 use Rattle.std.specs.FinMap.{FinMap, get, insert}
 use Rattle.goo_types.specs.declared.command.Command.{Command}
-use Rattle.goo_types.specs.declared.command.Command.TheVariants.{OpenHolder, OpenAccount, CloseAccount, RegisterDevice, Declare, Transfer, Cancel, Withdraw, Advance, AddPeer, Export, Import}
+use Rattle.goo_types.specs.declared.command.Command.TheVariants.{OpenHolder, OpenAccount, CloseAccount, RegisterDevice, Declare, Correct, Transfer, Cancel, Withdraw, Advance, AddPeer, Export, Import}
 use Rattle.goo_types.specs.declared.command.Declare as declared
+use Rattle.goo_types.specs.declared.command.Correct as correction
+use Rattle.goo_types.specs.Range.{Numbers}
 use Rattle.goo_types.specs.declared.outcome.Outcome.TheVariants.{Accepted}
 use Rattle.goo_types.specs.declared.reply.Reply.{Reply}
 use Rattle.goo_types.specs.declared.request.Request.{Request}
-use Rattle.goo_spec.specs.State.{State, Device, receipt_cmp}
+use Rattle.goo_spec.specs.State.{State, Device, Correction, receipt_cmp}
 use Rattle.goo_spec.specs.OpenHolder.{open_holder_refusal, with_holder}
 use Rattle.goo_spec.specs.OpenAccount.{open_account_refusal, with_account}
 use Rattle.goo_spec.specs.CloseAccount.{close_account_refusal, with_closed}
 use Rattle.goo_spec.specs.RegisterDevice.{register_device_refusal, with_device}
 use Rattle.goo_spec.specs.Declare.{declare_refusal, with_declaration, earned, issued_for, with_issue}
-use Rattle.goo_spec.specs.Energy.{total, due}
+use Rattle.goo_spec.specs.Energy.{total, lowered, remaining, due}
+use Rattle.goo_spec.specs.Correct.{correctable, excess, correct_refusal, withdrawal_for, taken_out, with_correction}
 use Rattle.goo_spec.specs.Transfer.{transfer_refusal, with_transfer}
 use Rattle.goo_spec.specs.Cancel.{cancel_refusal, with_cancellation}
 use Rattle.goo_spec.specs.Withdraw.{withdraw_refusal, with_withdrawal}
@@ -35,12 +38,13 @@ abbrev pub receipted : Receipts → State → State
 receipted r s = record s { receipts = r }
 
 pub refusal-receipted : (r : Receipts) (s : State) (caller : List ℕ) (c : Command) → refusal (receipted r s) caller c ≡ refusal s caller c
-unfolding open_holder_refusal open_account_refusal close_account_refusal register_device_refusal declare_refusal with_declaration earned total due transfer_refusal cancel_refusal withdraw_refusal advance_refusal add_peer_refusal export_refusal import_refusal
+unfolding open_holder_refusal open_account_refusal close_account_refusal register_device_refusal declare_refusal with_declaration earned total lowered remaining due correctable excess correct_refusal transfer_refusal cancel_refusal withdraw_refusal advance_refusal add_peer_refusal export_refusal import_refusal
 refusal-receipted r s caller (OpenHolder x) = refl
 refusal-receipted r s caller (OpenAccount x) = refl
 refusal-receipted r s caller (CloseAccount x) = refl
 refusal-receipted r s caller (RegisterDevice x) = refl
 refusal-receipted r s caller (Declare x) = refl
+refusal-receipted r s caller (Correct x) = refl
 refusal-receipted r s caller (Transfer x) = refl
 refusal-receipted r s caller (Cancel x) = refl
 refusal-receipted r s caller (Withdraw x) = refl
@@ -49,18 +53,32 @@ refusal-receipted r s caller (AddPeer x) = refl
 refusal-receipted r s caller (Export x) = refl
 refusal-receipted r s caller (Import x) = refl
 
+-- a state with other corrections, and a correction
+abbrev with_corrections : State → List Correction → State
+with_corrections s cs = record s { corrections = cs }
+
+abbrev lowering : correction.Correct → Option ℕ → Correction
+lowering x act = record { device = x.device; first_day = x.first_day; less = x.less; withdrawal = act }
+
 issued-receipted : (r : Receipts) (s : State) (x : declared.Declare) (o : Option Device) → issued_for (receipted r s) x o ≡ receipted r (issued_for s x o)
-unfolding with_declaration earned total due
+unfolding with_declaration earned total lowered remaining due
 issued-receipted r s x None = refl
 issued-receipted r s x (Some device) = refl
 
+corrected-receipted : (r : Receipts) (s : State) (x : correction.Correct) (o : Option Numbers)
+    → with_corrections (taken_out (receipted r s) x o) (s.corrections ++ lowering x (withdrawal_for (receipted r s) o) ∷ []) ≡ receipted r (with_corrections (taken_out s x o) (s.corrections ++ lowering x (withdrawal_for s o) ∷ []))
+unfolding with_withdrawal
+corrected-receipted r s x None = refl
+corrected-receipted r s x (Some range) = refl
+
 pub changed-receipted : (r : Receipts) (s : State) (c : Command) → changed (receipted r s) c ≡ receipted r (changed s c)
-unfolding with_holder with_account with_closed with_device with_issue with_transfer with_cancellation with_withdrawal with_day with_peer notice_of with_export with_import
+unfolding with_holder with_account with_closed with_device with_issue with_correction with_transfer with_cancellation with_withdrawal with_day with_peer notice_of with_export with_import
 changed-receipted r s (OpenHolder x) = refl
 changed-receipted r s (OpenAccount x) = refl
 changed-receipted r s (CloseAccount x) = refl
 changed-receipted r s (RegisterDevice x) = refl
 changed-receipted r s (Declare x) = issued-receipted r s x (get s.devices x.device)
+changed-receipted r s (Correct x) = corrected-receipted r s x x.range
 changed-receipted r s (Transfer x) = refl
 changed-receipted r s (Cancel x) = refl
 changed-receipted r s (Withdraw x) = refl
@@ -76,6 +94,7 @@ notice-receipted r s (OpenAccount x) = refl
 notice-receipted r s (CloseAccount x) = refl
 notice-receipted r s (RegisterDevice x) = refl
 notice-receipted r s (Declare x) = refl
+notice-receipted r s (Correct x) = refl
 notice-receipted r s (Transfer x) = refl
 notice-receipted r s (Cancel x) = refl
 notice-receipted r s (Withdraw x) = refl

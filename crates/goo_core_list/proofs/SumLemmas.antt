@@ -1,26 +1,18 @@
--- No device of a sound registry has declared more than all its serials are worth.
-use Rattle.std.proofs.Common.{ℕ, ◌<◌, ◌≤◌, List, ap, arith}
-use Rattle.std.specs.Prelude.{count_by}
-use Rattle.std.specs.FinMap.{entries}
-use Rattle.goo_types.specs.declared.piece.Piece.{Piece}
-use Rattle.goo_spec.specs.Energy.{total, due, issued, is_issued_to}
-use Rattle.goo_spec.specs.Sound.{IsSound}
-use Rattle.goo_spec.specs.State.{State, serials}
-use Rattle.goo_ranges_rows.specs.Rows.{AreRowsOf}
-use Rattle.goo_core_list.specs.Production.{beyond_all}
-use Rattle.goo_ranges_rows.proofs.CertificateLemmas.{certificates-same, issued-rows, own-block}
+-- What a declaration earns, from the sums of what its device declared and of what corrections took off.
+use Rattle.std.proofs.Common.{◌≡◌, ℕ, ◌+◌, ◌-◌, ◌/◌, cond, refl, ap, arith}
+use Rattle.std.proofs.lemmas.Slice.Eq.{bytes_eq-Decides}
+use Rattle.goo_types.specs.declared.command.Declare.{Declare}
+use Rattle.goo_spec.specs.State.{State}
+use Rattle.goo_spec.specs.Energy.{certificate, net, net_of, total, lowered, remaining, due}
+use Rattle.goo_spec.specs.Declare.{with_declaration, earned}
+use Rattle.goo_spec.proofs.Declaring.{total_with}
 
-issued-few : (s : State) (rows : List Piece) (device : List ℕ) → AreRowsOf s.at rows → issued s device ≤ serials
-unfolding issued
-issued-few s rows device are =
-    let same = ap (λ at. count_by (is_issued_to s.own device) (entries at)) (certificates-same s.at rows are) in
-    let counted = issued-rows s.own device 0 rows are.disjoint in
-    let few = own-block s.own device 0 rows are.disjoint in
-    omega (arith, same, counted, few)
+own_net : (x : Declare) → net_of x.device x ≡ net x
+own_net x = ap (λ b. cond b (net x) 0) ((bytes_eq-Decides x.device x.device).1 refl)
 
-pub sums-below : (s : State) (rows : List Piece) → IsSound s → AreRowsOf s.at rows → (device : List ℕ) → total s device < beyond_all
-unfolding due
-sums-below s rows sound are device =
-    let few = issued-few s rows device are in
-    let when = sound.issued_when_due device in
-    omega (arith, few, when)
+with_more : (s : State) (x : Declare) → total (with_declaration s x) x.device ≡ total s x.device + net x
+with_more s x = omega (arith, total_with s x x.device, own_net x)
+
+pub earned_from_sums : (s : State) (x : Declare) → earned s x ≡ (total s x.device + net x - lowered s x.device) / certificate - (total s x.device - lowered s x.device) / certificate
+unfolding earned due remaining lowered with_declaration
+earned_from_sums s x = ap (λ (n : ℕ). (n - lowered s x.device) / certificate - (total s x.device - lowered s x.device) / certificate) (with_more s x)

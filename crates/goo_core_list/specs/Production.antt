@@ -1,5 +1,5 @@
 -- What devices declared, in memory: beside the list of declarations, each device's last day and its sum.
-use Rattle.std.specs.Prelude.{◌≡◌, ℕ, List, Option, Some, None, sum_by}
+use Rattle.std.specs.Prelude.{◌≡◌, ◌≤◌, ◌*◌, ◌^◌, ℕ, List, length, Option, Some, None, sum_by}
 use Rattle.std.specs.FinMap.{FinMap, get}
 use Rattle.goo_types.specs.Day.{CalendarDay}
 use Rattle.goo_types.specs.declared.command.Declare.{Declare}
@@ -24,7 +24,5 @@ net_in (Some p) = p.net
 pub record AddsUp (xs : List Declare) (devices : FinMap text_cmp Produced) : Type 0 where
   pub last_day : (device : List ℕ) → last_day_in (get devices device) ≡ last_end None (declared_by device xs)
   pub net : (device : List ℕ) → net_in (get devices device) ≡ net_by device xs
-
--- more watt-hours than any device of a sound registry has declared
-abbrev pub beyond_all : ℕ
-beyond_all = 2000000000000000000
+  -- a declaration has at most 10 ^ 15 Wh
+  pub small : (device : List ℕ) → net_by device xs ≤ 10 ^ 15 * length xs

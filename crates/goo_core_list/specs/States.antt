@@ -24,6 +24,7 @@ state_of s = record {
   accounts = map_of nat_cmp s.accounts;
   devices = map_of text_cmp s.devices;
   declarations = s.production;
+  corrections = s.corrections;
   peers = map_of nat_cmp s.peers;
   receipts = map_of receipt_cmp s.receipts;
   arrived = map_of notice_cmp s.arrived;

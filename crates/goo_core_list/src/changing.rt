@@ -1,9 +1,7 @@
 //! What a command changes beside the certificates.
-ghost use Rattle.std.specs.Prelude.{◌≡◌, ℕ, ◌<◌, List, None};
+ghost use Rattle.std.specs.Prelude.{◌≡◌, None};
 ghost use Rattle.goo_spec.specs.Step.{refusal, changed};
 ghost use Rattle.goo_core_shelf.specs.Plan.{notice_sent};
-ghost use Rattle.goo_spec.specs.Energy.{total};
-ghost use Rattle.goo_core_list.specs.Production.{beyond_all};
 ghost use Rattle.goo_core_list.specs.States.{state_of, Changes};
 ghost use Rattle.goo_ranges_rows.specs.Certificates.{beside};
 
@@ -18,7 +16,6 @@ impl ListShelf {
     #[tactic(auto, unfolding(crate::specs::States::state_of, goo_spec::specs::Transfer::with_transfer, goo_spec::specs::Advance::with_day))]
     pub(crate) fn change(&mut self, alloc: Global, plan: &Plan) -> Result<(), Fault>
         requires allowed { refusal (state_of self.old) plan.now.request.caller plan.now.request.command ≡ None }
-        requires sums { (device : List ℕ) → total (state_of self.old) device < beyond_all }
         requires sent { plan.now.notice ≡ notice_sent (state_of self.old) plan.now.request.command }
         ensures { Changes self.old self.new result (beside (state_of self.old).at (changed (state_of self.old) plan.now.request.command)) }
     {
@@ -28,6 +25,7 @@ impl ListShelf {
             Command::CloseAccount(command) => self.close_account(command),
             Command::RegisterDevice(command) => self.add_device(command),
             Command::Declare(command) => self.add_declaration(command),
+            Command::Correct(command) => self.add_correction(command),
             Command::Transfer(_) => Ok(()),
             Command::Cancel(command) => self.add_cancellation(command),
             Command::Withdraw(command) => self.add_withdrawal(command),

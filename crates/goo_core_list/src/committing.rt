@@ -1,12 +1,10 @@
 //! The whole change of an accepted request.
-ghost use Rattle.std.specs.Prelude.{◌≡◌, ℕ, ◌<◌, List, IfErr, OnOk, OnErr};
+ghost use Rattle.std.specs.Prelude.{◌≡◌, IfErr, OnOk, OnErr};
 ghost use Rattle.goo_types.specs.declared.fault.Fault.TheVariants.{Memory};
 ghost use Rattle.goo_types.specs.declared.outcome.Outcome.TheVariants.{Accepted};
 ghost use Rattle.goo_spec.specs.Step.{outcome, accept};
 ghost use Rattle.goo_ranges_rows.specs.Rows.{edited_all};
 ghost use Rattle.goo_core_shelf.specs.Plan.{Fits, notice_sent};
-ghost use Rattle.goo_spec.specs.Energy.{total};
-ghost use Rattle.goo_core_list.specs.Production.{beyond_all};
 ghost use Rattle.goo_core_list.specs.States.{state_of, Changes};
 ghost use Rattle.goo_ranges_rows.specs.Certificates.{beside};
 
@@ -22,7 +20,6 @@ impl ListShelf {
     #[tactic(auto, unfolding(crate::specs::States::state_of))]
     fn keep(&mut self, alloc: Global, plan: &Plan) -> Result<(), Fault>
         requires accepted { outcome (state_of self.old) plan.now.request ≡ Accepted plan.now.reply }
-        requires sums { (device : List ℕ) → total (state_of self.old) device < beyond_all }
         requires sent { plan.now.notice ≡ notice_sent (state_of self.old) plan.now.request.command }
         ensures { Changes self.old self.new result (beside (state_of self.old).at (accept (state_of self.old) plan.now.request)) }
     {

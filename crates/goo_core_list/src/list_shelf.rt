@@ -6,6 +6,7 @@ ghost use Rattle.goo_spec.specs.Sound.{IsSound};
 ghost use Rattle.goo_ranges_rows.specs.Rows.{AreRowsOf};
 ghost use Rattle.goo_core_list.specs.States.{state_of};
 
+use crate::corrections::Corrections;
 use crate::kept::Kept;
 use crate::lot_key::LotKey;
 use crate::maps::empty_map;
@@ -43,6 +44,7 @@ pub struct ListShelf {
     pub(crate) accounts: BTreeMap<AccountNo, Account>,
     pub(crate) devices: BTreeMap<Gsrn, Device>,
     pub(crate) production: Production,
+    pub(crate) corrections: Corrections,
     pub(crate) peers: BTreeMap<RegistryCode, ()>,
     pub(crate) receipts: BTreeMap<(HolderCode, Key), Kept>,
     pub(crate) arrived: BTreeMap<(RegistryCode, ActNo), Notice>,
@@ -90,6 +92,7 @@ impl ListShelf {
             accounts: empty_map(alloc),
             devices: empty_map(alloc),
             production: Production::new(alloc),
+            corrections: Corrections::new(alloc),
             peers: empty_map(alloc),
             receipts: empty_map(alloc),
             arrived: empty_map(alloc),

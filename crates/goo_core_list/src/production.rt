@@ -1,18 +1,15 @@
 //! The accepted declarations, and what each device declared in all.
-ghost use Rattle.std.specs.Prelude.{◌≡◌, ◌<◌, ◌%◌, [], ◌∷◌, ◌++◌, IfErr, OnOk, OnErr};
+ghost use Rattle.std.specs.Prelude.{◌≡◌, ◌+◌, ◌^◌, ◌≤◌, [], ◌∷◌, ◌++◌, IfErr, OnOk, OnErr};
 ghost use Rattle.goo_types.specs.declared.fault.Fault.TheVariants.{Memory};
 ghost use Rattle.goo_spec.specs.Declare.{declared_by, last_end};
-ghost use Rattle.goo_spec.specs.Energy.{certificate};
-ghost use Rattle.goo_core_list.specs.Production.{net_by, beyond_all};
+ghost use Rattle.goo_spec.specs.Energy.{net as net_of_one};
+ghost use Rattle.goo_core_list.specs.Production.{net_by};
 
 use crate::maps::{empty_map, find, put};
-use goo_core_shelf::found::Progress;
 use goo_types::command::Declare;
 use goo_types::day::Day;
 use goo_types::fault::Fault;
 use goo_types::gsrn::Gsrn;
-use goo_types::limits::CERTIFICATE;
-use goo_types::wh::Wh;
 use std::alloc::Global;
 use std::collections::BTreeMap;
 use std::marker::Model;
@@ -23,7 +20,7 @@ struct Produced {
     /// The last day of its last period.
     last_day: Day,
     /// Its net energy of all periods, in Wh.
-    net: u64,
+    net: u128,
 }
 
 /// The accepted declarations, the oldest first, with the last day and the sum of each device.
@@ -58,8 +55,15 @@ impl Production {
         }
     }
 
+    /// All of them.
+    pub fn declarations(&self) -> &[Declare]
+        ensures { result.now ≡ self.now }
+    {
+        &self.declarations
+    }
+
     /// The net energy that a device declared, in Wh.
-    pub fn net(&self, device: &Gsrn) -> u64
+    pub fn net(&self, device: &Gsrn) -> u128
         ensures { result ≡ net_by device.now self.now }
     {
         match find(&self.devices, device) {
@@ -78,15 +82,17 @@ impl Production {
         }
     }
 
-    /// A device's last accepted period and its carry.
-    pub fn progress(&self, device: &Gsrn) -> Progress
-        ensures last_day { result.last_day ≡ last_end None (declared_by device.now self.now) }
-        ensures carry { result.carry ≡ net_by device.now self.now % certificate }
+    /// The net energy that a device will have declared with one more declaration, in Wh.
+    pub fn net_with(&self, declaration: &Declare) -> u128
+        ensures value { result ≡ net_by declaration.now.device self.now + net_of_one declaration.now }
+        ensures limit { result ≤ net_by declaration.now.device self.now + 10 ^ 15 }
     {
-        Progress {
-            last_day: self.last_day(device),
-            carry: Wh::new(self.net(device) % CERTIFICATE).unwrap(),
-        }
+        let more = declaration
+            .gross
+            .get()
+            .saturating_sub(declaration.aux.get());
+        let _count = self.declarations.len();
+        self.net(&declaration.device) + u128::from(more)
     }
 
     /// Adds a declaration.
@@ -95,17 +101,12 @@ impl Production {
     ///
     /// `Memory` where an allocation was refused; nothing is added then.
     pub fn add(&mut self, declaration: &Declare) -> Result<(), Fault>
-        requires { net_by declaration.now.device self.old < beyond_all }
         ensures done { OnOk result (self.new ≡ self.old ++ declaration.now ∷ []) }
         ensures undone { OnErr result (self.new ≡ self.old) }
         ensures memory { IfErr result (λ fault. fault ≡ Memory) }
     {
         self.declarations.reserve(1)?;
-        let more = declaration
-            .gross
-            .get()
-            .saturating_sub(declaration.aux.get());
-        let net = self.net(&declaration.device) + more;
+        let net = self.net_with(declaration);
         let last_day = declaration.last_day;
         put(
             &mut self.devices,

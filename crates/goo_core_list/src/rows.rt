@@ -1,5 +1,5 @@
 //! The rows of a registry's certificates.
-ghost use Rattle.std.specs.Prelude.{◌≡◌, ◌+◌, ◌^◌, ◌<◌, ◌≤◌, [], ◌++◌, count_by, sum_by, IfOk, IfErr, IfSome, OnOk};
+ghost use Rattle.std.specs.Prelude.{◌≡◌, ◌+◌, ◌^◌, ◌<◌, ◌≤◌, [], ◌++◌, cond, count_by, sum_by, IfOk, IfErr, IfSome, OnOk};
 ghost use Rattle.std.specs.FinMap.{entries};
 ghost use Rattle.goo_types.specs.declared.fault.Fault.TheVariants.{Memory};
 ghost use Rattle.goo_types.specs.Piece.{IsForward, IsRising};
@@ -7,11 +7,12 @@ ghost use Rattle.goo_ranges_rows.specs.Rows.{meeting, edited_all};
 ghost use Rattle.goo_spec_runs.specs.NextRun.{ending_from, first_of};
 ghost use Rattle.goo_core_shelf.specs.Rows.{naming_account, EndsFrom};
 ghost use Rattle.goo_core_shelf.specs.Sought.{is_sought};
-ghost use Rattle.goo_spec.specs.Energy.{is_issued_to};
-ghost use Rattle.goo_ranges_rows.specs.Certificates.{certificates_of, issued_in};
+ghost use Rattle.goo_spec.specs.Energy.{is_issued_to, is_taken_back, is_corrected};
+ghost use Rattle.goo_ranges_rows.specs.Certificates.{certificates_of, issued_in, corrected_in};
 ghost use Rattle.std.specs.List.{filter};
 ghost use Rattle.goo_core_list.specs.Rows.{inserts};
 
+use crate::corrections::Corrections;
 use crate::row_edits::{count_inserts, edit_each};
 use goo_core_pages::paged::Pages;
 use goo_core_shelf::sought::{Sought, is_sought};
@@ -20,6 +21,7 @@ use goo_types::account_no::AccountNo;
 use goo_types::fault::Fault;
 use goo_types::gsrn::Gsrn;
 use goo_types::piece::Piece;
+use goo_types::place::Place;
 use goo_types::range::Range;
 use goo_types::registry_code::RegistryCode;
 use std::alloc::{AllocError, Global};
@@ -41,16 +43,51 @@ fn issued_in_row(row: &Piece, own: RegistryCode, device: &Gsrn) -> u64
     }
 }
 
-/// How many of some rows' certificates are a registry's own ones, issued to a device.
-fn issued_in_rows(rows: &[Piece], own: RegistryCode, device: &Gsrn) -> u64
-    requires { IsRising rows.now }
-    ensures { result ≡ sum_by (issued_in own device.now) rows.now }
+/// How many of a row's certificates a device's corrections withdrew, of so many that were issued to it.
+fn corrected_in_row(row: &Piece, issued: u64, device: &Gsrn, corrections: &Corrections) -> u64
+    ensures value { result ≡ cond (is_taken_back device.now corrections.now row.now.place) issued 0 }
+    ensures limit { result ≤ issued }
 {
-    let mut count = 0;
-    for row in rows {
-        count += issued_in_row(row, own, device);
+    match row.place {
+        Place::Withdrawn(_, act) => {
+            if corrections.withdrew(device, act) {
+                issued
+            } else {
+                0
+            }
+        }
+        _ => 0,
     }
-    count
+}
+
+/// How many of a registry's own certificates were issued to a device, and how many of them its corrections withdrew.
+#[derive(Clone, Copy)]
+pub struct Counted {
+    /// Those that were issued.
+    pub issued: u64,
+    /// Those of them that were withdrawn.
+    pub corrected: u64,
+}
+
+/// The count of some rows' certificates.
+fn counted_in_rows(
+    rows: &[Piece],
+    own: RegistryCode,
+    device: &Gsrn,
+    corrections: &Corrections,
+) -> Counted
+    requires { IsRising rows.now }
+    ensures issued { result.issued ≡ sum_by (issued_in own device.now) rows.now }
+    ensures corrected { result.corrected ≡ sum_by (corrected_in own device.now corrections.now) rows.now }
+{
+    let mut issued = 0;
+    let mut corrected = 0;
+    for row in rows {
+        let count = issued_in_row(row, own, device);
+        corrected += corrected_in_row(row, count, device, corrections);
+        issued += count;
+    }
+    Counted { issued, corrected }
 }
 
 /// Adds copies of those rows whose place names an account.
@@ -148,16 +185,20 @@ impl Rows {
         None
     }
 
-    /// How many of a registry's own certificates were issued to a device.
-    pub fn issued(&self, own: RegistryCode, device: &Gsrn) -> u64
-        ensures { result ≡ count_by (is_issued_to own device.now) (entries (certificates_of self.now.pieces)) }
+    /// How many of a registry's own certificates were issued to a device, and how many of them its corrections withdrew.
+    pub fn counted(&self, own: RegistryCode, device: &Gsrn, corrections: &Corrections) -> Counted
+        ensures issued { result.issued ≡ count_by (is_issued_to own device.now) (entries (certificates_of self.now.pieces)) }
+        ensures corrected { result.corrected ≡ count_by (is_corrected own device.now corrections.now) (entries (certificates_of self.now.pieces)) }
     {
         let _code = own.get();
-        let mut count = 0;
+        let mut issued = 0;
+        let mut corrected = 0;
         for page in self.pieces.pages() {
-            count += issued_in_rows(page.rows(), own, device);
+            let counted = counted_in_rows(page.rows(), own, device, corrections);
+            issued += counted.issued;
+            corrected += counted.corrected;
         }
-        count
+        Counted { issued, corrected }
     }
 
     /// Makes room for what some edits insert.

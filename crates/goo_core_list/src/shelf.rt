@@ -33,6 +33,7 @@ use goo_types::number::Number;
 use goo_types::piece::Piece;
 use goo_types::range::Range;
 use goo_types::registry_code::RegistryCode;
+use goo_types::wh::Wh;
 use std::alloc::Global;
 
 /// The least number after one, or 0.
@@ -88,6 +89,10 @@ impl Shelf for ListShelf {
 
     fn device_record(&mut self, device: &Gsrn) -> Result<Option<DeviceRecord>, Fault> {
         Ok(self.record_of(device))
+    }
+
+    fn correctable(&mut self, device: &Gsrn, first_day: Day) -> Result<Option<Wh>, Fault> {
+        Ok(self.correctable_for(device, first_day))
     }
 
     fn receipt(

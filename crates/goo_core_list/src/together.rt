@@ -9,6 +9,7 @@ use crate::maps::find;
 use goo_core_shelf::found::{DeviceRecord, Progress};
 use goo_core_shelf::own::Meta;
 use goo_types::gsrn::Gsrn;
+use goo_types::wh::Wh;
 
 impl ListShelf {
     /// What the registry knows of itself.
@@ -24,11 +25,14 @@ impl ListShelf {
     }
 
     /// A device's last accepted period and its carry.
-    #[tactic(auto, unfolding(crate::specs::States::state_of, goo_spec::specs::Energy::total, goo_spec::specs::Energy::carry))]
+    #[tactic(auto, unfolding(crate::specs::States::state_of))]
     pub(crate) fn progress_for(&self, device: &Gsrn) -> Progress
         ensures { result ≡ progress_of (state_of self.now) device.now }
     {
-        self.production.progress(device)
+        Progress {
+            last_day: self.production.last_day(device),
+            carry: Wh::new(self.carry(device)).unwrap(),
+        }
     }
 
     /// A device with its last accepted period and its carry.

@@ -3,7 +3,6 @@ ghost use Rattle.std.specs.Prelude.{◌≡◌, map, IfOk, IfErr};
 ghost use Rattle.std.specs.BTreeMap.{keys, IsOrdered};
 ghost use Rattle.goo_spec.specs.State.{text_cmp};
 ghost use Rattle.goo_types.specs.declared.fault.Fault.TheVariants.{Memory};
-ghost use Rattle.goo_spec.specs.Energy.{issued as issued_for};
 ghost use Rattle.goo_core_shelf.specs.Shelf.{totals_for as totals_stated};
 ghost use Rattle.goo_core_list.specs.States.{state_of};
 
@@ -11,21 +10,22 @@ use crate::list_shelf::ListShelf;
 use goo_core_shelf::found::DeviceTotals;
 use goo_types::fault::Fault;
 use goo_types::gsrn::Gsrn;
-use goo_types::limits::CERTIFICATE;
 use std::alloc::Global;
 
 impl ListShelf {
     /// A device's energy and certificates.
-    #[tactic(auto, unfolding(crate::specs::States::state_of, goo_spec::specs::Energy::total, goo_spec::specs::Energy::carry, goo_spec::specs::Energy::issued))]
+    #[tactic(auto, unfolding(crate::specs::States::state_of, goo_spec::specs::Energy::total, goo_spec::specs::Energy::lowered, goo_spec::specs::Energy::issued, goo_spec::specs::Energy::corrected))]
     fn totals_for(&self, device: &Gsrn) -> DeviceTotals
         ensures { result ≡ totals_stated (state_of self.now) device.now }
     {
-        let declared = self.production.net(device);
+        let counted = self.rows.counted(self.own, device, &self.corrections);
         DeviceTotals {
             device: *device,
-            declared,
-            issued: self.rows.issued(self.own, device),
-            carry: declared % CERTIFICATE,
+            declared: self.production.net(device),
+            corrected_wh: self.corrections.lowered(device),
+            issued: counted.issued,
+            corrected: counted.corrected,
+            carry: self.carry(device),
         }
     }
 

@@ -12,7 +12,7 @@ use Rattle.goo_types.specs.declared.reply.Reply.{Reply}
 use Rattle.goo_spec.specs.State.{State, Cancellation}
 use Rattle.goo_spec.specs.Import.{same_notice}
 use Rattle.goo_spec.specs.Declare.{declared_by, last_end}
-use Rattle.goo_spec.specs.Energy.{total, carry, issued}
+use Rattle.goo_spec.specs.Energy.{total, lowered, carry, issued, corrected}
 use Rattle.goo_spec.specs.Step.{is_kept}
 use Rattle.goo_core_shelf.specs.declared.found.Progress.{Progress}
 use Rattle.goo_core_shelf.specs.declared.found.DeviceRecord.{DeviceRecord}
@@ -95,7 +95,14 @@ cancellation_on day x = record {
 }
 
 abbrev pub totals_for : State → List ℕ → DeviceTotals
-totals_for s device = record { device = device; declared = total s device; issued = issued s device; carry = carry s device }
+totals_for s device = record {
+  device = device;
+  declared = total s device;
+  corrected_wh = lowered s device;
+  issued = issued s device;
+  corrected = corrected s device;
+  carry = carry s device;
+}
 
 -- the energy of each device, by device
 abbrev pub totals_of : State → List DeviceTotals

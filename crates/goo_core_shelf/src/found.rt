@@ -11,7 +11,7 @@ use goo_types::wh::Wh;
 pub struct Progress {
     /// The last day of that period, if there is one.
     pub last_day: Option<Day>,
-    /// The declared net energy that no certificate stands for yet.
+    /// The energy that is left of what it declared and that no certificate stands for yet.
     pub carry: Wh,
 }
 
@@ -52,9 +52,13 @@ pub struct DeviceTotals {
     /// The device.
     pub device: Gsrn,
     /// Its declared net energy in Wh.
-    pub declared: u64,
+    pub declared: u128,
+    /// What corrections took off it, in Wh.
+    pub corrected_wh: u128,
     /// How many certificates were issued for it.
     pub issued: u64,
-    /// The declared net energy in Wh that no certificate stands for.
+    /// How many of them corrections withdrew.
+    pub corrected: u64,
+    /// The energy in Wh that is left and that no certificate stands for.
     pub carry: u64,
 }

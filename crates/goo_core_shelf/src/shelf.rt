@@ -23,6 +23,7 @@ use goo_types::number::Number;
 use goo_types::piece::Piece;
 use goo_types::range::Range;
 use goo_types::registry_code::RegistryCode;
+use goo_types::wh::Wh;
 use std::alloc::Global;
 
 /// What keeps a registry's state, however it does.
@@ -35,6 +36,7 @@ pub trait Shelf {
     ghost use Rattle.std.specs.Prelude.{◌≡◌, IfOk};
     ghost use Rattle.std.specs.FinMap.{get, contains_key};
     ghost use Rattle.goo_types.specs.Piece.{IsRising};
+    ghost use Rattle.goo_spec.specs.Correct.{correctable as lowerable};
     ghost use Rattle.goo_spec.specs.Lots.{lot_key};
     ghost use Rattle.goo_ranges_rows.specs.Rows.{meeting as near};
     ghost use Rattle.goo_core_shelf.specs.Counters.{counters_of};
@@ -124,6 +126,14 @@ pub trait Shelf {
     /// `Store` where `refused_calls` is 1 as the call ends, `Memory` where memory was refused. State and rows stay.
     fn device_record(&mut self, device: &Gsrn) -> Result<Option<DeviceRecord>, Fault>
         ensures { Looks (seen self.old) (seen self.new) result (IsRecordOf (seen self.old).state device.now) };
+
+    /// What can still be taken off a device's declaration that begins on a day, in Wh; None where there is no such declaration.
+    ///
+    /// # Errors
+    ///
+    /// `Store` where `refused_calls` is 1 as the call ends, `Memory` where memory was refused. State and rows stay.
+    fn correctable(&mut self, device: &Gsrn, first_day: Day) -> Result<Option<Wh>, Fault>
+        ensures { Looks (seen self.old) (seen self.new) result (λ left. left ≡ lowerable (seen self.old).state device.now first_day) };
 
     /// What is kept under a caller's key: nothing, this command with its reply, or another command.
     ///

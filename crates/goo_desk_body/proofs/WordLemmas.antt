@@ -1,4 +1,4 @@
--- A word states the command of its name, and one that is none of the twelve states none.
+-- A word states the command of its name, and one that is none of the thirteen states none.
 use Rattle.std.proofs.Common.{◌≡◌, ◌≢◌, ℕ, List, Bool, true, false, codes, Result, Err, refl, sym, subst}
 use Rattle.std.specs.Str.{bytes_eq}
 use Rattle.std.proofs.lemmas.Slice.Eq.{bytes_eq-Decides}
@@ -18,12 +18,12 @@ differs a b h = not_true (bytes_eq a b) (λ e. h ((bytes_eq-Decides a b).0 e))
 
 pub unknown_word : (word : List ℕ) (others : ℕ) (d : Data)
     → word ≢ codes "open_holder" → word ≢ codes "open_account" → word ≢ codes "close_account"
-    → word ≢ codes "register_device" → word ≢ codes "declare" → word ≢ codes "transfer"
+    → word ≢ codes "register_device" → word ≢ codes "declare" → word ≢ codes "correct" → word ≢ codes "transfer"
     → word ≢ codes "cancel" → word ≢ codes "withdraw" → word ≢ codes "advance"
     → word ≢ codes "add_peer" → word ≢ codes "export" → word ≢ codes "import"
     → command_named word others d ≡ Err Shape
 unfolding command_named
-unknown_word word others d a b c e f g h i j k l m =
+unknown_word word others d a b c e f g h i j k l m n =
     rw (
       differs _ _ a,
       differs _ _ b,
@@ -37,6 +37,7 @@ unknown_word word others d a b c e f g h i j k l m =
       differs _ _ k,
       differs _ _ l,
       differs _ _ m,
+      differs _ _ n,
     ) refl
 
 -- a word that is known

@@ -8,6 +8,7 @@ use crate::add_peer::add_peer;
 use crate::advance::advance;
 use crate::cancel::cancel;
 use crate::close_account::close_account;
+use crate::correct::correct;
 use crate::declare::declare;
 use crate::export::export;
 use crate::import::import;
@@ -33,6 +34,7 @@ pub(crate) fn command(alloc: Global, body: &Value) -> Result<Command, ValueFault
         "close_account" => Command::CloseAccount(close_account(body)?),
         "register_device" => Command::RegisterDevice(register_device(body)?),
         "declare" => Command::Declare(declare(body)?),
+        "correct" => Command::Correct(correct(body)?),
         "transfer" => Command::Transfer(transfer(body)?),
         "cancel" => Command::Cancel(cancel(body)?),
         "withdraw" => Command::Withdraw(withdraw(body)?),

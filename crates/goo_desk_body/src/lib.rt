@@ -9,6 +9,7 @@ mod body_fault;
 mod cancel;
 mod close_account;
 mod command;
+mod correct;
 mod declare;
 mod export;
 mod import;

@@ -1,10 +1,11 @@
 //! The text of a reply.
 ghost use Rattle.std.specs.Prelude.{◌≡◌, ◌++◌, ◌+◌, ◌≤◌, codes, decimal, length};
 ghost use Rattle.arrayvec.specs.ArrayString.{array_string_len};
-ghost use Rattle.goo_desk_outcome.specs.Texts.{issued_text, reply_text};
+ghost use Rattle.goo_desk_outcome.specs.Texts.{act_number, issued_text, reply_text};
 
 use crate::pushes::{ROOM, push_integer, push_number};
 use arrayvec::ArrayString;
+use goo_types::act_no::ActNo;
 use goo_types::range::Range;
 use goo_types::reply::Reply;
 
@@ -51,6 +52,16 @@ fn push_two(out: &mut ArrayString<ROOM>, head: &str, first: u64, between: &str, 
     push_one(out, between, second);
 }
 
+/// The number of an act, 0 where there is none.
+fn number_of(act: Option<ActNo>) -> u64
+    ensures { result ≡ act_number act }
+{
+    match act {
+        Some(act) => act.get() as u64,
+        None => 0,
+    }
+}
+
 /// Writes a reply.
 pub(crate) fn push_reply(out: &mut ArrayString<ROOM>, reply: Reply)
     requires { array_string_len out.old + 120 ≤ 256 }
@@ -64,6 +75,16 @@ pub(crate) fn push_reply(out: &mut ArrayString<ROOM>, reply: Reply)
             out.push_str("{\"carry\":");
             push_integer(out, carry);
             push_issued(out, issued);
+        }
+        Reply::Corrected {
+            carry,
+            count,
+            withdrawal,
+        } => {
+            let withdrawal = number_of(withdrawal);
+            out.push_str("{\"carry\":");
+            push_integer(out, carry);
+            push_two(out, ",\"count\":", count, ",\"withdrawal\":", withdrawal);
         }
         Reply::Moved { count } | Reply::Imported { count } => push_one(out, "{\"count\":", count),
         Reply::Cancelled {

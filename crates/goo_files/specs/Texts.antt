@@ -64,7 +64,7 @@ pub record IsDocument (s : State) (act : ℕ) (text : List ℕ) : Type 0 where
 
 -- the audit: a line a device
 abbrev pub device_line : DeviceTotals → List ℕ
-device_line d = audit_line d.device d.declared d.issued d.carry
+device_line d = audit_line d.device d.declared d.corrected_wh d.issued d.corrected d.carry
 
 abbrev pub IsAuditText : State → List ℕ → Type 0
 IsAuditText s text = text ≡ flat_map device_line (totals_of s)

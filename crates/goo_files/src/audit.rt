@@ -22,14 +22,21 @@ fn write_devices<W: Write>(writer: &mut W, totals: &[DeviceTotals]) -> Result<()
     ensures prefix { OnErr result (AppendsPrefix (W.contents writer.old) (W.contents writer.new) (flat_map device_line totals.now)) }
 {
     for device in totals {
-        let line = audit_line(&device.device, device.declared, device.issued, device.carry);
+        let line = audit_line(
+            &device.device,
+            device.declared,
+            device.corrected_wh,
+            device.issued,
+            device.corrected,
+            device.carry,
+        );
         write_line(writer, &line)?;
     }
     Ok(())
 }
 
-/// Writes the audit: each device with its declared net energy in Wh, its issued certificates and its carry in Wh, by device; to the
-/// issuing body alone. Where there is no device, the text is empty.
+/// Writes the audit: each device with its declared net energy in Wh, what corrections took off it, its issued certificates, how many of
+/// them corrections withdrew, and its carry in Wh, by device; to the issuing body alone. Where there is no device, the text is empty.
 ///
 /// # Errors
 ///

@@ -29,6 +29,16 @@ pub(crate) fn push_integer(out: &mut ArrayString<ROOM>, integer: u64)
     out.push_str(digits.format(integer));
 }
 
+/// Writes an integer of up to 128 bits.
+pub(crate) fn push_sum(out: &mut ArrayString<ROOM>, integer: u128)
+    requires { array_string_len out.old + 39 ≤ 256 }
+    ensures bytes { out.new.bytes ≡ out.old.bytes ++ decimal integer }
+    ensures len { array_string_len out.new ≤ array_string_len out.old + 39 }
+{
+    let mut digits = Buffer::new();
+    out.push_str(digits.format(integer));
+}
+
 /// Writes `count` spaces.
 fn push_spaces(out: &mut ArrayString<ROOM>, count: usize)
     requires { array_string_len out.old + count ≤ 256 }

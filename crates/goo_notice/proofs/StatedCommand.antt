@@ -3,13 +3,14 @@ use Rattle.std.proofs.Common.{◌≡◌, ℕ, List, Bool, true, false, codes, Re
 use Rattle.std.specs.Str.{bytes_eq}
 use Rattle.serde_json.specs.Data.{Data}
 use Rattle.goo_types.specs.declared.command.Command.{Command}
-use Rattle.goo_types.specs.declared.command.Command.TheVariants.{OpenHolder, OpenAccount, CloseAccount, RegisterDevice, Declare, Transfer, Cancel, Withdraw, Advance, AddPeer, Export, Import}
+use Rattle.goo_types.specs.declared.command.Command.TheVariants.{OpenHolder, OpenAccount, CloseAccount, RegisterDevice, Declare, Correct, Transfer, Cancel, Withdraw, Advance, AddPeer, Export, Import}
 use Rattle.goo_notice_json.specs.declared.value_fault.ValueFault.{ValueFault}
 use Rattle.goo_notice.specs.OpenHolder.{open_holder_of}
 use Rattle.goo_notice.specs.OpenAccount.{open_account_of}
 use Rattle.goo_notice.specs.CloseAccount.{close_account_of}
 use Rattle.goo_notice.specs.RegisterDevice.{register_device_of}
 use Rattle.goo_notice.specs.Declare.{declare_of}
+use Rattle.goo_notice.specs.Correct.{correct_of}
 use Rattle.goo_notice.specs.Transfer.{transfer_of}
 use Rattle.goo_notice.specs.Cancel.{cancel_of}
 use Rattle.goo_notice.specs.Withdraw.{withdraw_of}
@@ -20,6 +21,7 @@ use Rattle.goo_notice.specs.Import.{import_of}
 use Rattle.goo_notice.specs.Command.{IsCommand, as_command, command_named, command_of}
 use Rattle.goo_notice_json.specs.Members.{string_at}
 use Rattle.goo_notice.proofs.CommandLimits.{open_holder, open_account, close_account, declare, transfer, cancel, withdraw, advance, add_peer, export, import}
+use Rattle.goo_notice.proofs.CorrectLimits.{correct}
 use Rattle.goo_notice.proofs.DeviceLimits.{register_device}
 use Rattle.goo_notice_json.proofs.FieldLimits.{bind_ok, ok_same}
 
@@ -41,14 +43,15 @@ named word others d c e =
     either (bytes_eq word (codes "close_account")) (as_command CloseAccount (close_account_of others d)) _ c e2 (λ p. as_limits CloseAccount (close_account_of others d) c p (λ x q. close_account others d x q)) (λ e3.
     either (bytes_eq word (codes "register_device")) (as_command RegisterDevice (register_device_of others d)) _ c e3 (λ p. as_limits RegisterDevice (register_device_of others d) c p (λ x q. register_device others d x q)) (λ e4.
     either (bytes_eq word (codes "declare")) (as_command Declare (declare_of others d)) _ c e4 (λ p. as_limits Declare (declare_of others d) c p (λ x q. declare others d x q)) (λ e5.
-    either (bytes_eq word (codes "transfer")) (as_command Transfer (transfer_of others d)) _ c e5 (λ p. as_limits Transfer (transfer_of others d) c p (λ x q. transfer others d x q)) (λ e6.
-    either (bytes_eq word (codes "cancel")) (as_command Cancel (cancel_of others d)) _ c e6 (λ p. as_limits Cancel (cancel_of others d) c p (λ x q. cancel others d x q)) (λ e7.
-    either (bytes_eq word (codes "withdraw")) (as_command Withdraw (withdraw_of others d)) _ c e7 (λ p. as_limits Withdraw (withdraw_of others d) c p (λ x q. withdraw others d x q)) (λ e8.
-    either (bytes_eq word (codes "advance")) (as_command Advance (advance_of others d)) _ c e8 (λ p. as_limits Advance (advance_of others d) c p (λ x q. advance others d x q)) (λ e9.
-    either (bytes_eq word (codes "add_peer")) (as_command AddPeer (add_peer_of others d)) _ c e9 (λ p. as_limits AddPeer (add_peer_of others d) c p (λ x q. add_peer others d x q)) (λ e10.
-    either (bytes_eq word (codes "export")) (as_command Export (export_of others d)) _ c e10 (λ p. as_limits Export (export_of others d) c p (λ x q. export others d x q)) (λ e11.
-    either (bytes_eq word (codes "import")) (as_command Import (import_of others d)) _ c e11 (λ p. as_limits Import (import_of others d) c p (λ x q. import others d x q)) (λ e12.
-    absurd cc))))))))))))
+    either (bytes_eq word (codes "correct")) (as_command Correct (correct_of others d)) _ c e5 (λ p. as_limits Correct (correct_of others d) c p (λ x q. correct others d x q)) (λ e6.
+    either (bytes_eq word (codes "transfer")) (as_command Transfer (transfer_of others d)) _ c e6 (λ p. as_limits Transfer (transfer_of others d) c p (λ x q. transfer others d x q)) (λ e7.
+    either (bytes_eq word (codes "cancel")) (as_command Cancel (cancel_of others d)) _ c e7 (λ p. as_limits Cancel (cancel_of others d) c p (λ x q. cancel others d x q)) (λ e8.
+    either (bytes_eq word (codes "withdraw")) (as_command Withdraw (withdraw_of others d)) _ c e8 (λ p. as_limits Withdraw (withdraw_of others d) c p (λ x q. withdraw others d x q)) (λ e9.
+    either (bytes_eq word (codes "advance")) (as_command Advance (advance_of others d)) _ c e9 (λ p. as_limits Advance (advance_of others d) c p (λ x q. advance others d x q)) (λ e10.
+    either (bytes_eq word (codes "add_peer")) (as_command AddPeer (add_peer_of others d)) _ c e10 (λ p. as_limits AddPeer (add_peer_of others d) c p (λ x q. add_peer others d x q)) (λ e11.
+    either (bytes_eq word (codes "export")) (as_command Export (export_of others d)) _ c e11 (λ p. as_limits Export (export_of others d) c p (λ x q. export others d x q)) (λ e12.
+    either (bytes_eq word (codes "import")) (as_command Import (import_of others d)) _ c e12 (λ p. as_limits Import (import_of others d) c p (λ x q. import others d x q)) (λ e13.
+    absurd cc)))))))))))))
 
 pub command_limits : (others : ℕ) (d : Data) (c : Command) → command_of others d ≡ Ok c → IsCommand c
 unfolding command_of

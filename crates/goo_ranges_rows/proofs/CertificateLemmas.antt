@@ -7,20 +7,22 @@ use Rattle.std.specs.Ordering.{nat_cmp}
 use Rattle.std.specs.Cmp.{nat_cmp_total}
 use Rattle.std.specs.FinMap.{get, entries, empty, get-empty, len-empty, len-entries, same_map, nat_cmp-IsAntisymmetric}
 use Rattle.std.proofs.lemmas.List.Sums.{sum_by-cons}
+use Rattle.goo_types.specs.declared.lot_fields.LotFields.{LotFields}
+use Rattle.goo_types.specs.declared.place.Place.{Place}
 use Rattle.goo_types.specs.declared.piece.Piece.{Piece}
 use Rattle.goo_types.specs.Piece.{Label, label_of, covers, at_of, IsForward, IsRisingFrom}
 use Rattle.goo_spec.specs.Lots.{Certificates}
 use Rattle.goo_spec.specs.Maps.{each}
 use Rattle.goo_spec.proofs.Placing.{get-give_each}
-use Rattle.goo_spec.specs.State.{serials}
-use Rattle.goo_spec.specs.Energy.{is_issued_to}
+use Rattle.goo_spec.specs.State.{Correction, serials}
+use Rattle.goo_spec.specs.Energy.{is_issued_to, is_taken_back, is_corrected}
 use Rattle.std.proofs.lemmas.Bool.{eqb-true}
 use Rattle.goo_spec.proofs.Counting.{one, one_at}
 use Rattle.goo_spec.proofs.Giving.{count-give_each}
 use Rattle.goo_ranges_pieces.proofs.Rising.{at_of-below}
 use Rattle.goo_ranges_rows.specs.Rows.{AreRowsOf}
 use Rattle.goo_ranges_rows.proofs.Mapping.{one_of-each}
-use Rattle.goo_ranges_rows.specs.Certificates.{numbers_of, issued_in, certificates_of}
+use Rattle.goo_ranges_rows.specs.Certificates.{numbers_of, issued_in, corrected_in, certificates_of}
 
 no_entries : {X : Type 0} (xs : List X) → length xs ≡ 0 → xs ≡ []
 no_entries [] e = refl
@@ -73,26 +75,55 @@ at_most_so : (b : Bool) (n : ℕ) → cond b n 0 ≤ n
 at_most_so true n = omega arith
 at_most_so false n = omega arith
 
-module _ (own : ℕ) (device : List ℕ) where
-  here_issued : (p : Piece) (n : ℕ) (at : Certificates) → code_of p.first ≡ code_of p.last → p.first ≤ n → n < p.first + (suc p.last - p.first) → get at n ≡ None
-      → one (is_issued_to own device) (n, (p.lot, p.place)) ≡ one_at (is_issued_to own device) n (get at n) + cond (code_of p.first == own && bytes_eq p.lot.device device) 1 0
-  here_issued p n at codes low high none =
+-- certificates that pass a test of their code, lot and place
+module _ (counts : ℕ → LotFields → Place → Bool) where
+  abbrev passes : ℕ × Label → Bool
+  passes e = counts (code_of e.0) e.1.0 e.1.1
+
+  abbrev counted_in : Piece → ℕ
+  counted_in p = cond (counts (code_of p.first) p.lot p.place) (p.last + 1 - p.first) 0
+
+  here_counted : (p : Piece) (n : ℕ) (at : Certificates) → code_of p.first ≡ code_of p.last → p.first ≤ n → n < p.first + (suc p.last - p.first) → get at n ≡ None
+      → one passes (n, (p.lot, p.place)) ≡ one_at passes n (get at n) + cond (counts (code_of p.first) p.lot p.place) 1 0
+  here_counted p n at codes low high none =
       let code : code_of n ≡ code_of p.first = omega (arith, codes, low, high) in
-      let new : one (is_issued_to own device) (n, (p.lot, p.place)) ≡ cond (code_of p.first == own && bytes_eq p.lot.device device) 1 0 = ap (λ k. cond (k == own && bytes_eq p.lot.device device) 1 0) code in
-      let old : one_at (is_issued_to own device) n (get at n) ≡ 0 = ap (one_at (is_issued_to own device) n) none in
+      let new : one passes (n, (p.lot, p.place)) ≡ cond (counts (code_of p.first) p.lot p.place) 1 0 = ap (λ k. cond (counts k p.lot p.place) 1 0) code in
+      let old : one_at passes n (get at n) ≡ 0 = ap (one_at passes n) none in
       omega (arith, new, old)
 
-  pub issued-rows : (low : ℕ) (ps : List Piece) → IsRisingFrom low ps → count_by (is_issued_to own device) (entries (certificates_of ps)) ≡ sum_by (issued_in own device) ps
+  counted-rows : (low : ℕ) (ps : List Piece) → IsRisingFrom low ps → count_by passes (entries (certificates_of ps)) ≡ sum_by counted_in ps
   unfolding certificates_of
-  issued-rows low [] rising = ap (count_by (is_issued_to own device)) nothing
-  issued-rows low (p ∷ ps) rising =
-      let b = code_of p.first == own && bytes_eq p.lot.device device in
+  counted-rows low [] rising = ap (count_by passes) nothing
+  counted-rows low (p ∷ ps) rising =
+      let b = counts (code_of p.first) p.lot p.place in
       let forward : p.first ≤ p.last = rising.1.0 in
-      count-give_each (is_issued_to own device) p.lot p.place (cond b 1 0) (suc p.last - p.first) p.first (certificates_of ps)
-      (λ n from to. here_issued p n (certificates_of ps) rising.1.1 from to (get-certificates_of (p.last + 1) ps n rising.2 ∙ at_of-below (p.last + 1) ps n rising.2 (omega (arith, forward, to))))
-      ∙ ap (λ k. k + (suc p.last - p.first) * cond b 1 0) (issued-rows (p.last + 1) ps rising.2)
-      ∙ so_many b p.first p.last (sum_by (issued_in own device) ps)
-      ∙ sym (sum_by-cons (issued_in own device) p ps)
+      count-give_each passes p.lot p.place (cond b 1 0) (suc p.last - p.first) p.first (certificates_of ps)
+      (λ n from to. here_counted p n (certificates_of ps) rising.1.1 from to (get-certificates_of (p.last + 1) ps n rising.2 ∙ at_of-below (p.last + 1) ps n rising.2 (omega (arith, forward, to))))
+      ∙ ap (λ k. k + (suc p.last - p.first) * cond b 1 0) (counted-rows (p.last + 1) ps rising.2)
+      ∙ so_many b p.first p.last (sum_by counted_in ps)
+      ∙ sym (sum_by-cons counted_in p ps)
+
+module _ (own : ℕ) (device : List ℕ) where
+  pub issued-rows : (low : ℕ) (ps : List Piece) → IsRisingFrom low ps → count_by (is_issued_to own device) (entries (certificates_of ps)) ≡ sum_by (issued_in own device) ps
+  issued-rows low ps rising = counted-rows (λ c lot place. c == own && bytes_eq lot.device device) low ps rising
+
+  pub corrected-rows : (cs : List Correction) (low : ℕ) (ps : List Piece) → IsRisingFrom low ps → count_by (is_corrected own device cs) (entries (certificates_of ps)) ≡ sum_by (corrected_in own device cs) ps
+  corrected-rows cs low ps rising =
+      counted-rows (λ c lot place. (c == own && bytes_eq lot.device device) && is_taken_back device cs place) low ps rising
+      ∙ ap (λ count. sum_by count ps) (λ i p. other_order (code_of p.first == own && bytes_eq p.lot.device device) (is_taken_back device cs p.place) (p.last + 1 - p.first) i)
+    where
+      other_order : (a b : Bool) (n : ℕ) → cond (a && b) n 0 ≡ cond b (cond a n 0) 0
+      other_order true b n = refl
+      other_order false true n = refl
+      other_order false false n = refl
+
+  -- no more of some rows were taken back than were issued
+  pub corrected-few : (cs : List Correction) (ps : List Piece) → sum_by (corrected_in own device cs) ps ≤ sum_by (issued_in own device) ps
+  corrected-few cs [] = omega arith
+  corrected-few cs (p ∷ ps) =
+      let here = at_most_so (is_taken_back device cs p.place) (issued_in own device p) in
+      let rest = corrected-few cs ps in
+      omega (arith, here, rest, sum_by-cons (corrected_in own device cs) p ps, sum_by-cons (issued_in own device) p ps)
 
   pub own-block : (low : ℕ) (ps : List Piece) → IsRisingFrom low ps → sum_by (issued_in own device) ps + max low (own * serials) ≤ max low ((own + 1) * serials)
   own-block low [] rising = omega arith

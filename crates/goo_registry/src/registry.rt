@@ -105,7 +105,8 @@ impl<S: Shelf> Registry<S> {
     /// Applies requests in order, and gives their outcomes in this order. A run of one request does what `apply` does.
     ///
     /// What a registry promises, of the requests that were answered:
-    /// - `energy`: each device's declared net energy in Wh is 1,000,000 times its issued certificates plus a carry below 1,000,000;
+    /// - `energy`: each device's declared net energy in Wh, less what corrections took off, is 1,000,000 times its issued certificates, less
+    ///   those that corrections withdrew, plus a carry below 1,000,000;
     /// - `one_place`: each certificate known before, and each ever issued or imported, is in one place: the one that the
     ///   accepted requests, each once, give it when they are applied certificate by certificate (`known`: there are no others);
     /// - `others_idle`: refused and repeated requests change nothing.
@@ -246,8 +247,8 @@ impl<S: Shelf> Registry<S> {
         told(find_notice(alloc, &mut self.shelf, caller, act))
     }
 
-    /// The declared net energy in Wh, the certificates issued and the carry in Wh of each device, by
-    /// device: to the issuing body alone.
+    /// The declared net energy in Wh, what corrections took off it, the certificates issued, those of them that corrections withdrew,
+    /// and the carry in Wh of each device, by device: to the issuing body alone.
     ///
     /// # Errors
     ///

@@ -23,7 +23,7 @@ use Rattle.goo_spec.specs.Days.{is_over}
 use Rattle.goo_spec.specs.Lots.{Certificates, key_of}
 use Rattle.goo_spec.specs.Maps.{numbers_from, is_within, give_each}
 use Rattle.goo_spec.specs.State.{State, receipt_cmp}
-use Rattle.goo_spec.specs.Energy.{total, due, carry}
+use Rattle.goo_spec.specs.Energy.{total, due, carry, remaining, lowered}
 use Rattle.goo_spec.specs.Checks.{issuer}
 use Rattle.goo_spec.specs.Declare.{with_declaration, earned, declare_refusal, declare_reply, with_issue}
 use Rattle.goo_spec.specs.Step.{accept, outcome, after, next}
@@ -83,15 +83,15 @@ january_lot = record {
 }
 
 passes_january : declare_refusal base issuer january ≡ None
-unfolding declare_refusal is_over day_number day_count days_of_months earned due total with_declaration
+unfolding declare_refusal is_over day_number day_count days_of_months earned due remaining lowered total with_declaration
 passes_january = rw (device, account_1, before_2020, before_2025, before_2026) refl
 
 replies_january : declare_reply base january ≡ january_issue
-unfolding declare_reply carry total earned due with_declaration
+unfolding declare_reply carry total earned due remaining lowered with_declaration
 replies_january = refl
 
 earns_january : earned base january ≡ 1200
-unfolding earned due total with_declaration
+unfolding earned due remaining lowered total with_declaration
 earns_january = refl
 
 -- the certificates ..0001 to ..1200
@@ -148,18 +148,18 @@ abbrev used_up : State
 used_up = record base { next_serial = 999999999999 }
 
 refuses_two : declare_refusal used_up issuer (produced 2000000 0) ≡ Some NumbersExhausted
-unfolding declare_refusal is_over day_number day_count days_of_months earned due total with_declaration
+unfolding declare_refusal is_over day_number day_count days_of_months earned due remaining lowered total with_declaration
 refuses_two = rw (device, account_1, before_2020, before_2025, before_2026) refl
 
 passes_one : declare_refusal used_up issuer (produced 1000000 0) ≡ None
-unfolding declare_refusal is_over day_number day_count days_of_months earned due total with_declaration
+unfolding declare_refusal is_over day_number day_count days_of_months earned due remaining lowered total with_declaration
 passes_one = rw (device, account_1, before_2020, before_2025, before_2026) refl
 
 abbrev last_one : Reply
 last_one = Declared 0 (Some (numbers 999999999999 999999999999))
 
 replies_one : declare_reply used_up (produced 1000000 0) ≡ last_one
-unfolding declare_reply carry total earned due with_declaration
+unfolding declare_reply carry total earned due remaining lowered with_declaration
 replies_one = refl
 
 refused_for_two : outcome used_up (declares (produced 2000000 0)) ≡ Refused NumbersExhausted

@@ -53,6 +53,7 @@ base = record {
   accounts = insert (insert empty 1 (account_of_holder sun)) 2 (account_of_holder volt);
   devices = insert empty gsrn north_field;
   declarations = [];
+  corrections = [];
   peers = empty;
   receipts = empty;
   arrived = empty;

@@ -1,5 +1,5 @@
 -- Two commands are the same exactly where they are equal.
-use Rattle.std.proofs.Common.{◌≡◌, ℕ, Bool, true, false, List, [], ◌∷◌, refl, ap, ◌∙◌, sym, rules}
+use Rattle.std.proofs.Common.{◌≡◌, ℕ, Bool, true, false, List, [], ◌∷◌, Option, Some, None, refl, ap, ◌∙◌, sym, rules}
 use Rattle.std.specs.Prelude.{◌&&◌, ◌==◌}
 use Rattle.std.specs.Str.{bytes_eq}
 use Rattle.std.specs.Bool.{Decides}
@@ -15,16 +15,17 @@ use denote.Enum.Bare.{same_true}
 use Rattle.goo_types.specs.declared.command.OpenHolder as open_holder
 use Rattle.goo_types.specs.declared.command.RegisterDevice as register_device
 use Rattle.goo_types.specs.declared.command.Declare as declare
+use Rattle.goo_types.specs.declared.command.Correct as correct
 use Rattle.goo_types.specs.declared.command.Transfer as transfer
 use Rattle.goo_types.specs.declared.command.Cancel as cancel
 use Rattle.goo_types.specs.declared.command.Withdraw as withdraw
 use Rattle.goo_types.specs.declared.command.Export as export
 use Rattle.goo_types.specs.declared.command.Command.{Command}
-use Rattle.goo_types.specs.declared.command.Command.TheVariants.{OpenHolder, OpenAccount, CloseAccount, RegisterDevice, Declare, Transfer, Cancel, Withdraw, Advance, AddPeer, Export, Import}
+use Rattle.goo_types.specs.declared.command.Command.TheVariants.{OpenHolder, OpenAccount, CloseAccount, RegisterDevice, Declare, Correct, Transfer, Cancel, Withdraw, Advance, AddPeer, Export, Import}
 use Rattle.goo_spec.specs.Lots.{same_day}
 use Rattle.goo_spec.specs.Import.{same_part, same_parts, same_notice}
 use Rattle.goo_types.specs.Equality.{same_range}
-use Rattle.goo_spec.specs.Same.{same_open_holder, same_register_device, same_declare, same_transfer, same_cancel, same_withdraw, same_export, same_command}
+use Rattle.goo_spec.specs.Same.{same_open_holder, same_register_device, same_declare, same_range_if_any, same_correct, same_transfer, same_cancel, same_withdraw, same_export, same_command}
 use Rattle.goo_spec.proofs.Again.{same_itself}
 
 -- what each part of a test says
@@ -100,6 +101,20 @@ declaration a b e =
     (both (a.gross == b.gross) _ (eqb-true a.gross b.gross) (eqb-true a.aux b.aux)))) e in
     λ i. record { device = p.0 i; first_day = p.1.0 i; last_day = p.1.1.0 i; gross = p.1.1.1.0 i; aux = p.1.1.1.1 i }
 
+range_if_any : (a b : Option Numbers) → same_range_if_any a b ≡ true → a ≡ b
+range_if_any None None e = refl
+range_if_any None (Some b) e = absurd (cc)
+range_if_any (Some a) None e = absurd (cc)
+range_if_any (Some a) (Some b) e = ap Some (range a b e)
+
+correction : (a b : correct.Correct) → same_correct a b ≡ true → a ≡ b
+correction a b e =
+    let p = both (bytes_eq a.device b.device) _ (text a.device b.device)
+    (both (same_day a.first_day b.first_day) _ (day a.first_day b.first_day)
+    (both (a.less == b.less) _ (eqb-true a.less b.less)
+    (both (same_range_if_any a.range b.range) _ (range_if_any a.range b.range) (text a.reason b.reason)))) e in
+    λ i. record { device = p.0 i; first_day = p.1.0 i; less = p.1.1.0 i; range = p.1.1.1.0 i; reason = p.1.1.1.1 i }
+
 movement : (a b : transfer.Transfer) → same_transfer a b ≡ true → a ≡ b
 movement a b e =
     let p = both (a.giver == b.giver) _ (eqb-true a.giver b.giver) (both (a.taker == b.taker) _ (eqb-true a.taker b.taker) (range a.range b.range)) e in
@@ -131,6 +146,7 @@ same_is_equal (OpenAccount a) (OpenAccount b) e = let h = text a.holder b.holder
 same_is_equal (CloseAccount a) (CloseAccount b) e = let h = eqb-true a.account b.account e in λ i. CloseAccount (record { account = h i })
 same_is_equal (RegisterDevice a) (RegisterDevice b) e = ap RegisterDevice (device a b e)
 same_is_equal (Declare a) (Declare b) e = ap Declare (declaration a b e)
+same_is_equal (Correct a) (Correct b) e = ap Correct (correction a b e)
 same_is_equal (Transfer a) (Transfer b) e = ap Transfer (movement a b e)
 same_is_equal (Cancel a) (Cancel b) e = ap Cancel (cancellation a b e)
 same_is_equal (Withdraw a) (Withdraw b) e = ap Withdraw (withdrawal a b e)

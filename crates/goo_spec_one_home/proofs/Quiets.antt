@@ -10,6 +10,8 @@ use Rattle.goo_types.specs.declared.command.OpenHolder.{OpenHolder}
 use Rattle.goo_types.specs.declared.command.OpenAccount.{OpenAccount}
 use Rattle.goo_types.specs.declared.command.CloseAccount.{CloseAccount}
 use Rattle.goo_types.specs.declared.command.RegisterDevice.{RegisterDevice}
+use Rattle.goo_types.specs.Range.{Numbers}
+use Rattle.goo_types.specs.declared.command.Correct.{Correct}
 use Rattle.goo_types.specs.declared.command.Transfer.{Transfer}
 use Rattle.goo_types.specs.declared.command.Cancel.{Cancel}
 use Rattle.goo_types.specs.declared.command.Withdraw.{Withdraw}
@@ -27,9 +29,11 @@ use Rattle.goo_spec.specs.AddPeer.{with_peer}
 use Rattle.goo_spec.specs.Transfer.{transfer_checks, transfer_refusal, with_transfer}
 use Rattle.goo_spec.specs.Cancel.{cancel_checks, cancel_refusal, with_cancellation}
 use Rattle.goo_spec.specs.Withdraw.{withdraw_checks, withdraw_refusal, with_withdrawal}
+use Rattle.goo_spec.specs.Correct.{correct_refusal, taken_out, with_correction}
 use Rattle.goo_spec.specs.Advance.{aged, with_day}
 use Rattle.goo_spec.proofs.Placing.{is_one_of, replaced, get-place_each, passed_over}
 use Rattle.goo_spec.proofs.Checking.{none_fail, unfound}
+use Rattle.goo_spec.proofs.Correcting.{withdrawal_passes}
 use Rattle.goo_spec_one_home.specs.World.{is_home, lot_of}
 use Rattle.goo_spec_one_home.proofs.Effects.{IsQuiet}
 
@@ -149,6 +153,18 @@ quiet_withdrawal s caller x none =
           (λ n one. kept_held (λ lot place. Withdrawn (account_of place) s.next_withdrawal) (λ lot place. refl) (get s.at n) (found n (unfound _ _ passed.1.1.0) one));
       lot = lot_placed (λ lot place. Withdrawn (account_of place) s.next_withdrawal) (λ lot place. refl) (each x.range) s.at;
     }
+
+-- ---- a declaration is lowered
+
+quiet_taken : (s : State) (caller : List ℕ) (x : Correct) (o : Option Numbers) → x.range ≡ o → correct_refusal s caller x ≡ None → IsQuiet s (taken_out s x o)
+quiet_taken s caller x None is none = unchanged s
+quiet_taken s caller x (Some range) is none = quiet_withdrawal s caller (record { range = range; reason = x.reason }) (withdrawal_passes s caller x range is none)
+
+pub quiet_correction : (s : State) (caller : List ℕ) (x : Correct) → correct_refusal s caller x ≡ None → IsQuiet s (with_correction s x)
+unfolding with_correction
+quiet_correction s caller x none =
+    let e = quiet_taken s caller x x.range refl none in
+    record { own = e.own; serial = e.serial; notice = e.notice; arrived = e.arrived; sent = e.sent; home = e.home; lot = e.lot }
 
 -- ---- certificates expire
 

@@ -3,7 +3,7 @@ use Rattle.std.proofs.Common.{◌≡◌, ℕ, ◌||◌, Bool, true, false, cond,
 use Rattle.std.specs.FinMap.{get}
 use Rattle.goo_types.specs.Notice.{NoticeContents}
 use Rattle.goo_types.specs.declared.command.Command.{Command}
-use Rattle.goo_types.specs.declared.command.Command.TheVariants.{OpenHolder, OpenAccount, CloseAccount, RegisterDevice, Declare, Transfer, Cancel, Withdraw, Advance, AddPeer, Export, Import}
+use Rattle.goo_types.specs.declared.command.Command.TheVariants.{OpenHolder, OpenAccount, CloseAccount, RegisterDevice, Declare, Correct, Transfer, Cancel, Withdraw, Advance, AddPeer, Export, Import}
 use Rattle.goo_types.specs.declared.request.Request.{Request}
 use Rattle.goo_types.specs.declared.refusal.Refusal.{Refusal}
 use Rattle.goo_types.specs.declared.refusal.Refusal.TheVariants.{KeyReused}
@@ -15,6 +15,7 @@ use Rattle.goo_spec.specs.OpenHolder.{open_holder_reply}
 use Rattle.goo_spec.specs.OpenAccount.{open_account_reply}
 use Rattle.goo_spec.specs.CloseAccount.{close_account_reply}
 use Rattle.goo_spec.specs.RegisterDevice.{register_device_reply}
+use Rattle.goo_spec.specs.Correct.{correct_reply}
 use Rattle.goo_spec.specs.Transfer.{transfer_reply}
 use Rattle.goo_spec.specs.Cancel.{cancel_reply}
 use Rattle.goo_spec.specs.Withdraw.{withdraw_reply}
@@ -31,7 +32,7 @@ use Rattle.goo_spec_one_home.proofs.Quiet.{quiet_keeps, quiet_known}
 use Rattle.goo_spec_one_home.proofs.Issue.{issue_keeps, issue_known}
 use Rattle.goo_spec_one_home.proofs.Send.{send_keeps, send_known}
 use Rattle.goo_spec_one_home.proofs.Take.{take_keeps, take_known}
-use Rattle.goo_spec_one_home.proofs.Quiets.{unchanged, quiet_holder, quiet_account, quiet_closed, quiet_device, quiet_peer, quiet_transfer, quiet_cancel, quiet_withdrawal, quiet_day}
+use Rattle.goo_spec_one_home.proofs.Quiets.{unchanged, quiet_holder, quiet_account, quiet_closed, quiet_device, quiet_peer, quiet_correction, quiet_transfer, quiet_cancel, quiet_withdrawal, quiet_day}
 use Rattle.goo_spec.specs.Fate.{is_new}
 use Rattle.goo_spec.proofs.Numbers.{in_issue_declared}
 use Rattle.goo_spec_one_home.proofs.Declares.{issue_declared}
@@ -104,6 +105,7 @@ was_sent sent (OpenAccount x) other = tt
 was_sent sent (CloseAccount x) other = tt
 was_sent sent (RegisterDevice x) other = tt
 was_sent sent (Declare x) other = tt
+was_sent sent (Correct x) other = tt
 was_sent sent (Transfer x) other = tt
 was_sent sent (Cancel x) other = tt
 was_sent sent (Withdraw x) other = tt
@@ -124,7 +126,7 @@ module _ (w : World) (c : ℕ) (caller key : List ℕ) (h : Keeps w) (here : con
 
   accepted_goes : (command : Command) → refusal s caller command ≡ None → repeats s caller command ≡ None → WasSent w.sent command
       → Goes w (accepted_world command) (is_in_issue (Accepted (reply_to s command)))
-  unfolding open_holder_reply open_account_reply close_account_reply register_device_reply transfer_reply cancel_reply withdraw_reply advance_reply add_peer_reply export_reply import_reply
+  unfolding open_holder_reply open_account_reply close_account_reply register_device_reply correct_reply transfer_reply cancel_reply withdraw_reply advance_reply add_peer_reply export_reply import_reply
   accepted_goes (OpenHolder x) none new sent = goes_quiet w c _ (Accepted (reply_to s (OpenHolder x))) h here (quiet_accept s (asked (OpenHolder x)) (quiet_holder s x)) (λ n. refl)
   accepted_goes (OpenAccount x) none new sent = goes_quiet w c _ (Accepted (reply_to s (OpenAccount x))) h here (quiet_accept s (asked (OpenAccount x)) (quiet_account s x)) (λ n. refl)
   accepted_goes (CloseAccount x) none new sent = goes_quiet w c _ (Accepted (reply_to s (CloseAccount x))) h here (quiet_accept s (asked (CloseAccount x)) (quiet_closed s x)) (λ n. refl)
@@ -135,6 +137,7 @@ module _ (w : World) (c : ℕ) (caller key : List ℕ) (h : Keeps w) (here : con
         keeps = issue_keeps w c _ (is_new s x) h here e;
         known = λ n. issue_known w c _ (is_new s x) h here e n ∙ ap (λ b. b || is_known w n) (sym (in_issue_declared s x n));
       }
+  accepted_goes (Correct x) none new sent = goes_quiet w c _ (Accepted (reply_to s (Correct x))) h here (quiet_accept s (asked (Correct x)) (quiet_correction s caller x none)) (λ n. refl)
   accepted_goes (Transfer x) none new sent = goes_quiet w c _ (Accepted (reply_to s (Transfer x))) h here (quiet_accept s (asked (Transfer x)) (quiet_transfer s caller x none)) (λ n. refl)
   accepted_goes (Cancel x) none new sent = goes_quiet w c _ (Accepted (reply_to s (Cancel x))) h here (quiet_accept s (asked (Cancel x)) (quiet_cancel s caller x none)) (λ n. refl)
   accepted_goes (Withdraw x) none new sent = goes_quiet w c _ (Accepted (reply_to s (Withdraw x))) h here (quiet_accept s (asked (Withdraw x)) (quiet_withdrawal s caller x none)) (λ n. refl)
@@ -182,6 +185,7 @@ module _ (w : World) (c : ℕ) (q : Request) (h : Keeps w) (here : contains c w.
   none_posted s (CloseAccount x) o sent other = refl
   none_posted s (RegisterDevice x) o sent other = refl
   none_posted s (Declare x) o sent other = refl
+  none_posted s (Correct x) o sent other = refl
   none_posted s (Transfer x) o sent other = refl
   none_posted s (Cancel x) o sent other = refl
   none_posted s (Withdraw x) o sent other = refl

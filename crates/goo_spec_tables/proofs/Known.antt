@@ -6,7 +6,8 @@ use Rattle.std.specs.Cmp.{IsTotalOrder, eq_by_cmp_equiv, unsigned_tied, then_tot
 use Rattle.std.proofs.lemmas.Cmp.{int_eq_equiv}
 use Rattle.std.proofs.lemmas.Bool.{eq-eqb, eqb-true}
 use Rattle.sqlite_keyed.proofs.KeyedLemmas.{same_int}
-use Rattle.std.specs.Cmp.Lexicographic.{nat_list_cmp_total}
+use Rattle.std.specs.Cmp.Lexicographic.{nat_list_cmp_total, texts_ties}
+use Rattle.std.specs.Str as str
 use Rattle.std.specs.FinMap.{get, from_entries, get-from_entries}
 use Rattle.std.specs.FinMap.Entries as entries
 use Rattle.sqlite_typed.specs.Tests.{bytes_eq}
@@ -19,7 +20,8 @@ use Rattle.goo_types.specs.Day.{CalendarDay, IsDay, day_reading}
 use Rattle.goo_types.specs.Texts.{day_text}
 use Rattle.goo_types.specs.declared.day.DayFault.{DayFault}
 use Rattle.goo_types.proofs.DayLemmas.{only_day_text, day_reading-day_text}
-use Rattle.goo_spec.specs.Lots.{lot_key}
+use Rattle.goo_types.proofs.LotLemmas.{Decides-same_day}
+use Rattle.goo_spec.specs.Lots.{lot_key, same_day}
 use Rattle.std.proofs.Common.{drop, true≢false}
 use Rattle.std.specs.FinMap.{slice_cmp-IsAntisymmetric, nat_cmp-IsAntisymmetric}
 use Rattle.goo_core_shelf.specs.LotKeys.{item}
@@ -32,6 +34,11 @@ pick f a true true rest same = refl
 pick f a true false rest same = absurd cc
 pick f a false true rest same = absurd cc
 pick f a false false rest same = refl
+
+-- the first of the values that pass is the value of the first row that passes
+pub find-values : {A X : Type 0} (f : A → X) (test : A → Bool) (p : X → Bool) → ((a : A) → test a ≡ p (f a)) → (xs : List A) → find p (map f xs) ≡ option_map f (find test xs)
+find-values f test p same [] = refl
+find-values f test p same (x ∷ xs) = ap (cond (p (f x)) (Some (f x))) (find-values f test p same xs) ∙ pick f x (test x) (p (f x)) (find test xs) (same x)
 
 module _ {A K X : Type 0} {R : K → K → Ordering} (o : IsTotalOrder R) (entry : A → K × X) (q : K) (test : A → Bool) (same : (a : A) → test a ≡ eq_by_cmp R q (entry a).0) where
   find-known : (xs : List A) → entries.find R q (map entry xs) ≡ option_map (λ a. (entry a).1) (find test xs)
@@ -150,3 +157,13 @@ lot_test origin device first_day o d day valid =
 -- a test of numbers, as statements write it
 pub number_is : (a q : ℕ) → int_eq (pos a) (pos q) ≡ (a == q)
 number_is a q = alike (int_eq (pos a) (pos q)) (a == q) (λ is. eq-eqb a q (number_same a q is)) (λ is. number_itself a q (eqb-true a q is))
+
+-- a declaration is known by its device and its first day
+pub declaration_test : (device first_day d : List ℕ) (day : CalendarDay) → IsDay day → bytes_eq device d && bytes_eq first_day (day_text day) ≡ str.bytes_eq device d && same_day (day_of first_day) day
+declaration_test device first_day d day valid = λ i. sym (texts_ties device d) i && day_test i
+  where
+    day_test : bytes_eq first_day (day_text day) ≡ same_day (day_of first_day) day
+    day_test =
+        alike (bytes_eq first_day (day_text day)) (same_day (day_of first_day) day)
+        (λ is. (Decides-same_day (day_of first_day) day).1 (ap day_of (text_same first_day (day_text day) is) ∙ day_back day valid))
+        (λ is. text_itself first_day (day_text day) (only_day first_day day valid ((Decides-same_day (day_of first_day) day).0 is)))

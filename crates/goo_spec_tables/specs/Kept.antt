@@ -14,11 +14,11 @@ use Rattle.goo_spec_tables.specs.Texts.{day_of}
 use Rattle.goo_spec_tables.specs.Places.{lot_of, rows_of}
 use Rattle.goo_spec_tables.specs.Devices.{progress_in, device_row}
 use Rattle.goo_spec_tables.specs.States.{state_of}
-use Rattle.goo_spec_tables.specs.Readable.{is_meta, is_holder, is_account, is_device, is_declaration, is_lot, is_piece, is_peer, is_receipt, is_cancellation, is_withdrawal, is_notice_out, is_notice_in}
+use Rattle.goo_spec_tables.specs.Readable.{is_meta, is_holder, is_account, is_device, is_declaration, is_lot, is_piece, is_peer, is_receipt, is_cancellation, is_withdrawal, is_correction, is_notice_out, is_notice_in, has_none}
 
 -- each value of each row is one that its reader or its limit accepts
 pub record AreReadable (t : Tables) : Type 0 where
-  pub version : t.meta.version ≡ 1
+  pub version : t.meta.version ≡ 2
   pub meta : is_meta t.meta ≡ true
   pub holders : list_all is_holder t.holders ≡ true
   pub accounts : list_all is_account t.accounts ≡ true
@@ -32,6 +32,10 @@ pub record AreReadable (t : Tables) : Type 0 where
   pub withdrawals : list_all is_withdrawal t.withdrawals ≡ true
   pub notices_out : list_all (is_notice_out t.meta.code) t.notices_out ≡ true
   pub notices_in : list_all is_notice_in t.notices_in ≡ true
+  pub corrections : list_all is_correction t.corrections ≡ true
+  -- every certificate is of electricity
+  pub device_carriers : has_none t.device_carriers ≡ true
+  pub lot_carriers : has_none t.lot_carriers ≡ true
 
 -- a lot by its rules, and the day after which its held certificates expire, 18 months after the period, where the calendar has it
 pub record IsKeptLot (l : Lot) : Type 0 where

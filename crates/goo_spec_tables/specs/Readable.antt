@@ -1,5 +1,5 @@
 -- Whether each value of a row is one that its reader or its limit accepts.
-use Rattle.std.specs.Prelude.{ℕ, ◌==◌, ◌&&◌, ◌||◌, if◌then◌else◌, Bool, true, false, nat_le, List, Option, Some, None, Result, Ok, Err}
+use Rattle.std.specs.Prelude.{ℕ, ◌==◌, ◌&&◌, ◌||◌, if◌then◌else◌, Bool, true, false, nat_le, List, [], ◌∷◌, Option, Some, None, Result, Ok, Err}
 use Rattle.goo_types.specs.Codes.{holder_reading, name_reading, key_reading, country_reading, tech_reading, source_reading}
 use Rattle.goo_types.specs.Day.{day_reading}
 use Rattle.goo_types.specs.Gsrn.{gsrn_reading}
@@ -8,7 +8,7 @@ use Rattle.goo_types.specs.Number.{is_number, code_of}
 use Rattle.goo_types.specs.Support.{support_reading}
 use Rattle.goo_notice_text.specs.NoticeText.{notice_in}
 use Rattle.goo_notice_text.specs.declared.notice_fault.NoticeFault.{NoticeFault}
-use Rattle.goo_tables_rows.specs.Rows.{Kept, Plant, Meta, Holder, Account, Device, Declaration, Lot, Receipt, Cancellation, Withdrawal, NoticeOut, NoticeIn}
+use Rattle.goo_tables_rows.specs.Rows.{Kept, Plant, Meta, Holder, Account, Device, Declaration, Lot, Receipt, Cancellation, Withdrawal, Correction, NoticeOut, NoticeIn}
 use Rattle.goo_tables_rows.specs.declared.peer.PeerRow.{PeerRow}
 use Rattle.goo_tables_rows.specs.declared.piece.PieceRow.{PieceRow}
 
@@ -26,6 +26,10 @@ is_code n = is_between 1 99 n
 -- the number of an account or an act
 abbrev pub is_act : ℕ → Bool
 is_act n = is_between 1 999999999 n
+
+-- the number of an act, or 0 for none
+abbrev pub is_maybe_act : ℕ → Bool
+is_maybe_act n = (n == 0) || is_act n
 
 -- one above the last number of an account or an act is a next number too
 abbrev pub is_next : ℕ → Bool
@@ -88,7 +92,8 @@ is_reply kind n1 n2 n3 =
     else (if kind == 6 then is_act n1 && (n3 == 0)
     else (if kind == 7 then (n2 == 0) && (n3 == 0)
     else (if kind == 8 then is_act n1 && (n3 == 0)
-    else (if kind == 9 then (n2 == 0) && (n3 == 0) else false))))))))
+    else (if kind == 9 then (n2 == 0) && (n3 == 0)
+    else (if kind == 10 then nat_le n1 999999 && is_maybe_act n3 else false)))))))))
 
 abbrev pub is_receipt : Kept Receipt → Bool
 is_receipt k = reads (holder_reading k.1.caller) && (reads (key_reading k.1.key) && is_reply k.1.kind k.1.n1 k.1.n2 k.1.n3)
@@ -100,6 +105,9 @@ is_cancellation c = is_act c.number && (is_act c.account && (are_ends c.first c.
 abbrev pub is_withdrawal : Withdrawal → Bool
 is_withdrawal w = is_act w.number && (are_ends w.first w.last && (reads (name_reading w.reason) && reads (day_reading w.day)))
 
+abbrev pub is_correction : Correction → Bool
+is_correction c = reads (gsrn_reading c.device) && (reads (day_reading c.first_day) && (is_wh c.less && is_maybe_act c.withdrawal))
+
 -- a body is a notice of this sender and number
 abbrev pub is_notice_of : ℕ → ℕ → Result NoticeContents NoticeFault → Bool
 is_notice_of sender number (Err e) = false
@@ -110,3 +118,8 @@ is_notice_out own n = is_act n.number && (is_act n.account && is_notice_of own n
 
 abbrev pub is_notice_in : Kept NoticeIn → Bool
 is_notice_in k = is_notice_of k.1.sender k.1.number (notice_in k.1.body)
+
+-- a table without rows
+abbrev pub has_none : {X : Type 0} → List X → Bool
+has_none [] = true
+has_none (x ∷ xs) = false

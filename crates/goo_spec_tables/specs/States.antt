@@ -15,7 +15,7 @@ use Rattle.goo_spec_tables.specs.Texts.{day_of}
 use Rattle.goo_spec_tables.specs.Places.{lot_of, rows_of}
 use Rattle.goo_spec_tables.specs.Devices.{device_of, declaration_of}
 use Rattle.goo_spec_tables.specs.Replies.{receipt_of}
-use Rattle.goo_spec_tables.specs.Records.{cancellation_of, withdrawal_of, sent_of, arrived_of}
+use Rattle.goo_spec_tables.specs.Records.{cancellation_of, withdrawal_of, correction_of, sent_of, arrived_of}
 
 -- ---- what each row makes known, under its key
 
@@ -69,6 +69,7 @@ state_of t = record {
   accounts = from_entries (map known_account t.accounts);
   devices = from_entries (map known_device t.devices);
   declarations = map declaration_of t.declarations;
+  corrections = map correction_of t.corrections;
   peers = from_entries (map known_peer t.peers);
   receipts = from_entries (map known_receipt t.receipts);
   arrived = from_entries (map known_arrival t.notices_in);

@@ -5,7 +5,7 @@ use Rattle.sqlite.specs.State.{State, HasCleanDisk}
 use Rattle.goo_types.specs.Day.{CalendarDay}
 use Rattle.goo_types.proofs.DayLemmas.{day_reading-day_text}
 use Rattle.goo_spec.specs.Created.{created}
-use Rattle.goo_spec.specs.Energy.{carry, total}
+use Rattle.goo_spec.specs.Energy.{carry, remaining, lowered, total}
 use Rattle.goo_spec.specs.Sound.{IsSound}
 use Rattle.goo_spec.proofs.Creating.{created_is_sound}
 use Rattle.goo_ranges_rows.specs.Certificates.{certificates_of}
@@ -31,9 +31,9 @@ module _ (code : ℕ) (today : CalendarDay) (next_serial : ℕ) (it : IsFirst co
   meta_read = λ i. (le-leb 1 code it.code.0 i && le-leb code 99 it.code.1 i) && (ap reads (day_reading-day_text today it.today) i && ((le-leb 1 next_serial it.serial.0 i && le-leb next_serial 1000000000000 (omega (arith, it.serial)) i) && true))
 
   pub begun_kept : AreKept (begun (meta_of code today next_serial))
-  unfolding state_of rows_of carry total
+  unfolding state_of rows_of carry remaining lowered total
   begun_kept = record {
-    readable = record { version = refl; meta = meta_read; holders = refl; accounts = refl; devices = refl; declarations = refl; lots = refl; pieces = refl; peers = refl; receipts = refl; cancellations = refl; withdrawals = refl; notices_out = refl; notices_in = refl };
+    readable = record { version = refl; meta = meta_read; holders = refl; accounts = refl; devices = refl; declarations = refl; lots = refl; pieces = refl; peers = refl; receipts = refl; cancellations = refl; withdrawals = refl; notices_out = refl; notices_in = refl; corrections = refl; device_carriers = refl; lot_carriers = refl };
     lots_there = refl;
     rising = tt;
     lots = λ id l is. absurd cc;

@@ -10,7 +10,6 @@ use Rattle.goo_tables_rows.specs.Rows.{meta_row}
 use Rattle.goo_spec_tables.specs.Readable.{reads}
 use Rattle.goo_store_lookups.specs.Opening.{BlamesOpening}
 use Rattle.goo_store_open.specs.declared.fault.OpenFault.{OpenFault}
-use Rattle.goo_store_open.specs.declared.fault.OpenFault.TheVariants as opening
 use Rattle.goo_store_values.specs.Passing.{IsTroubleOf, open_fault_of}
 use Rattle.goo_store_values.specs.declared.trouble.Trouble.{Trouble}
 use Rattle.goo_store_values.specs.declared.trouble.Trouble.TheVariants.{Memory, Refused}

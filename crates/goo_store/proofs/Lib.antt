@@ -12,3 +12,4 @@ pub mod CommitBlamed
 pub mod Next
 pub mod NextRow
 pub mod CreationBlamed
+pub mod SumLemmas

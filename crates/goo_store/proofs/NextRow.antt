@@ -1,6 +1,5 @@
 -- The next row that is asked for, found in tables that keep the rules.
-use Rattle.std.proofs.Common.{◌≡◌, ◌≤◌, ◌+◌, ◌&&◌, ◌==◌, nat_le, nat_lt, ℕ, zero, suc, pos, Bool, true, false, cond, IsTrue, IfSome, List, [], ◌∷◌, map, find, reverse, All, Option, Some, None, option_map, refl, sym, ap, subst, ◌∙◌, arith}
-use Rattle.std.specs.Ordering.{int_eq}
+use Rattle.std.proofs.Common.{◌≡◌, ◌≤◌, ◌+◌, ◌&&◌, ◌==◌, nat_le, nat_lt, ℕ, zero, suc, Bool, true, false, cond, IfSome, List, [], ◌∷◌, map, find, reverse, All, Option, Some, None, option_map, refl, sym, ap, subst, ◌∙◌, arith}
 use Rattle.std.specs.List.{filter}
 use Rattle.std.specs.Option.{option_or}
 use Rattle.std.proofs.lemmas.Bool.{ltb-true}
@@ -12,7 +11,6 @@ use Rattle.sqlite_keyed.proofs.RuleLemmas.{first_of_both, second_of_both}
 use Rattle.goo_types.specs.Number.{IsNumber, is_number, code_of}
 use Rattle.goo_types.proofs.NumberLemmas.{is_number-holds}
 use Rattle.goo_types.specs.Piece.{IsForward, IsRisingFrom, IsRising}
-use Rattle.goo_types.specs.Place.{account_of}
 use Rattle.goo_types.specs.declared.piece.Piece.{Piece}
 use Rattle.goo_spec_runs.specs.NextRun.{ending_from, first_of, from_of}
 use Rattle.goo_core_shelf.specs.Rows.{EndsFrom}

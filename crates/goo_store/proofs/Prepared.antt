@@ -36,6 +36,7 @@ in_order d t it = record {
   withdrawals = it.withdrawals.rise;
   notices_out = it.notices_out.rise;
   notices_in = it.notices_in.rise;
+  corrections = it.corrections.rise;
 }
 
 module _ {T : Type 0} (old new : State) (it : IsWell old) (r : Result T Trouble) (right : Tables → T → Type 0) (gathers : LooksUp old new r right) where

@@ -9,20 +9,18 @@ use Rattle.sqlite_keyed.proofs.RuleLemmas.{first_of_both, second_of_both}
 use Rattle.goo_types.specs.Number.{code_of, serial_of, is_number}
 use Rattle.goo_types.specs.Piece.{IsRising}
 use Rattle.goo_types.specs.declared.piece.Piece.{Piece}
-use Rattle.goo_spec.specs.Sound.{IsSound}
-use Rattle.goo_spec.specs.State.{State}
-use Rattle.goo_spec.specs.Energy.{total, carry, due, issued, is_issued_to}
+use Rattle.goo_spec.specs.State.{State, Correction}
+use Rattle.goo_spec.specs.Energy.{total, lowered, remaining, carry, issued, corrected, is_issued_to, is_corrected}
 use Rattle.goo_core_shelf.specs.Shelf.{totals_for, totals_of}
 use Rattle.goo_tables_rows.specs.Rows.{Tables, Lot, lot_key}
 use Rattle.goo_tables_rows.specs.Beside.{beside}
 use Rattle.goo_tables_rows.specs.declared.piece.PieceRow.{PieceRow}
-use Rattle.goo_ranges_rows.specs.Certificates.{certificates_of, issued_in}
-use Rattle.goo_ranges_rows.proofs.CertificateLemmas.{issued-rows, own-block}
-use Rattle.goo_spec_tables.specs.Kept.{AreKept}
+use Rattle.goo_ranges_rows.specs.Certificates.{certificates_of, issued_in, corrected_in}
+use Rattle.goo_ranges_rows.proofs.CertificateLemmas.{issued-rows, corrected-rows, corrected-few, own-block}
 use Rattle.goo_spec_tables.specs.Readable.{is_piece, are_ends}
 use Rattle.goo_spec_tables.specs.Places.{rows_of}
 use Rattle.goo_spec_tables.specs.States.{state_of}
-use Rattle.goo_store.specs.Summing.{summed_for, HaveSmallSums}
+use Rattle.goo_store.specs.Summing.{summed_for, HaveSmallCounts}
 
 abbrev within : PieceRow × Lot → Bool
 within a = nat_le 0 a.0.first && nat_le a.0.first 100000000000000
@@ -56,33 +54,41 @@ each_same f g same [] = refl
 each_same f g same (e ∷ es) = λ i. same e.0 i ∷ each_same f g same es i
 
 module _ (s : State) (rows : List Piece) (at : s.at ≡ certificates_of rows) (rising : IsRising rows) where
-  counted : (device : List ℕ) → (summed_for s.own s.declarations rows device).issued ≡ issued s device
+  were_issued : (device : List ℕ) → sum_by (issued_in s.own device) rows ≡ issued s device
   unfolding issued
-  counted device = sym (issued-rows s.own device 0 rows rising) ∙ ap (λ c. count_by (is_issued_to s.own device) (entries c)) (sym at)
+  were_issued device = sym (issued-rows s.own device 0 rows rising) ∙ ap (λ c. count_by (is_issued_to s.own device) (entries c)) (sym at)
 
-  one_device : (device : List ℕ) → summed_for s.own s.declarations rows device ≡ totals_for s device
-  unfolding total carry
-  one_device device = λ i. record { device = device; declared = total s device; issued = counted device i; carry = carry s device }
+  were_corrected : (device : List ℕ) → sum_by (corrected_in s.own device s.corrections) rows ≡ corrected s device
+  unfolding corrected
+  were_corrected device = sym (corrected-rows s.own device s.corrections 0 rows rising) ∙ ap (λ c. count_by (is_corrected s.own device s.corrections) (entries c)) (sym at)
+
+  one_device : (device : List ℕ) → summed_for s.own s.declarations s.corrections rows device ≡ totals_for s device
+  unfolding total lowered carry remaining
+  one_device device =
+      λ i. record {
+        device = device;
+        declared = total s device;
+        corrected_wh = lowered s device;
+        issued = were_issued device i;
+        corrected = were_corrected device i;
+        carry = carry s device;
+      }
 
   -- the sums over the rows are the totals of the state
-  pub totals_same : map (summed_for s.own s.declarations rows) (keys s.devices) ≡ totals_of s
-  totals_same = each_same (summed_for s.own s.declarations rows) (totals_for s) one_device (entries s.devices)
+  pub totals_same : map (summed_for s.own s.declarations s.corrections rows) (keys s.devices) ≡ totals_of s
+  totals_same = each_same (summed_for s.own s.declarations s.corrections rows) (totals_for s) one_device (entries s.devices)
 
-  -- and small: no device declared more than all serials are worth
-  pub small_sums : IsSound s → (own : ℕ) → HaveSmallSums own s.declarations rows
-  unfolding total due
-  small_sums sound own device =
-      let few = own-block s.own device 0 rows rising in
-      let same : sum_by (issued_in s.own device) rows ≡ issued s device = counted device in
-      let when = sound.issued_when_due device in
-      let here = own-block own device 0 rows rising in
-      (omega (arith, few, same, when), omega (arith, here))
-
--- and so those of the state that the tables stand for
-pub state_totals : (t : Tables) → IsRising (rows_of t) → map (summed_for (state_of t).own (state_of t).declarations (rows_of t)) (keys (state_of t).devices) ≡ totals_of (state_of t)
+-- and those of the state that the tables stand for
+pub state_totals : (t : Tables) → IsRising (rows_of t) → map (summed_for (state_of t).own (state_of t).declarations (state_of t).corrections (rows_of t)) (keys (state_of t).devices) ≡ totals_of (state_of t)
 unfolding state_of
 state_totals t rising = totals_same (state_of t) (rows_of t) refl rising
 
-pub tables_small : (t : Tables) → AreKept t → (own : ℕ) → HaveSmallSums own (state_of t).declarations (rows_of t)
-unfolding state_of
-tables_small t kept = small_sums (state_of t) (rows_of t) refl kept.rising kept.sound
+-- rows have as many certificates of a device as a registry has serials, at most; no more of them were withdrawn
+pub counts_small : (rows : List Piece) → IsRising rows → (own : ℕ) (cs : List Correction) → HaveSmallCounts own cs rows
+counts_small rows rising own cs = record {
+  issued = λ device. let most = own-block own device 0 rows rising in omega (arith, most);
+  corrected = λ device.
+      let most = own-block own device 0 rows rising in
+      let few = corrected-few own device cs rows in
+      omega (arith, most, few);
+}

@@ -8,7 +8,7 @@ use Rattle.goo_tables_rows.specs.Rows.{Meta}
 -- its row: nothing has a number yet
 abbrev pub meta_of : ℕ → CalendarDay → ℕ → Meta
 meta_of code today next_serial = record {
-  version = 1;
+  version = 2;
   code = code;
   today = day_text today;
   next_serial = next_serial;

@@ -14,6 +14,7 @@ ghost use Rattle.goo_tables_rows.specs.Stands.{Sees, Settled, Holds};
 ghost use Rattle.goo_tables_holdings.specs.Changes.{MetaFits, begun};
 ghost use Rattle.goo_store.specs.Creating.{meta_of, IsFirst};
 
+use goo_store_open::finding::VERSION;
 use goo_store_values::trouble::Trouble;
 use goo_tables::create::create_tables;
 use goo_tables::meta::insert_meta;
@@ -45,7 +46,7 @@ fn first_row(
     ensures limits { IfOk result (λ _. IsFirst code today next_serial) }
 {
     Ok(MetaRow {
-        version: 1,
+        version: VERSION,
         code: u32::from(code.get()),
         today: String::from_str(alloc, today.text().as_str())?,
         next_serial: next_serial.get(),

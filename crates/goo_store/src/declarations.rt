@@ -24,7 +24,7 @@ use sqlite::{Alter, Error};
 use std::alloc::Global;
 
 /// The declaration that a row states.
-fn declaration_in_row(row: &DeclarationRow) -> Result<Declare, Trouble>
+pub(crate) fn declaration_in_row(row: &DeclarationRow) -> Result<Declare, Trouble>
     ensures value { IfOk result (λ x. x ≡ declaration_of (declaration_in row.now)) }
     ensures accepts { is_ok result ≡ is_declaration (declaration_in row.now) }
 {

@@ -4,6 +4,8 @@
 mod accounts;
 mod cancellations;
 mod commits;
+mod correctable;
+mod corrections;
 mod creating;
 mod declarations;
 mod device_numbers;
@@ -11,6 +13,7 @@ mod devices;
 mod holders;
 mod kept_lots;
 mod lots;
+mod lowering;
 mod next_rows;
 mod notices;
 pub mod opening;

@@ -71,6 +71,11 @@ fn read_reply(kind: u32, n1: u64, n2: u64, n3: u64) -> Result<Reply, Trouble>
             count: n2,
         }),
         9 => Ok(Reply::Imported { count: n1 }),
+        10 => Ok(Reply::Corrected {
+            carry: n1,
+            count: n2,
+            withdrawal: numbers::act_or_none(numbers::small(n3)?)?,
+        }),
         _ => Err(Trouble::Refused),
     }
 }

@@ -26,6 +26,7 @@ use goo_types::number::Number;
 use goo_types::piece::Piece;
 use goo_types::range::Range;
 use goo_types::registry_code::RegistryCode;
+use goo_types::wh::Wh;
 use sqlite::Alter;
 use std::alloc::Global;
 
@@ -34,6 +35,7 @@ impl<S: Alter> Shelf for SqlShelf<S> {
     ghost use Rattle.std.specs.Prelude.{◌≡◌, IfOk, IfSome};
     ghost use Rattle.std.specs.FinMap.{get, contains_key};
     ghost use Rattle.goo_types.specs.Piece.{IsRising};
+    ghost use Rattle.goo_spec.specs.Correct.{correctable as lowerable};
     ghost use Rattle.goo_spec.specs.Lots.{lot_key};
     ghost use Rattle.goo_ranges_rows.specs.Rows.{meeting as near};
     ghost use Rattle.goo_core_shelf.specs.Counters.{counters_of};
@@ -114,6 +116,13 @@ impl<S: Alter> Shelf for SqlShelf<S> {
         ensures store { BlamesStore (view S.Store self.old.conn) (view S.Store self.new.conn) self.old.refused result }
     {
         self.look_up_device_record(device)
+    }
+
+    fn correctable(&mut self, device: &Gsrn, first_day: Day) -> Result<Option<Wh>, Fault>
+        ensures looks { Looks (moment (view S.Store self.old.conn) self.old.refused) (moment (view S.Store self.new.conn) self.new.refused) result (λ left. left ≡ lowerable (moment (view S.Store self.old.conn) self.old.refused).state device.now first_day) }
+        ensures store { BlamesStore (view S.Store self.old.conn) (view S.Store self.new.conn) self.old.refused result }
+    {
+        self.look_up_correctable(device, first_day)
     }
 
     fn receipt(

@@ -10,6 +10,7 @@ ghost use Rattle.goo_store_lookups.specs.StoreFaults.{BlamesStore};
 use crate::sql_shelf::SqlShelf;
 use crate::sums::totals_over;
 use goo_core_shelf::found::DeviceTotals;
+use goo_store_rules::correct_record::CorrectRecord;
 use goo_store_values::told::told;
 use goo_types::fault::Fault;
 use goo_types::gsrn::Gsrn;
@@ -18,7 +19,24 @@ use sqlite::Alter;
 use std::alloc::Global;
 
 impl<S: Alter> SqlShelf<S> {
-    /// The totals of these devices, by the declarations and the rows.
+    /// The totals of these devices, by the declarations, the rows and these corrections.
+    fn totals_beside(
+        &mut self,
+        alloc: Global,
+        own: RegistryCode,
+        devices: &[Gsrn],
+        corrections: &[CorrectRecord],
+    ) -> Result<Vec<DeviceTotals>, Fault>
+        ensures looks { Looks (moment (view S.Store self.old.conn) self.old.refused) (moment (view S.Store self.new.conn) self.new.refused) result (λ totals. own ≡ (moment (view S.Store self.old.conn) self.old.refused).state.own → devices.now ≡ keys_of (moment (view S.Store self.old.conn) self.old.refused).state.devices → corrections.now ≡ (moment (view S.Store self.old.conn) self.old.refused).state.corrections → totals.items ≡ totals_of (moment (view S.Store self.old.conn) self.old.refused).state) }
+        ensures store { BlamesStore (view S.Store self.old.conn) (view S.Store self.new.conn) self.old.refused result }
+    {
+        let declared = self.declarations(alloc)?;
+        let rows = self.all_rows(alloc)?;
+        let totals = totals_over(alloc, own, devices, &declared, corrections, &rows);
+        told(totals, &mut self.refused)
+    }
+
+    /// The totals of these devices.
     fn totals_of_devices(
         &mut self,
         alloc: Global,
@@ -28,10 +46,8 @@ impl<S: Alter> SqlShelf<S> {
         ensures looks { Looks (moment (view S.Store self.old.conn) self.old.refused) (moment (view S.Store self.new.conn) self.new.refused) result (λ totals. own ≡ (moment (view S.Store self.old.conn) self.old.refused).state.own → devices.now ≡ keys_of (moment (view S.Store self.old.conn) self.old.refused).state.devices → totals.items ≡ totals_of (moment (view S.Store self.old.conn) self.old.refused).state) }
         ensures store { BlamesStore (view S.Store self.old.conn) (view S.Store self.new.conn) self.old.refused result }
     {
-        let declared = self.declarations(alloc)?;
-        let rows = self.all_rows(alloc)?;
-        let totals = totals_over(alloc, own, devices, &declared, &rows);
-        told(totals, &mut self.refused)
+        let corrections = self.corrections(alloc)?;
+        self.totals_beside(alloc, own, devices, &corrections)
     }
 
     /// The totals of all devices, of the registry of this code.

@@ -6,10 +6,10 @@ use Rattle.sqlite_typed.specs.Tests.{bytes_eq}
 use Rattle.sqlite_keyed.specs.Keyed.{get_by}
 use Rattle.goo_tables_rows.specs.Once.{IsOnce}
 use Rattle.goo_tables_rows.specs.Refused.{IsSmall, CanBeKept, HasRoomFor}
-use Rattle.goo_tables_rows.specs.Rows.{Tables, meta_row, holder_in, holder_row, account_in, account_row, device_in, device_row, declaration_in, declaration_row, lot_in, lot_row, piece_row, peer_row, receipt_in, receipt_row, cancellation_in, cancellation_row, withdrawal_in, withdrawal_row, notice_out_in, notice_out_row, notice_in_in, notice_in_row, account_key, declaration_key, lot_key, piece_key, cancellation_key, withdrawal_key, notice_out_key}
-use Rattle.goo_tables_holdings.specs.Changes.{with_holder, with_account, with_closed, with_device, with_progress, progressed, with_declaration, with_lot, with_piece, without_piece, with_peer, with_receipt, with_cancellation, with_withdrawal, with_notice_out, with_notice_in, at_day, with_counters, DeviceFits, DeclarationFits, LotFits, PieceFits, ReceiptFits, CancellationFits, WithdrawalFits, CountersFit}
+use Rattle.goo_tables_rows.specs.Rows.{Tables, meta_row, holder_in, holder_row, account_in, account_row, device_in, device_row, declaration_in, declaration_row, lot_in, lot_row, piece_row, peer_row, receipt_in, receipt_row, cancellation_in, cancellation_row, withdrawal_in, withdrawal_row, notice_out_in, notice_out_row, notice_in_in, notice_in_row, correction_in, correction_row, account_key, declaration_key, lot_key, piece_key, cancellation_key, withdrawal_key, notice_out_key, correction_key}
+use Rattle.goo_tables_holdings.specs.Changes.{with_holder, with_account, with_closed, with_device, with_progress, progressed, with_declaration, with_lot, with_piece, without_piece, with_peer, with_receipt, with_cancellation, with_withdrawal, with_notice_out, with_notice_in, with_correction, at_day, with_counters, DeviceFits, DeclarationFits, LotFits, PieceFits, ReceiptFits, CancellationFits, WithdrawalFits, CorrectionFits, CountersFit}
 use Rattle.goo_store_changes.specs.declared.change.TableChange.{TableChange}
-use Rattle.goo_store_changes.specs.declared.change.TableChange.TheVariants.{AddHolder, AddAccount, CloseAccount, AddDevice, AddDeclaration, SetProgress, AddLot, DeletePiece, InsertPiece, AddPeer, AddReceipt, AddCancellation, AddWithdrawal, AddNoticeOut, AddNoticeIn, SetToday, SetCounters}
+use Rattle.goo_store_changes.specs.declared.change.TableChange.TheVariants.{AddHolder, AddAccount, CloseAccount, AddDevice, AddDeclaration, SetProgress, AddLot, DeletePiece, InsertPiece, AddPeer, AddReceipt, AddCancellation, AddWithdrawal, AddNoticeOut, AddNoticeIn, AddCorrection, SetToday, SetCounters}
 
 -- the tables with the change
 abbrev pub made : Tables → TableChange → Tables
@@ -28,6 +28,7 @@ made t (AddCancellation row) = with_cancellation t (cancellation_in row)
 made t (AddWithdrawal row) = with_withdrawal t (withdrawal_in row)
 made t (AddNoticeOut row) = with_notice_out t (notice_out_in row)
 made t (AddNoticeIn row) = with_notice_in t (notice_in_in row)
+made t (AddCorrection row) = with_correction t (correction_in row)
 made t (SetToday day) = at_day t (string_bytes day)
 made t (SetCounters counters) = with_counters t counters
 
@@ -45,6 +46,7 @@ ChangeFits (InsertPiece row) = PieceFits row
 ChangeFits (AddReceipt row) = ReceiptFits row
 ChangeFits (AddCancellation row) = CancellationFits row
 ChangeFits (AddWithdrawal row) = WithdrawalFits row
+ChangeFits (AddCorrection row) = CorrectionFits row
 ChangeFits (SetCounters counters) = CountersFit counters
 ChangeFits _ = Unit {0}
 
@@ -78,6 +80,7 @@ IsFree t (AddCancellation row) = get_by cancellation_key t.cancellations (pos ro
 IsFree t (AddWithdrawal row) = get_by withdrawal_key t.withdrawals (pos row.number) ≡ None
 IsFree t (AddNoticeOut row) = get_by notice_out_key t.notices_out (pos row.number) ≡ None
 IsFree t (AddNoticeIn row) = find (λ k. int_eq (pos k.1.sender) (pos row.sender) && int_eq (pos k.1.number) (pos row.number)) t.notices_in ≡ None
+IsFree t (AddCorrection row) = get_by correction_key t.corrections (pos row.id) ≡ None
 IsFree t (SetToday day) = ⊤
 IsFree t (SetCounters counters) = ⊤
 
@@ -103,6 +106,7 @@ HasRoom t (AddCancellation row) = IsSmall (cancellation_row (cancellation_in row
 HasRoom t (AddWithdrawal row) = IsSmall (withdrawal_row (withdrawal_in row))
 HasRoom t (AddNoticeOut row) = IsSmall (notice_out_row (notice_out_in row))
 HasRoom t (AddNoticeIn row) = HasRoomFor notice_in_row t.notices_in (notice_in_in row)
+HasRoom t (AddCorrection row) = IsSmall (correction_row (correction_in row))
 HasRoom t (SetToday day) = IsSmall (meta_row (at_day t (string_bytes day)).meta)
 HasRoom t (SetCounters counters) = IsSmall (meta_row (with_counters t counters).meta)
 

@@ -11,6 +11,7 @@ ghost use Rattle.goo_store_changes.specs.Changes.{made, made_all, ChangeFits, Is
 
 use crate::once::{keep_counters, keep_notice};
 use goo_tables::cancellation::insert_cancellation;
+use goo_tables::correction::insert_correction;
 use goo_tables::declaration::insert_declaration;
 use goo_tables::device::{insert_device, set_progress};
 use goo_tables::lot::insert_lot;
@@ -25,6 +26,7 @@ use goo_tables_holdings::holder::insert_holder;
 use goo_tables_holdings::piece::{delete_piece, insert_piece};
 use goo_tables_rows::account::AccountRow;
 use goo_tables_rows::cancellation::CancellationRow;
+use goo_tables_rows::correction::CorrectionRow;
 use goo_tables_rows::declaration::DeclarationRow;
 use goo_tables_rows::device::DeviceRow;
 use goo_tables_rows::holder::HolderRow;
@@ -62,6 +64,7 @@ pub enum TableChange {
     AddWithdrawal(WithdrawalRow),
     AddNoticeOut(NoticeOutRow),
     AddNoticeIn(NoticeInRow),
+    AddCorrection(CorrectionRow),
     SetToday(String),
     SetCounters(CountersRow),
 }
@@ -97,6 +100,7 @@ fn make<S: Alter>(tx: &mut Transaction<'_, S>, change: &TableChange) -> Result<u
         TableChange::AddWithdrawal(row) => insert_withdrawal(tx, row),
         TableChange::AddNoticeOut(row) => insert_notice_out(tx, row),
         TableChange::AddNoticeIn(row) => keep_notice(tx, row),
+        TableChange::AddCorrection(row) => insert_correction(tx, row),
         TableChange::SetToday(day) => set_today(tx, day),
         TableChange::SetCounters(counters) => keep_counters(tx, counters),
     }

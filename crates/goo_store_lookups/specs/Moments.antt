@@ -17,7 +17,7 @@ use Rattle.sqlite_trees.specs.Props.{rows_set, Trees-set, IsAscending-prop}
 use Rattle.sqlite_keyed.specs.Keyed.{IsKeyedBy, get_by, has_key}
 use Rattle.goo_ranges_rows.specs.Rows.{rising-prop}
 use Rattle.goo_core_shelf.specs.Shelf.{Moment, progress_of}
-use Rattle.goo_tables_rows.specs.Rows.{Tables, Lot, tables_of, kept_key, holder_row, account_row, account_key, device_row as row_of_device, declaration_row, declaration_key, lot_row, lot_key, piece_row, piece_key, peer_row, receipt_row, cancellation_row, cancellation_key, withdrawal_row, withdrawal_key, notice_out_row, notice_out_key, notice_in_row}
+use Rattle.goo_tables_rows.specs.Rows.{Tables, Lot, tables_of, kept_key, holder_row, account_row, account_key, device_row as row_of_device, declaration_row, declaration_key, lot_row, lot_key, piece_row, piece_key, peer_row, receipt_row, cancellation_row, cancellation_key, withdrawal_row, withdrawal_key, notice_out_row, notice_out_key, notice_in_row, correction_row, correction_key, device_carrier_row, lot_carrier_row, lot_carrier_key}
 use Rattle.goo_tables_rows.specs.Stands.{Stands, Holds, Keeps, doubts}
 use Rattle.goo_spec.specs.State as registry
 use Rattle.goo_spec.specs.Sound.{IsSound}
@@ -94,6 +94,9 @@ stands-prop db t a b = λ i. record {
   withdrawals = keeps-prop _ withdrawal_row withdrawal_key t.withdrawals a.withdrawals b.withdrawals i;
   notices_out = keeps-prop _ notice_out_row notice_out_key t.notices_out a.notices_out b.notices_out i;
   notices_in = keeps-prop _ notice_in_row kept_key t.notices_in a.notices_in b.notices_in i;
+  corrections = keeps-prop _ correction_row correction_key t.corrections a.corrections b.corrections i;
+  device_carriers = keeps-prop _ device_carrier_row kept_key t.device_carriers a.device_carriers b.device_carriers i;
+  lot_carriers = keeps-prop _ lot_carrier_row lot_carrier_key t.lot_carriers a.lot_carriers b.lot_carriers i;
 }
 
 readable-prop : (t : Tables) → IsProp (AreReadable t)

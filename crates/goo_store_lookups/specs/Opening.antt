@@ -11,10 +11,10 @@ use Rattle.goo_store_open.specs.Reading.{CanBeRead, IsMet}
 use Rattle.goo_store_open.specs.declared.fault.OpenFault.{OpenFault}
 use Rattle.goo_store_open.specs.declared.fault.OpenFault.TheVariants.{Version, Damaged, Store}
 
--- The word for tables that are refused: one from outside; `Damaged` where they don't keep the rules, and are of version 1 if they can be
--- read at all; or their version, which isn't 1.
+-- The word for tables that are refused: one from outside; `Damaged` where they don't keep the rules, and are of version 2 if they can be
+-- read at all; or their version, which isn't 2.
 abbrev pub IsRefusal : Tables → OpenFault → Type 0
-IsRefusal t f = IsOutside f ⊎ (((f ≡ Damaged) × (¬ AreKept t × (CanBeRead t → t.meta.version ≡ 1))) ⊎ ((f ≡ Version t.meta.version) × ¬ (t.meta.version ≡ 1)))
+IsRefusal t f = IsOutside f ⊎ (((f ≡ Damaged) × (¬ AreKept t × (CanBeRead t → t.meta.version ≡ 2))) ⊎ ((f ≡ Version t.meta.version) × ¬ (t.meta.version ≡ 2)))
 
 -- On a connection that works and whose disk has returned what was written, with no limit on steps: `Store` is told only where the disk
 -- failed in this call. So want of memory is told as `Memory`, and what the tables hold by a word on them.

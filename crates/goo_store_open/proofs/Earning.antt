@@ -7,7 +7,7 @@ use Rattle.sqlite.specs.declared.error.Error.TheVariants.{SqliteFailure}
 use Rattle.sqlite.specs.declared.error.ErrorCode.TheVariants.{OutOfMemory}
 use Rattle.sqlite.specs.declared.types.Value.TheVariants.{Int}
 use Rattle.goo_tables_rows.specs.Readable.{is_read_error, numbered_meta_readable}
-use Rattle.goo_tables_rows.specs.Rows.{Tables, meta_columns, meta_in, account_in, declaration_in, lot_in, cancellation_in, withdrawal_in, notice_out_in}
+use Rattle.goo_tables_rows.specs.Rows.{Tables, meta_columns, meta_in, account_in, declaration_in, lot_in, cancellation_in, withdrawal_in, notice_out_in, correction_in, lot_carrier_in}
 use Rattle.goo_tables_rows.specs.Met.{HasOurTables}
 use Rattle.goo_tables_rows.specs.Refused.{IsFault, FailsByFault, FailsOnlyByFault, is_store_error}
 use Rattle.goo_tables_rows.specs.Stands.{Looks}
@@ -35,6 +35,9 @@ tables m db x shows = record {
   withdrawals = map withdrawal_in x.acts.withdrawals.items;
   notices_out = map notice_out_in x.notices.sent.items;
   notices_in = shows.notices.came.0;
+  corrections = map correction_in x.production.corrections.items;
+  device_carriers = shows.carriers.devices.0;
+  lot_carriers = map lot_carrier_in x.carriers.lots.items;
 }
 
 earned : (db : Database) (m : MetaRow) (x : AllRows) → HasOurTables db → ShowsMeta db m → ShowsAll db x → ShowsTables db (record { meta = m; rows = x })
@@ -55,6 +58,9 @@ earned db m x ours one all = (
     withdrawals = all.acts.withdrawals;
     notices_out = all.notices.sent;
     notices_in = all.notices.came.1;
+    corrections = all.production.corrections;
+    device_carriers = all.carriers.devices.1;
+    lot_carriers = all.carriers.lots;
   },
   record {
     meta = refl;
@@ -70,6 +76,9 @@ earned db m x ours one all = (
     withdrawals = refl;
     notices_out = refl;
     notices_in = sym all.notices.came.2;
+    corrections = refl;
+    device_carriers = sym all.carriers.devices.2;
+    lot_carriers = refl;
   },
   one.version,
 )

@@ -27,9 +27,9 @@ version_text = codes "SELECT version FROM meta WHERE id = 1"
 abbrev pub version_readable : Row → Type 0
 version_readable r = (1 ≤ length r) × IsSmall (column r 0)
 
--- the word for other tables than those of version 1, where their row tells this version
+-- the word for other tables than those of version 2, where their row tells this version
 abbrev pub version_word : ℕ → OpenFault
-version_word version = if version == 1 then Damaged else Version version
+version_word version = if version == 2 then Damaged else Version version
 
 -- The word for the rows that answer the question: `NotARegistry` for none, `Damaged` where the first tells no version.
 abbrev pub IsRowWord : List Row → OpenFault → Type 0
@@ -43,6 +43,6 @@ TellsVersion old new f =
     ((rows : List Row) × Shown version_text [] old new rows × IsRowWord rows f)
     ⊎ ((e : Error) × FailsToQuery version_text [] old new e × (f ≡ word_of Damaged e))
 
--- a word for tables that aren't a registry's: never that they are there, or of version 1
+-- a word for tables that aren't a registry's: never that they are there, or of version 2
 abbrev pub IsForeignWord : OpenFault → Type 0
-IsForeignWord f = IsOutside f ⊎ ((f ≡ NotARegistry) ⊎ ((f ≡ Damaged) ⊎ ((version : ℕ) × (f ≡ Version version) × ¬ (version ≡ 1))))
+IsForeignWord f = IsOutside f ⊎ ((f ≡ NotARegistry) ⊎ ((f ≡ Damaged) ⊎ ((version : ℕ) × (f ≡ Version version) × ¬ (version ≡ 2))))

@@ -7,7 +7,7 @@ use Rattle.sqlite.specs.declared.error.Error.{Error}
 use Rattle.sqlite.specs.declared.error.Error.TheVariants.{SqliteFailure, SqlInputError, InvalidColumnIndex, InvalidColumnType, IntegralValueOutOfRange, Utf8Error}
 use Rattle.sqlite.specs.declared.error.ErrorCode.TheVariants.{OutOfMemory}
 use Rattle.sqlite.specs.Effect.{Database}
-use Rattle.goo_tables_rows.specs.Rows.{Tables, Kept, Numbered, meta_row, meta_in, holder_in, account_in, device_in, declaration_in, lot_in, receipt_in, cancellation_in, withdrawal_in, notice_out_in, notice_in_in}
+use Rattle.goo_tables_rows.specs.Rows.{Tables, Kept, Numbered, meta_row, meta_in, holder_in, account_in, device_in, declaration_in, lot_in, receipt_in, cancellation_in, withdrawal_in, notice_out_in, notice_in_in, correction_in, device_carrier_in, lot_carrier_in}
 use Rattle.goo_tables_rows.specs.Stands.{Stands, Rests}
 use Rattle.goo_tables_rows.specs.declared.meta.MetaRow.{MetaRow}
 use Rattle.goo_store_open.specs.Reading.{CanBeRead, IsMet}
@@ -34,11 +34,14 @@ pub record AreOf (t : Tables) (x : Found) : Type 0 where
   pub withdrawals : map withdrawal_in x.rows.acts.withdrawals.items ≡ t.withdrawals
   pub notices_out : map notice_out_in x.rows.notices.sent.items ≡ t.notices_out
   pub notices_in : map notice_in_in x.rows.notices.came.items ≡ values t.notices_in
+  pub corrections : map correction_in x.rows.production.corrections.items ≡ t.corrections
+  pub device_carriers : map device_carrier_in x.rows.carriers.devices.items ≡ values t.device_carriers
+  pub lot_carriers : map lot_carrier_in x.rows.carriers.lots.items ≡ t.lot_carriers
 
 -- the only row of `meta`
 pub record ShowsMeta (db : Database) (m : MetaRow) : Type 0 where
   pub only : db.trees 0 ≡ meta_row (meta_in m) ∷ []
-  pub version : m.version ≡ 1
+  pub version : m.version ≡ 2
 
 -- why rows of `meta` are not those of a registry that is read here: not one row, or not under the number 1, or of this version
 abbrev pub row_fault : List Numbered → OpenFault
@@ -46,21 +49,21 @@ row_fault [] = NotARegistry
 row_fault (row ∷ []) = if row.id == 1 then Version row.meta.version else NotARegistry
 row_fault (row ∷ other ∷ rows) = NotARegistry
 
--- the database holds tables of version 1, and they are what was read
+-- the database holds tables of version 2, and they are what was read
 abbrev pub ShowsTables : Database → Found → Type 0
-ShowsTables db x = (t : Tables) × Stands db t × AreOf t x × (t.meta.version ≡ 1)
+ShowsTables db x = (t : Tables) × Stands db t × AreOf t x × (t.meta.version ≡ 2)
 
--- tables of version 1 whose values can be read
+-- tables of version 2 whose values can be read
 abbrev pub IsReadable : Tables → Type 0
-IsReadable t = CanBeRead t × (t.meta.version ≡ 1)
+IsReadable t = CanBeRead t × (t.meta.version ≡ 2)
 
 -- the database failed, or memory did
 abbrev pub IsOutside : OpenFault → Type 0
 IsOutside f = (f ≡ Store) ⊎ (f ≡ Memory)
 
--- The word for tables that are refused: one from outside, `Damaged` where a value can't be read, or their version, which isn't 1.
+-- The word for tables that are refused: one from outside, `Damaged` where a value can't be read, or their version, which isn't 2.
 abbrev pub IsWord : Tables → OpenFault → Type 0
-IsWord t f = IsOutside f ⊎ (((f ≡ Damaged) × ¬ CanBeRead t) ⊎ ((f ≡ Version t.meta.version) × ¬ (t.meta.version ≡ 1)))
+IsWord t f = IsOutside f ⊎ (((f ≡ Damaged) × ¬ CanBeRead t) ⊎ ((f ≡ Version t.meta.version) × ¬ (t.meta.version ≡ 2)))
 
 -- The word for the error of a statement: for want of memory; the one that is given where a table or a column is missing; for a value that
 -- can't be read; and for all others that of the store.

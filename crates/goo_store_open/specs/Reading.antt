@@ -5,12 +5,12 @@ use Rattle.sqlite.specs.Tree.{Trees}
 use Rattle.sqlite.specs.Effect.{Database}
 use Rattle.sqlite.specs.declared.types.Value.TheVariants.{Int}
 use Rattle.sqlite.specs.declared.error.Error.{Error}
-use Rattle.goo_tables_rows.specs.Rows.{Tables, meta_columns, holder_columns, account_columns, device_columns, declaration_columns, lot_columns, piece_columns, peer_columns, receipt_columns, cancellation_columns, withdrawal_columns, notice_out_columns, notice_in_columns}
+use Rattle.goo_tables_rows.specs.Rows.{Tables, meta_columns, holder_columns, account_columns, device_columns, declaration_columns, lot_columns, piece_columns, peer_columns, receipt_columns, cancellation_columns, withdrawal_columns, notice_out_columns, notice_in_columns, correction_columns, device_carrier_columns, lot_carrier_columns}
 use Rattle.goo_tables_rows.specs.Stands.{Stands, Rests, IsSettled}
 use Rattle.goo_tables_rows.specs.Met.{HasOurTables}
 use Rattle.goo_tables_rows.specs.Columns.{registry_schema}
 use Rattle.goo_tables_rows.specs.Refused.{IsFault}
-use Rattle.goo_tables_rows.specs.Readable.{is_read_error, numbered_meta_readable, holder_readable, account_readable, device_readable, declaration_readable, lot_readable, piece_readable, peer_readable, receipt_readable, cancellation_readable, withdrawal_readable, notice_out_readable, notice_in_readable}
+use Rattle.goo_tables_rows.specs.Readable.{is_read_error, numbered_meta_readable, holder_readable, account_readable, device_readable, declaration_readable, lot_readable, piece_readable, peer_readable, receipt_readable, cancellation_readable, withdrawal_readable, notice_out_readable, notice_in_readable, correction_readable, device_carrier_readable, lot_carrier_readable}
 
 -- each value is one that its column's reader takes: a number of its size, a text in UTF-8
 pub record CanBeRead (t : Tables) : Type 0 where
@@ -27,6 +27,9 @@ pub record CanBeRead (t : Tables) : Type 0 where
   pub withdrawals : All withdrawal_readable (map withdrawal_columns t.withdrawals)
   pub notices_out : All notice_out_readable (map notice_out_columns t.notices_out)
   pub notices_in : All notice_in_readable (map (λ k. notice_in_columns k.1) t.notices_in)
+  pub corrections : All correction_readable (map correction_columns t.corrections)
+  pub device_carriers : All device_carrier_readable (map (λ k. device_carrier_columns k.1) t.device_carriers)
+  pub lot_carriers : All lot_carrier_readable (map lot_carrier_columns t.lot_carriers)
 
 -- our tables with whatever rows, which an open connection keeps to their keys and checks, and nothing that waits for a commit
 pub record IsMet (s : State) : Type 0 where

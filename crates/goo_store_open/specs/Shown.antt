@@ -1,13 +1,14 @@
 -- What the rows that were read tell of the database.
 use Rattle.std.specs.Prelude.{map}
 use Rattle.sqlite.specs.Effect.{Database}
-use Rattle.goo_tables_rows.specs.Rows.{holder_row, holder_in, account_row, account_key, account_in, device_row, device_in, declaration_row, declaration_key, declaration_in, lot_row, lot_key, lot_in, piece_row, piece_key, peer_row, receipt_row, receipt_in, cancellation_row, cancellation_key, cancellation_in, withdrawal_row, withdrawal_key, withdrawal_in, notice_out_row, notice_out_key, notice_out_in, notice_in_row, notice_in_in}
+use Rattle.goo_tables_rows.specs.Rows.{holder_row, holder_in, account_row, account_key, account_in, device_row, device_in, declaration_row, declaration_key, declaration_in, lot_row, lot_key, lot_in, piece_row, piece_key, peer_row, receipt_row, receipt_in, cancellation_row, cancellation_key, cancellation_in, withdrawal_row, withdrawal_key, withdrawal_in, notice_out_row, notice_out_key, notice_out_in, notice_in_row, notice_in_in, correction_row, correction_key, correction_in, device_carrier_row, device_carrier_in, lot_carrier_row, lot_carrier_key, lot_carrier_in}
 use Rattle.goo_tables_rows.specs.Stands.{Keeps}
 use Rattle.goo_tables_rows.specs.Met.{KeepsSome}
 use Rattle.goo_store_open.specs.declared.rows.Members.{Members}
 use Rattle.goo_store_open.specs.declared.rows.Production.{Production}
 use Rattle.goo_store_open.specs.declared.rows.Acts.{Acts}
 use Rattle.goo_store_open.specs.declared.rows.Notices.{Notices}
+use Rattle.goo_store_open.specs.declared.rows.Carriers.{Carriers}
 use Rattle.goo_store_open.specs.declared.rows.AllRows.{AllRows}
 
 pub record ShowsMembers (db : Database) (x : Members) : Type 0 where
@@ -18,6 +19,7 @@ pub record ShowsMembers (db : Database) (x : Members) : Type 0 where
 pub record ShowsProduction (db : Database) (x : Production) : Type 0 where
   pub devices : KeepsSome (db.trees 4) device_row (map device_in x.devices.items)
   pub declarations : Keeps (db.trees 6) declaration_row declaration_key (map declaration_in x.declarations.items)
+  pub corrections : Keeps (db.trees 22) correction_row correction_key (map correction_in x.corrections.items)
   pub lots : Keeps (db.trees 8) lot_row lot_key (map lot_in x.lots.items)
   pub pieces : Keeps (db.trees 10) piece_row piece_key x.pieces.items
 
@@ -30,9 +32,14 @@ pub record ShowsNotices (db : Database) (x : Notices) : Type 0 where
   pub sent : Keeps (db.trees 17) notice_out_row notice_out_key (map notice_out_in x.sent.items)
   pub came : KeepsSome (db.trees 18) notice_in_row (map notice_in_in x.came.items)
 
+pub record ShowsCarriers (db : Database) (x : Carriers) : Type 0 where
+  pub devices : KeepsSome (db.trees 23) device_carrier_row (map device_carrier_in x.devices.items)
+  pub lots : Keeps (db.trees 25) lot_carrier_row lot_carrier_key (map lot_carrier_in x.lots.items)
+
 -- the rows of each table are those read
 pub record ShowsAll (db : Database) (x : AllRows) : Type 0 where
   pub members : ShowsMembers db x.members
   pub production : ShowsProduction db x.production
   pub acts : ShowsActs db x.acts
   pub notices : ShowsNotices db x.notices
+  pub carriers : ShowsCarriers db x.carriers

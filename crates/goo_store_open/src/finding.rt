@@ -15,7 +15,7 @@ use sqlite::{Alter, Connection};
 use std::alloc::Global;
 
 /// The version of the tables that is read here.
-const VERSION: u32 = 1;
+pub const VERSION: u32 = 2;
 
 /// What was read of a registry's tables.
 #[derive(Drop)]
@@ -24,11 +24,11 @@ pub struct Found {
     pub rows: AllRows,
 }
 
-/// The row of `meta`: the only one, under the number 1, of version 1.
+/// The row of `meta`: the only one, under the number 1, of the version that is read here.
 fn the_row(rows: Vec<NumberedMeta>) -> Result<MetaRow, OpenFault>
     ensures only { IfOk result (λ m. map numbered_in rows.items ≡ record { id = 1; meta = meta_in m } ∷ []) }
-    ensures version { IfOk result (λ m. m.version ≡ 1) }
-    ensures refused { (m : Meta) → map numbered_in rows.items ≡ record { id = 1; meta = m } ∷ [] → m.version ≡ 1 → IfErr result (λ _. ⊥) }
+    ensures version { IfOk result (λ m. m.version ≡ 2) }
+    ensures refused { (m : Meta) → map numbered_in rows.items ≡ record { id = 1; meta = m } ∷ [] → m.version ≡ 2 → IfErr result (λ _. ⊥) }
     ensures told { IfErr result (λ fault. fault ≡ row_fault (map numbered_in rows.items)) }
     ensures unblamed { IfErr result (λ fault. fault ≡ OpenFault.Store → ⊥) }
     ensures words { (t : Tables) → map numbered_in rows.items ≡ record { id = 1; meta = t.meta } ∷ [] → IfErr result (IsWord t) }

@@ -9,6 +9,7 @@ ghost use Rattle.goo_tables_rows.specs.Stands.{Rests, IsSettled};
 ghost use Rattle.goo_store_open.specs.Foreign.{IsMeta, LacksMeta, IsRowWord, TellsVersion, IsForeignWord};
 
 use crate::fault::{OpenFault, fault_of};
+use crate::finding::VERSION;
 use crate::forms::TableForm;
 use crate::matching::is_table;
 use crate::registry_form::META;
@@ -38,7 +39,7 @@ fn lack_meta(tables: &[Table]) -> bool
     }
 }
 
-/// The word for the rows that tell the version of other tables than those of version 1.
+/// The word for the rows that tell the version of other tables than those that are read here.
 fn version_fault(rows: &[Row]) -> OpenFault
     ensures told { IsRowWord rows.now result }
     ensures word { IsForeignWord result }
@@ -47,7 +48,7 @@ fn version_fault(rows: &[Row]) -> OpenFault
         return OpenFault::NotARegistry;
     };
     match row.get::<u32>(0) {
-        Ok(1) => OpenFault::Damaged,
+        Ok(version) if version == VERSION => OpenFault::Damaged,
         Ok(version) => OpenFault::Version(version),
         Err(Error::SqliteFailure(ErrorCode::OutOfMemory)) => OpenFault::Memory,
         Err(_) => OpenFault::Damaged,
@@ -70,8 +71,8 @@ fn ask_version<S: Alter>(conn: &mut Connection<S>) -> OpenFault
 }
 
 /// Why a database is refused whose tables are not those of a registry: `NotARegistry` where none is its `meta`, and then no call
-/// looks at the database; otherwise by the version that the row of `meta` tells, `Damaged` for version 1, whose tables are
-/// others. `Store` where a call was refused, and `Memory` where memory was.
+/// looks at the database; otherwise by the version that the row of `meta` tells, an earlier one of ours too, and `Damaged` for
+/// the version that is read here, whose tables are others. `Store` where a call was refused, and `Memory` where memory was.
 pub fn foreign_fault<S: Alter>(conn: &mut Connection<S>) -> OpenFault
     ensures lacking { LacksMeta (state S.Store conn.old).now.schema → (result ≡ OpenFault.NotARegistry) × (conn.new ≡ conn.old) }
     ensures told { (LacksMeta (state S.Store conn.old).now.schema → ⊥) → HasCleanDisk (state S.Store conn.new) → TellsVersion (state S.Store conn.old) (state S.Store conn.new) result }

@@ -2,13 +2,16 @@
 
 ghost use Rattle.sqlite.specs.Held.{state};
 ghost use Rattle.goo_store_open.specs.Reading.{OnlyReads};
-ghost use Rattle.goo_store_open.specs.Shown.{ShowsMembers, ShowsProduction, ShowsActs, ShowsNotices, ShowsAll};
+ghost use Rattle.goo_store_open.specs.Shown.{ShowsMembers, ShowsProduction, ShowsActs, ShowsNotices, ShowsCarriers, ShowsAll};
 
-use crate::rows::{Acts, AllRows, Members, Notices, Production};
+use crate::rows::{Acts, AllRows, Carriers, Members, Notices, Production};
 use goo_tables::cancellation::all_cancellations;
+use goo_tables::correction::all_corrections;
 use goo_tables::declaration::all_declarations;
 use goo_tables::device::all_devices;
+use goo_tables::device_carrier::all_device_carriers;
 use goo_tables::lot::all_lots;
+use goo_tables::lot_carrier::all_lot_carriers;
 use goo_tables::notice_in::all_notices_in;
 use goo_tables::notice_out::all_notices_out;
 use goo_tables::peer::all_peers;
@@ -31,13 +34,14 @@ fn read_members<S: Alter>(alloc: Global, conn: &mut Connection<S>) -> Result<Mem
     })
 }
 
-/// What was produced, and the certificates for it.
+/// What was produced, what was taken off it, and the certificates for it.
 fn read_production<S: Alter>(alloc: Global, conn: &mut Connection<S>) -> Result<Production, Error>
     ensures { OnlyReads (state S.Store conn.old) (state S.Store conn.new) result ShowsProduction }
 {
     Ok(Production {
         devices: all_devices(alloc, conn)?,
         declarations: all_declarations(alloc, conn)?,
+        corrections: all_corrections(alloc, conn)?,
         lots: all_lots(alloc, conn)?,
         pieces: all_pieces(alloc, conn)?,
     })
@@ -64,6 +68,16 @@ fn read_notices<S: Alter>(alloc: Global, conn: &mut Connection<S>) -> Result<Not
     })
 }
 
+/// The carriers that are not electricity.
+fn read_carriers<S: Alter>(alloc: Global, conn: &mut Connection<S>) -> Result<Carriers, Error>
+    ensures { OnlyReads (state S.Store conn.old) (state S.Store conn.new) result ShowsCarriers }
+{
+    Ok(Carriers {
+        devices: all_device_carriers(alloc, conn)?,
+        lots: all_lot_carriers(alloc, conn)?,
+    })
+}
+
 /// The rows of all tables but `meta`.
 ///
 /// # Errors
@@ -77,5 +91,6 @@ pub fn read_rows<S: Alter>(alloc: Global, conn: &mut Connection<S>) -> Result<Al
         production: read_production(alloc, conn)?,
         acts: read_acts(alloc, conn)?,
         notices: read_notices(alloc, conn)?,
+        carriers: read_carriers(alloc, conn)?,
     })
 }

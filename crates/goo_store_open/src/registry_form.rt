@@ -1,4 +1,4 @@
-//! The tables and indexes of a registry of version 1, in the order in which they are made.
+//! The tables and indexes of a registry of version 2, in the order in which they are made.
 
 use crate::forms::ColumnForm::{Bytes, MaybeText, Number, NumberKey, Text};
 use crate::forms::{IndexForm, TableForm};
@@ -195,8 +195,41 @@ const NOTICE_IN: TableForm = TableForm {
     columns: &[Number(b"sender"), Number(b"number"), Text(b"body")],
 };
 
+const CORRECTION: TableForm = TableForm {
+    name: b"correction",
+    tree: 22,
+    key: Some(0),
+    primary: &[0],
+    uniques: &[],
+    columns: &[
+        NumberKey(b"id"),
+        Text(b"device"),
+        Text(b"first_day"),
+        Number(b"less"),
+        Number(b"withdrawal"),
+    ],
+};
+
+const DEVICE_CARRIER: TableForm = TableForm {
+    name: b"device_carrier",
+    tree: 23,
+    key: None,
+    primary: &[1],
+    uniques: &[&[1]],
+    columns: &[Text(b"gsrn"), Text(b"carrier")],
+};
+
+const LOT_CARRIER: TableForm = TableForm {
+    name: b"lot_carrier",
+    tree: 25,
+    key: Some(0),
+    primary: &[0],
+    uniques: &[],
+    columns: &[NumberKey(b"lot"), Text(b"carrier")],
+};
+
 /// All tables.
-pub const TABLES: [TableForm; 13] = [
+pub const TABLES: [TableForm; 16] = [
     META,
     HOLDER,
     ACCOUNT,
@@ -210,10 +243,13 @@ pub const TABLES: [TableForm; 13] = [
     WITHDRAWAL,
     NOTICE_OUT,
     NOTICE_IN,
+    CORRECTION,
+    DEVICE_CARRIER,
+    LOT_CARRIER,
 ];
 
 /// All indexes: those of the keys, and two that find pieces.
-pub const INDEXES: [IndexForm; 9] = [
+pub const INDEXES: [IndexForm; 10] = [
     IndexForm {
         name: b"sqlite_autoindex_holder_1",
         tree: 2,
@@ -276,5 +312,12 @@ pub const INDEXES: [IndexForm; 9] = [
         table: 10,
         columns: &[4, 0],
         is_unique: false,
+    },
+    IndexForm {
+        name: b"sqlite_autoindex_device_carrier_1",
+        tree: 24,
+        table: 23,
+        columns: &[1],
+        is_unique: true,
     },
 ];

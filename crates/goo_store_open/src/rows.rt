@@ -2,10 +2,13 @@
 
 use goo_tables_rows::account::AccountRow;
 use goo_tables_rows::cancellation::CancellationRow;
+use goo_tables_rows::correction::CorrectionRow;
 use goo_tables_rows::declaration::DeclarationRow;
 use goo_tables_rows::device::DeviceRow;
+use goo_tables_rows::device_carrier::DeviceCarrierRow;
 use goo_tables_rows::holder::HolderRow;
 use goo_tables_rows::lot::LotRow;
+use goo_tables_rows::lot_carrier::LotCarrierRow;
 use goo_tables_rows::notice_in::NoticeInRow;
 use goo_tables_rows::notice_out::NoticeOutRow;
 use goo_tables_rows::peer::PeerRow;
@@ -21,11 +24,12 @@ pub struct Members {
     pub peers: Vec<PeerRow>,
 }
 
-/// What was produced, and the certificates for it.
+/// What was produced, what was taken off it, and the certificates for it.
 #[derive(Drop)]
 pub struct Production {
     pub devices: Vec<DeviceRow>,
     pub declarations: Vec<DeclarationRow>,
+    pub corrections: Vec<CorrectionRow>,
     pub lots: Vec<LotRow>,
     pub pieces: Vec<PieceRow>,
 }
@@ -45,6 +49,13 @@ pub struct Notices {
     pub came: Vec<NoticeInRow>,
 }
 
+/// The carriers of devices and of lots that have one other than electricity.
+#[derive(Drop)]
+pub struct Carriers {
+    pub devices: Vec<DeviceCarrierRow>,
+    pub lots: Vec<LotCarrierRow>,
+}
+
 /// The rows of all tables but `meta`.
 #[derive(Drop)]
 pub struct AllRows {
@@ -52,4 +63,5 @@ pub struct AllRows {
     pub production: Production,
     pub acts: Acts,
     pub notices: Notices,
+    pub carriers: Carriers,
 }

@@ -1,5 +1,5 @@
 -- The texts of commands and of notices are short, since each of their values is.
-use Rattle.std.proofs.Common.{◌≡◌, ℕ, ◌+◌, ◌*◌, ◌/◌, ◌%◌, ◌<◌, ◌≤◌, ◌^◌, List, [], ◌∷◌, ◌++◌, length, length-append, map, Bool, true, false, cond, nat_lt, Ok, Err, Result, Some, All, refl, ap, sym, true≢false, arith}
+use Rattle.std.proofs.Common.{◌≡◌, ℕ, ◌+◌, ◌*◌, ◌/◌, ◌%◌, ◌<◌, ◌≤◌, ◌^◌, List, [], ◌∷◌, ◌++◌, length, length-append, map, Bool, true, false, cond, nat_lt, Ok, Err, Result, Option, Some, None, All, refl, ap, sym, true≢false, arith}
 use Rattle.std.specs.Prelude.{decimal}
 use Rattle.std.specs.Char.{digit_char}
 use Rattle.std.proofs.lemmas.Fmt.{length-decimal-le}
@@ -9,16 +9,18 @@ use Rattle.serde_json.specs.Data.{Data, null, boolean, number, string, array, ob
 use Rattle.serde_json.specs.View.{items_of}
 use Rattle.serde_json.specs.Written.{number_text as text_of_number, compact_text, comma_if, items_text, members_text}
 use Rattle.goo_types.specs.Notice.{NoticeContents}
+use Rattle.goo_types.specs.Range.{Numbers}
 use Rattle.goo_types.specs.Support.{support_word}
 use Rattle.goo_types.specs.Texts.{number_text}
 use Rattle.goo_types.specs.declared.command.Command.{Command}
-use Rattle.goo_types.specs.declared.command.Command.TheVariants.{OpenHolder, OpenAccount, CloseAccount, RegisterDevice, Declare, Transfer, Cancel, Withdraw, Advance, AddPeer, Export, Import}
+use Rattle.goo_types.specs.declared.command.Command.TheVariants.{OpenHolder, OpenAccount, CloseAccount, RegisterDevice, Declare, Correct, Transfer, Cancel, Withdraw, Advance, AddPeer, Export, Import}
 use Rattle.goo_types.specs.declared.lot_fields.LotFields.{LotFields}
 use Rattle.goo_types.specs.declared.part.Part.{Part}
 use Rattle.goo_types.specs.declared.support.Support.{Support}
 use Rattle.goo_types.specs.declared.support.Support.TheVariants as support
 use Rattle.goo_types.proofs.DigitTextLemmas.{length-digits}
 use Rattle.goo_notice.specs.Command.{command_data, command_text, IsCommand}
+use Rattle.goo_notice.specs.Correct.{first_text, last_text}
 use Rattle.goo_notice.specs.Law.{command_in}
 use Rattle.goo_notice_json.specs.Lot.{lot_data, IsStatedLot}
 use Rattle.goo_notice_text.specs.Notice.{notice_data, notice_text, IsStatedNotice}
@@ -103,6 +105,14 @@ number_short : (n : ℕ) → length (number_text n) ≡ 14
 unfolding number_text
 number_short n = length-digits 14 n
 
+first_short : (range : Option Numbers) → length (first_text range) ≤ 14
+first_short None = omega arith
+first_short (Some r) = omega (arith, number_short r.first)
+
+last_short : (range : Option Numbers) → length (last_text range) ≤ 14
+last_short None = omega arith
+last_short (Some r) = omega (arith, number_short r.last)
+
 word_short : (s : Support) → length (support_word s) ≤ 10
 word_short support.None = omega arith
 word_short support.Investment = omega arith
@@ -162,6 +172,9 @@ command_most (Declare c) is =
     let gross = decimal_short c.gross (omega (arith, is.gross.1)) in
     let aux = decimal_short c.aux (omega (arith, is.aux.1)) in
     omega (arith, gsrn_short c.device (ap reads is.device), day_text_short c.first_day, day_text_short c.last_day, gross, aux)
+command_most (Correct c) is =
+    let less = decimal_short c.less (omega (arith, is.less.1)) in
+    omega (arith, gsrn_short c.device (ap reads is.device), first_short c.range, last_short c.range, day_text_short c.first_day, less, name_short c.reason (ap reads is.reason))
 command_most (Transfer c) is =
     let giver = decimal_short c.giver (omega (arith, is.giver.1)) in
     let taker = decimal_short c.taker (omega (arith, is.taker.1)) in

@@ -50,7 +50,7 @@ use Rattle.goo_store_plans.proofs.Gathering.{with_more, with_none}
 use Rattle.goo_store_plans.proofs.RoomChanges.{counters_room}
 use Rattle.goo_store_plans.proofs.SmallRows.{progressed_kept, small_declaration, small_lot}
 
-once_from : {X : Type 0} (xs : List X) → length xs ≤ 1 → IsOnce xs
+pub once_from : {X : Type 0} (xs : List X) → length xs ≤ 1 → IsOnce xs
 once_from [] few = inl refl
 once_from (x ∷ []) few = inr (x, refl)
 once_from (x ∷ y ∷ zs) few = absurd (omega (arith, few))

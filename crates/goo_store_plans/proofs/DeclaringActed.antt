@@ -159,12 +159,15 @@ module _ (t : Tables) (kept : AreKept t) (caller : List ℕ) (x : Declare) (devi
         withdrawals = kept.readable.withdrawals;
         notices_out = kept.readable.notices_out;
         notices_in = kept.readable.notices_in;
+        corrections = kept.readable.corrections;
+        device_carriers = kept.readable.device_carriers;
+        lot_carriers = kept.readable.lot_carriers;
       };
       have = of.have;
       rows = of.rows;
       lots = of.lots_kept;
       devices = λ q. subst (λ n. n ≤ 1) (sym (count_moved x.device last_day left q t.devices)) (kept.devices q);
-      progress = λ q. progress_after q ∙ progress_same (with_declaration s x) (with_issue s x) (ap (λ o. (issued_for s x o).declarations) (sym known)) q;
+      progress = λ q. progress_after q ∙ progress_same (with_declaration s x) (with_issue s x) (ap (λ o. (issued_for s x o).declarations) (sym known)) (ap (λ o. (issued_for s x o).corrections) (sym known)) q;
     }
 
     abbrev declared : Tables

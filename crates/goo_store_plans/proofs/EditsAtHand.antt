@@ -22,7 +22,7 @@ use Rattle.goo_spec_tables.specs.Places.{rows_of}
 use Rattle.goo_spec_tables.specs.States.{state_of}
 use Rattle.goo_store_changes.specs.Changes.{ChangeFits, made, made_all}
 use Rattle.goo_store_changes.specs.declared.change.TableChange.{TableChange}
-use Rattle.goo_store_changes.specs.declared.change.TableChange.TheVariants.{AddHolder, AddAccount, CloseAccount, AddDevice, AddDeclaration, SetProgress, AddLot, DeletePiece, InsertPiece, AddPeer, AddReceipt, AddCancellation, AddWithdrawal, AddNoticeOut, AddNoticeIn, SetToday, SetCounters}
+use Rattle.goo_store_changes.specs.declared.change.TableChange.TheVariants.{AddHolder, AddAccount, CloseAccount, AddDevice, AddDeclaration, SetProgress, AddLot, DeletePiece, InsertPiece, AddPeer, AddReceipt, AddCancellation, AddWithdrawal, AddCorrection, AddNoticeOut, AddNoticeIn, SetToday, SetCounters}
 use Rattle.goo_store_plans.specs.AtHand.{IsAtHand}
 use Rattle.goo_store_plans.specs.Carrying.{CarriesOut}
 use Rattle.goo_store_plans.specs.EditsTaken.{CanTakeEdits, HaveKeptNumbers, HaveKnownLots}
@@ -99,6 +99,7 @@ low_made t (AddPeer row) fits low = low
 low_made t (AddReceipt row) fits low = low
 low_made t (AddCancellation row) fits low = low
 low_made t (AddWithdrawal row) fits low = low
+low_made t (AddCorrection row) fits low = low
 low_made t (AddNoticeOut row) fits low = low
 low_made t (AddNoticeIn row) fits low = low
 low_made t (SetToday day) fits low = low

@@ -26,7 +26,7 @@ use Rattle.goo_spec.specs.Lots as lots_of
 use Rattle.goo_spec.specs.State.{text_cmp}
 use Rattle.goo_spec.proofs.Mapping.{inside}
 use Rattle.goo_tables_rows.specs.Rows as row
-use Rattle.goo_tables_rows.specs.Rows.{Lot, lot_key, lot_in, declaration_key}
+use Rattle.goo_tables_rows.specs.Rows.{Lot, lot_key, lot_in, declaration_key, correction_key}
 use Rattle.goo_tables_rows.specs.declared.lot.LotRow.{LotRow}
 use Rattle.goo_spec_tables.specs.Kept.{IsKeptLot}
 use Rattle.goo_spec_tables.specs.Places.{lot_of}
@@ -35,7 +35,7 @@ use Rattle.goo_spec_tables.specs.States.{known_lot}
 use Rattle.goo_spec_tables.proofs.Inserted.{map_inserted}
 use Rattle.goo_spec_tables.proofs.Known.{text_same, text_itself, lot_test, get-known}
 use Rattle.goo_store_plans.specs.LotNumbers.{IsNumberOf, IsKnownBy, AreJustWith}
-use Rattle.goo_store_plans.specs.LotRows.{next_lot, next_declaration, with_rows, is_among, AreGathered}
+use Rattle.goo_store_plans.specs.LotRows.{next_lot, next_declaration, next_correction, with_rows, is_among, AreGathered}
 use Rattle.goo_store_plans.specs.NewLots.{known_lots, IsNewLot, AreNewLots}
 use Rattle.goo_store_plans.specs.declared.lot_numbers.NumberedLot.{NumberedLot}
 use Rattle.goo_store_plans.proofs.CommandsActed.{texts_apart}
@@ -221,3 +221,10 @@ next_declaration_is ds = go (slice_get (reverse ds) 0) ∙ sym (last_next declar
     go : (o : Option row.Declaration) → pos (next_declaration o) ≡ last_or declaration_key (pos 1) o
     go None = refl
     go (Some d) = refl
+
+pub next_correction_is : (cs : List row.Correction) → pos (next_correction (slice_get (reverse cs) 0)) ≡ next_key correction_key cs
+next_correction_is cs = go (slice_get (reverse cs) 0) ∙ sym (last_next correction_key (pos 1) cs)
+  where
+    go : (o : Option row.Correction) → pos (next_correction o) ≡ last_or correction_key (pos 1) o
+    go None = refl
+    go (Some c) = refl

@@ -215,12 +215,15 @@ module _ (t : Tables) (kept : AreKept t) (caller : List ℕ) (x : Import) (whole
       withdrawals = kept.readable.withdrawals;
       notices_out = kept.readable.notices_out;
       notices_in = all_inserted kept_key is_notice_in placed (reads placed.0) t.notices_in kept.readable.notices_in;
+      corrections = kept.readable.corrections;
+      device_carriers = kept.readable.device_carriers;
+      lot_carriers = kept.readable.lot_carriers;
     };
     have = of.0.have;
     rows = of.0.rows;
     lots = of.0.lots_kept;
     devices = kept.devices;
-    progress = λ q. kept.progress q ∙ progress_same s (with_import s x) refl q;
+    progress = λ q. kept.progress q ∙ progress_same s (with_import s x) refl refl q;
   }
 
   -- the lots that weren't known, and the notice

@@ -15,6 +15,8 @@ pub mod BriefTexts
 pub mod SmallRows
 pub mod RoomChanges
 pub mod ProgressSet
+pub mod Lowered
+pub mod CorrectingActed
 pub mod DeclaringActed
 pub mod ImportingActed
 pub mod Carrying
@@ -26,11 +28,13 @@ pub mod Gathering
 pub mod PutIn
 pub mod ImportCarried
 pub mod DeclareCarried
+pub mod CorrectCarried
 pub mod Found
 pub mod Refusing
 pub mod Taking
 pub mod EditsAtHand
 pub mod NeedsNumbers
 pub mod NeedsDeclaring
+pub mod NeedsCorrecting
 pub mod NeedsReply
 pub mod Needs

@@ -12,7 +12,7 @@ use Rattle.goo_types.specs.Obeys.{Obeys}
 use Rattle.goo_types.specs.Piece.{Label, label_of, covers, at_of, IsRisingFrom}
 use Rattle.goo_types.specs.Range.{Numbers, IsRange}
 use Rattle.goo_types.specs.declared.command.Command.{Command}
-use Rattle.goo_types.specs.declared.command.Command.TheVariants.{OpenHolder, OpenAccount, CloseAccount, RegisterDevice, Declare, Transfer, Cancel, Withdraw, Advance, AddPeer, Export, Import}
+use Rattle.goo_types.specs.declared.command.Command.TheVariants.{OpenHolder, OpenAccount, CloseAccount, RegisterDevice, Declare, Correct, Transfer, Cancel, Withdraw, Advance, AddPeer, Export, Import}
 use Rattle.goo_types.specs.declared.lot_fields.LotFields.{LotFields}
 use Rattle.goo_types.specs.declared.part.Part.{Part}
 use Rattle.goo_types.specs.declared.piece.Piece.{Piece}
@@ -31,6 +31,7 @@ use Rattle.goo_spec.specs.CloseAccount.{close_account_reply}
 use Rattle.goo_spec.specs.RegisterDevice.{register_device_reply}
 use Rattle.goo_spec.specs.AddPeer.{add_peer_reply}
 use Rattle.goo_spec.specs.Advance.{advance_reply, expires}
+use Rattle.goo_spec.specs.Correct.{correct_checks, correct_refusal, correct_reply, count_in, numbers_in}
 use Rattle.goo_spec.specs.Declare.{declare_reply, with_declaration}
 use Rattle.goo_spec.specs.Transfer.{transfer_checks, transfer_refusal, transfer_reply}
 use Rattle.goo_spec.specs.Cancel.{cancel_checks, cancel_refusal, cancel_reply}
@@ -144,6 +145,11 @@ module _ (t : Tables) (kept : AreKept t) where
           let last = known_low range.last there in
           omega (arith, last)
 
+  -- so are those of a range that may be absent
+  range_counted_if_any : (f : ℕ → Refusal) (range : Option Numbers) → naming f (least_absent (get s.at) (numbers_in range)) ≡ None → count_in range < 2 ^ 63
+  range_counted_if_any f None none = omega arith
+  range_counted_if_any f (Some range) none = range_counted f range none
+
 -- a part has the numbers of one code at most
 part_counted : (r : Numbers) → IsRange r → count_of r ≤ serials
 part_counted r is = let code = is.one_code in let up = is.rising in omega (arith, code, up)
@@ -158,12 +164,13 @@ unfolding carry
 carry_kept s device = omega arith
 
 pub kept_numbers : (t : Tables) → AreKept t → (caller : List ℕ) (c : Command) → Obeys c → refusal (state_of t) caller c ≡ None → HasKeptNumbers (reply_to (state_of t) c)
-unfolding open_holder_reply open_account_reply close_account_reply register_device_reply add_peer_reply advance_reply declare_reply transfer_refusal transfer_reply cancel_refusal cancel_reply withdraw_refusal withdraw_reply export_refusal export_reply import_reply
+unfolding open_holder_reply open_account_reply close_account_reply register_device_reply add_peer_reply advance_reply declare_reply correct_refusal correct_reply transfer_refusal transfer_reply cancel_refusal cancel_reply withdraw_refusal withdraw_reply export_refusal export_reply import_reply
 kept_numbers t kept caller (OpenHolder x) obeys none = tt
 kept_numbers t kept caller (OpenAccount x) obeys none = tt
 kept_numbers t kept caller (CloseAccount x) obeys none = tt
 kept_numbers t kept caller (RegisterDevice x) obeys none = tt
 kept_numbers t kept caller (Declare x) obeys none = carry_kept (with_declaration (state_of t) x) x.device
+kept_numbers t kept caller (Correct x) obeys none = (omega arith, range_counted_if_any t kept _ x.range (none_fail (correct_checks (state_of t) caller x) none).1.1.1.1.0)
 kept_numbers t kept caller (Transfer x) obeys none = range_counted t kept _ x.range (none_fail (transfer_checks (state_of t) caller x) none).1.1.1.0
 kept_numbers t kept caller (Cancel x) obeys none = range_counted t kept _ x.range (none_fail (cancel_checks (state_of t) caller x) none).1.1.0
 kept_numbers t kept caller (Withdraw x) obeys none = range_counted t kept _ x.range (none_fail (withdraw_checks (state_of t) caller x) none).1.0

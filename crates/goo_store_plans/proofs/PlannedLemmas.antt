@@ -15,7 +15,7 @@ use Rattle.goo_types.specs.declared.outcome.Outcome.TheVariants.{Accepted, Repea
 use Rattle.goo_types.specs.declared.refusal.Refusal.TheVariants.{KeyReused}
 use Rattle.goo_types.specs.declared.reply.Reply.{Reply}
 use Rattle.goo_types.specs.declared.request.Request.{Request}
-use Rattle.goo_spec.specs.Energy.{carry, total}
+use Rattle.goo_spec.specs.Energy.{carry, remaining, lowered, total}
 use Rattle.goo_spec.specs.Sound.{IsSound}
 use Rattle.goo_spec.specs.State.{State, receipt_cmp}
 use Rattle.goo_spec.specs.Step.{accept, changed, keyed_outcome, is_kept}
@@ -123,7 +123,7 @@ module _ (t : Tables) (kept : AreKept t) (plan : Plan) (fits : Fits (state_of t)
       ∙ (λ i. record (acted.state (accept s q).at i) { receipts = insert s.receipts (q.caller, q.key) (Some q.command, sym (accepted_reply s q plan.reply fits.accepted) i) })
 
   progress_after : (gsrn : List ℕ) → progress_of (changed s q.command) gsrn ≡ progress_of (accept s q) gsrn
-  unfolding accept carry total
+  unfolding accept carry remaining lowered total
   progress_after gsrn = refl
 
   kept_after : AreKept t3
@@ -143,6 +143,9 @@ module _ (t : Tables) (kept : AreKept t) (plan : Plan) (fits : Fits (state_of t)
       withdrawals = acted.readable.withdrawals;
       notices_out = acted.readable.notices_out;
       notices_in = acted.readable.notices_in;
+      corrections = acted.readable.corrections;
+      device_carriers = acted.readable.device_carriers;
+      lot_carriers = acted.readable.lot_carriers;
     };
     lots_there = leave.good.have;
     rising = subst IsRising (sym rows_after) fits.turned.fits.disjoint;

@@ -12,7 +12,7 @@ use Rattle.goo_types.specs.Day.{CalendarDay, day_reading}
 use Rattle.goo_types.specs.Gsrn.{gsrn_reading}
 use Rattle.goo_types.specs.declared.command.Declare.{Declare}
 use Rattle.goo_spec.specs.Declare.{with_declaration, declared_by, last_end}
-use Rattle.goo_spec.specs.Energy.{carry, net, net_of, certificate}
+use Rattle.goo_spec.specs.Energy.{carry, remaining, lowered, net, net_of, certificate}
 use Rattle.goo_spec.specs.State.{State}
 use Rattle.goo_spec.proofs.Declaring.{total_with}
 use Rattle.goo_core_shelf.specs.Shelf.{progress_of}
@@ -123,11 +123,15 @@ module _ (s : State) (x : Declare) where
         carry = carry (with_declaration s x) x.device;
       }
 
+  lowered_after : (q : List ℕ) → lowered (with_declaration s x) q ≡ lowered s q
+  unfolding lowered with_declaration
+  lowered_after q = refl
+
   carry_there : (q : List ℕ) → str.bytes_eq x.device q ≡ false → carry (with_declaration s x) q ≡ carry s q
-  unfolding carry
+  unfolding carry remaining
   carry_there q other =
       ap (λ (n : ℕ). n % certificate)
-      (let t = total_with s x q in let z : net_of q x ≡ 0 = ap (λ b. cond b (net x) 0) other in omega (arith, t, z))
+      (let t = total_with s x q in let z : net_of q x ≡ 0 = ap (λ b. cond b (net x) 0) other in omega (arith, t, z, lowered_after q))
 
   pub progress_there : (q : List ℕ) → str.bytes_eq x.device q ≡ false → progress_of (with_declaration s x) q ≡ progress_of s q
   unfolding with_declaration

@@ -1,5 +1,5 @@
 -- What is looked up before a commit is refused only where the disk failed.
-use Rattle.std.proofs.Common.{◌≡◌, ◌≢◌, ◌≤◌, ◌<◌, ◌^◌, ◌+◌, ◌&&◌, ℕ, ℤ, pos, List, All, find, reverse, slice_get, inl, inr, Bool, IsTrue, IsSome, IsSomeAnd, IfSome, Option, Some, None, option_map, refl, sym, ap, subst, ◌∙◌, arith, true≢false, Ok, Err, Result, IfOk, IfErr, IsOkUnless}
+use Rattle.std.proofs.Common.{◌≡◌, ◌≢◌, ◌≤◌, ◌<◌, ◌^◌, ◌+◌, ◌&&◌, ℕ, ℤ, pos, List, All, find, reverse, slice_get, inl, inr, Bool, true, is_some, IsTrue, IsSome, IsSomeAnd, IfSome, Option, Some, None, option_map, refl, sym, ap, subst, ◌∙◌, arith, true≢false, Ok, Err, Result, IfOk, IfErr, IsOkUnless}
 use Rattle.std.specs.Cmp.Lexicographic.{nat_list_cmp_total}
 use Rattle.std.specs.FinMap.{get}
 use Rattle.std.specs.List.{Any}
@@ -11,27 +11,35 @@ use Rattle.sqlite.specs.declared.error.Error.{Error}
 use Rattle.sqlite.specs.declared.error.Error.TheVariants.{SqliteFailure}
 use Rattle.sqlite.specs.declared.error.ErrorCode.TheVariants.{OutOfMemory}
 use Rattle.sqlite_keyed.specs.Keyed.{next_key}
+use Rattle.sqlite_keyed.proofs.RuleLemmas.{first_of_both, second_of_both}
+use Rattle.sqlite_keyed.proofs.SliceLemmas.{is_some-map}
 use Rattle.sqlite_typed.specs.Tests.{bytes_eq}
 use Rattle.goo_types.specs.Day.{IsDay}
+use Rattle.goo_types.specs.Gsrn.{gsrn_reading}
 use Rattle.goo_types.specs.Texts.{day_text}
 use Rattle.goo_types.specs.declared.lot_fields.LotFields.{LotFields}
 use Rattle.goo_spec.specs.Lots.{key_of}
 use Rattle.goo_spec.specs.State.{text_cmp}
+use Rattle.goo_tables_rows.specs.declared.correction.CorrectionRow.{CorrectionRow}
 use Rattle.goo_tables_rows.specs.declared.declaration.DeclarationRow.{DeclarationRow}
+use Rattle.goo_tables_rows.specs.declared.device.DeviceRow.{DeviceRow}
 use Rattle.goo_tables_rows.specs.declared.lot.LotRow.{LotRow}
 use Rattle.goo_tables_rows.specs.Refused.{IsFault, FailsOnlyByFault}
-use Rattle.goo_tables_rows.specs.Rows.{Tables, Lot, declaration_in, lot_in, lot_key}
+use Rattle.goo_tables_rows.specs.Rows.{Tables, Device, Lot, correction_in, declaration_in, device_in, lot_in, lot_key}
 use Rattle.goo_tables_rows.specs.Stands.{Stands, Looks}
 use Rattle.goo_tables_rows.proofs.Results.{if_ok}
 use Rattle.goo_store_open.specs.Reading.{CanBeRead}
 use Rattle.goo_store_rules.proofs.CanBeRead.{kept_can_be_read}
+use Rattle.goo_spec_tables.specs.Devices.{progress_in}
 use Rattle.goo_spec_tables.specs.Kept.{AreKept}
 use Rattle.goo_spec_tables.specs.Places.{lot_of}
+use Rattle.goo_spec_tables.specs.Readable.{is_act, is_device, is_maybe_day, is_plant, reads}
 use Rattle.goo_spec_tables.specs.States.{known_lot}
+use Rattle.goo_spec_tables.specs.Texts.{day_of}
 use Rattle.goo_spec_tables.proofs.Known.{get-known, lot_test}
 use Rattle.goo_store_plans.specs.AtHand.{HasRoom}
 use Rattle.goo_store_plans.specs.LookingUp.{LooksUp, IsOurs}
-use Rattle.goo_store_plans.specs.LotRows.{next_declaration, next_lot}
+use Rattle.goo_store_plans.specs.LotRows.{next_correction, next_declaration, next_lot}
 use Rattle.goo_store_plans.specs.NewLots.{known_lots}
 use Rattle.goo_store_values.specs.Reading.{IsReadableLot}
 use Rattle.goo_store_plans.specs.StoreFaults.{BlamesDisk}
@@ -152,9 +160,24 @@ pub low_declaration : (found : Option DeclarationRow) → next_declaration (opti
 low_declaration None room = tt
 low_declaration (Some r) room = let least : r.id + 1 + 0 ≤ 2 ^ 63 = room in let low : r.id < 2 ^ 63 = omega (arith, least) in low
 
+pub low_correction : (found : Option CorrectionRow) → next_correction (option_map correction_in found) + 0 ≤ 2 ^ 63 → IfSome found (λ r. r.id < 2 ^ 63)
+low_correction None room = tt
+low_correction (Some r) room = let least : r.id + 1 + 0 ≤ 2 ^ 63 = room in let low : r.id < 2 ^ 63 = omega (arith, least) in low
+
 pub low_lot : (found : Option LotRow) → next_lot (option_map lot_in found) + 0 ≤ 2 ^ 63 → IfSome found (λ r. r.id < 2 ^ 63)
 low_lot None room = tt
 low_lot (Some r) room = let least : r.id + 1 + 0 ≤ 2 ^ 63 = room in let low : r.id < 2 ^ 63 = omega (arith, least) in low
+
+-- a row that is read has a last day that is, if it has one
+pub day_read : (d : Device) → is_device (pos 0, d) ≡ true → is_maybe_day d.last_day ≡ true
+day_read d read =
+    let plant = second_of_both (is_act d.account) _ (second_of_both (reads (gsrn_reading d.gsrn)) _ read) in
+    first_of_both (is_maybe_day d.last_day) _ (second_of_both (is_plant d.plant) _ plant)
+
+-- the row of a device that has an accepted period has its last day
+pub last_day_there : (P : DeviceRow → Type 0) (found : Option DeviceRow) → is_some (progress_in (option_map device_in found)).last_day ≡ true → IfSome found P → IsSomeAnd found (λ r. P r × IsSome (device_in r).last_day)
+last_day_there P None there each = absurd (true≢false (sym there))
+last_day_there P (Some r) there each = (each, sym (is_some-map day_of (device_in r).last_day) ∙ there)
 
 -- a lot that the registry knows is stated by the row that is found by its key
 states_so : (found : Option LotRow) (lot : LotFields) → option_map (λ l. lot_of l) (option_map lot_in found) ≡ Some lot → IfSome found (λ r. IsReadableLot (lot_in r)) → IsSomeAnd found (λ r. IsReadableLot (lot_in r) × (lot_of (lot_in r) ≡ lot))

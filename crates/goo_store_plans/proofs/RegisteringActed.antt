@@ -169,10 +169,13 @@ module _ (t : Tables) (kept : AreKept t) (x : RegisterDevice) (d : row.Device) (
           withdrawals = kept.readable.withdrawals;
           notices_out = kept.readable.notices_out;
           notices_in = kept.readable.notices_in;
+          corrections = kept.readable.corrections;
+          device_carriers = kept.readable.device_carriers;
+          lot_carriers = kept.readable.lot_carriers;
         };
         have = kept.lots_there;
         rows = refl;
         lots = kept.lots;
         devices = once;
-        progress = λ gsrn. progress_kept gsrn ∙ progress_same (state_of t) (with_device (state_of t) x) refl gsrn;
+        progress = λ gsrn. progress_kept gsrn ∙ progress_same (state_of t) (with_device (state_of t) x) refl refl gsrn;
       }

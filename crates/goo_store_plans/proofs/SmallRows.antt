@@ -14,10 +14,10 @@ use Rattle.goo_types.specs.declared.command.Command.{Command}
 use Rattle.goo_notice.specs.Law.{command_in}
 use Rattle.goo_notice_text.specs.NoticeText.{notice_in}
 use Rattle.goo_tables_rows.specs.Refused.{IsSmall, CanBeKept}
-use Rattle.goo_tables_rows.specs.Rows.{Kept, kept_key, Plant, Meta, meta_row, Holder, holder_row, Account, account_row, Device, device_row, Declaration, declaration_row, Lot, lot_row, Receipt, receipt_row, Cancellation, cancellation_row, Withdrawal, withdrawal_row, NoticeOut, notice_out_row, NoticeIn, notice_in_row}
+use Rattle.goo_tables_rows.specs.Rows.{Kept, kept_key, Plant, Meta, meta_row, Holder, holder_row, Account, account_row, Device, device_row, Declaration, declaration_row, Lot, lot_row, Receipt, receipt_row, Cancellation, cancellation_row, Withdrawal, withdrawal_row, Correction, correction_row, NoticeOut, notice_out_row, NoticeIn, notice_in_row}
 use Rattle.goo_tables_holdings.specs.Changes.{progressed}
 use Rattle.goo_spec_tables.specs.Kept.{IsKeptLot}
-use Rattle.goo_spec_tables.specs.Readable.{reads, is_between, is_code, is_act, are_ends, is_holder, is_account, is_plant, is_device, is_declaration, is_lot, is_receipt, is_cancellation, is_withdrawal, is_notice_of, is_notice_out, is_notice_in}
+use Rattle.goo_spec_tables.specs.Readable.{reads, is_between, is_code, is_act, are_ends, is_holder, is_account, is_plant, is_device, is_declaration, is_lot, is_receipt, is_cancellation, is_withdrawal, is_correction, is_notice_of, is_notice_out, is_notice_in}
 use Rattle.goo_spec_tables.specs.Texts.{day_of}
 use Rattle.goo_store_rules.proofs.CanBeRead.{each_with}
 use Rattle.goo_store_plans.proofs.BriefTexts.{body_brief, stored_brief}
@@ -120,6 +120,11 @@ small_withdrawal w read =
     let ends = second_of_both (is_act w.number) _ read in
     let name = second_of_both (are_ends w.first w.last) _ ends in
     omega (arith, name_short w.reason (first_of_both _ _ name), day_short w.day (second_of_both (reads (name_reading w.reason)) _ name))
+
+pub small_correction : (c : Correction) → is_correction c ≡ true → IsSmall (correction_row c)
+small_correction c read =
+    let first = second_of_both (reads (gsrn_reading c.device)) _ read in
+    omega (arith, gsrn_short c.device (first_of_both _ _ read), day_short c.first_day (first_of_both _ _ first))
 
 pub small_receipt : (k : Kept Receipt) (c : Command) → is_receipt k ≡ true → command_in k.1.command ≡ Some c → IsSmall (receipt_row k)
 small_receipt k c read states =

@@ -4,7 +4,7 @@ use Rattle.std.specs.List.{list_all}
 use Rattle.sqlite_typed.specs.Tests.{bytes_eq}
 use Rattle.sqlite_keyed.specs.Keyed.{get_by, has_key}
 use Rattle.goo_types.specs.declared.reply.Reply.{Reply}
-use Rattle.goo_types.specs.declared.reply.Reply.TheVariants.{Declared, Moved, Cancelled, Withdrawn, Advanced, Exported, Imported}
+use Rattle.goo_types.specs.declared.reply.Reply.TheVariants.{Declared, Corrected, Moved, Cancelled, Withdrawn, Advanced, Exported, Imported}
 use Rattle.goo_types.specs.declared.request.Request.{Request}
 use Rattle.goo_spec.specs.Lots.{Certificates}
 use Rattle.goo_spec.specs.State.{State}
@@ -40,6 +40,7 @@ pub record IsReceiptOf (q : Request) (reply : Reply) (r : row.Receipt) : Type 0 
 -- a receipt can keep the reply's numbers
 abbrev pub HasKeptNumbers : Reply → Type 0
 HasKeptNumbers (Declared carry issued) = carry ≤ 999999
+HasKeptNumbers (Corrected carry count withdrawal) = (carry ≤ 999999) × (count < 2 ^ 63)
 HasKeptNumbers (Moved count) = count < 2 ^ 63
 HasKeptNumbers (Cancelled cancellation count) = count < 2 ^ 63
 HasKeptNumbers (Withdrawn withdrawal count) = count < 2 ^ 63

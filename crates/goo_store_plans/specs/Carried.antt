@@ -3,9 +3,9 @@ use Rattle.std.specs.Prelude.{◌≡◌, ℕ, List, Option, None, IsSome, IsTrue
 use Rattle.sqlite_keyed.specs.Keyed.{IsKeyedBy}
 use Rattle.goo_types.specs.Notice.{NoticeContents}
 use Rattle.goo_types.specs.declared.command.Command.{Command}
-use Rattle.goo_types.specs.declared.command.Command.TheVariants.{OpenAccount, Declare, Cancel, Withdraw, Export, Import}
+use Rattle.goo_types.specs.declared.command.Command.TheVariants.{OpenAccount, Declare, Correct, Cancel, Withdraw, Export, Import}
 use Rattle.goo_spec.specs.Step.{refusal, changed}
-use Rattle.goo_tables_rows.specs.Rows.{Tables, kept_key, account_key, declaration_key, lot_key, piece_key, cancellation_key, withdrawal_key, notice_out_key}
+use Rattle.goo_tables_rows.specs.Rows.{Tables, kept_key, account_key, declaration_key, lot_key, piece_key, cancellation_key, withdrawal_key, notice_out_key, correction_key}
 use Rattle.goo_tables_rows.specs.declared.meta.MetaRow.{MetaRow}
 use Rattle.goo_tables_holdings.specs.declared.counters.CountersRow.{CountersRow}
 use Rattle.goo_spec_tables.specs.Kept.{AreKept}
@@ -30,6 +30,7 @@ pub record AreInOrder (t : Tables) : Type 0 where
   pub withdrawals : IsKeyedBy withdrawal_key t.withdrawals
   pub notices_out : IsKeyedBy notice_out_key t.notices_out
   pub notices_in : IsKeyedBy kept_key t.notices_in
+  pub corrections : IsKeyedBy correction_key t.corrections
 
 -- they can be made in turn, each where it is free and has room, they change what the command does, and they put no lot in
 pub record Carry (t : Tables) (command : Command) (changes : List TableChange) : Type 0 where
@@ -68,5 +69,6 @@ IsPlain (Cancel x) = ⊥
 IsPlain (Withdraw x) = ⊥
 IsPlain (Export x) = ⊥
 IsPlain (Declare x) = ⊥
+IsPlain (Correct x) = ⊥
 IsPlain (Import x) = ⊥
 IsPlain _ = Unit {0}

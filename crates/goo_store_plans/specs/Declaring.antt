@@ -1,8 +1,6 @@
 -- The changes that a declaration takes.
-use Rattle.std.specs.Prelude.{◌≡◌, ℕ, ◌+◌, ◌-◌, ◌<◌, ◌^◌, true, All, IsTrue, List, [], ◌∷◌, filter, string_bytes, Option, Some, None}
+use Rattle.std.specs.Prelude.{◌≡◌, ℕ, ◌+◌, ◌-◌, ◌<◌, ◌^◌, true, IsTrue, [], ◌∷◌, string_bytes, Option, Some, None}
 use Rattle.sqlite_keyed.specs.Keyed.{IsKeyedBy}
-use Rattle.sqlite_typed.specs.Tests.{bytes_eq}
-use Rattle.goo_types.specs.Day.{day_reading}
 use Rattle.goo_types.specs.Lot.{IsLot}
 use Rattle.goo_types.specs.Range.{Numbers}
 use Rattle.goo_types.specs.declared.command.Command.TheVariants as command
@@ -13,36 +11,23 @@ use Rattle.goo_types.specs.declared.reply.Reply.TheVariants.{Declared}
 use Rattle.goo_types.specs.declared.request.Request.{Request}
 use Rattle.goo_spec.specs.Declare.{lot_of, lot_on}
 use Rattle.goo_spec.specs.State.{State, Device}
-use Rattle.goo_tables_rows.specs.Once.{IsOnce}
-use Rattle.goo_tables_rows.specs.Refused.{CanBeKept}
-use Rattle.goo_tables_rows.specs.Rows.{Tables, declaration_in, declaration_key, device_row, lot_key, meta_in}
+use Rattle.goo_tables_rows.specs.Rows.{Tables, declaration_in, declaration_key, lot_key, meta_in}
 use Rattle.goo_tables_rows.specs.declared.declaration.DeclarationRow.{DeclarationRow}
 use Rattle.goo_tables_rows.specs.declared.meta.MetaRow.{MetaRow}
-use Rattle.goo_tables_holdings.specs.Changes.{progressed, with_progress}
 use Rattle.goo_spec_tables.specs.Devices.{declaration_of}
-use Rattle.goo_spec_tables.specs.Readable.{is_declaration, is_meta, reads}
+use Rattle.goo_spec_tables.specs.Readable.{is_declaration, is_meta}
 use Rattle.goo_spec_tables.specs.Texts.{day_of}
 use Rattle.goo_store_plans.specs.AtHand.{HasStanding}
 use Rattle.goo_store_plans.specs.Carrying.{IsAccepted}
-use Rattle.goo_store_changes.specs.Changes.{made, IsFor, IsFree, HasRoom}
 use Rattle.goo_store_plans.specs.Found.{IsDeviceOf}
 use Rattle.goo_store_plans.specs.GatheredLots.{AddsLot}
+use Rattle.goo_store_plans.specs.Progressing.{SetsProgress}
 use Rattle.goo_store_plans.specs.Standing.{IsStanding}
 use Rattle.goo_store_changes.specs.declared.change.TableChange.{TableChange}
 use Rattle.goo_store_changes.specs.declared.change.TableChange.TheVariants.{AddDeclaration}
 use Rattle.goo_store_plans.specs.declared.findings.KnownDevice.{KnownDevice}
 use Rattle.goo_store_plans.specs.declared.gathered_lots.Gathered.{Gathered}
 use Rattle.goo_store_plans.specs.declared.standing.DeclarationBasis.{DeclarationBasis}
-
--- the change sets the last day of the declared period and the carry, in the one row of the device
-pub record SetsProgress (x : Declare) (carry : ℕ) (c : TableChange) : Type 0 where
-  pub last_day : List ℕ
-  pub made_is : (t : Tables) → made t c ≡ with_progress t x.device last_day carry
-  pub for : (t : Tables) → IsOnce (filter (λ k. bytes_eq k.1.gsrn x.device) t.devices) → IsFor t c
-  pub free : (t : Tables) → IsOnce (filter (λ k. bytes_eq k.1.gsrn x.device) t.devices) → IsFree t c
-  pub room : (t : Tables) → All (λ k. CanBeKept (device_row (progressed last_day carry k))) t.devices → HasRoom t c
-  pub ends : day_of last_day ≡ x.last_day
-  pub ends_read : reads (day_reading last_day) ≡ true
 
 -- the declaration is put in, and the device's progress is set
 pub record Begins (x : Declare) (carry : ℕ) (found : DeclarationBasis) (g : Gathered) : Type 0 where
@@ -54,7 +39,7 @@ pub record Begins (x : Declare) (carry : ℕ) (found : DeclarationBasis) (g : Ga
   pub id : row.id ≡ found.number
   pub states : declaration_of (declaration_in row) ≡ x
   pub reads_row : is_declaration (declaration_in row) ≡ true
-  pub sets : SetsProgress x carry progress
+  pub sets : SetsProgress x.device x.last_day carry progress
 
 -- a lot is put in where certificates are issued, and they are counted
 abbrev pub Issues : MetaRow → Declare → DeclarationBasis → Option Numbers → Gathered → Gathered → ℕ → Type 0

@@ -13,8 +13,10 @@ pub mod LotRows
 pub mod GatheredLots
 pub mod Carrying
 pub mod Standing
+pub mod Progressing
 pub mod Declaring
 pub mod AtHand
+pub mod Correcting
 pub mod StoreFaults
 pub mod Needing
 pub mod EditsTaken

@@ -25,6 +25,10 @@ abbrev pub next_declaration : Option row.Declaration → ℕ
 next_declaration None = 1
 next_declaration (Some d) = d.id + 1
 
+abbrev pub next_correction : Option row.Correction → ℕ
+next_correction None = 1
+next_correction (Some c) = c.id + 1
+
 -- the row has the number and states the lot
 pub record HasNumber (l : Lot) (x : NumberedLot) : Type 0 where
   pub number : l.id ≡ x.number

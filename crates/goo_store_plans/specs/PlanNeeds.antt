@@ -1,11 +1,11 @@
 -- What the changes of a plan need of the tables.
 use Rattle.std.specs.Prelude.{length, Option}
 use Rattle.goo_types.specs.declared.command.Command.{Command}
-use Rattle.goo_types.specs.declared.command.Command.TheVariants.{OpenAccount, Declare, Cancel, Withdraw, Export, Import}
+use Rattle.goo_types.specs.declared.command.Command.TheVariants.{OpenAccount, Declare, Correct, Cancel, Withdraw, Export, Import}
 use Rattle.goo_spec.specs.Step.{accept}
 use Rattle.goo_core_shelf.specs.Plan.{Fits}
 use Rattle.goo_core_shelf.specs.declared.plan.Plan.{Plan}
-use Rattle.goo_tables_rows.specs.Rows.{Tables, declaration_key, lot_key}
+use Rattle.goo_tables_rows.specs.Rows.{Tables, declaration_key, lot_key, correction_key}
 use Rattle.goo_tables_rows.specs.declared.meta.MetaRow.{MetaRow}
 use Rattle.goo_spec_tables.specs.Places.{rows_of}
 use Rattle.goo_spec_tables.specs.States.{state_of}
@@ -22,14 +22,17 @@ abbrev pub CanGo : Tables → Option MetaRow → Option KnownDevice → Plan →
 CanGo t own kept plan (Import x) = HasRoom (length x.notice.parts) lot_key t.lots
 CanGo t own kept plan (OpenAccount x) = CanGoByRow t own kept plan
 CanGo t own kept plan (Declare x) = CanGoByRow t own kept plan
+CanGo t own kept plan (Correct x) = CanGoByRow t own kept plan
 CanGo t own kept plan (Cancel x) = CanGoByRow t own kept plan
 CanGo t own kept plan (Withdraw x) = CanGoByRow t own kept plan
 CanGo t own kept plan (Export x) = CanGoByRow t own kept plan
 CanGo t own kept plan _ = Unit {0}
 
--- what the command puts in under a number gets one that a column keeps: a declaration and its lot, and the lots of an import's parts
+-- what the command puts in under a number gets one that a column keeps: a declaration and its lot, a correction,
+-- and the lots of an import's parts
 abbrev pub HasRoomFor : Tables → Command → Type 0
 HasRoomFor t (Declare x) = HasRoom 1 declaration_key t.declarations × HasRoom 1 lot_key t.lots
+HasRoomFor t (Correct x) = HasRoom 1 correction_key t.corrections
 HasRoomFor t (Import x) = HasRoom (length x.notice.parts) lot_key t.lots
 HasRoomFor t _ = Unit {0}
 

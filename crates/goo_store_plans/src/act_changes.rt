@@ -7,7 +7,8 @@ ghost use Rattle.goo_tables_rows.specs.Rows.{Tables, meta_in};
 ghost use Rattle.goo_spec_tables.specs.Readable.{is_act, is_meta};
 ghost use Rattle.goo_spec_tables.specs.States.{state_of};
 ghost use Rattle.goo_store_plans.specs.Carried.{Does};
-ghost use Rattle.goo_store_changes.specs.Changes.{ChangeFits};
+ghost use Rattle.goo_store_plans.specs.Correcting.{LeavesThese};
+ghost use Rattle.goo_store_changes.specs.Changes.{made_all, ChangeFits};
 ghost use Rattle.goo_store_values.specs.declared.trouble.Trouble.TheVariants.{Memory};
 
 use crate::new_notices::notice_out_row;
@@ -48,6 +49,7 @@ pub fn withdraw(
     accepted: &Withdraw,
 ) -> Result<Vec<TableChange>, Trouble>
     ensures does { IfOk result (λ changes. (t : Tables) → t.meta ≡ meta_in meta.now → Does t (command.Withdraw accepted.now) changes.items) }
+    ensures these { IfOk result (λ changes. (t : Tables) → LeavesThese t (made_all t changes.items)) }
     ensures fits { IfOk result (λ changes. All ChangeFits changes.items) }
     ensures memory { IsTrue (is_meta (meta_in meta.now)) → IsTrue (is_act meta.now.next_withdrawal) → IsOkUnless result Memory }
 {

@@ -44,6 +44,7 @@ pub fn plain_changes(alloc: Global, plan: &Plan) -> Result<Vec<TableChange>, Tro
         | Command::Withdraw(_)
         | Command::Export(_)
         | Command::Declare(_)
+        | Command::Correct(_)
         | Command::Import(_) => Err(Trouble::Refused),
     }
 }
@@ -71,6 +72,7 @@ pub fn numbered_changes(
         | Command::CloseAccount(_)
         | Command::RegisterDevice(_)
         | Command::Declare(_)
+        | Command::Correct(_)
         | Command::Transfer(_)
         | Command::Advance(_)
         | Command::AddPeer(_)

@@ -3,12 +3,15 @@
 
 mod act_changes;
 mod command_changes;
+mod correction_basis;
+mod device_progress;
 mod edit_changes;
 pub mod findings;
 mod gathered_lots;
 mod importing;
 pub mod lot_numbers;
 mod member_changes;
+mod new_corrections;
 mod new_declarations;
 mod new_devices;
 mod new_lots;

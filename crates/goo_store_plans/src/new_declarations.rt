@@ -15,12 +15,13 @@ ghost use Rattle.goo_spec_tables.specs.Readable.{is_declaration, is_meta};
 ghost use Rattle.goo_spec_tables.specs.Texts.{day_of};
 ghost use Rattle.goo_store_plans.specs.Carrying.{CarriesOut, IsAccepted};
 ghost use Rattle.goo_store_changes.specs.Changes.{ChangeFits};
-ghost use Rattle.goo_store_plans.specs.Declaring.{Begins, CanBeDeclared, IsDue, IsWithinLimits, Issues, SetsProgress, count_of, lot_stated};
+ghost use Rattle.goo_store_plans.specs.Declaring.{Begins, CanBeDeclared, IsDue, IsWithinLimits, Issues, count_of, lot_stated};
 ghost use Rattle.goo_store_plans.specs.Found.{IsDeviceOf};
 ghost use Rattle.goo_store_plans.specs.LookingUp.{LooksUp};
 ghost use Rattle.goo_store_plans.specs.StoreFaults.{BlamesDisk};
 ghost use Rattle.goo_store_values.specs.declared.trouble.Trouble.TheVariants.{Memory};
 
+use crate::device_progress::progress_change;
 use crate::findings::KnownDevice;
 use crate::gathered_lots::{Gathered, add_lot};
 use crate::new_rows::day_string;
@@ -74,24 +75,6 @@ fn issued_lot(meta: &MetaRow, declared: &Declare, device: &Device) -> Result<Lot
     Lot::new(fields).ok_or(Trouble::Refused)
 }
 
-/// The change that sets the last day of the declared period, and the carry in Wh.
-fn progress_change(alloc: Global, declared: &Declare, carry: u64) -> Result<TableChange, Trouble>
-    ensures sets { IfOk result (SetsProgress declared.now carry) }
-    ensures fits { IfOk result ChangeFits }
-    ensures memory { carry < 2 ^ 63 → IsOkUnless result Memory }
-{
-    if carry >= 1 << 63 {
-        return Err(Trouble::Refused);
-    }
-    let device = String::from_str(alloc, declared.device.text())?;
-    let last_day = day_string(alloc, declared.last_day)?;
-    Ok(TableChange::SetProgress {
-        device,
-        last_day,
-        carry,
-    })
-}
-
 /// The declaration and the device's progress.
 fn begin(
     alloc: Global,
@@ -104,7 +87,7 @@ fn begin(
     ensures memory { standing.now.number < 2 ^ 63 → carry < 2 ^ 63 → IsOkUnless result Memory }
 {
     let row = declaration_row(alloc, declared, standing.number)?;
-    let progress = progress_change(alloc, declared, carry)?;
+    let progress = progress_change(alloc, &declared.device, declared.last_day, carry)?;
     let mut changes = Vec::new(alloc);
     changes.push(TableChange::AddDeclaration(row))?;
     changes.push(progress)?;

@@ -1,6 +1,7 @@
 //! The receipts that accepted requests leave.
 
-ghost use Rattle.std.specs.Prelude.{◌≡◌, ◌<◌, ◌^◌, true, nat_lt, pos, Some, is_ok, IfOk, IsOk, IsOkUnless};
+ghost use Rattle.std.specs.Prelude.{◌≡◌, ◌<◌, ◌≤◌, ◌^◌, true, nat_le, nat_lt, pos, Some, is_ok, IfOk, IsOk, IsOkUnless};
+ghost use Rattle.goo_types.specs.declared.reply.Reply.TheVariants.{Corrected};
 ghost use Rattle.goo_tables_rows.specs.Rows.{receipt_in};
 ghost use Rattle.goo_tables_holdings.specs.Changes.{ReceiptFits};
 ghost use Rattle.goo_store_plans.specs.Acted.{HasKeptNumbers, IsReceiptOf};
@@ -8,9 +9,11 @@ ghost use Rattle.goo_store_values.specs.declared.trouble.Trouble.TheVariants.{Me
 ghost use Rattle.goo_spec_tables.specs.Readable.{is_reply};
 ghost use Rattle.goo_spec_tables.specs.Replies.{reply_of};
 
+use crate::new_rows::act_or_zero;
 use goo_notice::command_text;
 use goo_store_values::trouble::Trouble;
 use goo_tables_rows::receipt::ReceiptRow;
+use goo_types::act_no::ActNo;
 use goo_types::reply::Reply;
 use goo_types::request::Request;
 use std::alloc::Global;
@@ -37,6 +40,18 @@ fn kept(number: u64) -> Result<u64, Trouble>
     }
 }
 
+/// What a device carries, which is less than a certificate.
+fn kept_carry(carry: u64) -> Result<u64, Trouble>
+    ensures value { IfOk result (λ n. n ≡ carry) }
+    ensures fits { IfOk result (λ n. n ≤ 999_999) }
+    ensures accepts { is_ok result ≡ nat_le carry 999_999 }
+{
+    if carry > 999_999 {
+        return Err(Trouble::Refused);
+    }
+    Ok(carry)
+}
+
 /// A reply with two numbers at most.
 fn columns(kind: u32, n1: u64, n2: u64) -> ReplyColumns
     ensures { result ≡ record { kind = kind; n1 = n1; n2 = n2; n3 = 0 } }
@@ -47,6 +62,25 @@ fn columns(kind: u32, n1: u64, n2: u64) -> ReplyColumns
         n2,
         n3: 0,
     }
+}
+
+/// The columns of a correction's reply.
+fn corrected_columns(
+    carry: u64,
+    count: u64,
+    withdrawal: Option<ActNo>,
+) -> Result<ReplyColumns, Trouble>
+    ensures states { IfOk result (λ c. reply_of c.kind c.n1 c.n2 c.n3 ≡ Corrected carry count withdrawal) }
+    ensures reads { IfOk result (λ c. is_reply c.kind c.n1 c.n2 c.n3 ≡ true) }
+    ensures fits { IfOk result (λ c. (c.n1 < 2 ^ 63) × (c.n2 < 2 ^ 63) × (c.n3 < 2 ^ 63)) }
+    ensures accepts { HasKeptNumbers (Corrected carry count withdrawal) → IsOk result }
+{
+    Ok(ReplyColumns {
+        kind: 10,
+        n1: kept_carry(carry)?,
+        n2: kept(count)?,
+        n3: u64::from(act_or_zero(withdrawal)),
+    })
 }
 
 /// The kind of a reply, and its numbers.
@@ -60,20 +94,22 @@ fn reply_columns(reply: Reply) -> Result<ReplyColumns, Trouble>
         Reply::Done => Ok(columns(1, 0, 0)),
         Reply::Account { account } => Ok(columns(2, u64::from(account.get()), 0)),
         Reply::Declared { carry, issued } => {
-            if carry > 999_999 {
-                return Err(Trouble::Refused);
-            }
             let (first, last) = match issued {
                 Some(range) => (range.first().get(), range.last().get()),
                 None => (0, 0),
             };
             Ok(ReplyColumns {
                 kind: 3,
-                n1: carry,
+                n1: kept_carry(carry)?,
                 n2: first,
                 n3: last,
             })
         }
+        Reply::Corrected {
+            carry,
+            count,
+            withdrawal,
+        } => corrected_columns(carry, count, withdrawal),
         Reply::Moved { count } => Ok(columns(4, kept(count)?, 0)),
         Reply::Cancelled {
             cancellation,

@@ -1,10 +1,11 @@
 //! The rows that accepted commands leave.
 
-ghost use Rattle.std.specs.Prelude.{◌≡◌, true, false, pos, string_bytes, IfOk};
+ghost use Rattle.std.specs.Prelude.{◌≡◌, ◌≤◌, true, false, pos, string_bytes, IfOk};
 ghost use Rattle.goo_types.specs.Day.{day_reading};
 ghost use Rattle.goo_core_shelf.specs.Shelf.{cancellation_on};
 ghost use Rattle.goo_tables_rows.specs.Rows.{account_in, cancellation_in, holder_in, withdrawal_in};
-ghost use Rattle.goo_spec_tables.specs.Readable.{is_account, is_cancellation, is_holder, is_peer, is_withdrawal, reads};
+ghost use Rattle.goo_spec_tables.specs.Records.{act_or_none};
+ghost use Rattle.goo_spec_tables.specs.Readable.{is_account, is_cancellation, is_holder, is_maybe_act, is_peer, is_withdrawal, reads};
 ghost use Rattle.goo_spec_tables.specs.States.{known_account, known_cancellation, known_holder, known_peer, known_withdrawal};
 ghost use Rattle.goo_spec_tables.specs.Texts.{day_of};
 
@@ -26,6 +27,18 @@ pub fn day_string(alloc: Global, day: Day) -> Result<String, AllocError>
     ensures reads { IfOk result (λ text. reads (day_reading (string_bytes text)) ≡ true) }
 {
     String::from_str(alloc, day.text().as_str())
+}
+
+/// The number of an act, 0 for none.
+pub fn act_or_zero(act: Option<ActNo>) -> u32
+    ensures value { act_or_none result ≡ act }
+    ensures reads { is_maybe_act result ≡ true }
+    ensures limit { result ≤ 999_999_999 }
+{
+    match act {
+        Some(act) => act.get(),
+        None => 0,
+    }
 }
 
 /// The row of a new holder.

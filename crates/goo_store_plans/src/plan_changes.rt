@@ -15,6 +15,7 @@ ghost use Rattle.goo_store_plans.specs.Acted.{HasKeptNumbers};
 ghost use Rattle.goo_store_plans.specs.Carried.{AreInOrder, CanTakeNumber, IsPlain};
 ghost use Rattle.goo_store_plans.specs.Carrying.{CarriesOut, IsAccepted};
 ghost use Rattle.goo_store_changes.specs.Changes.{made_all, ChangeFits};
+ghost use Rattle.goo_store_plans.specs.Correcting.{CanAnswerCorrection};
 ghost use Rattle.goo_store_plans.specs.Declaring.{CanBeAnswered};
 ghost use Rattle.goo_store_plans.specs.EditChanges.{AreForEdits};
 ghost use Rattle.goo_store_plans.specs.LookingUp.{LooksUp};
@@ -31,6 +32,7 @@ use crate::findings::{Findings, KnownDevice};
 use crate::gathered_lots::Gathered;
 use crate::importing::import_changes;
 use crate::lot_numbers::NumberedLot;
+use crate::new_corrections::correct_changes;
 use crate::new_declarations::declare_changes;
 use crate::new_receipts::receipt_row;
 use crate::registry_row::known_row;
@@ -38,7 +40,7 @@ use goo_core_shelf::plan::Plan;
 use goo_store_changes::change::TableChange;
 use goo_store_values::trouble::Trouble;
 use goo_tables_rows::meta::MetaRow;
-use goo_types::command::{Command, Declare};
+use goo_types::command::{Command, Correct, Declare};
 use goo_types::reply::Reply;
 use sqlite::{Alter, Connection};
 use std::alloc::Global;
@@ -98,6 +100,32 @@ fn declaration<S: Alter>(
     }
 }
 
+/// The changes of an accepted correction, by the reply that it gets.
+fn correction<S: Alter>(
+    alloc: Global,
+    conn: &mut Connection<S>,
+    meta: &MetaRow,
+    accepted: &Correct,
+    reply: Reply,
+) -> Result<Gathered, Trouble>
+    ensures looks { LooksUp (state S.Store conn.old) (state S.Store conn.new) result (λ t gathered. (q : Request) → q.command ≡ Command.Correct accepted.now → t.meta ≡ meta_in meta.now → AreInOrder t → IsAccepted t q reply → CarriesOut t q.command gathered) }
+    ensures fits { IfOk result (λ gathered. All ChangeFits gathered.changes.items) }
+    ensures blames { BlamesDisk (state S.Store conn.old) (state S.Store conn.new) result (λ t. CanAnswerCorrection t meta.now accepted.now reply) }
+    ensures outside { conn.old.in_transaction ≡ false → conn.new.in_transaction ≡ false }
+{
+    match reply {
+        Reply::Corrected {
+            carry,
+            count: _,
+            withdrawal,
+        } => {
+            let changes = correct_changes(alloc, conn, meta, accepted, carry, withdrawal)?;
+            Ok(without_lots(alloc, changes))
+        }
+        _ => Err(Trouble::Refused),
+    }
+}
+
 /// The changes of an accepted command that needs the registry's row.
 fn by_own_row<S: Alter>(
     alloc: Global,
@@ -116,6 +144,7 @@ fn by_own_row<S: Alter>(
         Command::Declare(command) => {
             declaration(alloc, conn, &meta, device, command, plan.reply)
         }
+        Command::Correct(command) => correction(alloc, conn, &meta, command, plan.reply),
         _ => numbered(alloc, &meta, plan),
     }
 }
@@ -139,6 +168,7 @@ fn command_changes<S: Alter>(
         Command::Import(command) => import_changes(alloc, conn, lots, command),
         Command::OpenAccount(_)
         | Command::Declare(_)
+        | Command::Correct(_)
         | Command::Cancel(_)
         | Command::Withdraw(_)
         | Command::Export(_) => by_own_row(alloc, conn, own, device, plan),

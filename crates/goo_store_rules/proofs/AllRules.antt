@@ -15,9 +15,9 @@ use Rattle.goo_store_rules.proofs.KeptCertificates.{HasItsCertificates}
 use Rattle.goo_store_rules.proofs.PiecesJudged.{each_found, kept_by_rules, rules_by_kept}
 use Rattle.goo_store_rules.proofs.KeptKeys.{AreKnownRows, rows_are_known, own_periods}
 use Rattle.goo_store_rules.proofs.KeptByName.{kept_by_name, keeps_by_name}
-use Rattle.goo_store_rules.proofs.Judged.{KeepsPieces, judged, numbers_are, names_are}
+use Rattle.goo_store_rules.proofs.Judged.{KeepsPieces, judged, numbers_are, names_are, declarations_are}
 use Rattle.goo_store_rules.proofs.Whole.{sound_whole, kept_by_name_of}
-use Rattle.goo_store_rules.proofs.ProductionKept.{production_rises, production_issued, production_progress, production_back}
+use Rattle.goo_store_rules.proofs.ProductionKept.{production_rises, production_covered, production_issued, production_progress, production_back}
 
 has_its : (t : Tables) → HasItsCertificates t
 unfolding state_of
@@ -27,10 +27,10 @@ module _ (db : _) (t : Tables) (x : Found) (stands : Stands db t) (ours : HasOur
   known_rows : AreReadable t → AreKnownRows t
   known_rows read = rows_are_known db t ours stands read.lots (own_periods db t ours stands)
 
-  all_kept : t.meta.version ≡ 1 → KeepsRules x → AreKept t
+  all_kept : t.meta.version ≡ 2 → KeepsRules x → AreKept t
   all_kept version keeps =
       let parts = judged x keeps.values.numbers keeps.names.names keeps.names.declared in
-      let named = kept_by_name db t x ours stands of version (record { values = keeps.values.values; notices = keeps.names.notices; lots = keeps.values.lots; names = parts.0 }) in
+      let named = kept_by_name db t x ours stands of version (record { values = keeps.values.values; corrections = keeps.values.corrections; notices = keeps.names.notices; lots = keeps.values.lots; names = parts.0 }) in
       let pieces = kept_by_rules t x of db stands (record { readable = named.readable; kept = λ id l found. named.lots (pos id) l found; certificates = has_its t })
       (each_found _ t.lots (known_rows named.readable).lots) keeps.values.numbers keeps.names.names keeps.names.places in
       record {
@@ -45,6 +45,7 @@ module _ (db : _) (t : Tables) (x : Found) (stands : Stands db t) (ours : HasOur
           places = pieces.places;
           times = pieces.times;
           periods = production_rises t x of keeps.production;
+          covered = production_covered t x of keeps.production;
           issued_when_due = production_issued t x of keeps.production pieces.rising;
         });
       }
@@ -55,9 +56,9 @@ module _ (db : _) (t : Tables) (x : Found) (stands : Stands db t) (ours : HasOur
       let pieces = rules_by_kept t x of db stands (has_its t) kept in
       let judged_so : KeepsPieces x = record { apart = pieces.apart; issued = pieces.issued; accounts = pieces.accounts } in
       record {
-        values = record { values = named.values; numbers = numbers_are x named.names judged_so; lots = named.lots };
-        names = record { names = names_are x named.names judged_so; places = pieces.places; notices = named.notices; declared = named.names.own_lots };
-        production = production_back t x of kept.sound.declarations.rising kept.devices kept.progress kept.rising kept.sound.issued_when_due;
+        values = record { values = named.values; corrections = named.corrections; numbers = numbers_are x named.names judged_so; lots = named.lots };
+        names = record { names = names_are x named.names judged_so; places = pieces.places; notices = named.notices; declared = declarations_are x named.names judged_so };
+        production = production_back t x of kept.sound.declarations.rising kept.sound.corrections.net kept.devices kept.progress kept.rising kept.sound.issued_when_due;
       }
 
 pub rules_are_those : RulesAreThose

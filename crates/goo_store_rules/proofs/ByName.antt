@@ -8,7 +8,8 @@ use Rattle.std.proofs.lemmas.Bool.{not-true, not_from_false, ltb-true, lt-ltb, e
 use Rattle.goo_types.specs.declared.command.Declare.{Declare}
 use Rattle.goo_types.specs.declared.lot_fields.LotFields.{LotFields}
 use Rattle.goo_spec.specs.Lots.{key_of}
-use Rattle.goo_spec.specs.Sound.{AreLots, AreRecordsThere, AreHeld, AreRegistered, AreBelow, declares}
+use Rattle.goo_spec.specs.Energy.{corrects}
+use Rattle.goo_spec.specs.Sound.{AreLots, AreRecordsThere, AreHeld, AreRegistered, AreBelow, declares, is_withdrawal_there}
 use Rattle.goo_spec.specs.State.{Account, text_cmp}
 use Rattle.goo_tables_rows.specs.Rows as row
 use Rattle.goo_tables_rows.specs.Rows.{Tables, Kept, holder_in, account_in, device_in, declaration_in, lot_in, cancellation_in, withdrawal_in, notice_out_in}
@@ -20,11 +21,11 @@ use Rattle.goo_spec_tables.specs.Devices.{device_of, declaration_of}
 use Rattle.goo_spec_tables.specs.Places.{lot_of}
 use Rattle.goo_spec_tables.specs.Records.{cancellation_of, withdrawal_of, sent_of}
 use Rattle.goo_spec_tables.specs.States.{state_of, known_lot, known_holder, known_account, account_of}
-use Rattle.goo_store_rules.specs.WellKept.{is_no_issuer, is_another, covers_aux, account_given, cancellation_given, withdrawal_given, notice_given, has_holder, has_account, has_device, has_declaration, is_declared}
+use Rattle.goo_store_rules.specs.WellKept.{is_no_issuer, is_another, covers_aux, account_given, cancellation_given, withdrawal_given, notice_given, has_holder, has_account, has_device, has_withdrawal, has_declaration, is_declared, is_withdrawn}
 use Rattle.goo_store_rules.proofs.RowsKnown.{row_of, of_known, of_rows, of_keys, of_row_keys}
 use Rattle.goo_store_rules.proofs.KeptKeys.{AreKnownRows}
 use Rattle.goo_store_rules.proofs.NamesRead as read
-use Rattle.goo_store_rules.proofs.LotsDeclared.{declared_rule}
+use Rattle.goo_store_rules.proofs.LotsDeclared.{declared_rule, corrected_rule}
 
 -- what the state of the tables is by these rules
 pub record IsSoundByName (t : Tables) : Type 0 where
@@ -39,6 +40,8 @@ pub record IsSoundByName (t : Tables) : Type 0 where
   pub withdrawal_numbers : AreBelow (state_of t).next_withdrawal (state_of t).withdrawals
   pub notice_numbers : AreBelow (state_of t).next_notice (state_of t).sent
   pub peers : contains_key (state_of t).peers (state_of t).own ≡ false
+  pub corrected : list_all (λ c. list_any (λ d. corrects d c) (state_of t).declarations) (state_of t).corrections ≡ true
+  pub withdrawn : list_all (λ c. is_withdrawal_there (state_of t).withdrawals c.withdrawal) (state_of t).corrections ≡ true
 
 -- these rules, over the rows that were read
 pub record KeepsNames (x : Found) : Type 0 where
@@ -55,6 +58,8 @@ pub record KeepsNames (x : Found) : Type 0 where
   pub cancellations : list_all (λ r. has_account (map account_in x.rows.members.accounts.items) r.account) x.rows.acts.cancellations.items ≡ true
   pub notices : list_all (λ r. has_account (map account_in x.rows.members.accounts.items) r.account) x.rows.notices.sent.items ≡ true
   pub own_lots : list_all (λ r. is_declared (has_declaration (map declaration_in x.rows.production.declarations.items)) x.meta.code (lot_in r)) x.rows.production.lots.items ≡ true
+  pub corrected : list_all (λ r. has_declaration (map declaration_in x.rows.production.declarations.items) (string_bytes r.device) (string_bytes r.first_day)) x.rows.production.corrections.items ≡ true
+  pub withdrawn : list_all (λ r. is_withdrawn (has_withdrawal (map withdrawal_in x.rows.acts.withdrawals.items)) r.withdrawal) x.rows.production.corrections.items ≡ true
 
 -- numbers of rows below a next one, and numbers that are known
 module _ {A V : Type 0} (number : A → ℕ) (value : A → V) (next : ℕ) (xs : List A) where
@@ -118,6 +123,8 @@ module _ (t : Tables) (readable : AreReadable t) (x : Found) (are : AreOf t x) w
     withdrawal_numbers = below (λ (w : row.Withdrawal). w.number) withdrawal_of t.meta.next_withdrawal t.withdrawals (sym (read.withdrawal_rule t x are) ∙ keeps.withdrawals_given);
     notice_numbers = below (λ (n : row.NoticeOut). n.number) sent_of t.meta.next_notice t.notices_out (sym (read.notice_rule t x are) ∙ keeps.notices_given);
     peers = not-true _ (sym (read.peer_rule t x are) ∙ keeps.others);
+    corrected = sym (corrected_rule t x are readable.corrections readable.declarations) ∙ keeps.corrected;
+    withdrawn = sym (read.correction_rule t x are) ∙ keeps.withdrawn;
   }
 
   -- and back
@@ -141,4 +148,6 @@ module _ (t : Tables) (readable : AreReadable t) (x : Found) (are : AreOf t x) w
     own_lots = declared_rule t x are readable.lots readable.declarations
         ∙ of_rows nat_list_cmp_total (λ l. key_of (lot_of l)) lot_of is_declared_lot t.lots rows.lots
         (λ key lot is. is_own_declared t.meta.code (map declaration_of t.declarations) lot (sound.lots.declared key lot is));
+    corrected = corrected_rule t x are readable.corrections readable.declarations ∙ sound.corrected;
+    withdrawn = read.correction_rule t x are ∙ sound.withdrawn;
   }

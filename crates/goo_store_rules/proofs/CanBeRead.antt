@@ -17,15 +17,15 @@ use Rattle.goo_types.specs.Notice.{NoticeContents}
 use Rattle.goo_types.specs.Texts.{day_text}
 use Rattle.goo_types.proofs.DayLemmas.{IsUtf8-day_text}
 use Rattle.goo_types.specs.Day.{CalendarDay}
-use Rattle.goo_tables_rows.specs.Readable.{IsMaybeText, numbered_meta_readable, holder_readable, account_readable, device_readable, declaration_readable, lot_readable, piece_readable, peer_readable, receipt_readable, cancellation_readable, withdrawal_readable, notice_out_readable, notice_in_readable}
-use Rattle.goo_tables_rows.specs.Rows.{Tables, Kept, Plant, Meta, Holder, Account, Device, Declaration, Lot, lot_key, Receipt, Cancellation, Withdrawal, NoticeOut, NoticeIn, meta_columns, holder_columns, account_columns, device_columns, declaration_columns, lot_columns, piece_columns, peer_columns, receipt_columns, cancellation_columns, withdrawal_columns, notice_out_columns, notice_in_columns}
+use Rattle.goo_tables_rows.specs.Readable.{IsMaybeText, numbered_meta_readable, holder_readable, account_readable, device_readable, declaration_readable, lot_readable, piece_readable, peer_readable, receipt_readable, cancellation_readable, withdrawal_readable, notice_out_readable, notice_in_readable, correction_readable, device_carrier_readable, lot_carrier_readable}
+use Rattle.goo_tables_rows.specs.Rows.{Tables, Kept, Plant, Meta, Holder, Account, Device, Declaration, Lot, lot_key, Receipt, Cancellation, Withdrawal, NoticeOut, NoticeIn, Correction, meta_columns, holder_columns, account_columns, device_columns, declaration_columns, lot_columns, piece_columns, peer_columns, receipt_columns, cancellation_columns, withdrawal_columns, notice_out_columns, notice_in_columns, correction_columns, device_carrier_columns, lot_carrier_columns}
 use Rattle.goo_tables_rows.specs.Stands.{Stands}
 use Rattle.goo_tables_rows.specs.declared.peer.PeerRow.{PeerRow}
 use Rattle.goo_tables_rows.specs.declared.piece.PieceRow.{PieceRow}
 use Rattle.goo_notice_text.specs.NoticeText.{notice_in}
 use Rattle.goo_notice_text.proofs.NoticeTextLemmas.{notices_are_read_from_their_texts}
 use Rattle.goo_spec_tables.specs.Kept.{AreKept, IsKeptLot}
-use Rattle.goo_spec_tables.specs.Readable.{is_plant, is_meta, is_holder, is_account, is_device, is_declaration, is_lot, is_piece, is_peer, is_receipt, is_cancellation, is_withdrawal, is_notice_out, is_notice_in, is_notice_of, is_maybe_day, is_between, is_act, is_next, is_code, is_reply, names_act}
+use Rattle.goo_spec_tables.specs.Readable.{is_plant, is_meta, is_holder, is_account, is_device, is_declaration, is_lot, is_piece, is_peer, is_receipt, is_cancellation, is_withdrawal, is_correction, is_notice_out, is_notice_in, is_notice_of, has_none, is_maybe_day, is_maybe_act, is_between, is_act, is_next, is_code, is_reply, names_act}
 use Rattle.goo_spec_tables.specs.Texts.{day_of}
 use Rattle.goo_store_open.specs.Found.{IsReadable}
 use Rattle.goo_store_rules.proofs.ReadTexts.{holder_text, name_text, key_text, country_text, tech_text, source_text, gsrn_text, day_text_utf8, support_text}
@@ -56,11 +56,14 @@ reply_small kind n1 n2 n3 =
     either (kind == 1) _ _ (equal_small kind 1 (omega arith)) (either (kind == 2) _ _ (equal_small kind 2 (omega arith)) (either (kind == 3) _ _ (equal_small kind 3 (omega arith))
     (either (kind == 4) _ _ (equal_small kind 4 (omega arith)) (either (kind == 5) _ _ (equal_small kind 5 (omega arith)) (either (kind == 6) _ _ (equal_small kind 6 (omega arith))
     (either (kind == 7) _ _ (equal_small kind 7 (omega arith)) (either (kind == 8) _ _ (equal_small kind 8 (omega arith)) (either (kind == 9) _ _ (equal_small kind 9 (omega arith))
-    (λ none. absurd (true≢false (sym none)))))))))))
+    (either (kind == 10) _ _ (equal_small kind 10 (omega arith)) (λ none. absurd (true≢false (sym none))))))))))))
 
 or_cases : {P : Type 0} (a b : Bool) → (a ≡ true → P) → (b ≡ true → P) → a || b ≡ true → P
 or_cases true b x y h = x refl
 or_cases false b x y h = y h
+
+maybe_small : (act : ℕ) → is_maybe_act act ≡ true → act < 2 ^ 32
+maybe_small act = or_cases (act == 0) (is_act act) (equal_small act 0 (omega arith)) (act_small act)
 
 kind_small : (kind act : ℕ) → names_act kind act ≡ true → (kind < 2 ^ 32) × (act < 2 ^ 32)
 kind_small kind act = go ((kind == 1) || (kind == 3)) refl
@@ -93,11 +96,11 @@ maybe_written None day is = inl refl
 maybe_written (Some t) None is = absurd cc
 maybe_written (Some t) (Some d) is = let same : day_text d ≡ t = cc in inr (t, refl, subst IsUtf8 same (IsUtf8-day_text d))
 
-meta : (m : Meta) → m.version ≡ 1 → is_meta m ≡ true → numbered_meta_readable (Int (pos 1) ∷ meta_columns m)
-meta m one h = (
+meta : (m : Meta) → m.version ≡ 2 → is_meta m ≡ true → numbered_meta_readable (Int (pos 1) ∷ meta_columns m)
+meta m two h = (
   omega arith,
   (1, refl),
-  (m.version, refl, omega (arith, one)),
+  (m.version, refl, omega (arith, two)),
   (m.code, refl, code_small m.code (search (h, first_of_both, second_of_both))),
   (m.today, refl, day_text_utf8 m.today (search (h, first_of_both, second_of_both))),
   (m.next_serial, refl),
@@ -236,6 +239,16 @@ withdrawal w h = (
   (w.day, refl, day_text_utf8 w.day (search (h, first_of_both, second_of_both))),
 )
 
+correction : (c : Correction) → is_correction c ≡ true → correction_readable (correction_columns c)
+correction c h = (
+  omega arith,
+  (c.id, refl),
+  (c.device, refl, gsrn_text c.device (search (h, first_of_both, second_of_both))),
+  (c.first_day, refl, day_text_utf8 c.first_day (search (h, first_of_both, second_of_both))),
+  (c.less, refl),
+  (c.withdrawal, refl, maybe_small c.withdrawal (search (h, first_of_both, second_of_both))),
+)
+
 notice_out : (own : ℕ) (n : NoticeOut) → is_notice_out own n ≡ true → notice_out_readable (notice_out_columns n)
 notice_out own n h = (
   omega arith,
@@ -257,6 +270,11 @@ notice_in_row k h = (
 each : {X : Type 0} (p : X → Bool) (P : Row → Type 0) (to_row : X → Row) → ((x : X) → p x ≡ true → P (to_row x)) → (xs : List X) → list_all p xs ≡ true → All P (map to_row xs)
 each p P to_row so [] all = All-nil P
 each p P to_row so (x ∷ xs) all = All-cons P (to_row x) (map to_row xs) (so x (first_of_both (p x) (list_all p xs) all)) (each p P to_row so xs (second_of_both (p x) (list_all p xs) all))
+
+-- a table without rows
+none : {X : Type 0} (P : Row → Type 0) (to_row : X → Row) (xs : List X) → has_none xs ≡ true → All P (map to_row xs)
+none P to_row [] is = All-nil P
+none P to_row (x ∷ xs) is = absurd (true≢false (sym is))
 
 -- rows of which more is known, beside a test that all pass
 pub each_with : {X : Type 0} (p : X → Bool) (K Q : X → Type 0) → ((x : X) → K x → p x ≡ true → Q x) → (xs : List X) → All K xs → list_all p xs ≡ true → All Q xs
@@ -296,6 +314,9 @@ kept_can_be_read db t stands kept =
         withdrawals = each is_withdrawal withdrawal_readable withdrawal_columns withdrawal t.withdrawals r.withdrawals;
         notices_out = each (is_notice_out t.meta.code) notice_out_readable notice_out_columns (notice_out t.meta.code) t.notices_out r.notices_out;
         notices_in = each is_notice_in notice_in_readable (λ k. notice_in_columns k.1) notice_in_row t.notices_in r.notices_in;
+        corrections = each is_correction correction_readable correction_columns correction t.corrections r.corrections;
+        device_carriers = none device_carrier_readable (λ k. device_carrier_columns k.1) t.device_carriers r.device_carriers;
+        lot_carriers = none lot_carrier_readable lot_carrier_columns t.lot_carriers r.lot_carriers;
       },
       r.version,
     )

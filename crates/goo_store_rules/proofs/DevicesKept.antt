@@ -11,11 +11,12 @@ use Rattle.sqlite_typed.specs.Tests.{bytes_eq}
 use Rattle.goo_types.specs.declared.command.Declare.{Declare}
 use Rattle.goo_spec.specs.Declare.{declared_by, last_end}
 use Rattle.goo_spec.specs.Energy.{certificate, net_of}
+use Rattle.goo_spec.specs.State as state
 use Rattle.goo_core_shelf.specs.declared.found.Progress.{Progress}
 use Rattle.goo_tables_rows.specs.Rows.{Kept, Device, Declaration}
 use Rattle.goo_spec_tables.specs.Devices.{declaration_of, progress_in, device_row}
 use Rattle.goo_spec_tables.proofs.Known.{text_test, text_same, text_itself}
-use Rattle.goo_store_rules.specs.Production.{HasItsProgress}
+use Rattle.goo_store_rules.specs.Production.{HasItsProgress, left_by}
 use Rattle.goo_store_rules.specs.WellKept.{has_device}
 
 abbrev value : Kept Device → Device
@@ -24,9 +25,9 @@ value k = k.1
 abbrev is_of : List ℕ → Kept Device → Bool
 is_of gsrn k = bytes_eq k.1.gsrn gsrn
 
--- what a device's declarations come to
-abbrev pub come_to : List Declare → List ℕ → Progress
-come_to xs gsrn = record { last_day = last_end None (declared_by gsrn xs); carry = sum_by (net_of gsrn) xs % certificate }
+-- what a device's declarations and corrections come to
+abbrev pub come_to : List Declare → List state.Correction → List ℕ → Progress
+come_to xs cs gsrn = record { last_day = last_end None (declared_by gsrn xs); carry = left_by xs cs gsrn % certificate }
 
 -- ---- a device that no row has
 
@@ -60,6 +61,9 @@ module _ (ds : List Device) (gsrn : List ℕ) (none : has_device ds gsrn ≡ fal
       let sums = sum_by-cons (net_of gsrn) (declaration_of d) (map declaration_of xs) in
       omega (arith, here, rest, sums)
 
+  nothing_left : (cs : List state.Correction) (xs : List Declaration) → list_all (λ d. has_device ds d.device) xs ≡ true → left_by (map declaration_of xs) cs gsrn ≡ 0
+  nothing_left cs xs all = let none_made = nothing_declared xs all in omega (arith, none_made)
+
 -- ---- what rows keep is what is looked up
 
 found_kept : (P : Device → Type 0) (gsrn : List ℕ) (ks : List (Kept Device)) (k : Kept Device) → All P (map value ks) → find (is_of gsrn) ks ≡ Some k → P k.1 × (k.1.gsrn ≡ gsrn)
@@ -70,20 +74,20 @@ found_kept P gsrn (y ∷ ks) k all is = go (is_of gsrn y) refl is (found_kept P 
     go true its found more = let same : y ≡ k = cc in (subst (λ z. P z.1) same (All-head P y.1 (map value ks) all), ap (λ z. z.1.gsrn) (sym same) ∙ text_same y.1.gsrn gsrn its)
     go false its found more = more found
 
-module _ (ks : List (Kept Device)) (xs : List Declaration) where
+module _ (ks : List (Kept Device)) (xs : List Declaration) (cs : List state.Correction) where
   -- the rows of devices keep what their declarations come to, and each declaration's device has a row
-  pub progress_kept : All (HasItsProgress (map declaration_of xs)) (map value ks) → list_all (λ d. has_device (map value ks) d.device) xs ≡ true
-      → (gsrn : List ℕ) → progress_in (device_row ks gsrn) ≡ come_to (map declaration_of xs) gsrn
+  pub progress_kept : All (HasItsProgress (map declaration_of xs) cs) (map value ks) → list_all (λ d. has_device (map value ks) d.device) xs ≡ true
+      → (gsrn : List ℕ) → progress_in (device_row ks gsrn) ≡ come_to (map declaration_of xs) cs gsrn
   progress_kept all there gsrn = go (find (is_of gsrn) ks) refl
     where
-      go : (o : Option (Kept Device)) → find (is_of gsrn) ks ≡ o → progress_in (option_map value o) ≡ come_to (map declaration_of xs) gsrn
+      go : (o : Option (Kept Device)) → find (is_of gsrn) ks ≡ o → progress_in (option_map value o) ≡ come_to (map declaration_of xs) cs gsrn
       go None none = λ i. record {
         last_day = last_end None (sym (none_declared (map value ks) gsrn (no_device gsrn ks none) xs there) i);
-        carry = sym (nothing_declared (map value ks) gsrn (no_device gsrn ks none) xs there) i % certificate;
+        carry = sym (nothing_left (map value ks) gsrn (no_device gsrn ks none) cs xs there) i % certificate;
       }
       go (Some k) is =
-          let found = found_kept (HasItsProgress (map declaration_of xs)) gsrn ks k all is in
-          (λ i. record { last_day = found.0.last_day i; carry = found.0.carry i }) ∙ ap (come_to (map declaration_of xs)) found.1
+          let found = found_kept (HasItsProgress (map declaration_of xs) cs) gsrn ks k all is in
+          (λ i. record { last_day = found.0.last_day i; carry = found.0.carry i }) ∙ ap (come_to (map declaration_of xs) cs) found.1
 
   -- ---- and back, where no two devices have one number
 
@@ -109,9 +113,9 @@ module _ (ks : List (Kept Device)) (xs : List Declaration) where
       go true e h rest = let more = some_left test zs i d (omega (arith, low)) is in absurd (omega (arith, h, more))
       go false e h rest = rest h
 
-  pub progress_back : ((gsrn : List ℕ) → length (filter (λ k. bytes_eq k.1.gsrn gsrn) ks) ≤ 1) → ((gsrn : List ℕ) → progress_in (device_row ks gsrn) ≡ come_to (map declaration_of xs) gsrn)
-      → All (HasItsProgress (map declaration_of xs)) (map value ks)
-  progress_back one kept = All-map (HasItsProgress (map declaration_of xs)) value ks (λ i d low.
+  pub progress_back : ((gsrn : List ℕ) → length (filter (λ k. bytes_eq k.1.gsrn gsrn) ks) ≤ 1) → ((gsrn : List ℕ) → progress_in (device_row ks gsrn) ≡ come_to (map declaration_of xs) cs gsrn)
+      → All (HasItsProgress (map declaration_of xs) cs) (map value ks)
+  progress_back one kept = All-map (HasItsProgress (map declaration_of xs) cs) value ks (λ i d low.
       let k = get_or ks i d in
       let found : device_row ks k.1.gsrn ≡ Some k.1 = ap (option_map value) (only_one (is_of k.1.gsrn) ks i d low (text_itself k.1.gsrn k.1.gsrn refl) (one k.1.gsrn)) in
       let same = ap progress_in (sym found) ∙ kept k.1.gsrn in

@@ -12,42 +12,40 @@ use Rattle.sqlite_keyed.specs.Keyed.{get_by}
 use Rattle.sqlite_keyed.proofs.RuleLemmas.{first_of_both, second_of_both}
 use Rattle.goo_types.specs.Number.{code_of}
 use Rattle.goo_types.specs.declared.command.Declare.{Declare}
-use Rattle.goo_spec.specs.Energy.{certificate, net_of}
-use Rattle.goo_ranges_rows.specs.Certificates.{issued_in}
+use Rattle.goo_types.specs.declared.piece.Piece.{Piece}
+use Rattle.goo_spec.specs.Energy.{certificate, net_of, is_taken_back}
+use Rattle.goo_spec.specs.State.{Correction}
+use Rattle.goo_ranges_rows.specs.Certificates.{issued_in, corrected_in}
 use Rattle.goo_tables_rows.specs.Beside.{beside}
 use Rattle.goo_tables_rows.specs.Rows.{Lot, lot_key}
 use Rattle.goo_tables_rows.specs.declared.piece.PieceRow.{PieceRow}
-use Rattle.goo_spec_tables.specs.Places.{piece_of}
-use Rattle.goo_store_rules.specs.Production.{issued_of, issued_by, is_due, is_lot_due, AreDevicesOf, AreIssuedWhenDue}
+use Rattle.goo_spec_tables.specs.Places.{place_of, piece_of}
+use Rattle.goo_store_rules.specs.Production.{standing_in, standing_of, standing_by, left_by, is_due, is_lot_due, AreDevicesOf, AreIssuedWhenDue}
 
 abbrev device : Lot → List ℕ
 device l = l.device
 
--- ---- one row
-
-pub issued_other : (own : ℕ) (q : List ℕ) (p : PieceRow) (o : Option Lot) → (code_of p.first == own) ≡ false → issued_of own q p o ≡ 0
-issued_other own q p None other = refl
-issued_other own q p (Some l) other = ap (λ b. cond (b && bytes_eq l.device q) (p.last + 1 - p.first) 0) other
-
-pub issued_none : (own : ℕ) (q : List ℕ) (p : PieceRow) (o : Option Lot) → None ≡ option_map device o → issued_of own q p o ≡ 0
-issued_none own q p None none = refl
-issued_none own q p (Some l) none = absurd cc
-
-pub issued_some : (own : ℕ) (q : List ℕ) (p : PieceRow) (o : Option Lot) (d : List ℕ) → (code_of p.first == own) ≡ true → Some d ≡ option_map device o → issued_of own q p o ≡ cond (bytes_eq d q) (p.last + 1 - p.first) 0
-issued_some own q p None d same some = absurd cc
-issued_some own q p (Some l) d same some =
-    let is : d ≡ l.device = cc in
-    ap (λ b. cond (b && bytes_eq l.device q) (p.last + 1 - p.first) 0) same ∙ ap (λ x. cond (bytes_eq x q) (p.last + 1 - p.first) 0) (sym is)
-
 -- ---- all rows
 
-pub issued_rows : (own : ℕ) (lots : List Lot) (q : List ℕ) (rows : List PieceRow) → sum_by (issued_by own lots q) rows ≡ sum_by (issued_in own q) (map piece_of (beside lots rows))
-issued_rows own lots q [] = refl
-issued_rows own lots q (p ∷ ps) = sum_by-cons (issued_by own lots q) p ps ∙ ap (λ n. issued_by own lots q p + n) (issued_rows own lots q ps) ∙ go (get_by lot_key lots (pos p.lot))
+pub standing_rows : (own : ℕ) (lots : List Lot) (cs : List Correction) (q : List ℕ) (rows : List PieceRow) → sum_by (standing_by own lots cs q) rows ≡ sum_by (standing_in own q cs) (map piece_of (beside lots rows))
+standing_rows own lots cs q [] = refl
+standing_rows own lots cs q (p ∷ ps) = sum_by-cons (standing_by own lots cs q) p ps ∙ ap (λ n. standing_by own lots cs q p + n) (standing_rows own lots cs q ps) ∙ go (get_by lot_key lots (pos p.lot))
   where
-    go : (o : Option Lot) → issued_of own q p o + sum_by (issued_in own q) (map piece_of (beside lots ps)) ≡ sum_by (issued_in own q) (map piece_of (cons_option (option_map (λ l. (p, l)) o) (beside lots ps)))
+    go : (o : Option Lot) → standing_of own q cs p o + sum_by (standing_in own q cs) (map piece_of (beside lots ps)) ≡ sum_by (standing_in own q cs) (map piece_of (cons_option (option_map (λ l. (p, l)) o) (beside lots ps)))
     go None = omega arith
-    go (Some l) = sym (sum_by-cons (issued_in own q) (piece_of (p, l)) (map piece_of (beside lots ps)))
+    go (Some l) = sym (sum_by-cons (standing_in own q cs) (piece_of (p, l)) (map piece_of (beside lots ps)))
+
+-- those that corrections withdrew are the others of those that were issued
+pub issued_parts : (own : ℕ) (q : List ℕ) (cs : List Correction) (ps : List Piece) → sum_by (issued_in own q) ps ≡ sum_by (standing_in own q cs) ps + sum_by (corrected_in own q cs) ps
+issued_parts own q cs [] = refl
+issued_parts own q cs (p ∷ ps) =
+    let here = two_parts (is_taken_back q cs p.place) (issued_in own q p) in
+    let rest = issued_parts own q cs ps in
+    omega (arith, here, rest, sum_by-cons (issued_in own q) p ps, sum_by-cons (standing_in own q cs) p ps, sum_by-cons (corrected_in own q cs) p ps)
+  where
+    two_parts : (b : Bool) (n : ℕ) → n ≡ cond b 0 n + cond b n 0
+    two_parts true n = omega arith
+    two_parts false n = omega arith
 
 -- ---- what is due
 
@@ -66,46 +64,48 @@ module _ (count_of energy_of : List ℕ → ℕ) where
       go false other (inr hit) = inr hit
       go false other (inl none) = inl (let s = sum_by-cons (net_of q) x xs in let z : net_of q x ≡ 0 = ap (λ b. cond b (x.gross - x.aux) 0) other in omega (arith, s, z, none))
 
-  module _ (own : ℕ) (lots : List Lot) (devices : BTreeMap ℕ (List ℕ)) (are : AreDevicesOf lots devices) where
+  module _ (own : ℕ) (lots : List Lot) (cs : List Correction) (devices : BTreeMap ℕ (List ℕ)) (are : AreDevicesOf lots devices) where
     -- a device that was issued something was issued what is due
-    issued_due : (q : List ℕ) (ps : List PieceRow) → list_all (λ p. is_lot_due count_of energy_of (get nat_cmp devices p.lot)) ps ≡ true → (sum_by (issued_by own lots q) ps ≡ 0) ⊎ (is_due count_of energy_of q ≡ true)
+    issued_due : (q : List ℕ) (ps : List PieceRow) → list_all (λ p. is_lot_due count_of energy_of (get nat_cmp devices p.lot)) ps ≡ true → (sum_by (standing_by own lots cs q) ps ≡ 0) ⊎ (is_due count_of energy_of q ≡ true)
     issued_due q [] all = inl refl
     issued_due q (p ∷ ps) all =
         go (get_by lot_key lots (pos p.lot)) refl (ap (is_lot_due count_of energy_of) (sym (are p.lot)) ∙ first_of_both _ _ all) (issued_due q ps (second_of_both _ _ all))
       where
-        none_here : (o : Option Lot) → get_by lot_key lots (pos p.lot) ≡ o → issued_of own q p o ≡ 0 → sum_by (issued_by own lots q) ps ≡ 0 → sum_by (issued_by own lots q) (p ∷ ps) ≡ 0
-        none_here o is zero none = sum_by-cons (issued_by own lots q) p ps ∙ (λ i. (ap (issued_of own q p) is ∙ zero) i + none i)
+        none_here : (o : Option Lot) → get_by lot_key lots (pos p.lot) ≡ o → standing_of own q cs p o ≡ 0 → sum_by (standing_by own lots cs q) ps ≡ 0 → sum_by (standing_by own lots cs q) (p ∷ ps) ≡ 0
+        none_here o is zero none = sum_by-cons (standing_by own lots cs q) p ps ∙ (λ i. (ap (standing_of own q cs p) is ∙ zero) i + none i)
 
-        by : (l : Lot) (b : Bool) → bytes_eq l.device q ≡ b → get_by lot_key lots (pos p.lot) ≡ Some l → is_due count_of energy_of l.device ≡ true → sum_by (issued_by own lots q) ps ≡ 0
-            → (sum_by (issued_by own lots q) (p ∷ ps) ≡ 0) ⊎ (is_due count_of energy_of q ≡ true)
+        by : (l : Lot) (b : Bool) → bytes_eq l.device q ≡ b → get_by lot_key lots (pos p.lot) ≡ Some l → is_due count_of energy_of l.device ≡ true → sum_by (standing_by own lots cs q) ps ≡ 0
+            → (sum_by (standing_by own lots cs q) (p ∷ ps) ≡ 0) ⊎ (is_due count_of energy_of q ≡ true)
         by l true same is due none = inr (ap (is_due count_of energy_of) (sym ((bytes_eq-Decides l.device q).0 same)) ∙ due)
-        by l false other is due none = inl (none_here (Some l) is (ap (λ b. cond ((code_of p.first == own) && b) (p.last + 1 - p.first) 0) other ∙ nothing (code_of p.first == own)) none)
+        by l false other is due none = inl (none_here (Some l) is (ap (λ b. cond (is_taken_back q cs (place_of p.kind p.account p.act)) 0 (cond ((code_of p.first == own) && b) (p.last + 1 - p.first) 0)) other
+            ∙ nothing (is_taken_back q cs (place_of p.kind p.account p.act)) (code_of p.first == own)) none)
           where
-            nothing : (c : Bool) → cond (c && false) (p.last + 1 - p.first) 0 ≡ 0
-            nothing true = refl
-            nothing false = refl
+            nothing : (t c : Bool) → cond t 0 (cond (c && false) (p.last + 1 - p.first) 0) ≡ 0
+            nothing true c = refl
+            nothing false true = refl
+            nothing false false = refl
 
-        go : (o : Option Lot) → get_by lot_key lots (pos p.lot) ≡ o → is_lot_due count_of energy_of (option_map device o) ≡ true → (sum_by (issued_by own lots q) ps ≡ 0) ⊎ (is_due count_of energy_of q ≡ true)
-            → (sum_by (issued_by own lots q) (p ∷ ps) ≡ 0) ⊎ (is_due count_of energy_of q ≡ true)
+        go : (o : Option Lot) → get_by lot_key lots (pos p.lot) ≡ o → is_lot_due count_of energy_of (option_map device o) ≡ true → (sum_by (standing_by own lots cs q) ps ≡ 0) ⊎ (is_due count_of energy_of q ≡ true)
+            → (sum_by (standing_by own lots cs q) (p ∷ ps) ≡ 0) ⊎ (is_due count_of energy_of q ≡ true)
         go o is due (inr hit) = inr hit
         go None is due (inl none) = inl (none_here None is refl none)
         go (Some l) is due (inl none) = by l (bytes_eq l.device q) refl is due none
 
-    module _ (xs : List Declare) (ps : List PieceRow) (counts : (q : List ℕ) → count_of q ≡ sum_by (issued_by own lots q) ps) (energies : (q : List ℕ) → energy_of q ≡ sum_by (net_of q) xs) where
-      due_of : (q : List ℕ) → (sum_by (net_of q) xs ≡ 0) ⊎ (is_due count_of energy_of q ≡ true) → (sum_by (issued_by own lots q) ps ≡ 0) ⊎ (is_due count_of energy_of q ≡ true) → count_of q ≡ energy_of q / certificate
+    module _ (xs : List Declare) (ps : List PieceRow) (counts : (q : List ℕ) → count_of q ≡ sum_by (standing_by own lots cs q) ps) (energies : (q : List ℕ) → energy_of q ≡ left_by xs cs q) where
+      due_of : (q : List ℕ) → (sum_by (net_of q) xs ≡ 0) ⊎ (is_due count_of energy_of q ≡ true) → (sum_by (standing_by own lots cs q) ps ≡ 0) ⊎ (is_due count_of energy_of q ≡ true) → count_of q ≡ energy_of q / certificate
       due_of q (inr hit) other = eqb-true _ _ hit
       due_of q (inl none) (inr hit) = eqb-true _ _ hit
-      due_of q (inl none) (inl nothing) = counts q ∙ nothing ∙ ap (λ n. n / certificate) (sym (energies q ∙ none))
+      due_of q (inl none) (inl nothing) = let nothing_left : energy_of q ≡ 0 = energies q ∙ omega (arith, none) in counts q ∙ nothing ∙ ap (λ n. n / certificate) (sym nothing_left)
 
       -- where each device that is named was issued what is due, all were
       pub all_due : list_all (λ x. is_due count_of energy_of x.device) xs ≡ true → list_all (λ p. is_lot_due count_of energy_of (get nat_cmp devices p.lot)) ps ≡ true
-          → AreIssuedWhenDue own xs (map piece_of (beside lots ps))
+          → AreIssuedWhenDue own xs cs (map piece_of (beside lots ps))
       all_due declared issued q =
-          sym (counts q ∙ issued_rows own lots q ps) ∙ due_of q (declared_due q xs declared) (issued_due q ps issued) ∙ ap (λ n. n / certificate) (energies q)
+          sym (counts q ∙ standing_rows own lots cs q ps) ∙ due_of q (declared_due q xs declared) (issued_due q ps issued) ∙ ap (λ n. n / certificate) (energies q)
 
-      module _ (when : AreIssuedWhenDue own xs (map piece_of (beside lots ps))) where
+      module _ (when : AreIssuedWhenDue own xs cs (map piece_of (beside lots ps))) where
         due_so : (q : List ℕ) → is_due count_of energy_of q ≡ true
-        due_so q = eq-eqb _ _ (counts q ∙ issued_rows own lots q ps ∙ when q ∙ ap (λ n. n / certificate) (sym (energies q)))
+        due_so q = eq-eqb _ _ (counts q ∙ standing_rows own lots cs q ps ∙ when q ∙ ap (λ n. n / certificate) (sym (energies q)))
 
         lot_so : (o : Option (List ℕ)) → is_lot_due count_of energy_of o ≡ true
         lot_so None = refl

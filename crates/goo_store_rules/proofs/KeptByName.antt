@@ -15,9 +15,9 @@ use Rattle.goo_store_open.specs.declared.finding.Found.{Found}
 use Rattle.goo_spec_tables.specs.Kept.{AreReadable, IsKeptLot}
 use Rattle.goo_spec_tables.specs.Readable.{is_meta, is_between, is_code, is_next, reads}
 use Rattle.goo_spec_tables.specs.States.{state_of}
-use Rattle.goo_store_rules.specs.Keeping.{has_good_values, has_its_notices}
+use Rattle.goo_store_rules.specs.Keeping.{has_good_values, has_good_corrections, has_its_notices}
 use Rattle.goo_store_rules.specs.Lots.{IsGoodLot}
-use Rattle.goo_store_rules.proofs.KeptValues.{readable, values_good, notices_good}
+use Rattle.goo_store_rules.proofs.KeptValues.{readable, values_good, corrections_good, notices_good}
 use Rattle.goo_store_rules.proofs.KeptLots.{lots_kept, lots_good}
 use Rattle.goo_store_rules.proofs.KeptKeys.{AreKnownRows}
 use Rattle.goo_store_rules.proofs.ByName.{IsSoundByName, KeepsNames, sound_by_name, names_kept}
@@ -64,15 +64,16 @@ pub record AreKeptByName (t : Tables) : Type 0 where
 -- these rules
 pub record KeepsByName (x : Found) : Type 0 where
   pub values : has_good_values x ≡ true
+  pub corrections : has_good_corrections x ≡ true
   pub notices : has_its_notices x ≡ true
   pub lots : All (λ row. IsGoodLot (lot_in row)) x.rows.production.lots.items
   pub names : KeepsNames x
 
 -- over the tables of a database that a connection says is one
 module _ (db : _) (t : Tables) (x : Found) (ours : HasOurTables db) (stands : Stands db t) (are : AreOf t x) where
-  pub kept_by_name : t.meta.version ≡ 1 → KeepsByName x → AreKeptByName t
+  pub kept_by_name : t.meta.version ≡ 2 → KeepsByName x → AreKeptByName t
   kept_by_name version keeps =
-      let read = readable t x are version keeps.values keeps.notices in
+      let read = readable t x are version keeps.values keeps.corrections keeps.notices in
       record {
         readable = read;
         lots = lots_kept t x are keeps.lots;
@@ -85,6 +86,7 @@ module _ (db : _) (t : Tables) (x : Found) (ours : HasOurTables db) (stands : St
 pub keeps_by_name : (t : Tables) (x : Found) → AreOf t x → AreKnownRows t → AreKeptByName t → KeepsByName x
 keeps_by_name t x are rows kept = record {
   values = values_good t x are kept.readable;
+  corrections = corrections_good t x are kept.readable;
   notices = notices_good t x are kept.readable;
   lots = lots_good t x are kept.readable.lots rows.lot_numbers kept.lots;
   names = names_kept t kept.readable x are rows kept.sound;

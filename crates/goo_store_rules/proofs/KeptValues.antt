@@ -1,14 +1,14 @@
 -- The rules on single values, judged over what was read, are those of the tables.
-use Rattle.std.proofs.Common.{◌≡◌, Bool, true, ◌&&◌, List, map, pos, sym, ap, ◌∙◌}
+use Rattle.std.proofs.Common.{◌≡◌, Bool, true, ◌&&◌, List, [], ◌∷◌, map, pos, refl, sym, ap, ◌∙◌}
 use Rattle.std.specs.List.{list_all}
 use Rattle.std.proofs.lemmas.Bool.{and_parts, and_from}
 use Rattle.std.proofs.lemmas.List.Folds.{list_all-map}
-use Rattle.goo_tables_rows.specs.Rows.{Tables, Kept, holder_in, account_in, device_in, declaration_in, lot_in, receipt_in, cancellation_in, withdrawal_in, notice_out_in, notice_in_in}
+use Rattle.goo_tables_rows.specs.Rows.{Tables, Kept, holder_in, account_in, device_in, declaration_in, correction_in, device_carrier_in, lot_carrier_in, lot_in, receipt_in, cancellation_in, withdrawal_in, notice_out_in, notice_in_in}
 use Rattle.goo_store_open.specs.Found.{AreOf, values}
 use Rattle.goo_store_open.specs.declared.finding.Found.{Found}
 use Rattle.goo_spec_tables.specs.Kept.{AreReadable}
-use Rattle.goo_spec_tables.specs.Readable.{is_meta, is_holder, is_account, is_device, is_declaration, is_lot, is_piece, is_peer, is_receipt, is_cancellation, is_withdrawal, is_notice_out, is_notice_in}
-use Rattle.goo_store_rules.specs.Keeping.{has_good_values, has_its_notices}
+use Rattle.goo_spec_tables.specs.Readable.{is_meta, is_holder, is_account, is_device, is_declaration, is_lot, is_piece, is_peer, is_receipt, is_cancellation, is_withdrawal, is_correction, is_notice_out, is_notice_in, has_none}
+use Rattle.goo_store_rules.specs.Keeping.{has_good_values, has_good_corrections, has_its_notices}
 
 -- a rule over rows that were read, as one over the rows that are kept
 pub rows_same : {X Y : Type 0} (p : Y → Bool) (f : X → Y) (items : List X) (xs : List Y) → map f items ≡ xs → list_all (λ row. p (f row)) items ≡ list_all p xs
@@ -17,6 +17,11 @@ rows_same p f items xs is = sym (list_all-map p f items) ∙ ap (list_all p) is
 -- the same where they are kept under rowids of their own
 pub kept_same : {X Y : Type 0} (p : Y → Bool) (f : X → Y) (items : List X) (ks : List (Kept Y)) → map f items ≡ values ks → list_all (λ row. p (f row)) items ≡ list_all (λ k. p k.1) ks
 kept_same p f items ks is = rows_same p f items (values ks) is ∙ list_all-map p (λ k. k.1) ks
+
+-- a table without rows, whatever is made of them
+none_made : {X Y : Type 0} (f : X → Y) (xs : List X) → has_none (map f xs) ≡ has_none xs
+none_made f [] = refl
+none_made f (x ∷ xs) = refl
 
 module _ (t : Tables) (x : Found) (are : AreOf t x) where
   -- each of the rules on values, and all of them
@@ -35,6 +40,13 @@ module _ (t : Tables) (x : Found) (are : AreOf t x) where
       let withdrawals = rows_same is_withdrawal withdrawal_in x.rows.acts.withdrawals.items t.withdrawals are.withdrawals in
       λ i. is_meta (are.meta i) && (holders i && (accounts i && (peers i && (devices i && (declarations i && (lots i && (list_all is_piece (are.pieces i) && (receipts i && (cancellations i && withdrawals i)))))))))
 
+  good_corrections : has_good_corrections x ≡ (list_all is_correction t.corrections && (has_none t.device_carriers && has_none t.lot_carriers))
+  good_corrections =
+      let corrections = rows_same is_correction correction_in x.rows.production.corrections.items t.corrections are.corrections in
+      let devices = sym (none_made device_carrier_in x.rows.carriers.devices.items) ∙ ap has_none are.device_carriers ∙ none_made (λ k. k.1) t.device_carriers in
+      let lots = sym (none_made lot_carrier_in x.rows.carriers.lots.items) ∙ ap has_none are.lot_carriers in
+      λ i. corrections i && (devices i && lots i)
+
   notices : has_its_notices x ≡ (list_all (is_notice_out t.meta.code) t.notices_out && list_all is_notice_in t.notices_in)
   notices =
       let sent = rows_same (is_notice_out x.meta.code) notice_out_in x.rows.notices.sent.items t.notices_out are.notices_out ∙ (λ i. list_all (is_notice_out (are.meta i).code) t.notices_out) in
@@ -42,8 +54,8 @@ module _ (t : Tables) (x : Found) (are : AreOf t x) where
       λ i. sent i && came i
 
   -- what the rules on values say of the tables
-  pub readable : t.meta.version ≡ 1 → has_good_values x ≡ true → has_its_notices x ≡ true → AreReadable t
-  readable version good told =
+  pub readable : t.meta.version ≡ 2 → has_good_values x ≡ true → has_good_corrections x ≡ true → has_its_notices x ≡ true → AreReadable t
+  readable version good corrected told =
       let a = and_parts _ _ (sym good_values ∙ good) in
       let b = and_parts _ _ a.1 in
       let c = and_parts _ _ b.1 in
@@ -55,6 +67,8 @@ module _ (t : Tables) (x : Found) (are : AreOf t x) where
       let j = and_parts _ _ h.1 in
       let k = and_parts _ _ j.1 in
       let n = and_parts _ _ (sym notices ∙ told) in
+      let o = and_parts _ _ (sym good_corrections ∙ corrected) in
+      let p = and_parts _ _ o.1 in
       record {
         version = version;
         meta = a.0;
@@ -70,6 +84,9 @@ module _ (t : Tables) (x : Found) (are : AreOf t x) where
         withdrawals = k.1;
         notices_out = n.0;
         notices_in = n.1;
+        corrections = o.0;
+        device_carriers = p.0;
+        lot_carriers = p.1;
       }
 
   pub values_good : AreReadable t → has_good_values x ≡ true
@@ -77,6 +94,9 @@ module _ (t : Tables) (x : Found) (are : AreOf t x) where
       good_values
       ∙ and_from _ _ it.meta (and_from _ _ it.holders (and_from _ _ it.accounts (and_from _ _ it.peers (and_from _ _ it.devices (and_from _ _ it.declarations
       (and_from _ _ it.lots (and_from _ _ it.pieces (and_from _ _ it.receipts (and_from _ _ it.cancellations it.withdrawals)))))))))
+
+  pub corrections_good : AreReadable t → has_good_corrections x ≡ true
+  corrections_good it = good_corrections ∙ and_from _ _ it.corrections (and_from _ _ it.device_carriers it.lot_carriers)
 
   pub notices_good : AreReadable t → has_its_notices x ≡ true
   notices_good it = notices ∙ and_from _ _ it.notices_out it.notices_in

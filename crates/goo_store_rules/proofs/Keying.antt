@@ -19,7 +19,7 @@ alone : (c : Bool) → c || false ≡ cond c true false
 alone true = refl
 alone false = refl
 
-any-push : {X : Type 0} (p : X → Bool) (xs : List X) (x : X) → list_any p (xs ++ x ∷ []) ≡ cond (p x) true (list_any p xs)
+pub any-push : {X : Type 0} (p : X → Bool) (xs : List X) (x : X) → list_any p (xs ++ x ∷ []) ≡ cond (p x) true (list_any p xs)
 any-push p [] x = alone (p x)
 any-push p (y ∷ ys) x = ap (λ b. p y || b) (any-push p ys x) ∙ later (p y) (p x) (list_any p ys)
 

@@ -19,6 +19,7 @@ pub mod KeptByName
 pub mod Judged
 pub mod Whole
 pub mod SumLemmas
+pub mod CorrectingLemmas
 pub mod PeriodLemmas
 pub mod LotDevices
 pub mod IssueLemmas

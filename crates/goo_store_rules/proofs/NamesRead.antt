@@ -1,5 +1,5 @@
 -- The rules on names, judged over what was read, as tests on what the tables make known.
-use Rattle.std.proofs.Common.{◌≡◌, ℕ, not, List, map, nat_lt, nat_le, nat_cmp, string_bytes, sym, ap, ◌∙◌, ◌==◌}
+use Rattle.std.proofs.Common.{◌≡◌, ℕ, Bool, true, false, cond, ◌||◌, not, Some, None, refl, List, map, nat_lt, nat_le, nat_cmp, string_bytes, sym, ap, ◌∙◌, ◌==◌}
 use Rattle.std.specs.List.{list_all}
 use Rattle.std.specs.Ordering.{eq_by_cmp}
 use Rattle.std.specs.Cmp.{eq_by_cmp_equiv, nat_cmp_total}
@@ -8,16 +8,19 @@ use Rattle.std.specs.FinMap.{FinMap, contains_key, from_entries}
 use Rattle.std.specs.Str.{bytes_eq}
 use Rattle.std.proofs.lemmas.List.Folds.{list_all-map}
 use Rattle.goo_spec.specs.Checks.{issuer}
+use Rattle.goo_spec.specs.Sound.{is_withdrawal_there}
+use Rattle.goo_spec.specs.State as state
 use Rattle.goo_spec.specs.State.{text_cmp, Account, Device}
 use Rattle.goo_tables_rows.specs.Rows as row
-use Rattle.goo_tables_rows.specs.Rows.{Tables, Kept, holder_in, account_in, device_in, declaration_in, cancellation_in, withdrawal_in, notice_out_in}
+use Rattle.goo_tables_rows.specs.Rows.{Tables, Kept, holder_in, account_in, device_in, declaration_in, correction_in, cancellation_in, withdrawal_in, notice_out_in}
 use Rattle.goo_tables_rows.specs.declared.peer.PeerRow.{PeerRow}
 use Rattle.goo_store_open.specs.Found.{AreOf}
 use Rattle.goo_store_open.specs.declared.finding.Found.{Found}
 use Rattle.goo_spec_tables.specs.Devices.{device_of, declaration_of}
-use Rattle.goo_spec_tables.specs.States.{known_holder, known_account, account_of, known_device, known_peer}
+use Rattle.goo_spec_tables.specs.Records.{withdrawal_of, correction_of}
+use Rattle.goo_spec_tables.specs.States.{known_holder, known_account, account_of, known_device, known_peer, known_withdrawal}
 use Rattle.goo_spec_tables.proofs.Known.{number_is, number_test}
-use Rattle.goo_store_rules.specs.WellKept.{is_no_issuer, is_another, covers_aux, account_given, cancellation_given, withdrawal_given, notice_given, has_holder, has_account, has_device}
+use Rattle.goo_store_rules.specs.WellKept.{is_no_issuer, is_another, covers_aux, account_given, cancellation_given, withdrawal_given, notice_given, has_holder, has_account, has_device, has_withdrawal, is_withdrawn}
 use Rattle.goo_store_rules.proofs.EachRow.{none_all, list_any-map}
 use Rattle.goo_store_rules.proofs.RowsKnown.{is_there}
 use Rattle.goo_store_rules.proofs.KeptValues.{rows_same, kept_same}
@@ -27,6 +30,11 @@ str_test a q = texts_ties a q ∙ (eq_by_cmp_equiv nat_list_cmp_total).symm a q
 
 pub same_number : (a q : ℕ) → (a == q) ≡ eq_by_cmp nat_cmp q a
 same_number a q = sym (number_is a q) ∙ number_test a q
+
+-- an act that a number names is there, or it names none
+act_there : (m : FinMap nat_cmp state.Withdrawal) (act : ℕ) (b : Bool) → b || contains_key m act ≡ is_withdrawal_there m (cond b None (Some act))
+act_there m act true = refl
+act_there m act false = refl
 
 module _ (t : Tables) (x : Found) (are : AreOf t x) where
   -- what the tables make known, by name
@@ -51,6 +59,21 @@ module _ (t : Tables) (x : Found) (are : AreOf t x) where
   device_there q =
       ap (λ ds. has_device ds q) are.devices ∙ list_any-map (λ d. eq_by_cmp text_cmp q d.gsrn) (λ k. k.1) t.devices
       ∙ sym (is_there nat_list_cmp_total (λ (k : Kept row.Device). k.1.gsrn) (λ k. device_of k.1) t.devices q)
+
+  abbrev pub withdrawals : FinMap nat_cmp state.Withdrawal
+  withdrawals = from_entries (map known_withdrawal t.withdrawals)
+
+  withdrawal_there : (q : ℕ) → has_withdrawal (map withdrawal_in x.rows.acts.withdrawals.items) q ≡ contains_key withdrawals q
+  withdrawal_there q = ap (λ rows. has_withdrawal rows q) are.withdrawals ∙ sym (is_there nat_cmp_total (λ (w : row.Withdrawal). w.number) withdrawal_of t.withdrawals q)
+
+  -- the withdrawals that corrections name are there
+  pub correction_rule : list_all (λ r. is_withdrawn (has_withdrawal (map withdrawal_in x.rows.acts.withdrawals.items)) r.withdrawal) x.rows.production.corrections.items
+      ≡ list_all (λ c. is_withdrawal_there withdrawals c.withdrawal) (map correction_of t.corrections)
+  correction_rule =
+      rows_same (λ c. is_withdrawn (has_withdrawal (map withdrawal_in x.rows.acts.withdrawals.items)) c.withdrawal) correction_in x.rows.production.corrections.items t.corrections are.corrections
+      ∙ (λ i. list_all (λ c. (c.withdrawal == 0) || withdrawal_there c.withdrawal i) t.corrections)
+      ∙ (λ i. list_all (λ c. act_there withdrawals c.withdrawal (c.withdrawal == 0) i) t.corrections)
+      ∙ sym (list_all-map (λ c. is_withdrawal_there withdrawals c.withdrawal) correction_of t.corrections)
 
   -- the issuing body is no holder
   pub issuer_rule : list_all (λ r. is_no_issuer (holder_in r)) x.rows.members.holders.items ≡ not (contains_key holders issuer)

@@ -1,7 +1,8 @@
 -- The soundness of a state, as what is known by name and what is left: the certificates, their places, and the devices' production.
-use Rattle.std.proofs.Common.{◌≡◌, ℕ, true, None, List}
+use Rattle.std.proofs.Common.{◌≡◌, ℕ, ◌+◌, true, None, List, nat_le}
+use Rattle.std.specs.List.{list_all}
 use Rattle.goo_spec.specs.Declare.{declared_by}
-use Rattle.goo_spec.specs.Energy.{due, issued}
+use Rattle.goo_spec.specs.Energy.{net, lowered_by, due, issued, corrected}
 use Rattle.goo_spec.specs.Sound.{IsSound, AreOfKnownLots, ArePlacesThere, AreTimely, do_rise}
 use Rattle.goo_tables_rows.specs.Rows.{Tables}
 use Rattle.goo_spec_tables.specs.Kept.{AreKept}
@@ -15,7 +16,8 @@ pub record IsSoundOtherwise (t : Tables) : Type 0 where
   pub places : ArePlacesThere (state_of t).at (state_of t).accounts (state_of t).cancellations (state_of t).withdrawals (state_of t).sent
   pub times : AreTimely (state_of t).today (state_of t).at (state_of t).accounts
   pub periods : (device : List ℕ) → do_rise None (declared_by device (state_of t).declarations) ≡ true
-  pub issued_when_due : (device : List ℕ) → issued (state_of t) device ≡ due (state_of t) device
+  pub covered : list_all (λ x. nat_le (lowered_by (state_of t).corrections x) (net x)) (state_of t).declarations ≡ true
+  pub issued_when_due : (device : List ℕ) → issued (state_of t) device ≡ due (state_of t) device + corrected (state_of t) device
 
 -- the two together
 pub sound_whole : (t : Tables) → AreKeptByName t → IsSoundOtherwise t → IsSound (state_of t)
@@ -28,6 +30,7 @@ sound_whole t kept rest = record {
   holders = kept.sound.holders;
   devices = kept.sound.devices;
   declarations = record { device = kept.sound.declared; rising = rest.periods; aux = kept.sound.aux };
+  corrections = record { declared = kept.sound.corrected; net = rest.covered; act = kept.sound.withdrawn };
   times = rest.times;
   account_numbers = kept.sound.account_numbers;
   cancellation_numbers = kept.sound.cancellation_numbers;
@@ -51,6 +54,8 @@ sound_by_name_of t sound = record {
   withdrawal_numbers = sound.withdrawal_numbers;
   notice_numbers = sound.notice_numbers;
   peers = sound.peers;
+  corrected = sound.corrections.declared;
+  withdrawn = sound.corrections.act;
 }
 
 pub kept_by_name_of : (t : Tables) → AreKept t → AreKeptByName t
@@ -62,5 +67,6 @@ sound_otherwise_of t sound = record {
   places = sound.places;
   times = sound.times;
   periods = sound.declarations.rising;
+  covered = sound.corrections.net;
   issued_when_due = sound.issued_when_due;
 }

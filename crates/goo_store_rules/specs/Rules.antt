@@ -1,20 +1,19 @@
 -- All rules, over all that was read.
-use Rattle.std.specs.Prelude.{◌≡◌, ◌↔◌, true, All, map}
-use Rattle.std.specs.List.{list_all}
+use Rattle.std.specs.Prelude.{◌≡◌, ◌↔◌, true, All}
 use Rattle.sqlite.specs.Effect.{Database, IsDatabase}
-use Rattle.goo_tables_rows.specs.Rows.{Tables, lot_in, declaration_in}
+use Rattle.goo_tables_rows.specs.Rows.{Tables, lot_in}
 use Rattle.goo_tables_rows.specs.Stands.{Stands}
 use Rattle.goo_spec_tables.specs.Kept.{AreKept}
 use Rattle.goo_store_open.specs.Found.{AreOf}
 use Rattle.goo_store_open.specs.declared.finding.Found.{Found}
-use Rattle.goo_store_rules.specs.Keeping.{has_good_values, has_its_numbers, has_its_names, has_its_places, has_its_notices}
+use Rattle.goo_store_rules.specs.Keeping.{has_good_values, has_good_corrections, has_its_numbers, has_its_names, has_its_places, has_its_notices, has_its_declarations}
 use Rattle.goo_store_rules.specs.Lots.{IsGoodLot}
 use Rattle.goo_store_rules.specs.Production.{KeepsProduction}
-use Rattle.goo_store_rules.specs.WellKept.{has_declaration, is_declared}
 
 -- rules of rows by themselves, and of their numbers
 pub record KeepsValues (x : Found) : Type 0 where
   pub values : has_good_values x ≡ true
+  pub corrections : has_good_corrections x ≡ true
   pub numbers : has_its_numbers x ≡ true
   pub lots : All (λ row. IsGoodLot (lot_in row)) x.rows.production.lots.items
 
@@ -23,7 +22,7 @@ pub record KeepsNames (x : Found) : Type 0 where
   pub names : has_its_names x ≡ true
   pub places : has_its_places x ≡ true
   pub notices : has_its_notices x ≡ true
-  pub declared : list_all (λ row. is_declared (has_declaration (map declaration_in x.rows.production.declarations.items)) x.meta.code (lot_in row)) x.rows.production.lots.items ≡ true
+  pub declared : has_its_declarations x ≡ true
 
 pub record KeepsRules (x : Found) : Type 0 where
   pub values : KeepsValues x
@@ -32,4 +31,4 @@ pub record KeepsRules (x : Found) : Type 0 where
 
 -- what was read of a database keeps the rules that are judged just where its tables keep those of a registry
 abbrev pub RulesAreThose : Type 0
-RulesAreThose = (db : Database) (t : Tables) (x : Found) → Stands db t → IsDatabase db → AreOf t x → t.meta.version ≡ 1 → KeepsRules x ↔ AreKept t
+RulesAreThose = (db : Database) (t : Tables) (x : Found) → Stands db t → IsDatabase db → AreOf t x → t.meta.version ≡ 2 → KeepsRules x ↔ AreKept t

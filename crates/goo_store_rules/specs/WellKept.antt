@@ -126,3 +126,9 @@ has_pair set a b = list_any (λ k. eq_by_cmp text_pair_cmp (a, b) (bytes_pair k)
 -- an own lot was declared
 abbrev pub is_declared : (List ℕ → List ℕ → Bool) → ℕ → Lot → Bool
 is_declared has own l = not (l.origin == own) || has l.device l.first_day
+
+-- ---- corrections
+
+-- the withdrawal that a correction names is there, if it names one
+abbrev pub is_withdrawn : (ℕ → Bool) → ℕ → Bool
+is_withdrawn has act = (act == 0) || has act

@@ -1,4 +1,4 @@
-//! Whether the registry's own lots were declared.
+//! Whether the declarations that rows name are there.
 
 ghost use Rattle.std.specs.Prelude.{◌≡◌, String as Text, map, string_bytes, IfOk};
 ghost use Rattle.std.specs.List.{list_all};
@@ -8,6 +8,7 @@ ghost use Rattle.goo_tables_rows.specs.Rows.{declaration_in, lot_in};
 ghost use Rattle.goo_store_rules.specs.WellKept.{has_declaration, text_pair_cmp, bytes_pair, has_pair, is_declared};
 
 use crate::keys::has;
+use goo_tables_rows::correction::CorrectionRow;
 use goo_tables_rows::declaration::DeclarationRow;
 use goo_tables_rows::lot::LotRow;
 use std::alloc::{AllocError, Global};
@@ -49,6 +50,26 @@ pub fn own_lots_are_declared(
             if !has(periods, &period) {
                 return Ok(false);
             }
+        }
+    }
+    Ok(true)
+}
+
+/// Whether each correction is of a declaration.
+///
+/// # Errors
+///
+/// Where an allocation is refused.
+pub fn corrections_are_declared(
+    rows: &[CorrectionRow],
+    periods: &BTreeSet<(String, String)>,
+) -> Result<bool, AllocError>
+    ensures { IfOk result (λ yes. yes ≡ list_all (λ row. has_pair periods.now (string_bytes row.device) (string_bytes row.first_day)) rows.now) }
+{
+    for row in rows {
+        let declaration = (row.device.clone()?, row.first_day.clone()?);
+        if !has(periods, &declaration) {
+            return Ok(false);
         }
     }
     Ok(true)

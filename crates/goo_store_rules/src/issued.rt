@@ -1,24 +1,30 @@
-//! What was issued for what devices declared.
+//! What was issued for what devices declared, and what of it their corrections did not withdraw.
 
-ghost use Rattle.std.specs.Prelude.{◌≡◌, ◌+◌, ◌<◌, ◌^◌, ◌-◌, ◌≤◌, ℕ, List, true, map, sum_by, is_some, IsSome, IfSome, IfOk, OnOk};
+ghost use Rattle.std.specs.Prelude.{◌≡◌, ◌+◌, ◌<◌, ◌^◌, ◌-◌, ◌≤◌, ℕ, List, true, cond, map, sum_by, is_some, IsSome, IfSome, IfOk, OnOk};
 ghost use Rattle.std.specs.BTreeMap.{get};
 ghost use Rattle.std.specs.List.{list_all};
 ghost use Rattle.std.specs.Ordering.{nat_cmp};
+ghost use Rattle.goo_spec.specs.Energy.{is_taken_back};
+ghost use Rattle.goo_spec.specs.State.{Correction};
 ghost use Rattle.goo_tables_rows.specs.Rows.{Lot, lot_in};
+ghost use Rattle.goo_spec_tables.specs.Places.{place_of};
 ghost use Rattle.goo_spec_tables.specs.Readable.{is_lot};
-ghost use Rattle.goo_store_rules.specs.Production.{issued_by, is_due, is_lot_due, AreDevicesOf};
-ghost use Rattle.goo_store_rules.specs.Summing.{sum_at};
+ghost use Rattle.goo_store_rules.specs.Correcting.{AreTakenBack};
+ghost use Rattle.goo_store_rules.specs.Production.{standing_by, is_due, is_lot_due, AreDevicesOf};
+ghost use Rattle.goo_store_rules.specs.Summing.{sum_at, left_at};
 
 use crate::declares::gsrn_in;
+use crate::energy::{Energy, left_for};
 use crate::numbers::CERTIFICATE;
 use crate::sums::{add_to, sum_for};
+use crate::taken_back::is_taken;
 use goo_tables_rows::lot::LotRow;
 use goo_tables_rows::piece::PieceRow;
 use goo_types::command::Declare;
 use goo_types::gsrn::Gsrn;
 use goo_types::limits::SERIALS;
 use std::alloc::{AllocError, Global};
-use std::collections::BTreeMap;
+use std::collections::{BTreeMap, BTreeSet};
 
 /// Whether a lot of this number is there.
 fn is_known(devices: &BTreeMap<u64, Gsrn>, id: u64) -> bool
@@ -59,27 +65,41 @@ fn count_in(row: &PieceRow) -> u128
     (u128::from(row.last) + 1).saturating_sub(u128::from(row.first))
 }
 
-/// Adds a row's certificates to their device, where they are the own ones of the registry of this code.
+/// The same, but for a row that a correction of this device withdrew.
+fn standing_count(row: &PieceRow, device: &Gsrn, taken: &BTreeSet<(Gsrn, u32)>) -> u128
+    ensures value { (cs : List Correction) → AreTakenBack cs taken.now → result ≡ cond (is_taken_back device.now cs (place_of row.now.kind row.now.account row.now.act)) 0 (row.now.last + 1 - row.now.first) }
+    ensures small { result ≤ 2 ^ 64 }
+{
+    if row.kind == 4 && is_taken(taken, device, row.act) {
+        return 0;
+    }
+    count_in(row)
+}
+
+/// Adds a row's certificates to their device, where they are the own ones of the registry of this code and no correction
+/// withdrew them.
 fn add_issued(
     counts: &mut BTreeMap<Gsrn, u128>,
     own: u32,
     row: &PieceRow,
     devices: &BTreeMap<u64, Gsrn>,
+    taken: &BTreeSet<(Gsrn, u32)>,
 ) -> Result<(), AllocError>
     requires { (q : List ℕ) → sum_at counts.old q + 2 ^ 64 < 2 ^ 128 }
-    ensures added { OnOk result ((lots : List Lot) → AreDevicesOf lots devices.now → (q : List ℕ) → sum_at counts.new q ≡ sum_at counts.old q + issued_by own lots q row.now) }
+    ensures added { OnOk result ((lots : List Lot) → AreDevicesOf lots devices.now → (cs : List Correction) → AreTakenBack cs taken.now → (q : List ℕ) → sum_at counts.new q ≡ sum_at counts.old q + standing_by own lots cs q row.now) }
     ensures small { OnOk result ((q : List ℕ) → sum_at counts.new q ≤ sum_at counts.old q + 2 ^ 64) }
 {
     if row.first / SERIALS != u64::from(own) {
         return Ok(());
     }
     match devices.get(&row.lot) {
-        Some(device) => add_to(counts, *device, count_in(row)),
+        Some(device) => add_to(counts, *device, standing_count(row, device, taken)),
         None => Ok(()),
     }
 }
 
-/// How many certificates of the registry of this code were issued to each device.
+/// How many certificates of the registry of this code were issued to each device, but for those that its corrections
+/// withdrew.
 ///
 /// # Errors
 ///
@@ -89,32 +109,33 @@ pub fn count_issued(
     own: u32,
     rows: &[PieceRow],
     devices: &BTreeMap<u64, Gsrn>,
+    taken: &BTreeSet<(Gsrn, u32)>,
 ) -> Result<BTreeMap<Gsrn, u128>, AllocError>
-    ensures { IfOk result (λ counts. (lots : List Lot) → AreDevicesOf lots devices.now → (q : List ℕ) → sum_at counts q ≡ sum_by (issued_by own lots q) rows.now) }
+    ensures { IfOk result (λ counts. (lots : List Lot) → AreDevicesOf lots devices.now → (cs : List Correction) → AreTakenBack cs taken.now → (q : List ℕ) → sum_at counts q ≡ sum_by (standing_by own lots cs q) rows.now) }
 {
     let mut counts = BTreeMap::new(alloc);
     for row in rows {
-        add_issued(&mut counts, own, row, devices)?;
+        add_issued(&mut counts, own, row, devices, taken)?;
     }
     Ok(counts)
 }
 
 /// Whether a device was issued what is due, by these counts and sums.
-fn has_its_due(counts: &BTreeMap<Gsrn, u128>, sums: &BTreeMap<Gsrn, u128>, device: &Gsrn) -> bool
-    ensures { result ≡ is_due (sum_at counts.now) (sum_at sums.now) device.now }
+fn has_its_due(counts: &BTreeMap<Gsrn, u128>, energy: &Energy, device: &Gsrn) -> bool
+    ensures { result ≡ is_due (sum_at counts.now) (left_at energy.now) device.now }
 {
-    sum_for(counts, device) == sum_for(sums, device) / CERTIFICATE
+    sum_for(counts, device) == left_for(energy, device) / CERTIFICATE
 }
 
 /// Whether each device of these declarations was issued what is due.
 pub fn have_declared_due(
     declared: &[Declare],
     counts: &BTreeMap<Gsrn, u128>,
-    sums: &BTreeMap<Gsrn, u128>,
+    energy: &Energy,
 ) -> bool
-    ensures { result ≡ list_all (λ x. is_due (sum_at counts.now) (sum_at sums.now) x.device) declared.now }
+    ensures { result ≡ list_all (λ x. is_due (sum_at counts.now) (left_at energy.now) x.device) declared.now }
 {
-    declared.iter().all(|declaration| has_its_due(counts, sums, &declaration.device))
+    declared.iter().all(|declaration| has_its_due(counts, energy, &declaration.device))
 }
 
 /// Whether the device of a row's lot was issued what is due.
@@ -122,12 +143,12 @@ fn has_lot_due(
     row: &PieceRow,
     devices: &BTreeMap<u64, Gsrn>,
     counts: &BTreeMap<Gsrn, u128>,
-    sums: &BTreeMap<Gsrn, u128>,
+    energy: &Energy,
 ) -> bool
-    ensures { result ≡ is_lot_due (sum_at counts.now) (sum_at sums.now) (get nat_cmp devices.now row.now.lot) }
+    ensures { result ≡ is_lot_due (sum_at counts.now) (left_at energy.now) (get nat_cmp devices.now row.now.lot) }
 {
     match devices.get(&row.lot) {
-        Some(device) => has_its_due(counts, sums, device),
+        Some(device) => has_its_due(counts, energy, device),
         None => true,
     }
 }
@@ -137,10 +158,10 @@ pub fn have_issued_due(
     rows: &[PieceRow],
     devices: &BTreeMap<u64, Gsrn>,
     counts: &BTreeMap<Gsrn, u128>,
-    sums: &BTreeMap<Gsrn, u128>,
+    energy: &Energy,
 ) -> bool
-    ensures { result ≡ list_all (λ row. is_lot_due (sum_at counts.now) (sum_at sums.now) (get nat_cmp devices.now row.lot)) rows.now }
+    ensures { result ≡ list_all (λ row. is_lot_due (sum_at counts.now) (left_at energy.now) (get nat_cmp devices.now row.lot)) rows.now }
 {
     rows.iter()
-        .all(|row| has_lot_due(row, devices, counts, sums))
+        .all(|row| has_lot_due(row, devices, counts, energy))
 }

@@ -1,21 +1,22 @@
 //! All rules, judged over all that was read of a registry's tables.
 
 ghost use Rattle.std.specs.Prelude.{◌≡◌, ◌↔◌, ◌&&◌, IsTrue, IfOk};
-ghost use Rattle.goo_store_rules.specs.Keeping.{has_good_values, has_its_numbers};
+ghost use Rattle.goo_store_rules.specs.Keeping.{has_good_values, has_good_corrections, has_its_numbers};
 ghost use Rattle.goo_store_rules.specs.Rules.{KeepsValues, KeepsNames, KeepsRules};
 
-use crate::keeping::{are_accepted, are_named, are_notices, are_numbered, are_placed};
+use crate::keeping::{
+    are_accepted, are_corrections, are_declared, are_named, are_notices, are_numbered, are_placed,
+};
 use crate::lots::are_good;
-use crate::names::own_lots_have_declarations;
 use crate::produced::keeps_production;
 use goo_store_open::finding::Found;
 use std::alloc::{AllocError, Global};
 
 /// Whether the values of rows, and their numbers, are right.
 fn are_accepted_and_numbered(found: &Found) -> bool
-    ensures { result ≡ (has_good_values found.now && has_its_numbers found.now) }
+    ensures { result ≡ (has_good_values found.now && (has_good_corrections found.now && has_its_numbers found.now)) }
 {
-    are_accepted(found) && are_numbered(found)
+    are_accepted(found) && are_corrections(found) && are_numbered(found)
 }
 
 /// The same, and whether the days of lots are.
@@ -33,17 +34,11 @@ fn keeps_values(found: &Found) -> bool
 fn keeps_names(alloc: Global, found: &Found) -> Result<bool, AllocError>
     ensures { IfOk result (λ yes. IsTrue yes ↔ KeepsNames found.now) }
 {
-    let production = &found.rows.production;
     Ok(
         are_named(alloc, found)?
             && are_placed(alloc, found)?
             && are_notices(alloc, found)?
-            && own_lots_have_declarations(
-                alloc,
-                found.meta.code,
-                &production.lots,
-                &production.declarations,
-            )?,
+            && are_declared(alloc, found)?,
     )
 }
 

@@ -2,14 +2,18 @@
 #![tactic(auto)]
 
 pub mod apart;
+pub mod correct_record;
+pub mod corrects;
 pub mod declared;
 mod declares;
+pub mod energy;
 mod issued;
 pub mod judging;
 pub mod keeping;
 pub mod keys;
 pub mod lists;
 pub mod lots;
+mod lowered;
 pub mod marked;
 pub mod named;
 pub mod named_texts;
@@ -21,6 +25,7 @@ pub mod produced;
 mod progress;
 pub mod receipts;
 pub mod sums;
+pub mod taken_back;
 mod texts;
 pub mod there;
 pub mod values;

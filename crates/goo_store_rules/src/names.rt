@@ -4,19 +4,20 @@ ghost use Rattle.std.specs.Prelude.{◌≡◌, ◌&&◌, map, string_bytes, IfOk
 ghost use Rattle.std.specs.List.{list_all};
 ghost use Rattle.goo_types.specs.Number.{code_of};
 ghost use Rattle.goo_tables_rows.specs.Rows.{holder_in, account_in, device_in, declaration_in, lot_in, cancellation_in, withdrawal_in, notice_out_in};
-ghost use Rattle.goo_store_rules.specs.WellKept.{has_holder, has_account, has_device, has_cancellation, has_withdrawal, has_sent, has_lot_of, has_over, has_closed, act_in, is_timely, has_declaration, is_declared};
+ghost use Rattle.goo_store_rules.specs.WellKept.{has_holder, has_account, has_device, has_cancellation, has_withdrawal, has_sent, has_lot_of, has_over, has_closed, act_in, is_timely, has_declaration, is_declared, is_withdrawn};
 
-use crate::declared::{declared_periods, own_lots_are_declared};
+use crate::declared::{corrections_are_declared, declared_periods, own_lots_are_declared};
 use crate::marked::{closed_accounts, lot_origins, lots_over};
 use crate::named::{account_numbers, cancellation_numbers, sent_numbers, withdrawal_numbers};
 use crate::named_texts::{device_gsrns, holder_codes};
 use crate::there::{
-    ActNumbers, accounts_are_held, cancellations_have_accounts, declarations_have_devices,
-    devices_have_accounts, notices_have_accounts, pieces_are_in_time, pieces_are_of_origins,
-    pieces_have_accounts, pieces_have_acts,
+    ActNumbers, accounts_are_held, cancellations_have_accounts, corrections_are_withdrawn,
+    declarations_have_devices, devices_have_accounts, notices_have_accounts, pieces_are_in_time,
+    pieces_are_of_origins, pieces_have_accounts, pieces_have_acts,
 };
 use goo_tables_rows::account::AccountRow;
 use goo_tables_rows::cancellation::CancellationRow;
+use goo_tables_rows::correction::CorrectionRow;
 use goo_tables_rows::declaration::DeclarationRow;
 use goo_tables_rows::device::DeviceRow;
 use goo_tables_rows::holder::HolderRow;
@@ -152,19 +153,39 @@ pub fn places_are_in_time(
     Ok(pieces_are_in_time(pieces, &over, &closed))
 }
 
-/// Whether each lot of the registry of this code has a declaration of its device with its first day.
+/// Whether each lot of the registry of this code, and each correction, has a declaration of its device with its first day.
 ///
 /// # Errors
 ///
 /// Where an allocation is refused.
-pub fn own_lots_have_declarations(
+pub fn have_declarations(
     alloc: Global,
     own: u32,
     lots: &[LotRow],
+    corrections: &[CorrectionRow],
     declarations: &[DeclarationRow],
 ) -> Result<bool, AllocError>
-    ensures { IfOk result (λ yes. yes ≡ list_all (λ row. is_declared (has_declaration (map declaration_in declarations.now)) own (lot_in row)) lots.now) }
+    ensures { IfOk result (λ yes. yes ≡ (list_all (λ row. is_declared (has_declaration (map declaration_in declarations.now)) own (lot_in row)) lots.now && list_all (λ row. has_declaration (map declaration_in declarations.now) (string_bytes row.device) (string_bytes row.first_day)) corrections.now)) }
 {
     let periods = declared_periods(alloc, declarations)?;
-    own_lots_are_declared(own, lots, &periods)
+    Ok(
+        own_lots_are_declared(own, lots, &periods)?
+            && corrections_are_declared(corrections, &periods)?,
+    )
+}
+
+/// Whether each withdrawal that a correction names is there.
+///
+/// # Errors
+///
+/// Where an allocation is refused.
+pub fn withdrawals_are_there(
+    alloc: Global,
+    corrections: &[CorrectionRow],
+    withdrawals: &[WithdrawalRow],
+) -> Result<bool, AllocError>
+    ensures { IfOk result (λ yes. yes ≡ list_all (λ row. is_withdrawn (has_withdrawal (map withdrawal_in withdrawals.now)) row.withdrawal) corrections.now) }
+{
+    let numbers = withdrawal_numbers(alloc, withdrawals)?;
+    Ok(corrections_are_withdrawn(corrections, &numbers))
 }

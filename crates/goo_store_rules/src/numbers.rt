@@ -2,7 +2,7 @@
 
 ghost use Rattle.std.specs.Prelude.{◌≡◌};
 ghost use Rattle.goo_types.specs.Number.{is_number as is_certificate};
-ghost use Rattle.goo_spec_tables.specs.Readable.{is_code, is_act, is_next, is_wh, are_ends, names_act, is_reply};
+ghost use Rattle.goo_spec_tables.specs.Readable.{is_code, is_act, is_maybe_act, is_next, is_wh, are_ends, names_act};
 
 use goo_types::limits::{self, LAST_ACT, LAST_REGISTRY, MOST_WH, SERIALS};
 
@@ -28,6 +28,13 @@ pub fn is_given_long(n: u64) -> bool
     ensures { result ≡ is_act n }
 {
     1 <= n && n <= u64::from(LAST_ACT)
+}
+
+/// The number of an act, or 0 for none.
+pub fn is_given_or_none(n: u64) -> bool
+    ensures { result ≡ is_maybe_act n }
+{
+    n == 0 || is_given_long(n)
 }
 
 /// The next number of an account or of an act.

@@ -4,16 +4,21 @@ ghost use Rattle.std.specs.Prelude.{◌≡◌, ◌↔◌, ℕ, List, true, map, 
 ghost use Rattle.std.specs.List.{list_all};
 ghost use Rattle.goo_tables_rows.specs.Beside.{beside};
 ghost use Rattle.goo_tables_rows.specs.Rows.{Lot, device_in, lot_in};
+ghost use Rattle.goo_spec.specs.State.{Correction};
 ghost use Rattle.goo_spec_tables.specs.Places.{piece_of};
 ghost use Rattle.goo_spec_tables.specs.Readable.{is_device, is_lot};
-ghost use Rattle.goo_store_rules.specs.Production.{issued_by, AreDevicesOf, AreIssuedWhenDue, IsProductionAccepted, IsProductionKept, KeepsProduction};
-ghost use Rattle.goo_store_rules.specs.Summing.{sum_at, KeepsSums};
+ghost use Rattle.goo_store_rules.specs.Production.{standing_by, AreDevicesOf, AreIssuedWhenDue, IsProductionAccepted, IsProductionKept, IsCorrectedKept, KeepsProduction, pieces_in};
+ghost use Rattle.goo_store_rules.specs.Summing.{sum_at, KeepsEnergy};
 
+use crate::correct_record::CorrectRecord;
+use crate::corrects::corrects_in;
 use crate::declares::declares_in;
+use crate::energy::{Energy, sum_energy};
 use crate::issued::{count_issued, devices_of_lots, have_declared_due, have_issued_due};
+use crate::lowered::cover_corrections;
 use crate::periods::last_days;
 use crate::progress::keep_progress;
-use crate::sums::sum_declared;
+use crate::taken_back::withdrawals_of;
 use goo_store_open::rows::Production;
 use goo_tables_rows::device::DeviceRow;
 use goo_tables_rows::lot::LotRow;
@@ -26,18 +31,19 @@ use std::collections::BTreeMap;
 /// Whether each device of these declarations, and of the lots of these rows, was issued what is due.
 fn have_due(
     declared: &[Declare],
-    sums: &BTreeMap<Gsrn, u128>,
+    energy: &Energy,
     pieces: &[PieceRow],
     devices: &BTreeMap<u64, Gsrn>,
     counts: &BTreeMap<Gsrn, u128>,
 ) -> bool
-    ensures { (lots : List Lot) → AreDevicesOf lots devices.now → (own : ℕ) → ((q : List ℕ) → sum_at counts.now q ≡ sum_by (issued_by own lots q) pieces.now) → KeepsSums declared.now sums.now
-        → IsTrue result ↔ AreIssuedWhenDue own declared.now (map piece_of (beside lots pieces.now)) }
+    ensures { (lots : List Lot) → AreDevicesOf lots devices.now → (own : ℕ) → (cs : List Correction) → ((q : List ℕ) → sum_at counts.now q ≡ sum_by (standing_by own lots cs q) pieces.now) → KeepsEnergy declared.now cs energy.now
+        → IsTrue result ↔ AreIssuedWhenDue own declared.now cs (map piece_of (beside lots pieces.now)) }
 {
-    have_declared_due(declared, counts, sums) && have_issued_due(pieces, devices, counts, sums)
+    have_declared_due(declared, counts, energy) && have_issued_due(pieces, devices, counts, energy)
 }
 
-/// Whether each device was issued, by the registry of this code, what is due for its declarations, whose sums are these.
+/// Whether each device was issued, by the registry of this code, what is due for its declarations and corrections, whose
+/// sums are these.
 ///
 /// # Errors
 ///
@@ -46,18 +52,20 @@ fn were_issued_when_due(
     alloc: Global,
     own: u32,
     declared: &[Declare],
-    sums: &BTreeMap<Gsrn, u128>,
+    corrected: &[CorrectRecord],
+    energy: &Energy,
     lots: &[LotRow],
     pieces: &[PieceRow],
 ) -> Result<bool, AllocError>
-    ensures { KeepsSums declared.now sums.now → list_all (λ row. is_lot (lot_in row)) lots.now ≡ true
-        → IfOk result (λ yes. IsTrue yes ↔ AreIssuedWhenDue own declared.now (map piece_of (beside (map lot_in lots.now) pieces.now))) }
+    ensures { KeepsEnergy declared.now corrected.now energy.now → list_all (λ row. is_lot (lot_in row)) lots.now ≡ true
+        → IfOk result (λ yes. IsTrue yes ↔ AreIssuedWhenDue own declared.now corrected.now (map piece_of (beside (map lot_in lots.now) pieces.now))) }
 {
     let Some(devices) = devices_of_lots(alloc, lots)? else {
         return Ok(false);
     };
-    let counts = count_issued(alloc, own, pieces, &devices)?;
-    Ok(have_due(declared, sums, pieces, &devices, &counts))
+    let taken = withdrawals_of(alloc, corrected)?;
+    let counts = count_issued(alloc, own, pieces, &devices, &taken)?;
+    Ok(have_due(declared, energy, pieces, &devices, &counts))
 }
 
 /// Whether each device's periods rise, its row keeps what they come to, and it was issued what is due.
@@ -69,21 +77,51 @@ fn keeps_declared(
     alloc: Global,
     own: u32,
     declared: &[Declare],
+    corrected: &[CorrectRecord],
     devices: &[DeviceRow],
     lots: &[LotRow],
     pieces: &[PieceRow],
 ) -> Result<bool, AllocError>
     ensures { list_all (λ row. is_device (pos 0, device_in row)) devices.now ≡ true → list_all (λ row. is_lot (lot_in row)) lots.now ≡ true
-        → IfOk result (λ yes. IsTrue yes ↔ IsProductionKept own (map device_in devices.now) declared.now (map piece_of (beside (map lot_in lots.now) pieces.now))) }
+        → IfOk result (λ yes. IsTrue yes ↔ IsProductionKept own (map device_in devices.now) declared.now corrected.now (map piece_of (beside (map lot_in lots.now) pieces.now))) }
 {
     let Some(ends) = last_days(alloc, declared)? else {
         return Ok(false);
     };
-    let sums = sum_declared(alloc, declared)?;
-    if !keep_progress(devices, &ends, &sums) {
+    let energy = sum_energy(alloc, declared, corrected)?;
+    if !keep_progress(devices, &ends, &energy) {
         return Ok(false);
     }
-    were_issued_when_due(alloc, own, declared, &sums, lots, pieces)
+    were_issued_when_due(alloc, own, declared, corrected, &energy, lots, pieces)
+}
+
+/// The same, and whether no declaration was lowered by more than its net energy.
+///
+/// # Errors
+///
+/// Where an allocation is refused.
+fn keeps_corrected(
+    alloc: Global,
+    own: u32,
+    declared: &[Declare],
+    corrected: &[CorrectRecord],
+    rows: &Production,
+) -> Result<bool, AllocError>
+    ensures { IsProductionAccepted rows.now
+        → IfOk result (λ yes. IsTrue yes ↔ IsCorrectedKept own (map device_in rows.now.devices.items) declared.now corrected.now (pieces_in rows.now)) }
+{
+    if !cover_corrections(alloc, declared, corrected)? {
+        return Ok(false);
+    }
+    keeps_declared(
+        alloc,
+        own,
+        declared,
+        corrected,
+        &rows.devices,
+        &rows.lots,
+        &rows.pieces,
+    )
 }
 
 /// The same of the rows that were read.
@@ -94,15 +132,11 @@ fn keeps_declared(
 pub fn keeps_production(alloc: Global, own: u32, rows: &Production) -> Result<bool, AllocError>
     ensures { IsProductionAccepted rows.now → IfOk result (λ yes. IsTrue yes ↔ KeepsProduction own rows.now) }
 {
-    match declares_in(alloc, &rows.declarations)? {
-        Some(declared) => keeps_declared(
-            alloc,
-            own,
-            &declared,
-            &rows.devices,
-            &rows.lots,
-            &rows.pieces,
-        ),
-        None => Ok(false),
-    }
+    let Some(declared) = declares_in(alloc, &rows.declarations)? else {
+        return Ok(false);
+    };
+    let Some(corrected) = corrects_in(alloc, &rows.corrections)? else {
+        return Ok(false);
+    };
+    keeps_corrected(alloc, own, &declared, &corrected, rows)
 }

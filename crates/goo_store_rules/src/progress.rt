@@ -10,12 +10,12 @@ ghost use Rattle.goo_spec_tables.specs.Readable.{is_device, is_maybe_day, reads}
 ghost use Rattle.goo_types.specs.Day.{day_reading};
 ghost use Rattle.goo_spec_tables.specs.Texts.{day_of};
 ghost use Rattle.goo_store_rules.specs.Production.{HasProgress};
-ghost use Rattle.goo_store_rules.specs.Summing.{sum_at};
+ghost use Rattle.goo_store_rules.specs.Summing.{left_at};
 
 use crate::declares::gsrn_in;
+use crate::energy::{Energy, left_for};
 use crate::numbers::CERTIFICATE;
 use crate::periods::last_day_of;
-use crate::sums::sum_for;
 use goo_tables_rows::device::DeviceRow;
 use goo_types::day::Day;
 use goo_types::gsrn::Gsrn;
@@ -43,29 +43,25 @@ fn states_last(text: &Option<String>, day: Option<Day>) -> bool
 }
 
 /// Whether the row of a device keeps the end of its last period and the energy left over, by these ends and sums.
-fn keeps_progress(row: &DeviceRow, ends: &BTreeMap<Gsrn, Day>, sums: &BTreeMap<Gsrn, u128>) -> bool
-    ensures { is_device (pos 0, device_in row.now) ≡ true → IsTrue result ↔ HasProgress (get text_cmp ends.now) (sum_at sums.now) (device_in row.now) }
+fn keeps_progress(row: &DeviceRow, ends: &BTreeMap<Gsrn, Day>, energy: &Energy) -> bool
+    ensures { is_device (pos 0, device_in row.now) ≡ true → IsTrue result ↔ HasProgress (get text_cmp ends.now) (left_at energy.now) (device_in row.now) }
 {
     match gsrn_in(&row.gsrn) {
         Some(device) => {
             states_last(&row.last_day, last_day_of(ends, &device))
-                && u128::from(row.carry) == sum_for(sums, &device) % CERTIFICATE
+                && u128::from(row.carry) == left_for(energy, &device) % CERTIFICATE
         }
         None => false,
     }
 }
 
 /// Whether each row does.
-pub fn keep_progress(
-    rows: &[DeviceRow],
-    ends: &BTreeMap<Gsrn, Day>,
-    sums: &BTreeMap<Gsrn, u128>,
-) -> bool
-    ensures kept { list_all (λ row. is_device (pos 0, device_in row)) rows.now ≡ true → IsTrue result → All (λ row. HasProgress (get text_cmp ends.now) (sum_at sums.now) (device_in row)) rows.now }
-    ensures refused { list_all (λ row. is_device (pos 0, device_in row)) rows.now ≡ true → All (λ row. HasProgress (get text_cmp ends.now) (sum_at sums.now) (device_in row)) rows.now → IsTrue result }
+pub fn keep_progress(rows: &[DeviceRow], ends: &BTreeMap<Gsrn, Day>, energy: &Energy) -> bool
+    ensures kept { list_all (λ row. is_device (pos 0, device_in row)) rows.now ≡ true → IsTrue result → All (λ row. HasProgress (get text_cmp ends.now) (left_at energy.now) (device_in row)) rows.now }
+    ensures refused { list_all (λ row. is_device (pos 0, device_in row)) rows.now ≡ true → All (λ row. HasProgress (get text_cmp ends.now) (left_at energy.now) (device_in row)) rows.now → IsTrue result }
 {
     for row in rows {
-        if !keeps_progress(row, ends, sums) {
+        if !keeps_progress(row, ends, energy) {
             return false;
         }
     }

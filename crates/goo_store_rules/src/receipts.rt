@@ -2,9 +2,9 @@
 
 ghost use Rattle.std.specs.Prelude.{◌≡◌, ◌==◌, ◌&&◌, ◌||◌, pos};
 ghost use Rattle.goo_tables_rows.specs.Rows.{receipt_in};
-ghost use Rattle.goo_spec_tables.specs.Readable.{is_reply, is_receipt, is_act, are_ends};
+ghost use Rattle.goo_spec_tables.specs.Readable.{is_reply, is_receipt, is_act, is_maybe_act, are_ends};
 
-use crate::numbers::{is_given_long, is_range};
+use crate::numbers::{is_given_long, is_given_or_none, is_range};
 use crate::texts::{is_code_text, is_key};
 use goo_tables_rows::receipt::ReceiptRow;
 
@@ -25,6 +25,7 @@ fn accepts_reply(kind: u32, n1: u64, n2: u64, n3: u64) -> bool
         3 => n1 <= 999_999 && are_issued(n2, n3),
         4 | 7 | 9 => n2 == 0 && n3 == 0,
         5 | 6 | 8 => is_given_long(n1) && n3 == 0,
+        10 => n1 <= 999_999 && is_given_or_none(n3),
         _ => false,
     }
 }

@@ -2,9 +2,10 @@
 
 ghost use Rattle.std.specs.Prelude.{◌≡◌, ℕ, ◌+◌, ◌<◌, ◌^◌, List, cond, sum_by, IfOk, OnOk};
 ghost use Rattle.std.specs.Str.{bytes_eq};
-ghost use Rattle.goo_spec.specs.Energy.{net as net_energy, net_of};
+ghost use Rattle.goo_spec.specs.Energy.{net as net_energy, net_of, less_of};
 ghost use Rattle.goo_store_rules.specs.Summing.{sum_at};
 
+use crate::correct_record::CorrectRecord;
 use goo_types::command::Declare;
 use goo_types::gsrn::Gsrn;
 use std::alloc::{AllocError, Global};
@@ -35,7 +36,7 @@ pub fn add_to(sums: &mut BTreeMap<Gsrn, u128>, device: Gsrn, more: u128) -> Resu
 }
 
 /// The net energy of a declaration, in Wh.
-fn net(declaration: &Declare) -> u64
+pub(crate) fn net(declaration: &Declare) -> u64
     ensures { result ≡ net_energy declaration.now }
 {
     let aux = declaration.aux.get();
@@ -53,6 +54,28 @@ pub fn sum_declared(alloc: Global, declared: &[Declare]) -> Result<BTreeMap<Gsrn
     let mut sums = BTreeMap::new(alloc);
     for declaration in declared {
         add_to(&mut sums, declaration.device, u128::from(net(declaration)))?;
+    }
+    Ok(sums)
+}
+
+/// What corrections took off the energy of each device, in Wh.
+///
+/// # Errors
+///
+/// Where an allocation is refused.
+pub fn sum_lowered(
+    alloc: Global,
+    corrected: &[CorrectRecord],
+) -> Result<BTreeMap<Gsrn, u128>, AllocError>
+    ensures { IfOk result (λ sums. (q : List ℕ) → sum_at sums q ≡ sum_by (less_of q) corrected.now) }
+{
+    let mut sums = BTreeMap::new(alloc);
+    for correction in corrected {
+        add_to(
+            &mut sums,
+            correction.device,
+            u128::from(correction.less.get()),
+        )?;
     }
     Ok(sums)
 }

@@ -5,11 +5,12 @@ ghost use Rattle.std.specs.List.{list_all};
 ghost use Rattle.std.specs.Ordering.{nat_cmp};
 ghost use Rattle.goo_types.specs.Number.{code_of};
 ghost use Rattle.std.specs.BTreeSet.{contains};
-ghost use Rattle.goo_store_rules.specs.WellKept.{has_text, act_in, is_timely, pair_cmp};
+ghost use Rattle.goo_store_rules.specs.WellKept.{has_text, act_in, is_timely, pair_cmp, is_withdrawn};
 
 use crate::keys::has;
 use goo_tables_rows::account::AccountRow;
 use goo_tables_rows::cancellation::CancellationRow;
+use goo_tables_rows::correction::CorrectionRow;
 use goo_tables_rows::declaration::DeclarationRow;
 use goo_tables_rows::device::DeviceRow;
 use goo_tables_rows::notice_out::NoticeOutRow;
@@ -111,4 +112,11 @@ pub fn pieces_are_of_origins(rows: &[PieceRow], lots: &BTreeSet<(u64, u64)>) -> 
 {
     rows.iter()
         .all(|row| has(lots, &(row.lot, row.first / SERIALS)))
+}
+
+/// Whether the withdrawal that each correction names, if it names one, is one of these.
+pub fn corrections_are_withdrawn(rows: &[CorrectionRow], withdrawals: &BTreeSet<u32>) -> bool
+    ensures { result ≡ list_all (λ row. is_withdrawn (contains nat_cmp withdrawals.now) row.withdrawal) rows.now }
+{
+    rows.iter().all(|row| row.withdrawal == 0 || has(withdrawals, &row.withdrawal))
 }

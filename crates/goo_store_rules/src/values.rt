@@ -1,16 +1,19 @@
 //! Whether each value of a row is one that its reader or its limit accepts.
 
 ghost use Rattle.std.specs.Prelude.{◌≡◌, pos};
-ghost use Rattle.goo_tables_rows.specs.Rows.{plant_in, meta_in, holder_in, account_in, device_in, declaration_in, lot_in, receipt_in, cancellation_in, withdrawal_in};
-ghost use Rattle.goo_spec_tables.specs.Readable.{is_meta, is_holder, is_account, is_plant, is_device, is_declaration, is_lot, is_piece, is_peer, is_receipt, is_cancellation, is_withdrawal};
+ghost use Rattle.goo_tables_rows.specs.Rows.{plant_in, meta_in, holder_in, account_in, device_in, declaration_in, lot_in, receipt_in, cancellation_in, withdrawal_in, correction_in};
+ghost use Rattle.goo_spec_tables.specs.Readable.{is_meta, is_holder, is_account, is_plant, is_device, is_declaration, is_lot, is_piece, is_peer, is_receipt, is_cancellation, is_withdrawal, is_correction};
 
-use crate::numbers::{has_act, is_energy, is_free, is_given, is_range, is_registry};
+use crate::numbers::{
+    has_act, is_energy, is_free, is_given, is_given_or_none, is_range, is_registry,
+};
 use crate::texts::{
     is_code_text, is_country, is_day, is_day_or_none, is_gsrn, is_key, is_name, is_source,
     is_support, is_tech,
 };
 use goo_tables_rows::account::AccountRow;
 use goo_tables_rows::cancellation::CancellationRow;
+use goo_tables_rows::correction::CorrectionRow;
 use goo_tables_rows::declaration::DeclarationRow;
 use goo_tables_rows::device::DeviceRow;
 use goo_tables_rows::holder::HolderRow;
@@ -133,4 +136,14 @@ pub fn accepts_withdrawal(row: &WithdrawalRow) -> bool
         && is_range(row.first, row.last)
         && is_name(&row.reason)
         && is_day(&row.day)
+}
+
+/// A correction.
+pub fn accepts_correction(row: &CorrectionRow) -> bool
+    ensures { result ≡ is_correction (correction_in row.now) }
+{
+    is_gsrn(&row.device)
+        && is_day(&row.first_day)
+        && is_energy(row.less)
+        && is_given_or_none(u64::from(row.withdrawal))
 }

@@ -3,7 +3,8 @@
 ghost use Rattle.std.specs.Prelude.{◌≡◌, is_ok, nat_le, IfErr, IfOk};
 ghost use Rattle.goo_types.specs.Number.{is_number};
 ghost use Rattle.goo_types.specs.Range.{Numbers};
-ghost use Rattle.goo_spec_tables.specs.Readable.{is_code, is_act, is_between, is_wh, are_ends};
+ghost use Rattle.goo_spec_tables.specs.Readable.{is_code, is_act, is_maybe_act, is_between, is_wh, are_ends};
+ghost use Rattle.goo_spec_tables.specs.Records.{act_or_none as act_in};
 ghost use Rattle.goo_store_values.specs.declared.trouble.Trouble.TheVariants.{Refused};
 
 use crate::trouble::Trouble;
@@ -53,6 +54,18 @@ pub fn act_no(number: u32) -> Result<ActNo, Trouble>
         Some(number) => Ok(number),
         None => Err(Trouble::Refused),
     }
+}
+
+/// The number of an act, where 0 stands for none.
+pub fn act_or_none(number: u32) -> Result<Option<ActNo>, Trouble>
+    ensures value { IfOk result (λ act. act ≡ act_in number) }
+    ensures accepts { is_ok result ≡ is_maybe_act number }
+    ensures cause { IfErr result (λ trouble. trouble ≡ Refused) }
+{
+    if number == 0 {
+        return Ok(None);
+    }
+    Ok(Some(act_no(number)?))
 }
 
 /// A capacity in W.

@@ -18,7 +18,7 @@ use Rattle.sqlite.specs.State.{State, Writes, Executes, ExecutesInside, HasClean
 use Rattle.sqlite.proofs.Callers.{IsPlain, command_of, statement_of, runs_as}
 use Rattle.sqlite_schema.specs.declared.schema.Index.{Index}
 use Rattle.sqlite_keyed.proofs.ListLemmas.{all_both, all-append}
-use Rattle.goo_tables_rows.specs.Columns.{meta, holder, account, device, declaration, lot, piece, peer, receipt, cancellation, withdrawal, notice_out, notice_in, index_on, no_schema, registry_schema}
+use Rattle.goo_tables_rows.specs.Columns.{meta, holder, account, device, declaration, lot, piece, peer, receipt, cancellation, withdrawal, notice_out, notice_in, correction, device_carrier, lot_carrier, index_on, no_schema, registry_schema}
 use Rattle.goo_tables_rows.specs.Refused.{IsFault}
 use Rattle.goo_tables_rows.specs.Stands.{IsBare}
 use Rattle.goo_tables_rows.proofs.Inside.{keeps_itself, stays, keeps_then, survives_both}
@@ -131,9 +131,21 @@ makes_piece_by_kind : Leads (codes "CREATE INDEX piece_by_kind ON piece (kind, f
 unfolding understood everything
 makes_piece_by_kind = creates_index (begun_schema 13 8) (begun_schema 13 9) (codes "CREATE INDEX piece_by_kind ON piece (kind, first)") 6 piece (index_on (codes "piece_by_kind") 0 10 (4 ∷ 0 ∷ [])) refl refl (refl, refl) refl refl refl
 
+makes_correction : Leads (codes "CREATE TABLE correction (id INTEGER PRIMARY KEY, device TEXT NOT NULL, first_day TEXT NOT NULL, less INTEGER NOT NULL, withdrawal INTEGER NOT NULL) STRICT") (begun_schema 13 9) (begun_schema 14 9)
+unfolding understood everything
+makes_correction = creates (begun_schema 13 9) (begun_schema 14 9) (codes "CREATE TABLE correction (id INTEGER PRIMARY KEY, device TEXT NOT NULL, first_day TEXT NOT NULL, less INTEGER NOT NULL, withdrawal INTEGER NOT NULL) STRICT") (record correction { tree = 0 }) refl (refl, refl) refl refl refl refl
+
+makes_device_carrier : Leads (codes "CREATE TABLE device_carrier (gsrn TEXT NOT NULL PRIMARY KEY, carrier TEXT NOT NULL) STRICT") (begun_schema 14 9) (begun_schema 15 10)
+unfolding understood everything
+makes_device_carrier = creates (begun_schema 14 9) (begun_schema 15 10) (codes "CREATE TABLE device_carrier (gsrn TEXT NOT NULL PRIMARY KEY, carrier TEXT NOT NULL) STRICT") (record device_carrier { tree = 0 }) refl (refl, refl) refl refl refl refl
+
+makes_lot_carrier : Leads (codes "CREATE TABLE lot_carrier (lot INTEGER PRIMARY KEY, carrier TEXT NOT NULL) STRICT") (begun_schema 15 10) (begun_schema 16 10)
+unfolding understood everything
+makes_lot_carrier = creates (begun_schema 15 10) (begun_schema 16 10) (codes "CREATE TABLE lot_carrier (lot INTEGER PRIMARY KEY, carrier TEXT NOT NULL) STRICT") (record lot_carrier { tree = 0 }) refl (refl, refl) refl refl refl refl
+
 -- ---- all texts in turn
 
-pub leads : (i : ℕ) → i < 15 → Leads (get_or create_texts i []) (get_or stages i no_schema) (get_or stages (i + 1) no_schema)
+pub leads : (i : ℕ) → i < 18 → Leads (get_or create_texts i []) (get_or stages i no_schema) (get_or stages (i + 1) no_schema)
 leads zero low = makes_meta
 leads (suc zero) low = makes_holder
 leads (suc (suc zero)) low = makes_account
@@ -149,7 +161,10 @@ leads (suc (suc (suc (suc (suc (suc (suc (suc (suc (suc (suc zero))))))))))) low
 leads (suc (suc (suc (suc (suc (suc (suc (suc (suc (suc (suc (suc zero)))))))))))) low = makes_notice_in
 leads (suc (suc (suc (suc (suc (suc (suc (suc (suc (suc (suc (suc (suc zero))))))))))))) low = makes_piece_by_account
 leads (suc (suc (suc (suc (suc (suc (suc (suc (suc (suc (suc (suc (suc (suc zero)))))))))))))) low = makes_piece_by_kind
-leads (suc (suc (suc (suc (suc (suc (suc (suc (suc (suc (suc (suc (suc (suc (suc n))))))))))))))) low = absurd (omega (arith, low))
+leads (suc (suc (suc (suc (suc (suc (suc (suc (suc (suc (suc (suc (suc (suc (suc zero))))))))))))))) low = makes_correction
+leads (suc (suc (suc (suc (suc (suc (suc (suc (suc (suc (suc (suc (suc (suc (suc (suc zero)))))))))))))))) low = makes_device_carrier
+leads (suc (suc (suc (suc (suc (suc (suc (suc (suc (suc (suc (suc (suc (suc (suc (suc (suc zero))))))))))))))))) low = makes_lot_carrier
+leads (suc (suc (suc (suc (suc (suc (suc (suc (suc (suc (suc (suc (suc (suc (suc (suc (suc (suc n)))))))))))))))))) low = absurd (omega (arith, low))
 
 -- ---- from a database without tables to some of them, inside a transaction
 
@@ -216,4 +231,7 @@ bare_from db it = record {
   withdrawals = it.bare.1.1.1.1.1.1.1.1.1.1.0;
   notices_out = it.bare.1.1.1.1.1.1.1.1.1.1.1.0;
   notices_in = it.bare.1.1.1.1.1.1.1.1.1.1.1.1.0;
+  corrections = it.bare.1.1.1.1.1.1.1.1.1.1.1.1.1.0;
+  device_carriers = it.bare.1.1.1.1.1.1.1.1.1.1.1.1.1.1.0;
+  lot_carriers = it.bare.1.1.1.1.1.1.1.1.1.1.1.1.1.1.1.0;
 }

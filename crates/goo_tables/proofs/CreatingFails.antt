@@ -19,7 +19,7 @@ use Rattle.sqlite_tied.specs.Compute.{everything}
 use Rattle.sqlite_trees.specs.Sound.{fits_kind, is_free_name, begins, same_name}
 use Rattle.sqlite_value.specs.Order.{value_cmp}
 use Rattle.sqlite_keyed.proofs.ListLemmas.{all-slice_get}
-use Rattle.goo_tables_rows.specs.Columns.{meta, holder, account, device, declaration, lot, piece, peer, receipt, cancellation, withdrawal, notice_out, notice_in, index_on, no_schema}
+use Rattle.goo_tables_rows.specs.Columns.{meta, holder, account, device, declaration, lot, piece, peer, receipt, cancellation, withdrawal, notice_out, notice_in, correction, device_carrier, lot_carrier, index_on, no_schema}
 use Rattle.sqlite_catalog.specs.Change.{is_used, is_reserved, automatics, created, indexed}
 use Rattle.sqlite_catalog.specs.Listing.{is_formed, is_fit}
 use Rattle.sqlite_rules.specs.Lists.{Has}
@@ -311,7 +311,22 @@ unfolding understood everything fits_kind is_free_name begins same_name value_cm
 fails_piece_by_kind = index_fails (begun_schema 13 8) (get_or create_texts 14 []) 6 piece (index_on (codes "piece_by_kind") 0 10 (4 ∷ 0 ∷ [])) refl refl (refl, refl) refl refl refl
     (record { free = refl; utf8 = refl; plain_name = refl; table_utf8 = refl; few = refl; reals = refl; index_reals_fit = refl; fit = refl; short = refl }) refl
 
-pub fails : (i : ℕ) → i < 15 → FailsByFault (get_or create_texts i []) (get_or stages i no_schema)
+fails_correction : FailsByFault (get_or create_texts 15 []) (begun_schema 13 9)
+unfolding understood everything fits_kind is_free_name begins same_name value_cmp lib.Ieee.is_nan lib.Ieee.lt
+fails_correction = table_fails (begun_schema 13 9) (begun_schema 14 9) (get_or create_texts 15 []) (record correction { tree = 0 }) refl (refl, refl) refl refl refl
+    (record { free = refl; free_indexes = refl; utf8 = refl; plain_name = refl; few = refl; reals = refl; index_reals_fit = refl; formed = refl; fit = refl; short = refl }) refl refl refl refl
+
+fails_device_carrier : FailsByFault (get_or create_texts 16 []) (begun_schema 14 9)
+unfolding understood everything fits_kind is_free_name begins same_name value_cmp lib.Ieee.is_nan lib.Ieee.lt
+fails_device_carrier = table_fails (begun_schema 14 9) (begun_schema 15 10) (get_or create_texts 16 []) (record device_carrier { tree = 0 }) refl (refl, refl) refl refl refl
+    (record { free = refl; free_indexes = refl; utf8 = refl; plain_name = refl; few = refl; reals = refl; index_reals_fit = refl; formed = refl; fit = refl; short = refl }) refl refl refl refl
+
+fails_lot_carrier : FailsByFault (get_or create_texts 17 []) (begun_schema 15 10)
+unfolding understood everything fits_kind is_free_name begins same_name value_cmp lib.Ieee.is_nan lib.Ieee.lt
+fails_lot_carrier = table_fails (begun_schema 15 10) (begun_schema 16 10) (get_or create_texts 17 []) (record lot_carrier { tree = 0 }) refl (refl, refl) refl refl refl
+    (record { free = refl; free_indexes = refl; utf8 = refl; plain_name = refl; few = refl; reals = refl; index_reals_fit = refl; formed = refl; fit = refl; short = refl }) refl refl refl refl
+
+pub fails : (i : ℕ) → i < 18 → FailsByFault (get_or create_texts i []) (get_or stages i no_schema)
 fails zero low = fails_meta
 fails (suc zero) low = fails_holder
 fails (suc (suc zero)) low = fails_account
@@ -327,4 +342,7 @@ fails (suc (suc (suc (suc (suc (suc (suc (suc (suc (suc (suc zero))))))))))) low
 fails (suc (suc (suc (suc (suc (suc (suc (suc (suc (suc (suc (suc zero)))))))))))) low = fails_notice_in
 fails (suc (suc (suc (suc (suc (suc (suc (suc (suc (suc (suc (suc (suc zero))))))))))))) low = fails_piece_by_account
 fails (suc (suc (suc (suc (suc (suc (suc (suc (suc (suc (suc (suc (suc (suc zero)))))))))))))) low = fails_piece_by_kind
-fails (suc (suc (suc (suc (suc (suc (suc (suc (suc (suc (suc (suc (suc (suc (suc n))))))))))))))) low = absurd (omega (arith, low))
+fails (suc (suc (suc (suc (suc (suc (suc (suc (suc (suc (suc (suc (suc (suc (suc zero))))))))))))))) low = fails_correction
+fails (suc (suc (suc (suc (suc (suc (suc (suc (suc (suc (suc (suc (suc (suc (suc (suc zero)))))))))))))))) low = fails_device_carrier
+fails (suc (suc (suc (suc (suc (suc (suc (suc (suc (suc (suc (suc (suc (suc (suc (suc (suc zero))))))))))))))))) low = fails_lot_carrier
+fails (suc (suc (suc (suc (suc (suc (suc (suc (suc (suc (suc (suc (suc (suc (suc (suc (suc (suc n)))))))))))))))))) low = absurd (omega (arith, low))

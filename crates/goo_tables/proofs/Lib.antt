@@ -5,6 +5,9 @@ pub mod Peers
 pub mod Receipts
 pub mod Cancellations
 pub mod Withdrawals
+pub mod Corrections
+pub mod DeviceCarriers
+pub mod LotCarriers
 pub mod NoticesOut
 pub mod NoticesIn
 pub mod MetaTable

@@ -22,7 +22,10 @@ create_texts =
     ∷ codes "CREATE TABLE notice_out (number INTEGER PRIMARY KEY, account INTEGER NOT NULL, body TEXT NOT NULL) STRICT"
     ∷ codes "CREATE TABLE notice_in (sender INTEGER NOT NULL, number INTEGER NOT NULL, body TEXT NOT NULL, PRIMARY KEY (sender, number)) STRICT"
     ∷ codes "CREATE INDEX piece_by_account ON piece (account, first)"
-    ∷ codes "CREATE INDEX piece_by_kind ON piece (kind, first)" ∷ []
+    ∷ codes "CREATE INDEX piece_by_kind ON piece (kind, first)"
+    ∷ codes "CREATE TABLE correction (id INTEGER PRIMARY KEY, device TEXT NOT NULL, first_day TEXT NOT NULL, less INTEGER NOT NULL, withdrawal INTEGER NOT NULL) STRICT"
+    ∷ codes "CREATE TABLE device_carrier (gsrn TEXT NOT NULL PRIMARY KEY, carrier TEXT NOT NULL) STRICT"
+    ∷ codes "CREATE TABLE lot_carrier (lot INTEGER PRIMARY KEY, carrier TEXT NOT NULL) STRICT" ∷ []
 
 -- the schema with so many of the tables and of the indexes
 abbrev pub begun_schema : ℕ → ℕ → Schema
@@ -51,4 +54,7 @@ stages =
     ∷ begun_schema 12 6
     ∷ begun_schema 13 7
     ∷ begun_schema 13 8
-    ∷ begun_schema 13 9 ∷ []
+    ∷ begun_schema 13 9
+    ∷ begun_schema 14 9
+    ∷ begun_schema 15 10
+    ∷ begun_schema 16 10 ∷ []

@@ -13,7 +13,7 @@ use sqlite::{Alter, Error, Transaction};
 
 /// The statements that `create_tables` runs, in turn.
 fn statement(at: u32) -> &'static str
-    requires { at < 15 }
+    requires { at < 18 }
     ensures { result.now ≡ get_or create_texts at [] }
 {
     match at {
@@ -42,14 +42,19 @@ fn statement(at: u32) -> &'static str
         12 =>
             "CREATE TABLE notice_in (sender INTEGER NOT NULL, number INTEGER NOT NULL, body TEXT NOT NULL, PRIMARY KEY (sender, number)) STRICT",
         13 => "CREATE INDEX piece_by_account ON piece (account, first)",
-        _ => "CREATE INDEX piece_by_kind ON piece (kind, first)",
+        14 => "CREATE INDEX piece_by_kind ON piece (kind, first)",
+        15 =>
+            "CREATE TABLE correction (id INTEGER PRIMARY KEY, device TEXT NOT NULL, first_day TEXT NOT NULL, less INTEGER NOT NULL, withdrawal INTEGER NOT NULL) STRICT",
+        16 =>
+            "CREATE TABLE device_carrier (gsrn TEXT NOT NULL PRIMARY KEY, carrier TEXT NOT NULL) STRICT",
+        _ => "CREATE TABLE lot_carrier (lot INTEGER PRIMARY KEY, carrier TEXT NOT NULL) STRICT",
     }
 }
 
-/// Makes all tables of version 1 in a database that has none, each without a row, and their indexes. Nothing is committed.
+/// Makes all tables of version 2 in a database that has none, each without a row, and their indexes. Nothing is committed.
 ///
 /// No table ends in a column that may be NULL: a stored row may lack its last columns, and no query tells that from NULL.
-/// What a later version adds comes after these.
+/// What version 2 added to version 1 comes after the rest, and what a later version adds comes after these.
 ///
 /// # Errors
 ///
@@ -65,7 +70,7 @@ pub fn create_tables<S: Alter>(tx: &mut Transaction<'_, S>) -> Result<(), Error>
     ensures uncommitted { HasCleanDisk (state S.Store tx.new.conn.now) → KeepsCommit (state S.Store tx.old.conn.now) (state S.Store tx.new.conn.now) }
     ensures survives { Survives (state S.Store tx.old.conn.now) (state S.Store tx.new.conn.now) (λ _. ⊥) }
 {
-    for at in 0..15 {
+    for at in 0..18 {
         put(tx, statement(at), &[])?;
     }
     Ok(())

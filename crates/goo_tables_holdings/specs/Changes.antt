@@ -4,7 +4,7 @@ use Rattle.std.specs.Ordering.{int_eq}
 use Rattle.sqlite_typed.specs.Tests.{bytes_eq}
 use Rattle.sqlite_keyed.specs.Lists.{update_where, delete_where}
 use Rattle.sqlite_keyed.specs.Keyed.{insert_by, next_key}
-use Rattle.goo_tables_rows.specs.Rows.{Tables, Kept, kept_key, Meta, Holder, Account, Device, Declaration, Lot, Receipt, Cancellation, Withdrawal, NoticeOut, NoticeIn, account_key, declaration_key, lot_key, piece_key, cancellation_key, withdrawal_key, notice_out_key}
+use Rattle.goo_tables_rows.specs.Rows.{Tables, Kept, kept_key, Meta, Holder, Account, Device, Declaration, Lot, Receipt, Cancellation, Withdrawal, NoticeOut, NoticeIn, Correction, account_key, declaration_key, lot_key, piece_key, cancellation_key, withdrawal_key, notice_out_key, correction_key}
 use Rattle.goo_tables_rows.specs.declared.meta.MetaRow.{MetaRow}
 use Rattle.goo_tables_rows.specs.declared.device.DeviceRow.{DeviceRow}
 use Rattle.goo_tables_rows.specs.declared.declaration.DeclarationRow.{DeclarationRow}
@@ -14,6 +14,7 @@ use Rattle.goo_tables_rows.specs.declared.peer.PeerRow.{PeerRow}
 use Rattle.goo_tables_rows.specs.declared.receipt.ReceiptRow.{ReceiptRow}
 use Rattle.goo_tables_rows.specs.declared.cancellation.CancellationRow.{CancellationRow}
 use Rattle.goo_tables_rows.specs.declared.withdrawal.WithdrawalRow.{WithdrawalRow}
+use Rattle.goo_tables_rows.specs.declared.correction.CorrectionRow.{CorrectionRow}
 use Rattle.goo_tables_holdings.specs.declared.counters.CountersRow.{CountersRow}
 
 -- a row under the next rowid
@@ -56,6 +57,9 @@ with_notice_out t x = record t { notices_out = insert_by notice_out_key t.notice
 abbrev pub with_notice_in : Tables → NoticeIn → Tables
 with_notice_in t x = record t { notices_in = added t.notices_in x }
 
+abbrev pub with_correction : Tables → Correction → Tables
+with_correction t x = record t { corrections = insert_by correction_key t.corrections x }
+
 -- ---- meta
 
 -- a registry that has just begun
@@ -74,6 +78,9 @@ begun meta = record {
   withdrawals = [];
   notices_out = [];
   notices_in = [];
+  corrections = [];
+  device_carriers = [];
+  lot_carriers = [];
 }
 
 abbrev pub at_day : Tables → List ℕ → Tables
@@ -129,6 +136,9 @@ CancellationFits x = (x.first < 2 ^ 63) × (x.last < 2 ^ 63)
 
 abbrev pub WithdrawalFits : WithdrawalRow → Type 0
 WithdrawalFits x = (x.first < 2 ^ 63) × (x.last < 2 ^ 63)
+
+abbrev pub CorrectionFits : CorrectionRow → Type 0
+CorrectionFits x = (x.id < 2 ^ 63) × (x.less < 2 ^ 63)
 
 abbrev pub CountersFit : CountersRow → Type 0
 CountersFit c = c.next_serial < 2 ^ 63

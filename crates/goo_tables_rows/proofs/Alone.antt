@@ -6,7 +6,7 @@ use Rattle.sqlite.specs.Tree.{Trees}
 use Rattle.sqlite.specs.Effect.{Database}
 use Rattle.sqlite.specs.Table.{Table}
 use Rattle.goo_tables_rows.specs.Columns.{registry_schema, registry_tables}
-use Rattle.goo_tables_rows.specs.Rows.{Tables, Meta, meta_row, kept_key, Kept, holder_row, Holder, account_row, account_key, Account, device_row, Device, declaration_row, declaration_key, Declaration, lot_row, lot_key, Lot, piece_row, piece_key, peer_row, receipt_row, Receipt, cancellation_row, cancellation_key, Cancellation, withdrawal_row, withdrawal_key, Withdrawal, notice_out_row, notice_out_key, NoticeOut, notice_in_row, NoticeIn}
+use Rattle.goo_tables_rows.specs.Rows.{Tables, Meta, meta_row, kept_key, Kept, holder_row, Holder, account_row, account_key, Account, device_row, Device, declaration_row, declaration_key, Declaration, lot_row, lot_key, Lot, piece_row, piece_key, peer_row, receipt_row, Receipt, cancellation_row, cancellation_key, Cancellation, withdrawal_row, withdrawal_key, Withdrawal, notice_out_row, notice_out_key, NoticeOut, notice_in_row, NoticeIn, Correction, correction_row, correction_key, DeviceCarrier, device_carrier_row, LotCarrier, lot_carrier_row, lot_carrier_key}
 use Rattle.goo_tables_rows.specs.declared.piece.PieceRow.{PieceRow}
 use Rattle.goo_tables_rows.specs.declared.peer.PeerRow.{PeerRow}
 use Rattle.goo_tables_rows.specs.Stands.{Stands, Keeps, IsBare}
@@ -35,6 +35,9 @@ module _ (old new : Database) (t : Tables) (it : Stands old t) (schema : new.sch
     withdrawals = same_rows (others.1.1.1.1.1.1.1.1.1.1.0 (λ e. omega (arith, e))) it.withdrawals;
     notices_out = same_rows (others.1.1.1.1.1.1.1.1.1.1.1.0 (λ e. omega (arith, e))) it.notices_out;
     notices_in = same_rows (others.1.1.1.1.1.1.1.1.1.1.1.1.0 (λ e. omega (arith, e))) it.notices_in;
+    corrections = same_rows (others.1.1.1.1.1.1.1.1.1.1.1.1.1.0 (λ e. omega (arith, e))) it.corrections;
+    device_carriers = same_rows (others.1.1.1.1.1.1.1.1.1.1.1.1.1.1.0 (λ e. omega (arith, e))) it.device_carriers;
+    lot_carriers = same_rows (others.1.1.1.1.1.1.1.1.1.1.1.1.1.1.1.0 (λ e. omega (arith, e))) it.lot_carriers;
   }
 
   pub holders_stand : IsAlone 1 old.trees new.trees → (xs : List (Kept Holder)) → Keeps (new.trees 1) holder_row kept_key xs → Stands new (record t { holders = xs })
@@ -53,6 +56,9 @@ module _ (old new : Database) (t : Tables) (it : Stands old t) (schema : new.sch
     withdrawals = same_rows (others.1.1.1.1.1.1.1.1.1.1.0 (λ e. omega (arith, e))) it.withdrawals;
     notices_out = same_rows (others.1.1.1.1.1.1.1.1.1.1.1.0 (λ e. omega (arith, e))) it.notices_out;
     notices_in = same_rows (others.1.1.1.1.1.1.1.1.1.1.1.1.0 (λ e. omega (arith, e))) it.notices_in;
+    corrections = same_rows (others.1.1.1.1.1.1.1.1.1.1.1.1.1.0 (λ e. omega (arith, e))) it.corrections;
+    device_carriers = same_rows (others.1.1.1.1.1.1.1.1.1.1.1.1.1.1.0 (λ e. omega (arith, e))) it.device_carriers;
+    lot_carriers = same_rows (others.1.1.1.1.1.1.1.1.1.1.1.1.1.1.1.0 (λ e. omega (arith, e))) it.lot_carriers;
   }
 
   pub accounts_stand : IsAlone 3 old.trees new.trees → (xs : List Account) → Keeps (new.trees 3) account_row account_key xs → Stands new (record t { accounts = xs })
@@ -71,6 +77,9 @@ module _ (old new : Database) (t : Tables) (it : Stands old t) (schema : new.sch
     withdrawals = same_rows (others.1.1.1.1.1.1.1.1.1.1.0 (λ e. omega (arith, e))) it.withdrawals;
     notices_out = same_rows (others.1.1.1.1.1.1.1.1.1.1.1.0 (λ e. omega (arith, e))) it.notices_out;
     notices_in = same_rows (others.1.1.1.1.1.1.1.1.1.1.1.1.0 (λ e. omega (arith, e))) it.notices_in;
+    corrections = same_rows (others.1.1.1.1.1.1.1.1.1.1.1.1.1.0 (λ e. omega (arith, e))) it.corrections;
+    device_carriers = same_rows (others.1.1.1.1.1.1.1.1.1.1.1.1.1.1.0 (λ e. omega (arith, e))) it.device_carriers;
+    lot_carriers = same_rows (others.1.1.1.1.1.1.1.1.1.1.1.1.1.1.1.0 (λ e. omega (arith, e))) it.lot_carriers;
   }
 
   pub devices_stand : IsAlone 4 old.trees new.trees → (xs : List (Kept Device)) → Keeps (new.trees 4) device_row kept_key xs → Stands new (record t { devices = xs })
@@ -89,6 +98,9 @@ module _ (old new : Database) (t : Tables) (it : Stands old t) (schema : new.sch
     withdrawals = same_rows (others.1.1.1.1.1.1.1.1.1.1.0 (λ e. omega (arith, e))) it.withdrawals;
     notices_out = same_rows (others.1.1.1.1.1.1.1.1.1.1.1.0 (λ e. omega (arith, e))) it.notices_out;
     notices_in = same_rows (others.1.1.1.1.1.1.1.1.1.1.1.1.0 (λ e. omega (arith, e))) it.notices_in;
+    corrections = same_rows (others.1.1.1.1.1.1.1.1.1.1.1.1.1.0 (λ e. omega (arith, e))) it.corrections;
+    device_carriers = same_rows (others.1.1.1.1.1.1.1.1.1.1.1.1.1.1.0 (λ e. omega (arith, e))) it.device_carriers;
+    lot_carriers = same_rows (others.1.1.1.1.1.1.1.1.1.1.1.1.1.1.1.0 (λ e. omega (arith, e))) it.lot_carriers;
   }
 
   pub declarations_stand : IsAlone 6 old.trees new.trees → (xs : List Declaration) → Keeps (new.trees 6) declaration_row declaration_key xs → Stands new (record t { declarations = xs })
@@ -107,6 +119,9 @@ module _ (old new : Database) (t : Tables) (it : Stands old t) (schema : new.sch
     withdrawals = same_rows (others.1.1.1.1.1.1.1.1.1.1.0 (λ e. omega (arith, e))) it.withdrawals;
     notices_out = same_rows (others.1.1.1.1.1.1.1.1.1.1.1.0 (λ e. omega (arith, e))) it.notices_out;
     notices_in = same_rows (others.1.1.1.1.1.1.1.1.1.1.1.1.0 (λ e. omega (arith, e))) it.notices_in;
+    corrections = same_rows (others.1.1.1.1.1.1.1.1.1.1.1.1.1.0 (λ e. omega (arith, e))) it.corrections;
+    device_carriers = same_rows (others.1.1.1.1.1.1.1.1.1.1.1.1.1.1.0 (λ e. omega (arith, e))) it.device_carriers;
+    lot_carriers = same_rows (others.1.1.1.1.1.1.1.1.1.1.1.1.1.1.1.0 (λ e. omega (arith, e))) it.lot_carriers;
   }
 
   pub lots_stand : IsAlone 8 old.trees new.trees → (xs : List Lot) → Keeps (new.trees 8) lot_row lot_key xs → Stands new (record t { lots = xs })
@@ -125,6 +140,9 @@ module _ (old new : Database) (t : Tables) (it : Stands old t) (schema : new.sch
     withdrawals = same_rows (others.1.1.1.1.1.1.1.1.1.1.0 (λ e. omega (arith, e))) it.withdrawals;
     notices_out = same_rows (others.1.1.1.1.1.1.1.1.1.1.1.0 (λ e. omega (arith, e))) it.notices_out;
     notices_in = same_rows (others.1.1.1.1.1.1.1.1.1.1.1.1.0 (λ e. omega (arith, e))) it.notices_in;
+    corrections = same_rows (others.1.1.1.1.1.1.1.1.1.1.1.1.1.0 (λ e. omega (arith, e))) it.corrections;
+    device_carriers = same_rows (others.1.1.1.1.1.1.1.1.1.1.1.1.1.1.0 (λ e. omega (arith, e))) it.device_carriers;
+    lot_carriers = same_rows (others.1.1.1.1.1.1.1.1.1.1.1.1.1.1.1.0 (λ e. omega (arith, e))) it.lot_carriers;
   }
 
   pub pieces_stand : IsAlone 10 old.trees new.trees → (xs : List PieceRow) → Keeps (new.trees 10) piece_row piece_key xs → Stands new (record t { pieces = xs })
@@ -143,6 +161,9 @@ module _ (old new : Database) (t : Tables) (it : Stands old t) (schema : new.sch
     withdrawals = same_rows (others.1.1.1.1.1.1.1.1.1.1.0 (λ e. omega (arith, e))) it.withdrawals;
     notices_out = same_rows (others.1.1.1.1.1.1.1.1.1.1.1.0 (λ e. omega (arith, e))) it.notices_out;
     notices_in = same_rows (others.1.1.1.1.1.1.1.1.1.1.1.1.0 (λ e. omega (arith, e))) it.notices_in;
+    corrections = same_rows (others.1.1.1.1.1.1.1.1.1.1.1.1.1.0 (λ e. omega (arith, e))) it.corrections;
+    device_carriers = same_rows (others.1.1.1.1.1.1.1.1.1.1.1.1.1.1.0 (λ e. omega (arith, e))) it.device_carriers;
+    lot_carriers = same_rows (others.1.1.1.1.1.1.1.1.1.1.1.1.1.1.1.0 (λ e. omega (arith, e))) it.lot_carriers;
   }
 
   pub peers_stand : IsAlone 11 old.trees new.trees → (xs : List (Kept PeerRow)) → Keeps (new.trees 11) peer_row kept_key xs → Stands new (record t { peers = xs })
@@ -161,6 +182,9 @@ module _ (old new : Database) (t : Tables) (it : Stands old t) (schema : new.sch
     withdrawals = same_rows (others.1.1.1.1.1.1.1.1.1.1.0 (λ e. omega (arith, e))) it.withdrawals;
     notices_out = same_rows (others.1.1.1.1.1.1.1.1.1.1.1.0 (λ e. omega (arith, e))) it.notices_out;
     notices_in = same_rows (others.1.1.1.1.1.1.1.1.1.1.1.1.0 (λ e. omega (arith, e))) it.notices_in;
+    corrections = same_rows (others.1.1.1.1.1.1.1.1.1.1.1.1.1.0 (λ e. omega (arith, e))) it.corrections;
+    device_carriers = same_rows (others.1.1.1.1.1.1.1.1.1.1.1.1.1.1.0 (λ e. omega (arith, e))) it.device_carriers;
+    lot_carriers = same_rows (others.1.1.1.1.1.1.1.1.1.1.1.1.1.1.1.0 (λ e. omega (arith, e))) it.lot_carriers;
   }
 
   pub receipts_stand : IsAlone 13 old.trees new.trees → (xs : List (Kept Receipt)) → Keeps (new.trees 13) receipt_row kept_key xs → Stands new (record t { receipts = xs })
@@ -179,6 +203,9 @@ module _ (old new : Database) (t : Tables) (it : Stands old t) (schema : new.sch
     withdrawals = same_rows (others.1.1.1.1.1.1.1.1.1.1.0 (λ e. omega (arith, e))) it.withdrawals;
     notices_out = same_rows (others.1.1.1.1.1.1.1.1.1.1.1.0 (λ e. omega (arith, e))) it.notices_out;
     notices_in = same_rows (others.1.1.1.1.1.1.1.1.1.1.1.1.0 (λ e. omega (arith, e))) it.notices_in;
+    corrections = same_rows (others.1.1.1.1.1.1.1.1.1.1.1.1.1.0 (λ e. omega (arith, e))) it.corrections;
+    device_carriers = same_rows (others.1.1.1.1.1.1.1.1.1.1.1.1.1.1.0 (λ e. omega (arith, e))) it.device_carriers;
+    lot_carriers = same_rows (others.1.1.1.1.1.1.1.1.1.1.1.1.1.1.1.0 (λ e. omega (arith, e))) it.lot_carriers;
   }
 
   pub cancellations_stand : IsAlone 15 old.trees new.trees → (xs : List Cancellation) → Keeps (new.trees 15) cancellation_row cancellation_key xs → Stands new (record t { cancellations = xs })
@@ -197,6 +224,9 @@ module _ (old new : Database) (t : Tables) (it : Stands old t) (schema : new.sch
     withdrawals = same_rows (others.1.1.1.1.1.1.1.1.1.1.0 (λ e. omega (arith, e))) it.withdrawals;
     notices_out = same_rows (others.1.1.1.1.1.1.1.1.1.1.1.0 (λ e. omega (arith, e))) it.notices_out;
     notices_in = same_rows (others.1.1.1.1.1.1.1.1.1.1.1.1.0 (λ e. omega (arith, e))) it.notices_in;
+    corrections = same_rows (others.1.1.1.1.1.1.1.1.1.1.1.1.1.0 (λ e. omega (arith, e))) it.corrections;
+    device_carriers = same_rows (others.1.1.1.1.1.1.1.1.1.1.1.1.1.1.0 (λ e. omega (arith, e))) it.device_carriers;
+    lot_carriers = same_rows (others.1.1.1.1.1.1.1.1.1.1.1.1.1.1.1.0 (λ e. omega (arith, e))) it.lot_carriers;
   }
 
   pub withdrawals_stand : IsAlone 16 old.trees new.trees → (xs : List Withdrawal) → Keeps (new.trees 16) withdrawal_row withdrawal_key xs → Stands new (record t { withdrawals = xs })
@@ -215,6 +245,9 @@ module _ (old new : Database) (t : Tables) (it : Stands old t) (schema : new.sch
     withdrawals = is;
     notices_out = same_rows (others.1.1.1.1.1.1.1.1.1.1.1.0 (λ e. omega (arith, e))) it.notices_out;
     notices_in = same_rows (others.1.1.1.1.1.1.1.1.1.1.1.1.0 (λ e. omega (arith, e))) it.notices_in;
+    corrections = same_rows (others.1.1.1.1.1.1.1.1.1.1.1.1.1.0 (λ e. omega (arith, e))) it.corrections;
+    device_carriers = same_rows (others.1.1.1.1.1.1.1.1.1.1.1.1.1.1.0 (λ e. omega (arith, e))) it.device_carriers;
+    lot_carriers = same_rows (others.1.1.1.1.1.1.1.1.1.1.1.1.1.1.1.0 (λ e. omega (arith, e))) it.lot_carriers;
   }
 
   pub notices_out_stand : IsAlone 17 old.trees new.trees → (xs : List NoticeOut) → Keeps (new.trees 17) notice_out_row notice_out_key xs → Stands new (record t { notices_out = xs })
@@ -233,6 +266,9 @@ module _ (old new : Database) (t : Tables) (it : Stands old t) (schema : new.sch
     withdrawals = same_rows (others.1.1.1.1.1.1.1.1.1.1.0 (λ e. omega (arith, e))) it.withdrawals;
     notices_out = is;
     notices_in = same_rows (others.1.1.1.1.1.1.1.1.1.1.1.1.0 (λ e. omega (arith, e))) it.notices_in;
+    corrections = same_rows (others.1.1.1.1.1.1.1.1.1.1.1.1.1.0 (λ e. omega (arith, e))) it.corrections;
+    device_carriers = same_rows (others.1.1.1.1.1.1.1.1.1.1.1.1.1.1.0 (λ e. omega (arith, e))) it.device_carriers;
+    lot_carriers = same_rows (others.1.1.1.1.1.1.1.1.1.1.1.1.1.1.1.0 (λ e. omega (arith, e))) it.lot_carriers;
   }
 
   pub notices_in_stand : IsAlone 18 old.trees new.trees → (xs : List (Kept NoticeIn)) → Keeps (new.trees 18) notice_in_row kept_key xs → Stands new (record t { notices_in = xs })
@@ -251,11 +287,77 @@ module _ (old new : Database) (t : Tables) (it : Stands old t) (schema : new.sch
     withdrawals = same_rows (others.1.1.1.1.1.1.1.1.1.1.0 (λ e. omega (arith, e))) it.withdrawals;
     notices_out = same_rows (others.1.1.1.1.1.1.1.1.1.1.1.0 (λ e. omega (arith, e))) it.notices_out;
     notices_in = is;
+    corrections = same_rows (others.1.1.1.1.1.1.1.1.1.1.1.1.1.0 (λ e. omega (arith, e))) it.corrections;
+    device_carriers = same_rows (others.1.1.1.1.1.1.1.1.1.1.1.1.1.1.0 (λ e. omega (arith, e))) it.device_carriers;
+    lot_carriers = same_rows (others.1.1.1.1.1.1.1.1.1.1.1.1.1.1.1.0 (λ e. omega (arith, e))) it.lot_carriers;
+  }
+
+  pub corrections_stand : IsAlone 22 old.trees new.trees → (xs : List Correction) → Keeps (new.trees 22) correction_row correction_key xs → Stands new (record t { corrections = xs })
+  corrections_stand others xs is = record {
+    schema = schema;
+    meta = others.0 (λ e. omega (arith, e)) ∙ it.meta;
+    holders = same_rows (others.1.0 (λ e. omega (arith, e))) it.holders;
+    accounts = same_rows (others.1.1.0 (λ e. omega (arith, e))) it.accounts;
+    devices = same_rows (others.1.1.1.0 (λ e. omega (arith, e))) it.devices;
+    declarations = same_rows (others.1.1.1.1.0 (λ e. omega (arith, e))) it.declarations;
+    lots = same_rows (others.1.1.1.1.1.0 (λ e. omega (arith, e))) it.lots;
+    pieces = same_rows (others.1.1.1.1.1.1.0 (λ e. omega (arith, e))) it.pieces;
+    peers = same_rows (others.1.1.1.1.1.1.1.0 (λ e. omega (arith, e))) it.peers;
+    receipts = same_rows (others.1.1.1.1.1.1.1.1.0 (λ e. omega (arith, e))) it.receipts;
+    cancellations = same_rows (others.1.1.1.1.1.1.1.1.1.0 (λ e. omega (arith, e))) it.cancellations;
+    withdrawals = same_rows (others.1.1.1.1.1.1.1.1.1.1.0 (λ e. omega (arith, e))) it.withdrawals;
+    notices_out = same_rows (others.1.1.1.1.1.1.1.1.1.1.1.0 (λ e. omega (arith, e))) it.notices_out;
+    notices_in = same_rows (others.1.1.1.1.1.1.1.1.1.1.1.1.0 (λ e. omega (arith, e))) it.notices_in;
+    corrections = is;
+    device_carriers = same_rows (others.1.1.1.1.1.1.1.1.1.1.1.1.1.1.0 (λ e. omega (arith, e))) it.device_carriers;
+    lot_carriers = same_rows (others.1.1.1.1.1.1.1.1.1.1.1.1.1.1.1.0 (λ e. omega (arith, e))) it.lot_carriers;
+  }
+
+  pub device_carriers_stand : IsAlone 23 old.trees new.trees → (xs : List (Kept DeviceCarrier)) → Keeps (new.trees 23) device_carrier_row kept_key xs → Stands new (record t { device_carriers = xs })
+  device_carriers_stand others xs is = record {
+    schema = schema;
+    meta = others.0 (λ e. omega (arith, e)) ∙ it.meta;
+    holders = same_rows (others.1.0 (λ e. omega (arith, e))) it.holders;
+    accounts = same_rows (others.1.1.0 (λ e. omega (arith, e))) it.accounts;
+    devices = same_rows (others.1.1.1.0 (λ e. omega (arith, e))) it.devices;
+    declarations = same_rows (others.1.1.1.1.0 (λ e. omega (arith, e))) it.declarations;
+    lots = same_rows (others.1.1.1.1.1.0 (λ e. omega (arith, e))) it.lots;
+    pieces = same_rows (others.1.1.1.1.1.1.0 (λ e. omega (arith, e))) it.pieces;
+    peers = same_rows (others.1.1.1.1.1.1.1.0 (λ e. omega (arith, e))) it.peers;
+    receipts = same_rows (others.1.1.1.1.1.1.1.1.0 (λ e. omega (arith, e))) it.receipts;
+    cancellations = same_rows (others.1.1.1.1.1.1.1.1.1.0 (λ e. omega (arith, e))) it.cancellations;
+    withdrawals = same_rows (others.1.1.1.1.1.1.1.1.1.1.0 (λ e. omega (arith, e))) it.withdrawals;
+    notices_out = same_rows (others.1.1.1.1.1.1.1.1.1.1.1.0 (λ e. omega (arith, e))) it.notices_out;
+    notices_in = same_rows (others.1.1.1.1.1.1.1.1.1.1.1.1.0 (λ e. omega (arith, e))) it.notices_in;
+    corrections = same_rows (others.1.1.1.1.1.1.1.1.1.1.1.1.1.0 (λ e. omega (arith, e))) it.corrections;
+    device_carriers = is;
+    lot_carriers = same_rows (others.1.1.1.1.1.1.1.1.1.1.1.1.1.1.1.0 (λ e. omega (arith, e))) it.lot_carriers;
+  }
+
+  pub lot_carriers_stand : IsAlone 25 old.trees new.trees → (xs : List LotCarrier) → Keeps (new.trees 25) lot_carrier_row lot_carrier_key xs → Stands new (record t { lot_carriers = xs })
+  lot_carriers_stand others xs is = record {
+    schema = schema;
+    meta = others.0 (λ e. omega (arith, e)) ∙ it.meta;
+    holders = same_rows (others.1.0 (λ e. omega (arith, e))) it.holders;
+    accounts = same_rows (others.1.1.0 (λ e. omega (arith, e))) it.accounts;
+    devices = same_rows (others.1.1.1.0 (λ e. omega (arith, e))) it.devices;
+    declarations = same_rows (others.1.1.1.1.0 (λ e. omega (arith, e))) it.declarations;
+    lots = same_rows (others.1.1.1.1.1.0 (λ e. omega (arith, e))) it.lots;
+    pieces = same_rows (others.1.1.1.1.1.1.0 (λ e. omega (arith, e))) it.pieces;
+    peers = same_rows (others.1.1.1.1.1.1.1.0 (λ e. omega (arith, e))) it.peers;
+    receipts = same_rows (others.1.1.1.1.1.1.1.1.0 (λ e. omega (arith, e))) it.receipts;
+    cancellations = same_rows (others.1.1.1.1.1.1.1.1.1.0 (λ e. omega (arith, e))) it.cancellations;
+    withdrawals = same_rows (others.1.1.1.1.1.1.1.1.1.1.0 (λ e. omega (arith, e))) it.withdrawals;
+    notices_out = same_rows (others.1.1.1.1.1.1.1.1.1.1.1.0 (λ e. omega (arith, e))) it.notices_out;
+    notices_in = same_rows (others.1.1.1.1.1.1.1.1.1.1.1.1.0 (λ e. omega (arith, e))) it.notices_in;
+    corrections = same_rows (others.1.1.1.1.1.1.1.1.1.1.1.1.1.0 (λ e. omega (arith, e))) it.corrections;
+    device_carriers = same_rows (others.1.1.1.1.1.1.1.1.1.1.1.1.1.1.0 (λ e. omega (arith, e))) it.device_carriers;
+    lot_carriers = is;
   }
 
 -- the first row of bare tables
 pub begun_stands : (old new : Database) → IsBare old → new.schema ≡ registry_schema → IsAlone 0 old.trees new.trees → (m : Meta) → new.trees 0 ≡ meta_row m ∷ []
-    → Stands new (record { meta = m; holders = []; accounts = []; devices = []; declarations = []; lots = []; pieces = []; peers = []; receipts = []; cancellations = []; withdrawals = []; notices_out = []; notices_in = [] })
+    → Stands new (record { meta = m; holders = []; accounts = []; devices = []; declarations = []; lots = []; pieces = []; peers = []; receipts = []; cancellations = []; withdrawals = []; notices_out = []; notices_in = []; corrections = []; device_carriers = []; lot_carriers = [] })
 begun_stands old new it schema others m is = record {
   schema = schema;
   meta = is;
@@ -271,4 +373,7 @@ begun_stands old new it schema others m is = record {
   withdrawals = record { are = others.1.1.1.1.1.1.1.1.1.1.0 (λ e. omega (arith, e)) ∙ it.withdrawals; rise = tt };
   notices_out = record { are = others.1.1.1.1.1.1.1.1.1.1.1.0 (λ e. omega (arith, e)) ∙ it.notices_out; rise = tt };
   notices_in = record { are = others.1.1.1.1.1.1.1.1.1.1.1.1.0 (λ e. omega (arith, e)) ∙ it.notices_in; rise = tt };
+  corrections = record { are = others.1.1.1.1.1.1.1.1.1.1.1.1.1.0 (λ e. omega (arith, e)) ∙ it.corrections; rise = tt };
+  device_carriers = record { are = others.1.1.1.1.1.1.1.1.1.1.1.1.1.1.0 (λ e. omega (arith, e)) ∙ it.device_carriers; rise = tt };
+  lot_carriers = record { are = others.1.1.1.1.1.1.1.1.1.1.1.1.1.1.1.0 (λ e. omega (arith, e)) ∙ it.lot_carriers; rise = tt };
 }

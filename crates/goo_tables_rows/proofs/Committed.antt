@@ -34,6 +34,9 @@ holds_from d t it = record {
   withdrawals = it.withdrawals;
   notices_out = it.notices_out;
   notices_in = it.notices_in;
+  corrections = it.corrections;
+  device_carriers = it.device_carriers;
+  lot_carriers = it.lot_carriers;
 }
 
 -- a change in a transaction and its commit: a crash finds what it could find before, or the tables after the change

@@ -1,7 +1,7 @@
 -- The tables that a database holds are those that its trees say.
 use Rattle.std.proofs.Common.{◌≡◌, ℕ, List, [], ◌∷◌, map, Option, Some, None, refl, sym, ap, subst, ◌∙◌}
 use Rattle.sqlite.specs.Effect.{Database}
-use Rattle.goo_tables_rows.specs.Rows.{Tables, tables_of, first_row, meta_at, Device, Lot, Kept, holder_at, holder_row, account_at, account_row, device_at, device_row, declaration_at, declaration_row, lot_at, lot_row, piece_at, piece_row, peer_at, peer_row, receipt_at, receipt_row, cancellation_at, cancellation_row, withdrawal_at, withdrawal_row, notice_out_at, notice_out_row, notice_in_at, notice_in_row}
+use Rattle.goo_tables_rows.specs.Rows.{Tables, tables_of, first_row, meta_at, Device, Lot, Kept, holder_at, holder_row, account_at, account_row, device_at, device_row, declaration_at, declaration_row, lot_at, lot_row, piece_at, piece_row, peer_at, peer_row, receipt_at, receipt_row, cancellation_at, cancellation_row, withdrawal_at, withdrawal_row, notice_out_at, notice_out_row, notice_in_at, notice_in_row, correction_row, correction_at, device_carrier_row, device_carrier_at, lot_carrier_row, lot_carrier_at}
 use Rattle.goo_tables_rows.specs.Stands.{Stands}
 
 map_back : {X Y : Type 0} (f : X → Y) (g : Y → X) → ((x : X) → g (f x) ≡ x) → (xs : List X) → map g (map f xs) ≡ xs
@@ -38,4 +38,7 @@ decoded db t it =
     let withdrawals = ap (map withdrawal_at) it.withdrawals.are ∙ map_back withdrawal_row withdrawal_at (λ _. refl) t.withdrawals in
     let notices_out = ap (map notice_out_at) it.notices_out.are ∙ map_back notice_out_row notice_out_at (λ _. refl) t.notices_out in
     let notices_in = ap (map notice_in_at) it.notices_in.are ∙ map_back notice_in_row notice_in_at (λ _. refl) t.notices_in in
-    λ i. record { meta = meta i; holders = holders i; accounts = accounts i; devices = devices i; declarations = declarations i; lots = lots i; pieces = pieces i; peers = peers i; receipts = receipts i; cancellations = cancellations i; withdrawals = withdrawals i; notices_out = notices_out i; notices_in = notices_in i }
+    let corrections = ap (map correction_at) it.corrections.are ∙ map_back correction_row correction_at (λ _. refl) t.corrections in
+    let device_carriers = ap (map device_carrier_at) it.device_carriers.are ∙ map_back device_carrier_row device_carrier_at (λ _. refl) t.device_carriers in
+    let lot_carriers = ap (map lot_carrier_at) it.lot_carriers.are ∙ map_back lot_carrier_row lot_carrier_at (λ _. refl) t.lot_carriers in
+    λ i. record { meta = meta i; holders = holders i; accounts = accounts i; devices = devices i; declarations = declarations i; lots = lots i; pieces = pieces i; peers = peers i; receipts = receipts i; cancellations = cancellations i; withdrawals = withdrawals i; notices_out = notices_out i; notices_in = notices_in i; corrections = corrections i; device_carriers = device_carriers i; lot_carriers = lot_carriers i }

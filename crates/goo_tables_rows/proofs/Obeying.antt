@@ -26,7 +26,7 @@ use Rattle.goo_tables_rows.specs.Columns.{registry_schema, registry_tables, regi
 pub no_references : (among : Among) (db : Trees) → Refers among registry_schema db
 no_references among db =
     let free : (rows : List Row) → AllByRecursion (λ _. true ≡ true) rows = all_of _ (λ _. refl) in
-    (free _, (free _, (free _, (free _, (free _, (free _, (free _, (free _, (free _, (free _, (free _, (free _, (free _, tt)))))))))))))
+    (free _, (free _, (free _, (free _, (free _, (free _, (free _, (free _, (free _, (free _, (free _, (free _, (free _, (free _, (free _, (free _, tt))))))))))))))))
 
 -- ---- UNIQUE
 

@@ -17,7 +17,7 @@ use Rattle.sqlite_keyed.specs.Keyed.{IsKeyedBy}
 use Rattle.sqlite_keyed.proofs.KeyedLemmas.{lt_from_Less, Less-from_lt}
 use Rattle.sqlite_keyed.proofs.ListLemmas.{all_weaker, all-map, ascending-map, ascending_weaker}
 use Rattle.sqlite.specs.Effect.{Database}
-use Rattle.goo_tables_rows.specs.Rows.{Tables, kept_key, meta_row, holder_row, account_row, account_key, device_row, declaration_row, declaration_key, lot_row, lot_key, piece_row, piece_key, peer_row, receipt_row, cancellation_row, cancellation_key, withdrawal_row, withdrawal_key, notice_out_row, notice_out_key, notice_in_row}
+use Rattle.goo_tables_rows.specs.Rows.{Tables, kept_key, meta_row, holder_row, account_row, account_key, device_row, declaration_row, declaration_key, lot_row, lot_key, piece_row, piece_key, peer_row, receipt_row, cancellation_row, cancellation_key, withdrawal_row, withdrawal_key, notice_out_row, notice_out_key, notice_in_row, correction_row, correction_key, device_carrier_row, lot_carrier_row, lot_carrier_key}
 use Rattle.goo_tables_rows.specs.Stands.{Stands, Keeps}
 use Rattle.goo_tables_rows.specs.Met.{IsInKeyOrder, Keyed, whole, keyed_of}
 
@@ -70,4 +70,4 @@ module _ {X : Type 0} (to_row : X → Row) (key : X → ℤ) (ids : (x : X) → 
 pub in_key_order_kept : (db : Database) (t : Tables) → Stands db t → IsInKeyOrder db
 in_key_order_kept db t it =
     subst (λ (s : Schema). AllByRecursion (λ (u : Table). IsShaped shape.Table (db.trees u.tree)) s.tables) (sym it.schema)
-    (subst (IsShaped shape.Table) (sym it.meta) (shaped_list meta_row (λ _. pos 1) (λ _. refl) (t.meta ∷ []) (tt, tt)), (shaped_kept holder_row kept_key (λ _. refl) (db.trees 1) t.holders it.holders, (shaped_kept account_row account_key (λ _. refl) (db.trees 3) t.accounts it.accounts, (shaped_kept device_row kept_key (λ _. refl) (db.trees 4) t.devices it.devices, (shaped_kept declaration_row declaration_key (λ _. refl) (db.trees 6) t.declarations it.declarations, (shaped_kept lot_row lot_key (λ _. refl) (db.trees 8) t.lots it.lots, (shaped_kept piece_row piece_key (λ _. refl) (db.trees 10) t.pieces it.pieces, (shaped_kept peer_row kept_key (λ _. refl) (db.trees 11) t.peers it.peers, (shaped_kept receipt_row kept_key (λ _. refl) (db.trees 13) t.receipts it.receipts, (shaped_kept cancellation_row cancellation_key (λ _. refl) (db.trees 15) t.cancellations it.cancellations, (shaped_kept withdrawal_row withdrawal_key (λ _. refl) (db.trees 16) t.withdrawals it.withdrawals, (shaped_kept notice_out_row notice_out_key (λ _. refl) (db.trees 17) t.notices_out it.notices_out, (shaped_kept notice_in_row kept_key (λ _. refl) (db.trees 18) t.notices_in it.notices_in, tt)))))))))))))
+    (subst (IsShaped shape.Table) (sym it.meta) (shaped_list meta_row (λ _. pos 1) (λ _. refl) (t.meta ∷ []) (tt, tt)), (shaped_kept holder_row kept_key (λ _. refl) (db.trees 1) t.holders it.holders, (shaped_kept account_row account_key (λ _. refl) (db.trees 3) t.accounts it.accounts, (shaped_kept device_row kept_key (λ _. refl) (db.trees 4) t.devices it.devices, (shaped_kept declaration_row declaration_key (λ _. refl) (db.trees 6) t.declarations it.declarations, (shaped_kept lot_row lot_key (λ _. refl) (db.trees 8) t.lots it.lots, (shaped_kept piece_row piece_key (λ _. refl) (db.trees 10) t.pieces it.pieces, (shaped_kept peer_row kept_key (λ _. refl) (db.trees 11) t.peers it.peers, (shaped_kept receipt_row kept_key (λ _. refl) (db.trees 13) t.receipts it.receipts, (shaped_kept cancellation_row cancellation_key (λ _. refl) (db.trees 15) t.cancellations it.cancellations, (shaped_kept withdrawal_row withdrawal_key (λ _. refl) (db.trees 16) t.withdrawals it.withdrawals, (shaped_kept notice_out_row notice_out_key (λ _. refl) (db.trees 17) t.notices_out it.notices_out, (shaped_kept notice_in_row kept_key (λ _. refl) (db.trees 18) t.notices_in it.notices_in, (shaped_kept correction_row correction_key (λ _. refl) (db.trees 22) t.corrections it.corrections, (shaped_kept device_carrier_row kept_key (λ _. refl) (db.trees 23) t.device_carriers it.device_carriers, (shaped_kept lot_carrier_row lot_carrier_key (λ _. refl) (db.trees 25) t.lot_carriers it.lot_carriers, tt))))))))))))))))

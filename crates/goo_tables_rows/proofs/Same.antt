@@ -2,8 +2,8 @@
 use Rattle.std.proofs.Common.{◌≡◌, inl, inr, ℕ, pos, List, string_bytes, Option, Some, None, option_map, refl}
 use Rattle.sqlite.specs.declared.types.Value.TheVariants.{Int, Text, Blob}
 use Rattle.sqlite_typed.specs.Columns.{or_null}
-use Rattle.goo_tables_rows.specs.Rows.{Plant, plant_columns, plant_in, Meta, meta_columns, meta_in, holder_columns, holder_in, Holder, account_columns, account_in, Account, device_columns, device_in, Device, declaration_columns, declaration_in, Declaration, lot_columns, lot_in, Lot, piece_columns, peer_columns, receipt_columns, receipt_in, Receipt, cancellation_columns, cancellation_in, Cancellation, withdrawal_columns, withdrawal_in, Withdrawal, notice_out_columns, notice_out_in, NoticeOut, notice_in_columns, notice_in_in, NoticeIn}
-use Rattle.goo_tables_rows.specs.Reads.{IsOctets, joined_reads, plant_reads, meta_reads, holder_reads, account_reads, device_reads, declaration_reads, lot_reads, piece_reads, peer_reads, receipt_reads, cancellation_reads, withdrawal_reads, notice_out_reads, notice_in_reads}
+use Rattle.goo_tables_rows.specs.Rows.{Plant, plant_columns, plant_in, Meta, meta_columns, meta_in, holder_columns, holder_in, Holder, account_columns, account_in, Account, device_columns, device_in, Device, declaration_columns, declaration_in, Declaration, lot_columns, lot_in, Lot, piece_columns, peer_columns, receipt_columns, receipt_in, Receipt, cancellation_columns, cancellation_in, Cancellation, withdrawal_columns, withdrawal_in, Withdrawal, notice_out_columns, notice_out_in, NoticeOut, notice_in_columns, notice_in_in, NoticeIn, correction_columns, correction_in, Correction, device_carrier_columns, device_carrier_in, DeviceCarrier, lot_carrier_columns, lot_carrier_in, LotCarrier}
+use Rattle.goo_tables_rows.specs.Reads.{IsOctets, joined_reads, plant_reads, meta_reads, holder_reads, account_reads, device_reads, declaration_reads, lot_reads, piece_reads, peer_reads, receipt_reads, cancellation_reads, withdrawal_reads, notice_out_reads, notice_in_reads, correction_reads, device_carrier_reads, lot_carrier_reads}
 use Rattle.goo_tables_rows.specs.declared.plant.PlantRow.{PlantRow}
 use Rattle.goo_tables_rows.specs.declared.meta.MetaRow.{MetaRow}
 use Rattle.goo_tables_rows.specs.declared.holder.HolderRow.{HolderRow}
@@ -18,6 +18,9 @@ use Rattle.goo_tables_rows.specs.declared.cancellation.CancellationRow.{Cancella
 use Rattle.goo_tables_rows.specs.declared.withdrawal.WithdrawalRow.{WithdrawalRow}
 use Rattle.goo_tables_rows.specs.declared.notice_out.NoticeOutRow.{NoticeOutRow}
 use Rattle.goo_tables_rows.specs.declared.notice_in.NoticeInRow.{NoticeInRow}
+use Rattle.goo_tables_rows.specs.declared.correction.CorrectionRow.{CorrectionRow}
+use Rattle.goo_tables_rows.specs.declared.device_carrier.DeviceCarrierRow.{DeviceCarrierRow}
+use Rattle.goo_tables_rows.specs.declared.lot_carrier.LotCarrierRow.{LotCarrierRow}
 use Rattle.goo_tables_rows.specs.declared.joined.JoinedRow.{JoinedRow}
 use Rattle.goo_tables_rows.specs.Beside.{joined_in, joined_columns}
 
@@ -82,6 +85,15 @@ notice_out_same y x reads = λ i. record { number = number_same reads.0 i; accou
 
 pub notice_in_same : (y : NoticeIn) (x : NoticeInRow) → notice_in_reads (notice_in_columns y) x → notice_in_in x ≡ y
 notice_in_same y x reads = λ i. record { sender = number_same reads.0 i; number = number_same reads.1 i; body = octets_same reads.2 i }
+
+pub correction_same : (y : Correction) (x : CorrectionRow) → correction_reads (correction_columns y) x → correction_in x ≡ y
+correction_same y x reads = λ i. record { id = number_same reads.0 i; device = text_same reads.1 i; first_day = text_same reads.2 i; less = number_same reads.3 i; withdrawal = number_same reads.4 i }
+
+pub device_carrier_same : (y : DeviceCarrier) (x : DeviceCarrierRow) → device_carrier_reads (device_carrier_columns y) x → device_carrier_in x ≡ y
+device_carrier_same y x reads = λ i. record { gsrn = text_same reads.0 i; carrier = text_same reads.1 i }
+
+pub lot_carrier_same : (y : LotCarrier) (x : LotCarrierRow) → lot_carrier_reads (lot_carrier_columns y) x → lot_carrier_in x ≡ y
+lot_carrier_same y x reads = λ i. record { lot = number_same reads.0 i; carrier = text_same reads.1 i }
 
 pub joined_same : (a : PieceRow × Lot) (x : JoinedRow) → joined_reads (joined_columns a) x → joined_in x ≡ a
 joined_same a x reads = λ i. (piece_same a.0 x.piece reads.0 i, lot_same a.1 x.lot reads.1 i)

@@ -3,9 +3,9 @@ use Rattle.std.proofs.Common.{◌≡◌, ℕ, List, not, true, Option, Some, Non
 use Rattle.sqlite.specs.declared.types.Value.TheVariants.{Text}
 use Rattle.sqlite_rules.specs.Edit.{IsOversized}
 use Rattle.sqlite_typed.specs.Columns.{or_null}
-use Rattle.goo_tables_rows.specs.Columns.{registry_schema, meta, holder, account, device, declaration, lot, piece, peer, receipt, cancellation, withdrawal, notice_out, notice_in}
+use Rattle.goo_tables_rows.specs.Columns.{registry_schema, meta, holder, account, device, declaration, lot, piece, peer, receipt, cancellation, withdrawal, notice_out, notice_in, correction, device_carrier, lot_carrier}
 use Rattle.goo_tables_rows.specs.Refused.{IsSmall}
-use Rattle.goo_tables_rows.specs.Rows.{Kept, Meta, meta_row, Holder, holder_row, Account, account_row, Device, device_row, Declaration, declaration_row, Lot, lot_row, piece_row, peer_row, Receipt, receipt_row, Cancellation, cancellation_row, Withdrawal, withdrawal_row, NoticeOut, notice_out_row, NoticeIn, notice_in_row}
+use Rattle.goo_tables_rows.specs.Rows.{Kept, Meta, meta_row, Holder, holder_row, Account, account_row, Device, device_row, Declaration, declaration_row, Lot, lot_row, piece_row, peer_row, Receipt, receipt_row, Cancellation, cancellation_row, Withdrawal, withdrawal_row, NoticeOut, notice_out_row, NoticeIn, notice_in_row, Correction, correction_row, DeviceCarrier, device_carrier_row, LotCarrier, lot_carrier_row}
 use Rattle.goo_tables_rows.specs.declared.piece.PieceRow.{PieceRow}
 use Rattle.goo_tables_rows.specs.declared.peer.PeerRow.{PeerRow}
 use Rattle.goo_tables_rows.proofs.Small.{is_stored, is_real}
@@ -52,3 +52,12 @@ notice_out_stored n = is_stored notice_out (notice_out_row n) refl refl (omega a
 
 pub notice_in_stored : (k : Kept NoticeIn) → IsSmall (notice_in_row k) → ¬ IsOversized registry_schema notice_in (notice_in_row k)
 notice_in_stored k = is_stored notice_in (notice_in_row k) refl refl (omega arith, omega arith) (omega arith, tt)
+
+pub correction_stored : (c : Correction) → IsSmall (correction_row c) → ¬ IsOversized registry_schema correction (correction_row c)
+correction_stored c = is_stored correction (correction_row c) refl refl (omega arith, omega arith) tt
+
+pub device_carrier_stored : (k : Kept DeviceCarrier) → IsSmall (device_carrier_row k) → ¬ IsOversized registry_schema device_carrier (device_carrier_row k)
+device_carrier_stored k = is_stored device_carrier (device_carrier_row k) refl refl (omega arith, omega arith) (omega arith, tt)
+
+pub lot_carrier_stored : (c : LotCarrier) → IsSmall (lot_carrier_row c) → ¬ IsOversized registry_schema lot_carrier (lot_carrier_row c)
+lot_carrier_stored c = is_stored lot_carrier (lot_carrier_row c) refl refl (omega arith, omega arith) tt

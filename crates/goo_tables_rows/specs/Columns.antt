@@ -1,4 +1,4 @@
--- The tables of version 1, as the schema that `create_tables` leaves names them.
+-- The tables of version 2, as the schema that `create_tables` leaves names them.
 use Rattle.std.specs.Prelude.{true, false, Bool, List, [], ◌∷◌, ◌++◌, map, codes, Option, Some, None, ℕ, suc}
 use Rattle.sqlite.specs.Collation.TheVariants.{Binary}
 use Rattle.sqlite.specs.declared.types.Value.TheVariants.{Null}
@@ -119,11 +119,25 @@ abbrev pub notice_in : Table
 notice_in = keyed_by (codes "notice_in") 18 (1 ∷ 2 ∷ [])
     (number (codes "sender") ∷ number (codes "number") ∷ text (codes "body") ∷ [])
 
+-- ---- corrections and carriers, after all others
+
+abbrev pub correction : Table
+correction = keyed_by_number (codes "correction") 22 []
+    (number_key (codes "id") ∷ text (codes "device") ∷ text (codes "first_day") ∷ number (codes "less") ∷ number (codes "withdrawal") ∷ [])
+
+abbrev pub device_carrier : Table
+device_carrier = keyed_by (codes "device_carrier") 23 (1 ∷ [])
+    (text (codes "gsrn") ∷ text (codes "carrier") ∷ [])
+
+abbrev pub lot_carrier : Table
+lot_carrier = keyed_by_number (codes "lot_carrier") 25 []
+    (number_key (codes "lot") ∷ text (codes "carrier") ∷ [])
+
 abbrev pub no_schema : Schema
 no_schema = record { tables = []; indexes = []; views = [] }
 
 abbrev pub registry_tables : List Table
-registry_tables = meta ∷ holder ∷ account ∷ device ∷ declaration ∷ lot ∷ piece ∷ peer ∷ receipt ∷ cancellation ∷ withdrawal ∷ notice_out ∷ notice_in ∷ []
+registry_tables = meta ∷ holder ∷ account ∷ device ∷ declaration ∷ lot ∷ piece ∷ peer ∷ receipt ∷ cancellation ∷ withdrawal ∷ notice_out ∷ notice_in ∷ correction ∷ device_carrier ∷ lot_carrier ∷ []
 
 abbrev pub registry_indexes : List Index
 registry_indexes =
@@ -135,7 +149,8 @@ registry_indexes =
     ∷ index_of (codes "receipt") 13 (1 ∷ 2 ∷ [])
     ∷ index_of (codes "notice_in") 18 (1 ∷ 2 ∷ [])
     ∷ index_on (codes "piece_by_account") 20 10 (5 ∷ 0 ∷ [])
-    ∷ index_on (codes "piece_by_kind") 21 10 (4 ∷ 0 ∷ []) ∷ []
+    ∷ index_on (codes "piece_by_kind") 21 10 (4 ∷ 0 ∷ [])
+    ∷ index_of (codes "device_carrier") 23 (1 ∷ []) ∷ []
 
 abbrev pub registry_schema : Schema
 registry_schema = record { tables = registry_tables; indexes = registry_indexes; views = [] }

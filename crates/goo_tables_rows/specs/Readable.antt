@@ -156,6 +156,27 @@ notice_in_readable r =
     × IsSmall (column r 1)
     × IsBytes (column r 2)
 
+abbrev pub correction_readable : Row → Type 0
+correction_readable r =
+    (5 ≤ length r)
+    × IsNumber (column r 0)
+    × IsText (column r 1)
+    × IsText (column r 2)
+    × IsNumber (column r 3)
+    × IsSmall (column r 4)
+
+abbrev pub device_carrier_readable : Row → Type 0
+device_carrier_readable r =
+    (2 ≤ length r)
+    × IsText (column r 0)
+    × IsText (column r 1)
+
+abbrev pub lot_carrier_readable : Row → Type 0
+lot_carrier_readable r =
+    (2 ≤ length r)
+    × IsNumber (column r 0)
+    × IsText (column r 1)
+
 abbrev pub numbered_meta_readable : Row → Type 0
 numbered_meta_readable r =
     (9 ≤ length r)

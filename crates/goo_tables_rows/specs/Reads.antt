@@ -17,6 +17,9 @@ use Rattle.goo_tables_rows.specs.declared.cancellation.CancellationRow.{Cancella
 use Rattle.goo_tables_rows.specs.declared.withdrawal.WithdrawalRow.{WithdrawalRow}
 use Rattle.goo_tables_rows.specs.declared.notice_out.NoticeOutRow.{NoticeOutRow}
 use Rattle.goo_tables_rows.specs.declared.notice_in.NoticeInRow.{NoticeInRow}
+use Rattle.goo_tables_rows.specs.declared.correction.CorrectionRow.{CorrectionRow}
+use Rattle.goo_tables_rows.specs.declared.device_carrier.DeviceCarrierRow.{DeviceCarrierRow}
+use Rattle.goo_tables_rows.specs.declared.lot_carrier.LotCarrierRow.{LotCarrierRow}
 use Rattle.goo_tables_rows.specs.declared.numbered_meta.NumberedMeta.{NumberedMeta}
 use Rattle.goo_tables_rows.specs.declared.plant.PlantRow.{PlantRow}
 use Rattle.goo_tables_rows.specs.declared.joined.JoinedRow.{JoinedRow}
@@ -128,6 +131,21 @@ abbrev pub notice_in_reads : Row → NoticeInRow → Type 0
 notice_in_reads r x = (column r 0 ≡ Int (pos x.sender))
     × (column r 1 ≡ Int (pos x.number))
     × IsOctets (column r 2) x.body.items
+
+abbrev pub correction_reads : Row → CorrectionRow → Type 0
+correction_reads r x = (column r 0 ≡ Int (pos x.id))
+    × (column r 1 ≡ Text (string_bytes x.device))
+    × (column r 2 ≡ Text (string_bytes x.first_day))
+    × (column r 3 ≡ Int (pos x.less))
+    × (column r 4 ≡ Int (pos x.withdrawal))
+
+abbrev pub device_carrier_reads : Row → DeviceCarrierRow → Type 0
+device_carrier_reads r x = (column r 0 ≡ Text (string_bytes x.gsrn))
+    × (column r 1 ≡ Text (string_bytes x.carrier))
+
+abbrev pub lot_carrier_reads : Row → LotCarrierRow → Type 0
+lot_carrier_reads r x = (column r 0 ≡ Int (pos x.lot))
+    × (column r 1 ≡ Text (string_bytes x.carrier))
 
 -- a piece and then its lot
 abbrev pub joined_reads : Row → JoinedRow → Type 0

@@ -14,7 +14,7 @@ pub struct ReceiptRow {
     pub key: String,
     /// The command's text.
     pub command: Vec<u8>,
-    /// Which reply was given, 1 to 9.
+    /// Which reply was given, 1 to 10.
     pub kind: u32,
     /// The reply's first number, 0 where it has none.
     pub n1: u64,

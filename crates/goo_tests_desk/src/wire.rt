@@ -4,7 +4,7 @@
 pub const AUDIT: &str = "GET /v1/audit HTTP/1.1\r\nHost: x\r\nGOO-Caller: ISSUER\r\n\r\n";
 
 pub const AUDITED: &str =
-    "HTTP/1.1 200 OK\r\nContent-Type: text/plain; charset=utf-8\r\nContent-Length: 37\r\nConnection: close\r\n\r\n500000000000000012 1201000000 1201 0\n";
+    "HTTP/1.1 200 OK\r\nContent-Type: text/plain; charset=utf-8\r\nContent-Length: 41\r\nConnection: close\r\n\r\n500000000000000012 1201000000 0 1201 0 0\n";
 
 /// The answer of a new registry.
 pub const AUDITED_NEW: &str =

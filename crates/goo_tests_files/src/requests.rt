@@ -79,6 +79,18 @@ pub const CANCELLATION: [Line; 1] = [(
     r#"{"account":1,"beneficiary":"Bäckerei Müller","command":"cancel","first":"07000000000001","key":"c1","last":"07000000000010","use_first":"2025-01-01","use_last":"2025-03-31"}"#,
 )];
 
+/// February is lowered to nothing, which takes the certificate of March back, and January by the Wh that is carried then.
+pub const CORRECTIONS: [Line; 2] = [
+    (
+        "ISSUER",
+        r#"{"command":"correct","device":"500000000000000012","first":"07000000001201","first_day":"2025-02-01","key":"r1","last":"07000000001201","less_wh":999999,"reason":"meter read twice"}"#,
+    ),
+    (
+        "ISSUER",
+        r#"{"command":"correct","device":"500000000000000012","first":"","first_day":"2025-01-01","key":"r2","last":"","less_wh":1,"reason":"meter read twice"}"#,
+    ),
+];
+
 /// An account with one certificate, which is cancelled, and closed.
 pub const CLOSING: [Line; 3] = [
     (

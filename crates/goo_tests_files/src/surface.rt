@@ -2,11 +2,11 @@
 
 mod values {
     pub use goo_types::{
-        AccountNo, ActNo, AddPeer, Advance, Cancel, CloseAccount, Command, Country, Day, DayFault,
-        Declare, Export, Fault, Gsrn, GsrnFault, HolderCode, Import, Key, Lot, LotFields, Name,
-        Notice, Number, NumberFault, OpenAccount, OpenHolder, Outcome, Part, Place, Range, Refusal,
-        RegisterDevice, RegistryCode, Reply, Request, RuleFault, Serial, SourceCode, Support,
-        TechCode, TextFault, Transfer, Watts, Wh, Withdraw,
+        AccountNo, ActNo, AddPeer, Advance, Cancel, CloseAccount, Command, Correct, Country, Day,
+        DayFault, Declare, Export, Fault, Gsrn, GsrnFault, HolderCode, Import, Key, Lot, LotFields,
+        Name, Notice, Number, NumberFault, OpenAccount, OpenHolder, Outcome, Part, Place, Range,
+        Refusal, RegisterDevice, RegistryCode, Reply, Request, RuleFault, Serial, SourceCode,
+        Support, TechCode, TextFault, Transfer, Watts, Wh, Withdraw,
     };
 }
 
@@ -28,16 +28,19 @@ mod notices {
 mod statements {
     pub use goo_tables::account::{all_accounts, close_account, find_account, insert_account};
     pub use goo_tables::cancellation::{all_cancellations, find_cancellation, insert_cancellation};
+    pub use goo_tables::correction::{all_corrections, insert_correction, last_correction};
     pub use goo_tables::create::create_tables;
     pub use goo_tables::declaration::{
         all_declarations, find_declaration, insert_declaration, last_declaration,
     };
     pub use goo_tables::device::{all_devices, find_device, insert_device, set_progress};
+    pub use goo_tables::device_carrier::all_device_carriers;
     pub use goo_tables::holder::{all_holders, find_holder, insert_holder};
     pub use goo_tables::joined::{
         next_expiring, next_of_account, piece_before, pieces_beginning, pieces_of_account,
     };
     pub use goo_tables::lot::{all_lots, find_lot, find_lot_by_id, insert_lot, last_lot};
+    pub use goo_tables::lot_carrier::all_lot_carriers;
     pub use goo_tables::meta::{all_meta, find_meta, insert_meta, set_counters, set_today};
     pub use goo_tables::notice_in::{all_notices_in, find_notice_in, insert_notice_in};
     pub use goo_tables::notice_out::{all_notices_out, find_notice_out, insert_notice_out};

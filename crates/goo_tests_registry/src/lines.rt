@@ -41,8 +41,8 @@ pub const BEGINS: [Line; 7] = [
     ),
 ];
 
-/// A hundred certificates are moved, ten used up and ten sent away.
-pub const TRADES: [Line; 3] = [
+/// A hundred certificates are moved, ten used up and ten sent away; two MWh of January were none, and two certificates are withdrawn.
+pub const TRADES: [Line; 4] = [
     (
         "SUN",
         r#"{"command":"transfer","first":"07000000000100","giver":1,"key":"a","last":"07000000000199","taker":2}"#,
@@ -57,6 +57,11 @@ pub const TRADES: [Line; 3] = [
         "SUN",
         r#"{"account":5,"command":"export","first":"07000000000020","giver":1,"key":"c","last":"07000000000029","peer":9}"#,
         r#"{"outcome":"accepted","reply":{"count":10,"notice":1}}"#,
+    ),
+    (
+        "ISSUER",
+        r#"{"command":"correct","device":"500000000000000012","first":"07000000000011","first_day":"2025-01-01","key":"j","last":"07000000000012","less_wh":2000000,"reason":"meter read twice"}"#,
+        r#"{"outcome":"accepted","reply":{"carry":0,"count":2,"withdrawal":1}}"#,
     ),
 ];
 
@@ -77,12 +82,12 @@ pub const ENDS: [Line; 2] = [
     (
         "ISSUER",
         r#"{"command":"advance","day":"2026-08-01","key":"i"}"#,
-        r#"{"outcome":"accepted","reply":{"expired":1190}}"#,
+        r#"{"outcome":"accepted","reply":{"expired":1188}}"#,
     ),
 ];
 
 /// What that comes to where it stands already.
 pub const REPEATED: [&str; 2] = [
     r#"{"outcome":"repeated","reply":{"count":1}}"#,
-    r#"{"outcome":"repeated","reply":{"expired":1190}}"#,
+    r#"{"outcome":"repeated","reply":{"expired":1188}}"#,
 ];

@@ -7,7 +7,7 @@ use crate::asking::{ISSUER, Line, is_outcome, runs_are};
 use crate::claims::holds;
 use crate::desk::TestDesk;
 use crate::lines::{BEGINS, ENDS, REPEATED, RETURN, TRADES};
-use crate::places::{away, held, over, used};
+use crate::places::{away, held, over, taken, used};
 use goo_desk_body::read_command;
 use goo_registry::{ReadFault, RunFault};
 use goo_types::account_no::AccountNo;
@@ -210,14 +210,15 @@ fn ends(rt: &impl Abort, desk: &mut TestDesk) -> Result<(), Fail> {
     runs(rt, desk, &requests)
 }
 
-/// What is shown once certificates were moved, used up and sent away.
+/// What is shown once certificates were moved, used up, sent away and withdrawn.
 fn shows_trades(rt: &impl Abort, desk: &mut TestDesk) -> Result<(), Fail> {
     shows(
         rt,
         desk,
         &[
             (1, 10, used(1, 1)),
-            (11, 19, held(1)),
+            (11, 12, taken(1, 1)),
+            (13, 19, held(1)),
             (20, 29, away(1, 1)),
             (30, 99, held(1)),
             (200, 1200, held(1)),
@@ -232,7 +233,8 @@ fn shows_end(rt: &impl Abort, desk: &mut TestDesk) -> Result<(), Fail> {
         desk,
         &[
             (1, 10, used(1, 1)),
-            (11, 100, over(1)),
+            (11, 12, taken(1, 1)),
+            (13, 100, over(1)),
             (200, 1200, over(1)),
         ],
     )?;

@@ -23,6 +23,16 @@ pub fn used(holder: u32, cancellation: u32) -> Place
     Place::Cancelled(account(holder), act(cancellation))
 }
 
+/// Taken back out of an account, by a withdrawal.
+pub fn taken(holder: u32, withdrawal: u32) -> Place
+    requires holder_above { 1 ≤ holder }
+    requires holder_below { holder < 1_000_000_000 }
+    requires act_above { 1 ≤ withdrawal }
+    requires act_below { withdrawal < 1_000_000_000 }
+{
+    Place::Withdrawn(account(holder), act(withdrawal))
+}
+
 /// Expired in an account.
 pub fn over(holder: u32) -> Place
     requires above { 1 ≤ holder }

@@ -241,13 +241,15 @@ fn no_audit(rt: &impl Abort, desk: &mut TestDesk, caller: &str) -> Option<ReadFa
     audit(rt, desk, caller).err()
 }
 
-/// One device, with what it declared, what was issued for it, and its carry.
+/// One device, with what it declared, what was issued for it, and its carry; no correction took anything off.
 fn has_one_device(rt: &impl Abort, totals: &[DeviceTotals]) {
     holds(
         rt,
         matches!(totals, [device] if device.device.text() == "500000000000000012"
             && device.declared == 1_201_000_000
+            && device.corrected_wh == 0
             && device.issued == 1201
+            && device.corrected == 0
             && device.carry == 0),
         "an audit",
     );

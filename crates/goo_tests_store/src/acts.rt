@@ -125,7 +125,7 @@ fn acts<S: Shelf>(
 fn finds<S: Shelf>(rt: &impl Abort, alloc: Global, shelf: &mut S, act: &Act<'_>) {
     match act {
         Act::FindsNothing => finds_nothing(rt, alloc, shelf),
-        Act::FindsMembers => finds_members(rt, shelf),
+        Act::FindsMembers => finds_members(rt, alloc, shelf),
         _ => (),
     }
 }

@@ -5,6 +5,7 @@ use crate::claims::holds;
 use crate::deeds::{Deed, after, judged, shown};
 use crate::disks::{Disks, blank};
 use crate::script::{CANCELLATION, requests};
+use crate::worked::Case;
 use goo_store_open::fault::OpenFault;
 use std::alloc::Global;
 use std::process::Abort;
@@ -114,19 +115,109 @@ const TABLES: [Damage; 6] = [
         OpenFault::Damaged,
     ),
     (
-        "DROP INDEX piece_by_kind",
-        "CREATE INDEX piece_by_kind ON piece (kind, first)",
-        OpenFault::Damaged,
-    ),
-    (
         "UPDATE meta SET version = 9",
-        "UPDATE meta SET version = 1",
+        "UPDATE meta SET version = 2",
         OpenFault::Version(9),
     ),
     (
+        "UPDATE meta SET version = 1",
+        "UPDATE meta SET version = 2",
+        OpenFault::Version(1),
+    ),
+    (
         "DELETE FROM meta",
-        "INSERT INTO meta VALUES (1, 1, 7, '2025-04-05', 1202, 3, 2, 1, 1)",
+        "INSERT INTO meta VALUES (1, 2, 7, '2025-04-05', 1202, 3, 2, 1, 1)",
         OpenFault::NotARegistry,
+    ),
+];
+
+/// An index of ours that is gone, and that comes back behind the tables that were made after it: the schema isn't ours again.
+const INDEX_MOVED: [&str; 2] = [
+    "DROP INDEX piece_by_kind",
+    "CREATE INDEX piece_by_kind ON piece (kind, first)",
+];
+
+/// February is lowered, which takes the certificate of March back, and then January by the carry that this left.
+const CORRECTED: Case = Case {
+    name: "corrections",
+    serial: 1,
+    begun: 9,
+    asked: &[
+        (
+            "ISSUER",
+            r#"{"command":"correct","device":"500000000000000012","first":"07000000001201","first_day":"2025-02-01","key":"c1","last":"07000000001201","less_wh":999998,"reason":"meter read twice"}"#,
+            r#"{"outcome":"accepted","reply":{"carry":2,"count":1,"withdrawal":1}}"#,
+        ),
+        (
+            "ISSUER",
+            r#"{"command":"correct","device":"500000000000000012","first":"","first_day":"2025-01-01","key":"c2","last":"","less_wh":2,"reason":"meter read twice"}"#,
+            r#"{"outcome":"accepted","reply":{"carry":0,"count":0,"withdrawal":0}}"#,
+        ),
+    ],
+    shown: "",
+};
+
+/// Corrections that are damaged, and carriers, which no device and no lot has yet. Some leave the device's sum as it was.
+const CORRECTIONS: [Damage; 12] = [
+    (
+        "UPDATE correction SET less = 1 WHERE id = 2",
+        "UPDATE correction SET less = 2 WHERE id = 2",
+        OpenFault::Damaged,
+    ),
+    (
+        "DELETE FROM correction WHERE id = 2",
+        "INSERT INTO correction VALUES (2, '500000000000000012', '2025-01-01', 2, 0)",
+        OpenFault::Damaged,
+    ),
+    (
+        "UPDATE correction SET first_day = '2025-02-01' WHERE id = 2",
+        "UPDATE correction SET first_day = '2025-01-01' WHERE id = 2",
+        OpenFault::Damaged,
+    ),
+    (
+        "UPDATE correction SET first_day = '2025-01-31' WHERE id = 2",
+        "UPDATE correction SET first_day = '2025-01-01' WHERE id = 2",
+        OpenFault::Damaged,
+    ),
+    (
+        "UPDATE correction SET device = '500000000000000029' WHERE id = 2",
+        "UPDATE correction SET device = '500000000000000012' WHERE id = 2",
+        OpenFault::Damaged,
+    ),
+    (
+        "INSERT INTO correction VALUES (3, '500000000000000012', '2025-01-01', -1, 0); UPDATE correction SET less = 3 WHERE id = 2",
+        "DELETE FROM correction WHERE id = 3; UPDATE correction SET less = 2 WHERE id = 2",
+        OpenFault::Damaged,
+    ),
+    (
+        "UPDATE correction SET withdrawal = 2 WHERE id = 2",
+        "UPDATE correction SET withdrawal = 0 WHERE id = 2",
+        OpenFault::Damaged,
+    ),
+    (
+        "UPDATE correction SET withdrawal = -1 WHERE id = 2",
+        "UPDATE correction SET withdrawal = 0 WHERE id = 2",
+        OpenFault::Damaged,
+    ),
+    (
+        "UPDATE correction SET withdrawal = 0 WHERE id = 1",
+        "UPDATE correction SET withdrawal = 1 WHERE id = 1",
+        OpenFault::Damaged,
+    ),
+    (
+        "UPDATE receipt SET n3 = -1 WHERE key = 'c1'",
+        "UPDATE receipt SET n3 = 1 WHERE key = 'c1'",
+        OpenFault::Damaged,
+    ),
+    (
+        "INSERT INTO device_carrier VALUES ('500000000000000012', 'electricity')",
+        "DELETE FROM device_carrier",
+        OpenFault::Damaged,
+    ),
+    (
+        "INSERT INTO lot_carrier VALUES (1, 'hydrogen')",
+        "DELETE FROM lot_carrier",
+        OpenFault::Damaged,
     ),
 ];
 
@@ -138,6 +229,14 @@ fn is_refused(rt: &impl Abort, alloc: Global, disks: Disks, damage: &Damage) -> 
     let disks = after(rt, alloc, disks, &Deed::Edits(damage.1));
     let (word, disks) = judged(rt, alloc, disks);
     holds(rt, word == None, damage.1);
+    disks
+}
+
+/// Tables that were changed by a text are not opened, as they are damaged.
+fn is_damaged(rt: &impl Abort, alloc: Global, disks: Disks, sql: &str) -> Disks {
+    let disks = after(rt, alloc, disks, &Deed::Edits(sql));
+    let (word, disks) = judged(rt, alloc, disks);
+    holds(rt, word == Some(OpenFault::Damaged), sql);
     disks
 }
 
@@ -159,5 +258,16 @@ fn damages_are_met(rt: HostRuntime) {
     let begins = Deed::Begins(1, Act::Sends(cancelled, 0));
     let (_, disks) = shown(&rt, alloc, blank(alloc), &begins);
     let disks = are_refused(&rt, alloc, disks, &VALUES);
-    let _disks = are_refused(&rt, alloc, disks, &TABLES);
+    let mut disks = are_refused(&rt, alloc, disks, &TABLES);
+    for sql in INDEX_MOVED {
+        disks = is_damaged(&rt, alloc, disks, sql);
+    }
+}
+
+#[test]
+fn damages_of_corrections_are_met(rt: HostRuntime) {
+    let alloc = rt.alloc();
+    let begins = Deed::Begins(1, Act::Plays(&CORRECTED, false));
+    let (_, disks) = shown(&rt, alloc, blank(alloc), &begins);
+    let _disks = are_refused(&rt, alloc, disks, &CORRECTIONS);
 }

@@ -21,12 +21,16 @@ const PLAN: &str = "CREATE TABLE plan (id INTEGER PRIMARY KEY) STRICT; INSERT IN
 const BEFORE_ACCOUNT: &str =
     "CREATE TABLE meta (id INTEGER PRIMARY KEY, version INTEGER NOT NULL, code INTEGER NOT NULL, today TEXT NOT NULL, next_serial INTEGER NOT NULL, next_account INTEGER NOT NULL, next_cancellation INTEGER NOT NULL, next_withdrawal INTEGER NOT NULL, next_notice INTEGER NOT NULL) STRICT; CREATE TABLE holder (code TEXT NOT NULL PRIMARY KEY, name TEXT NOT NULL) STRICT";
 
-/// Its tables and indexes after that.
+/// Its tables and indexes after that, up to the last one of the first version.
 const AFTER_ACCOUNT: &str =
     "CREATE TABLE device (gsrn TEXT NOT NULL PRIMARY KEY, account INTEGER NOT NULL, country TEXT NOT NULL, site TEXT NOT NULL, tech TEXT NOT NULL, source TEXT NOT NULL, capacity_w INTEGER NOT NULL, commissioned TEXT NOT NULL, support TEXT NOT NULL, last_day TEXT, carry INTEGER NOT NULL) STRICT; CREATE TABLE declaration (id INTEGER PRIMARY KEY, device TEXT NOT NULL, first_day TEXT NOT NULL, last_day TEXT NOT NULL, gross INTEGER NOT NULL, aux INTEGER NOT NULL, UNIQUE (device, first_day)) STRICT; CREATE TABLE lot (id INTEGER PRIMARY KEY, origin INTEGER NOT NULL, device TEXT NOT NULL, country TEXT NOT NULL, site TEXT NOT NULL, tech TEXT NOT NULL, source TEXT NOT NULL, capacity_w INTEGER NOT NULL, commissioned TEXT NOT NULL, support TEXT NOT NULL, first_day TEXT NOT NULL, last_day TEXT NOT NULL, expires_on TEXT, issued_on TEXT NOT NULL, UNIQUE (origin, device, first_day)) STRICT; CREATE TABLE piece (first INTEGER PRIMARY KEY, last INTEGER NOT NULL, lot INTEGER NOT NULL, kind INTEGER NOT NULL, account INTEGER NOT NULL, act INTEGER NOT NULL) STRICT; CREATE TABLE peer (code INT NOT NULL PRIMARY KEY) STRICT; CREATE TABLE receipt (caller TEXT NOT NULL, key TEXT NOT NULL, command BLOB NOT NULL, kind INTEGER NOT NULL, n1 INTEGER NOT NULL, n2 INTEGER NOT NULL, n3 INTEGER NOT NULL, PRIMARY KEY (caller, key)) STRICT; CREATE TABLE cancellation (number INTEGER PRIMARY KEY, account INTEGER NOT NULL, first INTEGER NOT NULL, last INTEGER NOT NULL, beneficiary TEXT NOT NULL, use_first TEXT NOT NULL, use_last TEXT NOT NULL, day TEXT NOT NULL) STRICT; CREATE TABLE withdrawal (number INTEGER PRIMARY KEY, first INTEGER NOT NULL, last INTEGER NOT NULL, reason TEXT NOT NULL, day TEXT NOT NULL) STRICT; CREATE TABLE notice_out (number INTEGER PRIMARY KEY, account INTEGER NOT NULL, body TEXT NOT NULL) STRICT; CREATE TABLE notice_in (sender INTEGER NOT NULL, number INTEGER NOT NULL, body TEXT NOT NULL, PRIMARY KEY (sender, number)) STRICT; CREATE INDEX piece_by_account ON piece (account, first); CREATE INDEX piece_by_kind ON piece (kind, first)";
 
+/// The tables that the second version has besides, in their order.
+const SECOND_VERSION: &str =
+    "CREATE TABLE correction (id INTEGER PRIMARY KEY, device TEXT NOT NULL, first_day TEXT NOT NULL, less INTEGER NOT NULL, withdrawal INTEGER NOT NULL) STRICT; CREATE TABLE device_carrier (gsrn TEXT NOT NULL PRIMARY KEY, carrier TEXT NOT NULL) STRICT; CREATE TABLE lot_carrier (lot INTEGER PRIMARY KEY, carrier TEXT NOT NULL) STRICT";
+
 /// The row of `meta` that a registry begins with.
-const BEGINNING: &str = "INSERT INTO meta VALUES (1, 1, 7, '2025-03-01', 1, 1, 1, 1, 1)";
+const BEGINNING: &str = "INSERT INTO meta VALUES (1, 2, 7, '2025-03-01', 1, 1, 1, 1, 1)";
 
 /// Why tables with no row of `meta` are refused.
 const NONE: Option<OpenFault> = Some(OpenFault::NotARegistry);
@@ -65,7 +69,7 @@ const SOMEBODY_ELSES: [Row; 2] = [
 ];
 
 /// A `meta` of ours with no other tables of ours.
-const VERSIONS: [Row; 7] = [
+const VERSIONS: [Row; 8] = [
     (META, NONE),
     (
         "INSERT INTO meta VALUES (1, 9, 7, '2025-03-01', 1, 1, 1, 1, 1)",
@@ -80,27 +84,31 @@ const VERSIONS: [Row; 7] = [
         Some(OpenFault::Damaged),
     ),
     ("UPDATE meta SET version = -9", Some(OpenFault::Damaged)),
-    ("UPDATE meta SET version = 1", Some(OpenFault::Damaged)),
+    ("UPDATE meta SET version = 1", Some(OpenFault::Version(1))),
+    ("UPDATE meta SET version = 2", Some(OpenFault::Damaged)),
     ("UPDATE meta SET id = 2", NONE),
 ];
 
-/// All tables of ours, and then not all of them.
-const OURS: [Row; 10] = [
+/// All tables of ours, those of the first version before the others, and then not all of them.
+const OURS: [Row; 13] = [
     (BEFORE_ACCOUNT, NONE),
     (
         "CREATE TABLE account (number INTEGER PRIMARY KEY, holder TEXT NOT NULL, closed INTEGER NOT NULL) STRICT",
         NONE,
     ),
     (AFTER_ACCOUNT, NONE),
-    (BEGINNING, None),
-    ("UPDATE meta SET version = 2", Some(OpenFault::Version(2))),
-    ("UPDATE meta SET version = 1", None),
-    ("DROP TABLE notice_in", Some(OpenFault::Damaged)),
+    (BEGINNING, Some(OpenFault::Damaged)),
+    ("UPDATE meta SET version = 1", Some(OpenFault::Version(1))),
+    (SECOND_VERSION, Some(OpenFault::Version(1))),
+    ("UPDATE meta SET version = 2", None),
+    ("UPDATE meta SET version = 3", Some(OpenFault::Version(3))),
+    ("UPDATE meta SET version = 2", None),
+    ("DROP TABLE lot_carrier", Some(OpenFault::Damaged)),
     (
         "UPDATE meta SET version = 9; DROP TABLE piece",
         Some(OpenFault::Version(9)),
     ),
-    ("UPDATE meta SET version = 1", Some(OpenFault::Damaged)),
+    ("UPDATE meta SET version = 2", Some(OpenFault::Damaged)),
     ("DELETE FROM meta", NONE),
 ];
 
@@ -172,6 +180,7 @@ fn another_table_of_accounts(rt: HostRuntime) {
             (BEFORE_ACCOUNT, NONE),
             (account, NONE),
             (AFTER_ACCOUNT, NONE),
+            (SECOND_VERSION, NONE),
             (BEGINNING, word),
         ];
         are_told(&rt, alloc, blank(alloc), &rows);

@@ -5,6 +5,7 @@ use crate::claims::holds;
 use crate::deeds::is_alike;
 use crate::worked::Case;
 use goo_core_shelf::counters::Counters;
+use goo_core_shelf::found::DeviceTotals;
 use goo_core_shelf::shelf::Shelf;
 use goo_types::account_no::AccountNo;
 use goo_types::act_no::ActNo;
@@ -22,7 +23,8 @@ use std::process::Abort;
 /// The last serial of all.
 const LAST: u64 = 999_999_999_999;
 
-/// A holder with two accounts, the second of which is closed, a device, another registry, and the next month.
+/// A holder with two accounts, the second of which is closed, a device, another registry, the next month, what the device
+/// declared, and a correction that takes off January what the last certificate and one Wh of the carry stood for.
 pub const MEMBERS: Case = Case {
     name: "members",
     serial: 1,
@@ -78,6 +80,21 @@ pub const MEMBERS: Case = Case {
             r#"{"command":"advance","day":"2025-04-01","key":"7"}"#,
             r#"{"outcome":"accepted","reply":{"expired":0}}"#,
         ),
+        (
+            "ISSUER",
+            r#"{"aux_wh":34567890,"command":"declare","device":"500000000000000012","first_day":"2025-01-01","gross_wh":1234567890,"key":"8","last_day":"2025-01-31"}"#,
+            r#"{"outcome":"accepted","reply":{"carry":0,"count":1200,"first":"07000000000001","last":"07000000001200"}}"#,
+        ),
+        (
+            "ISSUER",
+            r#"{"aux_wh":0,"command":"declare","device":"500000000000000012","first_day":"2025-02-01","gross_wh":999999,"key":"9","last_day":"2025-02-28"}"#,
+            r#"{"outcome":"accepted","reply":{"carry":999999,"count":0}}"#,
+        ),
+        (
+            "ISSUER",
+            r#"{"command":"correct","device":"500000000000000012","first":"07000000001200","first_day":"2025-01-01","key":"10","last":"07000000001200","less_wh":1000001,"reason":"meter read twice"}"#,
+            r#"{"outcome":"accepted","reply":{"carry":999998,"count":1,"withdrawal":1}}"#,
+        ),
     ],
     shown: "",
 };
@@ -124,6 +141,21 @@ fn has_no_act<S: Shelf>(rt: &impl Abort, alloc: Global, shelf: &mut S) {
     holds(rt, matches!(shelf.sent(alloc, act), Ok(None)), "no notice");
 }
 
+/// What can be taken off a device's declaration that begins on a day, in Wh, if there is one.
+fn can_take_off<S: Shelf>(
+    rt: &impl Abort,
+    shelf: &mut S,
+    device: &Gsrn,
+    first_day: &[u8],
+) -> Option<u64> {
+    let first_day = Day::read(first_day).expect(rt, "a day");
+    match shelf.correctable(device, first_day) {
+        Ok(Some(left)) => Some(left.get()),
+        Ok(None) => None,
+        Err(_) => panic!(rt; "a declaration that can't be read"),
+    }
+}
+
 /// A new registry's shelf has neither devices nor lots.
 fn has_no_device<S: Shelf>(rt: &impl Abort, shelf: &mut S) {
     let device = Gsrn::read(b"500000000000000012").expect(rt, "a device");
@@ -137,6 +169,11 @@ fn has_no_device<S: Shelf>(rt: &impl Abort, shelf: &mut S) {
         rt,
         matches!(shelf.lot(code, &device, first), Ok(None)),
         "no lot",
+    );
+    holds(
+        rt,
+        can_take_off(rt, shelf, &device, b"2025-01-01").is_none(),
+        "no declaration",
     );
 }
 
@@ -203,17 +240,46 @@ fn has_accounts<S: Shelf>(rt: &impl Abort, shelf: &mut S) {
     );
 }
 
-/// The device, which has declared nothing.
+/// The device, with the end of its last period.
 fn has_a_device<S: Shelf>(rt: &impl Abort, shelf: &mut S) {
     let gsrn = Gsrn::read(b"500000000000000012").expect(rt, "a device");
     let is_known =
         matches!(shelf.device(&gsrn), Ok(Some(device)) if device.capacity_w().get() == 2_000_000);
     holds(rt, is_known, "the device");
     let progress = shelf.progress(&gsrn).expect(rt, "progress");
-    holds(rt, progress.last_day.is_none(), "no period");
+    let last = Day::read(b"2025-02-28").expect(rt, "a day");
+    holds(rt, progress.last_day == Some(last), "the last period");
+    holds(rt, progress.carry.get() == 999_998, "the carry");
 }
 
-/// The other registry, the number of the next account, and the date.
+/// What can be taken off the declarations of the device: the net energy of each that begins on the day, less what was taken off.
+fn has_declarations<S: Shelf>(rt: &impl Abort, shelf: &mut S) {
+    let device = Gsrn::read(b"500000000000000012").expect(rt, "a device");
+    let other = Gsrn::read(b"500000000000000029").expect(rt, "a device");
+    let january = can_take_off(rt, shelf, &device, b"2025-01-01");
+    let february = can_take_off(rt, shelf, &device, b"2025-02-01");
+    holds(rt, january == Some(1_198_999_999), "January");
+    holds(rt, february == Some(999_999), "February");
+    let end = can_take_off(rt, shelf, &device, b"2025-01-31");
+    holds(rt, end.is_none(), "a day on which none begins");
+    let others = can_take_off(rt, shelf, &other, b"2025-01-01");
+    holds(rt, others.is_none(), "another device");
+}
+
+/// The totals of the device.
+fn are_its_totals(rt: &impl Abort, totals: &[DeviceTotals]) {
+    holds(
+        rt,
+        matches!(totals, [device] if device.declared == 1_200_999_999
+            && device.corrected_wh == 1_000_001
+            && device.issued == 1_200
+            && device.corrected == 1
+            && device.carry == 999_998),
+        "the totals",
+    );
+}
+
+/// The other registry, the numbers of the next account and the next withdrawal, and the date.
 fn has_a_peer<S: Shelf>(rt: &impl Abort, shelf: &mut S) {
     let nine = RegistryCode::new(9).expect(rt, "no code");
     let today = Day::read(b"2025-04-01").expect(rt, "a day");
@@ -224,13 +290,16 @@ fn has_a_peer<S: Shelf>(rt: &impl Abort, shelf: &mut S) {
     );
     let counters = shelf.counters().expect(rt, "counters");
     holds(rt, counters.account() == 3, "the next account");
+    holds(rt, counters.withdrawal() == 2, "the next withdrawal");
     holds(rt, shelf.today() == Ok(today), "the date");
 }
 
 /// The shelf of a registry that was asked for its members finds them.
-pub fn finds_members<S: Shelf>(rt: &impl Abort, shelf: &mut S) {
+pub fn finds_members<S: Shelf>(rt: &impl Abort, alloc: Global, shelf: &mut S) {
     has_accounts(rt, shelf);
     has_a_device(rt, shelf);
+    has_declarations(rt, shelf);
+    are_its_totals(rt, &shelf.totals(alloc).expect(rt, "totals"));
     has_a_peer(rt, shelf)
 }
 

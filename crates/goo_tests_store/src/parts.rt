@@ -87,7 +87,7 @@ fn are_audited<S: Shelf>(rt: &impl Abort, alloc: Global, registry: &mut Registry
     tell_audit(rt, alloc, registry, &mut audit);
     holds(
         rt,
-        audit.as_str() == "500000000000000012 101000000 101 0\n",
+        audit.as_str() == "500000000000000012 101000000 0 101 0 0\n",
         "the audit",
     )
 }

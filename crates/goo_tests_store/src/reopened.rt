@@ -14,14 +14,14 @@ Unknown
 Unknown
 1 07000000000001 07000000001200 2025-01-01 held
 1 07000000001201 07000000001201 2025-03-01 held
-500000000000000012 1201000000 1201 0
+500000000000000012 1201000000 0 1201 0 0
 Unknown
 Unknown
 ";
 
 /// What the registry shows after all requests.
 pub const END_SHOWN: &str = "{\"code\":11,\"name\":\"PeriodOrder\",\"outcome\":\"refused\"}
-{\"code\":16,\"name\":\"UnknownNumber\",\"number\":\"07000000001202\",\"outcome\":\"refused\"}
+{\"code\":16,\"name\":\"UnknownNumber\",\"number\":\"07999999999999\",\"outcome\":\"refused\"}
 Unknown
 Unknown
 1 07000000000001 07000000000010 2025-01-01 cancelled:1
@@ -31,7 +31,7 @@ Unknown
 1 07000000000200 07000000001200 2025-01-01 held
 1 07000000001201 07000000001201 2025-03-01 held
 2 07000000000100 07000000000199 2025-01-01 held
-500000000000000012 1201000000 1201 0
+500000000000000012 1201000000 0 1201 0 0
 SUN 2025-04-05 Bäckerei Müller
 1 07000000000001 07000000000010 2025-01-01 cancelled:1
 {\"account\":5,\"addressee\":9,\"number\":1,\"parts\":[{\"first\":\"07000000000020\",\"last\":\"07000000000029\",\"lot\":{\"capacity_w\":2000000,\"commissioned\":\"2020-06-15\",\"country\":\"DE\",\"device\":\"500000000000000012\",\"first_day\":\"2025-01-01\",\"issued_on\":\"2025-03-01\",\"last_day\":\"2025-01-31\",\"origin\":7,\"site\":\"North field\",\"source\":\"F01010100\",\"support\":\"none\",\"tech\":\"T010000\"}}],\"sender\":7,\"version\":1}

@@ -93,6 +93,6 @@ pub const PROBES: [(&str, &str); 2] = [
     ),
     (
         "SUN",
-        "{\"account\":5,\"command\":\"export\",\"first\":\"07000000001202\",\"giver\":1,\"key\":\"p2\",\"last\":\"07000000001202\",\"peer\":9}",
+        "{\"account\":5,\"command\":\"export\",\"first\":\"07999999999999\",\"giver\":1,\"key\":\"p2\",\"last\":\"07999999999999\",\"peer\":9}",
     ),
 ];

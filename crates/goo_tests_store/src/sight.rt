@@ -116,10 +116,12 @@ fn tell_holdings<S: Shelf>(
 /// The energy and the certificates of a device.
 fn totals_line(rt: &impl Abort, alloc: Global, device: &DeviceTotals) -> String {
     let line = format!(in alloc;
-        "{} {} {} {}\n",
+        "{} {} {} {} {} {}\n",
         device.device.text(),
         device.declared,
+        device.corrected_wh,
         device.issued,
+        device.corrected,
         device.carry
     );
     line.expect(rt, "memory")

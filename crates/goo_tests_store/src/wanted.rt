@@ -21,7 +21,7 @@ pub const DOCUMENT: &str =
     "CANCELLATION 1\nregistry 07\ndate 2025-04-05\naccount 1\nholder SUN\nbeneficiary Bäckerei Müller\nperiod 2025-01-01 2025-03-31\n07000000000001 07000000000010           10 500000000000000012 2025-01-01 2025-01-31 T010000 F01010100\ncertificates 10\nEND\n";
 
 /// The audit on 5 April 2025.
-pub const AUDIT: &str = "500000000000000012 1201000000 1201 0\n";
+pub const AUDIT: &str = "500000000000000012 1201000000 0 1201 0 0\n";
 
 /// A table of declarations: January, a row that can't be read, and February.
 pub const TABLE: &str =

@@ -2,7 +2,7 @@
 
 use crate::acts::Act;
 use crate::asking::{asks, plays};
-use crate::cases::{FIFTH, FIRST, FOURTH, SECOND, SIXTH, THIRD};
+use crate::cases::{EIGHTH, FIFTH, FIRST, FOURTH, NINTH, SECOND, SEVENTH, SIXTH, THIRD};
 use crate::claims::holds;
 use crate::deeds::is_alike;
 use crate::script::{Line, requests};
@@ -142,4 +142,19 @@ fn the_fifth_cases(rt: HostRuntime) {
 #[test]
 fn the_sixth_cases(rt: HostRuntime) {
     are_alike(&rt, rt.alloc(), &SIXTH)
+}
+
+#[test]
+fn the_seventh_cases(rt: HostRuntime) {
+    are_alike(&rt, rt.alloc(), &SEVENTH)
+}
+
+#[test]
+fn the_eighth_cases(rt: HostRuntime) {
+    are_alike(&rt, rt.alloc(), &EIGHTH)
+}
+
+#[test]
+fn the_ninth_cases(rt: HostRuntime) {
+    are_alike(&rt, rt.alloc(), &NINTH)
 }

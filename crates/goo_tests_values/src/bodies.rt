@@ -14,7 +14,7 @@ const JANUARY: &str =
     \"first_day\":\"2025-01-01\",\"gross_wh\":1234567890,\"key\":\"d1\",\"last_day\":\"2025-01-31\"}";
 
 /// A body, and why it states no request.
-static FAULTS: [(&str, BodyFault); 43] = [
+static FAULTS: [(&str, BodyFault); 55] = [
     ("", BodyFault::NotJson),
     ("{} {}", BodyFault::NotJson),
     (
@@ -108,6 +108,11 @@ static FAULTS: [(&str, BodyFault); 43] = [
         BodyFault::Shape,
     ),
     (
+        "{\"command\":\"correct\",\"device\":\"500000000000000012\",\"first\":\"07000000001201\",\
+         \"first_day\":\"2025-02-01\",\"key\":\"k\",\"last\":\"\",\"less_wh\":\"1\",\"reason\":\"r\"}",
+        BodyFault::Shape,
+    ),
+    (
         "{\"account\":0,\"command\":\"close_account\",\"key\":\"k\"}",
         BodyFault::Field,
     ),
@@ -162,14 +167,70 @@ static FAULTS: [(&str, BodyFault); 43] = [
         BodyFault::Field,
     ),
     (
+        "{\"command\":\"correct\",\"device\":\"500000000000000012\",\"first\":\"07000000001201\",\
+         \"first_day\":\"2025-02-01\",\"key\":\"k\",\"last\":\"\",\"less_wh\":1,\"reason\":\"r\"}",
+        BodyFault::Field,
+    ),
+    (
+        "{\"command\":\"correct\",\"device\":\"500000000000000012\",\"first\":\"\",\
+         \"first_day\":\"2025-02-01\",\"key\":\"k\",\"last\":\"07000000001201\",\"less_wh\":1,\"reason\":\"r\"}",
+        BodyFault::Field,
+    ),
+    (
+        "{\"command\":\"correct\",\"device\":\"500000000000000012\",\"first\":\"0\",\
+         \"first_day\":\"2025-02-01\",\"key\":\"k\",\"last\":\"0\",\"less_wh\":1,\"reason\":\"r\"}",
+        BodyFault::Field,
+    ),
+    (
+        "{\"command\":\"correct\",\"device\":\"500000000000000012\",\"first\":\"\",\
+         \"first_day\":\"2025-02-01\",\"key\":\"k\",\"last\":\"\",\"less_wh\":-1,\"reason\":\"r\"}",
+        BodyFault::Field,
+    ),
+    (
         "{\"command\":\"import\",\"key\":\"k\",\"notice\":{\"account\":5,\"addressee\":9,\"number\":1,\
          \"parts\":[],\"sender\":7,\"version\":1}}",
         BodyFault::Field,
     ),
+    (
+        "{\"command\":\"correct\",\"device\":\"500000000000000012\",\"first\":\"\",\"first_day\":\"2025-01-01\",\
+         \"key\":\"k\",\"last\":\"\",\"less_wh\":1}",
+        BodyFault::Shape,
+    ),
+    (
+        "{\"command\":\"correct\",\"device\":\"500000000000000012\",\"first\":\"\",\"first_day\":\"2025-01-01\",\
+         \"key\":\"k\",\"last\":\"\",\"last_day\":\"2025-01-31\",\"less_wh\":1,\"reason\":\"r\"}",
+        BodyFault::Shape,
+    ),
+    (
+        "{\"command\":\"correct\",\"device\":\"500000000000000012\",\"first_day\":\"2025-01-01\",\
+         \"key\":\"k\",\"less_wh\":1,\"reason\":\"r\"}",
+        BodyFault::Shape,
+    ),
+    (
+        "{\"command\":\"correct\",\"device\":\"500000000000000012\",\"first\":0,\"first_day\":\"2025-01-01\",\
+         \"key\":\"k\",\"last\":\"\",\"less_wh\":1,\"reason\":\"r\"}",
+        BodyFault::Shape,
+    ),
+    (
+        "{\"command\":\"correct\",\"device\":\"500000000000000012\",\"first\":\"07000000000002\",\
+         \"first_day\":\"2025-01-01\",\"key\":\"k\",\"last\":\"07000000000001\",\"less_wh\":1,\"reason\":\"r\"}",
+        BodyFault::Field,
+    ),
+    (
+        "{\"command\":\"correct\",\"device\":\"500000000000000012\",\"first\":\"\",\"first_day\":\"2025-01-01\",\
+         \"key\":\"k\",\"last\":\"\",\"less_wh\":1000000000000001,\"reason\":\"r\"}",
+        BodyFault::Field,
+    ),
+    (
+        "{\"account\":1,\"capacity_w\":2000000,\"carrier\":\"electricity\",\"command\":\"register_device\",\
+         \"commissioned\":\"2020-06-15\",\"country\":\"DE\",\"device\":\"500000000000000012\",\"key\":\"k\",\
+         \"site\":\"North field\",\"source\":\"F01010100\",\"support\":\"none\",\"tech\":\"T010000\"}",
+        BodyFault::Shape,
+    ),
 ];
 
 /// What commands are read as and told as, but for their first sign.
-static COMMANDS: [&str; 12] = [
+static COMMANDS: [&str; 14] = [
     "\"command\":\"open_holder\",\"holder\":\"SUN\",\"name\":\"Sun Power\"}",
     "\"command\":\"open_account\",\"holder\":\"SUN\"}",
     "\"account\":1,\"command\":\"close_account\"}",
@@ -178,6 +239,10 @@ static COMMANDS: [&str; 12] = [
      \"support\":\"none\",\"tech\":\"T010000\"}",
     "\"aux_wh\":0,\"command\":\"declare\",\"device\":\"500000000000000012\",\"first_day\":\"2025-02-01\",\
      \"gross_wh\":999999,\"last_day\":\"2025-02-28\"}",
+    "\"command\":\"correct\",\"device\":\"500000000000000012\",\"first\":\"\",\"first_day\":\"2025-01-01\",\
+     \"last\":\"\",\"less_wh\":1,\"reason\":\"meter read twice\"}",
+    "\"command\":\"correct\",\"device\":\"500000000000000012\",\"first\":\"07000000001201\",\
+     \"first_day\":\"2025-02-01\",\"last\":\"07000000001201\",\"less_wh\":999999,\"reason\":\"meter read twice\"}",
     "\"command\":\"transfer\",\"first\":\"07000000000100\",\"giver\":1,\"last\":\"07000000000199\",\"taker\":2}",
     "\"account\":1,\"beneficiary\":\"Bäckerei Müller\",\"command\":\"cancel\",\"first\":\"07000000000001\",\
      \"last\":\"07000000000010\",\"use_first\":\"2025-01-01\",\"use_last\":\"2025-03-31\"}",

@@ -15,7 +15,7 @@ use std::process::Abort;
 type ReplyRow = (Reply, &'static str);
 
 /// What a request did, with no account, act or range.
-const REPLIES: [ReplyRow; 5] = [
+const REPLIES: [ReplyRow; 6] = [
     (Reply::Done, "{}"),
     (
         Reply::Declared {
@@ -23,6 +23,14 @@ const REPLIES: [ReplyRow; 5] = [
             issued: None,
         },
         "{\"carry\":999999,\"count\":0}",
+    ),
+    (
+        Reply::Corrected {
+            carry: 999_999,
+            count: 0,
+            withdrawal: None,
+        },
+        "{\"carry\":999999,\"count\":0,\"withdrawal\":0}",
     ),
     (Reply::Moved { count: 10 }, "{\"count\":10}"),
     (Reply::Imported { count: 10 }, "{\"count\":10}"),
@@ -33,7 +41,7 @@ const REPLIES: [ReplyRow; 5] = [
 type RefusalRow = (Refusal, &'static str);
 
 /// The reasons that name no certificate.
-const REFUSALS: [RefusalRow; 25] = [
+const REFUSALS: [RefusalRow; 28] = [
     (Refusal::NotAllowed, "1,\"name\":\"NotAllowed\""),
     (Refusal::KeyReused, "2,\"name\":\"KeyReused\""),
     (Refusal::UnknownHolder, "3,\"name\":\"UnknownHolder\""),
@@ -65,6 +73,12 @@ const REFUSALS: [RefusalRow; 25] = [
     (Refusal::FuturePeriod, "28,\"name\":\"FuturePeriod\""),
     (Refusal::UsePeriod, "29,\"name\":\"UsePeriod\""),
     (Refusal::TooManyParts, "30,\"name\":\"TooManyParts\""),
+    (
+        Refusal::UnknownDeclaration,
+        "31,\"name\":\"UnknownDeclaration\"",
+    ),
+    (Refusal::OverCorrected, "32,\"name\":\"OverCorrected\""),
+    (Refusal::WrongCount, "33,\"name\":\"WrongCount\""),
 ];
 
 /// An outcome's text is the one that is wanted; else both are told.
@@ -144,6 +158,14 @@ fn accepted_with_acts(rt: HostRuntime) {
             "{\"count\":1,\"withdrawal\":1}",
         ),
         (
+            Reply::Corrected {
+                carry: 1,
+                count: 1,
+                withdrawal: Some(act),
+            },
+            "{\"carry\":1,\"count\":1,\"withdrawal\":1}",
+        ),
+        (
             Reply::Exported {
                 notice: act,
                 count: 10,
@@ -168,6 +190,7 @@ fn refused_for_a_certificate(rt: HostRuntime) {
         (Refusal::TradeClosed(n), "18,\"name\":\"TradeClosed\""),
         (Refusal::NumberTaken(n), "25,\"name\":\"NumberTaken\""),
         (Refusal::LotDiffers(n), "26,\"name\":\"LotDiffers\""),
+        (Refusal::OtherDevice(n), "34,\"name\":\"OtherDevice\""),
     ];
     refusals_read(&rt, rt.alloc(), &refusals, ",\"number\":\"07000000000007\"")
 }

@@ -53,7 +53,7 @@ pub mod wh;
 pub use account_no::AccountNo;
 pub use act_no::ActNo;
 pub use command::{
-    AddPeer, Advance, Cancel, CloseAccount, Command, Declare, Export, Import, OpenAccount,
+    AddPeer, Advance, Cancel, CloseAccount, Command, Correct, Declare, Export, Import, OpenAccount,
     OpenHolder, RegisterDevice, Transfer, Withdraw,
 };
 pub use country::Country;

@@ -2,195 +2,177 @@
 
 use crate::worked::Case;
 
-pub const FIRST: [Case; 8] = [
+pub const FIRST: [Case; 4] = [
     Case {
-        name: "a_key_after_the_date_moved",
+        name: "a_correction_of_nothing",
         serial: 1,
-        begun: 5,
+        begun: 9,
         asked: &[
             (
                 "ISSUER",
-                r#"{"command":"declare","device":"500000000000000012","first_day":"2025-01-01","last_day":"2025-01-31","gross_wh":1234567890,"aux_wh":34567890,"key":"x"}"#,
-                r#"{"outcome":"accepted","reply":{"carry":0,"count":1200,"first":"07000000000001","last":"07000000001200"}}"#,
+                r#"{"command":"correct","device":"500000000000000012","first_day":"2025-02-01","less_wh":0,"first":"","last":"","reason":"meter read twice","key":"z1"}"#,
+                r#"{"outcome":"accepted","reply":{"carry":0,"count":0,"withdrawal":0}}"#,
             ),
             (
                 "ISSUER",
-                r#"{"command":"declare","device":"500000000000000012","first_day":"2025-02-01","last_day":"2025-02-28","gross_wh":999999,"aux_wh":0,"key":"k436"}"#,
-                r#"{"outcome":"accepted","reply":{"carry":999999,"count":0}}"#,
+                r#"{"command":"correct","device":"500000000000000012","first_day":"2025-02-01","less_wh":0,"first":"","last":"","reason":"meter read twice","key":"z2"}"#,
+                r#"{"outcome":"accepted","reply":{"carry":0,"count":0,"withdrawal":0}}"#,
             ),
             (
                 "ISSUER",
-                r#"{"command":"advance","day":"2025-04-05","key":"k437"}"#,
-                r#"{"outcome":"accepted","reply":{"expired":0}}"#,
+                r#"{"command":"correct","device":"500000000000000012","first_day":"2025-02-01","less_wh":0,"first":"","last":"","reason":"meter read twice","key":"z1"}"#,
+                r#"{"outcome":"repeated","reply":{"carry":0,"count":0,"withdrawal":0}}"#,
             ),
             (
                 "ISSUER",
-                r#"{"command":"declare","device":"500000000000000012","first_day":"2025-03-01","last_day":"2025-03-31","gross_wh":1,"aux_wh":0,"key":"k438"}"#,
-                r#"{"outcome":"accepted","reply":{"carry":0,"count":1,"first":"07000000001201","last":"07000000001201"}}"#,
+                r#"{"command":"correct","device":"500000000000000012","first_day":"2025-02-01","less_wh":999999,"first":"07000000001201","last":"07000000001201","reason":"meter read twice","key":"z3"}"#,
+                r#"{"outcome":"accepted","reply":{"carry":1,"count":1,"withdrawal":1}}"#,
             ),
             (
                 "ISSUER",
-                r#"{"command":"declare","device":"500000000000000012","first_day":"2025-01-01","last_day":"2025-01-31","gross_wh":1234567890,"aux_wh":34567890,"key":"x"}"#,
-                r#"{"outcome":"repeated","reply":{"carry":0,"count":1200,"first":"07000000000001","last":"07000000001200"}}"#,
+                r#"{"command":"correct","device":"500000000000000012","first_day":"2025-02-01","less_wh":0,"first":"","last":"","reason":"meter read twice","key":"z4"}"#,
+                r#"{"outcome":"accepted","reply":{"carry":1,"count":0,"withdrawal":0}}"#,
             ),
             (
                 "ISSUER",
-                r#"{"command":"declare","device":"500000000000000012","first_day":"2025-01-01","last_day":"2025-01-31","gross_wh":1234567891,"aux_wh":34567890,"key":"x"}"#,
+                r#"{"command":"correct","device":"500000000000000012","first_day":"2025-02-01","less_wh":999999,"first":"07000000001201","last":"07000000001201","reason":"meter read twice","key":"z3"}"#,
+                r#"{"outcome":"repeated","reply":{"carry":1,"count":1,"withdrawal":1}}"#,
+            ),
+            (
+                "ISSUER",
+                r#"{"command":"correct","device":"500000000000000012","first_day":"2025-02-01","less_wh":999999,"first":"07000000001201","last":"07000000001201","reason":"meter read thrice","key":"z3"}"#,
                 r#"{"code":2,"name":"KeyReused","outcome":"refused"}"#,
             ),
             (
+                "ISSUER",
+                r#"{"command":"correct","device":"500000000000000012","first_day":"2025-02-01","less_wh":0,"first":"","last":"","reason":"meter read twice","key":"z1"}"#,
+                r#"{"outcome":"repeated","reply":{"carry":0,"count":0,"withdrawal":0}}"#,
+            ),
+            (
                 "SUN",
-                r#"{"command":"declare","device":"500000000000000012","first_day":"2025-01-01","last_day":"2025-01-31","gross_wh":1234567890,"aux_wh":34567890,"key":"x"}"#,
+                r#"{"command":"correct","device":"500000000000000012","first_day":"2025-02-01","less_wh":0,"first":"","last":"","reason":"meter read twice","key":"z1"}"#,
                 r#"{"code":1,"name":"NotAllowed","outcome":"refused"}"#,
             ),
+            (
+                "ISSUER",
+                r#"{"command":"correct","device":"500000000000000012","first_day":"2025-01-01","less_wh":0,"first":"","last":"","reason":"meter read twice","key":"z5"}"#,
+                r#"{"outcome":"accepted","reply":{"carry":1,"count":0,"withdrawal":0}}"#,
+            ),
         ],
-        shown: "1 07000000000001 07000000001200 2025-01-01 held\n1 07000000001201 07000000001201 2025-03-01 held\n500000000000000012 1201000000 1201 0\n",
+        shown: "1 07000000000001 07000000001200 2025-01-01 held\n1 07000000001201 07000000001201 2025-03-01 withdrawn:1\n500000000000000012 1201000000 999999 1201 1 1\n",
     },
     Case {
-        name: "a_number_that_another_account_holds",
+        name: "a_correction_over_two_accounts",
         serial: 1,
         begun: 9,
         asked: &[
             (
                 "SUN",
-                r#"{"command":"transfer","giver":1,"taker":2,"first":"07000000000007","last":"07000000000007","key":"k56"}"#,
-                r#"{"outcome":"accepted","reply":{"count":1}}"#,
+                r#"{"command":"transfer","giver":1,"taker":2,"first":"07000000000100","last":"07000000000199","key":"k763"}"#,
+                r#"{"outcome":"accepted","reply":{"count":100}}"#,
+            ),
+            (
+                "ISSUER",
+                r#"{"command":"correct","device":"500000000000000012","first_day":"2025-01-01","less_wh":3000000,"first":"07000000000099","last":"07000000000101","reason":"meter read twice","key":"k764"}"#,
+                r#"{"outcome":"accepted","reply":{"carry":0,"count":3,"withdrawal":1}}"#,
+            ),
+            (
+                "ISSUER",
+                r#"{"command":"correct","device":"500000000000000012","first_day":"2025-01-01","less_wh":1000000,"first":"07000000000150","last":"07000000000150","reason":"meter read twice","key":"k765"}"#,
+                r#"{"outcome":"accepted","reply":{"carry":0,"count":1,"withdrawal":2}}"#,
+            ),
+            (
+                "VOLT",
+                r#"{"command":"transfer","giver":2,"taker":1,"first":"07000000000149","last":"07000000000151","key":"k766"}"#,
+                r#"{"code":17,"name":"NotHeld","number":"07000000000150","outcome":"refused"}"#,
             ),
             (
                 "SUN",
-                r#"{"command":"cancel","account":1,"first":"07000000000001","last":"07000000000010","beneficiary":"X","use_first":"2025-01-01","use_last":"2025-03-31","key":"k57"}"#,
-                r#"{"code":17,"name":"NotHeld","number":"07000000000007","outcome":"refused"}"#,
+                r#"{"command":"cancel","account":1,"first":"07000000000098","last":"07000000000099","beneficiary":"Volt","use_first":"2025-01-01","use_last":"2025-03-31","key":"k767"}"#,
+                r#"{"code":17,"name":"NotHeld","number":"07000000000099","outcome":"refused"}"#,
             ),
         ],
-        shown: "1 07000000000001 07000000000006 2025-01-01 held\n1 07000000000008 07000000001200 2025-01-01 held\n1 07000000001201 07000000001201 2025-03-01 held\n2 07000000000007 07000000000007 2025-01-01 held\n500000000000000012 1201000000 1201 0\n",
+        shown: "1 07000000000001 07000000000098 2025-01-01 held\n1 07000000000099 07000000000099 2025-01-01 withdrawn:1\n1 07000000000200 07000000001200 2025-01-01 held\n1 07000000001201 07000000001201 2025-03-01 held\n2 07000000000100 07000000000101 2025-01-01 withdrawn:1\n2 07000000000102 07000000000149 2025-01-01 held\n2 07000000000150 07000000000150 2025-01-01 withdrawn:2\n2 07000000000151 07000000000199 2025-01-01 held\n500000000000000012 1201000000 4000000 1201 4 0\n",
     },
     Case {
-        name: "a_number_that_another_account_holds_before_the_date_moves",
-        serial: 1,
-        begun: 7,
-        asked: &[
-            (
-                "SUN",
-                r#"{"command":"transfer","giver":1,"taker":2,"first":"07000000000007","last":"07000000000007","key":"k685"}"#,
-                r#"{"outcome":"accepted","reply":{"count":1}}"#,
-            ),
-            (
-                "SUN",
-                r#"{"command":"cancel","account":1,"first":"07000000000001","last":"07000000000010","beneficiary":"X","use_first":"2025-01-01","use_last":"2025-03-31","key":"k686"}"#,
-                r#"{"code":17,"name":"NotHeld","number":"07000000000007","outcome":"refused"}"#,
-            ),
-        ],
-        shown: "1 07000000000001 07000000000006 2025-01-01 held\n1 07000000000008 07000000001200 2025-01-01 held\n2 07000000000007 07000000000007 2025-01-01 held\n500000000000000012 1200999999 1200 999999\n",
-    },
-    Case {
-        name: "a_part_is_moved",
-        serial: 1,
-        begun: 9,
-        asked: &[(
-            "SUN",
-            r#"{"command":"transfer","giver":1,"taker":2,"first":"07000000000100","last":"07000000000199","key":"k609"}"#,
-            r#"{"outcome":"accepted","reply":{"count":100}}"#,
-        )],
-        shown: "1 07000000000001 07000000000099 2025-01-01 held\n1 07000000000200 07000000001200 2025-01-01 held\n1 07000000001201 07000000001201 2025-03-01 held\n2 07000000000100 07000000000199 2025-01-01 held\n500000000000000012 1201000000 1201 0\n",
-    },
-    Case {
-        name: "a_part_is_moved_before_the_date_moves",
-        serial: 1,
-        begun: 7,
-        asked: &[(
-            "SUN",
-            r#"{"command":"transfer","giver":1,"taker":2,"first":"07000000000100","last":"07000000000199","key":"k667"}"#,
-            r#"{"outcome":"accepted","reply":{"count":100}}"#,
-        )],
-        shown: "1 07000000000001 07000000000099 2025-01-01 held\n1 07000000000200 07000000001200 2025-01-01 held\n2 07000000000100 07000000000199 2025-01-01 held\n500000000000000012 1200999999 1200 999999\n",
-    },
-    Case {
-        name: "a_withdrawal",
+        name: "a_correction_over_two_lots",
         serial: 1,
         begun: 9,
         asked: &[
             (
                 "ISSUER",
-                r#"{"command":"withdraw","first":"07000000000005","last":"07000000000005","reason":"meter read twice","key":"k201"}"#,
-                r#"{"outcome":"accepted","reply":{"count":1,"withdrawal":1}}"#,
+                r#"{"command":"correct","device":"500000000000000012","first_day":"2025-01-01","less_wh":2000000,"first":"07000000001200","last":"07000000001201","reason":"meter read twice","key":"k815"}"#,
+                r#"{"outcome":"accepted","reply":{"carry":0,"count":2,"withdrawal":1}}"#,
             ),
             (
                 "ISSUER",
-                r#"{"command":"withdraw","first":"07000000000005","last":"07000000000005","reason":"meter read twice","key":"k202"}"#,
-                r#"{"code":17,"name":"NotHeld","number":"07000000000005","outcome":"refused"}"#,
+                r#"{"command":"correct","device":"500000000000000012","first_day":"2025-03-01","less_wh":1,"first":"07000000001199","last":"07000000001199","reason":"meter read twice","key":"k816"}"#,
+                r#"{"outcome":"accepted","reply":{"carry":999999,"count":1,"withdrawal":2}}"#,
             ),
             (
-                "SUN",
-                r#"{"command":"withdraw","first":"07000000000006","last":"07000000000006","reason":"x","key":"k203"}"#,
-                r#"{"code":1,"name":"NotAllowed","outcome":"refused"}"#,
+                "ISSUER",
+                r#"{"command":"correct","device":"500000000000000012","first_day":"2025-03-01","less_wh":1,"first":"","last":"","reason":"meter read twice","key":"k817"}"#,
+                r#"{"code":32,"name":"OverCorrected","outcome":"refused"}"#,
             ),
         ],
-        shown: "1 07000000000001 07000000000004 2025-01-01 held\n1 07000000000005 07000000000005 2025-01-01 withdrawn:1\n1 07000000000006 07000000001200 2025-01-01 held\n1 07000000001201 07000000001201 2025-03-01 held\n500000000000000012 1201000000 1201 0\n",
+        shown: "1 07000000000001 07000000001198 2025-01-01 held\n1 07000000001199 07000000001199 2025-01-01 withdrawn:2\n1 07000000001200 07000000001200 2025-01-01 withdrawn:1\n1 07000000001201 07000000001201 2025-03-01 withdrawn:1\n500000000000000012 1201000000 2000001 1201 3 999999\n",
     },
     Case {
-        name: "a_withdrawal_before_the_date_moves",
+        name: "a_correction_takes_the_carry",
         serial: 1,
         begun: 7,
         asked: &[
             (
                 "ISSUER",
-                r#"{"command":"withdraw","first":"07000000000005","last":"07000000000005","reason":"meter read twice","key":"k675"}"#,
-                r#"{"outcome":"accepted","reply":{"count":1,"withdrawal":1}}"#,
+                r#"{"command":"correct","device":"500000000000000012","first_day":"2025-02-01","less_wh":999998,"first":"","last":"","reason":"meter read twice","key":"k796"}"#,
+                r#"{"outcome":"accepted","reply":{"carry":1,"count":0,"withdrawal":0}}"#,
             ),
             (
                 "ISSUER",
-                r#"{"command":"withdraw","first":"07000000000005","last":"07000000000005","reason":"meter read twice","key":"k676"}"#,
-                r#"{"code":17,"name":"NotHeld","number":"07000000000005","outcome":"refused"}"#,
-            ),
-            (
-                "SUN",
-                r#"{"command":"withdraw","first":"07000000000005","last":"07000000000005","reason":"meter read twice","key":"k677"}"#,
-                r#"{"code":1,"name":"NotAllowed","outcome":"refused"}"#,
-            ),
-        ],
-        shown: "1 07000000000001 07000000000004 2025-01-01 held\n1 07000000000005 07000000000005 2025-01-01 withdrawn:1\n1 07000000000006 07000000001200 2025-01-01 held\n500000000000000012 1200999999 1200 999999\n",
-    },
-    Case {
-        name: "an_account_closed_after_its_certificates_expired",
-        serial: 1,
-        begun: 5,
-        asked: &[
-            (
-                "ISSUER",
-                r#"{"command":"declare","device":"500000000000000012","first_day":"2025-01-01","last_day":"2025-01-31","gross_wh":1000000,"aux_wh":0,"key":"k444"}"#,
-                r#"{"outcome":"accepted","reply":{"carry":0,"count":1,"first":"07000000000001","last":"07000000000001"}}"#,
+                r#"{"command":"correct","device":"500000000000000012","first_day":"2025-01-01","less_wh":2,"first":"","last":"","reason":"meter read twice","key":"k797"}"#,
+                r#"{"code":33,"name":"WrongCount","outcome":"refused"}"#,
             ),
             (
                 "ISSUER",
-                r#"{"command":"advance","day":"2026-07-31","key":"k445"}"#,
+                r#"{"command":"correct","device":"500000000000000012","first_day":"2025-01-01","less_wh":2,"first":"07000000001200","last":"07000000001200","reason":"meter read twice","key":"k798"}"#,
+                r#"{"outcome":"accepted","reply":{"carry":999999,"count":1,"withdrawal":1}}"#,
+            ),
+            (
+                "ISSUER",
+                r#"{"command":"correct","device":"500000000000000012","first_day":"2025-01-01","less_wh":999999,"first":"","last":"","reason":"meter read twice","key":"k799"}"#,
+                r#"{"outcome":"accepted","reply":{"carry":0,"count":0,"withdrawal":0}}"#,
+            ),
+            (
+                "ISSUER",
+                r#"{"command":"correct","device":"500000000000000012","first_day":"2025-02-01","less_wh":2,"first":"","last":"","reason":"meter read twice","key":"k800"}"#,
+                r#"{"code":32,"name":"OverCorrected","outcome":"refused"}"#,
+            ),
+            (
+                "ISSUER",
+                r#"{"command":"correct","device":"500000000000000012","first_day":"2025-01-01","less_wh":1198999999,"first":"07000000000001","last":"07000000001199","reason":"meter read twice","key":"k801"}"#,
+                r#"{"outcome":"accepted","reply":{"carry":1,"count":1199,"withdrawal":2}}"#,
+            ),
+            (
+                "ISSUER",
+                r#"{"command":"correct","device":"500000000000000012","first_day":"2025-01-01","less_wh":1,"first":"","last":"","reason":"meter read twice","key":"k802"}"#,
+                r#"{"code":32,"name":"OverCorrected","outcome":"refused"}"#,
+            ),
+            (
+                "ISSUER",
+                r#"{"command":"correct","device":"500000000000000012","first_day":"2025-02-01","less_wh":1,"first":"","last":"","reason":"meter read twice","key":"k803"}"#,
+                r#"{"outcome":"accepted","reply":{"carry":0,"count":0,"withdrawal":0}}"#,
+            ),
+            (
+                "ISSUER",
+                r#"{"command":"advance","day":"2025-04-05","key":"k804"}"#,
                 r#"{"outcome":"accepted","reply":{"expired":0}}"#,
             ),
             (
                 "ISSUER",
-                r#"{"command":"close_account","account":1,"key":"k446"}"#,
-                r#"{"code":7,"name":"AccountNotEmpty","outcome":"refused"}"#,
-            ),
-            (
-                "ISSUER",
-                r#"{"command":"advance","day":"2026-08-01","key":"k447"}"#,
-                r#"{"outcome":"accepted","reply":{"expired":1}}"#,
-            ),
-            (
-                "ISSUER",
-                r#"{"command":"close_account","account":1,"key":"k448"}"#,
-                r#"{"outcome":"accepted","reply":{}}"#,
-            ),
-            (
-                "ISSUER",
-                r#"{"command":"open_account","holder":"SUN","key":"k449"}"#,
-                r#"{"outcome":"accepted","reply":{"account":3}}"#,
-            ),
-            (
-                "ISSUER",
-                r#"{"command":"close_account","account":1,"key":"k450"}"#,
-                r#"{"code":6,"name":"AccountClosed","outcome":"refused"}"#,
+                r#"{"command":"declare","device":"500000000000000012","first_day":"2025-03-01","last_day":"2025-03-31","gross_wh":2000000,"aux_wh":0,"key":"k805"}"#,
+                r#"{"outcome":"accepted","reply":{"carry":0,"count":2,"first":"07000000001201","last":"07000000001202"}}"#,
             ),
         ],
-        shown: "",
+        shown: "1 07000000000001 07000000001199 2025-01-01 withdrawn:2\n1 07000000001200 07000000001200 2025-01-01 withdrawn:1\n1 07000000001201 07000000001202 2025-03-01 held\n500000000000000012 1202999999 1200999999 1202 1200 0\n",
     },
 ];

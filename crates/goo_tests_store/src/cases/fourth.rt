@@ -2,194 +2,144 @@
 
 use crate::worked::Case;
 
-pub const FOURTH: [Case; 6] = [
+pub const FOURTH: [Case; 3] = [
     Case {
-        name: "notices_that_are_refused",
+        name: "certificates_of_another_registry",
         serial: 1,
         begun: 10,
         asked: &[
             (
                 "ISSUER",
-                r#"{"command":"import","notice":{"sender":9,"addressee":7,"number":2,"account":1,"version":1,"parts":[{"first":"07000000001202","last":"07000000001202","lot":{"capacity_w":2000000,"commissioned":"2020-06-15","country":"DE","device":"500000000000000012","first_day":"2025-01-01","issued_on":"2025-03-01","last_day":"2025-01-31","origin":7,"site":"North field","source":"F01010100","support":"none","tech":"T010000"}}]},"key":"k118"}"#,
-                r#"{"code":16,"name":"UnknownNumber","number":"07000000001202","outcome":"refused"}"#,
-            ),
-            (
-                "ISSUER",
-                r#"{"command":"import","notice":{"sender":9,"addressee":7,"number":2,"account":1,"version":1,"parts":[{"first":"07000000000001","last":"07000000000001","lot":{"capacity_w":2000000,"commissioned":"2020-06-15","country":"DE","device":"500000000000000012","first_day":"2025-01-01","issued_on":"2025-03-01","last_day":"2025-01-31","origin":7,"site":"North field","source":"F01010100","support":"none","tech":"T010000"}}]},"key":"k119"}"#,
-                r#"{"code":25,"name":"NumberTaken","number":"07000000000001","outcome":"refused"}"#,
-            ),
-        ],
-        shown: "",
-    },
-    Case {
-        name: "one_serial_too_few",
-        serial: 999_999_999_999,
-        begun: 5,
-        asked: &[(
-            "ISSUER",
-            r#"{"command":"declare","device":"500000000000000012","first_day":"2025-01-01","last_day":"2025-01-31","gross_wh":2000000,"aux_wh":0,"key":"k645"}"#,
-            r#"{"code":15,"name":"NumbersExhausted","outcome":"refused"}"#,
-        )],
-        shown: "500000000000000012 0 0 0\n",
-    },
-    Case {
-        name: "one_watt-hour_above_the_capacity",
-        serial: 1,
-        begun: 5,
-        asked: &[(
-            "ISSUER",
-            r#"{"command":"declare","device":"500000000000000012","first_day":"2025-01-01","last_day":"2025-01-31","gross_wh":1490000001,"aux_wh":0,"key":"k141"}"#,
-            r#"{"code":14,"name":"OverCapacity","outcome":"refused"}"#,
-        )],
-        shown: "",
-    },
-    Case {
-        name: "out_back_and_out_again",
-        serial: 1,
-        begun: 10,
-        asked: &[
-            (
-                "SUN",
-                r#"{"command":"export","giver":1,"peer":9,"account":5,"first":"07000000000020","last":"07000000000029","key":"k101"}"#,
-                r#"{"outcome":"accepted","reply":{"count":10,"notice":1}}"#,
-            ),
-            (
-                "ISSUER",
-                r#"{"command":"import","notice":{"sender":9,"addressee":7,"number":1,"account":1,"version":1,"parts":[{"first":"07000000000020","last":"07000000000029","lot":{"capacity_w":2000000,"commissioned":"2020-06-15","country":"DE","device":"500000000000000012","first_day":"2025-01-01","issued_on":"2025-03-01","last_day":"2025-01-31","origin":7,"site":"North field","source":"F01010100","support":"none","tech":"T010000"}}]},"key":"k102"}"#,
-                r#"{"outcome":"accepted","reply":{"count":10}}"#,
-            ),
-            (
-                "ISSUER",
-                r#"{"command":"import","notice":{"sender":9,"addressee":7,"number":1,"account":1,"version":1,"parts":[{"first":"07000000000020","last":"07000000000029","lot":{"capacity_w":2000000,"commissioned":"2020-06-15","country":"DE","device":"500000000000000012","first_day":"2025-01-01","issued_on":"2025-03-01","last_day":"2025-01-31","origin":7,"site":"North field","source":"F01010100","support":"none","tech":"T010000"}}]},"key":"k103"}"#,
-                r#"{"outcome":"repeated","reply":{"count":10}}"#,
-            ),
-            (
-                "ISSUER",
-                r#"{"command":"import","notice":{"sender":9,"addressee":7,"number":1,"account":1,"version":1,"parts":[{"first":"07000000000020","last":"07000000000028","lot":{"capacity_w":2000000,"commissioned":"2020-06-15","country":"DE","device":"500000000000000012","first_day":"2025-01-01","issued_on":"2025-03-01","last_day":"2025-01-31","origin":7,"site":"North field","source":"F01010100","support":"none","tech":"T010000"}}]},"key":"k104"}"#,
-                r#"{"code":24,"name":"NoticeConflict","outcome":"refused"}"#,
-            ),
-            (
-                "SUN",
-                r#"{"command":"export","giver":1,"peer":9,"account":5,"first":"07000000000020","last":"07000000000029","key":"k105"}"#,
-                r#"{"outcome":"accepted","reply":{"count":10,"notice":2}}"#,
-            ),
-            (
-                "ISSUER",
-                r#"{"command":"import","notice":{"sender":9,"addressee":7,"number":1,"account":1,"version":1,"parts":[{"first":"07000000000020","last":"07000000000029","lot":{"capacity_w":2000000,"commissioned":"2020-06-15","country":"DE","device":"500000000000000012","first_day":"2025-01-01","issued_on":"2025-03-01","last_day":"2025-01-31","origin":7,"site":"North field","source":"F01010100","support":"none","tech":"T010000"}}]},"key":"k106"}"#,
-                r#"{"outcome":"repeated","reply":{"count":10}}"#,
-            ),
-            (
-                "ISSUER",
-                r#"{"command":"import","notice":{"sender":9,"addressee":7,"number":2,"account":1,"version":1,"parts":[{"first":"07000000000020","last":"07000000000029","lot":{"capacity_w":2000000,"commissioned":"2020-06-15","country":"DE","device":"500000000000000012","first_day":"2025-01-01","issued_on":"2025-03-01","last_day":"2025-01-31","origin":7,"site":"North field","source":"F01010100","support":"none","tech":"T010000"}}]},"key":"k107"}"#,
-                r#"{"outcome":"accepted","reply":{"count":10}}"#,
-            ),
-        ],
-        shown: "1 07000000000001 07000000001200 2025-01-01 held\n1 07000000001201 07000000001201 2025-03-01 held\n500000000000000012 1201000000 1201 0\n",
-    },
-    Case {
-        name: "periods_that_are_refused",
-        serial: 1,
-        begun: 9,
-        asked: &[
-            (
-                "ISSUER",
-                r#"{"command":"declare","device":"500000000000000012","first_day":"2025-03-31","last_day":"2025-04-01","gross_wh":1,"aux_wh":0,"key":"k151"}"#,
-                r#"{"code":12,"name":"PeriodSpan","outcome":"refused"}"#,
-            ),
-            (
-                "ISSUER",
-                r#"{"command":"declare","device":"500000000000000012","first_day":"2025-04-01","last_day":"2025-04-05","gross_wh":1,"aux_wh":0,"key":"k152"}"#,
-                r#"{"code":28,"name":"FuturePeriod","outcome":"refused"}"#,
-            ),
-            (
-                "ISSUER",
-                r#"{"command":"declare","device":"500000000000000012","first_day":"2020-06-14","last_day":"2020-06-30","gross_wh":1,"aux_wh":0,"key":"k153"}"#,
-                r#"{"code":10,"name":"BeforeCommissioning","outcome":"refused"}"#,
-            ),
-            (
-                "ISSUER",
-                r#"{"command":"declare","device":"500000000000000012","first_day":"2025-03-31","last_day":"2025-03-31","gross_wh":1,"aux_wh":0,"key":"k154"}"#,
-                r#"{"code":11,"name":"PeriodOrder","outcome":"refused"}"#,
-            ),
-        ],
-        shown: "",
-    },
-    Case {
-        name: "refusals_of_the_other_commands",
-        serial: 1,
-        begun: 9,
-        asked: &[
-            (
-                "ISSUER",
-                r#"{"command":"open_holder","holder":"SUN","name":"x","key":"k178"}"#,
-                r#"{"code":4,"name":"HolderExists","outcome":"refused"}"#,
-            ),
-            (
-                "ISSUER",
-                r#"{"command":"open_holder","holder":"ISSUER","name":"x","key":"k179"}"#,
-                r#"{"code":4,"name":"HolderExists","outcome":"refused"}"#,
-            ),
-            (
-                "ISSUER",
-                r#"{"command":"open_account","holder":"NOBODY","key":"k180"}"#,
-                r#"{"code":3,"name":"UnknownHolder","outcome":"refused"}"#,
-            ),
-            (
-                "ISSUER",
-                r#"{"command":"register_device","account":1,"capacity_w":2000000,"commissioned":"2020-06-15","country":"DE","device":"500000000000000012","site":"North field","source":"F01010100","support":"none","tech":"T010000","key":"k181"}"#,
-                r#"{"code":8,"name":"DeviceExists","outcome":"refused"}"#,
-            ),
-            (
-                "ISSUER",
-                r#"{"command":"declare","device":"500000000000000029","first_day":"2025-04-01","last_day":"2025-04-01","gross_wh":1,"aux_wh":0,"key":"k182"}"#,
-                r#"{"code":9,"name":"UnknownDevice","outcome":"refused"}"#,
-            ),
-            (
-                "SUN",
-                r#"{"command":"transfer","giver":1,"taker":1,"first":"07000000000001","last":"07000000000001","key":"k183"}"#,
-                r#"{"code":19,"name":"SameAccount","outcome":"refused"}"#,
-            ),
-            (
-                "SUN",
-                r#"{"command":"transfer","giver":1,"taker":3,"first":"07000000000001","last":"07000000000001","key":"k184"}"#,
-                r#"{"code":5,"name":"UnknownAccount","outcome":"refused"}"#,
-            ),
-            (
-                "SUN",
-                r#"{"command":"transfer","giver":1,"taker":2,"first":"07000000001202","last":"07000000001202","key":"k185"}"#,
-                r#"{"code":16,"name":"UnknownNumber","number":"07000000001202","outcome":"refused"}"#,
-            ),
-            (
-                "VOLT",
-                r#"{"command":"transfer","giver":1,"taker":2,"first":"07000000000001","last":"07000000000001","key":"k186"}"#,
-                r#"{"code":1,"name":"NotAllowed","outcome":"refused"}"#,
-            ),
-            (
-                "ISSUER",
-                r#"{"command":"advance","day":"2025-04-05","key":"k187"}"#,
-                r#"{"code":20,"name":"DateBackwards","outcome":"refused"}"#,
-            ),
-            (
-                "SUN",
-                r#"{"command":"export","giver":1,"peer":9,"account":5,"first":"07000000000001","last":"07000000000001","key":"k188"}"#,
+                r#"{"command":"import","notice":{"sender":8,"addressee":7,"number":1,"account":1,"version":1,"parts":[{"first":"09000000000001","last":"09000000000010","lot":{"capacity_w":2000000,"commissioned":"2020-06-15","country":"DE","device":"500000000000000012","first_day":"2025-01-01","issued_on":"2025-03-01","last_day":"2025-01-31","origin":9,"site":"North field","source":"F01010100","support":"none","tech":"T010000"}}]},"key":"k510"}"#,
                 r#"{"code":21,"name":"UnknownPeer","outcome":"refused"}"#,
             ),
             (
                 "ISSUER",
-                r#"{"command":"add_peer","peer":7,"key":"k189"}"#,
-                r#"{"code":22,"name":"PeerExists","outcome":"refused"}"#,
+                r#"{"command":"import","notice":{"sender":9,"addressee":7,"number":1,"account":3,"version":1,"parts":[{"first":"09000000000001","last":"09000000000010","lot":{"capacity_w":2000000,"commissioned":"2020-06-15","country":"DE","device":"500000000000000012","first_day":"2025-01-01","issued_on":"2025-03-01","last_day":"2025-01-31","origin":9,"site":"North field","source":"F01010100","support":"none","tech":"T010000"}}]},"key":"k511"}"#,
+                r#"{"code":5,"name":"UnknownAccount","outcome":"refused"}"#,
             ),
             (
                 "ISSUER",
-                r#"{"command":"import","notice":{"sender":9,"addressee":8,"number":1,"account":1,"version":1,"parts":[{"first":"07000000000001","last":"07000000000001","lot":{"capacity_w":2000000,"commissioned":"2020-06-15","country":"DE","device":"500000000000000012","first_day":"2025-01-01","issued_on":"2025-03-01","last_day":"2025-01-31","origin":7,"site":"North field","source":"F01010100","support":"none","tech":"T010000"}}]},"key":"k190"}"#,
-                r#"{"code":23,"name":"WrongRegistry","outcome":"refused"}"#,
+                r#"{"command":"import","notice":{"sender":9,"addressee":7,"number":1,"account":1,"version":1,"parts":[{"first":"09000000000001","last":"09000000000010","lot":{"capacity_w":2000000,"commissioned":"2020-06-15","country":"DE","device":"500000000000000012","first_day":"2025-01-01","issued_on":"2025-03-01","last_day":"2025-01-31","origin":9,"site":"North field","source":"F01010100","support":"none","tech":"T010000"}}]},"key":"k512"}"#,
+                r#"{"outcome":"accepted","reply":{"count":10}}"#,
             ),
             (
                 "SUN",
-                r#"{"command":"cancel","account":1,"first":"07000000000001","last":"07000000000001","beneficiary":"X","use_first":"2025-03-31","use_last":"2025-01-01","key":"k191"}"#,
-                r#"{"code":29,"name":"UsePeriod","outcome":"refused"}"#,
+                r#"{"command":"transfer","giver":1,"taker":2,"first":"09000000000003","last":"09000000000004","key":"k513"}"#,
+                r#"{"outcome":"accepted","reply":{"count":2}}"#,
+            ),
+            (
+                "SUN",
+                r#"{"command":"cancel","account":1,"first":"09000000000001","last":"09000000000001","beneficiary":"X","use_first":"2025-01-01","use_last":"2025-03-31","key":"k514"}"#,
+                r#"{"outcome":"accepted","reply":{"cancellation":1,"count":1}}"#,
+            ),
+            (
+                "SUN",
+                r#"{"command":"export","giver":1,"peer":9,"account":5,"first":"09000000000005","last":"09000000000006","key":"k515"}"#,
+                r#"{"outcome":"accepted","reply":{"count":2,"notice":1}}"#,
+            ),
+            (
+                "ISSUER",
+                r#"{"command":"import","notice":{"sender":9,"addressee":7,"number":2,"account":1,"version":1,"parts":[{"first":"09000000000006","last":"09000000000007","lot":{"capacity_w":2000000,"commissioned":"2020-06-15","country":"DE","device":"500000000000000012","first_day":"2025-01-01","issued_on":"2025-03-01","last_day":"2025-01-31","origin":9,"site":"North field","source":"F01010100","support":"none","tech":"T010000"}}]},"key":"k516"}"#,
+                r#"{"code":25,"name":"NumberTaken","number":"09000000000007","outcome":"refused"}"#,
+            ),
+            (
+                "ISSUER",
+                r#"{"command":"advance","day":"2026-07-31","key":"k517"}"#,
+                r#"{"outcome":"accepted","reply":{"expired":0}}"#,
+            ),
+            (
+                "ISSUER",
+                r#"{"command":"advance","day":"2026-08-01","key":"k518"}"#,
+                r#"{"outcome":"accepted","reply":{"expired":1207}}"#,
             ),
         ],
         shown: "",
+    },
+    Case {
+        name: "closing_an_account",
+        serial: 1,
+        begun: 5,
+        asked: &[
+            (
+                "ISSUER",
+                r#"{"command":"declare","device":"500000000000000012","first_day":"2025-01-01","last_day":"2025-01-31","gross_wh":1000000,"aux_wh":0,"key":"k125"}"#,
+                r#"{"outcome":"accepted","reply":{"carry":0,"count":1,"first":"07000000000001","last":"07000000000001"}}"#,
+            ),
+            (
+                "ISSUER",
+                r#"{"command":"close_account","account":1,"key":"k126"}"#,
+                r#"{"code":7,"name":"AccountNotEmpty","outcome":"refused"}"#,
+            ),
+            (
+                "SUN",
+                r#"{"command":"cancel","account":1,"first":"07000000000001","last":"07000000000001","beneficiary":"X","use_first":"2025-01-01","use_last":"2025-03-31","key":"k127"}"#,
+                r#"{"outcome":"accepted","reply":{"cancellation":1,"count":1}}"#,
+            ),
+            (
+                "ISSUER",
+                r#"{"command":"close_account","account":1,"key":"k128"}"#,
+                r#"{"outcome":"accepted","reply":{}}"#,
+            ),
+            (
+                "ISSUER",
+                r#"{"command":"close_account","account":1,"key":"k129"}"#,
+                r#"{"code":6,"name":"AccountClosed","outcome":"refused"}"#,
+            ),
+        ],
+        shown: "1 07000000000001 07000000000001 2025-01-01 cancelled:1\n500000000000000012 1000000 0 1 0 0\n",
+    },
+    Case {
+        name: "corrections_after_the_deadlines",
+        serial: 1,
+        begun: 9,
+        asked: &[
+            (
+                "ISSUER",
+                r#"{"command":"advance","day":"2026-02-01","key":"k827"}"#,
+                r#"{"outcome":"accepted","reply":{"expired":0}}"#,
+            ),
+            (
+                "SUN",
+                r#"{"command":"transfer","giver":1,"taker":2,"first":"07000000000001","last":"07000000000001","key":"k828"}"#,
+                r#"{"code":18,"name":"TradeClosed","number":"07000000000001","outcome":"refused"}"#,
+            ),
+            (
+                "ISSUER",
+                r#"{"command":"correct","device":"500000000000000012","first_day":"2025-01-01","less_wh":1000000,"first":"07000000000001","last":"07000000000001","reason":"meter read twice","key":"k829"}"#,
+                r#"{"outcome":"accepted","reply":{"carry":0,"count":1,"withdrawal":1}}"#,
+            ),
+            (
+                "ISSUER",
+                r#"{"command":"advance","day":"2026-08-01","key":"k830"}"#,
+                r#"{"outcome":"accepted","reply":{"expired":1199}}"#,
+            ),
+            (
+                "ISSUER",
+                r#"{"command":"correct","device":"500000000000000012","first_day":"2025-01-01","less_wh":1000000,"first":"07000000000002","last":"07000000000002","reason":"meter read twice","key":"k831"}"#,
+                r#"{"code":17,"name":"NotHeld","number":"07000000000002","outcome":"refused"}"#,
+            ),
+            (
+                "ISSUER",
+                r#"{"command":"correct","device":"500000000000000012","first_day":"2025-01-01","less_wh":1000000,"first":"07000000001201","last":"07000000001201","reason":"meter read twice","key":"k832"}"#,
+                r#"{"outcome":"accepted","reply":{"carry":0,"count":1,"withdrawal":2}}"#,
+            ),
+            (
+                "ISSUER",
+                r#"{"command":"correct","device":"500000000000000012","first_day":"2025-01-01","less_wh":1,"first":"","last":"","reason":"meter read twice","key":"k833"}"#,
+                r#"{"code":33,"name":"WrongCount","outcome":"refused"}"#,
+            ),
+            (
+                "SUN",
+                r#"{"command":"close_account","account":1,"key":"k834"}"#,
+                r#"{"outcome":"accepted","reply":{}}"#,
+            ),
+            (
+                "ISSUER",
+                r#"{"command":"correct","device":"500000000000000012","first_day":"2025-02-01","less_wh":0,"first":"","last":"","reason":"meter read twice","key":"k835"}"#,
+                r#"{"outcome":"accepted","reply":{"carry":0,"count":0,"withdrawal":0}}"#,
+            ),
+        ],
+        shown: "1 07000000000001 07000000000001 2025-01-01 withdrawn:1\n1 07000000000002 07000000001200 2025-01-01 expired\n1 07000000001201 07000000001201 2025-03-01 withdrawn:2\n500000000000000012 1201000000 2000000 1201 2 0\n",
     },
 ];

@@ -4,156 +4,163 @@ use crate::worked::Case;
 
 pub const SIXTH: [Case; 7] = [
     Case {
-        name: "the_same_key_again",
+        name: "declarations_that_are_refused",
         serial: 1,
         begun: 5,
         asked: &[
             (
                 "ISSUER",
-                r#"{"command":"declare","device":"500000000000000012","first_day":"2025-01-01","last_day":"2025-01-31","gross_wh":1234567890,"aux_wh":34567890,"key":"x"}"#,
+                r#"{"command":"declare","device":"500000000000000029","first_day":"2025-01-01","last_day":"2025-01-31","gross_wh":1,"aux_wh":0,"key":"k331"}"#,
+                r#"{"code":9,"name":"UnknownDevice","outcome":"refused"}"#,
+            ),
+            (
+                "ISSUER",
+                r#"{"command":"declare","device":"500000000000000012","first_day":"2025-01-31","last_day":"2025-02-01","gross_wh":1,"aux_wh":0,"key":"k332"}"#,
+                r#"{"code":12,"name":"PeriodSpan","outcome":"refused"}"#,
+            ),
+            (
+                "ISSUER",
+                r#"{"command":"declare","device":"500000000000000012","first_day":"2025-03-01","last_day":"2025-03-01","gross_wh":1,"aux_wh":0,"key":"k333"}"#,
+                r#"{"code":28,"name":"FuturePeriod","outcome":"refused"}"#,
+            ),
+            (
+                "ISSUER",
+                r#"{"command":"declare","device":"500000000000000012","first_day":"2020-06-14","last_day":"2020-06-30","gross_wh":1,"aux_wh":0,"key":"k334"}"#,
+                r#"{"code":10,"name":"BeforeCommissioning","outcome":"refused"}"#,
+            ),
+            (
+                "ISSUER",
+                r#"{"command":"declare","device":"500000000000000012","first_day":"2023-08-01","last_day":"2023-08-31","gross_wh":1,"aux_wh":0,"key":"k335"}"#,
+                r#"{"code":27,"name":"Stale","outcome":"refused"}"#,
+            ),
+            (
+                "ISSUER",
+                r#"{"command":"declare","device":"500000000000000012","first_day":"2025-01-01","last_day":"2025-01-31","gross_wh":1234567890,"aux_wh":34567890,"key":"k336"}"#,
                 r#"{"outcome":"accepted","reply":{"carry":0,"count":1200,"first":"07000000000001","last":"07000000001200"}}"#,
             ),
             (
                 "ISSUER",
-                r#"{"command":"declare","device":"500000000000000012","first_day":"2025-02-01","last_day":"2025-02-28","gross_wh":999999,"aux_wh":0,"key":"k14"}"#,
-                r#"{"outcome":"accepted","reply":{"carry":999999,"count":0}}"#,
+                r#"{"command":"declare","device":"500000000000000012","first_day":"2025-01-31","last_day":"2025-01-31","gross_wh":1,"aux_wh":0,"key":"k337"}"#,
+                r#"{"code":11,"name":"PeriodOrder","outcome":"refused"}"#,
             ),
             (
                 "ISSUER",
-                r#"{"command":"declare","device":"500000000000000012","first_day":"2025-01-01","last_day":"2025-01-31","gross_wh":1234567890,"aux_wh":34567890,"key":"x"}"#,
-                r#"{"outcome":"repeated","reply":{"carry":0,"count":1200,"first":"07000000000001","last":"07000000001200"}}"#,
-            ),
-            (
-                "ISSUER",
-                r#"{"command":"declare","device":"500000000000000012","first_day":"2025-01-01","last_day":"2025-01-31","gross_wh":1234567891,"aux_wh":34567890,"key":"x"}"#,
-                r#"{"code":2,"name":"KeyReused","outcome":"refused"}"#,
-            ),
-            (
-                "SUN",
-                r#"{"command":"declare","device":"500000000000000012","first_day":"2025-01-01","last_day":"2025-01-31","gross_wh":1234567890,"aux_wh":34567890,"key":"x"}"#,
-                r#"{"code":1,"name":"NotAllowed","outcome":"refused"}"#,
+                r#"{"command":"declare","device":"500000000000000012","first_day":"2025-02-01","last_day":"2025-02-28","gross_wh":5,"aux_wh":6,"key":"k338"}"#,
+                r#"{"code":13,"name":"AuxExceedsGross","outcome":"refused"}"#,
             ),
         ],
-        shown: "1 07000000000001 07000000001200 2025-01-01 held\n500000000000000012 1200999999 1200 999999\n",
+        shown: "",
     },
     Case {
-        name: "there_and_back",
-        serial: 1,
-        begun: 9,
-        asked: &[
-            (
-                "SUN",
-                r#"{"command":"transfer","giver":1,"taker":2,"first":"07000000000100","last":"07000000000199","key":"k35"}"#,
-                r#"{"outcome":"accepted","reply":{"count":100}}"#,
-            ),
-            (
-                "VOLT",
-                r#"{"command":"transfer","giver":2,"taker":1,"first":"07000000000100","last":"07000000000199","key":"k36"}"#,
-                r#"{"outcome":"accepted","reply":{"count":100}}"#,
-            ),
-        ],
-        shown: "1 07000000000001 07000000001200 2025-01-01 held\n1 07000000001201 07000000001201 2025-03-01 held\n500000000000000012 1201000000 1201 0\n",
-    },
-    Case {
-        name: "three_declarations",
-        serial: 1,
-        begun: 9,
-        asked: &[],
-        shown: "1 07000000000001 07000000001200 2025-01-01 held\n1 07000000001201 07000000001201 2025-03-01 held\n500000000000000012 1201000000 1201 0\n",
-    },
-    Case {
-        name: "trade_closed_before_it_was_issued",
+        name: "just_the_capacity",
         serial: 1,
         begun: 5,
-        asked: &[
-            (
-                "ISSUER",
-                r#"{"command":"register_device","account":1,"capacity_w":2000000,"commissioned":"2020-06-15","country":"DE","device":"500000000000000029","site":"North field","source":"F01010100","support":"none","tech":"T010000","key":"k615"}"#,
-                r#"{"outcome":"accepted","reply":{}}"#,
-            ),
-            (
-                "ISSUER",
-                r#"{"command":"declare","device":"500000000000000029","first_day":"2023-10-01","last_day":"2023-10-31","gross_wh":1000000,"aux_wh":0,"key":"k616"}"#,
-                r#"{"outcome":"accepted","reply":{"carry":0,"count":1,"first":"07000000000001","last":"07000000000001"}}"#,
-            ),
-            (
-                "SUN",
-                r#"{"command":"transfer","giver":1,"taker":2,"first":"07000000000001","last":"07000000000001","key":"k617"}"#,
-                r#"{"code":18,"name":"TradeClosed","number":"07000000000001","outcome":"refused"}"#,
-            ),
-            (
-                "SUN",
-                r#"{"command":"cancel","account":1,"first":"07000000000001","last":"07000000000001","beneficiary":"X","use_first":"2025-01-01","use_last":"2025-03-31","key":"k618"}"#,
-                r#"{"outcome":"accepted","reply":{"cancellation":1,"count":1}}"#,
-            ),
-        ],
-        shown: "1 07000000000001 07000000000001 2023-10-01 cancelled:1\n500000000000000012 0 0 0\n500000000000000029 1000000 1 0\n",
-    },
-    Case {
-        name: "trade_closes",
-        serial: 1,
-        begun: 9,
-        asked: &[
-            (
-                "ISSUER",
-                r#"{"command":"advance","day":"2026-01-31","key":"k67"}"#,
-                r#"{"outcome":"accepted","reply":{"expired":0}}"#,
-            ),
-            (
-                "SUN",
-                r#"{"command":"transfer","giver":1,"taker":2,"first":"07000000000001","last":"07000000000001","key":"k68"}"#,
-                r#"{"outcome":"accepted","reply":{"count":1}}"#,
-            ),
-            (
-                "ISSUER",
-                r#"{"command":"advance","day":"2026-02-01","key":"k69"}"#,
-                r#"{"outcome":"accepted","reply":{"expired":0}}"#,
-            ),
-            (
-                "SUN",
-                r#"{"command":"transfer","giver":1,"taker":2,"first":"07000000000002","last":"07000000000002","key":"k70"}"#,
-                r#"{"code":18,"name":"TradeClosed","number":"07000000000002","outcome":"refused"}"#,
-            ),
-            (
-                "SUN",
-                r#"{"command":"cancel","account":1,"first":"07000000000002","last":"07000000000002","beneficiary":"X","use_first":"2025-01-01","use_last":"2025-03-31","key":"k71"}"#,
-                r#"{"outcome":"accepted","reply":{"cancellation":1,"count":1}}"#,
-            ),
-        ],
-        shown: "1 07000000000002 07000000000002 2025-01-01 cancelled:1\n1 07000000000003 07000000001200 2025-01-01 held\n1 07000000001201 07000000001201 2025-03-01 held\n2 07000000000001 07000000000001 2025-01-01 held\n500000000000000012 1201000000 1201 0\n",
-    },
-    Case {
-        name: "two_halves_of_a_month",
-        serial: 1,
-        begun: 5,
-        asked: &[
-            (
-                "ISSUER",
-                r#"{"command":"declare","device":"500000000000000012","first_day":"2025-01-01","last_day":"2025-01-15","gross_wh":1000000,"aux_wh":0,"key":"k405"}"#,
-                r#"{"outcome":"accepted","reply":{"carry":0,"count":1,"first":"07000000000001","last":"07000000000001"}}"#,
-            ),
-            (
-                "ISSUER",
-                r#"{"command":"declare","device":"500000000000000012","first_day":"2025-01-16","last_day":"2025-01-31","gross_wh":1000000,"aux_wh":0,"key":"k406"}"#,
-                r#"{"outcome":"accepted","reply":{"carry":0,"count":1,"first":"07000000000002","last":"07000000000002"}}"#,
-            ),
-            (
-                "SUN",
-                r#"{"command":"transfer","giver":1,"taker":2,"first":"07000000000001","last":"07000000000002","key":"k407"}"#,
-                r#"{"outcome":"accepted","reply":{"count":2}}"#,
-            ),
-        ],
-        shown: "2 07000000000001 07000000000001 2025-01-01 held\n2 07000000000002 07000000000002 2025-01-16 held\n500000000000000012 2000000 2 0\n",
-    },
-    Case {
-        name: "two_lots_in_one_range",
-        serial: 1,
-        begun: 9,
         asked: &[(
-            "SUN",
-            r#"{"command":"transfer","giver":1,"taker":2,"first":"07000000001200","last":"07000000001201","key":"k46"}"#,
-            r#"{"outcome":"accepted","reply":{"count":2}}"#,
+            "ISSUER",
+            r#"{"command":"declare","device":"500000000000000012","first_day":"2025-01-01","last_day":"2025-01-31","gross_wh":1490000000,"aux_wh":0,"key":"k135"}"#,
+            r#"{"outcome":"accepted","reply":{"carry":0,"count":1490,"first":"07000000000001","last":"07000000001490"}}"#,
         )],
-        shown: "1 07000000000001 07000000001199 2025-01-01 held\n2 07000000001200 07000000001200 2025-01-01 held\n2 07000000001201 07000000001201 2025-03-01 held\n500000000000000012 1201000000 1201 0\n",
+        shown: "",
+    },
+    Case {
+        name: "more_auxiliaries_than_gross",
+        serial: 1,
+        begun: 9,
+        asked: &[
+            (
+                "ISSUER",
+                r#"{"command":"declare","device":"500000000000000012","first_day":"2025-04-01","last_day":"2025-04-03","gross_wh":500,"aux_wh":500,"key":"k24"}"#,
+                r#"{"outcome":"accepted","reply":{"carry":0,"count":0}}"#,
+            ),
+            (
+                "ISSUER",
+                r#"{"command":"declare","device":"500000000000000012","first_day":"2025-04-04","last_day":"2025-04-04","gross_wh":500,"aux_wh":501,"key":"k25"}"#,
+                r#"{"code":13,"name":"AuxExceedsGross","outcome":"refused"}"#,
+            ),
+        ],
+        shown: "1 07000000000001 07000000001200 2025-01-01 held\n1 07000000001201 07000000001201 2025-03-01 held\n500000000000000012 1201000000 0 1201 0 0\n",
+    },
+    Case {
+        name: "notices_that_are_refused",
+        serial: 1,
+        begun: 10,
+        asked: &[
+            (
+                "ISSUER",
+                r#"{"command":"import","notice":{"sender":9,"addressee":7,"number":2,"account":1,"version":1,"parts":[{"first":"07000000001202","last":"07000000001202","lot":{"capacity_w":2000000,"commissioned":"2020-06-15","country":"DE","device":"500000000000000012","first_day":"2025-01-01","issued_on":"2025-03-01","last_day":"2025-01-31","origin":7,"site":"North field","source":"F01010100","support":"none","tech":"T010000"}}]},"key":"k118"}"#,
+                r#"{"code":16,"name":"UnknownNumber","number":"07000000001202","outcome":"refused"}"#,
+            ),
+            (
+                "ISSUER",
+                r#"{"command":"import","notice":{"sender":9,"addressee":7,"number":2,"account":1,"version":1,"parts":[{"first":"07000000000001","last":"07000000000001","lot":{"capacity_w":2000000,"commissioned":"2020-06-15","country":"DE","device":"500000000000000012","first_day":"2025-01-01","issued_on":"2025-03-01","last_day":"2025-01-31","origin":7,"site":"North field","source":"F01010100","support":"none","tech":"T010000"}}]},"key":"k119"}"#,
+                r#"{"code":25,"name":"NumberTaken","number":"07000000000001","outcome":"refused"}"#,
+            ),
+        ],
+        shown: "",
+    },
+    Case {
+        name: "one_serial_too_few",
+        serial: 999_999_999_999,
+        begun: 5,
+        asked: &[(
+            "ISSUER",
+            r#"{"command":"declare","device":"500000000000000012","first_day":"2025-01-01","last_day":"2025-01-31","gross_wh":2000000,"aux_wh":0,"key":"k645"}"#,
+            r#"{"code":15,"name":"NumbersExhausted","outcome":"refused"}"#,
+        )],
+        shown: "500000000000000012 0 0 0 0 0\n",
+    },
+    Case {
+        name: "one_watt-hour_above_the_capacity",
+        serial: 1,
+        begun: 5,
+        asked: &[(
+            "ISSUER",
+            r#"{"command":"declare","device":"500000000000000012","first_day":"2025-01-01","last_day":"2025-01-31","gross_wh":1490000001,"aux_wh":0,"key":"k141"}"#,
+            r#"{"code":14,"name":"OverCapacity","outcome":"refused"}"#,
+        )],
+        shown: "",
+    },
+    Case {
+        name: "out_back_and_out_again",
+        serial: 1,
+        begun: 10,
+        asked: &[
+            (
+                "SUN",
+                r#"{"command":"export","giver":1,"peer":9,"account":5,"first":"07000000000020","last":"07000000000029","key":"k101"}"#,
+                r#"{"outcome":"accepted","reply":{"count":10,"notice":1}}"#,
+            ),
+            (
+                "ISSUER",
+                r#"{"command":"import","notice":{"sender":9,"addressee":7,"number":1,"account":1,"version":1,"parts":[{"first":"07000000000020","last":"07000000000029","lot":{"capacity_w":2000000,"commissioned":"2020-06-15","country":"DE","device":"500000000000000012","first_day":"2025-01-01","issued_on":"2025-03-01","last_day":"2025-01-31","origin":7,"site":"North field","source":"F01010100","support":"none","tech":"T010000"}}]},"key":"k102"}"#,
+                r#"{"outcome":"accepted","reply":{"count":10}}"#,
+            ),
+            (
+                "ISSUER",
+                r#"{"command":"import","notice":{"sender":9,"addressee":7,"number":1,"account":1,"version":1,"parts":[{"first":"07000000000020","last":"07000000000029","lot":{"capacity_w":2000000,"commissioned":"2020-06-15","country":"DE","device":"500000000000000012","first_day":"2025-01-01","issued_on":"2025-03-01","last_day":"2025-01-31","origin":7,"site":"North field","source":"F01010100","support":"none","tech":"T010000"}}]},"key":"k103"}"#,
+                r#"{"outcome":"repeated","reply":{"count":10}}"#,
+            ),
+            (
+                "ISSUER",
+                r#"{"command":"import","notice":{"sender":9,"addressee":7,"number":1,"account":1,"version":1,"parts":[{"first":"07000000000020","last":"07000000000028","lot":{"capacity_w":2000000,"commissioned":"2020-06-15","country":"DE","device":"500000000000000012","first_day":"2025-01-01","issued_on":"2025-03-01","last_day":"2025-01-31","origin":7,"site":"North field","source":"F01010100","support":"none","tech":"T010000"}}]},"key":"k104"}"#,
+                r#"{"code":24,"name":"NoticeConflict","outcome":"refused"}"#,
+            ),
+            (
+                "SUN",
+                r#"{"command":"export","giver":1,"peer":9,"account":5,"first":"07000000000020","last":"07000000000029","key":"k105"}"#,
+                r#"{"outcome":"accepted","reply":{"count":10,"notice":2}}"#,
+            ),
+            (
+                "ISSUER",
+                r#"{"command":"import","notice":{"sender":9,"addressee":7,"number":1,"account":1,"version":1,"parts":[{"first":"07000000000020","last":"07000000000029","lot":{"capacity_w":2000000,"commissioned":"2020-06-15","country":"DE","device":"500000000000000012","first_day":"2025-01-01","issued_on":"2025-03-01","last_day":"2025-01-31","origin":7,"site":"North field","source":"F01010100","support":"none","tech":"T010000"}}]},"key":"k106"}"#,
+                r#"{"outcome":"repeated","reply":{"count":10}}"#,
+            ),
+            (
+                "ISSUER",
+                r#"{"command":"import","notice":{"sender":9,"addressee":7,"number":2,"account":1,"version":1,"parts":[{"first":"07000000000020","last":"07000000000029","lot":{"capacity_w":2000000,"commissioned":"2020-06-15","country":"DE","device":"500000000000000012","first_day":"2025-01-01","issued_on":"2025-03-01","last_day":"2025-01-31","origin":7,"site":"North field","source":"F01010100","support":"none","tech":"T010000"}}]},"key":"k107"}"#,
+                r#"{"outcome":"accepted","reply":{"count":10}}"#,
+            ),
+        ],
+        shown: "1 07000000000001 07000000001200 2025-01-01 held\n1 07000000001201 07000000001201 2025-03-01 held\n500000000000000012 1201000000 0 1201 0 0\n",
     },
 ];

@@ -86,6 +86,11 @@ returns-in-Declare g c =
     let old = g.S.Shelf.seen c.args.shelf.now in
     subst (λ command. Looks old (g.S.Shelf.seen c.judge_declare.new.shelf) c.judge_declare.result (IsRuling (meaning_of old.state c.args.caller.now command) old.rows)) (sym c.in-Declare.is) c.judge_declare.ensures
 
+pub returns-in-Correct : goal.returns-in-Correct
+returns-in-Correct g c =
+    let old = g.S.Shelf.seen c.args.shelf.now in
+    subst (λ command. Looks old (g.S.Shelf.seen c.judge_correct.new.shelf) c.judge_correct.result (IsRuling (meaning_of old.state c.args.caller.now command) old.rows)) (sym c.in-Correct.is) c.judge_correct.ensures
+
 pub returns-in-Cancel : goal.returns-in-Cancel
 returns-in-Cancel g c =
     let old = g.S.Shelf.seen c.args.shelf.now in

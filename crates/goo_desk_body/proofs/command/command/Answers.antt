@@ -20,6 +20,10 @@ pub returns-in_err-declare-in-declare : goal.returns-in_err-declare-in-declare
 unfolding command_of command_named
 returns-in_err-declare-in-declare c = past _ _ _ _ c.in_ok-string_at.ensures (by_word _ (codes "declare") _ _ c.in-declare.is (ends _ _ _ _ c.from_residual-in_err-declare-in-declare.ensures.1 c.in_err-declare-in-declare.ensures))
 
+pub returns-in_err-correct-in-correct : goal.returns-in_err-correct-in-correct
+unfolding command_of command_named
+returns-in_err-correct-in-correct c = past _ _ _ _ c.in_ok-string_at.ensures (by_word _ (codes "correct") _ _ c.in-correct.is (ends _ _ _ _ c.from_residual-in_err-correct-in-correct.ensures.1 c.in_err-correct-in-correct.ensures))
+
 pub returns-in_err-transfer-in-transfer : goal.returns-in_err-transfer-in-transfer
 unfolding command_of command_named
 returns-in_err-transfer-in-transfer c = past _ _ _ _ c.in_ok-string_at.ensures (by_word _ (codes "transfer") _ _ c.in-transfer.is (ends _ _ _ _ c.from_residual-in_err-transfer-in-transfer.ensures.1 c.in_err-transfer-in-transfer.ensures))
@@ -48,9 +52,9 @@ pub returns-in_err-import-in-import : goal.returns-in_err-import-in-import
 unfolding command_of command_named
 returns-in_err-import-in-import c = past _ _ _ _ c.in_ok-string_at.ensures (by_word _ (codes "import") _ _ c.in-import.is (ends _ _ _ _ c.from_residual-in_err-import-in-import.ensures.1 c.in_err-import-in-import.ensures))
 
--- a word that is none of the twelve
+-- a word that is none of the thirteen
 pub returns-in_default : goal.returns-in_default
 unfolding command_of
 returns-in_default c =
     let no = c.in_default in
-    rw c.in_ok-string_at.ensures (unknown_word _ _ _ no.not-open_holder no.not-open_account no.not-close_account no.not-register_device no.not-declare no.not-transfer no.not-cancel no.not-withdraw no.not-advance no.not-add_peer no.not-export no.not-import)
+    rw c.in_ok-string_at.ensures (unknown_word _ _ _ no.not-open_holder no.not-open_account no.not-close_account no.not-register_device no.not-declare no.not-correct no.not-transfer no.not-cancel no.not-withdraw no.not-advance no.not-add_peer no.not-export no.not-import)

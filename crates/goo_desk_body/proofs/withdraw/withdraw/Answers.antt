@@ -1,6 +1,6 @@
 use Rattle.goo_types.specs.Codes.{name_reading}
 use Rattle.goo_notice.specs.Withdraw.{withdraw_of}
-use Rattle.goo_desk_body.proofs.Steps.{ends, ends_at_field, past, past_field}
+use Rattle.goo_desk_body.proofs.Steps.{ends, ends_at_field, past}
 use Rattle.goo_desk_body.proofs.withdraw.withdraw.Goals as goal
 
 pub returns-in_err-of_size : goal.returns-in_err-of_size

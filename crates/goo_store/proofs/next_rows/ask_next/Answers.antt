@@ -3,7 +3,7 @@ use Rattle.sqlite.specs.Held.{state as view}
 use Rattle.sqlite_typed.specs.Tests.{bytes_lt, both_and}
 use Rattle.std.proofs.Common.{pos, ◌&&◌, nat_lt, Some}
 use Rattle.std.specs.Ordering.{int_eq}
-use Rattle.goo_core_shelf.specs.declared.sought.Sought.TheVariants.{Naming, Expiring}
+use Rattle.goo_core_shelf.specs.declared.sought.Sought.TheVariants.{Naming}
 use Rattle.goo_tables_rows.specs.Beside.{joined_in, pieces_beside}
 use Rattle.goo_tables_rows.specs.Stands.{Looks}
 use Rattle.goo_store.specs.NextRows.{begins_beyond}

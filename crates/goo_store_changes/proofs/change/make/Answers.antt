@@ -186,6 +186,19 @@ returns-in-AddNoticeIn g c = record {
   survives = c.keep_notice.ensures.survives;
 }
 
+pub insert_correction-requires : goal.insert_correction-requires
+insert_correction-requires g c = subst ChangeFits c.in-AddCorrection.is c.requires
+
+pub returns-in-AddCorrection : goal.returns-in-AddCorrection
+returns-in-AddCorrection g c = record {
+  same_reference = c.insert_correction.ensures.same_reference;
+  changed = λ clean t it for. subst (λ change. OnOk c.insert_correction.result (Sees (state g.S.Store c.insert_correction.new.tx.conn.now) (made t change))) (sym c.in-AddCorrection.is) (c.insert_correction.ensures.changed clean t it);
+  refused = λ clean live unlimited t it free. or_full _ c.insert_correction.result _ _ (subst (HasRoom t) c.in-AddCorrection.is) (c.insert_correction.ensures.refused clean live unlimited t it (subst (IsFree t) c.in-AddCorrection.is free));
+  live = c.insert_correction.ensures.live;
+  uncommitted = c.insert_correction.ensures.uncommitted;
+  survives = c.insert_correction.ensures.survives;
+}
+
 pub returns-in-SetToday : goal.returns-in-SetToday
 returns-in-SetToday g c = record {
   same_reference = c.set_today.ensures.same_reference;

@@ -11,6 +11,11 @@ returns-in-Declare-clause-gathers g c =
     gathers_then (state g.S.Store c.args.conn.now) (state g.S.Store c.known_row.new.conn) (state g.S.Store c.declaration.new.conn) c.in_ok-meta.meta c.declaration.result _ _ c.in_ok-meta.ensures.gathers c.declaration.ensures.looks _
     (λ t gathered same says known device kept order fits. says c.args.plan.now.request c.in-Declare.is (same known) device (record { kept = kept; accepted = fits.accepted }))
 
+pub returns-in-Correct-clause-gathers : goal.returns-in-Correct-clause-gathers
+returns-in-Correct-clause-gathers g c =
+    gathers_then (state g.S.Store c.args.conn.now) (state g.S.Store c.known_row.new.conn) (state g.S.Store c.correction.new.conn) c.in_ok-meta.meta c.correction.result _ _ c.in_ok-meta.ensures.gathers c.correction.ensures.looks _
+    (λ t gathered same says known device kept order fits. says c.args.plan.now.request c.in-Correct.is (same known) order (record { kept = kept; accepted = fits.accepted }))
+
 pub returns-clause-gathers : goal.returns-clause-gathers
 returns-clause-gathers g c =
     gathers_made (state g.S.Store c.args.conn.now) (state g.S.Store c.known_row.new.conn) c.in_ok-meta.meta c.numbered.result _ _ c.in_ok-meta.ensures.gathers
@@ -29,7 +34,13 @@ returns-in-Declare-clause-blames g c =
     c.declaration.result _ c.declaration.ensures.looks _ c.declaration.ensures.blames _
     (λ t stands kept needs same. needs.declares c.in_ok-meta.meta _ (same needs.own_is) c.in-Declare.is)
 
+pub returns-in-Correct-clause-blames : goal.returns-in-Correct-clause-blames
+returns-in-Correct-clause-blames g c =
+    blames_then (state g.S.Store c.args.conn.now) (state g.S.Store c.known_row.new.conn) (state g.S.Store c.correction.new.conn) c.in_ok-meta.meta _ c.in_ok-meta.ensures.gathers _ c.in_ok-meta.ensures.blames
+    c.correction.result _ c.correction.ensures.looks _ c.correction.ensures.blames _
+    (λ t stands kept needs same. needs.corrects c.in_ok-meta.meta _ (same needs.own_is) c.in-Correct.is)
+
 pub returns-clause-blames : goal.returns-clause-blames
 returns-clause-blames g c =
     blames_made (state g.S.Store c.args.conn.now) (state g.S.Store c.known_row.new.conn) c.in_ok-meta.meta _ c.in_ok-meta.ensures.gathers _ c.in_ok-meta.ensures.blames c.numbered.result _
-    (λ t stands kept needs same. c.numbered.ensures.memory (ap is_meta (sym (same needs.own_is)) ∙ kept.readable.meta) (needs.takes c.in_ok-meta.meta (same needs.own_is) (search rules)))
+    (λ t stands kept needs same. c.numbered.ensures.memory (ap is_meta (sym (same needs.own_is)) ∙ kept.readable.meta) (needs.takes c.in_ok-meta.meta (same needs.own_is) (search rules) (search rules)))

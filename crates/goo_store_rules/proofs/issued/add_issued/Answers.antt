@@ -15,5 +15,5 @@ returns-in-Some-clause-small c =
     so c.add_to.result c.add_to.ensures
     (λ added q.
     let more = added q in
-    let most = at_most (bytes_eq c.in-Some.device.now q) c.count_in.result in
-    omega (arith, more, most, c.count_in.ensures.small))
+    let most = at_most (bytes_eq c.in-Some.device.now q) c.standing_count.result in
+    omega (arith, more, most, c.standing_count.ensures.small))

@@ -9,7 +9,7 @@ returns c =
     let right : IsTrue c.keeps_values.result = search rules in
     let values = c.keeps_values.ensures.0 right in
     let names : KeepsNames c.args.found.now = search rules in
-    if_ok c.keeps_production.result (c.keeps_production.ensures (production_accepted c.args.found.now values.values))
+    if_ok c.keeps_production.result (c.keeps_production.ensures (production_accepted c.args.found.now values.values values.corrections))
     (λ yes when. (
       λ is. record { values = values; names = names; production = when.0 is },
       λ all. when.1 all.production,

@@ -13,7 +13,7 @@ returns-then-not-keep_progress c = λ devices lots.
     let ends : (q : List ℕ) → get text_cmp c.in-Some.ends q ≡ last_end None (declared_by q xs) = search rules in
     let no : c.keep_progress.result ≡ false = search rules in (
       λ yes. absurd (true≢false (sym yes)),
-      λ kept. absurd (true≢false (sym (c.keep_progress.ensures.refused devices (progress_in_trees xs c.in-Some.ends c.in_ok-sums.sums ends c.in_ok-sums.ensures c.args.devices.now kept.progress)) ∙ no)),
+      λ kept. absurd (true≢false (sym (c.keep_progress.ensures.refused devices (progress_in_trees xs c.args.corrected.now c.in-Some.ends c.in_ok-energy.energy ends c.in_ok-energy.ensures c.args.devices.now kept.progress)) ∙ no)),
     )
 
 pub returns : goal.returns
@@ -22,8 +22,8 @@ returns c = λ devices lots.
     let ends : (q : List ℕ) → get text_cmp c.in-Some.ends q ≡ last_end None (declared_by q xs) = search rules in
     let rising : DoPeriodsRise xs = search rules in
     let kept : IsTrue c.keep_progress.result = search rules in
-    if_ok c.were_issued_when_due.result (c.were_issued_when_due.ensures c.in_ok-sums.ensures lots)
+    if_ok c.were_issued_when_due.result (c.were_issued_when_due.ensures c.in_ok-energy.ensures lots)
     (λ yes when. (
-      λ is. record { rising = rising; progress = progress_of_trees xs c.in-Some.ends c.in_ok-sums.sums ends c.in_ok-sums.ensures c.args.devices.now (c.keep_progress.ensures.kept devices kept); issued = when.0 is },
+      λ is. record { rising = rising; progress = progress_of_trees xs c.args.corrected.now c.in-Some.ends c.in_ok-energy.energy ends c.in_ok-energy.ensures c.args.devices.now (c.keep_progress.ensures.kept devices kept); issued = when.0 is },
       λ all. when.1 all.issued,
     ))

@@ -6,4 +6,4 @@ use Rattle.goo_store_rules.proofs.produced.were_issued_when_due.Goals as goal
 pub returns : goal.returns
 returns c = λ sums good.
     let are : AreDevicesOf (map lot_in c.args.lots.now) c.in-Some.devices = search rules in
-    c.have_due.ensures (map lot_in c.args.lots.now) are c.args.own (c.in_ok-counts.ensures (map lot_in c.args.lots.now) are) sums
+    c.have_due.ensures (map lot_in c.args.lots.now) are c.args.own c.args.corrected.now (c.in_ok-counts.ensures (map lot_in c.args.lots.now) are c.args.corrected.now c.in_ok-taken.ensures) sums

@@ -8,7 +8,7 @@ use Rattle.goo_tables_rows.specs.Rows.{Kept, Device, device_in}
 use Rattle.goo_spec_tables.specs.Readable.{is_device, is_maybe_day, reads, is_act, is_plant}
 use Rattle.goo_spec_tables.specs.Texts.{day_of}
 use Rattle.goo_store_rules.specs.Production.{HasProgress}
-use Rattle.goo_store_rules.specs.Summing.{sum_at}
+use Rattle.goo_store_rules.specs.Summing.{left_at}
 use Rattle.goo_store_rules.proofs.progress.keeps_progress.Goals as goal
 
 module _ (ends : List ℕ → Rattle.std.specs.Prelude.Option CalendarDay) (sums : List ℕ → ℕ) (d : Device) (gsrn : List ℕ) (same : gsrn ≡ d.gsrn) (last : option_map day_of d.last_day ≡ ends gsrn) (carry rest : ℕ) (is : carry ≡ d.carry) (left : rest ≡ sums gsrn % 1000000) where
@@ -34,4 +34,4 @@ returns-then-states_last c = λ good.
     let d = device_in c.args.row.now in
     let stated : IsTrue c.states_last.result = search rules in
     let last = (c.states_last.ensures (last_read (pos 0, d) good)).0 stated in
-    decided (get text_cmp c.args.ends.now) (sum_at c.args.sums.now) d c.in-Some.device (search rules) (last ∙ c.last_day_of.ensures) c.from.result (c.sum_for.result % 1000000) (search rules) (ap (λ n. n % 1000000) c.sum_for.ensures)
+    decided (get text_cmp c.args.ends.now) (left_at c.args.energy.now) d c.in-Some.device (search rules) (last ∙ c.last_day_of.ensures) c.from.result (c.left_for.result % 1000000) (search rules) (ap (λ n. n % 1000000) c.left_for.ensures)

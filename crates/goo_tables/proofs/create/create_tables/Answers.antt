@@ -13,7 +13,7 @@ loop-at-init g c = (refl, makes_nothing (state g.S.Store c.args.tx.now.conn.now)
 pub loop-at-preserved : goal.loop-at-preserved
 loop-at-preserved g c =
     let i = c.loop-at.at in
-    let low : i < 15 = omega (arith, c.loop-at-test.true) in (
+    let low : i < 18 = omega (arith, c.loop-at-test.true) in (
       c.put.ensures.same_reference ∙ c.loop-at.invariant.0,
       makes_next (get_or stages i no_schema) (get_or stages (i + 1) no_schema) (get_or create_texts i []) (state g.S.Store c.args.tx.now.conn.now) (state g.S.Store c.loop-at.tx.conn.now) (state g.S.Store c.put.new.tx.conn.now)
           c.loop-at.invariant.1 c.put.ensures.uncommitted c.put.ensures.survives c.in_ok-put.field-0 (leads i low) (rw (c.statement.ensures) at c.in_ok-put.ensures.runs),
@@ -22,7 +22,7 @@ loop-at-preserved g c =
 pub returns-in_err-put-clause-refused : goal.returns-in_err-put-clause-refused
 returns-in_err-put-clause-refused g c = λ clean inside none.
     let i = c.loop-at.at in
-    let low : i < 15 = omega (arith, c.loop-at-test.true) in
+    let low : i < 18 = omega (arith, c.loop-at-test.true) in
     let same : c.from_residual.result ≡ Err c.in_err-put.field-0.0 = search rules in
     subst (λ r. IfErr r (IsFault (state g.S.Store c.args.tx.now.conn.now) (state g.S.Store c.put.new.tx.conn.now))) (sym same)
     (makes_no_more (get_or stages i no_schema) (get_or stages (i + 1) no_schema) (get_or create_texts i []) (state g.S.Store c.args.tx.now.conn.now) (state g.S.Store c.loop-at.tx.conn.now) (state g.S.Store c.put.new.tx.conn.now)

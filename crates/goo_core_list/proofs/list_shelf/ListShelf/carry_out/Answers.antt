@@ -4,12 +4,10 @@ use Rattle.goo_spec.specs.Step.{outcome, accept}
 use Rattle.goo_ranges_rows.specs.Rows.{edited_all}
 use Rattle.goo_core_shelf.specs.Plan.{notice_sent}
 use Rattle.goo_ranges_rows.specs.Certificates.{certificates_of}
-use Rattle.goo_spec.specs.Energy.{total}
 use Rattle.goo_core_list.specs.States.{state_of}
 use Rattle.goo_ranges_rows.specs.Certificates.{beside}
 use Rattle.goo_ranges_rows.proofs.CertificateLemmas.{certificates-same}
 use Rattle.goo_core_shelf.proofs.MapLemmas.{failing}
-use Rattle.goo_core_list.proofs.SumLemmas.{sums-below}
 use Rattle.goo_core_list.proofs.list_shelf.ListShelf.carry_out.Goals as goal
 
 pub returns-in_err-make_room-clause-undone : goal.returns-in_err-make_room-clause-undone
@@ -22,10 +20,6 @@ keep-requires-clause-accepted c =
     let s = state_of c.args.self.now in
     let same = ap (λ ps. beside (certificates_of ps) s) c.make_room.ensures.rows in
     subst (λ t. outcome t c.args.plan.now.request ≡ Accepted c.args.plan.now.reply) (sym same) c.requires.accepted
-
-pub keep-requires-clause-sums : goal.keep-requires-clause-sums
-unfolding state_of total
-keep-requires-clause-sums c = sums-below (state_of c.args.self.now) c.args.self.now.rows.pieces c.requires.sound c.requires.before
 
 pub keep-requires-clause-sent : goal.keep-requires-clause-sent
 unfolding state_of

@@ -1,3 +1,4 @@
+use Rattle.goo_spec.proofs.Correcting.{withdrawal_passes}
 use Rattle.goo_spec.proofs.Allowed.{account_left, cancellation_left, withdrawal_left, notice_left, serials_left, lot_fits}
 use Rattle.goo_core_list.specs.States.{state_of}
 use Rattle.goo_core_list.proofs.list_shelf.ListShelf.change.Goals as goal
@@ -10,6 +11,12 @@ add_declaration-requires-clause-lot c = lot_fits (state_of c.args.self.now) c.ar
 
 pub add_declaration-requires-clause-numbers_left : goal.add_declaration-requires-clause-numbers_left
 add_declaration-requires-clause-numbers_left c = serials_left (state_of c.args.self.now) c.args.plan.now.request.caller c.in-Declare.command (rw c.in-Declare.is at c.requires.allowed)
+
+pub add_correction-requires : goal.add_correction-requires
+add_correction-requires c = λ range is.
+    let s = state_of c.args.self.now in
+    let caller = c.args.plan.now.request.caller in
+    withdrawal_left s caller (record { range = range; reason = c.in-Correct.command.reason }) (withdrawal_passes s caller c.in-Correct.command range is (rw c.in-Correct.is at c.requires.allowed))
 
 pub add_cancellation-requires : goal.add_cancellation-requires
 add_cancellation-requires c = cancellation_left (state_of c.args.self.now) c.args.plan.now.request.caller c.in-Cancel.command (rw c.in-Cancel.is at c.requires.allowed)

@@ -4,7 +4,6 @@ use Rattle.std.specs.FinMap.{insert, contains_key}
 use Rattle.goo_spec.specs.State.{receipt_cmp}
 use Rattle.goo_spec.specs.Step.{changed}
 use Rattle.goo_core_shelf.specs.Maps.{map_of}
-use Rattle.goo_spec.specs.Energy.{total}
 use Rattle.goo_core_list.specs.States.{state_of}
 use Rattle.goo_ranges_rows.specs.Certificates.{beside}
 use Rattle.goo_core_list.proofs.ReceiptLemmas.{receipted, allowed-receipted, notice-receipted, change-receipted}
@@ -13,10 +12,6 @@ use Rattle.goo_core_list.proofs.list_shelf.ListShelf.keep.Goals as goal
 pub change-requires-clause-allowed : goal.change-requires-clause-allowed
 unfolding state_of
 change-requires-clause-allowed c = allowed-receipted _ (state_of c.args.self.now) c.args.plan.now.request c.args.plan.now.reply c.requires.accepted
-
-pub change-requires-clause-sums : goal.change-requires-clause-sums
-unfolding state_of total
-change-requires-clause-sums c = c.requires.sums
 
 pub change-requires-clause-sent : goal.change-requires-clause-sent
 unfolding state_of

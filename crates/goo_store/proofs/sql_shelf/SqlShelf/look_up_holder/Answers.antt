@@ -1,5 +1,4 @@
 use Rattle.std.proofs.Common.{sym, subst}
-use Rattle.sqlite.specs.Held.{state as view}
 use Rattle.goo_store_plans.specs.Found.{AreFindingsOf}
 use Rattle.goo_store.proofs.sql_shelf.SqlShelf.look_up_holder.Goals as goal
 

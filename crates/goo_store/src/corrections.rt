@@ -1,0 +1,51 @@
+//! The corrections, as they are found.
+
+ghost use Rattle.std.specs.Prelude.{◌≡◌, true, map};
+ghost use Rattle.std.specs.List.{list_all};
+ghost use Rattle.sqlite.specs.Held.{state as view};
+ghost use Rattle.goo_tables_rows.specs.Rows.{correction_in};
+ghost use Rattle.goo_core_shelf.specs.Shelf.{Looks};
+ghost use Rattle.goo_spec_tables.specs.Readable.{is_correction};
+ghost use Rattle.goo_spec_tables.specs.Records.{correction_of};
+ghost use Rattle.goo_store_lookups.specs.Moments.{moment};
+ghost use Rattle.goo_store_lookups.specs.StoreFaults.{BlamesStore};
+ghost use Rattle.goo_store_values.specs.Passing.{Accepts, Passes};
+
+use crate::sql_shelf::SqlShelf;
+use goo_store_rules::correct_record::CorrectRecord;
+use goo_store_rules::corrects::corrects_in;
+use goo_store_values::told::told;
+use goo_store_values::trouble::Trouble;
+use goo_tables::correction::all_corrections;
+use goo_tables_rows::correction::CorrectionRow;
+use goo_types::fault::Fault;
+use sqlite::{Alter, Error};
+use std::alloc::Global;
+
+/// The corrections, in the order in which they came.
+fn read_all(
+    alloc: Global,
+    found: Result<Vec<CorrectionRow>, Error>,
+) -> Result<Vec<CorrectRecord>, Trouble>
+    ensures value { Passes found result (λ rows corrections. corrections.items ≡ map correction_of (map correction_in rows.items)) }
+    ensures accepts { Accepts found result (λ rows. list_all (λ row. is_correction (correction_in row)) rows.items ≡ true) }
+{
+    match corrects_in(alloc, &found?)? {
+        Some(corrections) => Ok(corrections),
+        None => Err(Trouble::Refused),
+    }
+}
+
+impl<S: Alter> SqlShelf<S> {
+    /// The accepted corrections, in the order in which they came.
+    pub(crate) fn corrections(&mut self, alloc: Global) -> Result<Vec<CorrectRecord>, Fault>
+        ensures looks { Looks (moment (view S.Store self.old.conn) self.old.refused) (moment (view S.Store self.new.conn) self.new.refused) result (λ corrections. corrections.items ≡ (moment (view S.Store self.old.conn) self.old.refused).state.corrections) }
+        ensures store { BlamesStore (view S.Store self.old.conn) (view S.Store self.new.conn) self.old.refused result }
+    {
+        if self.refused {
+            return Err(Fault::Store);
+        }
+        let found = all_corrections(alloc, &mut self.conn);
+        told(read_all(alloc, found), &mut self.refused)
+    }
+}

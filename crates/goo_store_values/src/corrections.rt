@@ -1,0 +1,30 @@
+//! Corrections, as rows state them.
+
+ghost use Rattle.std.specs.Prelude.{◌≡◌, is_ok, IfErr, IfOk};
+ghost use Rattle.goo_tables_rows.specs.Rows.{correction_in};
+ghost use Rattle.goo_spec_tables.specs.Readable.{is_correction};
+ghost use Rattle.goo_spec_tables.specs.Records.{correction_of};
+ghost use Rattle.goo_store_values.specs.declared.trouble.Trouble.TheVariants.{Refused};
+
+use crate::trouble::Trouble;
+use crate::{numbers, texts};
+use goo_store_rules::correct_record::CorrectRecord;
+use goo_tables_rows::correction::CorrectionRow;
+
+/// The correction in its row.
+///
+/// # Errors
+///
+/// `Refused` where a column holds no such value.
+pub fn read_correction(row: &CorrectionRow) -> Result<CorrectRecord, Trouble>
+    ensures value { IfOk result (λ correction. correction ≡ correction_of (correction_in row.now)) }
+    ensures accepts { is_ok result ≡ is_correction (correction_in row.now) }
+    ensures cause { IfErr result (λ trouble. trouble ≡ Refused) }
+{
+    Ok(CorrectRecord {
+        device: texts::gsrn(&row.device)?,
+        first_day: texts::day(&row.first_day)?,
+        less: numbers::wh(row.less)?,
+        withdrawal: numbers::act_or_none(row.withdrawal)?,
+    })
+}
