@@ -15,6 +15,7 @@ use goo_cli_files::{
 };
 use goo_cli_registry::closing::Left;
 use goo_cli_registry::creating::init_in_files;
+use goo_cli_registry::renewal_line::RenewalLine;
 use goo_cli_registry::running::{run_in_files, run_in_memory};
 use goo_cli_texts::ProgressLine;
 use goo_types::account_no::AccountNo;
@@ -142,7 +143,8 @@ fn work_at<S: Start, W: Write + Drop>(
                 seed,
                 traces,
             } = opened;
-            let (ending, left) = work_in(rt, files, seed, work, writer);
+            let mut line = RenewalLine::new(path, rt.stderr());
+            let (ending, left) = work_in(rt, files, seed, work, writer, &mut line);
             let_go(rt, &traces, left);
             ending
         }
@@ -163,19 +165,21 @@ fn work_in<S: Start, W: Write + Drop>(
     seed: u64,
     work: &Work,
     writer: &mut BufWriter<W>,
+    line: &mut RenewalLine<'_, Stderr>,
 ) -> (Ending, Left<FileFrom<S>>)
     requires log { IsTrue (file_is_usable S.Start files.log) }
     requires db { IsTrue (file_is_usable S.Start files.db) }
 {
     let alloc = rt.alloc();
     match work {
-        Work::Run => run_in_files(alloc, files, seed, &mut rt.reader(), writer),
+        Work::Run => run_in_files(alloc, files, seed, &mut rt.reader(), writer, line),
         Work::Declare => {
-            let mut line = ProgressLine::new(terminal(rt));
-            declare_in_files(alloc, files, seed, &mut rt.reader(), writer, &mut line)
+            let mut progress = ProgressLine::new(terminal(rt));
+            let mut reader = rt.reader();
+            declare_in_files(alloc, files, seed, &mut reader, writer, &mut progress, line)
         }
-        Work::Statement(account) => statement_in_files(alloc, files, seed, *account, writer),
-        Work::Audit => audit_in_files(alloc, files, seed, writer),
-        Work::Serve(serving) => serve_in_files(rt, files, seed, *serving, writer),
+        Work::Statement(account) => statement_in_files(alloc, files, seed, *account, writer, line),
+        Work::Audit => audit_in_files(alloc, files, seed, writer, line),
+        Work::Serve(serving) => serve_in_files(rt, files, seed, *serving, writer, line),
     }
 }

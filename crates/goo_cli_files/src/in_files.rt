@@ -14,6 +14,7 @@ ghost use Rattle.goo_cli_files.specs.Imports.{DeclaredIn};
 use goo_cli_ending::Ending;
 use goo_cli_registry::closing::{Left, close_registry};
 use goo_cli_registry::opening::open_registry;
+use goo_cli_registry::renewal_line::RenewalLine;
 use goo_cli_texts::{ProgressLine, declare, show_audit, show_statement};
 use goo_registry::Registry;
 use goo_types::account_no::AccountNo;
@@ -22,28 +23,29 @@ use sqlite_disk::Disk;
 use std::alloc::Global;
 use std::io::{BufWriter, Read, Write};
 
-/// Imports the declarations of a CSV file into the registry that files hold, writes the report, and closes the registry. `line` tells
-/// how far the import is. What is said holds so long as the files returned what was written, and `db` is the database that they held.
+/// Imports the declarations of a CSV file into the registry that files hold, writes the report, and closes the registry. `progress`
+/// tells how far the import is, `line` if the registry is of version 1. What is said holds so long as the files returned what was written, and `db` is the database that they held.
 ///
 /// - `done`: status 0 only where each row was imported and its declaration stands, and status 1 only where one doesn't, but for a
 ///   file without its header; the whole report is written then, and the database file alone holds what the rows come to.
-pub fn declare_in_files<D: Disk + Drop, R: Read, W: Write + Drop, T: Write>(
+pub fn declare_in_files<D: Disk + Drop, R: Read, W: Write + Drop, T: Write, E: Write>(
     alloc: Global,
     files: Files<D>,
     seed: u64,
     reader: &mut R,
     writer: &mut BufWriter<W>,
-    line: &mut ProgressLine<T>,
+    progress: &mut ProgressLine<T>,
+    line: &mut RenewalLine<'_, E>,
 ) -> (Ending, Left<D>)
     requires log { IsTrue (D.Disk.is_usable files.log) }
     requires db { IsTrue (D.Disk.is_usable files.db) }
     ensures done { IsClean result.1 → (db : Trees) → HoldsDatabase (image_of D.Disk files) db → IfSome (R.remaining reader.old) (λ input. DeclaredIn (state_of (tables_of db)) input (writer_contents W.contents writer.old) (writer_contents W.contents writer.new) result.0 result.1) }
     ensures flushed { status_of result.0 ≡ 0 → writer_buffer writer.new ≡ [] }
 {
-    match open_registry(alloc, files, seed) {
+    match open_registry(alloc, files, seed, line) {
         Ok(shelf) => {
             let mut registry = Registry::new(shelf);
-            let ending = declare(alloc, &mut registry, reader, writer, line);
+            let ending = declare(alloc, &mut registry, reader, writer, progress);
             (ending, close_registry(registry.into_shelf()))
         }
         Err((failure, left)) => (Ending::Failed(failure), Left::Refused(left)),
@@ -54,19 +56,20 @@ pub fn declare_in_files<D: Disk + Drop, R: Read, W: Write + Drop, T: Write>(
 /// the files returned what was written, and `db` is the database that they held.
 ///
 /// - `shown`, `flushed`: status 0 only where the whole statement is written, and nothing is left in the writer's buffer.
-pub fn statement_in_files<D: Disk + Drop, W: Write + Drop>(
+pub fn statement_in_files<D: Disk + Drop, W: Write + Drop, E: Write>(
     alloc: Global,
     files: Files<D>,
     seed: u64,
     account: AccountNo,
     writer: &mut BufWriter<W>,
+    line: &mut RenewalLine<'_, E>,
 ) -> (Ending, Left<D>)
     requires log { IsTrue (D.Disk.is_usable files.log) }
     requires db { IsTrue (D.Disk.is_usable files.db) }
     ensures shown { IsClean result.1 → (db : Trees) → HoldsDatabase (image_of D.Disk files) db → status_of result.0 ≡ 0 → Wrote (writer_contents W.contents writer.old) (writer_contents W.contents writer.new) (IsStatement (state_of (tables_of db)) account) }
     ensures flushed { status_of result.0 ≡ 0 → writer_buffer writer.new ≡ [] }
 {
-    match open_registry(alloc, files, seed) {
+    match open_registry(alloc, files, seed, line) {
         Ok(shelf) => {
             let mut registry = Registry::new(shelf);
             let ending = show_statement(&mut registry, account, writer);
@@ -77,18 +80,19 @@ pub fn statement_in_files<D: Disk + Drop, W: Write + Drop>(
 }
 
 /// Writes the audit of the registry that files hold, and closes the registry, as [`statement_in_files`] does a statement.
-pub fn audit_in_files<D: Disk + Drop, W: Write + Drop>(
+pub fn audit_in_files<D: Disk + Drop, W: Write + Drop, E: Write>(
     alloc: Global,
     files: Files<D>,
     seed: u64,
     writer: &mut BufWriter<W>,
+    line: &mut RenewalLine<'_, E>,
 ) -> (Ending, Left<D>)
     requires log { IsTrue (D.Disk.is_usable files.log) }
     requires db { IsTrue (D.Disk.is_usable files.db) }
     ensures shown { IsClean result.1 → (db : Trees) → HoldsDatabase (image_of D.Disk files) db → status_of result.0 ≡ 0 → Wrote (writer_contents W.contents writer.old) (writer_contents W.contents writer.new) (IsAuditText (state_of (tables_of db))) }
     ensures flushed { status_of result.0 ≡ 0 → writer_buffer writer.new ≡ [] }
 {
-    match open_registry(alloc, files, seed) {
+    match open_registry(alloc, files, seed, line) {
         Ok(shelf) => {
             let mut registry = Registry::new(shelf);
             let ending = show_audit(alloc, &mut registry, writer);

@@ -9,6 +9,7 @@ use goo_cli_ending::{Ending, Failure};
 use goo_cli_http::serve_registry;
 use goo_cli_registry::closing::{Left, close_registry};
 use goo_cli_registry::opening::{begin, failure_of, open_database, open_registry};
+use goo_cli_registry::renewal_line::RenewalLine;
 use goo_cli_registry::running::SALT;
 use goo_cli_registry::start::Start;
 use goo_registry::Registry;
@@ -58,18 +59,19 @@ pub fn serve_in_memory<W: Write + Drop>(
     ending
 }
 
-/// Serves so many connections by the registry that files hold, and closes it.
-pub fn serve_in_files<D: Disk + Drop, W: Write + Drop>(
+/// Serves so many connections by the registry that files hold, and closes it; `line` tells if it is of version 1.
+pub fn serve_in_files<D: Disk + Drop, W: Write + Drop, E: Write>(
     rt: &HostRuntime,
     files: Files<D>,
     seed: u64,
     serving: Serving,
     writer: &mut BufWriter<W>,
+    line: &mut RenewalLine<'_, E>,
 ) -> (Ending, Left<D>)
     requires log { IsTrue (D.Disk.is_usable files.log) }
     requires db { IsTrue (D.Disk.is_usable files.db) }
 {
-    match open_registry(rt.alloc(), files, seed) {
+    match open_registry(rt.alloc(), files, seed, line) {
         Ok(shelf) => {
             let mut registry = Registry::new(shelf);
             let ending = serve_registry(rt, &mut registry, serving, writer);

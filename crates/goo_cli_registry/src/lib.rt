@@ -8,5 +8,6 @@
 pub mod closing;
 pub mod creating;
 pub mod opening;
+pub mod renewal_line;
 pub mod running;
 pub mod start;

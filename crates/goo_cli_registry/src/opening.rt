@@ -14,6 +14,7 @@ ghost use Rattle.goo_core_shelf.specs.Shelf.{IsReady};
 ghost use Rattle.goo_spec.specs.Sound.{IsSound};
 ghost use Rattle.goo_cli_registry.specs.Openings.{begun, failure_of_opening, IsBlamed, MayBegin};
 
+use crate::renewal_line::RenewalLine;
 use crate::start::Start;
 use goo_cli_ending::Failure;
 use goo_store::sql_shelf::SqlShelf;
@@ -23,6 +24,7 @@ use goo_types::fault::Fault;
 use sqlite::{Alter, Connection, Error, ErrorCode, FileStore, Files, Leftover, Options};
 use sqlite_disk::Disk;
 use std::alloc::Global;
+use std::io::Write;
 
 /// The word for what kept files from being opened.
 fn word_for(error: Error) -> Fault
@@ -112,15 +114,16 @@ pub fn begin<S: Alter>(
     }
 }
 
-/// The registry that files hold.
+/// The registry that files hold. One of version 1 becomes one of version 2, which `line` tells before.
 ///
 /// # Errors
 ///
 /// What is left of the files, with why there is no registry. What they held is unharmed.
-pub fn open_registry<D: Disk + Drop>(
+pub fn open_registry<D: Disk + Drop, T: Write>(
     alloc: Global,
     files: Files<D>,
     seed: u64,
+    line: &mut RenewalLine<'_, T>,
 ) -> Result<SqlShelf<FileStore<D>>, (Failure, Leftover<D>)>
     requires log { IsTrue (D.Disk.is_usable files.log) }
     requires db { IsTrue (D.Disk.is_usable files.db) }
@@ -131,7 +134,7 @@ pub fn open_registry<D: Disk + Drop>(
     ensures unharmed { IfErr result (λ e. IsCleanLeft e.1 → LeavesFiles files e.1) }
 {
     match open_database(alloc, files, seed) {
-        Ok(conn) => match SqlShelf::open(alloc, conn) {
+        Ok(conn) => match SqlShelf::open_telling(alloc, conn, line) {
             Ok(shelf) => Ok(shelf),
             Err((conn, fault)) => Err((failure_of(fault), Leftover::Store(conn.into_store()))),
         },

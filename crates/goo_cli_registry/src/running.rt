@@ -20,6 +20,7 @@ ghost use Rattle.goo_cli_registry.specs.Closings.{IfRefused, IfWhole, IsClean, H
 
 use crate::closing::{Left, close_registry};
 use crate::opening::{begin, failure_of, open_database, open_registry};
+use crate::renewal_line::RenewalLine;
 use crate::start::Start;
 use goo_cli::Opening;
 use goo_cli_ending::{Ending, Failure, answer_input};
@@ -114,7 +115,7 @@ pub fn run_in_memory<R: Read, W: Write + Drop>(
     ending
 }
 
-/// Answers the lines of an input by the registry that files hold, and closes it. What is said holds so long as the files
+/// Answers the lines of an input by the registry that files hold, and closes it; `line` tells if it is of version 1. What is said holds so long as the files
 /// returned what was written, and `db` is the database that they held.
 ///
 /// - `all_done`, `not_all_done`, `written`, `flushed`, `no_words`: as for `run_in_memory`, from the state of the tables that were opened.
@@ -123,12 +124,13 @@ pub fn run_in_memory<R: Read, W: Write + Drop>(
 /// - `unharmed`: where there is no registry to run, no harm came to what the files held.
 ///
 /// What a fault or a crash leaves is the shelf's: the lines that were answered, or one more.
-pub fn run_in_files<D: Disk + Drop, R: Read, W: Write + Drop>(
+pub fn run_in_files<D: Disk + Drop, R: Read, W: Write + Drop, T: Write>(
     alloc: Global,
     files: Files<D>,
     seed: u64,
     reader: &mut R,
     writer: &mut BufWriter<W>,
+    line: &mut RenewalLine<'_, T>,
 ) -> (Ending, Left<D>)
     requires log { IsTrue (D.Disk.is_usable files.log) }
     requires db { IsTrue (D.Disk.is_usable files.db) }
@@ -140,7 +142,7 @@ pub fn run_in_files<D: Disk + Drop, R: Read, W: Write + Drop>(
     ensures no_words { status_of result.0 ≢ 2 }
     ensures unharmed { IsClean result.1 → IfRefused result.1 (LeavesFiles files) }
 {
-    match open_registry(alloc, files, seed) {
+    match open_registry(alloc, files, seed, line) {
         Ok(shelf) => {
             let (ending, shelf) = answer_by(alloc, Registry::new(shelf), reader, writer);
             (ending, close_registry(shelf))

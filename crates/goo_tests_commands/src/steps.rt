@@ -10,6 +10,7 @@ use crate::disks::Disks;
 use goo_cli::Opening;
 use goo_cli_ending::Ending;
 use goo_cli_registry::creating::init_in_files;
+use goo_cli_registry::renewal_line::RenewalLine;
 use goo_cli_registry::running::run_in_files;
 use goo_types::day::Day;
 use goo_types::registry_code::RegistryCode;
@@ -31,11 +32,15 @@ pub enum Step<'a> {
     Edits(&'a str),
 }
 
-/// A step and what it comes to: the exit status, the line on standard error if there is one, and then what standard output gets.
+/// A step and what it comes to: the line that tells of a renewal if there is one, the exit status, the line on standard error if there is
+/// one, and then what standard output gets.
 pub type Row = (Step<'static>, &'static str);
 
 /// What is told of an edit.
 pub const EDITED: &str = "edited";
+
+/// Where the registry is said to lie.
+const PATH: &str = "registry.db";
 
 /// What the salts of a new log begin with.
 const SEED: u64 = 7;
@@ -50,16 +55,17 @@ fn in_march(rt: &impl Abort, code: u8, serial: u64) -> Opening {
 }
 
 /// What a command comes to.
-fn told(rt: &impl Abort, alloc: Global, ending: &Ending, output: &[u8]) -> String {
+fn told(rt: &impl Abort, alloc: Global, renewed: &[u8], ending: &Ending, output: &[u8]) -> String {
     let status = ending.status();
+    let renewed = str::from_utf8(renewed).expect(rt, "a text");
     let output = str::from_utf8(output).expect(rt, "a text");
     let text = match ending {
-        Ending::Done | Ending::PartlyDone => format!(in alloc; "{status}\n{output}"),
+        Ending::Done | Ending::PartlyDone => format!(in alloc; "{renewed}{status}\n{output}"),
         Ending::Denied(denial) => {
             let word = denial.text();
-            format!(in alloc; "{status} {word}\n{output}")
+            format!(in alloc; "{renewed}{status} {word}\n{output}")
         }
-        Ending::Failed(failure) => format!(in alloc; "{status} {failure}\n{output}"),
+        Ending::Failed(failure) => format!(in alloc; "{renewed}{status} {failure}\n{output}"),
         Ending::Words(_) | Ending::Misused(_) => panic!(rt; "a command line that is wrong"),
     };
     text.expect(rt, "memory")
@@ -90,13 +96,16 @@ fn performs<D: Disk + Drop>(
         panic!(rt; "disks that may not be used");
     }
     let mut writer = BufWriter::new(alloc, Vec::new(alloc)).expect(rt, "memory");
+    let mut renewed = Vec::new(alloc);
+    let mut line = RenewalLine::new(PATH, &mut renewed);
     let (ending, left) = match step {
         Step::Inits(code, serial) => {
             let opening = in_march(rt, *code, *serial);
             init_in_files(alloc, files, SEED, opening, &mut writer)
         }
         Step::Runs(lines) => {
-            run_in_files(alloc, files, SEED, &mut lines.as_bytes(), &mut writer)
+            let mut reader = lines.as_bytes();
+            run_in_files(alloc, files, SEED, &mut reader, &mut writer, &mut line)
         }
         Step::Edits(sql) => {
             let files = edited(rt, alloc, files, sql);
@@ -105,7 +114,7 @@ fn performs<D: Disk + Drop>(
         }
     };
     (
-        told(rt, alloc, &ending, writer.get_ref()),
+        told(rt, alloc, &renewed, &ending, writer.get_ref()),
         left.into_files(),
     )
 }
@@ -116,11 +125,11 @@ pub fn does(rt: &impl Abort, alloc: Global, disks: Disks, step: &Step<'_>) -> (S
     (told, Disks { files })
 }
 
-/// A step comes to what it should. Where it ends with a line on standard error, the disks hold what they held.
+/// A step comes to what it should. Where it ends with its status and a line on standard error, the disks hold what they held.
 pub fn comes_to(rt: &impl Abort, alloc: Global, disks: Disks, row: &Row) -> Disks {
     let before = disks.contents(rt, alloc);
     let (told, disks) = does(rt, alloc, disks, &row.0);
-    let is_spared = !row.1.contains("goo: ") || disks.hold(&before);
+    let is_spared = !row.1.contains(" goo: ") || disks.hold(&before);
     holds(rt, told.as_str() == row.1, &told);
     holds(rt, is_spared, row.1);
     disks

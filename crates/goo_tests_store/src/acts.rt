@@ -12,7 +12,7 @@ use crate::registries::begun_in_lists;
 use crate::script::{Line, requests};
 use crate::sight::sight;
 use crate::stops::{answers_or_stops, goes_on_from, sights_of};
-use crate::texts::writes;
+use crate::texts::{keeps, moves, writes};
 use crate::worked::{Case, answers, runs};
 use goo_core_shelf::shelf::Shelf;
 use goo_registry::Registry;
@@ -39,6 +39,10 @@ pub enum Act<'a> {
     ShowsRuns,
     /// The requests up to a cancellation, the declarations among them by a table, and the texts that people are given.
     Writes,
+    /// The requests up to a cancellation, and its transfer back.
+    Moves,
+    /// The same once more, and the texts that people are given then.
+    Keeps,
     /// All requests, and what it shows before the first and after each is told.
     Sights,
     /// All requests, up to the first `Store`.
@@ -98,6 +102,8 @@ fn asks_for<S: Shelf>(rt: &impl Abort, alloc: Global, registry: &mut Registry<S>
         Act::SendsParts => sends_parts(rt, alloc, registry),
         Act::ShowsRuns => shows_runs(rt, alloc, registry),
         Act::Writes => writes(rt, alloc, registry),
+        Act::Moves => moves(rt, alloc, registry),
+        Act::Keeps => keeps(rt, alloc, registry),
         Act::FindsMembers => answers(rt, alloc, registry, &MEMBERS),
         Act::GoesOn(answered, wanted) => goes_on_from(rt, alloc, registry, *answered, wanted),
         _ => (),

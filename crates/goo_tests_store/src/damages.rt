@@ -233,7 +233,7 @@ fn is_refused(rt: &impl Abort, alloc: Global, disks: Disks, damage: &Damage) -> 
 }
 
 /// Tables that were changed by a text are not opened, as they are damaged.
-fn is_damaged(rt: &impl Abort, alloc: Global, disks: Disks, sql: &str) -> Disks {
+pub fn is_damaged(rt: &impl Abort, alloc: Global, disks: Disks, sql: &str) -> Disks {
     let disks = after(rt, alloc, disks, &Deed::Edits(sql));
     let (word, disks) = judged(rt, alloc, disks);
     holds(rt, word == Some(OpenFault::Damaged), sql);

@@ -35,6 +35,8 @@ mod parts;
 #[cfg(test)]
 mod registries;
 #[cfg(test)]
+mod renewed;
+#[cfg(test)]
 mod reopened;
 #[cfg(test)]
 mod script;

@@ -257,6 +257,20 @@ pub fn writes<S: Shelf>(rt: &impl Abort, alloc: Global, registry: &mut Registry<
     trades(rt, alloc, registry)
 }
 
+/// A hundred certificates are given and given back, in April.
+pub fn moves<S: Shelf>(rt: &impl Abort, alloc: Global, registry: &mut Registry<S>) {
+    sends(rt, alloc, registry, 0, CANCELLATION);
+    plays(rt, alloc, registry, &RETURN, 0)
+}
+
+/// All that was kept so: the requests are repeated, and the texts are those of April.
+pub fn keeps<S: Shelf>(rt: &impl Abort, alloc: Global, registry: &mut Registry<S>) {
+    let kept = requests().get(..CANCELLATION).expect(rt, "so many requests");
+    plays(rt, alloc, registry, kept, CANCELLATION);
+    plays(rt, alloc, registry, &RETURN, 1);
+    gives_all(rt, alloc, registry, &IN_APRIL)
+}
+
 /// How many of the script's requests come before the first declaration.
 const DEVICE: usize = 5;
 
