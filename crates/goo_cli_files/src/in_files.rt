@@ -3,8 +3,7 @@ ghost use Rattle.std.specs.Prelude.{◌≡◌, [], IfSome, IsTrue};
 ghost use Rattle.std.specs.Io.Buffered.{writer_buffer, writer_contents};
 ghost use Rattle.sqlite.specs.Files.{image_of, HoldsDatabase};
 ghost use Rattle.sqlite.specs.Tree.{Trees};
-ghost use Rattle.goo_tables_rows.specs.Rows.{tables_of};
-ghost use Rattle.goo_spec_tables.specs.States.{state_of};
+ghost use Rattle.goo_store_lookups.specs.Versions.{state_held};
 ghost use Rattle.goo_files.specs.Texts.{IsStatement, IsAuditText};
 ghost use Rattle.goo_files.specs.Writes.{Wrote};
 ghost use Rattle.goo_cli_ending.specs.Endings.{status_of};
@@ -39,7 +38,7 @@ pub fn declare_in_files<D: Disk + Drop, R: Read, W: Write + Drop, T: Write, E: W
 ) -> (Ending, Left<D>)
     requires log { IsTrue (D.Disk.is_usable files.log) }
     requires db { IsTrue (D.Disk.is_usable files.db) }
-    ensures done { IsClean result.1 → (db : Trees) → HoldsDatabase (image_of D.Disk files) db → IfSome (R.remaining reader.old) (λ input. DeclaredIn (state_of (tables_of db)) input (writer_contents W.contents writer.old) (writer_contents W.contents writer.new) result.0 result.1) }
+    ensures done { IsClean result.1 → (db : Trees) → HoldsDatabase (image_of D.Disk files) db → IfSome (R.remaining reader.old) (λ input. DeclaredIn (state_held db) input (writer_contents W.contents writer.old) (writer_contents W.contents writer.new) result.0 result.1) }
     ensures flushed { status_of result.0 ≡ 0 → writer_buffer writer.new ≡ [] }
 {
     match open_registry(alloc, files, seed, line) {
@@ -66,7 +65,7 @@ pub fn statement_in_files<D: Disk + Drop, W: Write + Drop, E: Write>(
 ) -> (Ending, Left<D>)
     requires log { IsTrue (D.Disk.is_usable files.log) }
     requires db { IsTrue (D.Disk.is_usable files.db) }
-    ensures shown { IsClean result.1 → (db : Trees) → HoldsDatabase (image_of D.Disk files) db → status_of result.0 ≡ 0 → Wrote (writer_contents W.contents writer.old) (writer_contents W.contents writer.new) (IsStatement (state_of (tables_of db)) account) }
+    ensures shown { IsClean result.1 → (db : Trees) → HoldsDatabase (image_of D.Disk files) db → status_of result.0 ≡ 0 → Wrote (writer_contents W.contents writer.old) (writer_contents W.contents writer.new) (IsStatement (state_held db) account) }
     ensures flushed { status_of result.0 ≡ 0 → writer_buffer writer.new ≡ [] }
 {
     match open_registry(alloc, files, seed, line) {
@@ -89,7 +88,7 @@ pub fn audit_in_files<D: Disk + Drop, W: Write + Drop, E: Write>(
 ) -> (Ending, Left<D>)
     requires log { IsTrue (D.Disk.is_usable files.log) }
     requires db { IsTrue (D.Disk.is_usable files.db) }
-    ensures shown { IsClean result.1 → (db : Trees) → HoldsDatabase (image_of D.Disk files) db → status_of result.0 ≡ 0 → Wrote (writer_contents W.contents writer.old) (writer_contents W.contents writer.new) (IsAuditText (state_of (tables_of db))) }
+    ensures shown { IsClean result.1 → (db : Trees) → HoldsDatabase (image_of D.Disk files) db → status_of result.0 ≡ 0 → Wrote (writer_contents W.contents writer.old) (writer_contents W.contents writer.new) (IsAuditText (state_held db)) }
     ensures flushed { status_of result.0 ≡ 0 → writer_buffer writer.new ≡ [] }
 {
     match open_registry(alloc, files, seed, line) {

@@ -12,7 +12,9 @@ use Rattle.sqlite.specs.Closing.{HoldsAlone, files_left}
 use Rattle.sqlite.specs.declared.file.Leftover.{Leftover}
 use Rattle.sqlite.specs.declared.file.Leftover.TheVariants as rest
 use Rattle.goo_spec.specs.State.{State}
+use Rattle.goo_tables_rows.specs.Rows.{tables_of}
 use Rattle.goo_store_lookups.specs.Moments.{OpensAs}
+use Rattle.goo_store_lookups.specs.Versions.{state_held}
 use Rattle.goo_cli_registry.specs.declared.closing.Left.{Left}
 use Rattle.goo_cli_registry.specs.declared.closing.Left.TheVariants as left
 
@@ -87,6 +89,23 @@ module _ {D : Type 0} {g : Ghosts D} (files : Files D) where
   LeavesOr s (rest.Files now) = LeavesFiles {g = g} files (rest.Files now)
   LeavesOr s (rest.Unopened now) = LeavesFiles {g = g} files (rest.Unopened now)
   LeavesOr s (rest.Store now) = (found : Trees) → recovers now found → (AreFound g files found × ((db : Trees) → HoldsDatabase (image_of g files) db → found ≡ db)) ⊎ OpensAs found (Some s)
+
+  -- what an opening of these files finds
+  abbrev pub IsThere : Trees → Type 0
+  IsThere found = AreFound g files found × ((db : Trees) → HoldsDatabase (image_of g files) db → found ≡ db)
+
+  -- a registry of version 1 is what these files held, and this is the same one in version 2
+  pub record WasRenewed (found : Trees) : Type 0 where
+    pub db : Trees
+    pub there : IsThere db
+    pub first : (tables_of db).meta.version ≡ 1
+    pub opens : OpensAs found (Some (state_held db))
+
+  -- the next opening finds what this one would have found, or that registry of version 1 in version 2
+  abbrev pub LeavesRegistry : Leftover D g → Type 0
+  LeavesRegistry (rest.Files now) = LeavesFiles {g = g} files (rest.Files now)
+  LeavesRegistry (rest.Unopened now) = LeavesFiles {g = g} files (rest.Unopened now)
+  LeavesRegistry (rest.Store now) = (found : Trees) → recovers now found → IsThere found ⊎ WasRenewed found
 
   -- no harm came to what these files held, or a registry of this state took its place
   abbrev pub SparesOrMakes : State → Left D g → Type 0

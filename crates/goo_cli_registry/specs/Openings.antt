@@ -1,5 +1,5 @@
 -- How a registry is begun, and why it isn't.
-use Rattle.std.specs.Prelude.{◌⊎◌, ℕ, ◌+◌, ◌/◌, ◌%◌, List, [], ◌∷◌, ◌++◌, codes, Some}
+use Rattle.std.specs.Prelude.{◌≡◌, ◌⊎◌, ℕ, ◌+◌, ◌/◌, ◌%◌, List, [], ◌∷◌, ◌++◌, codes, Some}
 use Rattle.sqlite_disk.specs.declared.Disk.{Ghosts}
 use Rattle.sqlite_disk.specs.declared.Files.{Files}
 use Rattle.sqlite_disk.specs.Disk.{MoreFaults}
@@ -7,10 +7,11 @@ use Rattle.sqlite.specs.declared.file.Leftover.{Leftover}
 use Rattle.sqlite.specs.Files.{image_of, faults_of, faults_left, HoldsDatabase, IsFullLeft, IsNothing}
 use Rattle.sqlite.specs.Tree.{Trees}
 use Rattle.sqlite.specs.State as sqlite
+use Rattle.goo_tables_rows.specs.Columns.{first_schema}
 use Rattle.goo_spec.specs.State.{State}
 use Rattle.goo_spec.specs.Created.{created}
-use Rattle.goo_spec_tables.specs.States.{state_of}
-use Rattle.goo_store_lookups.specs.Moments.{tables_in, OpensAs}
+use Rattle.goo_store_lookups.specs.Moments.{OpensAs}
+use Rattle.goo_store_lookups.specs.Versions.{state_held}
 use Rattle.goo_store_open.specs.declared.fault.OpenFault.{OpenFault}
 use Rattle.goo_store_open.specs.declared.fault.OpenFault.TheVariants as opening
 use Rattle.goo_cli_ending.specs.declared.ending.Ending.{Ending}
@@ -24,12 +25,12 @@ use Rattle.goo_cli_registry.specs.declared.start.Start.TheVariants.{New, Kept}
 -- the state that a run begins with, over what the database holds
 abbrev pub begun : Start → sqlite.State → State
 begun (New opening) s = created opening.code opening.today opening.next_serial
-begun Kept s = state_of (tables_in s)
+begun Kept s = state_held s.now.trees
 
--- what a start that failed may have committed nevertheless, where a crash follows: a new registry, or nothing
-abbrev pub MayBegin : Start → Trees → Type 0
-MayBegin (New opening) db = OpensAs db (Some (created opening.code opening.today opening.next_serial))
-MayBegin Kept db = ⊥
+-- what a start that failed may have committed nevertheless, where a crash follows: a new registry, or that of version 1 in version 2
+abbrev pub MayBegin : Start → sqlite.State → Trees → Type 0
+MayBegin (New opening) s db = OpensAs db (Some (created opening.code opening.today opening.next_serial))
+MayBegin Kept s db = (s.now.schema ≡ first_schema) × OpensAs db (Some (state_held s.now.trees))
 
 -- why there is no registry to run; a new one is made in an empty database alone
 abbrev pub failure_of_opening : OpenFault → Failure

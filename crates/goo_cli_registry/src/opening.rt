@@ -5,13 +5,13 @@ ghost use Rattle.sqlite.specs.Held.{IsNew, state as view};
 ghost use Rattle.sqlite.specs.State.{HasCleanDisk};
 ghost use Rattle.sqlite.specs.Tree.{Trees};
 ghost use Rattle.goo_tables_rows.specs.Met.{IsInKeyOrder};
-ghost use Rattle.goo_tables_rows.specs.Rows.{tables_of};
-ghost use Rattle.goo_spec_tables.specs.States.{state_of};
+ghost use Rattle.goo_store_lookups.specs.Versions.{state_held};
 ghost use Rattle.goo_store_lookups.specs.Moments.{moment};
 ghost use Rattle.goo_store_open.specs.Foreign.{LacksMeta};
 ghost use Rattle.goo_ranges_rows.specs.Rows.{AreRowsOf};
 ghost use Rattle.goo_core_shelf.specs.Shelf.{IsReady};
 ghost use Rattle.goo_spec.specs.Sound.{IsSound};
+ghost use Rattle.goo_cli_registry.specs.Closings.{LeavesRegistry};
 ghost use Rattle.goo_cli_registry.specs.Openings.{begun, failure_of_opening, IsBlamed, MayBegin};
 
 use crate::renewal_line::RenewalLine;
@@ -95,7 +95,7 @@ pub fn begin<S: Alter>(
     ensures outside { IfErr result (λ e. e.0.in_transaction ≡ false) }
     ensures there { IfErr result (λ e. e.1 ≡ OpenFault.AlreadyThere → start ≢ Start.Kept → e.0 ≡ conn) }
     ensures clean { IfErr result (λ e. HasCleanDisk (view S.Store e.0) → HasCleanDisk (view S.Store conn)) }
-    ensures crash { IfErr result (λ e. HasCleanDisk (view S.Store e.0) → (db : Trees) → (view S.Store e.0).may_leave db → (view S.Store conn).may_leave db ⊎ MayBegin start db) }
+    ensures crash { IfErr result (λ e. HasCleanDisk (view S.Store e.0) → (db : Trees) → (view S.Store e.0).may_leave db → (view S.Store conn).may_leave db ⊎ MayBegin start (view S.Store conn) db) }
 {
     match start {
         Start::New(opening) => {
@@ -118,7 +118,8 @@ pub fn begin<S: Alter>(
 ///
 /// # Errors
 ///
-/// What is left of the files, with why there is no registry. What they held is unharmed.
+/// What is left of the files, with why there is no registry. What they held is unharmed; where a fault came in the course of a renewal, a
+/// crash that follows may find the registry renewed.
 pub fn open_registry<D: Disk + Drop, T: Write>(
     alloc: Global,
     files: Files<D>,
@@ -127,11 +128,11 @@ pub fn open_registry<D: Disk + Drop, T: Write>(
 ) -> Result<SqlShelf<FileStore<D>>, (Failure, Leftover<D>)>
     requires log { IsTrue (D.Disk.is_usable files.log) }
     requires db { IsTrue (D.Disk.is_usable files.db) }
-    ensures state { IfOk result (λ shelf. (db : Trees) → HoldsDatabase (image_of D.Disk files) db → (moment (file_state shelf.conn) shelf.refused).doubts ≡ 0 → (moment (file_state shelf.conn) shelf.refused).state ≡ state_of (tables_of db)) }
+    ensures state { IfOk result (λ shelf. (db : Trees) → HoldsDatabase (image_of D.Disk files) db → (moment (file_state shelf.conn) shelf.refused).doubts ≡ 0 → (moment (file_state shelf.conn) shelf.refused).state ≡ state_held db) }
     ensures sound { IfOk result (λ shelf. (moment (file_state shelf.conn) shelf.refused).doubts ≡ 0 → IsSound (moment (file_state shelf.conn) shelf.refused).state) }
     ensures rows_fit { IfOk result (λ shelf. (moment (file_state shelf.conn) shelf.refused).doubts ≡ 0 → AreRowsOf (moment (file_state shelf.conn) shelf.refused).state.at (moment (file_state shelf.conn) shelf.refused).rows) }
     ensures ready { IfOk result (λ shelf. IsReady (moment (file_state shelf.conn) shelf.refused)) }
-    ensures unharmed { IfErr result (λ e. IsCleanLeft e.1 → LeavesFiles files e.1) }
+    ensures unharmed { IfErr result (λ e. IsCleanLeft e.1 → LeavesRegistry files e.1) }
 {
     match open_database(alloc, files, seed) {
         Ok(conn) => match SqlShelf::open_telling(alloc, conn, line) {

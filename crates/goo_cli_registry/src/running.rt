@@ -2,21 +2,20 @@
 ghost use Rattle.std.specs.Prelude.{◌≡◌, ◌≢◌, ◌<◌, [], false, IfSome, IsTrue};
 ghost use Rattle.std.specs.Io.Buffered.{writer_buffer, writer_contents};
 ghost use Rattle.std.specs.Io.KnownBytes.{Appends};
-ghost use Rattle.sqlite.specs.Files.{image_of, HoldsDatabase, LeavesFiles};
+ghost use Rattle.sqlite.specs.Files.{image_of, HoldsDatabase};
 ghost use Rattle.sqlite.specs.Held.{state as view};
 ghost use Rattle.sqlite.specs.State.{HasCleanDisk};
 ghost use Rattle.sqlite.specs.Tree.{Trees};
 ghost use Rattle.sqlite_trees.specs.View.{doubt};
 ghost use Rattle.goo_tables_rows.specs.Met.{IsInKeyOrder};
-ghost use Rattle.goo_tables_rows.specs.Rows.{tables_of};
-ghost use Rattle.goo_spec_tables.specs.States.{state_of};
+ghost use Rattle.goo_store_lookups.specs.Versions.{state_held};
 ghost use Rattle.goo_store_lookups.specs.Moments.{IsWell};
 ghost use Rattle.goo_spec.specs.Created.{created};
 ghost use Rattle.goo_desk_lines.specs.Fold.{lines};
 ghost use Rattle.goo_cli_ending.specs.Endings.{status_of, IsToldOf};
 ghost use Rattle.goo_store_open.specs.Foreign.{LacksMeta};
 ghost use Rattle.goo_cli_registry.specs.Openings.{begun, IsRun};
-ghost use Rattle.goo_cli_registry.specs.Closings.{IfRefused, IfWhole, IsClean, HoldState};
+ghost use Rattle.goo_cli_registry.specs.Closings.{IfRefused, IfWhole, IsClean, HoldState, LeavesRegistry};
 
 use crate::closing::{Left, close_registry};
 use crate::opening::{begin, failure_of, open_database, open_registry};
@@ -121,7 +120,8 @@ pub fn run_in_memory<R: Read, W: Write + Drop>(
 /// - `all_done`, `not_all_done`, `written`, `flushed`, `no_words`: as for `run_in_memory`, from the state of the tables that were opened.
 /// - `kept`: with status 0 and 1, the database file alone holds the state that the lines come to, after a crash too, where the
 ///   log could be copied into it.
-/// - `unharmed`: where there is no registry to run, no harm came to what the files held.
+/// - `unharmed`: where there is no registry to run, no harm came to what the files held, after a crash too: but for a registry of version 1,
+///   the same registry in version 2 may be found then.
 ///
 /// What a fault or a crash leaves is the shelf's: the lines that were answered, or one more.
 pub fn run_in_files<D: Disk + Drop, R: Read, W: Write + Drop, T: Write>(
@@ -134,13 +134,13 @@ pub fn run_in_files<D: Disk + Drop, R: Read, W: Write + Drop, T: Write>(
 ) -> (Ending, Left<D>)
     requires log { IsTrue (D.Disk.is_usable files.log) }
     requires db { IsTrue (D.Disk.is_usable files.db) }
-    ensures all_done { IsClean result.1 → (db : Trees) → HoldsDatabase (image_of D.Disk files) db → status_of result.0 ≡ 0 → IfSome (R.remaining reader.old) (λ input. (lines (state_of (tables_of db)) input).bad ≡ 0) }
-    ensures not_all_done { IsClean result.1 → (db : Trees) → HoldsDatabase (image_of D.Disk files) db → status_of result.0 ≡ 1 → IfSome (R.remaining reader.old) (λ input. (lines (state_of (tables_of db)) input).bad ≢ 0) }
-    ensures written { IsClean result.1 → (db : Trees) → HoldsDatabase (image_of D.Disk files) db → status_of result.0 < 2 → IfSome (R.remaining reader.old) (λ input. Appends (writer_contents W.contents writer.old) (writer_contents W.contents writer.new) (lines (state_of (tables_of db)) input).text) }
-    ensures kept { IsClean result.1 → (db : Trees) → HoldsDatabase (image_of D.Disk files) db → status_of result.0 < 2 → IfSome (R.remaining reader.old) (λ input. IfWhole result.1 (λ files. HoldState D.Disk files (lines (state_of (tables_of db)) input).state)) }
+    ensures all_done { IsClean result.1 → (db : Trees) → HoldsDatabase (image_of D.Disk files) db → status_of result.0 ≡ 0 → IfSome (R.remaining reader.old) (λ input. (lines (state_held db) input).bad ≡ 0) }
+    ensures not_all_done { IsClean result.1 → (db : Trees) → HoldsDatabase (image_of D.Disk files) db → status_of result.0 ≡ 1 → IfSome (R.remaining reader.old) (λ input. (lines (state_held db) input).bad ≢ 0) }
+    ensures written { IsClean result.1 → (db : Trees) → HoldsDatabase (image_of D.Disk files) db → status_of result.0 < 2 → IfSome (R.remaining reader.old) (λ input. Appends (writer_contents W.contents writer.old) (writer_contents W.contents writer.new) (lines (state_held db) input).text) }
+    ensures kept { IsClean result.1 → (db : Trees) → HoldsDatabase (image_of D.Disk files) db → status_of result.0 < 2 → IfSome (R.remaining reader.old) (λ input. IfWhole result.1 (λ files. HoldState D.Disk files (lines (state_held db) input).state)) }
     ensures flushed { status_of result.0 < 2 → writer_buffer writer.new ≡ [] }
     ensures no_words { status_of result.0 ≢ 2 }
-    ensures unharmed { IsClean result.1 → IfRefused result.1 (LeavesFiles files) }
+    ensures unharmed { IsClean result.1 → IfRefused result.1 (LeavesRegistry files) }
 {
     match open_registry(alloc, files, seed, line) {
         Ok(shelf) => {

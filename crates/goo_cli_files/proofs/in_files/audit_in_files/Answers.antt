@@ -1,8 +1,7 @@
 use Rattle.std.proofs.Common.{◌≡◌, subst, sym}
 use Rattle.sqlite.specs.Files.{file_state}
 use Rattle.sqlite_trees.specs.View.{doubt}
-use Rattle.goo_tables_rows.specs.Rows.{tables_of}
-use Rattle.goo_spec_tables.specs.States.{state_of}
+use Rattle.goo_store_lookups.specs.Versions.{state_held}
 use Rattle.goo_store_lookups.specs.Moments.{moment}
 use Rattle.goo_files.specs.Texts.{IsAuditText}
 use Rattle.goo_cli_files.proofs.Works.{wrote_begun}
@@ -13,5 +12,5 @@ returns-in-Ok-clause-shown g c = λ clean db holds status.
     let low = subst (λ shelf. doubt (file_state shelf.conn).is_clean ≡ 0) c.into_shelf.ensures (c.close_registry.ensures.clean clean) in
     let before = subst (λ shelf. doubt (file_state shelf.conn).is_clean ≡ 0) c.new-registry.ensures (c.show_audit-ending.ensures.lied low) in
     wrote_begun (λ s. IsAuditText s) _ _ _ _
-    (subst (λ shelf. (moment (file_state shelf.conn) shelf.refused).state ≡ state_of (tables_of db)) (sym c.new-registry.ensures) (c.in-Ok.ensures.state db holds (c.in-Ok.ensures.ready.works before)))
+    (subst (λ shelf. (moment (file_state shelf.conn) shelf.refused).state ≡ state_held db) (sym c.new-registry.ensures) (c.in-Ok.ensures.state db holds (c.in-Ok.ensures.ready.works before)))
     (c.show_audit-ending.ensures.shown low status)

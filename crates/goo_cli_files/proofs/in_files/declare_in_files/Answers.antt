@@ -1,8 +1,7 @@
 use Rattle.std.proofs.Common.{◌≡◌, subst, sym}
 use Rattle.sqlite.specs.Files.{file_state}
 use Rattle.sqlite_trees.specs.View.{doubt}
-use Rattle.goo_tables_rows.specs.Rows.{tables_of}
-use Rattle.goo_spec_tables.specs.States.{state_of}
+use Rattle.goo_store_lookups.specs.Versions.{state_held}
 use Rattle.goo_store_lookups.specs.Moments.{moment}
 use Rattle.goo_cli_registry.specs.Closings.{HoldState, IfWhole}
 use Rattle.goo_cli_files.proofs.Works.{declared_begun, undeclared}
@@ -13,9 +12,9 @@ returns-in-Ok-clause-done g c = λ clean db holds.
     let low = subst (λ shelf. doubt (file_state shelf.conn).is_clean ≡ 0) c.into_shelf.ensures (c.close_registry.ensures.clean clean) in
     let before = subst (λ shelf. doubt (file_state shelf.conn).is_clean ≡ 0) c.new-registry.ensures (c.declare-ending.ensures.lied low) in
     declared_begun c.close_registry.result (g.R.Read.remaining c.args.reader.now) _ _ _ _ _ _
-    (subst (λ shelf. (moment (file_state shelf.conn) shelf.refused).state ≡ state_of (tables_of db)) (sym c.new-registry.ensures) (c.in-Ok.ensures.state db holds (c.in-Ok.ensures.ready.works before)))
+    (subst (λ shelf. (moment (file_state shelf.conn) shelf.refused).state ≡ state_held db) (sym c.new-registry.ensures) (c.in-Ok.ensures.state db holds (c.in-Ok.ensures.ready.works before)))
     (c.declare-ending.ensures.done low)
     (subst (λ shelf. IfWhole c.close_registry.result (λ files. HoldState g.D.Disk files (moment (file_state shelf.conn) shelf.refused).state)) c.into_shelf.ensures c.close_registry.ensures.whole)
 
 pub returns-in-Err-clause-done : goal.returns-in-Err-clause-done
-returns-in-Err-clause-done g c = λ clean db holds. undeclared c.in-Err.left (g.R.Read.remaining c.args.reader.now) _ _ c.in-Err.failure (state_of (tables_of db))
+returns-in-Err-clause-done g c = λ clean db holds. undeclared c.in-Err.left (g.R.Read.remaining c.args.reader.now) _ _ c.in-Err.failure (state_held db)

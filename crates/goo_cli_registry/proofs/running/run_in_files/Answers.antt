@@ -1,8 +1,7 @@
 use Rattle.std.proofs.Common.{◌≡◌, subst, sym}
 use Rattle.sqlite.specs.Files.{file_state}
 use Rattle.sqlite_trees.specs.View.{doubt}
-use Rattle.goo_tables_rows.specs.Rows.{tables_of}
-use Rattle.goo_spec_tables.specs.States.{state_of}
+use Rattle.goo_store_lookups.specs.Versions.{state_held}
 use Rattle.goo_store_lookups.specs.Moments.{moment}
 use Rattle.goo_cli_registry.proofs.Files.{kept_begun, not_refused}
 use Rattle.goo_cli_registry.proofs.RunLemmas.{all_done_begun, not_all_done_begun, written_begun}
@@ -14,7 +13,7 @@ returns-in-Ok-clause-all_done g c = λ clean db holds status.
     let low = c.close_registry.ensures.clean clean in
     let before = subst (λ shelf. doubt (file_state shelf.conn).is_clean ≡ 0) c.new.ensures (c.answer_by-ending.ensures.lied low) in
     all_done_begun (g.R.Read.remaining c.args.reader.now) _ _
-    (subst (λ shelf. (moment (file_state shelf.conn) shelf.refused).state ≡ state_of (tables_of db)) (sym c.new.ensures) (c.in-Ok.ensures.state db holds (c.in-Ok.ensures.ready.works before)))
+    (subst (λ shelf. (moment (file_state shelf.conn) shelf.refused).state ≡ state_held db) (sym c.new.ensures) (c.in-Ok.ensures.state db holds (c.in-Ok.ensures.ready.works before)))
     (c.answer_by-ending.ensures.all_done low status)
 
 pub returns-in-Ok-clause-not_all_done : goal.returns-in-Ok-clause-not_all_done
@@ -22,7 +21,7 @@ returns-in-Ok-clause-not_all_done g c = λ clean db holds status.
     let low = c.close_registry.ensures.clean clean in
     let before = subst (λ shelf. doubt (file_state shelf.conn).is_clean ≡ 0) c.new.ensures (c.answer_by-ending.ensures.lied low) in
     not_all_done_begun (g.R.Read.remaining c.args.reader.now) _ _
-    (subst (λ shelf. (moment (file_state shelf.conn) shelf.refused).state ≡ state_of (tables_of db)) (sym c.new.ensures) (c.in-Ok.ensures.state db holds (c.in-Ok.ensures.ready.works before)))
+    (subst (λ shelf. (moment (file_state shelf.conn) shelf.refused).state ≡ state_held db) (sym c.new.ensures) (c.in-Ok.ensures.state db holds (c.in-Ok.ensures.ready.works before)))
     (c.answer_by-ending.ensures.not_all_done low status)
 
 pub returns-in-Ok-clause-written : goal.returns-in-Ok-clause-written
@@ -30,7 +29,7 @@ returns-in-Ok-clause-written g c = λ clean db holds status.
     let low = c.close_registry.ensures.clean clean in
     let before = subst (λ shelf. doubt (file_state shelf.conn).is_clean ≡ 0) c.new.ensures (c.answer_by-ending.ensures.lied low) in
     written_begun (g.R.Read.remaining c.args.reader.now) _ _ _ _
-    (subst (λ shelf. (moment (file_state shelf.conn) shelf.refused).state ≡ state_of (tables_of db)) (sym c.new.ensures) (c.in-Ok.ensures.state db holds (c.in-Ok.ensures.ready.works before)))
+    (subst (λ shelf. (moment (file_state shelf.conn) shelf.refused).state ≡ state_held db) (sym c.new.ensures) (c.in-Ok.ensures.state db holds (c.in-Ok.ensures.ready.works before)))
     (c.answer_by-ending.ensures.written low status)
 
 pub returns-in-Ok-clause-kept : goal.returns-in-Ok-clause-kept
@@ -38,7 +37,7 @@ returns-in-Ok-clause-kept g c = λ clean db holds status.
     let low = c.close_registry.ensures.clean clean in
     let before = subst (λ shelf. doubt (file_state shelf.conn).is_clean ≡ 0) c.new.ensures (c.answer_by-ending.ensures.lied low) in
     kept_begun c.close_registry.result (g.R.Read.remaining c.args.reader.now) _ _ _
-    (subst (λ shelf. (moment (file_state shelf.conn) shelf.refused).state ≡ state_of (tables_of db)) (sym c.new.ensures) (c.in-Ok.ensures.state db holds (c.in-Ok.ensures.ready.works before)))
+    (subst (λ shelf. (moment (file_state shelf.conn) shelf.refused).state ≡ state_held db) (sym c.new.ensures) (c.in-Ok.ensures.state db holds (c.in-Ok.ensures.ready.works before)))
     (c.answer_by-ending.ensures.kept low status) c.close_registry.ensures.whole
 
 pub returns-in-Ok-clause-unharmed : goal.returns-in-Ok-clause-unharmed
