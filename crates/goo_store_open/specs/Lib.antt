@@ -1,3 +1,5 @@
+pub mod StandIn
+pub mod Layout
 pub mod Reading
 pub mod Shown
 pub mod Found
