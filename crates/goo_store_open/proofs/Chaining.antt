@@ -9,7 +9,7 @@ use Rattle.goo_tables_rows.specs.Stands.{Stands, Rests, Looks}
 use Rattle.goo_tables_rows.specs.Met.{HasOurTables}
 use Rattle.goo_tables_rows.specs.Readable.{is_read_error}
 use Rattle.goo_tables_rows.specs.Refused.{IsFault, FailsByFault, FailsOnlyByFault}
-use Rattle.goo_store_open.specs.StandIn.{ReadsFirst}
+use Rattle.goo_tables_rows.specs.First.{ReadsFirst}
 use Rattle.goo_store_open.specs.Layout.{HasTables, seen_by}
 use Rattle.goo_store_open.specs.Reading.{CanBeRead, IsMet, OnlyReads}
 use Rattle.goo_store_open.specs.declared.layout.Layout.{Layout}
@@ -24,7 +24,7 @@ once_open P (Ok x) opens shows = shows opens
 once_open P (Err e) opens shows = tt
 
 -- one statement on a whole table of ours
-reads_table : {T : Type 0} (old new : State) (r : Result T Error) (right : Tables → T → Type 0) (Shows : Database → T → Type 0) (P : Tables → Type 0) → Looks old new r right
+pub reads_table : {T : Type 0} (old new : State) (r : Result T Error) (right : Tables → T → Type 0) (Shows : Database → T → Type 0) (P : Tables → Type 0) → Looks old new r right
     → (old.in_transaction ≡ false → new.in_transaction ≡ false) → (HasCleanDisk new → HasOurTables old.now → IfOk r (Shows old.now)) → FailsOnlyByFault old new r P → FailsByFault old new r → ((t : Tables) → CanBeRead t → P t) → OnlyReads Ours old new r Shows
 reads_table old new r right Shows P looks outside met readable refused can = record {
   clean = λ h. omega (arith, h, looks.clean);
@@ -40,26 +40,26 @@ reads_table old new r right Shows P looks outside met readable refused can = rec
 }
 
 -- the same of version 1
-reads_first : {T : Type 0} (old new : State) (r : Result T Error) (Shows : Database → T → Type 0) (P : Tables → Type 0) → ReadsFirst old new r Shows P
+reads_first : {T : Type 0} (old new : State) (r : Result T Error) (right : Tables → T → Type 0) (Shows : Database → T → Type 0) (P : Tables → Type 0) → ReadsFirst old new r right Shows P → (old.in_transaction ≡ false → new.in_transaction ≡ false)
     → ((db : Database) → IfOk r (Shows db) → IfOk r (Shows (seen_by First db))) → ((t : Tables) → CanBeRead t → P t) → OnlyReads First old new r Shows
-reads_first old new r Shows P reads none can = record {
-  clean = λ h. omega (arith, h, reads.clean);
-  outside = reads.outside;
-  rests = λ clean it. reads.rests clean it.schema it.settled;
-  works = reads.works;
-  seen = λ clean it. none old.now (once_open (Shows old.now) r reads.works (λ opens. reads.met clean (it.ours (reads.was_open clean (opens clean)))));
-  crash = λ clean it. no_more old new (reads.crash it.schema) clean;
-  counts = λ clean it. (reads.crash it.schema).counts;
-  limit = λ clean it. (reads.crash it.schema).limit;
+reads_first old new r right Shows P reads outside none can = record {
+  clean = λ h. omega (arith, h, reads.looks.clean);
+  outside = outside;
+  rests = λ clean it. reads.looks.rests clean it.schema it.settled;
+  works = reads.looks.works;
+  seen = λ clean it. none old.now (once_open (Shows old.now) r reads.looks.works (λ opens. reads.met clean (it.ours (reads.looks.was_open clean (opens clean)))));
+  crash = λ clean it. no_more old new (reads.looks.crash it.schema) clean;
+  counts = λ clean it. (reads.looks.crash it.schema).counts;
+  limit = λ clean it. (reads.looks.crash it.schema).limit;
   refused = λ clean it unlimited. reads.refused clean it.schema unlimited;
   faulty = λ clean it unlimited t stands cans. reads.readable clean unlimited t (it.schema, stands) (can t cans);
 }
 
 -- the same of both
 pub reads_one : {T : Type 0} (layout : Layout) (old new : State) (r : Result T Error) (right : Tables → T → Type 0) (Shows : Database → T → Type 0) (P : Tables → Type 0) → Looks old new r right
-    → (old.in_transaction ≡ false → new.in_transaction ≡ false) → (HasCleanDisk new → HasOurTables old.now → IfOk r (Shows old.now)) → FailsOnlyByFault old new r P → FailsByFault old new r → ReadsFirst old new r Shows P
+    → (old.in_transaction ≡ false → new.in_transaction ≡ false) → (HasCleanDisk new → HasOurTables old.now → IfOk r (Shows old.now)) → FailsOnlyByFault old new r P → FailsByFault old new r → ReadsFirst old new r right Shows P
     → ((db : Database) → IfOk r (Shows db) → IfOk r (Shows (seen_by First db))) → ((t : Tables) → CanBeRead t → P t) → OnlyReads layout old new r Shows
-reads_one First old new r right Shows P looks outside met readable refused first none can = reads_first old new r Shows P first none can
+reads_one First old new r right Shows P looks outside met readable refused first none can = reads_first old new r right Shows P first outside none can
 reads_one Ours old new r right Shows P looks outside met readable refused first none can = reads_table old new r right Shows P looks outside met readable refused can
 
 -- the tables are met again

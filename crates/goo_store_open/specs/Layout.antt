@@ -2,9 +2,9 @@
 use Rattle.std.specs.Prelude.{◌≡◌, ℕ}
 use Rattle.sqlite.specs.Schema.{Schema}
 use Rattle.sqlite.specs.Effect.{Database}
-use Rattle.goo_tables_rows.specs.Columns.{registry_schema}
+use Rattle.goo_tables_rows.specs.Columns.{registry_schema, first_schema}
 use Rattle.goo_tables_rows.specs.Met.{HasOurTables}
-use Rattle.goo_store_open.specs.StandIn.{first_schema, with_none, HasFirstTables}
+use Rattle.goo_tables_rows.specs.First.{HasFirstTables, with_none}
 use Rattle.goo_store_open.specs.declared.layout.Layout.{Layout}
 use Rattle.goo_store_open.specs.declared.layout.Layout.TheVariants.{First, Ours}
 

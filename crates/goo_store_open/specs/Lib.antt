@@ -1,4 +1,3 @@
-pub mod StandIn
 pub mod Layout
 pub mod Reading
 pub mod Shown

@@ -2,9 +2,9 @@
 
 ghost use Rattle.std.specs.Prelude.{◌≡◌, ◌↔◌, IsTrue, map};
 ghost use Rattle.sqlite.specs.Held.{state};
-ghost use Rattle.goo_tables_rows.specs.Columns.{registry_schema};
+ghost use Rattle.goo_tables_rows.specs.Columns.{registry_schema, first_schema};
 ghost use Rattle.goo_tables_rows.specs.Met.{IsInKeyOrder, HasOurTables};
-ghost use Rattle.goo_store_open.specs.StandIn.{first_schema, HasFirstTables};
+ghost use Rattle.goo_tables_rows.specs.First.{HasFirstTables};
 
 use crate::matching::{are_indexes, are_tables};
 use crate::registry_form::{INDEXES, TABLES};

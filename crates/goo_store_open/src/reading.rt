@@ -3,7 +3,7 @@
 ghost use Rattle.std.specs.Prelude.{◌≡◌, []};
 ghost use Rattle.sqlite.specs.Held.{state};
 ghost use Rattle.goo_store_open.specs.Reading.{OnlyReads};
-ghost use Rattle.goo_store_open.specs.Shown.{rows_of_both, ShowsMembers, ShowsIssued, ShowsActs, ShowsNotices, ShowsCommon, ShowsLater, ShowsAll};
+ghost use Rattle.goo_store_open.specs.Shown.{rows_of_both, ShowsMembers, ShowsIssued, ShowsActs, ShowsNotices, ShowsCarriers, ShowsCommon, ShowsLater, ShowsAll};
 
 use crate::layout::Layout;
 use crate::rows::{Acts, AllRows, Carriers, Members, Notices, Production};
@@ -111,25 +111,31 @@ fn read_common<S: Alter>(alloc: Global, conn: &mut Connection<S>) -> Result<Comm
     })
 }
 
-/// What was taken off declarations, and the carriers that are not electricity.
+/// The carriers that are not electricity.
+fn read_carriers<S: Alter>(alloc: Global, conn: &mut Connection<S>) -> Result<Carriers, Error>
+    ensures { OnlyReads Layout.Ours (state S.Store conn.old) (state S.Store conn.new) result ShowsCarriers }
+{
+    Ok(Carriers {
+        devices: all_device_carriers(alloc, conn)?,
+        lots: all_lot_carriers(alloc, conn)?,
+    })
+}
+
+/// What was taken off declarations, and the carriers.
 fn read_later<S: Alter>(alloc: Global, conn: &mut Connection<S>) -> Result<Later, Error>
     ensures { OnlyReads Layout.Ours (state S.Store conn.old) (state S.Store conn.new) result ShowsLater }
 {
-    let corrections = all_corrections(alloc, conn)?;
     Ok(Later {
-        corrections,
-        carriers: Carriers {
-            devices: all_device_carriers(alloc, conn)?,
-            lots: all_lot_carriers(alloc, conn)?,
-        },
+        corrections: all_corrections(alloc, conn)?,
+        carriers: read_carriers(alloc, conn)?,
     })
 }
 
 /// Tables of version 1 have none of these.
 fn no_later(alloc: Global) -> Later
-    ensures { result.corrections.items ≡ [] }
-    ensures { result.carriers.devices.items ≡ [] }
-    ensures { result.carriers.lots.items ≡ [] }
+    ensures corrections { result.corrections.items ≡ [] }
+    ensures devices { result.carriers.devices.items ≡ [] }
+    ensures lots { result.carriers.lots.items ≡ [] }
 {
     Later {
         corrections: Vec::new(alloc),
