@@ -240,8 +240,8 @@ index_fails schema sql at table index there is plain text whole defined it utf8 
     (λ t same stop h. index_made_then schema sql table index defined it old.now.trees made.bare (all-slice_get (λ (t : Table). old.now.trees t.tree ≡ []) schema.tables at table there made.bare) t same (plain_utf8 sql utf8) (mode_of old) stop
     (subst (λ f. AtPlace (λ u. Defines (mode_of old) (MakesIndex t (record { schema = schema; trees = old.now.trees }) u)) f (Err stop)) there h)) e
 
-on_bare : {sql : List ℕ} {schema : Schema} → FailsOnRows sql schema → FailsByFault sql schema
-on_bare h old new e made = h old new e made.schema_is
+on_bare : (sql : List ℕ) (schema : Schema) → FailsOnRows sql schema → FailsByFault sql schema
+on_bare sql schema h old new e made = h old new e made.schema_is
 
 fails_meta : FailsOnRows (get_or create_texts 0 []) (begun_schema 0 0)
 unfolding understood everything fits_kind is_free_name begins same_name value_cmp lib.Ieee.is_nan lib.Ieee.lt
@@ -334,24 +334,24 @@ fails_lot_carrier = table_fails (begun_schema 15 10) (begun_schema 16 10) (get_o
     (record { free = refl; free_indexes = refl; utf8 = refl; plain_name = refl; few = refl; reals = refl; index_reals_fit = refl; formed = refl; fit = refl; short = refl }) refl refl refl refl
 
 pub fails : (i : ℕ) → i < 18 → FailsByFault (get_or create_texts i []) (get_or stages i no_schema)
-fails zero low = on_bare fails_meta
-fails (suc zero) low = on_bare fails_holder
-fails (suc (suc zero)) low = on_bare fails_account
-fails (suc (suc (suc zero))) low = on_bare fails_device
-fails (suc (suc (suc (suc zero)))) low = on_bare fails_declaration
-fails (suc (suc (suc (suc (suc zero))))) low = on_bare fails_lot
-fails (suc (suc (suc (suc (suc (suc zero)))))) low = on_bare fails_piece
-fails (suc (suc (suc (suc (suc (suc (suc zero))))))) low = on_bare fails_peer
-fails (suc (suc (suc (suc (suc (suc (suc (suc zero)))))))) low = on_bare fails_receipt
-fails (suc (suc (suc (suc (suc (suc (suc (suc (suc zero))))))))) low = on_bare fails_cancellation
-fails (suc (suc (suc (suc (suc (suc (suc (suc (suc (suc zero)))))))))) low = on_bare fails_withdrawal
-fails (suc (suc (suc (suc (suc (suc (suc (suc (suc (suc (suc zero))))))))))) low = on_bare fails_notice_out
-fails (suc (suc (suc (suc (suc (suc (suc (suc (suc (suc (suc (suc zero)))))))))))) low = on_bare fails_notice_in
+fails zero low = on_bare _ _ fails_meta
+fails (suc zero) low = on_bare _ _ fails_holder
+fails (suc (suc zero)) low = on_bare _ _ fails_account
+fails (suc (suc (suc zero))) low = on_bare _ _ fails_device
+fails (suc (suc (suc (suc zero)))) low = on_bare _ _ fails_declaration
+fails (suc (suc (suc (suc (suc zero))))) low = on_bare _ _ fails_lot
+fails (suc (suc (suc (suc (suc (suc zero)))))) low = on_bare _ _ fails_piece
+fails (suc (suc (suc (suc (suc (suc (suc zero))))))) low = on_bare _ _ fails_peer
+fails (suc (suc (suc (suc (suc (suc (suc (suc zero)))))))) low = on_bare _ _ fails_receipt
+fails (suc (suc (suc (suc (suc (suc (suc (suc (suc zero))))))))) low = on_bare _ _ fails_cancellation
+fails (suc (suc (suc (suc (suc (suc (suc (suc (suc (suc zero)))))))))) low = on_bare _ _ fails_withdrawal
+fails (suc (suc (suc (suc (suc (suc (suc (suc (suc (suc (suc zero))))))))))) low = on_bare _ _ fails_notice_out
+fails (suc (suc (suc (suc (suc (suc (suc (suc (suc (suc (suc (suc zero)))))))))))) low = on_bare _ _ fails_notice_in
 fails (suc (suc (suc (suc (suc (suc (suc (suc (suc (suc (suc (suc (suc zero))))))))))))) low = fails_piece_by_account
 fails (suc (suc (suc (suc (suc (suc (suc (suc (suc (suc (suc (suc (suc (suc zero)))))))))))))) low = fails_piece_by_kind
-fails (suc (suc (suc (suc (suc (suc (suc (suc (suc (suc (suc (suc (suc (suc (suc zero))))))))))))))) low = on_bare fails_correction
-fails (suc (suc (suc (suc (suc (suc (suc (suc (suc (suc (suc (suc (suc (suc (suc (suc zero)))))))))))))))) low = on_bare fails_device_carrier
-fails (suc (suc (suc (suc (suc (suc (suc (suc (suc (suc (suc (suc (suc (suc (suc (suc (suc zero))))))))))))))))) low = on_bare fails_lot_carrier
+fails (suc (suc (suc (suc (suc (suc (suc (suc (suc (suc (suc (suc (suc (suc (suc zero))))))))))))))) low = on_bare _ _ fails_correction
+fails (suc (suc (suc (suc (suc (suc (suc (suc (suc (suc (suc (suc (suc (suc (suc (suc zero)))))))))))))))) low = on_bare _ _ fails_device_carrier
+fails (suc (suc (suc (suc (suc (suc (suc (suc (suc (suc (suc (suc (suc (suc (suc (suc (suc zero))))))))))))))))) low = on_bare _ _ fails_lot_carrier
 fails (suc (suc (suc (suc (suc (suc (suc (suc (suc (suc (suc (suc (suc (suc (suc (suc (suc (suc n)))))))))))))))))) low = absurd (omega (arith, low))
 
 -- those that are added to version 1
