@@ -1,13 +1,15 @@
 -- The rules that the tables of a registry keep.
-use Rattle.std.specs.Prelude.{◌≡◌, ◌≤◌, ℕ, ℤ, pos, true, List, filter, length, Some, option_map}
+use Rattle.std.specs.Prelude.{◌≡◌, ◌≤◌, ℕ, ℤ, pos, true, List, [], ◌∷◌, filter, length, Some, option_map}
 use Rattle.std.specs.List.{list_all}
 use Rattle.sqlite_typed.specs.Tests.{bytes_eq}
 use Rattle.sqlite_keyed.specs.Keyed.{has_key, get_by}
 use Rattle.goo_types.specs.Day.{months_after}
 use Rattle.goo_types.specs.Lot.{IsLot}
 use Rattle.goo_types.specs.Piece.{IsRising}
+use Rattle.goo_types.specs.declared.piece.Piece.{Piece}
 use Rattle.goo_types.specs.Texts.{day_text}
-use Rattle.goo_spec.specs.Runs.{IsApart}
+use Rattle.std.proofs.Props.{props}
+use Rattle.goo_spec.specs.Runs.{IsNotFollowed, IsApart}
 use Rattle.goo_spec.specs.Sound.{IsSound}
 use Rattle.goo_core_shelf.specs.Shelf.{progress_of}
 use Rattle.goo_tables_rows.specs.Rows.{Tables, Lot, lot_key}
@@ -64,3 +66,13 @@ pub record AreKeptIn (number : ℕ) (t : Tables) : Type 0 where
 -- the rules of the version that is written
 abbrev pub AreKept : Tables → Type 0
 AreKept = AreKeptIn 2
+
+-- neighbours that are apart are so in one way, so it may be a ghost field
+
+not_followed-prop : (p : Piece) (ps : List Piece) → IsProp (IsNotFollowed p ps)
+not_followed-prop p [] = Prim.hlevel props
+not_followed-prop p (q ∷ ps) = Prim.hlevel props
+
+pub apart-prop : (ps : List Piece) → IsProp (IsApart ps)
+apart-prop [] = Prim.hlevel props
+apart-prop (p ∷ ps) = λ x y i. (not_followed-prop p ps x.0 y.0 i, apart-prop ps x.1 y.1 i)

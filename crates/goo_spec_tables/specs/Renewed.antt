@@ -1,5 +1,5 @@
 -- Tables of version 1 as tables of version 2: the same state, in as few pieces as can be.
-use Rattle.std.specs.Prelude.{◌≡◌, ℤ, ℕ, ◌+◌, ◌==◌, ◌&&◌, Bool, cond, List, [], ◌∷◌, Some}
+use Rattle.std.specs.Prelude.{◌≡◌, ℤ, ◌+◌, ◌==◌, ◌&&◌, Bool, cond, List, [], ◌∷◌, Some}
 use Rattle.sqlite_keyed.specs.Keyed.{get_by}
 use Rattle.goo_tables_rows.specs.Rows.{Tables, Lot, lot_key}
 use Rattle.goo_tables_rows.specs.declared.piece.PieceRow.{PieceRow}
