@@ -1,5 +1,5 @@
 -- A CREATE of our tables fails only by a fault.
-use Rattle.std.proofs.Common.{◌≡◌, ◌⊎◌, inl, inr, ℕ, zero, suc, ◌+◌, ◌*◌, ◌^◌, ◌<◌, ◌≤◌, nat_lt, nat_le, ◌&&◌, ◌||◌, not, Bool, true, false, IsTrue, arith, List, [], ◌∷◌, length, get_or, slice_get, codes, Option, Some, None, is_some, Ok, Err, Result, refl, sym, ap, ap₂, subst, subst₂, ◌∙◌, true≢false, append-nil, IsUtf8, All, IfErr}
+use Rattle.std.proofs.Common.{◌≡◌, inl, inr, ℕ, zero, suc, ◌+◌, ◌*◌, ◌^◌, ◌<◌, nat_lt, ◌&&◌, ◌||◌, not, Bool, true, false, arith, List, [], ◌∷◌, length, get_or, slice_get, codes, Option, Some, None, is_some, Ok, Err, refl, sym, ap, ap₂, subst, subst₂, ◌∙◌, true≢false, append-nil, IsUtf8, All}
 use Rattle.std.specs.List.{list_all}
 use Rattle.std.proofs.lemmas.Str.{IsUtf8-from_ascii}
 use Rattle.std.proofs.lemmas.Str.Ascii.{IsAscii-from_all}
@@ -9,9 +9,9 @@ use Rattle.sqlite.specs.declared.types.Value.TheVariants.{Text}
 use Rattle.sqlite.specs.declared.error.Error.{Error}
 use Rattle.sqlite_catalog.specs.declared.error.Refusal.{Refusal}
 use Rattle.sqlite_catalog.specs.declared.error.Refusal.TheVariants.{Invalid, NameTaken, BadName, TooBig, BadKey, BadText, Violates}
-use Rattle.sqlite_catalog.specs.Calls.{RefusesTable, IsLongTable, RefusesIndex, IsLongIndex, IsBadName}
+use Rattle.sqlite_catalog.specs.Calls.{RefusesTable, IsLongTable, RefusesIndex, IsLongIndex}
 use Rattle.sqlite_trees.specs.declared.error.StoreError.TheVariants.{OutOfMemory, Io, Corrupt, Full, Broken, Unstorable}
-use Rattle.sqlite_schema.specs.Rules.{Keeps, passes, table_reals, index_reals}
+use Rattle.sqlite_schema.specs.Rules.{passes, table_reals, index_reals}
 use Rattle.sqlite_schema.specs.declared.schema.Constraint.TheVariants.{Unique}
 use Rattle.std.specs.List.{AllByRecursion}
 use Rattle.goo_tables.specs.Created.{IsMade, begun_schema, create_texts, stages}
@@ -30,10 +30,8 @@ use Rattle.sqlite.specs.Change.{next_tree}
 use Rattle.sqlite.specs.Compile.{table_defined_by, index_defined_by}
 use Rattle.sqlite.specs.Command.{Command}
 use Rattle.sqlite.specs.Command.TheVariants.{CreateTable, CreateIndex, Begin, Commit, Rollback, Release, RollbackTo}
-use Rattle.sqlite.specs.Does.{Does, Defines, MakesTable, MakesIndex, MakesSequence, Redefines, lacks_sequence, AtPlace}
-use Rattle.sqlite.specs.Rows.{Then, Gives}
-use Rattle.sqlite.specs.Effect.{Database, IsNoText, RefusesToAlter, is_query}
-use Rattle.sqlite.specs.Order.{Row}
+use Rattle.sqlite.specs.Does.{Does, Defines, MakesTable, MakesIndex, Redefines, lacks_sequence, AtPlace}
+use Rattle.sqlite.specs.Effect.{is_query}
 use Rattle.sqlite.specs.Tree.{Trees}
 use Rattle.sqlite.specs.State.{State, mode_of, ExecutesInside, ExecutesIn, EndsScope, Fails, IsMisplaced, IsNotRun, Escapes, RunsCommand, text_of, shows_rows, is_pragma}
 use Rattle.sqlite.specs.Listing.{understood}

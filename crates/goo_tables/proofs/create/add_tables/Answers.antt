@@ -3,7 +3,7 @@ use Rattle.sqlite.specs.Held.{state}
 use Rattle.goo_tables_rows.specs.Columns.{no_schema}
 use Rattle.goo_tables_rows.specs.Refused.{IsFault}
 use Rattle.goo_tables.specs.Created.{create_texts, stages}
-use Rattle.goo_tables.proofs.Adding.{grows_nothing, grows_next, grows_no_more, extends, grown_stands}
+use Rattle.goo_tables.proofs.Adding.{grows_nothing, grows_next, grows_no_more, extends}
 use Rattle.goo_tables.proofs.CreatingFails.{fails_added}
 use Rattle.goo_tables.proofs.create.add_tables.Goals as goal
 

@@ -27,4 +27,4 @@ pub returns-clause-first : goal.returns-clause-first
 returns-clause-first g c =
     let old = state g.S.Store c.args.conn.now in
     reads_first first_asks old (state g.S.Store c.ask_all.new.conn) c.ask_all.result _ _ _ account_readable _ (λ t it found. shows_first old t it found.items) (λ it found. meets_first old it found.items) (λ t it fits rows answer. rw (shown_first old t it rows answer) fits)
-        c.ask_all.ensures.read c.ask_all.ensures.ran c.ask_all.ensures.survives c.ask_all.ensures.refused
+    c.ask_all.ensures.read c.ask_all.ensures.ran c.ask_all.ensures.survives c.ask_all.ensures.refused
