@@ -120,6 +120,6 @@ module _ {T U : Type 0} (layout : Layout) (a b c : State) (x : T) (r : Result U 
 pub reads_failed : {T U : Type 0} (layout : Layout) (a b : State) (e : Error) (Early : Database → T → Type 0) (Next : Database → U → Type 0) → OnlyReads layout a b (Err e) Early → OnlyReads layout a b (Err e) Next
 reads_failed layout a b e Early Next h = record { clean = h.clean; outside = h.outside; rests = h.rests; works = tt; seen = λ clean it. tt; crash = h.crash; counts = h.counts; limit = h.limit; refused = h.refused; faulty = h.faulty }
 
-pub reads_made : {T U : Type 0} (layout : Layout) (a b : State) (x : T) (y : U) (Early : Database → T → Type 0) (Next : Database → U → Type 0) → OnlyReads layout a b (Ok x) Early → ((db : Database) → Early db x → Next db y)
+pub reads_made : {T U : Type 0} (layout : Layout) (a b : State) (x : T) (y : U) (Early : Database → T → Type 0) (Next : Database → U → Type 0) → OnlyReads layout a b (Ok x) Early → ((db : Database) → Early (seen_by layout db) x → Next (seen_by layout db) y)
     → OnlyReads layout a b (Ok y) Next
-reads_made layout a b x y Early Next h made = record { clean = h.clean; outside = h.outside; rests = h.rests; works = h.works; seen = λ clean it. made (seen_by layout a.now) (h.seen clean it); crash = h.crash; counts = h.counts; limit = h.limit; refused = λ clean it unlimited. tt; faulty = λ clean it unlimited t stands reads. tt }
+reads_made layout a b x y Early Next h made = record { clean = h.clean; outside = h.outside; rests = h.rests; works = h.works; seen = λ clean it. made a.now (h.seen clean it); crash = h.crash; counts = h.counts; limit = h.limit; refused = λ clean it unlimited. tt; faulty = λ clean it unlimited t stands reads. tt }

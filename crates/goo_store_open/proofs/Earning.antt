@@ -1,13 +1,15 @@
 -- From the rows that were read to the tables that hold them.
-use Rattle.std.proofs.Common.{◌≡◌, ◌⊎◌, ◌∷◌, [], List, false, inl, inr, map, Ok, Err, Result, IfOk, IfErr, IsTrue, refl, sym, ap, ◌∙◌}
+use Rattle.std.proofs.Common.{◌≡◌, ◌⊎◌, ◌∷◌, [], List, inl, inr, map, Ok, Err, Result, IfOk, IfErr, IsTrue, refl, sym, ap, ◌∙◌}
 use Rattle.sqlite.specs.State.{State}
 use Rattle.sqlite.specs.Effect.{Database}
+use Rattle.sqlite.specs.Order.{Row, column}
 use Rattle.sqlite.specs.declared.error.Error.{Error}
 use Rattle.sqlite.specs.declared.error.Error.TheVariants.{SqliteFailure}
 use Rattle.sqlite.specs.declared.error.ErrorCode.TheVariants.{OutOfMemory}
 use Rattle.goo_tables_rows.specs.Readable.{is_read_error}
-use Rattle.goo_tables_rows.specs.Rows.{Tables, Meta, Numbered, meta_row, numbered_row, numbered_key, meta_in, account_in, declaration_in, lot_in, cancellation_in, withdrawal_in, notice_out_in, correction_in, lot_carrier_in}
+use Rattle.goo_tables_rows.specs.Rows.{Tables, Meta, Numbered, meta_row, meta_at, numbered_row, numbered_key, meta_in, account_in, declaration_in, lot_in, cancellation_in, withdrawal_in, notice_out_in, correction_in, lot_carrier_in}
 use Rattle.goo_tables_rows.specs.Columns.{registry_schema}
+use Rattle.goo_tables_rows.specs.Cells.{number_in}
 use Rattle.goo_tables_rows.specs.Refused.{IsFault, is_store_error}
 use Rattle.goo_tables_rows.specs.Stands.{Keeps}
 use Rattle.goo_tables_rows.specs.declared.meta.MetaRow.{MetaRow}
@@ -154,10 +156,14 @@ module _ (a c : State) (e : Error) (f : OpenFault) (memory : e ≡ SqliteFailure
     blames = λ clean it unlimited. blamed_of unread (base.refused clean it unlimited);
   }
 
+-- a row of `meta` as it is read
+abbrev numbered_at : Row → Numbered
+numbered_at r = record { id = number_in (column r 0); meta = meta_at r }
+
 -- rows that stand for one are one
 one_row : (xs : List Numbered) (m : Meta) → meta_row m ∷ [] ≡ map numbered_row xs → xs ≡ record { id = 1; meta = m } ∷ []
 one_row [] m is = absurd cc
-one_row (n ∷ []) m is = cc
+one_row (n ∷ []) m is = sym (ap (map numbered_at) is)
 one_row (n ∷ o ∷ ns) m is = absurd cc
 
 -- the rows of `meta` were read, and are a registry's or not

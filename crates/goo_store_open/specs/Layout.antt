@@ -1,5 +1,5 @@
 -- Tables of either version, as tables of version 2.
-use Rattle.std.specs.Prelude.{◌≡◌, ℕ}
+use Rattle.std.specs.Prelude.{ℕ}
 use Rattle.sqlite.specs.Schema.{Schema}
 use Rattle.sqlite.specs.Effect.{Database}
 use Rattle.goo_tables_rows.specs.Columns.{registry_schema, first_schema}

@@ -5,6 +5,13 @@ use Rattle.goo_store_open.specs.Shown.{ShowsMembers, ShowsIssued, ShowsActs, Sho
 use Rattle.goo_store_open.proofs.Chaining.{reads_then, reads_failed, reads_made}
 use Rattle.goo_store_open.proofs.reading.read_common.Goals as goal
 
+pub returns-in_err-read_members : goal.returns-in_err-read_members
+returns-in_err-read_members g c = λ layout.
+    let s0 = state g.S.Store c.args.conn.now in
+    let s1 = state g.S.Store c.read_members.new.conn in
+    let same : c.from_residual.result ≡ Err c.in_err-read_members.field-0.0 = search rules in
+    subst (λ r. OnlyReads layout s0 s1 r ShowsCommon) (sym same) (reads_failed layout s0 s1 _ ShowsMembers ShowsCommon (c.in_err-read_members.ensures layout))
+
 pub returns-in_err-read_issued : goal.returns-in_err-read_issued
 returns-in_err-read_issued g c = λ layout.
     let s0 = state g.S.Store c.args.conn.now in
