@@ -5,3 +5,5 @@ pub mod DeviceLemmas
 pub mod DayTexts
 pub mod Expiring
 pub mod ReadableLemmas
+pub mod Renewing
+pub mod RenewedLemmas

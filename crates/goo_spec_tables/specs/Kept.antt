@@ -1,12 +1,15 @@
 -- The rules that the tables of a registry keep.
-use Rattle.std.specs.Prelude.{◌≡◌, ◌≤◌, ℕ, ℤ, pos, true, List, filter, length, Some, option_map}
+use Rattle.std.specs.Prelude.{◌≡◌, ◌≤◌, ℕ, ℤ, pos, true, List, [], ◌∷◌, filter, length, Some, option_map}
 use Rattle.std.specs.List.{list_all}
 use Rattle.sqlite_typed.specs.Tests.{bytes_eq}
 use Rattle.sqlite_keyed.specs.Keyed.{has_key, get_by}
 use Rattle.goo_types.specs.Day.{months_after}
 use Rattle.goo_types.specs.Lot.{IsLot}
 use Rattle.goo_types.specs.Piece.{IsRising}
+use Rattle.goo_types.specs.declared.piece.Piece.{Piece}
 use Rattle.goo_types.specs.Texts.{day_text}
+use Rattle.std.proofs.Props.{props}
+use Rattle.goo_spec.specs.Runs.{IsNotFollowed, IsApart}
 use Rattle.goo_spec.specs.Sound.{IsSound}
 use Rattle.goo_core_shelf.specs.Shelf.{progress_of}
 use Rattle.goo_tables_rows.specs.Rows.{Tables, Lot, lot_key}
@@ -16,9 +19,9 @@ use Rattle.goo_spec_tables.specs.Devices.{progress_in, device_row}
 use Rattle.goo_spec_tables.specs.States.{state_of}
 use Rattle.goo_spec_tables.specs.Readable.{is_meta, is_holder, is_account, is_device, is_declaration, is_lot, is_piece, is_peer, is_receipt, is_cancellation, is_withdrawal, is_correction, is_notice_out, is_notice_in, has_none}
 
--- each value of each row is one that its reader or its limit accepts
-pub record AreReadable (t : Tables) : Type 0 where
-  pub version : t.meta.version ≡ 2
+-- the tables are of this version, and each value of each row is one that its reader or its limit accepts
+pub record AreReadableIn (number : ℕ) (t : Tables) : Type 0 where
+  pub version : t.meta.version ≡ number
   pub meta : is_meta t.meta ≡ true
   pub holders : list_all is_holder t.holders ≡ true
   pub accounts : list_all is_account t.accounts ≡ true
@@ -37,20 +40,39 @@ pub record AreReadable (t : Tables) : Type 0 where
   pub device_carriers : has_none t.device_carriers ≡ true
   pub lot_carriers : has_none t.lot_carriers ≡ true
 
+abbrev pub AreReadable : Tables → Type 0
+AreReadable = AreReadableIn 2
+
 -- a lot by its rules, and the day after which its held certificates expire, 18 months after the period, where the calendar has it
 pub record IsKeptLot (l : Lot) : Type 0 where
   pub valid : IsLot (lot_of l)
   pub expires : l.expires_on ≡ option_map day_text (months_after (day_of l.last_day) 18)
 
--- The rules of the tables. The state that they stand for is sound by the registry's own rules, and what is kept twice
+-- The rules of tables of a version. The state that they stand for is sound by the registry's own rules, and what is kept twice
 -- agrees: the end of a device's last period and its carry are those of its declarations, a lot's expiry is that of its period.
-pub record AreKept (t : Tables) : Type 0 where
-  pub readable : AreReadable t
+pub record AreKeptIn (number : ℕ) (t : Tables) : Type 0 where
+  pub readable : AreReadableIn number t
   -- each piece's lot is there, and the pieces are ranges that rise and have no number in common
   pub lots_there : list_all (λ p. has_key lot_key t.lots (pos p.lot)) t.pieces ≡ true
   pub rising : IsRising (rows_of t)
+  -- version 2 keeps certificates in as few pieces as can be: no piece goes on where the one before it ends, with the same lot and place
+  pub apart : number ≡ 2 → IsApart (rows_of t)
   pub lots : (id : ℤ) (l : Lot) → get_by lot_key t.lots id ≡ Some l → IsKeptLot l
   -- no two devices have one number
   pub devices : (gsrn : List ℕ) → length (filter (λ k. bytes_eq k.1.gsrn gsrn) t.devices) ≤ 1
   pub progress : (gsrn : List ℕ) → progress_in (device_row t.devices gsrn) ≡ progress_of (state_of t) gsrn
   pub sound : IsSound (state_of t)
+
+-- the rules of the version that is written
+abbrev pub AreKept : Tables → Type 0
+AreKept = AreKeptIn 2
+
+-- neighbours that are apart are so in one way, so it may be a ghost field
+
+not_followed-prop : (p : Piece) (ps : List Piece) → IsProp (IsNotFollowed p ps)
+not_followed-prop p [] = Prim.hlevel props
+not_followed-prop p (q ∷ ps) = Prim.hlevel props
+
+pub apart-prop : (ps : List Piece) → IsProp (IsApart ps)
+apart-prop [] = Prim.hlevel props
+apart-prop (p ∷ ps) = λ x y i. (not_followed-prop p ps x.0 y.0 i, apart-prop ps x.1 y.1 i)

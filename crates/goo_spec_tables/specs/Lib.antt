@@ -6,3 +6,4 @@ pub mod Replies
 pub mod States
 pub mod Readable
 pub mod Kept
+pub mod Renewed

@@ -1,24 +1,28 @@
 -- From the rows that were read to the tables that hold them.
-use Rattle.std.proofs.Common.{◌≡◌, ◌⊎◌, ◌∷◌, [], pos, false, All, inl, inr, map, Ok, Err, IsTrue, refl, sym, ◌∙◌}
+use Rattle.std.proofs.Common.{◌≡◌, ◌⊎◌, ◌∷◌, [], List, inl, inr, map, Ok, Err, Result, IfOk, IfErr, IsTrue, refl, sym, ap, ◌∙◌}
 use Rattle.sqlite.specs.State.{State}
 use Rattle.sqlite.specs.Effect.{Database}
+use Rattle.sqlite.specs.Order.{Row, column}
 use Rattle.sqlite.specs.declared.error.Error.{Error}
 use Rattle.sqlite.specs.declared.error.Error.TheVariants.{SqliteFailure}
 use Rattle.sqlite.specs.declared.error.ErrorCode.TheVariants.{OutOfMemory}
-use Rattle.sqlite.specs.declared.types.Value.TheVariants.{Int}
-use Rattle.goo_tables_rows.specs.Readable.{is_read_error, numbered_meta_readable}
-use Rattle.goo_tables_rows.specs.Rows.{Tables, meta_columns, meta_in, account_in, declaration_in, lot_in, cancellation_in, withdrawal_in, notice_out_in, correction_in, lot_carrier_in}
-use Rattle.goo_tables_rows.specs.Met.{HasOurTables}
-use Rattle.goo_tables_rows.specs.Refused.{IsFault, FailsByFault, FailsOnlyByFault, is_store_error}
-use Rattle.goo_tables_rows.specs.Stands.{Looks}
+use Rattle.goo_tables_rows.specs.Readable.{is_read_error}
+use Rattle.goo_tables_rows.specs.Rows.{Tables, Meta, Numbered, meta_row, meta_at, numbered_row, numbered_key, meta_in, account_in, declaration_in, lot_in, cancellation_in, withdrawal_in, notice_out_in, correction_in, lot_carrier_in}
+use Rattle.goo_tables_rows.specs.Columns.{registry_schema}
+use Rattle.goo_tables_rows.specs.Cells.{number_in}
+use Rattle.goo_tables_rows.specs.Refused.{IsFault, is_store_error}
+use Rattle.goo_tables_rows.specs.Stands.{Keeps}
 use Rattle.goo_tables_rows.specs.declared.meta.MetaRow.{MetaRow}
+use Rattle.goo_store_open.specs.Layout.{number_of, schema_of, seen_by}
 use Rattle.goo_store_open.specs.Reading.{CanBeRead, OnlyReads}
 use Rattle.goo_store_open.specs.Shown.{ShowsAll}
 use Rattle.goo_store_open.specs.Found.{Finds, ShowsMeta, ShowsTables, IsOutside, IsWord, HasStoreFailed}
 use Rattle.goo_store_open.specs.declared.rows.AllRows.{AllRows}
 use Rattle.goo_store_open.specs.declared.fault.OpenFault.{OpenFault}
 use Rattle.goo_store_open.specs.declared.fault.OpenFault.TheVariants.{Damaged, Store, Memory}
-use Rattle.goo_store_open.proofs.Chaining.{reads_table, reads_then}
+use Rattle.goo_store_open.specs.declared.layout.Layout.{Layout}
+use Rattle.goo_store_open.specs.declared.layout.Layout.TheVariants.{First, Ours}
+use Rattle.goo_store_open.proofs.Chaining.{reads_then}
 
 abbrev tables : (m : MetaRow) (db : Database) (x : AllRows) → ShowsAll db x → Tables
 tables m db x shows = record {
@@ -40,11 +44,11 @@ tables m db x shows = record {
   lot_carriers = map lot_carrier_in x.carriers.lots.items;
 }
 
-earned : (db : Database) (m : MetaRow) (x : AllRows) → HasOurTables db → ShowsMeta db m → ShowsAll db x → ShowsTables db (record { meta = m; rows = x })
-earned db m x ours one all = (
+earned : (layout : Layout) (db : Database) (m : MetaRow) (x : AllRows) → db.schema ≡ registry_schema → ShowsMeta layout db m → ShowsAll db x → ShowsTables layout db (record { meta = m; rows = x })
+earned layout db m x ours one all = (
   tables m db x all,
   record {
-    schema = ours.schema;
+    schema = ours;
     meta = one.only;
     holders = all.members.holders.1;
     accounts = all.members.accounts;
@@ -83,6 +87,11 @@ earned db m x ours one all = (
   one.version,
 )
 
+-- seen as tables of version 2
+ours_seen : (layout : Layout) (db : Database) → db.schema ≡ schema_of layout → (seen_by layout db).schema ≡ registry_schema
+ours_seen First db is = refl
+ours_seen Ours db is = is
+
 -- a fault of memory or of the store is none of the tables'
 not_damaged : (f : OpenFault) → f ≡ Damaged → IsOutside f → ⊥
 not_damaged f is (inl store) = absurd (apart (sym is ∙ store))
@@ -101,9 +110,9 @@ once f (inr (inl is)) = inr is
 once f (inr (inr is)) = inr is
 
 -- a word from outside or `Damaged`, where tables that can be read are refused from outside alone
-unread_word : (t : Tables) (f : OpenFault) → IsOutside f ⊎ (f ≡ Damaged) → (CanBeRead t → IsOutside f) → IsWord t f
-unread_word t f (inl outside) readable = inl outside
-unread_word t f (inr damaged) readable = inr (inl (damaged, λ can. not_damaged f damaged (readable can)))
+unread_word : (layout : Layout) (t : Tables) (f : OpenFault) → IsOutside f ⊎ (f ≡ Damaged) → (CanBeRead t → IsOutside f) → IsWord layout t f
+unread_word layout t f (inl outside) readable = inl outside
+unread_word layout t f (inr damaged) readable = inr (inl (damaged, λ can. not_damaged f damaged (readable can)))
 
 -- `Store` is neither `Memory` nor `Damaged`
 store_apart : (f : OpenFault) → (f ≡ Memory) ⊎ (f ≡ Damaged) → f ≡ Store → ⊥
@@ -132,33 +141,72 @@ module _ (a c : State) (e : Error) (f : OpenFault) (memory : e ≡ SqliteFailure
   told_of unread (inl fault) = inl (outside_of fault)
   told_of unread (inr wrong) = inr (unread wrong)
 
-  pub row_unread : {T : Type 0} (right : Tables → T → Type 0) → Looks a c (Err e) right → (a.in_transaction ≡ false → c.in_transaction ≡ false)
-      → FailsOnlyByFault {T = T} a c (Err e) (λ t. All numbered_meta_readable (map (λ m. Int (pos 1) ∷ meta_columns m) (t.meta ∷ []))) → FailsByFault {T = T} a c (Err e)
-      → (IsTrue (is_read_error e) → f ≡ Damaged) → Finds a c (Err f) ShowsMeta
-  row_unread {T} right looks outside readable refused unread =
-      let base = reads_table {T = T} a c (Err e) right (λ _ _. ⊥) _ looks outside (λ _ _. tt) readable refused (λ _ can. can.meta) in
-      record {
-        clean = base.clean;
-        outside = base.outside;
-        rests = base.rests;
-        works = tt;
-        seen = λ _ _. tt;
-        crash = base.crash;
-        counts = base.counts;
-        limit = base.limit;
-        right = λ clean it unlimited t stands good. outside_of (base.faulty clean it unlimited t stands good.0);
-        words = λ clean it unlimited t stands. unread_word t f (told_of unread (refused clean it.schema unlimited)) (λ can. outside_of (base.faulty clean it unlimited t stands can));
-        blames = λ clean it unlimited. blamed_of unread (refused clean it.schema unlimited);
-      }
+  pub row_unread : {T : Type 0} (layout : Layout) (Shows : Database → T → Type 0) → OnlyReads layout a c (Err e) Shows → (IsTrue (is_read_error e) → f ≡ Damaged) → Finds layout a c (Err f) (ShowsMeta layout)
+  row_unread layout Shows base unread = record {
+    clean = base.clean;
+    outside = base.outside;
+    rests = base.rests;
+    works = tt;
+    seen = λ _ _. tt;
+    crash = base.crash;
+    counts = base.counts;
+    limit = base.limit;
+    right = λ clean it unlimited t stands good. outside_of (base.faulty clean it unlimited t stands good.0);
+    words = λ clean it unlimited t stands. unread_word layout t f (told_of unread (base.refused clean it unlimited)) (λ can. outside_of (base.faulty clean it unlimited t stands can));
+    blames = λ clean it unlimited. blamed_of unread (base.refused clean it unlimited);
+  }
 
-module _ (a b c : State) (m : MetaRow) (one : Finds a b (Ok m) ShowsMeta) where
-  first : OnlyReads a b (Ok m) ShowsMeta
+-- a row of `meta` as it is read
+abbrev numbered_at : Row → Numbered
+numbered_at r = record { id = number_in (column r 0); meta = meta_at r }
+
+-- rows that stand for one are one
+one_row : (xs : List Numbered) (m : Meta) → meta_row m ∷ [] ≡ map numbered_row xs → xs ≡ record { id = 1; meta = m } ∷ []
+one_row [] m is = absurd cc
+one_row (n ∷ []) m is = sym (ap (map numbered_at) is)
+one_row (n ∷ o ∷ ns) m is = absurd cc
+
+-- the rows of `meta` were read, and are a registry's or not
+pub row_found : {T : Type 0} (layout : Layout) (a c : State) (x : T) (listed : T → List Numbered) (q : Result MetaRow OpenFault)
+    → OnlyReads layout a c (Ok x) (λ db y. Keeps (db.trees 0) numbered_row numbered_key (listed y))
+    → IfOk q (λ m. listed x ≡ record { id = 1; meta = meta_in m } ∷ []) → IfOk q (λ m. m.version ≡ number_of layout)
+    → ((m : Meta) → listed x ≡ record { id = 1; meta = m } ∷ [] → m.version ≡ number_of layout → IfErr q (λ _. ⊥)) → IfErr q (λ f. f ≡ Store → ⊥)
+    → ((t : Tables) → listed x ≡ record { id = 1; meta = t.meta } ∷ [] → IfErr q (IsWord layout t)) → Finds layout a c q (ShowsMeta layout)
+row_found layout a c x listed (Ok m) reads only version refused unblamed words = record {
+  clean = reads.clean;
+  outside = reads.outside;
+  rests = reads.rests;
+  works = reads.works;
+  seen = λ clean it. record { only = (reads.seen clean it).are ∙ ap (map numbered_row) only; version = version };
+  crash = reads.crash;
+  counts = reads.counts;
+  limit = reads.limit;
+  right = λ _ _ _ _ _ _. tt;
+  words = λ _ _ _ _ _. tt;
+  blames = λ _ _ _. tt;
+}
+row_found layout a c x listed (Err f) reads only version refused unblamed words = record {
+  clean = reads.clean;
+  outside = reads.outside;
+  rests = reads.rests;
+  works = tt;
+  seen = λ _ _. tt;
+  crash = reads.crash;
+  counts = reads.counts;
+  limit = reads.limit;
+  right = λ clean it unlimited t stands good. absurd (refused t.meta (one_row (listed x) t.meta (sym stands.meta ∙ (reads.seen clean it).are)) good.1);
+  words = λ clean it unlimited t stands. words t (one_row (listed x) t.meta (sym stands.meta ∙ (reads.seen clean it).are));
+  blames = λ _ _ _ is. absurd (unblamed is);
+}
+
+module _ (layout : Layout) (a b c : State) (m : MetaRow) (one : Finds layout a b (Ok m) (ShowsMeta layout)) where
+  first : OnlyReads layout a b (Ok m) (ShowsMeta layout)
   first = record { clean = one.clean; outside = one.outside; rests = one.rests; works = one.works; seen = one.seen; crash = one.crash; counts = one.counts; limit = one.limit; refused = λ _ _ _. tt; faulty = λ _ _ _ _ _ _. tt }
 
   -- all was read
-  pub found : (x : AllRows) → OnlyReads b c (Ok x) ShowsAll → Finds a c (Ok (record { meta = m; rows = x })) ShowsTables
+  pub found : (x : AllRows) → OnlyReads layout b c (Ok x) ShowsAll → Finds layout a c (Ok (record { meta = m; rows = x })) (ShowsTables layout)
   found x two =
-      let both = reads_then a b c m (Ok x) ShowsMeta ShowsAll first two in
+      let both = reads_then layout a b c m (Ok x) (ShowsMeta layout) ShowsAll first two in
       record {
         clean = both.clean;
         outside = both.outside;
@@ -166,7 +214,7 @@ module _ (a b c : State) (m : MetaRow) (one : Finds a b (Ok m) ShowsMeta) where
         works = both.works;
         seen = λ clean it.
             let seen = both.seen clean it in
-            earned a.now m x (it.ours ((both.rests clean it).was_open (both.works clean))) seen.0 seen.1;
+            earned layout (seen_by layout a.now) m x (ours_seen layout a.now it.schema) seen.0 seen.1;
         crash = both.crash;
         counts = both.counts;
         limit = both.limit;
@@ -176,10 +224,10 @@ module _ (a b c : State) (m : MetaRow) (one : Finds a b (Ok m) ShowsMeta) where
       }
 
   -- the rows of the tables weren't read
-  pub not_found : (e : Error) (f : OpenFault) → OnlyReads b c (Err e) ShowsAll → (e ≡ SqliteFailure OutOfMemory → f ≡ Memory) → (IsTrue (is_store_error e) → f ≡ Store) → (IsTrue (is_read_error e) → f ≡ Damaged)
-      → IsOutside f ⊎ ((f ≡ Damaged) ⊎ (f ≡ Damaged)) → Finds a c (Err f) ShowsTables
+  pub not_found : (e : Error) (f : OpenFault) → OnlyReads layout b c (Err e) ShowsAll → (e ≡ SqliteFailure OutOfMemory → f ≡ Memory) → (IsTrue (is_store_error e) → f ≡ Store) → (IsTrue (is_read_error e) → f ≡ Damaged)
+      → IsOutside f ⊎ ((f ≡ Damaged) ⊎ (f ≡ Damaged)) → Finds layout a c (Err f) (ShowsTables layout)
   not_found e f two memory store unread said =
-      let both = reads_then a b c m (Err e) ShowsMeta ShowsAll first two in
+      let both = reads_then layout a b c m (Err e) (ShowsMeta layout) ShowsAll first two in
       record {
         clean = both.clean;
         outside = both.outside;
@@ -190,6 +238,6 @@ module _ (a b c : State) (m : MetaRow) (one : Finds a b (Ok m) ShowsMeta) where
         counts = both.counts;
         limit = both.limit;
         right = λ clean it unlimited t stands good. outside_of a c e f memory store (both.faulty clean it unlimited t stands good.0);
-        words = λ clean it unlimited t stands. unread_word t f (once f said) (λ can. outside_of a c e f memory store (both.faulty clean it unlimited t stands can));
+        words = λ clean it unlimited t stands. unread_word layout t f (once f said) (λ can. outside_of a c e f memory store (both.faulty clean it unlimited t stands can));
         blames = λ clean it unlimited. blamed_of a c e f memory store unread (both.refused clean it unlimited);
       }

@@ -1,3 +1,4 @@
+pub mod Both
 pub mod Chaining
 pub mod Earning
 pub mod OnFiles

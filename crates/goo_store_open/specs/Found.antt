@@ -10,10 +10,12 @@ use Rattle.sqlite.specs.Effect.{Database}
 use Rattle.goo_tables_rows.specs.Rows.{Tables, Kept, Numbered, meta_row, meta_in, holder_in, account_in, device_in, declaration_in, lot_in, receipt_in, cancellation_in, withdrawal_in, notice_out_in, notice_in_in, correction_in, device_carrier_in, lot_carrier_in}
 use Rattle.goo_tables_rows.specs.Stands.{Stands, Rests}
 use Rattle.goo_tables_rows.specs.declared.meta.MetaRow.{MetaRow}
+use Rattle.goo_store_open.specs.Layout.{number_of, seen_by}
 use Rattle.goo_store_open.specs.Reading.{CanBeRead, IsMet}
 use Rattle.goo_store_open.specs.declared.fault.OpenFault.{OpenFault}
 use Rattle.goo_store_open.specs.declared.fault.OpenFault.TheVariants.{NotARegistry, Version, Damaged, Store, Memory}
 use Rattle.goo_store_open.specs.declared.finding.Found.{Found}
+use Rattle.goo_store_open.specs.declared.layout.Layout.{Layout}
 
 -- the values of rows under rowids of their own
 abbrev pub values : {X : Type 0} → List (Kept X) → List X
@@ -38,10 +40,10 @@ pub record AreOf (t : Tables) (x : Found) : Type 0 where
   pub device_carriers : map device_carrier_in x.rows.carriers.devices.items ≡ values t.device_carriers
   pub lot_carriers : map lot_carrier_in x.rows.carriers.lots.items ≡ t.lot_carriers
 
--- the only row of `meta`
-pub record ShowsMeta (db : Database) (m : MetaRow) : Type 0 where
+-- the only row of `meta`, which tells the version of these tables
+pub record ShowsMeta (layout : Layout) (db : Database) (m : MetaRow) : Type 0 where
   pub only : db.trees 0 ≡ meta_row (meta_in m) ∷ []
-  pub version : m.version ≡ 2
+  pub version : m.version ≡ number_of layout
 
 -- why rows of `meta` are not those of a registry that is read here: not one row, or not under the number 1, or of this version
 abbrev pub row_fault : List Numbered → OpenFault
@@ -49,21 +51,21 @@ row_fault [] = NotARegistry
 row_fault (row ∷ []) = if row.id == 1 then Version row.meta.version else NotARegistry
 row_fault (row ∷ other ∷ rows) = NotARegistry
 
--- the database holds tables of version 2, and they are what was read
-abbrev pub ShowsTables : Database → Found → Type 0
-ShowsTables db x = (t : Tables) × Stands db t × AreOf t x × (t.meta.version ≡ 2)
+-- the database holds tables of the layout's version, and they are what was read
+abbrev pub ShowsTables : Layout → Database → Found → Type 0
+ShowsTables layout db x = (t : Tables) × Stands db t × AreOf t x × (t.meta.version ≡ number_of layout)
 
--- tables of version 2 whose values can be read
-abbrev pub IsReadable : Tables → Type 0
-IsReadable t = CanBeRead t × (t.meta.version ≡ 2)
+-- tables of this version whose values can be read
+abbrev pub IsReadable : Layout → Tables → Type 0
+IsReadable layout t = CanBeRead t × (t.meta.version ≡ number_of layout)
 
 -- the database failed, or memory did
 abbrev pub IsOutside : OpenFault → Type 0
 IsOutside f = (f ≡ Store) ⊎ (f ≡ Memory)
 
--- The word for tables that are refused: one from outside, `Damaged` where a value can't be read, or their version, which isn't 2.
-abbrev pub IsWord : Tables → OpenFault → Type 0
-IsWord t f = IsOutside f ⊎ (((f ≡ Damaged) × ¬ CanBeRead t) ⊎ ((f ≡ Version t.meta.version) × ¬ (t.meta.version ≡ 2)))
+-- The word for tables that are refused: one from outside, `Damaged` where a value can't be read, or their version, which isn't the layout's.
+abbrev pub IsWord : Layout → Tables → OpenFault → Type 0
+IsWord layout t f = IsOutside f ⊎ (((f ≡ Damaged) × ¬ CanBeRead t) ⊎ ((f ≡ Version t.meta.version) × ¬ (t.meta.version ≡ number_of layout)))
 
 -- The word for the error of a statement: for want of memory; the one that is given where a table or a column is missing; for a value that
 -- can't be read; and for all others that of the store.
@@ -83,15 +85,15 @@ HasStoreFailed old new = MoreFaults old.faults new.faults ⊎ (old.is_open ≡ f
 -- A call that reads and changes nothing, as `OnlyReads`, whose refusals are words on the tables.
 -- `blames`: `Store` is told only where the store failed, whatever the tables hold.
 -- `right`: tables that can be read are refused for want of memory or a fault of the store alone.
-pub record Finds {T : Type 0} (old new : State) (result : Result T OpenFault) (Shows : Database → T → Type 0) : Type 0 where
+pub record Finds {T : Type 0} (layout : Layout) (old new : State) (result : Result T OpenFault) (Shows : Database → T → Type 0) : Type 0 where
   pub clean : HasCleanDisk new → HasCleanDisk old
   pub outside : old.in_transaction ≡ false → new.in_transaction ≡ false
-  pub rests : HasCleanDisk new → IsMet old → Rests old new
+  pub rests : HasCleanDisk new → IsMet layout old → Rests old new
   pub works : OnOk result (HasCleanDisk new → IsTrue new.is_open)
-  pub seen : HasCleanDisk new → IsMet old → IfOk result (Shows old.now)
-  pub crash : HasCleanDisk new → IsMet old → (db : Trees) → new.may_leave db → old.may_leave db
-  pub counts : HasCleanDisk new → IsMet old → old.faults ≤ new.faults
-  pub limit : HasCleanDisk new → IsMet old → new.step_limit ≡ old.step_limit
-  pub right : HasCleanDisk new → IsMet old → old.step_limit ≡ None → (t : Tables) → Stands old.now t → IsReadable t → IfErr result IsOutside
-  pub words : HasCleanDisk new → IsMet old → old.step_limit ≡ None → (t : Tables) → Stands old.now t → IfErr result (IsWord t)
-  pub blames : HasCleanDisk new → IsMet old → old.step_limit ≡ None → IfErr result (λ f. f ≡ Store → HasStoreFailed old new)
+  pub seen : HasCleanDisk new → IsMet layout old → IfOk result (Shows (seen_by layout old.now))
+  pub crash : HasCleanDisk new → IsMet layout old → (db : Trees) → new.may_leave db → old.may_leave db
+  pub counts : HasCleanDisk new → IsMet layout old → old.faults ≤ new.faults
+  pub limit : HasCleanDisk new → IsMet layout old → new.step_limit ≡ old.step_limit
+  pub right : HasCleanDisk new → IsMet layout old → old.step_limit ≡ None → (t : Tables) → Stands (seen_by layout old.now) t → IsReadable layout t → IfErr result IsOutside
+  pub words : HasCleanDisk new → IsMet layout old → old.step_limit ≡ None → (t : Tables) → Stands (seen_by layout old.now) t → IfErr result (IsWord layout t)
+  pub blames : HasCleanDisk new → IsMet layout old → old.step_limit ≡ None → IfErr result (λ f. f ≡ Store → HasStoreFailed old new)

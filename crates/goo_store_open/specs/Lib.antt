@@ -1,3 +1,4 @@
+pub mod Layout
 pub mod Reading
 pub mod Shown
 pub mod Found

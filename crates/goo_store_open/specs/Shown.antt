@@ -6,6 +6,9 @@ use Rattle.goo_tables_rows.specs.Stands.{Keeps}
 use Rattle.goo_tables_rows.specs.Met.{KeepsSome}
 use Rattle.goo_store_open.specs.declared.rows.Members.{Members}
 use Rattle.goo_store_open.specs.declared.rows.Production.{Production}
+use Rattle.goo_store_open.specs.declared.reading.Issued.{Issued}
+use Rattle.goo_store_open.specs.declared.reading.Common.{Common}
+use Rattle.goo_store_open.specs.declared.reading.Later.{Later}
 use Rattle.goo_store_open.specs.declared.rows.Acts.{Acts}
 use Rattle.goo_store_open.specs.declared.rows.Notices.{Notices}
 use Rattle.goo_store_open.specs.declared.rows.Carriers.{Carriers}
@@ -16,10 +19,9 @@ pub record ShowsMembers (db : Database) (x : Members) : Type 0 where
   pub accounts : Keeps (db.trees 3) account_row account_key (map account_in x.accounts.items)
   pub peers : KeepsSome (db.trees 11) peer_row x.peers.items
 
-pub record ShowsProduction (db : Database) (x : Production) : Type 0 where
+pub record ShowsIssued (db : Database) (x : Issued) : Type 0 where
   pub devices : KeepsSome (db.trees 4) device_row (map device_in x.devices.items)
   pub declarations : Keeps (db.trees 6) declaration_row declaration_key (map declaration_in x.declarations.items)
-  pub corrections : Keeps (db.trees 22) correction_row correction_key (map correction_in x.corrections.items)
   pub lots : Keeps (db.trees 8) lot_row lot_key (map lot_in x.lots.items)
   pub pieces : Keeps (db.trees 10) piece_row piece_key x.pieces.items
 
@@ -32,9 +34,38 @@ pub record ShowsNotices (db : Database) (x : Notices) : Type 0 where
   pub sent : Keeps (db.trees 17) notice_out_row notice_out_key (map notice_out_in x.sent.items)
   pub came : KeepsSome (db.trees 18) notice_in_row (map notice_in_in x.came.items)
 
+-- of the tables that both versions have
+pub record ShowsCommon (db : Database) (x : Common) : Type 0 where
+  pub members : ShowsMembers db x.members
+  pub issued : ShowsIssued db x.issued
+  pub acts : ShowsActs db x.acts
+  pub notices : ShowsNotices db x.notices
+
 pub record ShowsCarriers (db : Database) (x : Carriers) : Type 0 where
   pub devices : KeepsSome (db.trees 23) device_carrier_row (map device_carrier_in x.devices.items)
   pub lots : Keeps (db.trees 25) lot_carrier_row lot_carrier_key (map lot_carrier_in x.lots.items)
+
+-- of those that version 2 has beside them
+pub record ShowsLater (db : Database) (x : Later) : Type 0 where
+  pub corrections : Keeps (db.trees 22) correction_row correction_key (map correction_in x.corrections.items)
+  pub carriers : ShowsCarriers db x.carriers
+
+pub record ShowsProduction (db : Database) (x : Production) : Type 0 where
+  pub devices : KeepsSome (db.trees 4) device_row (map device_in x.devices.items)
+  pub declarations : Keeps (db.trees 6) declaration_row declaration_key (map declaration_in x.declarations.items)
+  pub corrections : Keeps (db.trees 22) correction_row correction_key (map correction_in x.corrections.items)
+  pub lots : Keeps (db.trees 8) lot_row lot_key (map lot_in x.lots.items)
+  pub pieces : Keeps (db.trees 10) piece_row piece_key x.pieces.items
+
+-- the rows of all tables, of the two kinds together
+abbrev pub rows_of_both : Common → Later → AllRows
+rows_of_both x later = record {
+  members = x.members;
+  production = record { devices = x.issued.devices; declarations = x.issued.declarations; corrections = later.corrections; lots = x.issued.lots; pieces = x.issued.pieces };
+  acts = x.acts;
+  notices = x.notices;
+  carriers = later.carriers;
+}
 
 -- the rows of each table are those read
 pub record ShowsAll (db : Database) (x : AllRows) : Type 0 where

@@ -6,6 +6,7 @@ pub mod fault;
 pub mod finding;
 pub mod foreign;
 pub mod forms;
+pub mod layout;
 pub mod matching;
 pub mod our_schema;
 pub mod reading;

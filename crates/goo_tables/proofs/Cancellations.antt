@@ -26,8 +26,9 @@ use Rattle.goo_tables_rows.proofs.Living.{KeepsLive, keeps_live}
 use Rattle.goo_tables_rows.proofs.Same.{cancellation_same}
 use Rattle.goo_tables_holdings.specs.Changes.{with_cancellation}
 use Rattle.goo_tables_holdings.proofs.Queries.{in_order}
+use Rattle.goo_tables_rows.specs.First.{IsFirst, HasFirstTables}
 use Rattle.goo_tables_rows.specs.Met.{HasOurTables}
-use Rattle.goo_tables_rows.proofs.Meeting.{type_rules, shape_rules, no_text, int_same}
+use Rattle.goo_tables_rows.proofs.Meeting.{type_rules, shape_rules, first_type_rules, first_shape_rules, no_text, int_same}
 use Rattle.std.specs.Prelude.{⊤}
 use Rattle.std.proofs.lemmas.Iterator.Adapters.{option_map_id}
 use Rattle.std.proofs.lemmas.Bool.{lt-ltb}
@@ -38,7 +39,7 @@ use Rattle.goo_tables_rows.specs.Refused.{IsTooBig, IsSmall}
 use Rattle.goo_tables_holdings.proofs.Adding.{Adds, adds_row}
 use Rattle.goo_tables_holdings.proofs.Failing.{FailsOnly, not_there, adding_fails}
 use Rattle.goo_tables_holdings.proofs.AnyTable.{TableOf, shown, shows_each, finds_one, IsListed, meets_listed}
-use Rattle.goo_tables_holdings.proofs.Asking.{Asks, Tells, Says}
+use Rattle.goo_tables_holdings.proofs.Asking.{Asks, AsksFirst, SaysFirst, Tells, Says}
 use Rattle.goo_tables_holdings.proofs.Values.{whole_is, null_at_key}
 
 -- ---- cancellation: the table
@@ -128,3 +129,18 @@ cancellation_is k x fits reads =
 
 pub meets_all : (old : State) → HasOurTables old.now → Tells old all_query [] (λ (xs : List CancellationRow) rows. AllZip cancellation_reads rows xs) (λ xs. Keeps (old.now.trees 15) cancellation_row cancellation_key (map cancellation_in xs))
 meets_all old it = meets_listed cancellations old (shape_rules old.now it).1.1.1.1.1.1.1.1.1.0 (type_rules old.now it).1.1.1.1.1.1.1.1.1.0 cancellation_is
+
+-- ---- cancellation: the whole table of version 1
+
+pub first_asks : AsksFirst all_text all_query
+unfolding understood everything
+first_asks = record { names = _; is = refl; plain = (refl, refl); unlisted = refl; suits = refl }
+
+pub shown_first : (old : State) (t : Tables) → IsFirst old.now t → (rows : List Row) → IsAnswer all_query (overlay old.now.trees []) [] rows → rows ≡ map (λ (x : Cancellation). cancellation_columns x) t.cancellations
+shown_first old t it = shown cancellations old it.1.cancellations
+
+pub shows_first : (old : State) → SaysFirst old all_query (λ (xs : List CancellationRow) rows. AllZip cancellation_reads rows xs) (λ t xs. map cancellation_in xs ≡ t.cancellations)
+shows_first old t it xs rows answer read = shows_each cancellations old it.1.cancellations xs rows answer read ∙ map-id _
+
+pub meets_first : (old : State) → HasFirstTables old.now → Tells old all_query [] (λ (xs : List CancellationRow) rows. AllZip cancellation_reads rows xs) (λ xs. Keeps (old.now.trees 15) cancellation_row cancellation_key (map cancellation_in xs))
+meets_first old it = meets_listed cancellations old (first_shape_rules old.now it).1.1.1.1.1.1.1.1.1.0 (first_type_rules old.now it).1.1.1.1.1.1.1.1.1.0 cancellation_is

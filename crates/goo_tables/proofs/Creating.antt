@@ -184,7 +184,7 @@ ran_live : (schema next : Schema) (sql : List ℕ) (b c : State) (count : ℕ) �
 ran_live schema next sql b c count lead it live h = λ _. ((lead b c count it h.0).1, subst IsDatabase (sym h.1.committed_is) (live h.1.was_open).1)
 
 -- what an earlier call shut, a fault shut
-fault_since : (a b c : State) (e : Error) → HasCleanDisk b → Survives a b (λ _. ⊥) → Survives b c (λ _. ⊥) → IsFault b c e → IsFault a c e
+pub fault_since : (a b c : State) (e : Error) → HasCleanDisk b → Survives a b (λ _. ⊥) → Survives b c (λ _. ⊥) → IsFault b c e → IsFault a c e
 fault_since a b c e clean first next (inl memory) = inl memory
 fault_since a b c e clean first next (inr (told, inl more)) = inr (told, inl (omega (arith, first.counts, more)))
 fault_since a b c e clean first next (inr (told, inr shut)) = inr (told, shut_since (cases_Bool a.is_open))

@@ -1,5 +1,5 @@
 -- A CREATE of our tables fails only by a fault.
-use Rattle.std.proofs.Common.{◌≡◌, ◌⊎◌, inl, inr, ℕ, zero, suc, ◌+◌, ◌*◌, ◌^◌, ◌<◌, ◌≤◌, nat_lt, nat_le, ◌&&◌, ◌||◌, not, Bool, true, false, IsTrue, arith, List, [], ◌∷◌, length, get_or, slice_get, codes, Option, Some, None, is_some, Ok, Err, Result, refl, sym, ap, ap₂, subst, subst₂, ◌∙◌, true≢false, append-nil, IsUtf8, All, IfErr}
+use Rattle.std.proofs.Common.{◌≡◌, inl, inr, ℕ, zero, suc, ◌+◌, ◌*◌, ◌^◌, ◌<◌, nat_lt, ◌&&◌, ◌||◌, not, Bool, true, false, arith, List, [], ◌∷◌, length, get_or, slice_get, codes, Option, Some, None, is_some, Ok, Err, refl, sym, ap, ap₂, subst, subst₂, ◌∙◌, true≢false, append-nil, IsUtf8, All}
 use Rattle.std.specs.List.{list_all}
 use Rattle.std.proofs.lemmas.Str.{IsUtf8-from_ascii}
 use Rattle.std.proofs.lemmas.Str.Ascii.{IsAscii-from_all}
@@ -9,9 +9,9 @@ use Rattle.sqlite.specs.declared.types.Value.TheVariants.{Text}
 use Rattle.sqlite.specs.declared.error.Error.{Error}
 use Rattle.sqlite_catalog.specs.declared.error.Refusal.{Refusal}
 use Rattle.sqlite_catalog.specs.declared.error.Refusal.TheVariants.{Invalid, NameTaken, BadName, TooBig, BadKey, BadText, Violates}
-use Rattle.sqlite_catalog.specs.Calls.{RefusesTable, IsLongTable, RefusesIndex, IsLongIndex, IsBadName}
+use Rattle.sqlite_catalog.specs.Calls.{RefusesTable, IsLongTable, RefusesIndex, IsLongIndex}
 use Rattle.sqlite_trees.specs.declared.error.StoreError.TheVariants.{OutOfMemory, Io, Corrupt, Full, Broken, Unstorable}
-use Rattle.sqlite_schema.specs.Rules.{Keeps, passes, table_reals, index_reals}
+use Rattle.sqlite_schema.specs.Rules.{passes, table_reals, index_reals}
 use Rattle.sqlite_schema.specs.declared.schema.Constraint.TheVariants.{Unique}
 use Rattle.std.specs.List.{AllByRecursion}
 use Rattle.goo_tables.specs.Created.{IsMade, begun_schema, create_texts, stages}
@@ -30,10 +30,8 @@ use Rattle.sqlite.specs.Change.{next_tree}
 use Rattle.sqlite.specs.Compile.{table_defined_by, index_defined_by}
 use Rattle.sqlite.specs.Command.{Command}
 use Rattle.sqlite.specs.Command.TheVariants.{CreateTable, CreateIndex, Begin, Commit, Rollback, Release, RollbackTo}
-use Rattle.sqlite.specs.Does.{Does, Defines, MakesTable, MakesIndex, MakesSequence, Redefines, lacks_sequence, AtPlace}
-use Rattle.sqlite.specs.Rows.{Then, Gives}
-use Rattle.sqlite.specs.Effect.{Database, IsNoText, RefusesToAlter, is_query}
-use Rattle.sqlite.specs.Order.{Row}
+use Rattle.sqlite.specs.Does.{Does, Defines, MakesTable, MakesIndex, Redefines, lacks_sequence, AtPlace}
+use Rattle.sqlite.specs.Effect.{is_query}
 use Rattle.sqlite.specs.Tree.{Trees}
 use Rattle.sqlite.specs.State.{State, mode_of, ExecutesInside, ExecutesIn, EndsScope, Fails, IsMisplaced, IsNotRun, Escapes, RunsCommand, text_of, shows_rows, is_pragma}
 use Rattle.sqlite.specs.Listing.{understood}
@@ -223,10 +221,14 @@ module _ (schema : Schema) (sql : List ℕ) (old new : State) (has : old.now.sch
 abbrev pub FailsByFault : List ℕ → Schema → Type 1
 FailsByFault sql schema = (old new : State) (e : Error) → IsMade schema old.now → ExecutesInside 0 sql [] old new (Err e) → IsFault old new e
 
+-- whatever rows the tables have
+abbrev pub FailsOnRows : List ℕ → Schema → Type 1
+FailsOnRows sql schema = (old new : State) (e : Error) → old.now.schema ≡ schema → ExecutesInside 0 sql [] old new (Err e) → IsFault old new e
+
 pub table_fails : (schema next : Schema) (sql : List ℕ) (table : Table) → command_of (understood schema sql) ≡ CreateTable → IsPlain (understood schema sql) → statement_of sql (understood schema sql) ≡ sql
-    → is_whole (length sql) 0 (understood schema sql) ≡ true → table_defined_by sql ≡ Ok table → IsMakeable schema sql table → created schema table ≡ next → lacks_sequence schema ≡ false → lacks_sequence next ≡ false → is_plain_text sql ≡ true → FailsByFault sql schema
-table_fails schema next sql table is plain text whole defined it makes bare uncounted utf8 old new e made =
-    fails_so schema sql old new made.schema_is plain whole CreateTable is refl text
+    → is_whole (length sql) 0 (understood schema sql) ≡ true → table_defined_by sql ≡ Ok table → IsMakeable schema sql table → created schema table ≡ next → lacks_sequence schema ≡ false → lacks_sequence next ≡ false → is_plain_text sql ≡ true → FailsOnRows sql schema
+table_fails schema next sql table is plain text whole defined it makes bare uncounted utf8 old new e has =
+    fails_so schema sql old new has plain whole CreateTable is refl text
     (λ t same stop h. made_then schema sql table defined it bare t same (plain_utf8 sql utf8) next makes uncounted old.step_limit (mode_of old) old.now.trees stop h) e
 
 pub index_fails : (schema : Schema) (sql : List ℕ) (at : ℕ) (table : Table) (index : Index) → slice_get schema.tables at ≡ Some table → command_of (understood schema sql) ≡ CreateIndex at → IsPlain (understood schema sql)
@@ -236,67 +238,70 @@ index_fails schema sql at table index there is plain text whole defined it utf8 
     (λ t same stop h. index_made_then schema sql table index defined it old.now.trees made.bare (all-slice_get (λ (t : Table). old.now.trees t.tree ≡ []) schema.tables at table there made.bare) t same (plain_utf8 sql utf8) (mode_of old) stop
     (subst (λ f. AtPlace (λ u. Defines (mode_of old) (MakesIndex t (record { schema = schema; trees = old.now.trees }) u)) f (Err stop)) there h)) e
 
-fails_meta : FailsByFault (get_or create_texts 0 []) (begun_schema 0 0)
+on_bare : (sql : List ℕ) (schema : Schema) → FailsOnRows sql schema → FailsByFault sql schema
+on_bare sql schema h old new e made = h old new e made.schema_is
+
+fails_meta : FailsOnRows (get_or create_texts 0 []) (begun_schema 0 0)
 unfolding understood everything fits_kind is_free_name begins same_name value_cmp lib.Ieee.is_nan lib.Ieee.lt
 fails_meta = table_fails (begun_schema 0 0) (begun_schema 1 0) (get_or create_texts 0 []) (record meta { tree = 0 }) refl (refl, refl) refl refl refl
     (record { free = refl; free_indexes = refl; utf8 = refl; plain_name = refl; few = refl; reals = refl; index_reals_fit = refl; formed = refl; fit = refl; short = refl }) refl refl refl refl
 
-fails_holder : FailsByFault (get_or create_texts 1 []) (begun_schema 1 0)
+fails_holder : FailsOnRows (get_or create_texts 1 []) (begun_schema 1 0)
 unfolding understood everything fits_kind is_free_name begins same_name value_cmp lib.Ieee.is_nan lib.Ieee.lt
 fails_holder = table_fails (begun_schema 1 0) (begun_schema 2 1) (get_or create_texts 1 []) (record holder { tree = 0 }) refl (refl, refl) refl refl refl
     (record { free = refl; free_indexes = refl; utf8 = refl; plain_name = refl; few = refl; reals = refl; index_reals_fit = refl; formed = refl; fit = refl; short = refl }) refl refl refl refl
 
-fails_account : FailsByFault (get_or create_texts 2 []) (begun_schema 2 1)
+fails_account : FailsOnRows (get_or create_texts 2 []) (begun_schema 2 1)
 unfolding understood everything fits_kind is_free_name begins same_name value_cmp lib.Ieee.is_nan lib.Ieee.lt
 fails_account = table_fails (begun_schema 2 1) (begun_schema 3 1) (get_or create_texts 2 []) (record account { tree = 0 }) refl (refl, refl) refl refl refl
     (record { free = refl; free_indexes = refl; utf8 = refl; plain_name = refl; few = refl; reals = refl; index_reals_fit = refl; formed = refl; fit = refl; short = refl }) refl refl refl refl
 
-fails_device : FailsByFault (get_or create_texts 3 []) (begun_schema 3 1)
+fails_device : FailsOnRows (get_or create_texts 3 []) (begun_schema 3 1)
 unfolding understood everything fits_kind is_free_name begins same_name value_cmp lib.Ieee.is_nan lib.Ieee.lt
 fails_device = table_fails (begun_schema 3 1) (begun_schema 4 2) (get_or create_texts 3 []) (record device { tree = 0 }) refl (refl, refl) refl refl refl
     (record { free = refl; free_indexes = refl; utf8 = refl; plain_name = refl; few = refl; reals = refl; index_reals_fit = refl; formed = refl; fit = refl; short = refl }) refl refl refl refl
 
-fails_declaration : FailsByFault (get_or create_texts 4 []) (begun_schema 4 2)
+fails_declaration : FailsOnRows (get_or create_texts 4 []) (begun_schema 4 2)
 unfolding understood everything fits_kind is_free_name begins same_name value_cmp lib.Ieee.is_nan lib.Ieee.lt
 fails_declaration = table_fails (begun_schema 4 2) (begun_schema 5 3) (get_or create_texts 4 []) (record declaration { tree = 0 }) refl (refl, refl) refl refl refl
     (record { free = refl; free_indexes = refl; utf8 = refl; plain_name = refl; few = refl; reals = refl; index_reals_fit = refl; formed = refl; fit = refl; short = refl }) refl refl refl refl
 
-fails_lot : FailsByFault (get_or create_texts 5 []) (begun_schema 5 3)
+fails_lot : FailsOnRows (get_or create_texts 5 []) (begun_schema 5 3)
 unfolding understood everything fits_kind is_free_name begins same_name value_cmp lib.Ieee.is_nan lib.Ieee.lt
 fails_lot = table_fails (begun_schema 5 3) (begun_schema 6 4) (get_or create_texts 5 []) (record lot { tree = 0 }) refl (refl, refl) refl refl refl
     (record { free = refl; free_indexes = refl; utf8 = refl; plain_name = refl; few = refl; reals = refl; index_reals_fit = refl; formed = refl; fit = refl; short = refl }) refl refl refl refl
 
-fails_piece : FailsByFault (get_or create_texts 6 []) (begun_schema 6 4)
+fails_piece : FailsOnRows (get_or create_texts 6 []) (begun_schema 6 4)
 unfolding understood everything fits_kind is_free_name begins same_name value_cmp lib.Ieee.is_nan lib.Ieee.lt
 fails_piece = table_fails (begun_schema 6 4) (begun_schema 7 4) (get_or create_texts 6 []) (record piece { tree = 0 }) refl (refl, refl) refl refl refl
     (record { free = refl; free_indexes = refl; utf8 = refl; plain_name = refl; few = refl; reals = refl; index_reals_fit = refl; formed = refl; fit = refl; short = refl }) refl refl refl refl
 
-fails_peer : FailsByFault (get_or create_texts 7 []) (begun_schema 7 4)
+fails_peer : FailsOnRows (get_or create_texts 7 []) (begun_schema 7 4)
 unfolding understood everything fits_kind is_free_name begins same_name value_cmp lib.Ieee.is_nan lib.Ieee.lt
 fails_peer = table_fails (begun_schema 7 4) (begun_schema 8 5) (get_or create_texts 7 []) (record peer { tree = 0 }) refl (refl, refl) refl refl refl
     (record { free = refl; free_indexes = refl; utf8 = refl; plain_name = refl; few = refl; reals = refl; index_reals_fit = refl; formed = refl; fit = refl; short = refl }) refl refl refl refl
 
-fails_receipt : FailsByFault (get_or create_texts 8 []) (begun_schema 8 5)
+fails_receipt : FailsOnRows (get_or create_texts 8 []) (begun_schema 8 5)
 unfolding understood everything fits_kind is_free_name begins same_name value_cmp lib.Ieee.is_nan lib.Ieee.lt
 fails_receipt = table_fails (begun_schema 8 5) (begun_schema 9 6) (get_or create_texts 8 []) (record receipt { tree = 0 }) refl (refl, refl) refl refl refl
     (record { free = refl; free_indexes = refl; utf8 = refl; plain_name = refl; few = refl; reals = refl; index_reals_fit = refl; formed = refl; fit = refl; short = refl }) refl refl refl refl
 
-fails_cancellation : FailsByFault (get_or create_texts 9 []) (begun_schema 9 6)
+fails_cancellation : FailsOnRows (get_or create_texts 9 []) (begun_schema 9 6)
 unfolding understood everything fits_kind is_free_name begins same_name value_cmp lib.Ieee.is_nan lib.Ieee.lt
 fails_cancellation = table_fails (begun_schema 9 6) (begun_schema 10 6) (get_or create_texts 9 []) (record cancellation { tree = 0 }) refl (refl, refl) refl refl refl
     (record { free = refl; free_indexes = refl; utf8 = refl; plain_name = refl; few = refl; reals = refl; index_reals_fit = refl; formed = refl; fit = refl; short = refl }) refl refl refl refl
 
-fails_withdrawal : FailsByFault (get_or create_texts 10 []) (begun_schema 10 6)
+fails_withdrawal : FailsOnRows (get_or create_texts 10 []) (begun_schema 10 6)
 unfolding understood everything fits_kind is_free_name begins same_name value_cmp lib.Ieee.is_nan lib.Ieee.lt
 fails_withdrawal = table_fails (begun_schema 10 6) (begun_schema 11 6) (get_or create_texts 10 []) (record withdrawal { tree = 0 }) refl (refl, refl) refl refl refl
     (record { free = refl; free_indexes = refl; utf8 = refl; plain_name = refl; few = refl; reals = refl; index_reals_fit = refl; formed = refl; fit = refl; short = refl }) refl refl refl refl
 
-fails_notice_out : FailsByFault (get_or create_texts 11 []) (begun_schema 11 6)
+fails_notice_out : FailsOnRows (get_or create_texts 11 []) (begun_schema 11 6)
 unfolding understood everything fits_kind is_free_name begins same_name value_cmp lib.Ieee.is_nan lib.Ieee.lt
 fails_notice_out = table_fails (begun_schema 11 6) (begun_schema 12 6) (get_or create_texts 11 []) (record notice_out { tree = 0 }) refl (refl, refl) refl refl refl
     (record { free = refl; free_indexes = refl; utf8 = refl; plain_name = refl; few = refl; reals = refl; index_reals_fit = refl; formed = refl; fit = refl; short = refl }) refl refl refl refl
 
-fails_notice_in : FailsByFault (get_or create_texts 12 []) (begun_schema 12 6)
+fails_notice_in : FailsOnRows (get_or create_texts 12 []) (begun_schema 12 6)
 unfolding understood everything fits_kind is_free_name begins same_name value_cmp lib.Ieee.is_nan lib.Ieee.lt
 fails_notice_in = table_fails (begun_schema 12 6) (begun_schema 13 7) (get_or create_texts 12 []) (record notice_in { tree = 0 }) refl (refl, refl) refl refl refl
     (record { free = refl; free_indexes = refl; utf8 = refl; plain_name = refl; few = refl; reals = refl; index_reals_fit = refl; formed = refl; fit = refl; short = refl }) refl refl refl refl
@@ -311,38 +316,45 @@ unfolding understood everything fits_kind is_free_name begins same_name value_cm
 fails_piece_by_kind = index_fails (begun_schema 13 8) (get_or create_texts 14 []) 6 piece (index_on (codes "piece_by_kind") 0 10 (4 ∷ 0 ∷ [])) refl refl (refl, refl) refl refl refl
     (record { free = refl; utf8 = refl; plain_name = refl; table_utf8 = refl; few = refl; reals = refl; index_reals_fit = refl; fit = refl; short = refl }) refl
 
-fails_correction : FailsByFault (get_or create_texts 15 []) (begun_schema 13 9)
+fails_correction : FailsOnRows (get_or create_texts 15 []) (begun_schema 13 9)
 unfolding understood everything fits_kind is_free_name begins same_name value_cmp lib.Ieee.is_nan lib.Ieee.lt
 fails_correction = table_fails (begun_schema 13 9) (begun_schema 14 9) (get_or create_texts 15 []) (record correction { tree = 0 }) refl (refl, refl) refl refl refl
     (record { free = refl; free_indexes = refl; utf8 = refl; plain_name = refl; few = refl; reals = refl; index_reals_fit = refl; formed = refl; fit = refl; short = refl }) refl refl refl refl
 
-fails_device_carrier : FailsByFault (get_or create_texts 16 []) (begun_schema 14 9)
+fails_device_carrier : FailsOnRows (get_or create_texts 16 []) (begun_schema 14 9)
 unfolding understood everything fits_kind is_free_name begins same_name value_cmp lib.Ieee.is_nan lib.Ieee.lt
 fails_device_carrier = table_fails (begun_schema 14 9) (begun_schema 15 10) (get_or create_texts 16 []) (record device_carrier { tree = 0 }) refl (refl, refl) refl refl refl
     (record { free = refl; free_indexes = refl; utf8 = refl; plain_name = refl; few = refl; reals = refl; index_reals_fit = refl; formed = refl; fit = refl; short = refl }) refl refl refl refl
 
-fails_lot_carrier : FailsByFault (get_or create_texts 17 []) (begun_schema 15 10)
+fails_lot_carrier : FailsOnRows (get_or create_texts 17 []) (begun_schema 15 10)
 unfolding understood everything fits_kind is_free_name begins same_name value_cmp lib.Ieee.is_nan lib.Ieee.lt
 fails_lot_carrier = table_fails (begun_schema 15 10) (begun_schema 16 10) (get_or create_texts 17 []) (record lot_carrier { tree = 0 }) refl (refl, refl) refl refl refl
     (record { free = refl; free_indexes = refl; utf8 = refl; plain_name = refl; few = refl; reals = refl; index_reals_fit = refl; formed = refl; fit = refl; short = refl }) refl refl refl refl
 
 pub fails : (i : ℕ) → i < 18 → FailsByFault (get_or create_texts i []) (get_or stages i no_schema)
-fails zero low = fails_meta
-fails (suc zero) low = fails_holder
-fails (suc (suc zero)) low = fails_account
-fails (suc (suc (suc zero))) low = fails_device
-fails (suc (suc (suc (suc zero)))) low = fails_declaration
-fails (suc (suc (suc (suc (suc zero))))) low = fails_lot
-fails (suc (suc (suc (suc (suc (suc zero)))))) low = fails_piece
-fails (suc (suc (suc (suc (suc (suc (suc zero))))))) low = fails_peer
-fails (suc (suc (suc (suc (suc (suc (suc (suc zero)))))))) low = fails_receipt
-fails (suc (suc (suc (suc (suc (suc (suc (suc (suc zero))))))))) low = fails_cancellation
-fails (suc (suc (suc (suc (suc (suc (suc (suc (suc (suc zero)))))))))) low = fails_withdrawal
-fails (suc (suc (suc (suc (suc (suc (suc (suc (suc (suc (suc zero))))))))))) low = fails_notice_out
-fails (suc (suc (suc (suc (suc (suc (suc (suc (suc (suc (suc (suc zero)))))))))))) low = fails_notice_in
+fails zero low = on_bare _ _ fails_meta
+fails (suc zero) low = on_bare _ _ fails_holder
+fails (suc (suc zero)) low = on_bare _ _ fails_account
+fails (suc (suc (suc zero))) low = on_bare _ _ fails_device
+fails (suc (suc (suc (suc zero)))) low = on_bare _ _ fails_declaration
+fails (suc (suc (suc (suc (suc zero))))) low = on_bare _ _ fails_lot
+fails (suc (suc (suc (suc (suc (suc zero)))))) low = on_bare _ _ fails_piece
+fails (suc (suc (suc (suc (suc (suc (suc zero))))))) low = on_bare _ _ fails_peer
+fails (suc (suc (suc (suc (suc (suc (suc (suc zero)))))))) low = on_bare _ _ fails_receipt
+fails (suc (suc (suc (suc (suc (suc (suc (suc (suc zero))))))))) low = on_bare _ _ fails_cancellation
+fails (suc (suc (suc (suc (suc (suc (suc (suc (suc (suc zero)))))))))) low = on_bare _ _ fails_withdrawal
+fails (suc (suc (suc (suc (suc (suc (suc (suc (suc (suc (suc zero))))))))))) low = on_bare _ _ fails_notice_out
+fails (suc (suc (suc (suc (suc (suc (suc (suc (suc (suc (suc (suc zero)))))))))))) low = on_bare _ _ fails_notice_in
 fails (suc (suc (suc (suc (suc (suc (suc (suc (suc (suc (suc (suc (suc zero))))))))))))) low = fails_piece_by_account
 fails (suc (suc (suc (suc (suc (suc (suc (suc (suc (suc (suc (suc (suc (suc zero)))))))))))))) low = fails_piece_by_kind
-fails (suc (suc (suc (suc (suc (suc (suc (suc (suc (suc (suc (suc (suc (suc (suc zero))))))))))))))) low = fails_correction
-fails (suc (suc (suc (suc (suc (suc (suc (suc (suc (suc (suc (suc (suc (suc (suc (suc zero)))))))))))))))) low = fails_device_carrier
-fails (suc (suc (suc (suc (suc (suc (suc (suc (suc (suc (suc (suc (suc (suc (suc (suc (suc zero))))))))))))))))) low = fails_lot_carrier
+fails (suc (suc (suc (suc (suc (suc (suc (suc (suc (suc (suc (suc (suc (suc (suc zero))))))))))))))) low = on_bare _ _ fails_correction
+fails (suc (suc (suc (suc (suc (suc (suc (suc (suc (suc (suc (suc (suc (suc (suc (suc zero)))))))))))))))) low = on_bare _ _ fails_device_carrier
+fails (suc (suc (suc (suc (suc (suc (suc (suc (suc (suc (suc (suc (suc (suc (suc (suc (suc zero))))))))))))))))) low = on_bare _ _ fails_lot_carrier
 fails (suc (suc (suc (suc (suc (suc (suc (suc (suc (suc (suc (suc (suc (suc (suc (suc (suc (suc n)))))))))))))))))) low = absurd (omega (arith, low))
+
+-- those that are added to version 1
+pub fails_added : (i : ℕ) → i < 3 → FailsOnRows (get_or create_texts (15 + i) []) (get_or stages (15 + i) no_schema)
+fails_added zero low = fails_correction
+fails_added (suc zero) low = fails_device_carrier
+fails_added (suc (suc zero)) low = fails_lot_carrier
+fails_added (suc (suc (suc n))) low = absurd (omega (arith, low))

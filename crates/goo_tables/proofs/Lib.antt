@@ -13,3 +13,4 @@ pub mod NoticesIn
 pub mod MetaTable
 pub mod CreatingFails
 pub mod Creating
+pub mod Adding

@@ -10,6 +10,7 @@ ghost use Rattle.goo_tables_rows.specs.Refused.{FailsByFault, FailsOnlyByFault, 
 ghost use Rattle.goo_tables_rows.specs.Lives.{LeavesLive};
 ghost use Rattle.goo_tables_rows.specs.Stands.{Sees, Looks, Keeps};
 ghost use Rattle.goo_tables_rows.specs.Met.{HasOurTables};
+ghost use Rattle.goo_tables_rows.specs.First.{ReadsFirst};
 ghost use Rattle.goo_tables_holdings.specs.Changes.{with_cancellation, CancellationFits};
 
 use goo_tables_rows::ask::{ask_all, ask_first};
@@ -94,6 +95,9 @@ pub fn all_cancellations<S: Alter>(
     ensures readable { FailsOnlyByFault (state S.Store conn.old) (state S.Store conn.new) result (λ t. All cancellation_readable (map cancellation_columns t.cancellations)) }
     ensures refused { FailsByFault (state S.Store conn.old) (state S.Store conn.new) result }
     ensures outside { conn.old.in_transaction ≡ false → conn.new.in_transaction ≡ false }
+    ensures first { ReadsFirst (state S.Store conn.old) (state S.Store conn.new) result (λ t found. map cancellation_in found.items ≡ t.cancellations)
+        (λ db found. Keeps (db.trees 15) cancellation_row cancellation_key (map cancellation_in found.items))
+        (λ t. All cancellation_readable (map cancellation_columns t.cancellations)) }
 {
     ask_all(
         alloc,

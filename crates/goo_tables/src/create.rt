@@ -3,15 +3,17 @@
 ghost use Rattle.std.specs.Prelude.{◌≡◌, ◌<◌, get_or, [], IsTrue, IfErr, OnOk};
 ghost use Rattle.sqlite.specs.State.{HasCleanDisk, IsLive, KeepsCommit, Survives};
 ghost use Rattle.sqlite.specs.Held.{state};
-ghost use Rattle.goo_tables_rows.specs.Columns.{no_schema};
+ghost use Rattle.goo_tables_rows.specs.Columns.{no_schema, first_schema};
+ghost use Rattle.goo_tables_rows.specs.First.{IsFirst};
 ghost use Rattle.goo_tables_rows.specs.Refused.{IsFault};
-ghost use Rattle.goo_tables_rows.specs.Stands.{IsBare};
+ghost use Rattle.goo_tables_rows.specs.Rows.{Tables};
+ghost use Rattle.goo_tables_rows.specs.Stands.{IsBare, Sees};
 ghost use Rattle.goo_tables.specs.Created.{create_texts};
 
 use goo_tables_rows::put::put;
 use sqlite::{Alter, Error, Transaction};
 
-/// The statements that `create_tables` runs, in turn.
+/// The statements that `create_tables` runs, in turn; `add_tables` runs the last three.
 fn statement(at: u32) -> &'static str
     requires { at < 18 }
     ensures { result.now ≡ get_or create_texts at [] }
@@ -72,6 +74,28 @@ pub fn create_tables<S: Alter>(tx: &mut Transaction<'_, S>) -> Result<(), Error>
 {
     for at in 0..18 {
         put(tx, statement(at), &[])?;
+    }
+    Ok(())
+}
+
+/// Adds to the tables of version 1 those that version 2 has beside them, each without a row. Nothing is committed.
+///
+/// # Errors
+///
+/// In a transaction on tables of version 1, whatever their rows: a failure of memory or of the disk.
+pub fn add_tables<S: Alter>(tx: &mut Transaction<'_, S>) -> Result<(), Error>
+    ensures same_reference { tx.new.conn.ghost_name ≡ tx.old.conn.ghost_name }
+    ensures added { HasCleanDisk (state S.Store tx.new.conn.now) → IsTrue (state S.Store tx.old.conn.now).in_transaction → (t : Tables) → IsFirst (state S.Store tx.old.conn.now).now t
+        → OnOk result (Sees (state S.Store tx.new.conn.now) t) }
+    ensures refused { HasCleanDisk (state S.Store tx.new.conn.now) → IsTrue (state S.Store tx.old.conn.now).in_transaction → (state S.Store tx.old.conn.now).now.schema ≡ first_schema
+        → IfErr result (IsFault (state S.Store tx.old.conn.now) (state S.Store tx.new.conn.now)) }
+    ensures live { HasCleanDisk (state S.Store tx.new.conn.now) → IsLive (state S.Store tx.old.conn.now) → IsTrue (state S.Store tx.old.conn.now).in_transaction → (state S.Store tx.old.conn.now).now.schema ≡ first_schema
+        → OnOk result (IsLive (state S.Store tx.new.conn.now)) }
+    ensures uncommitted { HasCleanDisk (state S.Store tx.new.conn.now) → KeepsCommit (state S.Store tx.old.conn.now) (state S.Store tx.new.conn.now) }
+    ensures survives { Survives (state S.Store tx.old.conn.now) (state S.Store tx.new.conn.now) (λ _. ⊥) }
+{
+    for at in 0..3 {
+        put(tx, statement(15 + at), &[])?;
     }
     Ok(())
 }

@@ -34,8 +34,9 @@ use Rattle.goo_tables_rows.proofs.Living.{KeepsLive, keeps_live}
 use Rattle.goo_tables_rows.proofs.Same.{account_same}
 use Rattle.goo_tables_holdings.specs.Changes.{with_account, with_closed}
 use Rattle.goo_tables_holdings.proofs.Queries.{in_order, unordered}
+use Rattle.goo_tables_rows.specs.First.{IsFirst, HasFirstTables}
 use Rattle.goo_tables_rows.specs.Met.{HasOurTables}
-use Rattle.goo_tables_rows.proofs.Meeting.{type_rules, shape_rules, no_number, int_same}
+use Rattle.goo_tables_rows.proofs.Meeting.{type_rules, shape_rules, first_type_rules, first_shape_rules, no_number, int_same}
 use Rattle.std.specs.Prelude.{⊤}
 use Rattle.std.proofs.lemmas.Iterator.Adapters.{option_map_id}
 use Rattle.std.proofs.lemmas.Bool.{lt-ltb}
@@ -51,7 +52,7 @@ use Rattle.goo_tables_rows.proofs.Failing.{whole_query}
 use Rattle.goo_tables_holdings.proofs.Altering.{updating_fails, update_obeys, update_small, update_stored}
 use Rattle.goo_tables_holdings.proofs.Failing.{FailsOnly, not_there, adding_fails}
 use Rattle.goo_tables_holdings.proofs.AnyTable.{TableOf, shown, shows_each, finds_one, IsListed, meets_listed}
-use Rattle.goo_tables_holdings.proofs.Asking.{Asks, Tells, Says}
+use Rattle.goo_tables_holdings.proofs.Asking.{Asks, AsksFirst, SaysFirst, Tells, Says}
 use Rattle.goo_tables_holdings.proofs.Values.{whole_is, null_at_key}
 
 -- ---- account: the table
@@ -208,3 +209,18 @@ account_is k x fits reads =
 
 pub meets_all : (old : State) → HasOurTables old.now → Tells old all_query [] (λ (xs : List AccountRow) rows. AllZip account_reads rows xs) (λ xs. Keeps (old.now.trees 3) account_row account_key (map account_in xs))
 meets_all old it = meets_listed accounts old (shape_rules old.now it).1.1.0 (type_rules old.now it).1.1.0 account_is
+
+-- ---- account: the whole table of version 1
+
+pub first_asks : AsksFirst all_text all_query
+unfolding understood everything
+first_asks = record { names = _; is = refl; plain = (refl, refl); unlisted = refl; suits = refl }
+
+pub shown_first : (old : State) (t : Tables) → IsFirst old.now t → (rows : List Row) → IsAnswer all_query (overlay old.now.trees []) [] rows → rows ≡ map (λ (x : Account). account_columns x) t.accounts
+shown_first old t it = shown accounts old it.1.accounts
+
+pub shows_first : (old : State) → SaysFirst old all_query (λ (xs : List AccountRow) rows. AllZip account_reads rows xs) (λ t xs. map account_in xs ≡ t.accounts)
+shows_first old t it xs rows answer read = shows_each accounts old it.1.accounts xs rows answer read ∙ map-id _
+
+pub meets_first : (old : State) → HasFirstTables old.now → Tells old all_query [] (λ (xs : List AccountRow) rows. AllZip account_reads rows xs) (λ xs. Keeps (old.now.trees 3) account_row account_key (map account_in xs))
+meets_first old it = meets_listed accounts old (first_shape_rules old.now it).1.1.0 (first_type_rules old.now it).1.1.0 account_is

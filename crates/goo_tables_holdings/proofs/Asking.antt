@@ -1,4 +1,4 @@
--- A text that asks our tables: what is computed of it, and what a call that asks it does.
+-- A text that asks our tables, or those of version 1: what is computed of it, and what a call that asks it does.
 use Rattle.std.proofs.Common.{◌≡◌, ◌⊎◌, IsTrue, IfOk, IfErr, ℕ, List, [], All, Result, true, false, None}
 use Rattle.sqlite.specs.Order.{Row}
 use Rattle.sqlite.specs.Query.{Query, IsAnswer}
@@ -9,13 +9,15 @@ use Rattle.sqlite.specs.State.{State, HasCleanDisk, Survives, CommitsShowing}
 use Rattle.sqlite.specs.declared.error.Error.{Error}
 use Rattle.sqlite.proofs.Callers.{IsPlain, command_of}
 use Rattle.goo_tables_rows.specs.Asked.{Answered, IsRead, FailsToAsk}
-use Rattle.goo_tables_rows.specs.Columns.{registry_schema}
+use Rattle.sqlite.specs.Effect.{Database}
+use Rattle.goo_tables_rows.specs.Columns.{registry_schema, first_schema}
+use Rattle.goo_tables_rows.specs.First.{IsFirst, HasFirstTables, ReadsFirst}
 use Rattle.goo_tables_rows.specs.Met.{HasOurTables}
 use Rattle.goo_tables_rows.specs.Readable.{is_read_error}
 use Rattle.goo_tables_rows.specs.Refused.{IsFault, is_suited}
 use Rattle.goo_tables_rows.specs.Rows.{Tables}
 use Rattle.goo_tables_rows.specs.Stands.{Stands, Looks}
-use Rattle.goo_tables_rows.proofs.Reading.{looks, meets}
+use Rattle.goo_tables_rows.proofs.Reading.{looks, looks_first, meets}
 use Rattle.goo_tables_rows.proofs.Refusing.{fails_by, fails_readable}
 
 -- the text asks this query, and is one statement that parameters made so suit
@@ -42,12 +44,37 @@ module _ {A X : Type 0} {sql : List ℕ} {q : Query} {params : A → Row} (asks 
   -- whatever stands in our tables
   pub met : (R : X → List Row → Type 0) (right : X → Type 0) → HasOurTables old.now → Tells old q (params a) R right
       → IfOk r (λ x. Answered sql (params a) old new (R x)) → IfOk r right
-  met R right it says = meets sql q asks.names asks.is asks.plain asks.unlisted (params a) old new R right it.schema says r
+  met R right it says = meets registry_schema sql q asks.names asks.is asks.plain asks.unlisted (params a) old new R right it.schema says r
 
   pub refused : (readable : Row → Type 0) → old.now.schema ≡ registry_schema → old.step_limit ≡ None → IfErr r (FailsToAsk sql (params a) old new readable) → IfErr r (λ e. IsFault old new e ⊎ IsTrue (is_read_error e))
-  refused readable has unlimited = fails_by sql q asks.names asks.is asks.plain asks.unlisted (params a) (asks.suits a) old new has unlimited readable r
+  refused readable has unlimited = fails_by registry_schema sql q asks.names asks.is asks.plain asks.unlisted (params a) (asks.suits a) old new has unlimited readable r
 
   -- each row that the query shows can be read
   pub refused_readable : (readable : Row → Type 0) → old.now.schema ≡ registry_schema → old.step_limit ≡ None → ((rows : List Row) → IsAnswer q (overlay old.now.trees []) (params a) rows → All readable rows)
       → IfErr r (FailsToAsk sql (params a) old new readable) → IfErr r (IsFault old new)
-  refused_readable readable has unlimited right = fails_readable sql q asks.names asks.is asks.plain asks.unlisted (params a) (asks.suits a) old new has unlimited readable right r
+  refused_readable readable has unlimited right = fails_readable registry_schema sql q asks.names asks.is asks.plain asks.unlisted (params a) (asks.suits a) old new has unlimited readable right r
+
+-- ---- a whole table of version 1
+
+-- the text asks this query of the tables of version 1, and is one statement without parameters
+pub record AsksFirst (sql : List ℕ) (q : Query) : Type 0 where
+  pub names : List (List ℕ)
+  pub is : command_of (understood first_schema sql) ≡ Select (record { lets = []; body = q }) names
+  pub plain : IsPlain (understood first_schema sql)
+  pub unlisted : reads_listing first_schema sql ≡ false
+  pub suits : is_suited first_schema sql q [] ≡ true
+
+abbrev pub SaysFirst : {X : Type 0} → State → Query → (X → List Row → Type 0) → (Tables → X → Type 0) → Type 0
+SaysFirst old q reads right = (t : Tables) → IsFirst old.now t → Tells old q [] reads (right t)
+
+module _ {X : Type 0} {sql : List ℕ} {q : Query} (asks : AsksFirst sql q) (old new : State) (r : Result X Error) where
+  pub reads_first : (R : X → List Row → Type 0) (right : Tables → X → Type 0) (Shows : Database → X → Type 0) (readable : Row → Type 0) (CanBeRead : Tables → Type 0)
+      → SaysFirst old q R right → (HasFirstTables old.now → Tells old q [] R (Shows old.now)) → ((t : Tables) → IsFirst old.now t → CanBeRead t → (rows : List Row) → IsAnswer q (overlay old.now.trees []) [] rows → All readable rows)
+      → (HasCleanDisk new → IfOk r (λ x. Answered sql [] old new (R x))) → (HasCleanDisk new → IsRead sql [] old new) → Survives old new (CommitsShowing sql [] old) → (HasCleanDisk new → IfErr r (FailsToAsk sql [] old new readable))
+      → ReadsFirst old new r right Shows CanBeRead
+  reads_first R right Shows readable CanBeRead says tells reads read ran survives fails = record {
+    looks = looks_first sql q asks.names asks.is asks.plain asks.unlisted [] old new R right says r read ran survives;
+    met = λ clean it. meets first_schema sql q asks.names asks.is asks.plain asks.unlisted [] old new R (Shows old.now) it.schema (tells it) r (read clean);
+    refused = λ clean has unlimited. fails_by first_schema sql q asks.names asks.is asks.plain asks.unlisted [] asks.suits old new has unlimited readable r (fails clean);
+    readable = λ clean unlimited t it can. fails_readable first_schema sql q asks.names asks.is asks.plain asks.unlisted [] asks.suits old new it.0 unlimited readable (reads t it can) r (fails clean);
+  }

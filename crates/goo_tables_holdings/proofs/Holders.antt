@@ -27,8 +27,9 @@ use Rattle.goo_tables_rows.proofs.Living.{KeepsLive, keeps_live}
 use Rattle.goo_tables_rows.proofs.Same.{holder_same}
 use Rattle.goo_tables_holdings.specs.Changes.{with_holder}
 use Rattle.goo_tables_holdings.proofs.Queries.{in_order}
+use Rattle.goo_tables_rows.specs.First.{IsFirst, HasFirstTables}
 use Rattle.goo_tables_rows.specs.Met.{HasOurTables, KeepsSome}
-use Rattle.goo_tables_rows.proofs.Meeting.{type_rules, shape_rules, no_text}
+use Rattle.goo_tables_rows.proofs.Meeting.{type_rules, shape_rules, first_type_rules, first_shape_rules, no_text}
 use Rattle.std.specs.Prelude.{⊤}
 use Rattle.sqlite_keyed.specs.Keyed.{next_key}
 use Rattle.sqlite_keyed.proofs.KeyedLemmas.{next_key_is_free}
@@ -38,7 +39,7 @@ use Rattle.goo_tables_rows.proofs.Distinct.{same_text, one_apart}
 use Rattle.goo_tables_holdings.proofs.Failing.{FailsOnly, distinct_kept_fails, next_row}
 use Rattle.goo_tables_holdings.proofs.Adding.{Adds, adds_kept}
 use Rattle.goo_tables_holdings.proofs.AnyTable.{TableOf, shown, shows_each, finds_one, IsKept, meets_kept}
-use Rattle.goo_tables_holdings.proofs.Asking.{Asks, Tells, Says}
+use Rattle.goo_tables_holdings.proofs.Asking.{Asks, AsksFirst, SaysFirst, Tells, Says}
 use Rattle.goo_tables_holdings.proofs.Values.{whole_is}
 
 -- ---- holder: the table
@@ -128,3 +129,18 @@ holder_is k x fits reads =
 
 pub meets_all : (old : State) → HasOurTables old.now → Tells old all_query [] (λ (xs : List HolderRow) rows. AllZip holder_reads rows xs) (λ xs. KeepsSome (old.now.trees 1) holder_row (map holder_in xs))
 meets_all old it = meets_kept holders old (shape_rules old.now it).1.0 (type_rules old.now it).1.0 holder_is
+
+-- ---- holder: the whole table of version 1
+
+pub first_asks : AsksFirst all_text all_query
+unfolding understood everything
+first_asks = record { names = _; is = refl; plain = (refl, refl); unlisted = refl; suits = refl }
+
+pub shown_first : (old : State) (t : Tables) → IsFirst old.now t → (rows : List Row) → IsAnswer all_query (overlay old.now.trees []) [] rows → rows ≡ map (λ (k : (Kept Holder)). holder_columns k.1) t.holders
+shown_first old t it = shown holders old it.1.holders
+
+pub shows_first : (old : State) → SaysFirst old all_query (λ (xs : List HolderRow) rows. AllZip holder_reads rows xs) (λ t xs. map holder_in xs ≡ map (λ (k : (Kept Holder)). k.1) t.holders)
+shows_first old t it xs rows answer read = shows_each holders old it.1.holders xs rows answer read
+
+pub meets_first : (old : State) → HasFirstTables old.now → Tells old all_query [] (λ (xs : List HolderRow) rows. AllZip holder_reads rows xs) (λ xs. KeepsSome (old.now.trees 1) holder_row (map holder_in xs))
+meets_first old it = meets_kept holders old (first_shape_rules old.now it).1.0 (first_type_rules old.now it).1.0 holder_is

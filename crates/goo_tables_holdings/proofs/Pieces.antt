@@ -38,8 +38,9 @@ use Rattle.goo_tables_rows.proofs.Alone.{pieces_stand}
 use Rattle.goo_tables_rows.proofs.Living.{KeepsLive, keeps_live}
 use Rattle.goo_tables_holdings.specs.Changes.{with_piece, without_piece}
 use Rattle.goo_tables_holdings.proofs.Queries.{in_order, unordered}
+use Rattle.goo_tables_rows.specs.First.{IsFirst, HasFirstTables}
 use Rattle.goo_tables_rows.specs.Met.{HasOurTables}
-use Rattle.goo_tables_rows.proofs.Meeting.{type_rules, shape_rules, no_number, int_same}
+use Rattle.goo_tables_rows.proofs.Meeting.{type_rules, shape_rules, first_type_rules, first_shape_rules, no_number, int_same}
 use Rattle.std.specs.Prelude.{⊤}
 use Rattle.std.proofs.lemmas.Bool.{lt-ltb}
 use Rattle.sqlite_keyed.specs.Keyed.{get_by}
@@ -50,7 +51,7 @@ use Rattle.goo_tables_holdings.proofs.Adding.{Adds, adds_row}
 use Rattle.goo_tables_holdings.proofs.Altering as any
 use Rattle.goo_tables_holdings.proofs.Failing.{FailsOnly, not_there, adding_fails}
 use Rattle.goo_tables_holdings.proofs.AnyTable.{TableOf, shown, shows_each, finds_one, IsListed, meets_listed}
-use Rattle.goo_tables_holdings.proofs.Asking.{Asks, Tells, Says}
+use Rattle.goo_tables_holdings.proofs.Asking.{Asks, AsksFirst, SaysFirst, Tells, Says}
 use Rattle.goo_tables_holdings.proofs.Values.{whole_is, null_at_key}
 
 -- ---- piece: the table
@@ -183,3 +184,18 @@ piece_is k x fits reads =
 
 pub meets_all : (old : State) → HasOurTables old.now → Tells old all_query [] (λ (xs : List PieceRow) rows. AllZip piece_reads rows xs) (λ xs. Keeps (old.now.trees 10) piece_row piece_key xs)
 meets_all old it xs rows answer read = subst (Keeps (old.now.trees 10) piece_row piece_key) (map-id xs) (meets_listed pieces old (shape_rules old.now it).1.1.1.1.1.1.0 (type_rules old.now it).1.1.1.1.1.1.0 piece_is xs rows answer read)
+
+-- ---- piece: the whole table of version 1
+
+pub first_asks : AsksFirst all_text all_query
+unfolding understood everything
+first_asks = record { names = _; is = refl; plain = (refl, refl); unlisted = refl; suits = refl }
+
+pub shown_first : (old : State) (t : Tables) → IsFirst old.now t → (rows : List Row) → IsAnswer all_query (overlay old.now.trees []) [] rows → rows ≡ map piece_columns t.pieces
+shown_first old t it = shown pieces old it.1.pieces
+
+pub shows_first : (old : State) → SaysFirst old all_query (λ (xs : List PieceRow) rows. AllZip piece_reads rows xs) (λ t xs. xs ≡ t.pieces)
+shows_first old t it xs rows answer read = sym (map-id xs) ∙ shows_each pieces old it.1.pieces xs rows answer read ∙ map-id _
+
+pub meets_first : (old : State) → HasFirstTables old.now → Tells old all_query [] (λ (xs : List PieceRow) rows. AllZip piece_reads rows xs) (λ xs. Keeps (old.now.trees 10) piece_row piece_key xs)
+meets_first old it xs rows answer read = subst (Keeps (old.now.trees 10) piece_row piece_key) (map-id xs) (meets_listed pieces old (first_shape_rules old.now it).1.1.1.1.1.1.0 (first_type_rules old.now it).1.1.1.1.1.1.0 piece_is xs rows answer read)

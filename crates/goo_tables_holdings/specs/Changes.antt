@@ -86,6 +86,9 @@ begun meta = record {
 abbrev pub at_day : Tables → List ℕ → Tables
 at_day t today = record t { meta = record t.meta { today = today } }
 
+abbrev pub with_version : ℕ → Tables → Tables
+with_version version t = record t { meta = record t.meta { version = version } }
+
 abbrev pub with_counters : Tables → CountersRow → Tables
 with_counters t c = record t {
   meta = record t.meta {

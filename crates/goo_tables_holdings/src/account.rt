@@ -11,6 +11,7 @@ ghost use Rattle.goo_tables_rows.specs.Refused.{FailsByFault, FailsOnlyByFault, 
 ghost use Rattle.goo_tables_rows.specs.Lives.{LeavesLive};
 ghost use Rattle.goo_tables_rows.specs.Stands.{Sees, Looks, Keeps};
 ghost use Rattle.goo_tables_rows.specs.Met.{HasOurTables};
+ghost use Rattle.goo_tables_rows.specs.First.{ReadsFirst};
 ghost use Rattle.goo_tables_holdings.specs.Changes.{with_account, with_closed};
 
 use goo_tables_rows::account::AccountRow;
@@ -111,6 +112,9 @@ pub fn all_accounts<S: Alter>(
     ensures readable { FailsOnlyByFault (state S.Store conn.old) (state S.Store conn.new) result (λ t. All account_readable (map account_columns t.accounts)) }
     ensures refused { FailsByFault (state S.Store conn.old) (state S.Store conn.new) result }
     ensures outside { conn.old.in_transaction ≡ false → conn.new.in_transaction ≡ false }
+    ensures first { ReadsFirst (state S.Store conn.old) (state S.Store conn.new) result (λ t found. map account_in found.items ≡ t.accounts)
+        (λ db found. Keeps (db.trees 3) account_row account_key (map account_in found.items))
+        (λ t. All account_readable (map account_columns t.accounts)) }
 {
     ask_all(
         alloc,

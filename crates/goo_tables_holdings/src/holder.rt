@@ -10,6 +10,7 @@ ghost use Rattle.goo_tables_rows.specs.Refused.{FailsByFault, FailsOnlyByFault, 
 ghost use Rattle.goo_tables_rows.specs.Lives.{LeavesLive};
 ghost use Rattle.goo_tables_rows.specs.Stands.{Sees, Looks};
 ghost use Rattle.goo_tables_rows.specs.Met.{HasOurTables, KeepsSome};
+ghost use Rattle.goo_tables_rows.specs.First.{ReadsFirst};
 ghost use Rattle.goo_tables_holdings.specs.Changes.{with_holder};
 
 use goo_tables_rows::ask::{ask_all, ask_first};
@@ -86,6 +87,9 @@ pub fn all_holders<S: Alter>(
     ensures readable { FailsOnlyByFault (state S.Store conn.old) (state S.Store conn.new) result (λ t. All holder_readable (map (λ k. holder_columns k.1) t.holders)) }
     ensures refused { FailsByFault (state S.Store conn.old) (state S.Store conn.new) result }
     ensures outside { conn.old.in_transaction ≡ false → conn.new.in_transaction ≡ false }
+    ensures first { ReadsFirst (state S.Store conn.old) (state S.Store conn.new) result (λ t found. map holder_in found.items ≡ map (λ k. k.1) t.holders)
+        (λ db found. KeepsSome (db.trees 1) holder_row (map holder_in found.items))
+        (λ t. All holder_readable (map (λ k. holder_columns k.1) t.holders)) }
 {
     ask_all(
         alloc,

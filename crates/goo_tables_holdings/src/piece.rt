@@ -10,6 +10,7 @@ ghost use Rattle.goo_tables_rows.specs.Refused.{FailsByFault, FailsOnlyByFault, 
 ghost use Rattle.goo_tables_rows.specs.Lives.{LeavesLive};
 ghost use Rattle.goo_tables_rows.specs.Stands.{Sees, Looks, Keeps};
 ghost use Rattle.goo_tables_rows.specs.Met.{HasOurTables};
+ghost use Rattle.goo_tables_rows.specs.First.{ReadsFirst};
 ghost use Rattle.goo_tables_holdings.specs.Changes.{with_piece, without_piece, PieceFits};
 
 use goo_tables_rows::ask::{ask_all, ask_first};
@@ -106,6 +107,9 @@ pub fn all_pieces<S: Alter>(alloc: Global, conn: &mut Connection<S>) -> Result<V
     ensures readable { FailsOnlyByFault (state S.Store conn.old) (state S.Store conn.new) result (λ t. All piece_readable (map piece_columns t.pieces)) }
     ensures refused { FailsByFault (state S.Store conn.old) (state S.Store conn.new) result }
     ensures outside { conn.old.in_transaction ≡ false → conn.new.in_transaction ≡ false }
+    ensures first { ReadsFirst (state S.Store conn.old) (state S.Store conn.new) result (λ t found. found.items ≡ t.pieces)
+        (λ db found. Keeps (db.trees 10) piece_row piece_key found.items)
+        (λ t. All piece_readable (map piece_columns t.pieces)) }
 {
     ask_all(
         alloc,

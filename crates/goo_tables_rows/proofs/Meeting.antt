@@ -15,11 +15,12 @@ use Rattle.sqlite_trees.specs.declared.store.Shape.TheVariants as shape
 use Rattle.sqlite_trees.specs.View.{IsShaped}
 use Rattle.sqlite_keyed.specs.Keyed.{IsKeyedBy}
 use Rattle.sqlite_keyed.proofs.ListLemmas.{all_weaker, all_map}
-use Rattle.goo_tables_rows.specs.Columns.{registry_schema, registry_tables, column_of}
+use Rattle.goo_tables_rows.specs.Columns.{registry_schema, first_schema, registry_tables, column_of}
 use Rattle.sqlite.specs.Kind.TheVariants as kind
 use Rattle.goo_tables_rows.specs.Rows.{Kept, kept_key}
 use Rattle.goo_tables_rows.specs.Reads.{IsOctets}
 use Rattle.goo_tables_rows.specs.Stands.{Keeps}
+use Rattle.goo_tables_rows.specs.First.{HasFirstTables}
 use Rattle.goo_tables_rows.specs.Met.{HasOurTables, Keyed, whole, keyed_of, all_keyed, KeepsSome}
 
 abbrev zip_made : {X Y : Type 0} → (Keyed → X → Y) → List Keyed → List X → List Y
@@ -100,6 +101,20 @@ ShapeRules db = AllByRecursion (λ (t : Table). IsShaped shape.Table (db.trees t
 
 pub shape_rules : (db : Database) → HasOurTables db → ShapeRules db
 shape_rules db it = subst (λ (s : Schema). AllByRecursion (λ (t : Table). IsShaped shape.Table (db.trees t.tree)) s.tables) it.schema it.ordered
+
+-- the same rules of the tables of version 1
+
+abbrev pub FirstTypeRules : Database → Type 0
+FirstTypeRules db = AllByRecursion (λ (t : Table). AllByRecursion (λ row. passes Datatype registry_schema db.trees t row ≡ true) (db.trees t.tree)) first_schema.tables
+
+pub first_type_rules : (db : Database) → HasFirstTables db → FirstTypeRules db
+first_type_rules db it = subst (λ (s : Schema). AllByRecursion (λ (t : Table). AllByRecursion (λ row. passes Datatype s db.trees t row ≡ true) (db.trees t.tree)) s.tables) it.schema (it.sound.obeys.rules Datatype)
+
+abbrev pub FirstShapeRules : Database → Type 0
+FirstShapeRules db = AllByRecursion (λ (t : Table). IsShaped shape.Table (db.trees t.tree)) first_schema.tables
+
+pub first_shape_rules : (db : Database) → HasFirstTables db → FirstShapeRules db
+first_shape_rules db it = subst (λ (s : Schema). AllByRecursion (λ (t : Table). IsShaped shape.Table (db.trees t.tree)) s.tables) it.schema it.ordered
 
 -- a row has no more values than its table has columns
 pub typed_length : (key : Option ℕ) (at : ℕ) (cs : List Column) (vs : Row) → are_typed key at cs vs ≡ true → length vs ≤ length cs

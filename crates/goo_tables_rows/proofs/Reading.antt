@@ -14,7 +14,8 @@ use Rattle.sqlite_resolve.specs.declared.compiled.Compiled.{Compiled}
 use Rattle.sqlite_schema.specs.declared.command.Returning.{Returning}
 use Rattle.goo_tables_rows.specs.Rows.{Tables}
 use Rattle.goo_tables_rows.specs.Stands.{Stands, Rests, IsSettled, Looks}
-use Rattle.goo_tables_rows.specs.Columns.{registry_schema}
+use Rattle.goo_tables_rows.specs.Columns.{registry_schema, first_schema}
+use Rattle.goo_tables_rows.specs.First.{IsFirst, LooksFirst}
 use Rattle.goo_tables_rows.specs.Asked.{Answered, IsRead}
 use Rattle.sqlite.proofs.StateLemmas.{survives_weaker}
 use Rattle.sqlite.proofs.Callers.{IsPlain, command_of, reads_as, never_commits}
@@ -78,8 +79,8 @@ open_shown sql params a b c rows (Some what) h = h.1.shown.is_open
 
 -- ---- a look-up, of what the query that it asks answers
 
-module _ (sql : List ℕ) (q : Query) (names : List (List ℕ)) (is : command_of (understood registry_schema sql) ≡ Select (record { lets = []; body = q }) names)
-    (plain : IsPlain (understood registry_schema sql)) (unlisted : reads_listing registry_schema sql ≡ false) (params : Row) (old new : State) where
+module _ (schema : Schema) (sql : List ℕ) (q : Query) (names : List (List ℕ)) (is : command_of (understood schema sql) ≡ Select (record { lets = []; body = q }) names)
+    (plain : IsPlain (understood schema sql)) (unlisted : reads_listing schema sql ≡ false) (params : Row) (old new : State) where
   stays_open : {X : Type 0} (R : X → List Row → Type 0) (r : Result X Error) → (HasCleanDisk new → IfOk r (λ x. Answered sql params old new (R x))) → OnOk r (HasCleanDisk new → IsTrue new.is_open)
   unfolding Shown
   stays_open R (Ok x) read = λ clean. let h = (read clean).1 in open_shown sql _ old new h.0 (read clean).0 h.0.returning h.2
@@ -90,24 +91,42 @@ module _ (sql : List ℕ) (q : Query) (names : List (List ℕ)) (is : command_of
   was_open (inl it) live = let h = it.1 in was_open_shown sql _ old new h.0 it.0 h.0.returning h.2
   was_open (inr it) live = was_open_failed sql params old new it.0 it.1 live
 
-  rests : old.now.schema ≡ registry_schema → IsSettled old → IsRead sql params old new → Rests old new
-  rests has settled (inl it) = rests_unchanged old new (unchanged registry_schema sql q names is plain unlisted params old new has it.0 it.1)
+  rests : old.now.schema ≡ schema → IsSettled old → IsRead sql params old new → Rests old new
+  rests has settled (inl it) = rests_unchanged old new (unchanged schema sql q names is plain unlisted params old new has it.0 it.1)
   rests has settled (inr it) = rests_failed sql params old new it.0 settled it.1
 
-  pub meets : {X : Type 0} (R : X → List Row → Type 0) (right : X → Type 0) → old.now.schema ≡ registry_schema → ((x : X) (rows : List Row) → IsAnswer q (overlay old.now.trees []) params rows → R x rows → right x)
+  pub meets : {X : Type 0} (R : X → List Row → Type 0) (right : X → Type 0) → old.now.schema ≡ schema → ((x : X) (rows : List Row) → IsAnswer q (overlay old.now.trees []) params rows → R x rows → right x)
       → (r : Result X Error) → IfOk r (λ x. Answered sql params old new (R x)) → IfOk r right
-  meets R right has says (Ok x) it = says x it.0 (answers registry_schema sql q names is plain unlisted params old new has it.0 it.1) it.2
+  meets R right has says (Ok x) it = says x it.0 (answers schema sql q names is plain unlisted params old new has it.0 it.1) it.2
   meets R right has says (Err e) it = tt
 
+module _ (sql : List ℕ) (q : Query) (names : List (List ℕ)) (is : command_of (understood registry_schema sql) ≡ Select (record { lets = []; body = q }) names)
+    (plain : IsPlain (understood registry_schema sql)) (unlisted : reads_listing registry_schema sql ≡ false) (params : Row) (old new : State) where
   pub looks : {X : Type 0} (R : X → List Row → Type 0) (right : Tables → X → Type 0)
       → ((t : Tables) → Stands old.now t → (x : X) (rows : List Row) → IsAnswer q (overlay old.now.trees []) params rows → R x rows → right t x)
       → (r : Result X Error) → (HasCleanDisk new → IfOk r (λ x. Answered sql params old new (R x))) → (HasCleanDisk new → IsRead sql params old new) → Survives old new (CommitsShowing sql params old)
       → Looks old new r right
   looks R right says r read ran survives = record {
-    found = λ clean t it. meets R (right t) it.schema (says t it) r (read clean);
+    found = λ clean t it. meets registry_schema sql q names is plain unlisted params old new R (right t) it.schema (says t it) r (read clean);
     clean = survives.clean;
-    works = stays_open R r read;
-    was_open = λ clean. was_open (ran clean);
-    rests = λ clean has settled. rests has settled (ran clean);
+    works = stays_open registry_schema sql q names is plain unlisted params old new R r read;
+    was_open = λ clean. was_open registry_schema sql q names is plain unlisted params old new (ran clean);
+    rests = λ clean has settled. rests registry_schema sql q names is plain unlisted params old new has settled (ran clean);
     crash = λ has. quiet registry_schema sql plain params old new has survives;
+  }
+
+-- the same on tables of version 1
+module _ (sql : List ℕ) (q : Query) (names : List (List ℕ)) (is : command_of (understood first_schema sql) ≡ Select (record { lets = []; body = q }) names)
+    (plain : IsPlain (understood first_schema sql)) (unlisted : reads_listing first_schema sql ≡ false) (params : Row) (old new : State) where
+  pub looks_first : {X : Type 0} (R : X → List Row → Type 0) (right : Tables → X → Type 0)
+      → ((t : Tables) → IsFirst old.now t → (x : X) (rows : List Row) → IsAnswer q (overlay old.now.trees []) params rows → R x rows → right t x)
+      → (r : Result X Error) → (HasCleanDisk new → IfOk r (λ x. Answered sql params old new (R x))) → (HasCleanDisk new → IsRead sql params old new) → Survives old new (CommitsShowing sql params old)
+      → LooksFirst old new r right
+  looks_first R right says r read ran survives = record {
+    found = λ clean t it. meets first_schema sql q names is plain unlisted params old new R (right t) it.0 (says t it) r (read clean);
+    clean = survives.clean;
+    works = stays_open first_schema sql q names is plain unlisted params old new R r read;
+    was_open = λ clean. was_open first_schema sql q names is plain unlisted params old new (ran clean);
+    rests = λ clean has settled. rests first_schema sql q names is plain unlisted params old new has settled (ran clean);
+    crash = λ has. quiet first_schema sql plain params old new has survives;
   }

@@ -21,7 +21,6 @@ use Rattle.sqlite_sql.specs.Query.{matches}
 use Rattle.sqlite_sql.proofs.QueryLemmas.{no_fold_overflows}
 use Rattle.sqlite_typing.specs.Types.{accepts_over}
 use Rattle.sqlite.proofs.Callers.{IsPlain, command_of}
-use Rattle.goo_tables_rows.specs.Columns.{registry_schema}
 use Rattle.goo_tables_rows.specs.Asked.{FailsToAsk}
 use Rattle.goo_tables_rows.proofs.Reading.{answers}
 use Rattle.goo_tables_rows.specs.Readable.{is_read_error}
@@ -73,12 +72,12 @@ never_refused limit command q names db params e unlimited is fits flat none h =
       | inr (inr stopped) ↦ let some = rw unlimited at stopped.1 in cc
     ]
 
-module _ (sql : List ℕ) (q : Query) (names : List (List ℕ)) (is : command_of (understood registry_schema sql) ≡ Select (record { lets = []; body = q }) names)
-    (plain : IsPlain (understood registry_schema sql)) (unlisted : reads_listing registry_schema sql ≡ false) (params : Row) (suits : is_suited registry_schema sql q params ≡ true) (old new : State)
-    (has : old.now.schema ≡ registry_schema) (unlimited : old.step_limit ≡ None) where
+module _ (schema : Schema) (sql : List ℕ) (q : Query) (names : List (List ℕ)) (is : command_of (understood schema sql) ≡ Select (record { lets = []; body = q }) names)
+    (plain : IsPlain (understood schema sql)) (unlisted : reads_listing schema sql ≡ false) (params : Row) (suits : is_suited schema sql q params ≡ true) (old new : State)
+    (has : old.now.schema ≡ schema) (unlimited : old.step_limit ≡ None) where
   pub faulty : (e : Error) → FailsToQuery sql params old new e → IsFault old new e
   unfolding FailsToQuery IsNotRun
-  faulty e (inl (inl h)) = absurd (runs_on registry_schema sql params old e has (and_parts _ _ suits).0 plain h.0)
+  faulty e (inl (inl h)) = absurd (runs_on schema sql params old e has (and_parts _ _ suits).0 plain h.0)
   faulty e (inl (inr h)) = fault_of old new e h
   faulty e (inr h) =
       let parts = and_parts _ _ (and_parts _ _ suits).1 in
@@ -87,8 +86,8 @@ module _ (sql : List ℕ) (q : Query) (names : List (List ℕ)) (is : command_of
       let bare = subst IsPlain (sym known) plain in
       let it = rw (bare.0, bare.1, append-nil params) at h.2 in
       let db : it.0 ≡ old.now = subst (λ b. IsSourceOf b old.now it.0) (ap (λ s. reads_listing s sql) has ∙ unlisted) it.1 in
-      let schema : it.0.schema ≡ registry_schema = ap (λ (d : Database). d.schema) db ∙ has in
-      absurd (never_refused old.step_limit h.0.command q names it.0 params e unlimited (ap command_of known ∙ is) (subst (λ s. accepts_over s [] q params ≡ true) (sym schema) parts.0) flat.0 flat.1 it.2)
+      let is_schema : it.0.schema ≡ schema = ap (λ (d : Database). d.schema) db ∙ has in
+      absurd (never_refused old.step_limit h.0.command q names it.0 params e unlimited (ap command_of known ∙ is) (subst (λ s. accepts_over s [] q params ≡ true) (sym is_schema) parts.0) flat.0 flat.1 it.2)
 
   pub fails_by : {X : Type 0} (readable : Row → Type 0) (r : Result X Error) → IfErr r (FailsToAsk sql params old new readable) → IfErr r (λ e. IsFault old new e ⊎ IsTrue (is_read_error e))
   fails_by readable (Ok x) h = tt
@@ -102,4 +101,4 @@ module _ (sql : List ℕ) (q : Query) (names : List (List ℕ)) (is : command_of
   fails_readable readable right (Ok x) h = tt
   fails_readable readable right (Err e) (inl h) = faulty e h
   fails_readable readable right (Err e) (inr (rows, shown, inl memory)) = inl memory
-  fails_readable readable right (Err e) (inr (rows, shown, inr bad)) = absurd (bad.1 (right rows (answers registry_schema sql q names is plain unlisted params old new has rows shown)))
+  fails_readable readable right (Err e) (inr (rows, shown, inr bad)) = absurd (bad.1 (right rows (answers schema sql q names is plain unlisted params old new has rows shown)))

@@ -1,5 +1,5 @@
 -- The tables of version 2, as the schema that `create_tables` leaves names them.
-use Rattle.std.specs.Prelude.{true, false, Bool, List, [], ◌∷◌, ◌++◌, map, codes, Option, Some, None, ℕ, suc}
+use Rattle.std.specs.Prelude.{true, false, Bool, List, [], ◌∷◌, ◌++◌, map, take, codes, Option, Some, None, ℕ, suc}
 use Rattle.sqlite.specs.Collation.TheVariants.{Binary}
 use Rattle.sqlite.specs.declared.types.Value.TheVariants.{Null}
 use Rattle.sqlite.specs.Kind.{Kind}
@@ -154,3 +154,7 @@ registry_indexes =
 
 abbrev pub registry_schema : Schema
 registry_schema = record { tables = registry_tables; indexes = registry_indexes; views = [] }
+
+-- the schema of version 1: all but the last three tables
+abbrev pub first_schema : Schema
+first_schema = record { tables = take 13 registry_tables; indexes = take 9 registry_indexes; views = [] }

@@ -1,0 +1,23 @@
+use Rattle.std.proofs.Common.{[], ◌∷◌, pos}
+use Rattle.sqlite.specs.declared.types.Value.TheVariants.{Int}
+use Rattle.sqlite.specs.Held.{state}
+use Rattle.goo_tables_rows.proofs.Inside.{sees}
+use Rattle.goo_tables_holdings.specs.Changes.{with_version}
+use Rattle.goo_tables.proofs.MetaTable.{version_text, sets_version, version_fails, version_live}
+use Rattle.goo_tables.proofs.meta.set_version.Goals as goal
+
+pub returns-clause-changed : goal.returns-clause-changed
+returns-clause-changed g c clean t it =
+    let old = c.args.tx.now.conn.now in
+    let new = c.put.new.tx.conn.now in
+    let version = c.args.version in
+    sees g.S.Store old new version_text (Int (pos version) ∷ []) c.put.result t (with_version version t) it (sets_version (state g.S.Store old) (state g.S.Store new) t version) c.put.result
+    (rw (c.small.ensures.value) at (c.put.ensures.runs clean it.inside))
+
+pub returns-clause-refused : goal.returns-clause-refused
+returns-clause-refused g c clean live unlimited t it any =
+    version_fails (state g.S.Store c.args.tx.now.conn.now) (state g.S.Store c.put.new.tx.conn.now) t c.args.version it.stands live unlimited c.put.result
+    (rw (c.small.ensures.value) at (c.put.ensures.runs clean it.inside))
+
+pub returns-clause-live : goal.returns-clause-live
+returns-clause-live g c clean live inside has = version_live _ (state g.S.Store c.args.tx.now.conn.now) (state g.S.Store c.put.new.tx.conn.now) has live c.put.result (c.put.ensures.runs clean inside)
