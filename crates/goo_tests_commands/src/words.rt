@@ -36,13 +36,14 @@ const SOMEBODY_ELSES: [Row; 3] = [
     (Step::Runs(""), NO_REGISTRY),
 ];
 
-/// A registry of a later version, one of the first version, and one with a value that breaks a rule: each until that is undone.
+/// A registry of a later version, one with the number of the first version on tables of this one, and one with a value that breaks a rule:
+/// each until that is undone.
 const CHANGED: [Row; 15] = [
     (Step::Edits("UPDATE meta SET version = 9"), EDITED),
     (Step::Runs(FIRST), "3 goo: version 9\n"),
     (Step::Inits(7, 1), "1 goo: already there\n"),
     (Step::Edits("UPDATE meta SET version = 1"), EDITED),
-    (Step::Runs(FIRST), "3 goo: version 1\n"),
+    (Step::Runs(FIRST), "3 goo: damaged\n"),
     (Step::Inits(7, 1), "1 goo: already there\n"),
     (Step::Edits("UPDATE meta SET version = 2"), EDITED),
     (Step::Runs(FIRST), REPEATED),

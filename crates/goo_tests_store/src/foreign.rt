@@ -84,22 +84,24 @@ const VERSIONS: [Row; 8] = [
         Some(OpenFault::Damaged),
     ),
     ("UPDATE meta SET version = -9", Some(OpenFault::Damaged)),
-    ("UPDATE meta SET version = 1", Some(OpenFault::Version(1))),
+    ("UPDATE meta SET version = 1", Some(OpenFault::Damaged)),
     ("UPDATE meta SET version = 2", Some(OpenFault::Damaged)),
     ("UPDATE meta SET id = 2", NONE),
 ];
 
-/// All tables of ours, those of the first version before the others, and then not all of them.
-const OURS: [Row; 13] = [
+/// The table of accounts.
+const ACCOUNT: &str =
+    "CREATE TABLE account (number INTEGER PRIMARY KEY, holder TEXT NOT NULL, closed INTEGER NOT NULL) STRICT";
+
+/// All tables of ours, those of the first version before the others, and then not all of them: each version has its own tables.
+const OURS: [Row; 15] = [
     (BEFORE_ACCOUNT, NONE),
-    (
-        "CREATE TABLE account (number INTEGER PRIMARY KEY, holder TEXT NOT NULL, closed INTEGER NOT NULL) STRICT",
-        NONE,
-    ),
+    (ACCOUNT, NONE),
     (AFTER_ACCOUNT, NONE),
     (BEGINNING, Some(OpenFault::Damaged)),
-    ("UPDATE meta SET version = 1", Some(OpenFault::Version(1))),
-    (SECOND_VERSION, Some(OpenFault::Version(1))),
+    ("UPDATE meta SET version = 3", Some(OpenFault::Version(3))),
+    (SECOND_VERSION, Some(OpenFault::Version(3))),
+    ("UPDATE meta SET version = 1", Some(OpenFault::Damaged)),
     ("UPDATE meta SET version = 2", None),
     ("UPDATE meta SET version = 3", Some(OpenFault::Version(3))),
     ("UPDATE meta SET version = 2", None),
@@ -108,15 +110,32 @@ const OURS: [Row; 13] = [
         "UPDATE meta SET version = 9; DROP TABLE piece",
         Some(OpenFault::Version(9)),
     ),
+    ("UPDATE meta SET version = 1", Some(OpenFault::Damaged)),
     ("UPDATE meta SET version = 2", Some(OpenFault::Damaged)),
     ("DELETE FROM meta", NONE),
+];
+
+/// Tables of the first version, with white space and words of their own: they are opened, and are those of the second version then.
+const FIRST: [Row; 5] = [
+    (BEFORE_ACCOUNT, NONE),
+    (
+        "create table account (\n\tnumber integer primary key,\n\tholder text not null,\n\tclosed integer not null\n) strict",
+        NONE,
+    ),
+    (AFTER_ACCOUNT, NONE),
+    (
+        "INSERT INTO meta VALUES (1, 1, 7, '2025-03-01', 1, 1, 1, 1, 1)",
+        None,
+    ),
+    ("UPDATE meta SET version = 1", Some(OpenFault::Damaged)),
 ];
 
 #[test]
 fn tables_of_somebody_else_and_ours(rt: HostRuntime) {
     let alloc = rt.alloc();
     are_told(&rt, alloc, blank(alloc), &SOMEBODY_ELSES);
-    are_told(&rt, alloc, blank(alloc), &OURS)
+    are_told(&rt, alloc, blank(alloc), &OURS);
+    are_told(&rt, alloc, blank(alloc), &FIRST)
 }
 
 #[test]
@@ -130,10 +149,7 @@ fn a_meta_alone_and_behind_another_table(rt: HostRuntime) {
 
 /// Tables of accounts, ours and others, and why all tables are refused then, if they are.
 const ACCOUNTS: [Row; 10] = [
-    (
-        "CREATE TABLE account (number INTEGER PRIMARY KEY, holder TEXT NOT NULL, closed INTEGER NOT NULL) STRICT",
-        None,
-    ),
+    (ACCOUNT, None),
     (
         "CREATE TABLE account (number INTEGER PRIMARY KEY, holder TEXT NOT NULL) STRICT",
         Some(OpenFault::Damaged),
