@@ -1,5 +1,5 @@
 -- What a change may answer, under fewer words, and what the end of a transaction leaves.
-use Rattle.std.proofs.Common.{◌≡◌, ◌⊎◌, inl, inr, false, Ok, Err, Result, IfErr, sym, subst, ◌∙◌, true, true≢false}
+use Rattle.std.proofs.Common.{◌≡◌, ◌⊎◌, inl, inr, refl, false, Ok, Err, Result, IfErr, sym, subst, ◌∙◌, true, true≢false}
 use Rattle.std.specs.Prelude.{⊤}
 use Rattle.sqlite.specs.declared.error.Error.{Error}
 use Rattle.sqlite.specs.Effect.{IsDatabase}
@@ -7,10 +7,12 @@ use Rattle.sqlite.specs.State.{State, IsLive, Shows}
 use Rattle.sqlite.specs.Steps.{FailsToCommit}
 use Rattle.sqlite.specs.Store.{Ghosts}
 use Rattle.sqlite.specs.Held.{Held, state}
+use Rattle.goo_tables_rows.specs.First.{IsFirst}
 use Rattle.goo_tables_rows.specs.Refused.{IsTooBig, IsTooBigOrFull}
 use Rattle.goo_tables_rows.specs.Rows.{Tables}
 use Rattle.goo_tables_rows.specs.Stands.{Stands, Sees}
 use Rattle.goo_tables_rows.proofs.Committed.{begins}
+use Rattle.goo_store_changes.specs.Migrated.{SeesFirst}
 
 module _ {X : Type 0} (P : Error → Type 0) (r : Result X Error) (Room Left : Type 0) (leaves : Room → Left) where
   pub or_less : IfErr r (λ e. P e ⊎ (IsTooBigOrFull e × (Left → ⊥))) → IfErr r (λ e. P e ⊎ (IsTooBigOrFull e × (Room → ⊥)))
@@ -38,6 +40,10 @@ or_big P (Err e) Room (inr none) = absurd none.0
 
 pub seen_first : {S : Type 0} (g : Ghosts S) (old first : Held S) (t : Tables) → first ≡ record old { in_transaction = true } → Stands (state g old).now t → Sees (state g first) t
 seen_first g old first t begun it = subst (λ h. Sees (state g h) t) (sym begun) (begins g old t it)
+
+-- the same of tables of version 1
+pub first_seen : {S : Type 0} (g : Ghosts S) (old first : Held S) (t : Tables) → first ≡ record old { in_transaction = true } → IsFirst (state g old).now t → SeesFirst (state g first) t
+first_seen g old first t begun it = subst (λ h. SeesFirst (state g h) t) (sym begun) (record { inside = refl; first = it })
 
 pub committed_live : (a b : State) → IsLive a → Shows a b a.now a.now false → IsLive b
 committed_live a b live h = λ _. (subst IsDatabase (sym h.now_is) (live h.was_open).0, subst IsDatabase (sym h.committed_is) (live h.was_open).0)

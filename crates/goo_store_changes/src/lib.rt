@@ -3,4 +3,5 @@
 
 pub mod change;
 pub mod committing;
+pub mod migrating;
 mod once;
