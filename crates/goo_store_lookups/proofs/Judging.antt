@@ -1,9 +1,11 @@
 -- From what was found and judged to what opening says.
-use Rattle.std.specs.Prelude.{◌↔◌, ◌<◌, ◌^◌}
-use Rattle.std.proofs.Common.{◌≡◌, ℕ, arith, inl, inr, None, Ok, Err, Result, IfErr, IsTrue, refl, sym, ap, subst, ◌∙◌, true≢false}
+use Rattle.std.specs.Prelude.{◌↔◌, ◌<◌, ◌^◌, pos, true}
+use Rattle.std.specs.List.{list_all}
+use Rattle.std.proofs.lemmas.Bool.{and_parts}
+use Rattle.std.proofs.Common.{◌≡◌, arith, inl, inr, None, Ok, Err, Result, IfErr, IsTrue, refl, sym, ap, subst, ◌∙◌, true≢false}
 use Rattle.sqlite.specs.State.{State, HasCleanDisk}
 use Rattle.sqlite.specs.Effect.{Database}
-use Rattle.goo_tables_rows.specs.Rows.{Tables, tables_of}
+use Rattle.goo_tables_rows.specs.Rows.{Tables, tables_of, meta_in, holder_in, account_in, device_in, declaration_in, lot_in}
 use Rattle.goo_tables_rows.specs.Met.{HasOurTables}
 use Rattle.goo_tables_rows.specs.Columns.{registry_schema}
 use Rattle.goo_tables_rows.specs.Stands.{Stands, IsSettled, doubts}
@@ -21,6 +23,8 @@ use Rattle.goo_store_open.specs.declared.fault.OpenFault.TheVariants.{Damaged, M
 use Rattle.goo_store_open.specs.declared.finding.Found.{Found}
 use Rattle.goo_store_open.specs.declared.layout.Layout.{Layout}
 use Rattle.goo_store_open.specs.declared.layout.Layout.TheVariants.{First, Ours}
+use Rattle.goo_spec_tables.specs.Readable.{is_meta, is_holder, is_account, is_peer, is_device, is_declaration, is_lot, is_piece}
+use Rattle.goo_store_rules.specs.Keeping.{has_good_values}
 use Rattle.goo_store_rules.specs.Rules.{KeepsRules, HaveOwnKeys, RulesAreThose}
 use Rattle.goo_store_rules.proofs.CanBeRead.{kept_can_be_read_in}
 use Rattle.goo_store_rules.proofs.KeptKeys.{own_keys}
@@ -60,6 +64,18 @@ blamed old new (Err f) blames = λ clean live unlimited is. elim (blames clean u
 -- another word than `Store`
 unblamed : (old new : State) (f : OpenFault) → (f ≡ Store → ⊥) → BlamesOpening old new f
 unblamed old new f other clean live unlimited is = absurd (other is)
+
+-- pieces of good values
+pub good_pieces : (x : Found) → has_good_values x ≡ true → list_all is_piece x.rows.production.pieces.items ≡ true
+good_pieces x good =
+    let meta = and_parts (is_meta (meta_in x.meta)) _ good in
+    let holders = and_parts (list_all (λ row. is_holder (pos 0, holder_in row)) x.rows.members.holders.items) _ meta.1 in
+    let accounts = and_parts (list_all (λ row. is_account (account_in row)) x.rows.members.accounts.items) _ holders.1 in
+    let peers = and_parts (list_all (λ row. is_peer (pos 0, row)) x.rows.members.peers.items) _ accounts.1 in
+    let devices = and_parts (list_all (λ row. is_device (pos 0, device_in row)) x.rows.production.devices.items) _ peers.1 in
+    let declarations = and_parts (list_all (λ row. is_declaration (declaration_in row)) x.rows.production.declarations.items) _ devices.1 in
+    let lots = and_parts (list_all (λ row. is_lot (lot_in row)) x.rows.production.lots.items) _ declarations.1 in
+    (and_parts (list_all is_piece x.rows.production.pieces.items) _ lots.1).0
 
 module _ (rules : RulesAreThose) (layout : Layout) (old new : State) where
   module _ {T : Type 0} (Tells : Tables → T → Type 0) (x : Found) (finds : Finds layout old new (Ok x) (ShowsTables layout)) where
