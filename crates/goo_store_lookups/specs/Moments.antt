@@ -1,10 +1,10 @@
 -- A shelf over the tables at one moment.
-use Rattle.std.specs.Prelude.{◌≡◌, ◌≤◌, ℕ, ℤ, pos, ◌<ℤ◌, List, filter, length, Bool, true, cond, Option, Some, None}
+use Rattle.std.specs.Prelude.{◌≡◌, ◌≤◌, ℕ, ℤ, pos, ◌<ℤ◌, List, [], ◌∷◌, filter, length, Bool, true, cond, Option, Some, None}
 use Rattle.std.specs.List.{list_all}
 use Rattle.sqlite_typed.specs.Tests.{bytes_eq}
 use Rattle.std.specs.Coded.{Coded-set}
 use Rattle.std.proofs.Props.{props}
-use mathlib.Core.Path.{ap}
+use mathlib.Core.Path.{ap, refl}
 use lib.Dec.{T_prop}
 use Rattle.sqlite.specs.State.{State}
 use Rattle.sqlite.specs.Tree.{Trees}
@@ -16,10 +16,12 @@ use Rattle.sqlite_trees.specs.View.{doubt}
 use Rattle.sqlite_trees.specs.Props.{rows_set, Trees-set, IsAscending-prop}
 use Rattle.sqlite_keyed.specs.Keyed.{IsKeyedBy, get_by, has_key}
 use Rattle.goo_ranges_rows.specs.Rows.{rising-prop}
+use Rattle.goo_types.specs.declared.piece.Piece.{Piece}
 use Rattle.goo_core_shelf.specs.Shelf.{Moment, progress_of}
 use Rattle.goo_tables_rows.specs.Rows.{Tables, Lot, tables_of, kept_key, holder_row, account_row, account_key, device_row as row_of_device, declaration_row, declaration_key, lot_row, lot_key, piece_row, piece_key, peer_row, receipt_row, cancellation_row, cancellation_key, withdrawal_row, withdrawal_key, notice_out_row, notice_out_key, notice_in_row, correction_row, correction_key, device_carrier_row, lot_carrier_row, lot_carrier_key}
 use Rattle.goo_tables_rows.specs.Stands.{Stands, Holds, Keeps, doubts}
 use Rattle.goo_spec.specs.State as registry
+use Rattle.goo_spec.specs.Runs.{IsApart}
 use Rattle.goo_spec.specs.Sound.{IsSound}
 use Rattle.goo_spec_tables.specs.Places.{rows_of}
 use Rattle.goo_spec_tables.specs.Devices.{progress_in, device_row}
@@ -117,11 +119,26 @@ devices-prop t = Prim.hlevel props
 progress-prop : (t : Tables) → IsProp ((gsrn : List ℕ) → progress_in (device_row t.devices gsrn) ≡ progress_of (state_of t) gsrn)
 progress-prop t = Prim.hlevel props
 
+no-prop : {A : Type 0} → IsProp (A → ⊥)
+no-prop a b = λ i x. nothing (a x) (b x) i
+  where
+    nothing : IsProp ⊥
+    nothing a b = absurd a
+
+unit-prop : IsProp (Unit {0})
+unit-prop a b = refl
+
+apart-prop : (ps : List Piece) → IsProp (IsApart ps)
+apart-prop [] a b = refl
+apart-prop (p ∷ []) a b = λ i. (unit-prop a.0 b.0 i, unit-prop a.1 b.1 i)
+apart-prop (p ∷ q ∷ qs) a b = λ i. (no-prop a.0 b.0 i, apart-prop (q ∷ qs) a.1 b.1 i)
+
 kept-prop : (t : Tables) → IsProp (AreKept t)
 kept-prop t a b = λ i. record {
   readable = readable-prop t a.readable b.readable i;
   lots_there = there-prop t a.lots_there b.lots_there i;
   rising = rising-prop 0 (rows_of t) a.rising b.rising i;
+  apart = λ two. apart-prop (rows_of t) (a.apart two) (b.apart two) i;
   lots = lots-prop t a.lots b.lots i;
   devices = devices-prop t a.devices b.devices i;
   progress = progress-prop t a.progress b.progress i;

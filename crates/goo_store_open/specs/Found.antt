@@ -1,5 +1,5 @@
 -- What is found where the tables of a registry are looked for.
-use Rattle.std.specs.Prelude.{◌≡◌, ◌⊎◌, ◌≤◌, ◌==◌, if◌then◌else◌, false, List, [], ◌∷◌, map, None, Result, IfOk, IfErr, OnOk, IsTrue}
+use Rattle.std.specs.Prelude.{◌≡◌, ◌⊎◌, ◌≤◌, ◌==◌, if◌then◌else◌, ℕ, false, List, [], ◌∷◌, map, None, Result, IfOk, IfErr, OnOk, IsTrue}
 use Rattle.sqlite_disk.specs.Disk.{MoreFaults}
 use Rattle.sqlite.specs.State.{State, HasCleanDisk}
 use Rattle.sqlite.specs.Tree.{Trees}
@@ -56,8 +56,11 @@ abbrev pub ShowsTables : Layout → Database → Found → Type 0
 ShowsTables layout db x = (t : Tables) × Stands db t × AreOf t x × (t.meta.version ≡ number_of layout)
 
 -- tables of this version whose values can be read
-abbrev pub IsReadable : Layout → Tables → Type 0
-IsReadable layout t = CanBeRead t × (t.meta.version ≡ number_of layout)
+abbrev pub IsReadableIn : ℕ → Tables → Type 0
+IsReadableIn number t = CanBeRead t × (t.meta.version ≡ number)
+
+abbrev pub IsReadable : Tables → Type 0
+IsReadable = IsReadableIn 2
 
 -- the database failed, or memory did
 abbrev pub IsOutside : OpenFault → Type 0
@@ -94,6 +97,6 @@ pub record Finds {T : Type 0} (layout : Layout) (old new : State) (result : Resu
   pub crash : HasCleanDisk new → IsMet layout old → (db : Trees) → new.may_leave db → old.may_leave db
   pub counts : HasCleanDisk new → IsMet layout old → old.faults ≤ new.faults
   pub limit : HasCleanDisk new → IsMet layout old → new.step_limit ≡ old.step_limit
-  pub right : HasCleanDisk new → IsMet layout old → old.step_limit ≡ None → (t : Tables) → Stands (seen_by layout old.now) t → IsReadable layout t → IfErr result IsOutside
+  pub right : HasCleanDisk new → IsMet layout old → old.step_limit ≡ None → (t : Tables) → Stands (seen_by layout old.now) t → IsReadableIn (number_of layout) t → IfErr result IsOutside
   pub words : HasCleanDisk new → IsMet layout old → old.step_limit ≡ None → (t : Tables) → Stands (seen_by layout old.now) t → IfErr result (IsWord layout t)
   pub blames : HasCleanDisk new → IsMet layout old → old.step_limit ≡ None → IfErr result (λ f. f ≡ Store → HasStoreFailed old new)

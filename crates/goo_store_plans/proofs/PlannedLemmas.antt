@@ -15,6 +15,7 @@ use Rattle.goo_types.specs.declared.outcome.Outcome.TheVariants.{Accepted, Repea
 use Rattle.goo_types.specs.declared.refusal.Refusal.TheVariants.{KeyReused}
 use Rattle.goo_types.specs.declared.reply.Reply.{Reply}
 use Rattle.goo_types.specs.declared.request.Request.{Request}
+use Rattle.goo_spec.specs.Runs.{IsApart}
 use Rattle.goo_spec.specs.Energy.{carry, remaining, lowered, total}
 use Rattle.goo_spec.specs.Sound.{IsSound}
 use Rattle.goo_spec.specs.State.{State, receipt_cmp}
@@ -149,6 +150,7 @@ module _ (t : Tables) (kept : AreKept t) (plan : Plan) (fits : Fits (state_of t)
     };
     lots_there = leave.good.have;
     rising = subst IsRising (sym rows_after) fits.turned.fits.disjoint;
+    apart = λ two. subst IsApart (sym rows_after) (fits.turned.apart (kept.apart two));
     lots = acted.lots;
     devices = acted.devices;
     progress = λ gsrn. acted.progress gsrn ∙ progress_after gsrn ∙ ap (λ u. progress_of u gsrn) (sym state_after);

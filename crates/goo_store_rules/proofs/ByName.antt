@@ -16,7 +16,7 @@ use Rattle.goo_tables_rows.specs.Rows.{Tables, Kept, holder_in, account_in, devi
 use Rattle.sqlite_keyed.proofs.ListLemmas.{all_of}
 use Rattle.goo_store_open.specs.Found.{AreOf}
 use Rattle.goo_store_open.specs.declared.finding.Found.{Found}
-use Rattle.goo_spec_tables.specs.Kept.{AreReadable}
+use Rattle.goo_spec_tables.specs.Kept.{AreReadableIn}
 use Rattle.goo_spec_tables.specs.Devices.{device_of, declaration_of}
 use Rattle.goo_spec_tables.specs.Places.{lot_of}
 use Rattle.goo_spec_tables.specs.Records.{cancellation_of, withdrawal_of, sent_of}
@@ -86,7 +86,7 @@ known_under_key t key lot is =
     let it = row_of nat_list_cmp_total (λ l. key_of (lot_of l)) lot_of (λ (_ : row.Lot). Unit {0}) t.lots (all_of _ (λ _. tt) t.lots) key lot is in
     ap key_of (sym it.2) ∙ sym (slice_cmp-IsAntisymmetric nat_cmp-IsAntisymmetric key (key_of (lot_of it.0)) ((Equal-is (text_cmp key (key_of (lot_of it.0)))).0 it.1))
 
-module _ (t : Tables) (readable : AreReadable t) (x : Found) (are : AreOf t x) where
+module _ (t : Tables) (readable : AreReadableIn t.meta.version t) (x : Found) (are : AreOf t x) where
   abbrev are_held : Account → Bool
   are_held a = contains_key (from_entries {R = text_cmp} (map known_holder t.holders)) a.holder
 

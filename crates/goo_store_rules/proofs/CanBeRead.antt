@@ -24,10 +24,11 @@ use Rattle.goo_tables_rows.specs.declared.peer.PeerRow.{PeerRow}
 use Rattle.goo_tables_rows.specs.declared.piece.PieceRow.{PieceRow}
 use Rattle.goo_notice_text.specs.NoticeText.{notice_in}
 use Rattle.goo_notice_text.proofs.NoticeTextLemmas.{notices_are_read_from_their_texts}
-use Rattle.goo_spec_tables.specs.Kept.{AreKept, IsKeptLot}
+use Rattle.goo_spec_tables.specs.Kept.{AreKeptIn, AreKept, IsKeptLot}
 use Rattle.goo_spec_tables.specs.Readable.{is_plant, is_meta, is_holder, is_account, is_device, is_declaration, is_lot, is_piece, is_peer, is_receipt, is_cancellation, is_withdrawal, is_correction, is_notice_out, is_notice_in, is_notice_of, has_none, is_maybe_day, is_maybe_act, is_between, is_act, is_next, is_code, is_reply, names_act}
 use Rattle.goo_spec_tables.specs.Texts.{day_of}
 use Rattle.goo_store_open.specs.Found.{IsReadable}
+use Rattle.goo_store_open.specs.Reading.{CanBeRead}
 use Rattle.goo_store_rules.proofs.ReadTexts.{holder_text, name_text, key_text, country_text, tech_text, source_text, gsrn_text, day_text_utf8, support_text}
 
 -- ---- numbers
@@ -96,11 +97,11 @@ maybe_written None day is = inl refl
 maybe_written (Some t) None is = absurd cc
 maybe_written (Some t) (Some d) is = let same : day_text d ≡ t = cc in inr (t, refl, subst IsUtf8 same (IsUtf8-day_text d))
 
-meta : (m : Meta) → m.version ≡ 2 → is_meta m ≡ true → numbered_meta_readable (Int (pos 1) ∷ meta_columns m)
-meta m two h = (
+meta : (m : Meta) → m.version < 2 ^ 32 → is_meta m ≡ true → numbered_meta_readable (Int (pos 1) ∷ meta_columns m)
+meta m small h = (
   omega arith,
   (1, refl),
-  (m.version, refl, omega (arith, two)),
+  (m.version, refl, small),
   (m.code, refl, code_small m.code (search (h, first_of_both, second_of_both))),
   (m.today, refl, day_text_utf8 m.today (search (h, first_of_both, second_of_both))),
   (m.next_serial, refl),
@@ -297,26 +298,28 @@ each_kept (x ∷ xs) keyed kept =
         absurd cc
 
 -- tables that keep the rules can be read
+pub kept_can_be_read_in : (number : ℕ) → number < 2 ^ 32 → (db : Database) (t : Tables) → Stands db t → AreKeptIn number t → CanBeRead t
+kept_can_be_read_in number small db t stands kept =
+    let r = kept.readable in
+    record {
+      meta = All-cons numbered_meta_readable (Int (pos 1) ∷ meta_columns t.meta) [] (meta t.meta (subst (λ n. n < 2 ^ 32) (sym r.version) small) r.meta) (All-nil numbered_meta_readable);
+      holders = each is_holder holder_readable (λ k. holder_columns k.1) holder t.holders r.holders;
+      accounts = each is_account account_readable account_columns account t.accounts r.accounts;
+      devices = each is_device device_readable (λ k. device_columns k.1) device t.devices r.devices;
+      declarations = each is_declaration declaration_readable declaration_columns declaration t.declarations r.declarations;
+      lots = All-map (lot_readable 0) lot_columns t.lots (each_with is_lot IsKeptLot (λ l. lot_readable 0 (lot_columns l)) lot t.lots (each_kept t.lots stands.lots.rise kept.lots) r.lots);
+      pieces = each is_piece piece_readable piece_columns piece t.pieces r.pieces;
+      peers = each is_peer peer_readable (λ k. peer_columns k.1) peer t.peers r.peers;
+      receipts = each is_receipt receipt_readable (λ k. receipt_columns k.1) receipt t.receipts r.receipts;
+      cancellations = each is_cancellation cancellation_readable cancellation_columns cancellation t.cancellations r.cancellations;
+      withdrawals = each is_withdrawal withdrawal_readable withdrawal_columns withdrawal t.withdrawals r.withdrawals;
+      notices_out = each (is_notice_out t.meta.code) notice_out_readable notice_out_columns (notice_out t.meta.code) t.notices_out r.notices_out;
+      notices_in = each is_notice_in notice_in_readable (λ k. notice_in_columns k.1) notice_in_row t.notices_in r.notices_in;
+      corrections = each is_correction correction_readable correction_columns correction t.corrections r.corrections;
+      device_carriers = none device_carrier_readable (λ k. device_carrier_columns k.1) t.device_carriers r.device_carriers;
+      lot_carriers = none lot_carrier_readable lot_carrier_columns t.lot_carriers r.lot_carriers;
+    }
+
+-- those of version 2 too, whose version is read
 pub kept_can_be_read : (db : Database) (t : Tables) → Stands db t → AreKept t → IsReadable t
-kept_can_be_read db t stands kept =
-    let r = kept.readable in (
-      record {
-        meta = All-cons numbered_meta_readable (Int (pos 1) ∷ meta_columns t.meta) [] (meta t.meta r.version r.meta) (All-nil numbered_meta_readable);
-        holders = each is_holder holder_readable (λ k. holder_columns k.1) holder t.holders r.holders;
-        accounts = each is_account account_readable account_columns account t.accounts r.accounts;
-        devices = each is_device device_readable (λ k. device_columns k.1) device t.devices r.devices;
-        declarations = each is_declaration declaration_readable declaration_columns declaration t.declarations r.declarations;
-        lots = All-map (lot_readable 0) lot_columns t.lots (each_with is_lot IsKeptLot (λ l. lot_readable 0 (lot_columns l)) lot t.lots (each_kept t.lots stands.lots.rise kept.lots) r.lots);
-        pieces = each is_piece piece_readable piece_columns piece t.pieces r.pieces;
-        peers = each is_peer peer_readable (λ k. peer_columns k.1) peer t.peers r.peers;
-        receipts = each is_receipt receipt_readable (λ k. receipt_columns k.1) receipt t.receipts r.receipts;
-        cancellations = each is_cancellation cancellation_readable cancellation_columns cancellation t.cancellations r.cancellations;
-        withdrawals = each is_withdrawal withdrawal_readable withdrawal_columns withdrawal t.withdrawals r.withdrawals;
-        notices_out = each (is_notice_out t.meta.code) notice_out_readable notice_out_columns (notice_out t.meta.code) t.notices_out r.notices_out;
-        notices_in = each is_notice_in notice_in_readable (λ k. notice_in_columns k.1) notice_in_row t.notices_in r.notices_in;
-        corrections = each is_correction correction_readable correction_columns correction t.corrections r.corrections;
-        device_carriers = none device_carrier_readable (λ k. device_carrier_columns k.1) t.device_carriers r.device_carriers;
-        lot_carriers = none lot_carrier_readable lot_carrier_columns t.lot_carriers r.lot_carriers;
-      },
-      r.version,
-    )
+kept_can_be_read db t stands kept = (kept_can_be_read_in 2 (omega arith) db t stands kept, kept.readable.version)

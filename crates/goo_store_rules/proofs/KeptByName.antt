@@ -6,17 +6,15 @@ use Rattle.goo_types.specs.Day.{day_reading}
 use Rattle.goo_spec.specs.Sound.{AreWithinLimits}
 use Rattle.goo_spec.specs.State.{text_cmp}
 use Rattle.goo_tables_rows.specs.Rows.{Tables, Kept, Device, Lot, lot_key, lot_in}
-use Rattle.goo_tables_rows.specs.Met.{HasOurTables}
-use Rattle.goo_tables_rows.specs.Stands.{Stands}
 use Rattle.goo_tables_rows.specs.Once.{IsOnce}
-use Rattle.goo_tables_rows.proofs.Unique.{one_device}
 use Rattle.goo_store_open.specs.Found.{AreOf}
 use Rattle.goo_store_open.specs.declared.finding.Found.{Found}
-use Rattle.goo_spec_tables.specs.Kept.{AreReadable, IsKeptLot}
+use Rattle.goo_spec_tables.specs.Kept.{AreReadableIn, IsKeptLot}
 use Rattle.goo_spec_tables.specs.Readable.{is_meta, is_between, is_code, is_next, reads}
 use Rattle.goo_spec_tables.specs.States.{state_of}
 use Rattle.goo_store_rules.specs.Keeping.{has_good_values, has_good_corrections, has_its_notices}
 use Rattle.goo_store_rules.specs.Lots.{IsGoodLot}
+use Rattle.goo_store_rules.specs.Rules.{HaveOwnKeys}
 use Rattle.goo_store_rules.proofs.KeptValues.{readable, values_good, corrections_good, notices_good}
 use Rattle.goo_store_rules.proofs.KeptLots.{lots_kept, lots_good}
 use Rattle.goo_store_rules.proofs.KeptKeys.{AreKnownRows}
@@ -46,8 +44,8 @@ within_limits t is =
     }
 
 -- no two devices have one number, by the index of the table
-pub devices_once : (db : _) (t : Tables) → HasOurTables db → Stands db t → (gsrn : List ℕ) → length (filter (λ (k : Kept Device). eq_by_cmp text_cmp k.1.gsrn gsrn) t.devices) ≤ 1
-devices_once db t ours stands gsrn = short (filter (λ (k : Kept Device). eq_by_cmp text_cmp k.1.gsrn gsrn) t.devices) (one_device db t gsrn ours.sound stands)
+pub devices_once : (t : Tables) → HaveOwnKeys t → (gsrn : List ℕ) → length (filter (λ (k : Kept Device). eq_by_cmp text_cmp k.1.gsrn gsrn) t.devices) ≤ 1
+devices_once t keys gsrn = short (filter (λ (k : Kept Device). eq_by_cmp text_cmp k.1.gsrn gsrn) t.devices) (keys.devices gsrn)
   where
     short : (ks : List (Kept Device)) → IsOnce ks → length ks ≤ 1
     short ks (inl none) = subst (λ l. length l ≤ 1) (sym none) (omega arith)
@@ -55,7 +53,7 @@ devices_once db t ours stands gsrn = short (filter (λ (k : Kept Device). eq_by_
 
 -- what these rules say of the tables
 pub record AreKeptByName (t : Tables) : Type 0 where
-  pub readable : AreReadable t
+  pub readable : AreReadableIn t.meta.version t
   pub lots : (id : ℤ) (l : Lot) → find (λ m. int_eq (lot_key m) id) t.lots ≡ Some l → IsKeptLot l
   pub devices : (gsrn : List ℕ) → length (filter (λ (k : Kept Device). eq_by_cmp text_cmp k.1.gsrn gsrn) t.devices) ≤ 1
   pub limits : AreWithinLimits (state_of t).own (state_of t).next_serial (state_of t).next_account (state_of t).next_cancellation (state_of t).next_withdrawal (state_of t).next_notice
@@ -69,15 +67,15 @@ pub record KeepsByName (x : Found) : Type 0 where
   pub lots : All (λ row. IsGoodLot (lot_in row)) x.rows.production.lots.items
   pub names : KeepsNames x
 
--- over the tables of a database that a connection says is one
-module _ (db : _) (t : Tables) (x : Found) (ours : HasOurTables db) (stands : Stands db t) (are : AreOf t x) where
-  pub kept_by_name : t.meta.version ≡ 2 → KeepsByName x → AreKeptByName t
-  kept_by_name version keeps =
-      let read = readable t x are version keeps.values keeps.corrections keeps.notices in
+-- over tables with their own keys
+module _ (t : Tables) (x : Found) (keys : HaveOwnKeys t) (are : AreOf t x) where
+  pub kept_by_name : KeepsByName x → AreKeptByName t
+  kept_by_name keeps =
+      let read = readable t x are keeps.values keeps.corrections keeps.notices in
       record {
         readable = read;
         lots = lots_kept t x are keeps.lots;
-        devices = devices_once db t ours stands;
+        devices = devices_once t keys;
         limits = within_limits t read.meta;
         sound = sound_by_name t read x are keeps.names;
       }

@@ -8,6 +8,8 @@ use Rattle.std.specs.Cmp.Lexicographic.{nat_list_cmp_total}
 use Rattle.std.specs.FinMap.{get}
 use Rattle.std.proofs.lemmas.Bool.{and_parts, and_from}
 use Rattle.std.proofs.lemmas.Cmp.{int_eq_equiv}
+use Rattle.sqlite.specs.Effect.{IsDatabase}
+use Rattle.sqlite_keyed.proofs.KeyedLemmas.{same_int}
 use Rattle.sqlite_keyed.proofs.ListLemmas.{all_weaker, all_both, all_from_test}
 use Rattle.goo_types.specs.Day.{CalendarDay, day_reading}
 use Rattle.goo_types.specs.Gsrn.{gsrn_reading}
@@ -17,7 +19,6 @@ use Rattle.goo_types.proofs.DayLemmas.{only_day_text}
 use Rattle.goo_spec.specs.Lots.{key_of}
 use Rattle.goo_spec.specs.State.{text_cmp}
 use Rattle.goo_tables_rows.specs.Rows.{Tables, Kept, Account, Device, Cancellation, NoticeOut, Lot, lot_key}
-use Rattle.goo_tables_rows.specs.Met.{HasOurTables}
 use Rattle.goo_tables_rows.specs.Once.{IsOnce}
 use Rattle.goo_tables_rows.specs.Stands.{Stands, Keeps}
 use Rattle.goo_tables_rows.proofs.Unique.{one_device}
@@ -25,12 +26,14 @@ use Rattle.goo_tables_rows.proofs.UniqueLots.{one_lot}
 use Rattle.goo_spec_tables.specs.Devices.{device_of}
 use Rattle.goo_spec_tables.specs.Texts.{day_of, no_day}
 use Rattle.goo_spec_tables.specs.Places.{lot_of}
+use Rattle.goo_spec_tables.specs.Renewed.{HaveOwnFields}
 use Rattle.goo_spec_tables.specs.Readable.{reads, is_lot, is_code, is_plant}
 use Rattle.goo_spec_tables.specs.Records.{cancellation_of, sent_of}
 use Rattle.goo_spec_tables.specs.States.{state_of, account_of}
 use Rattle.goo_spec_tables.proofs.Known.{text_test, text_itself, number_test, lot_test}
 use Rattle.goo_spec_tables.proofs.Expiring.{stated_day}
-use Rattle.goo_store_rules.proofs.EachRow.{each_found, each_keyed}
+use Rattle.goo_store_rules.specs.Rules.{HaveOwnKeys}
+use Rattle.goo_store_rules.proofs.EachRow.{each_found, each_keyed, found_both}
 use Rattle.goo_store_rules.proofs.RowsKnown.{all_known}
 
 -- a text that reads as a day is the text of that day
@@ -60,9 +63,9 @@ is_of_period origin device first_day l = int_eq (pos l.origin) (pos origin) && (
 abbrev pub AreOfOwnPeriods : List Lot → Type 0
 AreOfOwnPeriods lots = (origin : ℕ) (device first_day : List ℕ) → IsOnce (filter (is_of_period origin device first_day) lots)
 
--- the table's index sees to it
-pub own_periods : (db : _) (t : Tables) → HasOurTables db → Stands db t → AreOfOwnPeriods t.lots
-own_periods db t ours stands origin device first_day = one_lot db t origin device first_day ours.sound stands
+-- the tables' indexes see to it
+pub own_keys : (db : _) (t : Tables) → IsDatabase db → Stands db t → HaveOwnKeys t
+own_keys db t sound stands = record { devices = λ gsrn. one_device db t gsrn sound stands; lots = λ origin device first_day. one_lot db t origin device first_day sound stands }
 
 -- two lots of one period have one key, and the other way round
 periods_are_keys : (a b : Lot) → is_lot a ≡ true → eq_by_cmp text_cmp (key_of (lot_of a)) (key_of (lot_of b)) ≡ is_of_period a.origin a.device a.first_day b
@@ -83,13 +86,13 @@ module _ {A : Type 0} (number : A → ℕ) where
   numbered : {to_row : _} {rows : _} (xs : List A) → Keeps rows to_row (λ a. pos (number a)) xs → AllByRecursion (λ a. find (λ b. eq_by_cmp nat_cmp (number a) (number b)) xs ≡ Some a) xs
   numbered xs keeps = all_weaker _ _ (λ a is. (λ i. find (λ b. sym (number_test (number b) (number a)) i) xs) ∙ is) xs (each_keyed (λ a. pos (number a)) xs keeps)
 
-module _ (db : _) (t : Tables) (ours : HasOurTables db) (it : Stands db t) where
+module _ (db : _) (t : Tables) (keys : HaveOwnKeys t) (it : Stands db t) where
   found_devices : AllByRecursion (λ (k : Kept Device). find (λ j. eq_by_cmp text_cmp k.1.gsrn j.1.gsrn) t.devices ≡ Some k) t.devices
   found_devices =
       each_found (λ (j k : Kept Device). eq_by_cmp text_cmp j.1.gsrn k.1.gsrn) (λ k. (eq_by_cmp_equiv nat_list_cmp_total).refl k.1.gsrn) t.devices
-      (λ k. subst IsOnce (λ i. filter (λ (j : Kept Device). text_test j.1.gsrn k.1.gsrn i) t.devices) (one_device db t k.1.gsrn ours.sound it))
+      (λ k. subst IsOnce (λ i. filter (λ (j : Kept Device). text_test j.1.gsrn k.1.gsrn i) t.devices) (keys.devices k.1.gsrn))
 
-  found_lots : list_all is_lot t.lots ≡ true → AreOfOwnPeriods t.lots → AllByRecursion (λ l. find (λ m. eq_by_cmp text_cmp (key_of (lot_of l)) (key_of (lot_of m))) t.lots ≡ Some l) t.lots
+  pub found_lots : list_all is_lot t.lots ≡ true → AreOfOwnPeriods t.lots → AllByRecursion (λ l. find (λ m. eq_by_cmp text_cmp (key_of (lot_of l)) (key_of (lot_of m))) t.lots ≡ Some l) t.lots
   found_lots good own =
       all_both _ (λ l. find (is_of_period l.origin l.device l.first_day) t.lots ≡ Some l) _ (λ l is found. (λ i. find (λ m. periods_are_keys l m is i) t.lots) ∙ found) t.lots (all_from_test is_lot t.lots good)
       (each_found (λ l. is_of_period l.origin l.device l.first_day) itself t.lots (λ l. own l.origin l.device l.first_day))
@@ -108,3 +111,13 @@ module _ (db : _) (t : Tables) (ours : HasOurTables db) (it : Stands db t) where
     cancellations = all_known nat_cmp_total (λ (c : Cancellation). c.number) cancellation_of t.cancellations (numbered (λ (c : Cancellation). c.number) t.cancellations it.cancellations);
     sent = all_known nat_cmp_total (λ (n : NoticeOut). n.number) sent_of t.notices_out (numbered (λ (n : NoticeOut). n.number) t.notices_out it.notices_out);
   }
+
+  -- two lots that agree in all fields are one
+  pub own_fields : list_all is_lot t.lots ≡ true → AreOfOwnPeriods t.lots → HaveOwnFields t.lots
+  own_fields good own i j k l mine theirs same =
+      let all = found_lots good own in
+      let a = found_both (λ m. int_eq (lot_key m) i) (λ n. find (λ m. eq_by_cmp text_cmp (key_of (lot_of n)) (key_of (lot_of m))) t.lots ≡ Some n) t.lots k mine all in
+      let b = found_both (λ m. int_eq (lot_key m) j) (λ n. find (λ m. eq_by_cmp text_cmp (key_of (lot_of n)) (key_of (lot_of m))) t.lots ≡ Some n) t.lots l theirs all in
+      let both : Some k ≡ Some l = sym a.1 ∙ ap (λ f. find (λ m. eq_by_cmp text_cmp (key_of f) (key_of (lot_of m))) t.lots) same ∙ b.1 in
+      let one : k ≡ l = cc in
+      sym (same_int (lot_key k) i a.0) ∙ ap lot_key one ∙ same_int (lot_key l) j b.0

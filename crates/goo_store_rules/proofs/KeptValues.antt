@@ -6,7 +6,7 @@ use Rattle.std.proofs.lemmas.List.Folds.{list_all-map}
 use Rattle.goo_tables_rows.specs.Rows.{Tables, Kept, holder_in, account_in, device_in, declaration_in, correction_in, device_carrier_in, lot_carrier_in, lot_in, receipt_in, cancellation_in, withdrawal_in, notice_out_in, notice_in_in}
 use Rattle.goo_store_open.specs.Found.{AreOf, values}
 use Rattle.goo_store_open.specs.declared.finding.Found.{Found}
-use Rattle.goo_spec_tables.specs.Kept.{AreReadable}
+use Rattle.goo_spec_tables.specs.Kept.{AreReadableIn}
 use Rattle.goo_spec_tables.specs.Readable.{is_meta, is_holder, is_account, is_device, is_declaration, is_lot, is_piece, is_peer, is_receipt, is_cancellation, is_withdrawal, is_correction, is_notice_out, is_notice_in, has_none}
 use Rattle.goo_store_rules.specs.Keeping.{has_good_values, has_good_corrections, has_its_notices}
 
@@ -54,8 +54,8 @@ module _ (t : Tables) (x : Found) (are : AreOf t x) where
       λ i. sent i && came i
 
   -- what the rules on values say of the tables
-  pub readable : t.meta.version ≡ 2 → has_good_values x ≡ true → has_good_corrections x ≡ true → has_its_notices x ≡ true → AreReadable t
-  readable version good corrected told =
+  pub readable : has_good_values x ≡ true → has_good_corrections x ≡ true → has_its_notices x ≡ true → AreReadableIn t.meta.version t
+  readable good corrected told =
       let a = and_parts _ _ (sym good_values ∙ good) in
       let b = and_parts _ _ a.1 in
       let c = and_parts _ _ b.1 in
@@ -70,7 +70,7 @@ module _ (t : Tables) (x : Found) (are : AreOf t x) where
       let o = and_parts _ _ (sym good_corrections ∙ corrected) in
       let p = and_parts _ _ o.1 in
       record {
-        version = version;
+        version = refl;
         meta = a.0;
         holders = b.0;
         accounts = c.0;
@@ -89,14 +89,14 @@ module _ (t : Tables) (x : Found) (are : AreOf t x) where
         lot_carriers = p.1;
       }
 
-  pub values_good : AreReadable t → has_good_values x ≡ true
+  pub values_good : AreReadableIn t.meta.version t → has_good_values x ≡ true
   values_good it =
       good_values
       ∙ and_from _ _ it.meta (and_from _ _ it.holders (and_from _ _ it.accounts (and_from _ _ it.peers (and_from _ _ it.devices (and_from _ _ it.declarations
       (and_from _ _ it.lots (and_from _ _ it.pieces (and_from _ _ it.receipts (and_from _ _ it.cancellations it.withdrawals)))))))))
 
-  pub corrections_good : AreReadable t → has_good_corrections x ≡ true
+  pub corrections_good : AreReadableIn t.meta.version t → has_good_corrections x ≡ true
   corrections_good it = good_corrections ∙ and_from _ _ it.corrections (and_from _ _ it.device_carriers it.lot_carriers)
 
-  pub notices_good : AreReadable t → has_its_notices x ≡ true
+  pub notices_good : AreReadableIn t.meta.version t → has_its_notices x ≡ true
   notices_good it = notices ∙ and_from _ _ it.notices_out it.notices_in

@@ -29,4 +29,6 @@ pub mod DevicesKept
 pub mod ProductionKept
 pub mod CanBeRead
 pub mod Accepted
+pub mod KeptApart
+pub mod Cutting
 pub mod AllRules

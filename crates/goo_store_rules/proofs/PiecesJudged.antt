@@ -11,7 +11,7 @@ use Rattle.goo_tables_rows.specs.Rows.{Tables, Lot, lot_key, account_in}
 use Rattle.goo_tables_rows.specs.Stands.{Stands}
 use Rattle.goo_store_open.specs.Found.{AreOf}
 use Rattle.goo_store_open.specs.declared.finding.Found.{Found}
-use Rattle.goo_spec_tables.specs.Kept.{AreReadable, AreKept, IsKeptLot}
+use Rattle.goo_spec_tables.specs.Kept.{AreReadableIn, AreKeptIn, IsKeptLot}
 use Rattle.goo_spec_tables.specs.Places.{lot_of}
 use Rattle.goo_spec_tables.specs.States.{state_of}
 use Rattle.goo_store_rules.specs.WellKept.{is_issued, are_apart, has_account, has_cancellation, has_withdrawal, has_sent, has_lot_of, has_over, has_closed, act_in, is_timely}
@@ -26,7 +26,7 @@ use Rattle.goo_store_rules.proofs.PieceRules.{is_given, has_its_account, has_its
 -- What both directions take: values that can be read, and lots by their rules.
 -- `certificates` is goo_core_list's `certificates-rows` at these rows.
 pub record HaveGoodLots (t : Tables) : Type 0 where
-  pub readable : AreReadable t
+  pub readable : AreReadableIn t.meta.version t
   pub kept : (id : ℕ) (l : Lot) → row_under lot_key t.lots id ≡ Some l → IsKeptLot l
   pub certificates : HasItsCertificates t
 
@@ -70,7 +70,7 @@ module _ (t : Tables) (db : _) (stands : Stands db t) (it : HaveGoodLots t) wher
         timely = timely_from t it.readable.lots it.readable.meta (db.trees 8) stands.lots (db.trees 3) stands.accounts it.kept it.certificates good up some kept.times;
       }
 
-pub kept_pieces : (t : Tables) → AreKept t → ArePiecesKept t
+pub kept_pieces : (t : Tables) → AreKeptIn t.meta.version t → ArePiecesKept t
 kept_pieces t kept = record { lots_there = kept.lots_there; rising = kept.rising; known = kept.sound.known; places = kept.sound.places; times = kept.sound.times }
 
 -- ---- the rules, over what was read
@@ -150,6 +150,6 @@ module _ (t : Tables) (x : Found) (of : AreOf t x) where
     kept_by_rules it known numbers names places = (rules_kept it known).0 (rules_of_pieces x numbers names places)
 
     -- the tables keep all rules, and what was read keeps those of pieces
-    pub rules_by_kept : HasItsCertificates t → AreKept t → HaveRulesOfPieces x
+    pub rules_by_kept : HasItsCertificates t → AreKeptIn t.meta.version t → HaveRulesOfPieces x
     rules_by_kept certificates kept =
         judged_as_read (pieces_judged t db stands (record { readable = kept.readable; kept = λ id l found. kept.lots (pos id) l found; certificates = certificates }) (kept_pieces t kept))

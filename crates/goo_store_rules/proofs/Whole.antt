@@ -5,7 +5,7 @@ use Rattle.goo_spec.specs.Declare.{declared_by}
 use Rattle.goo_spec.specs.Energy.{net, lowered_by, due, issued, corrected}
 use Rattle.goo_spec.specs.Sound.{IsSound, AreOfKnownLots, ArePlacesThere, AreTimely, do_rise}
 use Rattle.goo_tables_rows.specs.Rows.{Tables}
-use Rattle.goo_spec_tables.specs.Kept.{AreKept}
+use Rattle.goo_spec_tables.specs.Kept.{AreKeptIn}
 use Rattle.goo_spec_tables.specs.States.{state_of}
 use Rattle.goo_store_rules.proofs.ByName.{IsSoundByName}
 use Rattle.goo_store_rules.proofs.KeptByName.{AreKeptByName}
@@ -58,7 +58,7 @@ sound_by_name_of t sound = record {
   withdrawn = sound.corrections.act;
 }
 
-pub kept_by_name_of : (t : Tables) → AreKept t → AreKeptByName t
+pub kept_by_name_of : (t : Tables) → AreKeptIn t.meta.version t → AreKeptByName t
 kept_by_name_of t kept = record { readable = kept.readable; lots = kept.lots; devices = kept.devices; limits = kept.sound.limits; sound = sound_by_name_of t kept.sound }
 
 pub sound_otherwise_of : (t : Tables) → IsSound (state_of t) → IsSoundOtherwise t

@@ -13,6 +13,7 @@ use Rattle.goo_spec.specs.Checks.{issuer}
 use Rattle.goo_tables_rows.specs.Rows.{Holder, Account, Lot, Device, Declaration, Cancellation, Withdrawal, NoticeOut}
 use Rattle.goo_tables_rows.specs.declared.peer.PeerRow.{PeerRow}
 use Rattle.goo_tables_rows.specs.declared.piece.PieceRow.{PieceRow}
+use Rattle.goo_spec_tables.specs.Renewed.{goes_on}
 
 -- the issuing body is no holder
 abbrev pub is_no_issuer : Holder → Bool
@@ -48,6 +49,12 @@ abbrev pub are_apart : Option ℕ → List PieceRow → Bool
 are_apart before [] = true
 are_apart None (p ∷ ps) = are_apart (Some p.last) ps
 are_apart (Some last) (p ∷ ps) = nat_lt last p.first && are_apart (Some p.last) ps
+
+-- no piece goes on where the one before it ends
+abbrev pub are_joined : Option PieceRow → List PieceRow → Bool
+are_joined before [] = true
+are_joined None (p ∷ ps) = are_joined (Some p) ps
+are_joined (Some before) (p ∷ ps) = not (goes_on before p) && are_joined (Some p) ps
 
 -- ---- names that have to be there
 

@@ -2,8 +2,9 @@
 
 ghost use Rattle.std.specs.Prelude.{◌≡◌, ◌↔◌, ◌&&◌, IsTrue, IfOk};
 ghost use Rattle.goo_store_rules.specs.Keeping.{has_good_values, has_good_corrections, has_its_numbers};
-ghost use Rattle.goo_store_rules.specs.Rules.{KeepsValues, KeepsNames, KeepsRules};
+ghost use Rattle.goo_store_rules.specs.Rules.{KeepsValues, KeepsWhole, KeepsNames, KeepsRules};
 
+use crate::cut::are_joined;
 use crate::keeping::{
     are_accepted, are_corrections, are_declared, are_named, are_notices, are_numbered, are_placed,
 };
@@ -26,6 +27,13 @@ fn keeps_values(found: &Found) -> bool
     are_accepted_and_numbered(found) && are_good(&found.rows.production.lots)
 }
 
+/// Whether, in version 2, no piece is left to join with the one before it.
+fn keeps_whole(found: &Found, version: u32) -> bool
+    ensures { IsTrue result ↔ KeepsWhole version found.now }
+{
+    version != 2 || are_joined(&found.rows.production.pieces)
+}
+
 /// Whether what rows name is there, and notices are their texts.
 ///
 /// # Errors
@@ -42,15 +50,16 @@ fn keeps_names(alloc: Global, found: &Found) -> Result<bool, AllocError>
     )
 }
 
-/// Whether all rules are kept.
+/// Whether all rules of the version are kept: version 2 has one more than version 1, that no piece is left to join with
+/// the one before it.
 ///
 /// # Errors
 ///
 /// Where an allocation is refused.
-pub fn keeps_rules(alloc: Global, found: &Found) -> Result<bool, AllocError>
-    ensures { IfOk result (λ yes. IsTrue yes ↔ KeepsRules found.now) }
+pub fn keeps_rules(alloc: Global, found: &Found, version: u32) -> Result<bool, AllocError>
+    ensures { IfOk result (λ yes. IsTrue yes ↔ KeepsRules version found.now) }
 {
-    if !keeps_values(found) || !keeps_names(alloc, found)? {
+    if !keeps_values(found) || !keeps_whole(found, version) || !keeps_names(alloc, found)? {
         return Ok(false);
     }
     keeps_production(alloc, found.meta.code, &found.rows.production)

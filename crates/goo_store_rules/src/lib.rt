@@ -4,6 +4,7 @@
 pub mod apart;
 pub mod correct_record;
 pub mod corrects;
+pub mod cut;
 pub mod declared;
 mod declares;
 pub mod energy;

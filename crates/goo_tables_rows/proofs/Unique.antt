@@ -2,7 +2,6 @@
 use Rattle.std.proofs.Common.{◌≡◌, ◌<ℤ◌, ℕ, Bool, true, false, not, cond, ◌&&◌, List, [], ◌∷◌, map, filter, inl, inr, refl, sym, ap, subst, ◌∙◌, arith, true≢false}
 use Rattle.std.specs.List.{AllByRecursion}
 use Rattle.std.proofs.lemmas.Int.{ints}
-use Rattle.std.proofs.lemmas.Bool.{and_parts}
 use Rattle.sqlite.specs.declared.types.Value.TheVariants.{Int, Text}
 use Rattle.sqlite.specs.Order.{Row, column}
 use Rattle.sqlite.specs.Tree.{rowid, IsAscending}
@@ -18,9 +17,10 @@ use Rattle.sqlite_typed.specs.Tests.{bytes_eq}
 use Rattle.sqlite_typed.proofs.TestLemmas.{at_texts, at_ints, same_bytes}
 use Rattle.sqlite_keyed.specs.Keyed.{IsKeyedBy}
 use Rattle.sqlite_keyed.proofs.ListLemmas.{all_weaker, all_both, all_unmap, none_from_any, filter_none}
-use Rattle.goo_tables_rows.specs.Columns.{registry_schema, device}
+use Rattle.goo_tables_rows.specs.Columns.{registry_schema, first_schema, device}
 use Rattle.goo_tables_rows.specs.Rows.{Tables, Kept, kept_key, Device, device_row}
-use Rattle.goo_tables_rows.specs.Stands.{Stands}
+use Rattle.goo_tables_rows.specs.Stands.{Stands, Keeps}
+use Rattle.goo_tables_rows.specs.First.{IsFirst}
 use Rattle.goo_tables_rows.specs.Once.{IsOnce}
 
 first_binary : (first_key plain).collation ≡ Binary
@@ -71,13 +71,34 @@ module _ {X : Type 0} (to_row : Kept X → Row) (text : X → List ℕ) (ids : (
       once name ks (apart ks (all_weaker (λ k. clashes plain (1 ∷ []) (map to_row ks) (to_row k) ≡ false) (λ k. AllByRecursion (λ j. clash j k ≡ false) ks)
       (λ k h. all_unmap (λ row. (agree plain (1 ∷ []) row (1 ∷ []) (to_row k) && differ (rowid row) (rowid (to_row k))) ≡ false) to_row ks (none_from_any _ (map to_row ks) h)) ks each) up)
 
--- a database, as each connection keeps it, has no two devices of one number
+pub no_clash : (b : Bool) → (not b && true) ≡ true → b ≡ false
+no_clash true h = absurd (true≢false (sym h))
+no_clash false h = refl
+
+abbrev AreOwn : List Row → Type 0
+AreOwn rows = AllByRecursion (λ row. clashes plain (1 ∷ []) rows row ≡ false) rows
+
+-- rows of `device` without a clash, whatever other tables there are
+device_once : (db : Database) (devices : List (Kept Device)) (gsrn : List ℕ) → AreOwn (db.trees 4) → Keeps (db.trees 4) device_row kept_key devices → IsOnce (filter (λ (k : Kept Device). bytes_eq k.1.gsrn gsrn) devices)
+device_once db devices gsrn none keeps = only_one device_row (λ d. d.gsrn) (λ _. refl) (λ _. refl) gsrn (db.trees 4) devices keeps.are keeps.rise none
+
+abbrev pub UniqueRules : Schema → Database → Type 0
+UniqueRules schema db = AllByRecursion (λ (u : Table). AllByRecursion (λ row. passes Unique schema db.trees u row ≡ true) (db.trees u.tree)) schema.tables
+
+-- a database, as each connection keeps it, keeps to the UNIQUE of its tables
+pub unique_rules : (schema : Schema) (db : Database) → IsDatabase db → db.schema ≡ schema → UniqueRules schema db
+unique_rules schema db live is = subst (λ (s : Schema). UniqueRules s db) is (live.obeys.rules Unique)
+
+-- so it has no two devices of one number
 pub one_device : (db : Database) (t : Tables) (gsrn : List ℕ) → IsDatabase db → Stands db t → IsOnce (filter (λ (k : Kept Device). bytes_eq k.1.gsrn gsrn) t.devices)
 one_device db t gsrn live it =
-    let rules = subst (λ (s : Schema). AllByRecursion (λ (u : Table). AllByRecursion (λ row. passes Unique s db.trees u row ≡ true) (db.trees u.tree)) s.tables) it.schema (live.obeys.rules Unique) in
-    only_one device_row (λ d. d.gsrn) (λ _. refl) (λ _. refl) gsrn (db.trees 4) t.devices it.devices.are it.devices.rise
-    (all_weaker (λ row. passes Unique registry_schema db.trees device row ≡ true) (λ row. clashes plain (1 ∷ []) (db.trees 4) row ≡ false) (λ row h. no_clash _ (and_parts (not (clashes plain (1 ∷ []) (db.trees 4) row)) true h).0) (db.trees 4) rules.1.1.1.0)
-  where
-    no_clash : (b : Bool) → not b ≡ true → b ≡ false
-    no_clash true h = absurd (true≢false (sym h))
-    no_clash false h = refl
+    device_once db t.devices gsrn
+    (all_weaker (λ row. passes Unique registry_schema db.trees device row ≡ true) (λ row. clashes plain (1 ∷ []) (db.trees 4) row ≡ false) (λ row h. no_clash (clashes plain (1 ∷ []) (db.trees 4) row) h) (db.trees 4) (unique_rules registry_schema db live it.schema).1.1.1.0)
+    it.devices
+
+-- nor has one of version 1
+pub first_device : (db : Database) (t : Tables) (gsrn : List ℕ) → IsDatabase db → IsFirst db t → IsOnce (filter (λ (k : Kept Device). bytes_eq k.1.gsrn gsrn) t.devices)
+first_device db t gsrn live it =
+    device_once db t.devices gsrn
+    (all_weaker (λ row. passes Unique first_schema db.trees device row ≡ true) (λ row. clashes plain (1 ∷ []) (db.trees 4) row ≡ false) (λ row h. no_clash (clashes plain (1 ∷ []) (db.trees 4) row) h) (db.trees 4) (unique_rules first_schema db live it.0).1.1.1.0)
+    it.1.devices

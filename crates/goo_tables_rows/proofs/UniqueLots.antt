@@ -1,12 +1,10 @@
 -- That no two lots of a database have one origin, device and first day.
-use Rattle.std.proofs.Common.{◌≡◌, ◌<ℤ◌, ℕ, pos, Bool, true, false, not, cond, ◌&&◌, List, [], ◌∷◌, map, filter, int_eq, inl, inr, refl, sym, ap, subst, ◌∙◌, arith, true≢false}
+use Rattle.std.proofs.Common.{◌≡◌, ◌<ℤ◌, ℕ, pos, Bool, true, false, cond, ◌&&◌, List, [], ◌∷◌, map, filter, int_eq, inl, inr, refl, sym, ap, subst, ◌∙◌, arith, true≢false}
 use Rattle.std.specs.List.{AllByRecursion}
 use Rattle.std.proofs.lemmas.Int.{ints}
 use Rattle.std.proofs.lemmas.Bool.{and_parts}
 use Rattle.sqlite.specs.Tree.{rowid, IsAscending}
 use Rattle.sqlite.specs.Effect.{Database, IsDatabase}
-use Rattle.sqlite.specs.Schema.{Schema}
-use Rattle.sqlite.specs.Table.{Table}
 use Rattle.sqlite_schema.specs.declared.schema.Constraint.TheVariants.{Unique}
 use Rattle.sqlite_schema.specs.Rules.{agree, differ, clashes, passes}
 use Rattle.sqlite_sql.specs.declared.ops.CompareOp.TheVariants.{Eq, Ne}
@@ -17,10 +15,12 @@ use Rattle.sqlite_typed.proofs.TestLemmas.{at_texts, at_ints, same_bytes}
 use Rattle.sqlite_keyed.specs.Keyed.{IsKeyedBy}
 use Rattle.sqlite_keyed.proofs.KeyedLemmas.{same_int}
 use Rattle.sqlite_keyed.proofs.ListLemmas.{all_weaker, all_both, all_unmap, none_from_any, filter_none}
-use Rattle.goo_tables_rows.specs.Columns.{registry_schema, lot}
+use Rattle.goo_tables_rows.specs.Columns.{registry_schema, first_schema, lot}
 use Rattle.goo_tables_rows.specs.Rows.{Tables, Lot, lot_row, lot_key}
-use Rattle.goo_tables_rows.specs.Stands.{Stands}
+use Rattle.goo_tables_rows.specs.Stands.{Stands, Keeps}
+use Rattle.goo_tables_rows.specs.First.{IsFirst}
 use Rattle.goo_tables_rows.specs.Once.{IsOnce}
+use Rattle.goo_tables_rows.proofs.Unique.{no_clash, unique_rules}
 
 first_binary : (first_key plain).collation ≡ Binary
 unfolding first_key
@@ -82,18 +82,31 @@ module _ (origin : ℕ) (device first_day : List ℕ) where
       go false e more = more
       go true e more = inr (k, ap (λ l. k ∷ l) (filter_none is_it ks (all_weaker (λ j. same j k ≡ false) (λ j. is_it j ≡ false) (λ j h. other k j e h) ks up.0)))
 
+abbrev is_of : ℕ → List ℕ → List ℕ → Lot → Bool
+is_of origin device first_day l = int_eq (pos l.origin) (pos origin) && (bytes_eq l.device device && bytes_eq l.first_day first_day)
+
+-- rows of `lot` without a clash, whatever other tables there are
+lot_once : (db : Database) (lots : List Lot) (origin : ℕ) (device first_day : List ℕ) → AllByRecursion (λ row. clashes plain places (db.trees 8) row ≡ false) (db.trees 8) → Keeps (db.trees 8) lot_row lot_key lots
+    → IsOnce (filter (is_of origin device first_day) lots)
+lot_once db lots origin device first_day none keeps =
+    let all = subst (λ l. AllByRecursion (λ row. clashes plain places l row ≡ false) l) keeps.are none in
+    let each = all_unmap (λ row. clashes plain places (map lot_row lots) row ≡ false) lot_row lots all in
+    once origin device first_day lots
+    (apart lots (all_weaker (λ k. clashes plain places (map lot_row lots) (lot_row k) ≡ false) (λ k. AllByRecursion (λ j. clash j k ≡ false) lots)
+    (λ k h. all_unmap (λ row. (agree plain places row places (lot_row k) && differ (rowid row) (rowid (lot_row k))) ≡ false) lot_row lots (none_from_any _ (map lot_row lots) h)) lots each) keeps.rise)
+
 -- a database, as each connection keeps it, has no two lots of one origin, device and first day
 pub one_lot : (db : Database) (t : Tables) (origin : ℕ) (device first_day : List ℕ) → IsDatabase db → Stands db t
     → IsOnce (filter (λ (l : Lot). int_eq (pos l.origin) (pos origin) && (bytes_eq l.device device && bytes_eq l.first_day first_day)) t.lots)
 one_lot db t origin device first_day live it =
-    let rules = subst (λ (s : Schema). AllByRecursion (λ (u : Table). AllByRecursion (λ row. passes Unique s db.trees u row ≡ true) (db.trees u.tree)) s.tables) it.schema (live.obeys.rules Unique) in
-    let none = all_weaker (λ row. passes Unique registry_schema db.trees lot row ≡ true) (λ row. clashes plain places (db.trees 8) row ≡ false) (λ row h. no_clash _ (and_parts (not (clashes plain places (db.trees 8) row)) true h).0) (db.trees 8) rules.1.1.1.1.1.0 in
-    let all = subst (λ l. AllByRecursion (λ row. clashes plain places l row ≡ false) l) it.lots.are none in
-    let each = all_unmap (λ row. clashes plain places (map lot_row t.lots) row ≡ false) lot_row t.lots all in
-    once origin device first_day t.lots
-    (apart t.lots (all_weaker (λ k. clashes plain places (map lot_row t.lots) (lot_row k) ≡ false) (λ k. AllByRecursion (λ j. clash j k ≡ false) t.lots)
-    (λ k h. all_unmap (λ row. (agree plain places row places (lot_row k) && differ (rowid row) (rowid (lot_row k))) ≡ false) lot_row t.lots (none_from_any _ (map lot_row t.lots) h)) t.lots each) it.lots.rise)
-  where
-    no_clash : (b : Bool) → not b ≡ true → b ≡ false
-    no_clash true h = absurd (true≢false (sym h))
-    no_clash false h = refl
+    lot_once db t.lots origin device first_day
+    (all_weaker (λ row. passes Unique registry_schema db.trees lot row ≡ true) (λ row. clashes plain places (db.trees 8) row ≡ false) (λ row h. no_clash (clashes plain places (db.trees 8) row) h) (db.trees 8) (unique_rules registry_schema db live it.schema).1.1.1.1.1.0)
+    it.lots
+
+-- nor has one of version 1
+pub first_lot : (db : Database) (t : Tables) (origin : ℕ) (device first_day : List ℕ) → IsDatabase db → IsFirst db t
+    → IsOnce (filter (λ (l : Lot). int_eq (pos l.origin) (pos origin) && (bytes_eq l.device device && bytes_eq l.first_day first_day)) t.lots)
+first_lot db t origin device first_day live it =
+    lot_once db t.lots origin device first_day
+    (all_weaker (λ row. passes Unique first_schema db.trees lot row ≡ true) (λ row. clashes plain places (db.trees 8) row ≡ false) (λ row h. no_clash (clashes plain places (db.trees 8) row) h) (db.trees 8) (unique_rules first_schema db live it.0).1.1.1.1.1.0)
+    it.1.lots
