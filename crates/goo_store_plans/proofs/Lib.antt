@@ -9,6 +9,7 @@ pub mod ClosingActed
 pub mod RegisteringActed
 pub mod LotsAdded
 pub mod InTurn
+pub mod PiecesJoined
 pub mod FreeChanges
 pub mod ShortTexts
 pub mod BriefTexts

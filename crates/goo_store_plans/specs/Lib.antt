@@ -21,3 +21,4 @@ pub mod StoreFaults
 pub mod Needing
 pub mod EditsTaken
 pub mod PlanNeeds
+pub mod JoiningChanges

@@ -9,6 +9,7 @@ mod edit_changes;
 pub mod findings;
 mod gathered_lots;
 mod importing;
+pub mod joining_pieces;
 pub mod lot_numbers;
 mod member_changes;
 mod new_corrections;
