@@ -13,3 +13,4 @@ pub mod Next
 pub mod NextRow
 pub mod CreationBlamed
 pub mod SumLemmas
+pub mod Renewing

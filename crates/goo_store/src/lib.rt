@@ -21,6 +21,7 @@ mod peers;
 mod pieces;
 mod receipts;
 mod registry_row;
+mod renewing;
 mod rows;
 mod shelf;
 pub mod sql_shelf;
@@ -28,4 +29,5 @@ mod sums;
 mod totals;
 
 pub use goo_store_open::fault::OpenFault;
+pub use goo_store_open::our_schema::has_first_schema;
 pub use sql_shelf::SqlShelf;

