@@ -13,4 +13,4 @@ pub mod Next
 pub mod NextRow
 pub mod CreationBlamed
 pub mod SumLemmas
-pub mod Renewing
+pub mod FirstTables

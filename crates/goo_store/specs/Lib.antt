@@ -6,4 +6,4 @@ pub mod Creating
 pub mod Preparing
 pub mod Gathering
 pub mod NextRows
-pub mod Renewing
+pub mod FirstTables

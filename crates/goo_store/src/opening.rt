@@ -1,15 +1,17 @@
 // FROM THE LEAD: before you write this file read /work/lanes/m-open/NOTE-FROM-LEAD.md (two short wishes), then delete this line.
 //! Opening the registry that a database holds.
 
-ghost use Rattle.std.specs.Prelude.{◌≡◌, None, Err, false, IsTrue, IfOk, IfErr, IsErrAnd};
+ghost use Rattle.std.specs.Prelude.{◌≡◌, ◌⊎◌, None, Err, false, IsTrue, IfOk, IfErr, IsErrAnd};
 ghost use Rattle.sqlite.specs.Held.{state as view};
 ghost use Rattle.sqlite.specs.State.{HasCleanDisk};
 ghost use Rattle.sqlite.specs.Tree.{Trees};
-ghost use Rattle.goo_tables_rows.specs.Columns.{no_schema, registry_schema};
+ghost use Rattle.goo_tables_rows.specs.Columns.{no_schema, registry_schema, first_schema};
+ghost use Rattle.goo_tables_rows.specs.First.{IsFirst};
 ghost use Rattle.goo_tables_rows.specs.Met.{IsInKeyOrder};
 ghost use Rattle.goo_tables_rows.specs.Rows.{Tables};
-ghost use Rattle.goo_tables_rows.specs.Stands.{Stands, Rests};
-ghost use Rattle.goo_spec_tables.specs.Kept.{AreKept};
+ghost use Rattle.goo_tables_rows.specs.Stands.{Stands, Rests, Settled};
+ghost use Rattle.goo_spec_tables.specs.Kept.{AreKept, AreKeptIn};
+ghost use Rattle.goo_spec_tables.specs.Renewed.{renewed};
 ghost use Rattle.goo_spec_tables.specs.States.{state_of};
 ghost use Rattle.goo_store_open.specs.Found.{IsOutside};
 ghost use Rattle.goo_store_open.specs.Foreign.{LacksMeta, TellsVersion, IsForeignWord};
@@ -17,24 +19,28 @@ ghost use Rattle.goo_ranges_rows.specs.Rows.{AreRowsOf};
 ghost use Rattle.goo_spec.specs.Sound.{IsSound};
 ghost use Rattle.goo_core_shelf.specs.Shelf.{IsReady};
 ghost use Rattle.goo_store_lookups.specs.Moments.{moment};
-ghost use Rattle.goo_store_lookups.specs.Opening.{BlamesOpening, IsRefusal};
+ghost use Rattle.goo_store_lookups.specs.Opening.{BlamesOpening, IsRefusal, IsRefusalIn};
+ghost use Rattle.goo_store.specs.FirstTables.{HoldsRenewed};
 
+use crate::renewing::renew;
 use crate::sql_shelf::SqlShelf;
 use goo_store_lookups::judge::judge;
 use goo_store_open::fault::OpenFault;
 use goo_store_open::foreign::foreign_fault;
-use goo_store_open::our_schema::has_our_schema;
+use goo_store_open::layout::Layout;
+use goo_store_open::our_schema::{has_first_schema, has_our_schema};
 use sqlite::{Alter, Connection};
 use std::alloc::Global;
 
 impl<S: Alter> SqlShelf<S> {
-    /// The registry that a database holds, whatever its tables are.
+    /// The registry that a database holds, whatever its tables are. Tables of version 1 that keep the rules of their version
+    /// become those of version 2 in one transaction, with the same state; whoever stops it leaves the ones or the others.
     ///
     /// # Errors
     ///
     /// The database, unchanged, with `NotARegistry`, `Version` or `Damaged` where it holds no registry whose tables are those
-    /// that `create` makes and keep the rules; with `Store` where a call was refused, and `Memory` where memory was. It is
-    /// outside a transaction.
+    /// that `create` makes, or that it made in version 1, and keep the rules; with `Store` where a call was refused, and
+    /// `Memory` where memory was. It is outside a transaction.
     pub fn open(
         alloc: Global,
         conn: Connection<S>,
@@ -46,12 +52,15 @@ impl<S: Alter> SqlShelf<S> {
         ensures rows_fit { IfOk result (λ shelf. (moment (view S.Store shelf.conn) shelf.refused).doubts ≡ 0 → AreRowsOf (moment (view S.Store shelf.conn) shelf.refused).state.at (moment (view S.Store shelf.conn) shelf.refused).rows) }
         ensures ready { IfOk result (λ shelf. IsReady (moment (view S.Store shelf.conn) shelf.refused)) }
         ensures kept { IfOk result (λ shelf. (t : Tables) → Stands (view S.Store conn).now t → HasCleanDisk (view S.Store shelf.conn) → AreKept t) }
-        ensures rests { IfOk result (λ shelf. HasCleanDisk (view S.Store shelf.conn) → Rests (view S.Store conn) (view S.Store shelf.conn)) }
+        ensures rests { ((view S.Store conn).now.schema ≡ first_schema → ⊥) → IfOk result (λ shelf. HasCleanDisk (view S.Store shelf.conn) → Rests (view S.Store conn) (view S.Store shelf.conn)) }
+        ensures renewed { IfOk result (λ shelf. (t : Tables) → IsFirst (view S.Store conn).now t → HasCleanDisk (view S.Store shelf.conn) → AreKeptIn 1 t × Settled (view S.Store shelf.conn) (renewed t)) }
+        ensures same_state { IfOk result (λ shelf. (t : Tables) → IsFirst (view S.Store conn).now t → (moment (view S.Store shelf.conn) shelf.refused).doubts ≡ 0 → (moment (view S.Store shelf.conn) shelf.refused).state ≡ state_of t) }
         ensures refused { IfErr result (λ e. HasCleanDisk (view S.Store e.0) → (view S.Store conn).step_limit ≡ None → (t : Tables) → Stands (view S.Store conn).now t → AreKept t → IsOutside e.1) }
         ensures words { IfErr result (λ e. HasCleanDisk (view S.Store e.0) → (view S.Store conn).step_limit ≡ None → (t : Tables) → Stands (view S.Store conn).now t → IsRefusal t e.1) }
         ensures blames { (view S.Store conn).now.schema ≡ registry_schema → IfErr result (λ e. BlamesOpening (view S.Store conn) (view S.Store e.0) e.1) }
-        ensures foreign { ((view S.Store conn).now.schema ≡ registry_schema → ⊥) → IsErrAnd result (λ e. IsForeignWord e.1) }
-        ensures version { ((view S.Store conn).now.schema ≡ registry_schema → ⊥) → (LacksMeta (view S.Store conn).now.schema → ⊥)
+        ensures old_words { IfErr result (λ e. HasCleanDisk (view S.Store e.0) → (view S.Store conn).step_limit ≡ None → (t : Tables) → IsFirst (view S.Store conn).now t → IsRefusalIn 1 t e.1) }
+        ensures foreign { ((view S.Store conn).now.schema ≡ registry_schema → ⊥) → ((view S.Store conn).now.schema ≡ first_schema → ⊥) → IsErrAnd result (λ e. IsForeignWord e.1) }
+        ensures version { ((view S.Store conn).now.schema ≡ registry_schema → ⊥) → ((view S.Store conn).now.schema ≡ first_schema → ⊥) → (LacksMeta (view S.Store conn).now.schema → ⊥)
             → IfErr result (λ e. HasCleanDisk (view S.Store e.0) → TellsVersion (view S.Store conn) (view S.Store e.0) e.1) }
         ensures lacking { LacksMeta (view S.Store conn).now.schema → result ≡ Err (conn, OpenFault.NotARegistry) }
         ensures empty { (view S.Store conn).now.schema ≡ no_schema → result ≡ Err (conn, OpenFault.NotARegistry) }
@@ -59,16 +68,24 @@ impl<S: Alter> SqlShelf<S> {
         ensures outside { IfErr result (λ e. e.0.in_transaction ≡ false) }
         ensures clean { IfOk result (λ shelf. HasCleanDisk (view S.Store shelf.conn) → HasCleanDisk (view S.Store conn)) }
         ensures clean_before { IfErr result (λ e. HasCleanDisk (view S.Store e.0) → HasCleanDisk (view S.Store conn)) }
-        ensures crash { IfErr result (λ e. HasCleanDisk (view S.Store e.0) → (db : Trees) → (view S.Store e.0).may_leave db → (view S.Store conn).may_leave db) }
+        ensures crash { ((view S.Store conn).now.schema ≡ first_schema → ⊥) → IfErr result (λ e. HasCleanDisk (view S.Store e.0) → (db : Trees) → (view S.Store e.0).may_leave db → (view S.Store conn).may_leave db) }
+        ensures old_crash { (view S.Store conn).now.schema ≡ first_schema
+            → IfErr result (λ e. HasCleanDisk (view S.Store e.0) → (db : Trees) → (view S.Store e.0).may_leave db → (view S.Store conn).may_leave db ⊎ HoldsRenewed (view S.Store conn).now db) }
     {
         let mut conn = conn;
         let _settled = conn.is_autocommit();
+        if has_first_schema(&conn) {
+            return match renew(alloc, &mut conn) {
+                Ok(()) => Ok(SqlShelf::over(alloc, conn)),
+                Err(fault) => Err((conn, fault)),
+            };
+        }
         if !has_our_schema(&conn) {
             let fault = foreign_fault(&mut conn);
             return Err((conn, fault));
         }
-        match judge(alloc, &mut conn) {
-            Ok(()) => Ok(SqlShelf::over(alloc, conn)),
+        match judge(alloc, &mut conn, Layout::Ours) {
+            Ok(_pieces) => Ok(SqlShelf::over(alloc, conn)),
             Err(fault) => Err((conn, fault)),
         }
     }

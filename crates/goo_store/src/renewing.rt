@@ -4,7 +4,7 @@ ghost use Rattle.std.specs.Prelude.{◌≡◌, false};
 ghost use Rattle.sqlite.specs.Held.{state as view};
 ghost use Rattle.sqlite.specs.State.{HasCleanDisk};
 ghost use Rattle.goo_store_open.specs.Reading.{IsMet};
-ghost use Rattle.goo_store.specs.Renewing.{Rewrites, Renews};
+ghost use Rattle.goo_store.specs.FirstTables.{Rewrites, Renews};
 
 use goo_store_changes::migrating::commit_migration;
 use goo_store_lookups::judge::judge;

@@ -1,9 +1,10 @@
 -- Tables of version 1 are made those of version 2, or stay.
-use Rattle.std.proofs.Common.{◌≡◌, ◌⊎◌, inl, inr, false, List, None, Ok, Err, Result, IfErr, OnOk, OnErr, IsTrue, refl, sym, ap, subst, ◌∙◌, arith}
+use Rattle.std.proofs.Common.{◌≡◌, ◌≤◌, ◌⊎◌, length, inl, inr, false, List, None, Ok, Err, Result, IfErr, IsErr, OnOk, OnErr, IsTrue, refl, sym, ap, subst, ◌∙◌, arith, true≢false}
 use Rattle.sqlite_trees.specs.View.{doubt}
 use Rattle.sqlite.specs.State.{State, HasCleanDisk, Survives}
 use Rattle.sqlite.specs.Tree.{Trees}
 use Rattle.sqlite.specs.Effect.{Database}
+use Rattle.sqlite.specs.Schema.{Schema}
 use Rattle.sqlite.specs.declared.error.Error.{Error}
 use Rattle.goo_tables_rows.specs.Columns.{first_schema, registry_schema, no_schema}
 use Rattle.goo_tables_rows.specs.First.{IsFirst, HasFirstTables}
@@ -33,7 +34,7 @@ use Rattle.goo_store_lookups.specs.Holding.{sure}
 use Rattle.goo_store_lookups.specs.Moments.{IsWell, tables_in}
 use Rattle.goo_store_lookups.specs.Opening.{IsRefusalIn, Judges}
 use Rattle.goo_store_lookups.proofs.Judging.{keys_of}
-use Rattle.goo_store.specs.Renewing.{Rewrites, Renews, HoldsRenewed}
+use Rattle.goo_store.specs.FirstTables.{Rewrites, Renews, HoldsRenewed}
 
 -- ---- the pieces are joined, in one transaction
 
@@ -84,6 +85,11 @@ module _ (old new : State) (pieces : List PieceRow) (changes : List TableChange)
     crash = left_so;
   }
 
+-- whatever error it is told as
+pub as_told : {T E F : Type 0} (old new : State) (pieces : List PieceRow) (e : E) (r : Result T F) → IsErr r → Rewrites {T = T} old new pieces (Err e) → Rewrites old new pieces r
+as_told old new pieces e (Ok x) is it = absurd (true≢false (sym is))
+as_told old new pieces e (Err f) is it = record { clean = it.clean; outside = it.outside; works = tt; done = λ _ _ _ _. tt; rests = it.rests; crash = it.crash }
+
 -- ---- judged, and then rewritten
 
 -- tables of version 1 are those that the database shows
@@ -131,24 +137,24 @@ module _ {T : Type 0} (listed : T → List PieceRow) (a b c : State) (x : T) (ju
         let tables = was_met.ours ((judges.rests late was_met).was_open live) in
         renewed_kept them.0 them.2 (own_fields (seen_by First a.now) them.0 (keys_of First a.now them.0 tables them.1) them.1 them.2.readable.lots (keys_of First a.now them.0 tables them.1).lots)
 
-  pub renewed_first : {U V E : Type 0} (y : U) (z : V) → Rewrites {E = E} b c (listed x) (Ok y) → Renews a c (Ok z)
-  renewed_first y z writes = record {
+  pub renewed_first : {U V E : Type 0} (y : U) (z : V) (ps : List PieceRow) → ps ≡ listed x → Rewrites {E = E} b c ps (Ok y) → Renews a c (Ok z)
+  renewed_first y z ps given writes = record {
     clean = λ late. judges.clean (writes.clean late);
     outside = writes.outside;
     works = writes.works;
     done = λ late.
         let mid = writes.clean late in
-        ((them mid).0, first mid, (them mid).2, kept_after mid, writes.done late (them mid).0 (first_still mid) (sym (them mid).3));
+        ((them mid).0, first mid, (them mid).2, kept_after mid, writes.done late (them mid).0 (first_still mid) (sym (given ∙ (them mid).3)));
     rests = λ _. tt;
     words = λ _ _ _ _. tt;
-    crash = λ late db left. elim (writes.crash late (them (writes.clean late)).0 (first_still (writes.clean late)) (sym (them (writes.clean late)).3) db left) [
+    crash = λ late db left. elim (writes.crash late (them (writes.clean late)).0 (first_still (writes.clean late)) (sym (given ∙ (them (writes.clean late)).3)) db left) [
       | inl early ↦ inl (judges.crash (writes.clean late) (was_met (writes.clean late)) db early)
       | inr holds ↦ inr ((them (writes.clean late)).0, first (writes.clean late), (them (writes.clean late)).2, holds)
     ];
   }
 
-  pub not_renewed : {U V : Type 0} (trouble : Trouble) (f : OpenFault) → f ≡ open_fault_of trouble → Rewrites {T = U} b c (listed x) (Err trouble) → Renews {T = V} a c (Err f)
-  not_renewed trouble f word writes = record {
+  pub not_renewed : {U V : Type 0} (trouble : Trouble) (f : OpenFault) → f ≡ open_fault_of trouble → (ps : List PieceRow) → ps ≡ listed x → Rewrites {T = U} b c ps (Err trouble) → Renews {T = V} a c (Err f)
+  not_renewed trouble f word ps given writes = record {
     clean = λ late. judges.clean (writes.clean late);
     outside = writes.outside;
     works = tt;
@@ -156,10 +162,10 @@ module _ {T : Type 0} (listed : T → List PieceRow) (a b c : State) (x : T) (ju
     rests = λ late.
         let mid = writes.clean late in
         let before = judges.rests mid (was_met mid) in
-        let after = writes.rests late (them mid).0 (first_still mid) (sym (them mid).3) in
+        let after = writes.rests late (them mid).0 (first_still mid) (sym (given ∙ (them mid).3)) in
         record { was_open = λ live. before.was_open (after.was_open live); now = λ live. after.now live ∙ before.now (after.was_open live); committed = λ live. after.committed live ∙ before.committed (after.was_open live) };
     words = λ _ _ _ _. inl (subst IsOutside (sym word) (outside_told trouble));
-    crash = λ late db left. elim (writes.crash late (them (writes.clean late)).0 (first_still (writes.clean late)) (sym (them (writes.clean late)).3) db left) [
+    crash = λ late db left. elim (writes.crash late (them (writes.clean late)).0 (first_still (writes.clean late)) (sym (given ∙ (them (writes.clean late)).3)) db left) [
       | inl early ↦ inl (judges.crash (writes.clean late) (was_met (writes.clean late)) db early)
       | inr holds ↦ inr ((them (writes.clean late)).0, first (writes.clean late), (them (writes.clean late)).2, holds)
     ];
@@ -196,10 +202,14 @@ module _ {T : Type 0} (old new : State) (x : T) (renews : Renews old new (Ok x))
 -- ---- tables of version 1 are neither ours nor none, and one of them is `meta`
 
 pub first_not_ours : (db : Database) → db.schema ≡ first_schema → db.schema ≡ registry_schema → ⊥
-first_not_ours db first ours = absurd (let e = sym first ∙ ours in cc)
+first_not_ours db is ours =
+    let e : 13 ≡ 16 = ap (λ (s : Schema). length s.tables) (sym is ∙ ours) in
+    absurd (omega (arith, e))
 
 pub first_not_none : (db : Database) → db.schema ≡ first_schema → db.schema ≡ no_schema → ⊥
-first_not_none db first none = absurd (let e = sym first ∙ none in cc)
+first_not_none db is none =
+    let e : 13 ≡ 0 = ap (λ (s : Schema). length s.tables) (sym is ∙ none) in
+    absurd (omega (arith, e))
 
 pub first_has_meta : (db : Database) → db.schema ≡ first_schema → LacksMeta db.schema → ⊥
-first_has_meta db first lacks = (subst LacksMeta first lacks).0 refl
+first_has_meta db is lacks = (subst LacksMeta is lacks).0 refl
