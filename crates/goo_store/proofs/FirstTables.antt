@@ -149,7 +149,7 @@ module _ {T : Type 0} (listed : T → List PieceRow) (a b c : State) (x : T) (ju
     words = λ _ _ _ _. tt;
     crash = λ late db left. elim (writes.crash late (them (writes.clean late)).0 (first_still (writes.clean late)) (sym (given ∙ (them (writes.clean late)).3)) db left) [
       | inl early ↦ inl (judges.crash (writes.clean late) (was_met (writes.clean late)) db early)
-      | inr holds ↦ inr ((them (writes.clean late)).0, first (writes.clean late), (them (writes.clean late)).2, holds)
+      | inr holds ↦ inr ((them (writes.clean late)).0, first (writes.clean late), (them (writes.clean late)).2, kept_after (writes.clean late), holds)
     ];
   }
 
@@ -167,7 +167,7 @@ module _ {T : Type 0} (listed : T → List PieceRow) (a b c : State) (x : T) (ju
     words = λ _ _ _ _. inl (subst IsOutside (sym word) (outside_told trouble));
     crash = λ late db left. elim (writes.crash late (them (writes.clean late)).0 (first_still (writes.clean late)) (sym (given ∙ (them (writes.clean late)).3)) db left) [
       | inl early ↦ inl (judges.crash (writes.clean late) (was_met (writes.clean late)) db early)
-      | inr holds ↦ inr ((them (writes.clean late)).0, first (writes.clean late), (them (writes.clean late)).2, holds)
+      | inr holds ↦ inr ((them (writes.clean late)).0, first (writes.clean late), (them (writes.clean late)).2, kept_after (writes.clean late), holds)
     ];
   }
 

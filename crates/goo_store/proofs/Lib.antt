@@ -14,3 +14,4 @@ pub mod NextRow
 pub mod CreationBlamed
 pub mod SumLemmas
 pub mod FirstTables
+pub mod HeldLemmas

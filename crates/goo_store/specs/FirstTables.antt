@@ -24,7 +24,7 @@ pub record Rewrites {T E : Type 0} (old new : State) (pieces : List PieceRow) (r
 
 -- the tables of version 1 that a database held and that keep their rules, renewed
 abbrev pub HoldsRenewed : Database → Trees → Type 0
-HoldsRenewed old db = (t : Tables) × IsFirst old t × AreKeptIn 1 t × Holds (renewed t) db
+HoldsRenewed old db = (t : Tables) × IsFirst old t × AreKeptIn 1 t × AreKept (renewed t) × Holds (renewed t) db
 
 -- A database that holds tables of version 1 is made one of version 2, where they keep the rules of their version; it is left as it was where they
 -- don't, or where a call was refused or memory was. `crash`: what was there before, or the tables renewed.

@@ -7,3 +7,4 @@ pub mod Preparing
 pub mod Gathering
 pub mod NextRows
 pub mod FirstTables
+pub mod Versions

@@ -21,6 +21,7 @@ mod peers;
 mod pieces;
 mod receipts;
 mod registry_row;
+pub mod renewal;
 mod renewing;
 mod rows;
 mod shelf;

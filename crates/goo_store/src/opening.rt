@@ -1,4 +1,3 @@
-// FROM THE LEAD: before you write this file read /work/lanes/m-open/NOTE-FROM-LEAD.md (two short wishes), then delete this line.
 //! Opening the registry that a database holds.
 
 ghost use Rattle.std.specs.Prelude.{◌≡◌, ◌⊎◌, None, Err, false, IsTrue, IfOk, IfErr, IsErrAnd};
@@ -21,7 +20,9 @@ ghost use Rattle.goo_core_shelf.specs.Shelf.{IsReady};
 ghost use Rattle.goo_store_lookups.specs.Moments.{moment};
 ghost use Rattle.goo_store_lookups.specs.Opening.{BlamesOpening, IsRefusal, IsRefusalIn};
 ghost use Rattle.goo_store.specs.FirstTables.{HoldsRenewed};
+ghost use Rattle.goo_store.specs.Versions.{state_held};
 
+use crate::renewal::{Renewal, Untold};
 use crate::renewing::renew;
 use crate::sql_shelf::SqlShelf;
 use goo_store_lookups::judge::judge;
@@ -69,13 +70,53 @@ impl<S: Alter> SqlShelf<S> {
         ensures clean { IfOk result (λ shelf. HasCleanDisk (view S.Store shelf.conn) → HasCleanDisk (view S.Store conn)) }
         ensures clean_before { IfErr result (λ e. HasCleanDisk (view S.Store e.0) → HasCleanDisk (view S.Store conn)) }
         ensures crash { ((view S.Store conn).now.schema ≡ first_schema → ⊥) → IfErr result (λ e. HasCleanDisk (view S.Store e.0) → (db : Trees) → (view S.Store e.0).may_leave db → (view S.Store conn).may_leave db) }
-        ensures old_crash { (view S.Store conn).now.schema ≡ first_schema
-            → IfErr result (λ e. HasCleanDisk (view S.Store e.0) → (db : Trees) → (view S.Store e.0).may_leave db → (view S.Store conn).may_leave db ⊎ HoldsRenewed (view S.Store conn).now db) }
+        ensures left { IfErr result (λ e. HasCleanDisk (view S.Store e.0) → (db : Trees) → (view S.Store e.0).may_leave db → (view S.Store conn).may_leave db ⊎ HoldsRenewed (view S.Store conn).now db) }
+        ensures held { IfOk result (λ shelf. (moment (view S.Store shelf.conn) shelf.refused).doubts ≡ 0 → (moment (view S.Store shelf.conn) shelf.refused).state ≡ state_held (view S.Store conn).now.trees) }
+    {
+        SqlShelf::open_telling(alloc, conn, &mut Untold)
+    }
+
+    /// The registry that a database holds, as [`SqlShelf::open`] gives it. Before tables of version 1 become those of version 2 it is told.
+    ///
+    /// # Errors
+    ///
+    /// Those of [`SqlShelf::open`].
+    pub fn open_telling<N: Renewal>(
+        alloc: Global,
+        conn: Connection<S>,
+        told: &mut N,
+    ) -> Result<SqlShelf<S>, (Connection<S>, OpenFault)>
+        requires outside { conn.in_transaction ≡ false }
+        requires ordered { HasCleanDisk (view S.Store conn) → IsInKeyOrder (view S.Store conn).now }
+        ensures state { IfOk result (λ shelf. (t : Tables) → Stands (view S.Store conn).now t → (moment (view S.Store shelf.conn) shelf.refused).doubts ≡ 0 → (moment (view S.Store shelf.conn) shelf.refused).state ≡ state_of t) }
+        ensures sound { IfOk result (λ shelf. (moment (view S.Store shelf.conn) shelf.refused).doubts ≡ 0 → IsSound (moment (view S.Store shelf.conn) shelf.refused).state) }
+        ensures rows_fit { IfOk result (λ shelf. (moment (view S.Store shelf.conn) shelf.refused).doubts ≡ 0 → AreRowsOf (moment (view S.Store shelf.conn) shelf.refused).state.at (moment (view S.Store shelf.conn) shelf.refused).rows) }
+        ensures ready { IfOk result (λ shelf. IsReady (moment (view S.Store shelf.conn) shelf.refused)) }
+        ensures kept { IfOk result (λ shelf. (t : Tables) → Stands (view S.Store conn).now t → HasCleanDisk (view S.Store shelf.conn) → AreKept t) }
+        ensures rests { ((view S.Store conn).now.schema ≡ first_schema → ⊥) → IfOk result (λ shelf. HasCleanDisk (view S.Store shelf.conn) → Rests (view S.Store conn) (view S.Store shelf.conn)) }
+        ensures renewed { IfOk result (λ shelf. (t : Tables) → IsFirst (view S.Store conn).now t → HasCleanDisk (view S.Store shelf.conn) → AreKeptIn 1 t × Settled (view S.Store shelf.conn) (renewed t)) }
+        ensures same_state { IfOk result (λ shelf. (t : Tables) → IsFirst (view S.Store conn).now t → (moment (view S.Store shelf.conn) shelf.refused).doubts ≡ 0 → (moment (view S.Store shelf.conn) shelf.refused).state ≡ state_of t) }
+        ensures refused { IfErr result (λ e. HasCleanDisk (view S.Store e.0) → (view S.Store conn).step_limit ≡ None → (t : Tables) → Stands (view S.Store conn).now t → AreKept t → IsOutside e.1) }
+        ensures words { IfErr result (λ e. HasCleanDisk (view S.Store e.0) → (view S.Store conn).step_limit ≡ None → (t : Tables) → Stands (view S.Store conn).now t → IsRefusal t e.1) }
+        ensures blames { (view S.Store conn).now.schema ≡ registry_schema → IfErr result (λ e. BlamesOpening (view S.Store conn) (view S.Store e.0) e.1) }
+        ensures old_words { IfErr result (λ e. HasCleanDisk (view S.Store e.0) → (view S.Store conn).step_limit ≡ None → (t : Tables) → IsFirst (view S.Store conn).now t → IsRefusalIn 1 t e.1) }
+        ensures foreign { ((view S.Store conn).now.schema ≡ registry_schema → ⊥) → ((view S.Store conn).now.schema ≡ first_schema → ⊥) → IsErrAnd result (λ e. IsForeignWord e.1) }
+        ensures version { ((view S.Store conn).now.schema ≡ registry_schema → ⊥) → ((view S.Store conn).now.schema ≡ first_schema → ⊥) → (LacksMeta (view S.Store conn).now.schema → ⊥)
+            → IfErr result (λ e. HasCleanDisk (view S.Store e.0) → TellsVersion (view S.Store conn) (view S.Store e.0) e.1) }
+        ensures lacking { LacksMeta (view S.Store conn).now.schema → result ≡ Err (conn, OpenFault.NotARegistry) }
+        ensures empty { (view S.Store conn).now.schema ≡ no_schema → result ≡ Err (conn, OpenFault.NotARegistry) }
+        ensures unchanged { IfErr result (λ e. HasCleanDisk (view S.Store e.0) → Rests (view S.Store conn) (view S.Store e.0)) }
+        ensures outside { IfErr result (λ e. e.0.in_transaction ≡ false) }
+        ensures clean { IfOk result (λ shelf. HasCleanDisk (view S.Store shelf.conn) → HasCleanDisk (view S.Store conn)) }
+        ensures clean_before { IfErr result (λ e. HasCleanDisk (view S.Store e.0) → HasCleanDisk (view S.Store conn)) }
+        ensures crash { ((view S.Store conn).now.schema ≡ first_schema → ⊥) → IfErr result (λ e. HasCleanDisk (view S.Store e.0) → (db : Trees) → (view S.Store e.0).may_leave db → (view S.Store conn).may_leave db) }
+        ensures left { IfErr result (λ e. HasCleanDisk (view S.Store e.0) → (db : Trees) → (view S.Store e.0).may_leave db → (view S.Store conn).may_leave db ⊎ HoldsRenewed (view S.Store conn).now db) }
+        ensures held { IfOk result (λ shelf. (moment (view S.Store shelf.conn) shelf.refused).doubts ≡ 0 → (moment (view S.Store shelf.conn) shelf.refused).state ≡ state_held (view S.Store conn).now.trees) }
     {
         let mut conn = conn;
         let _settled = conn.is_autocommit();
         if has_first_schema(&conn) {
-            return match renew(alloc, &mut conn) {
+            return match renew(alloc, &mut conn, told) {
                 Ok(()) => Ok(SqlShelf::over(alloc, conn)),
                 Err(fault) => Err((conn, fault)),
             };

@@ -6,6 +6,7 @@ ghost use Rattle.sqlite.specs.State.{HasCleanDisk};
 ghost use Rattle.goo_store_open.specs.Reading.{IsMet};
 ghost use Rattle.goo_store.specs.FirstTables.{Rewrites, Renews};
 
+use crate::renewal::Renewal;
 use goo_store_changes::migrating::commit_migration;
 use goo_store_lookups::judge::judge;
 use goo_store_open::fault::OpenFault;
@@ -35,21 +36,29 @@ fn rewrite<S: Alter>(
     Ok(())
 }
 
-/// Judges tables of version 1 by the rules of their version, and makes them those of version 2. The state that they stand for stays.
+/// Judges tables of version 1 by the rules of their version, and makes them those of version 2, which is told before. The state that they
+/// stand for stays.
 ///
 /// # Errors
 ///
 /// Those of the judgment, before anything is changed; then `Store` where a call was refused, and `Memory` where memory was.
-pub fn renew<S: Alter>(alloc: Global, conn: &mut Connection<S>) -> Result<(), OpenFault>
+pub fn renew<S: Alter, N: Renewal>(
+    alloc: Global,
+    conn: &mut Connection<S>,
+    told: &mut N,
+) -> Result<(), OpenFault>
     requires outside { conn.old.in_transaction ≡ false }
     requires met { HasCleanDisk (view S.Store conn.old) → IsMet Layout.First (view S.Store conn.old) }
     ensures { Renews (view S.Store conn.old) (view S.Store conn.new) result }
 {
     match judge(alloc, conn, Layout::First) {
-        Ok(pieces) => match rewrite(alloc, conn, &pieces) {
-            Ok(()) => Ok(()),
-            Err(trouble) => Err(OpenFault::from(trouble)),
-        },
+        Ok(pieces) => {
+            told.begins();
+            match rewrite(alloc, conn, &pieces) {
+                Ok(()) => Ok(()),
+                Err(trouble) => Err(OpenFault::from(trouble)),
+            }
+        }
         Err(fault) => Err(fault),
     }
 }

@@ -1,4 +1,4 @@
-use Rattle.std.proofs.Common.{rules, ◌≡◌, ap, sym, subst, IsTrue}
+use Rattle.std.proofs.Common.{rules, ◌≡◌, ◌∙◌, ap, inl, sym, subst, IsTrue}
 use Rattle.sqlite.specs.Held.{state as view}
 use Rattle.sqlite.specs.State.{HasCleanDisk}
 use Rattle.goo_tables_rows.specs.Columns.{first_schema}
@@ -11,10 +11,12 @@ use Rattle.goo_spec_tables.specs.States.{state_of}
 use Rattle.goo_store_open.specs.Reading.{IsMet}
 use Rattle.goo_store_open.specs.declared.layout.Layout.TheVariants.{Ours}
 use Rattle.goo_store_lookups.specs.Moments.{count, tables_in}
-use Rattle.goo_store_lookups.specs.Holding.{is_sure, safe}
+use Rattle.goo_store_lookups.specs.Holding.{is_sure, safe, sure}
 use Rattle.goo_store_lookups.proofs.Judging.{met_ours, opened_well, opened_state, opened_kept, rows_fit}
+use Rattle.goo_store.specs.Versions.{state_held}
+use Rattle.goo_store.proofs.HeldLemmas.{held_ours, state_renewed}
 use Rattle.goo_store.proofs.FirstTables.{renewed_well, same_state, now_renewed, first_not_ours}
-use Rattle.goo_store.proofs.sql_shelf.SqlShelf.open.Goals as goal
+use Rattle.goo_store.proofs.sql_shelf.SqlShelf.open_telling.Goals as goal
 
 -- ---- tables of version 1
 
@@ -178,8 +180,25 @@ returns-in-Err-judge-clause-old_words g c = λ clean unlimited t first.
     let schema = c.has_our_schema.ensures.schema.0 is_ours in
     absurd (first_not_ours (view g.S.Store c.args.conn).now first.0 schema)
 
-pub returns-in-Err-judge-clause-old_crash : goal.returns-in-Err-judge-clause-old_crash
-returns-in-Err-judge-clause-old_crash g c = λ first.
+pub returns-in-Err-judge-clause-left : goal.returns-in-Err-judge-clause-left
+returns-in-Err-judge-clause-left g c = λ clean db may.
+    let out : IsTrue c.is_autocommit-settled.result = search rules in
     let is_ours : IsTrue c.has_our_schema.result = search rules in
-    let schema = c.has_our_schema.ensures.schema.0 is_ours in
-    absurd (first_not_ours (view g.S.Store c.args.conn).now first schema)
+    let met : HasCleanDisk (view g.S.Store c.args.conn) → IsMet Ours (view g.S.Store c.args.conn) = λ clean. met_ours (view g.S.Store c.args.conn) (c.has_our_schema.ensures.schema.0 is_ours) (λ live. c.has_our_schema.ensures.ours is_ours live (c.requires.ordered clean)) (c.is_autocommit-settled.ensures.settled out) in
+    inl (c.in-Err-judge.ensures.judges.crash clean (met (c.in-Err-judge.ensures.judges.clean clean)) db may)
+
+pub returns-in-Ok-clause-held : goal.returns-in-Ok-clause-held
+returns-in-Ok-clause-held g c =
+    subst (λ conn. doubts (view g.S.Store conn) ≡ 0 → state_of (tables_in (view g.S.Store conn)) ≡ state_held (view g.S.Store c.args.conn).now.trees) (sym c.over.ensures.conn)
+    (state_renewed (view g.S.Store c.args.conn) (view g.S.Store c.renew.new.conn) c.in-Ok.field-0 c.in-Ok.ensures)
+
+pub returns-in-Ok-judge-clause-held : goal.returns-in-Ok-judge-clause-held
+returns-in-Ok-judge-clause-held g c =
+    let out : IsTrue c.is_autocommit-settled.result = search rules in
+    let is_ours : IsTrue c.has_our_schema.result = search rules in
+    let met : HasCleanDisk (view g.S.Store c.args.conn) → IsMet Ours (view g.S.Store c.args.conn) = λ clean. met_ours (view g.S.Store c.args.conn) (c.has_our_schema.ensures.schema.0 is_ours) (λ live. c.has_our_schema.ensures.ours is_ours live (c.requires.ordered clean)) (c.is_autocommit-settled.ensures.settled out) in
+    subst (λ conn. doubts (view g.S.Store conn) ≡ 0 → state_of (tables_in (view g.S.Store conn)) ≡ state_held (view g.S.Store c.args.conn).now.trees) (sym c.over-in-Ok-judge.ensures.conn)
+    (λ none.
+      let late = (sure (view g.S.Store c.judge.new.conn) none).0 in
+      let it = c.in-Ok-judge.ensures.judges.kept late (met (c.in-Ok-judge.ensures.judges.clean late)) in
+      opened_state _ (view g.S.Store c.args.conn) (view g.S.Store c.judge.new.conn) c.in-Ok-judge._pieces c.in-Ok-judge.ensures.judges met it.0 it.1 none ∙ ap state_of (held_ours (view g.S.Store c.args.conn).now it.0 it.1 it.2))
