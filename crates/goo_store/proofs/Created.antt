@@ -36,6 +36,7 @@ module _ (code : ℕ) (today : CalendarDay) (next_serial : ℕ) (it : IsFirst co
     readable = record { version = refl; meta = meta_read; holders = refl; accounts = refl; devices = refl; declarations = refl; lots = refl; pieces = refl; peers = refl; receipts = refl; cancellations = refl; withdrawals = refl; notices_out = refl; notices_in = refl; corrections = refl; device_carriers = refl; lot_carriers = refl };
     lots_there = refl;
     rising = tt;
+    apart = λ _. tt;
     lots = λ id l is. absurd cc;
     devices = λ gsrn. omega arith;
     progress = λ gsrn. refl;
