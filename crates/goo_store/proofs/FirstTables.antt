@@ -1,15 +1,14 @@
 -- Tables of version 1 are made those of version 2, or stay.
-use Rattle.std.proofs.Common.{◌≡◌, ◌≤◌, ◌⊎◌, length, inl, inr, false, List, None, Ok, Err, Result, IfErr, IsErr, OnOk, OnErr, IsTrue, refl, sym, ap, subst, ◌∙◌, arith, true≢false}
+use Rattle.std.proofs.Common.{◌≡◌, ◌≤◌, ◌⊎◌, length, inl, inr, false, List, Ok, Err, Result, IsErr, IsTrue, refl, sym, ap, subst, ◌∙◌, arith, true≢false}
 use Rattle.sqlite_trees.specs.View.{doubt}
 use Rattle.sqlite.specs.State.{State, HasCleanDisk, Survives}
 use Rattle.sqlite.specs.Tree.{Trees}
 use Rattle.sqlite.specs.Effect.{Database}
 use Rattle.sqlite.specs.Schema.{Schema}
-use Rattle.sqlite.specs.declared.error.Error.{Error}
 use Rattle.goo_tables_rows.specs.Columns.{first_schema, registry_schema, no_schema}
 use Rattle.goo_tables_rows.specs.First.{IsFirst, HasFirstTables}
 use Rattle.goo_tables_rows.specs.Rows.{Tables}
-use Rattle.goo_tables_rows.specs.Stands.{Stands, Holds, Rests, Settled, IsSettled, doubts}
+use Rattle.goo_tables_rows.specs.Stands.{Stands, Holds, Settled, IsSettled, doubts}
 use Rattle.goo_tables_rows.specs.declared.piece.PieceRow.{PieceRow}
 use Rattle.goo_tables_rows.proofs.Decoded.{decoded}
 use Rattle.goo_tables_holdings.specs.Changes.{with_version}
@@ -17,7 +16,7 @@ use Rattle.goo_store_changes.specs.Changes.{made_all, AreFor}
 use Rattle.goo_store_changes.specs.declared.change.TableChange.{TableChange}
 use Rattle.goo_store_plans.specs.JoiningChanges.{JoinsPieces}
 use Rattle.goo_spec_tables.specs.Kept.{AreKept, AreKeptIn}
-use Rattle.goo_spec_tables.specs.Renewed.{renewed, joined_pieces}
+use Rattle.goo_spec_tables.specs.Renewed.{renewed}
 use Rattle.goo_spec_tables.specs.States.{state_of}
 use Rattle.goo_spec_tables.proofs.RenewedLemmas.{renewed_kept, renewed_state}
 use Rattle.goo_store_rules.proofs.KeptKeys.{own_fields}
@@ -32,9 +31,9 @@ use Rattle.goo_store_values.specs.declared.trouble.Trouble.{Trouble}
 use Rattle.goo_store_values.specs.declared.trouble.Trouble.TheVariants.{Memory, Refused}
 use Rattle.goo_store_lookups.specs.Holding.{sure}
 use Rattle.goo_store_lookups.specs.Moments.{IsWell, tables_in}
-use Rattle.goo_store_lookups.specs.Opening.{IsRefusalIn, Judges}
+use Rattle.goo_store_lookups.specs.Opening.{Judges}
 use Rattle.goo_store_lookups.proofs.Judging.{keys_of}
-use Rattle.goo_store.specs.FirstTables.{Rewrites, Renews, HoldsRenewed}
+use Rattle.goo_store.specs.FirstTables.{Rewrites, Renews}
 
 -- ---- the pieces are joined, in one transaction
 

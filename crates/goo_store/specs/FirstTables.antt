@@ -5,7 +5,7 @@ use Rattle.sqlite.specs.Tree.{Trees}
 use Rattle.sqlite.specs.Effect.{Database}
 use Rattle.goo_tables_rows.specs.First.{IsFirst}
 use Rattle.goo_tables_rows.specs.Rows.{Tables}
-use Rattle.goo_tables_rows.specs.Stands.{Holds, Rests, Settled, IsSettled}
+use Rattle.goo_tables_rows.specs.Stands.{Holds, Rests, Settled}
 use Rattle.goo_tables_rows.specs.declared.piece.PieceRow.{PieceRow}
 use Rattle.goo_spec_tables.specs.Kept.{AreKept, AreKeptIn}
 use Rattle.goo_spec_tables.specs.Renewed.{renewed}
