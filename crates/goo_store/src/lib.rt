@@ -30,5 +30,4 @@ mod sums;
 mod totals;
 
 pub use goo_store_open::fault::OpenFault;
-pub use goo_store_open::our_schema::has_first_schema;
 pub use sql_shelf::SqlShelf;
