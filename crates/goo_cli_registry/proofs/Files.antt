@@ -1,6 +1,6 @@
 -- What files that were opened and closed tell of the database.
 use Rattle.std.proofs.Common.{◌≡◌, ◌⊎◌, ◌≤◌, ◌∙◌, inl, inr, refl, sym, ap, subst, cond, ℕ, List, Option, Some, None, IfSome, arith, Bool, true, false}
-use Rattle.std.specs.Prelude.{IsTrue}
+use Rattle.std.specs.Prelude.{◌==◌, ◌||◌, IsTrue}
 use Rattle.sqlite_disk.specs.declared.Disk.{Ghosts}
 use Rattle.sqlite_disk.specs.declared.Files.{Files}
 use Rattle.sqlite.specs.declared.file.Leftover.{Leftover}
@@ -28,6 +28,11 @@ use Rattle.goo_tables_rows.specs.Stands.{doubts, Holds, Rests}
 use Rattle.goo_spec.specs.Created.{created}
 use Rattle.goo_spec_tables.specs.Kept.{AreKept}
 use Rattle.goo_store.proofs.Created.{begun_kept, begun_state}
+use Rattle.goo_store.proofs.HeldLemmas.{held_first, version_first}
+use Rattle.goo_store.specs.FirstTables.{HoldsRenewed}
+use Rattle.goo_store.specs.Versions.{state_held}
+use Rattle.goo_spec_tables.proofs.RenewedLemmas.{renewed_state}
+use Rattle.goo_spec_tables.specs.Renewed.{renewed}
 use Rattle.goo_store.specs.Creating.{IsFirst, meta_of}
 use Rattle.goo_types.specs.Day.{CalendarDay}
 use Rattle.goo_spec_tables.specs.States.{state_of}
@@ -40,12 +45,13 @@ use Rattle.goo_cli_ending.specs.declared.ending.Denial.TheVariants.{AlreadyThere
 use Rattle.goo_cli_ending.specs.declared.ending.Ending.{Ending}
 use Rattle.goo_cli_ending.specs.declared.ending.Ending.TheVariants.{Denied, Failed}
 use Rattle.goo_cli_ending.specs.declared.ending.Failure.{Failure}
+use Rattle.goo_cli_ending.specs.declared.ending.Failure.TheVariants as failure
 use Rattle.goo_cli_ending.specs.Endings.{failure_of_desk, status_of}
 use Rattle.goo_types.specs.declared.fault.Fault.{Fault}
 use Rattle.goo_types.specs.declared.fault.Fault.TheVariants as desk
 use Rattle.goo_desk_lines.specs.Fold.{lines}
-use Rattle.goo_cli_registry.specs.Openings.{ending_of_opening, failure_of_opening, IsBlamed, IsRun}
-use Rattle.goo_cli_registry.specs.Closings.{HoldRegistry, HoldState, IfRefused, IfWhole, IsClean, IsKept, IsMade, LeavesOr, SparesOrMakes, is_whole}
+use Rattle.goo_cli_registry.specs.Openings.{ending_of_opening, failure_of_opening, IsBlamed, IsRun, MayBegin}
+use Rattle.goo_cli_registry.specs.Closings.{HoldRegistry, HoldState, IfRefused, IfWhole, IsClean, IsKept, IsMade, IsThere, LeavesOr, LeavesRegistry, SparesOrMakes, WasRenewed, is_whole}
 use Rattle.goo_cli.specs.declared.task.Opening.{Opening}
 use Rattle.goo_cli_registry.specs.declared.start.Start.TheVariants.{New, Kept}
 use Rattle.goo_cli_registry.specs.declared.closing.Left.{Left}
@@ -63,18 +69,17 @@ blamed files left e (inr (inl refused)) other = inl refused.1
 blamed files left e (inr (inr (inl fault))) other = inr (inl fault.1)
 blamed files left e (inr (inr (inr full))) other = inr (inr full.1)
 
--- a registry that is opened is that of the tables that were there
-pub opened_as : (old new : State) → (HasCleanDisk new → Rests old new) → doubts new ≡ 0 → state_of (tables_in new) ≡ state_of (tables_in old)
-opened_as old new rests none =
-    let them = sure new none in
-    ap (λ (d : Database). state_of (tables_of d.trees)) ((rests them.0).now them.1)
+-- tables that are none of their version's, and tables of another version
+not_run_either : (b : Bool) (version : ℕ) → IsRun (Failed (cond b failure.Damaged (failure.Version version))) → ⊥
+not_run_either true version told = told
+not_run_either false version told = told
 
 -- no fault of opening is told as an end of lines that were answered
 pub not_run : (fault : OpenFault) → IsRun (Failed (failure_of_opening fault)) → ⊥
 not_run opening.Memory told = told
 not_run opening.AlreadyThere told = told
 not_run opening.NotARegistry told = told
-not_run (opening.Version version) told = told
+not_run (opening.Version version) told = not_run_either ((version == 1) || (version == 2)) version told
 not_run opening.Damaged told = told
 not_run opening.Store told = told
 
@@ -117,6 +122,21 @@ pub opens_committed : (s : State) → IsWell s → doubts s ≡ 0 → OpensAs s.
 opens_committed s well none =
     subst (λ (d : Database). OpensAs d.trees (Some (state_of (tables_in s)))) (well.settled none) (holds_from s.now (tables_in s) (well.stands none), well.kept none, refl)
 
+-- trees that hold the tables of version 1 renewed open as the same registry
+pub opens_renewed : (old : Database) (db : Trees) → HoldsRenewed old db → OpensAs db (Some (state_held old.trees))
+opens_renewed old db it =
+    subst (λ (t : Tables). Holds t db × AreKept t × (state_held old.trees ≡ state_of t)) (sym (decoded (record { schema = registry_schema; trees = db }) (renewed it.0) it.4))
+    (it.4, it.3, ap state_of (sym (held_first old it.0 it.1 it.2)) ∙ sym (renewed_state it.0 it.2))
+
+-- what a start that failed leaves of a registry that was there
+pub kept_or_renewed : (old new : State) → (HasCleanDisk new → (db : Trees) → new.may_leave db → old.may_leave db ⊎ HoldsRenewed old.now db)
+    → HasCleanDisk new → (db : Trees) → new.may_leave db → old.may_leave db ⊎ MayBegin Kept old db
+kept_or_renewed old new left clean db may = go (left clean db may)
+  where
+    go : old.may_leave db ⊎ HoldsRenewed old.now db → old.may_leave db ⊎ MayBegin Kept old db
+    go (inl before) = inl before
+    go (inr it) = inr (it.1.0, opens_renewed old.now db it)
+
 -- trees that hold the tables of a new registry open as it
 opens_begun : (code : ℕ) (today : CalendarDay) (next_serial : ℕ) → IsFirst code today next_serial → (db : Trees) → Holds (begun (meta_of code today next_serial)) db → OpensAs db (Some (created code today next_serial))
 opens_begun code today next_serial it db holds =
@@ -142,6 +162,17 @@ module _ {D : Type 0} {g : Ghosts D} (files : Files D) where
   pub leaves_store : SeenMayStay g → (conn : Held (FileStore D g)) → IsTrue (file_state conn).is_open → Finds files conn → (it : FileStore D g)
       → ((db : Trees) → recovers it db → recovers conn.store db) → LeavesFiles files (rest.Store it)
   leaves_store stays conn live finds it same = λ found may. found_as stays conn live finds found (same found may)
+
+  -- what an opening that failed leaves: what it found, or that registry of version 1 renewed
+  pub leaves_registry : SeenMayStay g → (conn : Held (FileStore D g)) → IsTrue (file_state conn).is_open → (file_state conn).now ≡ (file_state conn).committed → Finds files conn → (it : FileStore D g)
+      → ((db : Trees) → recovers it db → recovers conn.store db ⊎ HoldsRenewed (file_state conn).now db) → LeavesRegistry files (rest.Store it)
+  leaves_registry stays conn live settled finds it same = λ found may. go found (same found may)
+    where
+      go : (found : Trees) → recovers conn.store found ⊎ HoldsRenewed (file_state conn).now found → IsThere files found ⊎ WasRenewed files found
+      go found (inl before) = inl (found_as stays conn live finds found before)
+      go found (inr holds) =
+          let it = subst (λ (d : Database). HoldsRenewed d found) settled holds in
+          inr (record { db = (file_state conn).committed.trees; there = (finds.reads, finds.holds); first = version_first (file_state conn).committed it.0 it.1 it.2; opens = opens_renewed (file_state conn).committed found it })
 
   pub leaves_or_made : SeenMayStay g → (conn : Held (FileStore D g)) → IsTrue (file_state conn).is_open → Finds files conn → (s : registry.State) → (it : FileStore D g)
       → ((db : Trees) → recovers it db → recovers conn.store db ⊎ OpensAs db (Some s)) → LeavesOr files s (rest.Store it)

@@ -1,5 +1,5 @@
 -- How a registry is begun, and why it isn't.
-use Rattle.std.specs.Prelude.{◌≡◌, ◌⊎◌, ℕ, ◌+◌, ◌/◌, ◌%◌, List, [], ◌∷◌, ◌++◌, codes, Some}
+use Rattle.std.specs.Prelude.{◌≡◌, ◌==◌, ◌||◌, cond, ◌⊎◌, ℕ, ◌+◌, ◌/◌, ◌%◌, List, [], ◌∷◌, ◌++◌, codes, Some}
 use Rattle.sqlite_disk.specs.declared.Disk.{Ghosts}
 use Rattle.sqlite_disk.specs.declared.Files.{Files}
 use Rattle.sqlite_disk.specs.Disk.{MoreFaults}
@@ -11,7 +11,7 @@ use Rattle.goo_tables_rows.specs.Columns.{first_schema}
 use Rattle.goo_spec.specs.State.{State}
 use Rattle.goo_spec.specs.Created.{created}
 use Rattle.goo_store_lookups.specs.Moments.{OpensAs}
-use Rattle.goo_store_lookups.specs.Versions.{state_held}
+use Rattle.goo_store.specs.Versions.{state_held}
 use Rattle.goo_store_open.specs.declared.fault.OpenFault.{OpenFault}
 use Rattle.goo_store_open.specs.declared.fault.OpenFault.TheVariants as opening
 use Rattle.goo_cli_ending.specs.declared.ending.Ending.{Ending}
@@ -32,12 +32,13 @@ abbrev pub MayBegin : Start → sqlite.State → Trees → Type 0
 MayBegin (New opening) s db = OpensAs db (Some (created opening.code opening.today opening.next_serial))
 MayBegin Kept s db = (s.now.schema ≡ first_schema) × OpensAs db (Some (state_held s.now.trees))
 
--- why there is no registry to run; a new one is made in an empty database alone
+-- why there is no registry to run; a new one is made in an empty database alone, and the number of a version that is read here is told of
+-- tables that are not those of that version
 abbrev pub failure_of_opening : OpenFault → Failure
 failure_of_opening opening.Memory = failure.Memory
 failure_of_opening opening.AlreadyThere = failure.Store
 failure_of_opening opening.NotARegistry = failure.NotARegistry
-failure_of_opening (opening.Version version) = failure.Version version
+failure_of_opening (opening.Version version) = cond ((version == 1) || (version == 2)) failure.Damaged (failure.Version version)
 failure_of_opening opening.Damaged = failure.Damaged
 failure_of_opening opening.Store = failure.Store
 

@@ -5,7 +5,7 @@ ghost use Rattle.sqlite.specs.Held.{IsNew, state as view};
 ghost use Rattle.sqlite.specs.State.{HasCleanDisk};
 ghost use Rattle.sqlite.specs.Tree.{Trees};
 ghost use Rattle.goo_tables_rows.specs.Met.{IsInKeyOrder};
-ghost use Rattle.goo_store_lookups.specs.Versions.{state_held};
+ghost use Rattle.goo_store.specs.Versions.{state_held};
 ghost use Rattle.goo_store_lookups.specs.Moments.{moment};
 ghost use Rattle.goo_store_open.specs.Foreign.{LacksMeta};
 ghost use Rattle.goo_ranges_rows.specs.Rows.{AreRowsOf};
@@ -62,13 +62,15 @@ pub fn open_database<D: Disk + Drop>(
     }
 }
 
-/// Why there is no registry to run. A new one is made in an empty database alone, so none is there already.
+/// Why there is no registry to run. A new one is made in an empty database alone, so none is there already. The number of a version that
+/// is read here is told only of tables that are not those of that version.
 pub fn failure_of(fault: OpenFault) -> Failure
     ensures { result ≡ failure_of_opening fault }
 {
     match fault {
         OpenFault::Memory => Failure::Memory,
         OpenFault::NotARegistry => Failure::NotARegistry,
+        OpenFault::Version(version) if version == 1 || version == 2 => Failure::Damaged,
         OpenFault::Version(version) => Failure::Version(version),
         OpenFault::Damaged => Failure::Damaged,
         OpenFault::AlreadyThere | OpenFault::Store => Failure::Store,

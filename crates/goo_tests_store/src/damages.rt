@@ -122,7 +122,7 @@ const TABLES: [Damage; 6] = [
     (
         "UPDATE meta SET version = 1",
         "UPDATE meta SET version = 2",
-        OpenFault::Damaged,
+        OpenFault::Version(1),
     ),
     (
         "DELETE FROM meta",

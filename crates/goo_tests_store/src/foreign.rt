@@ -84,7 +84,7 @@ const VERSIONS: [Row; 8] = [
         Some(OpenFault::Damaged),
     ),
     ("UPDATE meta SET version = -9", Some(OpenFault::Damaged)),
-    ("UPDATE meta SET version = 1", Some(OpenFault::Damaged)),
+    ("UPDATE meta SET version = 1", Some(OpenFault::Version(1))),
     ("UPDATE meta SET version = 2", Some(OpenFault::Damaged)),
     ("UPDATE meta SET id = 2", NONE),
 ];
@@ -98,10 +98,10 @@ const OURS: [Row; 15] = [
     (BEFORE_ACCOUNT, NONE),
     (ACCOUNT, NONE),
     (AFTER_ACCOUNT, NONE),
-    (BEGINNING, Some(OpenFault::Damaged)),
+    (BEGINNING, Some(OpenFault::Version(2))),
     ("UPDATE meta SET version = 3", Some(OpenFault::Version(3))),
     (SECOND_VERSION, Some(OpenFault::Version(3))),
-    ("UPDATE meta SET version = 1", Some(OpenFault::Damaged)),
+    ("UPDATE meta SET version = 1", Some(OpenFault::Version(1))),
     ("UPDATE meta SET version = 2", None),
     ("UPDATE meta SET version = 3", Some(OpenFault::Version(3))),
     ("UPDATE meta SET version = 2", None),
@@ -110,7 +110,7 @@ const OURS: [Row; 15] = [
         "UPDATE meta SET version = 9; DROP TABLE piece",
         Some(OpenFault::Version(9)),
     ),
-    ("UPDATE meta SET version = 1", Some(OpenFault::Damaged)),
+    ("UPDATE meta SET version = 1", Some(OpenFault::Version(1))),
     ("UPDATE meta SET version = 2", Some(OpenFault::Damaged)),
     ("DELETE FROM meta", NONE),
 ];
@@ -127,7 +127,7 @@ const FIRST: [Row; 5] = [
         "INSERT INTO meta VALUES (1, 1, 7, '2025-03-01', 1, 1, 1, 1, 1)",
         None,
     ),
-    ("UPDATE meta SET version = 1", Some(OpenFault::Damaged)),
+    ("UPDATE meta SET version = 1", Some(OpenFault::Version(1))),
 ];
 
 #[test]

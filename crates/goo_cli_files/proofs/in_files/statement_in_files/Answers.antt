@@ -1,7 +1,7 @@
 use Rattle.std.proofs.Common.{◌≡◌, subst, sym}
 use Rattle.sqlite.specs.Files.{file_state}
 use Rattle.sqlite_trees.specs.View.{doubt}
-use Rattle.goo_store_lookups.specs.Versions.{state_held}
+use Rattle.goo_store.specs.Versions.{state_held}
 use Rattle.goo_store_lookups.specs.Moments.{moment}
 use Rattle.goo_files.specs.Texts.{IsStatement}
 use Rattle.goo_cli_files.proofs.Works.{wrote_begun}

@@ -1,13 +1,12 @@
-use Rattle.std.proofs.Common.{arith, inl}
-use Rattle.std.proofs.lemmas.Result.{IfErr-weaker, IfOk-weaker}
+use Rattle.std.proofs.Common.{arith}
+use Rattle.std.proofs.lemmas.Result.{IfErr-weaker}
 use Rattle.sqlite.specs.Held.{state as view}
 use Rattle.goo_store.specs.Creating.{IsFirst}
-use Rattle.goo_cli_registry.proofs.Files.{begun_or, opened_as}
+use Rattle.goo_cli_registry.proofs.Files.{begun_or, kept_or_renewed}
 use Rattle.goo_cli_registry.proofs.opening.begin.Goals as goal
 
 pub returns-in-Kept-clause-state : goal.returns-in-Kept-clause-state
-returns-in-Kept-clause-state g c =
-    rw c.in-Kept.is (IfOk-weaker c.open.result _ _ (λ shelf rests none. opened_as (view g.S.Store c.args.conn) (view g.S.Store shelf.conn) rests none) c.open.ensures.rests)
+returns-in-Kept-clause-state g c = rw c.in-Kept.is c.open.ensures.held
 
 pub returns-in-New-clause-clean : goal.returns-in-New-clause-clean
 returns-in-New-clause-clean g c = IfErr-weaker c.create.result _ _ (λ e survives late. omega (arith, survives.clean, late)) c.create.ensures.crash
@@ -21,4 +20,5 @@ pub returns-in-Kept-clause-there : goal.returns-in-Kept-clause-there
 returns-in-Kept-clause-there g c = IfErr-weaker c.open.result _ _ (λ e any told other. absurd (other c.in-Kept.is)) c.open.ensures.clean_before
 
 pub returns-in-Kept-clause-crash : goal.returns-in-Kept-clause-crash
-returns-in-Kept-clause-crash g c = IfErr-weaker c.open.result _ _ (λ e keeps clean db may. inl (keeps clean db may)) c.open.ensures.crash
+returns-in-Kept-clause-crash g c =
+    rw c.in-Kept.is (IfErr-weaker c.open.result _ _ (λ e left. kept_or_renewed (view g.S.Store c.args.conn) (view g.S.Store e.0) left) c.open.ensures.left)
