@@ -168,7 +168,7 @@ module _ {D : Type 0} {g : Ghosts D} (files : Files D) where
       → ((db : Trees) → recovers it db → recovers conn.store db ⊎ HoldsRenewed (file_state conn).now db) → LeavesRegistry files (rest.Store it)
   leaves_registry stays conn live settled finds it same = λ found may. go found (same found may)
     where
-      go : (found : Trees) → recovers conn.store found ⊎ HoldsRenewed (file_state conn).now found → IsThere files found ⊎ WasRenewed files found
+      go : (found : Trees) → recovers conn.store found ⊎ HoldsRenewed (file_state conn).now found → IsThere g files found ⊎ WasRenewed g files found
       go found (inl before) = inl (found_as stays conn live finds found before)
       go found (inr holds) =
           let it = subst (λ (d : Database). HoldsRenewed d found) settled holds in
@@ -181,6 +181,12 @@ module _ {D : Type 0} {g : Ghosts D} (files : Files D) where
       go : (found : Trees) → recovers conn.store found ⊎ OpensAs found (Some s) → (AreFound g files found × ((db : Trees) → Rattle.sqlite.specs.Files.HoldsDatabase (Rattle.sqlite.specs.Files.image_of g files) db → found ≡ db)) ⊎ OpensAs found (Some s)
       go found (inl before) = inl (found_as stays conn live finds found before)
       go found (inr made) = inr made
+
+  -- what an opening that was refused before leaves
+  pub leaves_same : (left : Leftover D g) → LeavesFiles files left → LeavesRegistry files left
+  leaves_same (rest.Files now) leaves = leaves
+  leaves_same (rest.Unopened now) leaves = leaves
+  leaves_same (rest.Store now) leaves = λ found may. inl (leaves found may)
 
   pub leaves_or : (s : registry.State) (left : Leftover D g) → LeavesFiles files left → LeavesOr files s left
   leaves_or s (rest.Files now) leaves = leaves

@@ -47,7 +47,7 @@ abbrev pub ending_of_opening : OpenFault → Ending
 ending_of_opening opening.AlreadyThere = ending.Denied denial.AlreadyThere
 ending_of_opening opening.Memory = ending.Failed failure.Memory
 ending_of_opening opening.NotARegistry = ending.Failed failure.NotARegistry
-ending_of_opening (opening.Version version) = ending.Failed (failure.Version version)
+ending_of_opening (opening.Version version) = ending.Failed (failure_of_opening (opening.Version version))
 ending_of_opening opening.Damaged = ending.Failed failure.Damaged
 ending_of_opening opening.Store = ending.Failed failure.Store
 

@@ -3,7 +3,7 @@ use Rattle.sqlite.specs.Effect.{Database}
 use Rattle.sqlite.specs.Files.{file_state}
 use Rattle.goo_store.specs.Versions.{state_held}
 use Rattle.goo_store_lookups.specs.Holding.{sure}
-use Rattle.goo_cli_registry.proofs.Files.{clean_before, leaves_registry}
+use Rattle.goo_cli_registry.proofs.Files.{clean_before, leaves_registry, leaves_same}
 use Rattle.goo_cli_registry.proofs.opening.open_registry.Goals as goal
 
 pub returns-in-Ok-open_telling-clause-state : goal.returns-in-Ok-open_telling-clause-state
@@ -19,3 +19,6 @@ returns-in-Err-open_telling-clause-unharmed g c = λ clean.
     let before = c.in-Err-open_telling.ensures.clean_before late in
     leaves_registry c.args.files g.met.D.Disk.seen_may_stay c.in-Ok.conn (c.in-Ok.ensures.opened before).0.is_open (c.in-Ok.ensures.opened before).0.clean (c.in-Ok.ensures.found before) c.into_store.result
     (λ db may. c.in-Err-open_telling.ensures.left late db (c.into_store.ensures.quiet.outcomes db may))
+
+pub returns-in-Err-clause-unharmed : goal.returns-in-Err-clause-unharmed
+returns-in-Err-clause-unharmed g c = λ clean. leaves_same c.args.files c.in-Err.left (c.in-Err.ensures.unharmed clean)
