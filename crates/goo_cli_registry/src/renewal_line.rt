@@ -21,11 +21,7 @@ impl<'a, T: Write> RenewalLine<'a, T> {
 
 impl<'a, T: Write> Renewal for RenewalLine<'a, T> {
     fn begins(&mut self) {
-        for part in [
-            "goo: ",
-            self.path,
-            ": version 1 becomes version 2\n",
-        ] {
+        for part in ["goo: ", self.path, ": version 1 becomes version 2\n"] {
             if self.errors.write_all(part.as_bytes()).is_err() {
                 return;
             }

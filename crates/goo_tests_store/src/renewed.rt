@@ -8,7 +8,8 @@ use std::alloc::Global;
 use std::process::Abort;
 
 /// The tables of version 1, with the certificates of January in three pieces.
-const OLD: &str = "DROP TABLE correction; DROP TABLE device_carrier; DROP TABLE lot_carrier; UPDATE meta SET version = 1; \
+const OLD: &str =
+    "DROP TABLE correction; DROP TABLE device_carrier; DROP TABLE lot_carrier; UPDATE meta SET version = 1; \
 UPDATE piece SET last = 7000000000099 WHERE first = 7000000000001; \
 INSERT INTO piece VALUES (7000000000100, 7000000000199, 1, 1, 1, 0), (7000000000200, 7000000001200, 1, 1, 1, 0)";
 

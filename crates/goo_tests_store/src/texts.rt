@@ -265,7 +265,9 @@ pub fn moves<S: Shelf>(rt: &impl Abort, alloc: Global, registry: &mut Registry<S
 
 /// All that was kept so: the requests are repeated, and the texts are those of April.
 pub fn keeps<S: Shelf>(rt: &impl Abort, alloc: Global, registry: &mut Registry<S>) {
-    let kept = requests().get(..CANCELLATION).expect(rt, "so many requests");
+    let kept = requests()
+        .get(..CANCELLATION)
+        .expect(rt, "so many requests");
     plays(rt, alloc, registry, kept, CANCELLATION);
     plays(rt, alloc, registry, &RETURN, 1);
     gives_all(rt, alloc, registry, &IN_APRIL)

@@ -199,6 +199,6 @@ returns-in-Ok-judge-clause-held g c =
     let met : HasCleanDisk (view g.S.Store c.args.conn) → IsMet Ours (view g.S.Store c.args.conn) = λ clean. met_ours (view g.S.Store c.args.conn) (c.has_our_schema.ensures.schema.0 is_ours) (λ live. c.has_our_schema.ensures.ours is_ours live (c.requires.ordered clean)) (c.is_autocommit-settled.ensures.settled out) in
     subst (λ conn. doubts (view g.S.Store conn) ≡ 0 → state_of (tables_in (view g.S.Store conn)) ≡ state_held (view g.S.Store c.args.conn).now.trees) (sym c.over-in-Ok-judge.ensures.conn)
     (λ none.
-      let late = (sure (view g.S.Store c.judge.new.conn) none).0 in
-      let it = c.in-Ok-judge.ensures.judges.kept late (met (c.in-Ok-judge.ensures.judges.clean late)) in
-      opened_state _ (view g.S.Store c.args.conn) (view g.S.Store c.judge.new.conn) c.in-Ok-judge._pieces c.in-Ok-judge.ensures.judges met it.0 it.1 none ∙ ap state_of (held_ours (view g.S.Store c.args.conn).now it.0 it.1 it.2))
+    let late = (sure (view g.S.Store c.judge.new.conn) none).0 in
+    let it = c.in-Ok-judge.ensures.judges.kept late (met (c.in-Ok-judge.ensures.judges.clean late)) in
+    opened_state _ (view g.S.Store c.args.conn) (view g.S.Store c.judge.new.conn) c.in-Ok-judge._pieces c.in-Ok-judge.ensures.judges met it.0 it.1 none ∙ ap state_of (held_ours (view g.S.Store c.args.conn).now it.0 it.1 it.2))
