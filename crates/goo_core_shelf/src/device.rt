@@ -2,6 +2,7 @@
 ghost use Rattle.std.specs.Prelude.{◌≡◌};
 
 use goo_types::account_no::AccountNo;
+use goo_types::carrier::Carrier;
 use goo_types::command::{Declare, RegisterDevice};
 use goo_types::country::Country;
 use goo_types::day::Day;
@@ -25,6 +26,7 @@ pub struct Device {
     capacity_w: Watts,
     commissioned: Day,
     support: Support,
+    carrier: Carrier,
 }
 
 impl Model for Device {
@@ -41,6 +43,7 @@ impl Model for Device {
       capacity_w = d.capacity_w;
       commissioned = d.commissioned;
       support = d.support;
+      carrier = d.carrier;
     } };
 
     ghost inverse = { λ d. record {
@@ -52,6 +55,7 @@ impl Model for Device {
       capacity_w = d.capacity_w;
       commissioned = d.commissioned;
       support = d.support;
+      carrier = d.carrier;
     } };
 }
 
@@ -72,6 +76,7 @@ impl Device {
             capacity_w: registration.capacity_w,
             commissioned: registration.commissioned,
             support: registration.support,
+            carrier: registration.carrier,
         }
     }
 
@@ -131,6 +136,13 @@ impl Device {
         self.support
     }
 
+    /// What carries the energy that it makes.
+    pub fn carrier(&self) -> Carrier
+        ensures { result ≡ self.now.carrier }
+    {
+        self.carrier
+    }
+
     /// What the certificates that a declaration earns have in common, of a registry that issues them on a day.
     pub fn lot_fields(&self, own: RegistryCode, declared: &Declare, today: Day) -> LotFields
         ensures { result ≡ lot_on own today declared.now self.now }
@@ -148,6 +160,7 @@ impl Device {
             first_day: declared.first_day,
             last_day: declared.last_day,
             issued_on: today,
+            carrier: self.carrier,
         }
     }
 }

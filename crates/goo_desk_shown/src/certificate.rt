@@ -2,9 +2,10 @@
 ghost use Rattle.std.specs.Prelude.{◌≡◌, IfOk, codes};
 ghost use Rattle.serde_json.specs.Data.{Members, put as with_member};
 ghost use Rattle.serde_json.specs.View.{view, members_view};
-ghost use Rattle.goo_notice_json.specs.Lot.{lot_data};
+ghost use Rattle.goo_notice_json.specs.Lot.{is_other as other_test, lot_data};
 ghost use Rattle.goo_desk_shown.specs.Certificates.{act_of as act_stated, place_word as word_stated, certificate_data, certificate_text as text_stated};
 
+use goo_notice_json::carriers::is_other;
 use goo_notice_json::lot_value::lot_value;
 use goo_notice_json::object::{nothing, object_of, with_integer, with_text};
 use goo_types::lot::Lot;
@@ -39,16 +40,21 @@ fn place_word(place: &Place) -> &'static str
     }
 }
 
-/// The members with one more, the certificate's lot.
+/// The members with one more, the certificate's lot, which states its carrier unless that is electricity.
 fn with_lot(
     alloc: Global,
     members: Result<Map<String, Value>, AllocError>,
     lot: &Lot,
 ) -> Result<Map<String, Value>, AllocError>
-    ensures { (ms : Members) → IfOk members (λ old. members_view old.entries ≡ ms) → IfOk result (λ new. members_view new.entries ≡ with_member (codes "lot") (lot_data lot.now) ms) }
+    ensures { (ms : Members) → IfOk members (λ old. members_view old.entries ≡ ms) → IfOk result (λ new. members_view new.entries ≡ with_member (codes "lot") (lot_data (other_test lot.now.carrier) lot.now) ms) }
 {
     let mut members = members?;
-    put(&mut members, alloc, "lot", lot_value(alloc, lot)?)?;
+    put(
+        &mut members,
+        alloc,
+        "lot",
+        lot_value(alloc, lot, is_other(lot.carrier()))?,
+    )?;
     Ok(members)
 }
 

@@ -43,7 +43,7 @@ fn row(alloc: Global, fields: &[&[u8]]) -> Result<Vec<u8>, NoRoom>
 pub fn holdings_header(alloc: Global) -> Result<Vec<u8>, NoRoom>
     ensures { IfOk result (λ row. row.items ≡ header_row) }
 {
-    let fields: [&[u8]; 14] = [
+    let fields: [&[u8]; 15] = [
         b"first",
         b"last",
         b"count",
@@ -58,6 +58,7 @@ pub fn holdings_header(alloc: Global) -> Result<Vec<u8>, NoRoom>
         b"first_day",
         b"last_day",
         b"issued_on",
+        b"carrier",
     ];
     row(alloc, &fields)
 }
@@ -87,7 +88,7 @@ pub fn holding_row(alloc: Global, run: &Piece) -> Result<Vec<u8>, NoRoom>
     let first_day = lot.first_day().write();
     let last_day = lot.last_day().write();
     let issued_on = lot.issued_on().write();
-    let fields: [&[u8]; 14] = [
+    let fields: [&[u8]; 15] = [
         &first,
         &last,
         count.as_bytes(),
@@ -102,6 +103,7 @@ pub fn holding_row(alloc: Global, run: &Piece) -> Result<Vec<u8>, NoRoom>
         &first_day,
         &last_day,
         &issued_on,
+        lot.carrier().word().as_bytes(),
     ];
     row(alloc, &fields)
 }

@@ -1,5 +1,5 @@
 -- Going over the parts, one at a time.
-use Rattle.std.proofs.Common.{◌≡◌, ℕ, ◌+◌, ◌<◌, ◌≤◌, List, [], ◌∷◌, ◌++◌, length, get_or, map, take, drop, All, Result, Ok, Err, refl, sym, ap, subst, ◌∙◌, append_assoc, append-nil, add-one, drop-cons}
+use Rattle.std.proofs.Common.{◌≡◌, ℕ, Bool, Option, ◌+◌, ◌<◌, ◌≤◌, List, [], ◌∷◌, ◌++◌, length, get_or, map, take, drop, All, Result, Ok, Err, refl, sym, ap, subst, ◌∙◌, append_assoc, append-nil, add-one, drop-cons}
 use Rattle.std.proofs.lemmas.List.{drop_all, map_push, take_more}
 use Rattle.std.proofs.lemmas.List.Elements.{All-more}
 use Rattle.serde_json.specs.Data.{Data, Items, item}
@@ -16,29 +16,29 @@ next_value vs i v lt is = ap items_view (drop-cons vs i v lt) ∙ rw (← is, ad
 
 -- ---- the shapes
 
-shapes_next : (d : Data) (ds : Items) (size : ℕ) → part_shape d ≡ Ok size → parts_shape (item d ds) ≡ parts_shape ds
+shapes_next : (o : Option Bool) (d : Data) (ds : Items) (size : ℕ) → part_shape o d ≡ Ok size → parts_shape o (item d ds) ≡ parts_shape o ds
 unfolding parts_shape
-shapes_next d ds size e = rw e
+shapes_next o d ds size e = rw e
 
-pub shapes_on : (vs : List Value) (i : ℕ) (v : Value) (size : ℕ) (total : Result ℕ ValueFault) → i < length vs → v ≡ get_or vs i v → part_shape (view v) ≡ Ok size → parts_shape (items_view (drop i vs)) ≡ total
-    → parts_shape (items_view (drop (i + 1) vs)) ≡ total
-shapes_on vs i v size total lt is e so_far = sym (ap parts_shape (next_value vs i v lt is) ∙ shapes_next _ _ size e) ∙ so_far
+pub shapes_on : (o : Option Bool) (vs : List Value) (i : ℕ) (v : Value) (size : ℕ) (total : Result ℕ ValueFault) → i < length vs → v ≡ get_or vs i v → part_shape o (view v) ≡ Ok size → parts_shape o (items_view (drop i vs)) ≡ total
+    → parts_shape o (items_view (drop (i + 1) vs)) ≡ total
+shapes_on o vs i v size total lt is e so_far = sym (ap (parts_shape o) (next_value vs i v lt is) ∙ shapes_next o _ _ size e) ∙ so_far
 
 fails_after : {A B : Type 0} (e : ValueFault) (r : Result A ValueFault) (f : A → Result B ValueFault) → Fails e r → Fails e (r >>= f)
 fails_after fault.Shape r f h = ap (λ x. x >>= f) h
 fails_after fault.Field r f h = ap (λ x. x >>= f) h
 fails_after fault.Memory r f h = tt
 
-shapes_fail : (d : Data) (ds : Items) (e : ValueFault) → Fails e (part_shape d) → Fails e (parts_shape (item d ds))
+shapes_fail : (o : Option Bool) (d : Data) (ds : Items) (e : ValueFault) → Fails e (part_shape o d) → Fails e (parts_shape o (item d ds))
 unfolding parts_shape
-shapes_fail d ds e h = fails_after e (part_shape d) (λ size. parts_shape ds) h
+shapes_fail o d ds e h = fails_after e (part_shape o d) (λ size. parts_shape o ds) h
 
-pub shapes_err : (vs : List Value) (i : ℕ) (v : Value) (e : ValueFault) (total : Result ℕ ValueFault) → i < length vs → v ≡ get_or vs i v → Fails e (part_shape (view v)) → parts_shape (items_view (drop i vs)) ≡ total → Fails e total
-shapes_err vs i v e total lt is h so_far = subst (λ (r : Result ℕ ValueFault). Fails e r) (sym (ap parts_shape (next_value vs i v lt is)) ∙ so_far) (shapes_fail (view v) _ e h)
+pub shapes_err : (o : Option Bool) (vs : List Value) (i : ℕ) (v : Value) (e : ValueFault) (total : Result ℕ ValueFault) → i < length vs → v ≡ get_or vs i v → Fails e (part_shape o (view v)) → parts_shape o (items_view (drop i vs)) ≡ total → Fails e total
+shapes_err o vs i v e total lt is h so_far = subst (λ (r : Result ℕ ValueFault). Fails e r) (sym (ap (parts_shape o) (next_value vs i v lt is)) ∙ so_far) (shapes_fail o (view v) _ e h)
 
-pub shapes_end : (vs : List Value) (i : ℕ) (total : Result ℕ ValueFault) → length vs ≤ i → parts_shape (items_view (drop i vs)) ≡ total → total ≡ Ok 0
+pub shapes_end : (o : Option Bool) (vs : List Value) (i : ℕ) (total : Result ℕ ValueFault) → length vs ≤ i → parts_shape o (items_view (drop i vs)) ≡ total → total ≡ Ok 0
 unfolding parts_shape
-shapes_end vs i total le so_far = sym so_far ∙ ap (λ l. parts_shape (items_view l)) (drop_all i vs le)
+shapes_end o vs i total le so_far = sym so_far ∙ ap (λ l. parts_shape o (items_view l)) (drop_all i vs le)
 
 -- ---- the parts
 
@@ -49,26 +49,26 @@ regroup : (front : List Part) (p : Part) (r : Result (List Part) ValueFault) →
 regroup front p (Ok x) = ap Ok (sym (append_assoc front (p ∷ []) x))
 regroup front p (Err e) = refl
 
-parts_next : (front : List Part) (d : Data) (ds : Items) (p : Part) → part_of d ≡ Ok p → with_front front (parts_of (item d ds)) ≡ with_front (front ++ p ∷ []) (parts_of ds)
+parts_next : (b : Bool) (front : List Part) (d : Data) (ds : Items) (p : Part) → part_of b d ≡ Ok p → with_front front (parts_of b (item d ds)) ≡ with_front (front ++ p ∷ []) (parts_of b ds)
 unfolding parts_of
-parts_next front d ds p e = rw e (regroup front p (parts_of ds))
+parts_next b front d ds p e = rw e (regroup front p (parts_of b ds))
 
-pub parts_on : (front : List Part) (vs : List Value) (i : ℕ) (v : Value) (p : Part) (total : Result (List Part) ValueFault) → i < length vs → v ≡ get_or vs i v → part_of (view v) ≡ Ok p
-    → with_front front (parts_of (items_view (drop i vs))) ≡ total → with_front (front ++ p ∷ []) (parts_of (items_view (drop (i + 1) vs))) ≡ total
-parts_on front vs i v p total lt is e so_far = sym (ap (λ ds. with_front front (parts_of ds)) (next_value vs i v lt is) ∙ parts_next front _ _ p e) ∙ so_far
+pub parts_on : (b : Bool) (front : List Part) (vs : List Value) (i : ℕ) (v : Value) (p : Part) (total : Result (List Part) ValueFault) → i < length vs → v ≡ get_or vs i v → part_of b (view v) ≡ Ok p
+    → with_front front (parts_of b (items_view (drop i vs))) ≡ total → with_front (front ++ p ∷ []) (parts_of b (items_view (drop (i + 1) vs))) ≡ total
+parts_on b front vs i v p total lt is e so_far = sym (ap (λ ds. with_front front (parts_of b ds)) (next_value vs i v lt is) ∙ parts_next b front _ _ p e) ∙ so_far
 
-parts_fail : (front : List Part) (d : Data) (ds : Items) (e : ValueFault) → Fails e (part_of d) → Fails e (with_front front (parts_of (item d ds)))
+parts_fail : (b : Bool) (front : List Part) (d : Data) (ds : Items) (e : ValueFault) → Fails e (part_of b d) → Fails e (with_front front (parts_of b (item d ds)))
 unfolding parts_of
-parts_fail front d ds e h = fails_after e (part_of d >>= λ part. parts_of ds >>= λ parts. Ok (part ∷ parts)) (λ x. Ok (front ++ x)) (fails_after e (part_of d) (λ part. parts_of ds >>= λ parts. Ok (part ∷ parts)) h)
+parts_fail b front d ds e h = fails_after e (part_of b d >>= λ part. parts_of b ds >>= λ parts. Ok (part ∷ parts)) (λ x. Ok (front ++ x)) (fails_after e (part_of b d) (λ part. parts_of b ds >>= λ parts. Ok (part ∷ parts)) h)
 
-pub parts_err : (front : List Part) (vs : List Value) (i : ℕ) (v : Value) (e : ValueFault) (total : Result (List Part) ValueFault) → i < length vs → v ≡ get_or vs i v → Fails e (part_of (view v))
-    → with_front front (parts_of (items_view (drop i vs))) ≡ total → Fails e total
-parts_err front vs i v e total lt is h so_far =
-    subst (λ (r : Result (List Part) ValueFault). Fails e r) (sym (ap (λ ds. with_front front (parts_of ds)) (next_value vs i v lt is)) ∙ so_far) (parts_fail front (view v) _ e h)
+pub parts_err : (b : Bool) (front : List Part) (vs : List Value) (i : ℕ) (v : Value) (e : ValueFault) (total : Result (List Part) ValueFault) → i < length vs → v ≡ get_or vs i v → Fails e (part_of b (view v))
+    → with_front front (parts_of b (items_view (drop i vs))) ≡ total → Fails e total
+parts_err b front vs i v e total lt is h so_far =
+    subst (λ (r : Result (List Part) ValueFault). Fails e r) (sym (ap (λ ds. with_front front (parts_of b ds)) (next_value vs i v lt is)) ∙ so_far) (parts_fail b front (view v) _ e h)
 
-pub parts_end : (front : List Part) (vs : List Value) (i : ℕ) (total : Result (List Part) ValueFault) → length vs ≤ i → with_front front (parts_of (items_view (drop i vs))) ≡ total → total ≡ Ok front
+pub parts_end : (b : Bool) (front : List Part) (vs : List Value) (i : ℕ) (total : Result (List Part) ValueFault) → length vs ≤ i → with_front front (parts_of b (items_view (drop i vs))) ≡ total → total ≡ Ok front
 unfolding parts_of
-parts_end front vs i total le so_far = sym so_far ∙ ap (λ l. with_front front (parts_of (items_view l))) (drop_all i vs le) ∙ ap Ok (append-nil front)
+parts_end b front vs i total le so_far = sym so_far ∙ ap (λ l. with_front front (parts_of b (items_view l))) (drop_all i vs le) ∙ ap Ok (append-nil front)
 
 pub parts_begin : (r : Result (List Part) ValueFault) → with_front [] r ≡ r
 parts_begin (Ok x) = refl
@@ -76,11 +76,11 @@ parts_begin (Err e) = refl
 
 -- ---- the values of parts
 
-pub values_on : (vs : List Value) (ps : List Part) (i : ℕ) (v : Value) (p : Part) → i < length ps → p ≡ get_or ps i p → view v ≡ part_data p
-    → map view vs ≡ map part_data (take i ps) → map view (vs ++ v ∷ []) ≡ map part_data (take (i + 1) ps)
-values_on vs ps i v p lt is e so_far =
-    map_push view vs v ∙ ap (λ l. l ++ view v ∷ []) so_far ∙ ap (λ d. map part_data (take i ps) ++ d ∷ []) (e ∙ ap part_data is)
-    ∙ sym (map_push part_data (take i ps) (get_or ps i p)) ∙ ap (map part_data) (sym (take_more ps i p lt))
+pub values_on : (b : Bool) (vs : List Value) (ps : List Part) (i : ℕ) (v : Value) (p : Part) → i < length ps → p ≡ get_or ps i p → view v ≡ part_data b p
+    → map view vs ≡ map (part_data b) (take i ps) → map view (vs ++ v ∷ []) ≡ map (part_data b) (take (i + 1) ps)
+values_on b vs ps i v p lt is e so_far =
+    map_push view vs v ∙ ap (λ l. l ++ view v ∷ []) so_far ∙ ap (λ d. map (part_data b) (take i ps) ++ d ∷ []) (e ∙ ap (part_data b) is)
+    ∙ sym (map_push (part_data b) (take i ps) (get_or ps i p)) ∙ ap (map (part_data b)) (sym (take_more ps i p lt))
 
 pub limits_on : (ps : List Part) (i : ℕ) (p : Part) → i < length ps → p ≡ get_or ps i p → IsStatedPart p → All IsStatedPart (take i ps) → All IsStatedPart (take (i + 1) ps)
 limits_on ps i p lt is h so_far = All-more IsStatedPart ps i p lt so_far (subst (λ q. IsStatedPart q) is h)

@@ -4,7 +4,9 @@ use Rattle.serde_json.specs.Data.{Data}
 use Rattle.goo_types.specs.Codes.{country_reading, name_reading, source_reading, tech_reading}
 use Rattle.goo_types.specs.Day.{CalendarDay, day_reading}
 use Rattle.goo_types.specs.Gsrn.{gsrn_reading}
+use Rattle.goo_types.specs.Carrier.{carrier_reading}
 use Rattle.goo_types.specs.Support.{support_reading}
+use Rattle.goo_types.specs.declared.carrier.Carrier.{Carrier}
 use Rattle.goo_types.specs.declared.support.Support.{Support}
 use Rattle.goo_notice_json.specs.declared.value_fault.ValueFault.{ValueFault}
 use Rattle.goo_notice_json.specs.Faults.{◌>>=◌}
@@ -70,3 +72,8 @@ unfoldable pub issued_on_at : Data → Result CalendarDay ValueFault
 issued_on_at d = do
   text ← string_at (codes "issued_on") d
   as_field (day_reading text)
+
+unfoldable pub carrier_at : Data → Result Carrier ValueFault
+carrier_at d = do
+  text ← string_at (codes "carrier") d
+  as_field (carrier_reading text)

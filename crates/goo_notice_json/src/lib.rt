@@ -5,6 +5,7 @@
 //! so do commands (`goo_notice`).
 #![tactic(auto)]
 
+pub mod carriers;
 pub mod fields;
 pub mod json_bytes;
 mod lot_members;

@@ -3,11 +3,12 @@
 ghost use Rattle.std.specs.Prelude.{◌≡◌};
 ghost use Rattle.serde_json.specs.View.{view};
 ghost use Rattle.goo_notice_json.specs.Faults.{Gives};
-ghost use Rattle.goo_notice_json.specs.LotMembers.{origin_at, device_at, country_at, site_at, tech_at, source_at, capacity_at, support_at, commissioned_at, first_day_at, last_day_at, issued_on_at};
+ghost use Rattle.goo_notice_json.specs.LotMembers.{origin_at, device_at, country_at, site_at, tech_at, source_at, capacity_at, support_at, commissioned_at, first_day_at, last_day_at, issued_on_at, carrier_at};
 
 use crate::fields::{registry_code, watts};
 use crate::members::{integer_at, string_at};
 use crate::value_fault::ValueFault;
+use goo_types::carrier::Carrier;
 use goo_types::country::Country;
 use goo_types::day::Day;
 use goo_types::gsrn::Gsrn;
@@ -113,4 +114,12 @@ pub(crate) fn issued_on_at(lot: &Value) -> Result<Day, ValueFault>
     ensures { Gives (λ x. x) result (issued_on_at (view lot.now)) }
 {
     Ok(Day::read(string_at(lot, "issued_on")?.as_bytes())?)
+}
+
+/// What carries the energy.
+#[tactic(auto, unfolding(crate::specs::LotMembers::carrier_at))]
+pub(crate) fn carrier_at(lot: &Value) -> Result<Carrier, ValueFault>
+    ensures { Gives (λ x. x) result (carrier_at (view lot.now)) }
+{
+    Ok(Carrier::read(string_at(lot, "carrier")?.as_bytes())?)
 }

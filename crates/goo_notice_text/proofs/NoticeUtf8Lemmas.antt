@@ -1,12 +1,16 @@
 -- The text of a notice is UTF-8.
-use Rattle.std.proofs.Common.{refl, arith}
+use Rattle.std.proofs.Common.{◌<◌, Bool, true, false, refl, arith}
 use Rattle.std.specs.Str.{IsUtf8}
 use Rattle.json.proofs.Printed.Utf8.{IsUtf8-are_ascii}
 use Rattle.goo_types.specs.Notice.{NoticeContents}
-use Rattle.goo_notice_text.specs.Notice.{notice_data, notice_text, IsStatedNotice}
+use Rattle.goo_notice_text.specs.Notice.{are_carried, version_of, notice_data, notice_text, IsStatedNotice}
 use Rattle.goo_notice_json.proofs.FieldLemmas.{fits}
 use Rattle.goo_notice_json.proofs.Utf8Lemmas.{HasUtf8, IsUtf8-decimal, IsUtf8-compact_text}
 use Rattle.goo_notice_json.proofs.PartsUtf8Lemmas.{parts_utf8}
+
+small : (b : Bool) → version_of b < 18446744073709551616
+small true = omega arith
+small false = omega arith
 
 notice_utf8 : (n : NoticeContents) → IsStatedNotice n → HasUtf8 (notice_data n)
 unfolding notice_data
@@ -21,11 +25,11 @@ notice_utf8 n h = (
       IsUtf8-decimal n.number (fits 1 999999999 n.number h.number (omega arith)),
       (
         IsUtf8-are_ascii _ refl,
-        parts_utf8 n.parts h.parts,
+        parts_utf8 (are_carried n.parts) n.parts h.parts,
         (
           IsUtf8-are_ascii _ refl,
           IsUtf8-decimal n.sender (fits 1 99 n.sender h.sender (omega arith)),
-          (IsUtf8-are_ascii _ refl, IsUtf8-decimal 1 (omega arith), tt),
+          (IsUtf8-are_ascii _ refl, IsUtf8-decimal (version_of (are_carried n.parts)) (small (are_carried n.parts)), tt),
         ),
       ),
     ),

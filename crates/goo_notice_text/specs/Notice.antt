@@ -1,7 +1,7 @@
 -- What stands in the JSON text of a notice, and which notice a JSON value states.
-use Rattle.std.specs.Prelude.{ℕ, ℤ, List, [], ◌∷◌, All, map, length, Bool, true, not, ◌&&◌, ◌||◌, ◌==◌, nat_lt, codes, Result}
+use Rattle.std.specs.Prelude.{ℕ, ℤ, pos, negsuc, false, Option, Some, None, if◌then◌else◌, List, [], ◌∷◌, All, map, length, Bool, true, not, ◌&&◌, ◌||◌, ◌==◌, nat_lt, codes, Result}
 use Rattle.std.specs.Int.{IsInRange}
-use Rattle.std.specs.List.{list_all}
+use Rattle.std.specs.List.{list_all, list_any}
 use Rattle.std.specs.Str.{bytes_eq}
 use Rattle.serde_json.specs.Data.{Data, array, object, Items, no_members, member}
 use Rattle.serde_json.specs.Find.{as_object}
@@ -16,7 +16,17 @@ use Rattle.goo_notice_json.specs.declared.value_fault.ValueFault.{ValueFault}
 use Rattle.goo_notice_json.specs.Faults.{◌>>=◌}
 use Rattle.goo_notice_json.specs.Members.{integer_member, integer_at, items_at, of_size}
 use Rattle.goo_notice_json.specs.Fields.{accepted, is_in_range, integer_in}
+use Rattle.goo_notice_json.specs.Lot.{is_other}
 use Rattle.goo_notice_json.specs.Parts.{part_data, IsStatedPart, parts_shape, parts_of}
+
+-- whether the text of some parts states carriers: where one is another than electricity
+abbrev pub are_carried : List Part → Bool
+are_carried ps = list_any (λ p. is_other p.lot.carrier) ps
+
+-- lots state their carrier in version 2, and in version 1 they don't
+abbrev pub version_of : Bool → ℕ
+version_of true = 2
+version_of false = 1
 
 -- the JSON object, its keys in byte order
 unfoldable pub notice_data : NoticeContents → Data
@@ -25,9 +35,9 @@ notice_data n =
     (integer_member (codes "account") n.account
     (integer_member (codes "addressee") n.addressee
     (integer_member (codes "number") n.number
-    (member (codes "parts") (array (items_of (map part_data n.parts)))
+    (member (codes "parts") (array (items_of (map (part_data (are_carried n.parts)) n.parts)))
     (integer_member (codes "sender") n.sender
-    (integer_member (codes "version") 1 no_members))))))
+    (integer_member (codes "version") (version_of (are_carried n.parts)) no_members))))))
 
 -- the one compact text of a notice
 unfoldable pub notice_text : NoticeContents → List ℕ
@@ -66,18 +76,23 @@ is_notice n =
 
 unfoldable pub notice_fields_of : ℤ → ℤ → ℤ → ℤ → ℤ → Items → Result NoticeContents ValueFault
 notice_fields_of account addressee number sender version items = do
-  version ← integer_in 1 1 version
+  version ← integer_in 1 2 version
   sender ← integer_in 1 99 sender
   addressee ← integer_in 1 99 addressee
   number ← integer_in 1 999999999 number
   account ← integer_in 1 999999999 account
-  parts ← parts_of items
+  parts ← parts_of (version == 2) items
   accepted is_notice (notice_contents sender addressee number account parts)
+
+-- whether lots state their carrier in a version, where there is such a version
+abbrev pub carried_in : ℤ → Option Bool
+carried_in (pos n) = if n == 1 then Some false else (if n == 2 then Some true else None)
+carried_in (negsuc n) = None
 
 -- the shape of the parts is looked at before the fields
 abbrev pub shaped_fields_of : ℤ → ℤ → ℤ → ℤ → ℤ → Items → Result NoticeContents ValueFault
 shaped_fields_of account addressee number sender version items = do
-  size ← parts_shape items
+  size ← parts_shape (carried_in version) items
   notice_fields_of account addressee number sender version items
 
 -- the shape of the whole is looked at first, then its fields
@@ -90,5 +105,5 @@ notice_of d = do
   items ← items_at (codes "parts") d
   sender ← integer_at (codes "sender") d
   version ← integer_at (codes "version") d
-  size ← parts_shape items
+  size ← parts_shape (carried_in version) items
   notice_fields_of account addressee number sender version items

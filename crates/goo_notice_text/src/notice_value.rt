@@ -7,8 +7,9 @@ ghost use Rattle.goo_notice_json.specs.Faults.{Gives};
 ghost use Rattle.goo_notice_json.specs.Fields.{accepted, integer_in};
 ghost use Rattle.goo_notice_json.specs.Members.{of_size as of_size_stated};
 ghost use Rattle.goo_types.specs.Notice.{notice_contents};
-ghost use Rattle.goo_notice_text.specs.Notice.{notice_data, IsStatedNotice, is_notice, notice_fields_of, shaped_fields_of, notice_of};
+ghost use Rattle.goo_notice_text.specs.Notice.{are_carried as carried_test, carried_in as carried_by, version_of as version_number, notice_data, IsStatedNotice, is_notice, notice_fields_of, shaped_fields_of, notice_of};
 
+use goo_notice_json::carriers::is_other;
 use goo_notice_json::fields::{account_no, act_no, registry_code};
 use goo_notice_json::members::{integer_at, items_at, of_size};
 use goo_notice_json::object::{nothing, object_of, with_integer, with_items};
@@ -33,7 +34,32 @@ fn with_addressee(
     with_integer(alloc, members, "addressee", u64::from(code.get()))
 }
 
-/// The JSON object of a notice.
+/// Whether the text of some parts states carriers: where one is another than electricity.
+fn are_carried(parts: &[Part]) -> bool
+    ensures { result ≡ carried_test parts.now }
+{
+    parts.iter().any(|part| is_other(part.lot.carrier()))
+}
+
+/// The version of a text: 2 where lots state their carrier, else 1.
+fn version_of(carried: bool) -> u64
+    ensures { result ≡ version_number carried }
+{
+    if carried { 2 } else { 1 }
+}
+
+/// The members with one more, the version of the text.
+fn with_version(
+    alloc: Global,
+    members: Result<Map<String, Value>, AllocError>,
+    carried: bool,
+) -> Result<Map<String, Value>, AllocError>
+    ensures { (ms : Members) → IfOk members (λ old. members_view old.entries ≡ ms) → IfOk result (λ new. members_view new.entries ≡ with_member (codes "version") (number (unsigned (version_number carried))) ms) }
+{
+    with_integer(alloc, members, "version", version_of(carried))
+}
+
+/// The JSON object of a notice, of version 2 where some lot has another carrier than electricity.
 ///
 /// # Errors
 ///
@@ -42,24 +68,37 @@ pub fn notice_value(alloc: Global, notice: &Notice) -> Result<Value, AllocError>
     ensures value { IfOk result (λ value. view value ≡ notice_data notice.now) }
     ensures limits { IfOk result (λ _. IsStatedNotice notice.now) }
 {
-    let parts = part_values(alloc, notice.parts())?;
+    let carried = are_carried(notice.parts());
+    let parts = part_values(alloc, notice.parts(), carried)?;
     let members = nothing(alloc);
     let members = with_integer(alloc, members, "account", u64::from(notice.account().get()));
     let members = with_addressee(alloc, members, notice.addressee());
     let members = with_integer(alloc, members, "number", u64::from(notice.number().get()));
     let members = with_items(alloc, members, "parts", parts);
     let members = with_integer(alloc, members, "sender", u64::from(notice.sender().get()));
-    let members = with_integer(alloc, members, "version", 1);
+    let members = with_version(alloc, members, carried);
     object_of(members)
 }
 
-/// The version of a notice's text, which is 1.
+/// The version of a notice's text, 1 or 2.
 fn version(number: i128) -> Result<u64, ValueFault>
-    ensures { Gives (λ n. n) result (integer_in 1 1 number) }
+    ensures { Gives (λ n. n) result (integer_in 1 2 number) }
 {
     match u64::try_from(number) {
         Ok(1) => Ok(1),
+        Ok(2) => Ok(2),
         _ => Err(ValueFault::Field),
+    }
+}
+
+/// Whether lots state their carrier in a version; None where there is no such version.
+fn carried_in(version: i128) -> Option<bool>
+    ensures { result ≡ carried_by version }
+{
+    match u64::try_from(version) {
+        Ok(1) => Some(false),
+        Ok(2) => Some(true),
+        _ => None,
     }
 }
 
@@ -91,12 +130,12 @@ fn notice_fields(
     ensures { Gives (λ notice. notice) result
         (notice_fields_of account addressee number sender version_no (items_view items.now)) }
 {
-    version(version_no)?;
+    let carried = version(version_no)? == 2;
     let sender = registry_code(sender)?;
     let addressee = registry_code(addressee)?;
     let number = act_no(number)?;
     let account = account_no(account)?;
-    let parts = parts(alloc, items)?;
+    let parts = parts(alloc, items, carried)?;
     notice_with(sender, addressee, number, account, parts)
 }
 
@@ -120,7 +159,7 @@ fn shaped_fields(
     ensures { Gives (λ notice. notice) result
         (shaped_fields_of account addressee number sender version_no (items_view items.now)) }
 {
-    check_parts(items)?;
+    check_parts(items, carried_in(version_no))?;
     notice_fields(alloc, account, addressee, number, sender, version_no, items)
 }
 
@@ -129,8 +168,8 @@ fn shaped_fields(
 /// # Errors
 ///
 /// `Shape` where the value or a part in it isn't an object with just the keys of a notice and values of their
-/// kinds; else `Field` where a value is refused by its reader, the version isn't 1, or the contents are no notice;
-/// `Memory` where an allocation was refused.
+/// kinds, with a carrier in each lot in version 2 and in none in version 1; else `Field` where a value is refused by its
+/// reader, the version is neither, or the contents are no notice; `Memory` where an allocation was refused.
 #[tactic(auto, unfolding(crate::specs::Notice::notice_of))]
 pub fn stated_notice(alloc: Global, value: &Value) -> Result<Notice, ValueFault>
     ensures { Gives (λ notice. notice) result (notice_of (view value.now)) }

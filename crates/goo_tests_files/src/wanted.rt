@@ -14,15 +14,15 @@ pub const CLOSED: &str =
 
 /// What account 1 holds on 5 April 2025.
 pub const HOLDINGS: &str =
-    "first,last,count,device,country,site,tech,source,capacity_w,commissioned,support,first_day,last_day,issued_on\n07000000000001,07000000001200,1200,500000000000000012,DE,North field,T010000,F01010100,2000000,2020-06-15,none,2025-01-01,2025-01-31,2025-03-01\n07000000001201,07000000001201,1,500000000000000012,DE,North field,T010000,F01010100,2000000,2020-06-15,none,2025-03-01,2025-03-31,2025-04-05\n";
+    "first,last,count,device,country,site,tech,source,capacity_w,commissioned,support,first_day,last_day,issued_on,carrier\n07000000000001,07000000001200,1200,500000000000000012,DE,North field,T010000,F01010100,2000000,2020-06-15,none,2025-01-01,2025-01-31,2025-03-01,electricity\n07000000001201,07000000001201,1,500000000000000012,DE,North field,T010000,F01010100,2000000,2020-06-15,none,2025-03-01,2025-03-31,2025-04-05,electricity\n";
 
 /// The same once ten are cancelled.
 pub const LEFT: &str =
-    "first,last,count,device,country,site,tech,source,capacity_w,commissioned,support,first_day,last_day,issued_on\n07000000000011,07000000001200,1190,500000000000000012,DE,North field,T010000,F01010100,2000000,2020-06-15,none,2025-01-01,2025-01-31,2025-03-01\n07000000001201,07000000001201,1,500000000000000012,DE,North field,T010000,F01010100,2000000,2020-06-15,none,2025-03-01,2025-03-31,2025-04-05\n";
+    "first,last,count,device,country,site,tech,source,capacity_w,commissioned,support,first_day,last_day,issued_on,carrier\n07000000000011,07000000001200,1190,500000000000000012,DE,North field,T010000,F01010100,2000000,2020-06-15,none,2025-01-01,2025-01-31,2025-03-01,electricity\n07000000001201,07000000001201,1,500000000000000012,DE,North field,T010000,F01010100,2000000,2020-06-15,none,2025-03-01,2025-03-31,2025-04-05,electricity\n";
 
 /// A site with quotes and a comma in its name.
 pub const QUOTED: &str =
-    "first,last,count,device,country,site,tech,source,capacity_w,commissioned,support,first_day,last_day,issued_on\n07000000000002,07000000000002,1,500000000000000029,DE,\"Field \"\"B\"\", north\",T010000,F01010100,2000000,2020-06-15,both,2025-01-01,2025-01-31,2025-03-01\n";
+    "first,last,count,device,country,site,tech,source,capacity_w,commissioned,support,first_day,last_day,issued_on,carrier\n07000000000002,07000000000002,1,500000000000000029,DE,\"Field \"\"B\"\", north\",T010000,F01010100,2000000,2020-06-15,both,2025-01-01,2025-01-31,2025-03-01,electricity\n";
 
 /// The document of the cancellation.
 pub const DOCUMENT: &str =

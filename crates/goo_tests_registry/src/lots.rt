@@ -1,6 +1,7 @@
 //! The lots of certificates.
 
 use crate::values::{code_of, day_of};
+use goo_types::carrier::Carrier;
 use goo_types::country::Country;
 use goo_types::gsrn::Gsrn;
 use goo_types::lot::Lot;
@@ -45,6 +46,7 @@ pub fn lot_of(rt: &impl Abort, batch: &Batch) -> Lot {
         first_day: day_of(rt, batch.first),
         last_day: day_of(rt, batch.last),
         issued_on: day_of(rt, "2025-03-01"),
+        carrier: Carrier::Electricity,
     };
     Lot::new(fields).expect(rt, "no lot")
 }

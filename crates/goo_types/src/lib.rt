@@ -7,7 +7,7 @@
 //! - Certificates: a [`number`], a [`range`] of numbers, a [`lot`] of what they have in common, a [`place`] where each
 //!   is, a [`piece`] of consecutive ones with one lot and one place.
 //! - Days and deadlines: [`day`].
-//! - Codes and texts: [`gsrn`], [`holder_code`], [`key`], [`name`], [`tech_code`], [`source_code`], [`country`], [`support`].
+//! - Codes and texts: [`gsrn`], [`holder_code`], [`key`], [`name`], [`tech_code`], [`source_code`], [`country`], [`support`], [`carrier`].
 //! - Limited integers: [`registry_code`], [`serial`], [`account_no`], [`act_no`], [`watts`], [`wh`].
 //! - What limits them, and the words that are fixed: [`limits`].
 //! - Between registries: a [`notice`] of [`part`]s.
@@ -16,6 +16,7 @@
 
 pub mod account_no;
 pub mod act_no;
+pub mod carrier;
 pub mod command;
 mod command_equality;
 pub mod country;
@@ -52,6 +53,7 @@ pub mod wh;
 
 pub use account_no::AccountNo;
 pub use act_no::ActNo;
+pub use carrier::Carrier;
 pub use command::{
     AddPeer, Advance, Cancel, CloseAccount, Command, Correct, Declare, Export, Import, OpenAccount,
     OpenHolder, RegisterDevice, Transfer, Withdraw,

@@ -1,3 +1,4 @@
+use Rattle.goo_types.specs.Carrier.{carrier_reading}
 use Rattle.goo_types.specs.Codes.{country_reading, name_reading, source_reading, tech_reading}
 use Rattle.goo_types.specs.Day.{day_reading}
 use Rattle.goo_types.specs.Gsrn.{gsrn_reading}
@@ -32,3 +33,6 @@ returns-in_err-read-6 c = past_field gsrn_reading _ _ _ _ _ c.as_bytes.ensures.v
 
 pub returns-in_err-read-7 : goal.returns-in_err-read-7
 returns-in_err-read-7 c = past_field gsrn_reading _ _ _ _ _ c.as_bytes.ensures.value c.in_ok-read.ensures (past _ _ _ _ (taken (integer_in 1 999999999) _ _ c.ranges.account c.in_ok-account_no.ensures) (past_field country_reading _ _ _ _ _ c.as_bytes-2.ensures.value c.in_ok-read-2.ensures (past_field name_reading _ _ _ _ _ c.as_bytes-3.ensures.value c.in_ok-read-3.ensures (past_field tech_reading _ _ _ _ _ c.as_bytes-4.ensures.value c.in_ok-read-4.ensures (past_field source_reading _ _ _ _ _ c.as_bytes-5.ensures.value c.in_ok-read-5.ensures (past _ _ _ _ (taken (integer_in 1 100000000000) _ _ c.ranges.capacity_w c.in_ok-watts.ensures) (past_field day_reading _ _ _ _ _ c.as_bytes-6.ensures.value c.in_ok-read-6.ensures (ends_at_field support_reading _ _ _ _ _ c.from_residual-in_err-read-7.ensures.1 c.as_bytes-7.ensures.value c.in_err-read-7.ensures))))))))
+
+pub returns-in_err-read-8 : goal.returns-in_err-read-8
+returns-in_err-read-8 c = past_field gsrn_reading _ _ _ _ _ c.as_bytes.ensures.value c.in_ok-read.ensures (past _ _ _ _ (taken (integer_in 1 999999999) _ _ c.ranges.account c.in_ok-account_no.ensures) (past_field country_reading _ _ _ _ _ c.as_bytes-2.ensures.value c.in_ok-read-2.ensures (past_field name_reading _ _ _ _ _ c.as_bytes-3.ensures.value c.in_ok-read-3.ensures (past_field tech_reading _ _ _ _ _ c.as_bytes-4.ensures.value c.in_ok-read-4.ensures (past_field source_reading _ _ _ _ _ c.as_bytes-5.ensures.value c.in_ok-read-5.ensures (past _ _ _ _ (taken (integer_in 1 100000000000) _ _ c.ranges.capacity_w c.in_ok-watts.ensures) (past_field day_reading _ _ _ _ _ c.as_bytes-6.ensures.value c.in_ok-read-6.ensures (past_field support_reading _ _ _ _ _ c.as_bytes-7.ensures.value c.in_ok-read-7.ensures (ends_at_field carrier_reading _ _ _ _ _ c.from_residual-in_err-read-8.ensures.1 c.as_bytes-8.ensures.value c.in_err-read-8.ensures)))))))))

@@ -5,5 +5,5 @@ use Rattle.goo_notice_json.proofs.part_value.part_values.Given as goal
 
 abbrev pub invariant-loop-part : goal.invariant-loop-part
 invariant-loop-part l =
-    (map view l.values.items ≡ map part_data (take l.part-index l.parts))
+    (map view l.values.items ≡ map (part_data l.carried) (take l.part-index l.parts))
     × All IsStatedPart (take l.part-index l.parts)
