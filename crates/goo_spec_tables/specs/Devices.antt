@@ -7,7 +7,7 @@ use Rattle.goo_core_shelf.specs.declared.found.DeviceRecord.{DeviceRecord}
 use Rattle.goo_core_shelf.specs.declared.found.Progress.{Progress}
 use Rattle.goo_tables_rows.specs.Rows as row
 use Rattle.goo_tables_rows.specs.Rows.{Kept}
-use Rattle.goo_spec_tables.specs.Texts.{day_of, support_of}
+use Rattle.goo_spec_tables.specs.Texts.{day_of, support_of, carrier_of}
 
 abbrev pub device_of : row.Device → Device
 device_of d = record {
@@ -19,6 +19,7 @@ device_of d = record {
   capacity_w = d.plant.capacity_w;
   commissioned = day_of d.plant.commissioned;
   support = support_of d.plant.support;
+  carrier = carrier_of d.carrier;
 }
 
 -- a device under its number

@@ -1,6 +1,6 @@
 -- The rules that the tables of a registry keep.
 use Rattle.std.specs.Prelude.{◌≡◌, ◌≤◌, ℕ, ℤ, pos, true, List, [], ◌∷◌, filter, length, Some, option_map}
-use Rattle.std.specs.List.{list_all}
+use Rattle.std.specs.List.{list_all, list_any}
 use Rattle.sqlite_typed.specs.Tests.{bytes_eq}
 use Rattle.sqlite_keyed.specs.Keyed.{has_key, get_by}
 use Rattle.goo_types.specs.Day.{months_after}
@@ -17,7 +17,7 @@ use Rattle.goo_spec_tables.specs.Texts.{day_of}
 use Rattle.goo_spec_tables.specs.Places.{lot_of, rows_of}
 use Rattle.goo_spec_tables.specs.Devices.{progress_in, device_row}
 use Rattle.goo_spec_tables.specs.States.{state_of}
-use Rattle.goo_spec_tables.specs.Readable.{is_meta, is_holder, is_account, is_device, is_declaration, is_lot, is_piece, is_peer, is_receipt, is_cancellation, is_withdrawal, is_correction, is_notice_out, is_notice_in, has_none}
+use Rattle.goo_spec_tables.specs.Readable.{is_meta, is_holder, is_account, is_device, is_declaration, is_lot, is_piece, is_peer, is_receipt, is_cancellation, is_withdrawal, is_correction, is_notice_out, is_notice_in, is_device_carrier, is_lot_carrier}
 
 -- the tables are of this version, and each value of each row is one that its reader or its limit accepts
 pub record AreReadableIn (number : ℕ) (t : Tables) : Type 0 where
@@ -36,9 +36,9 @@ pub record AreReadableIn (number : ℕ) (t : Tables) : Type 0 where
   pub notices_out : list_all (is_notice_out t.meta.code) t.notices_out ≡ true
   pub notices_in : list_all is_notice_in t.notices_in ≡ true
   pub corrections : list_all is_correction t.corrections ≡ true
-  -- every certificate is of electricity
-  pub device_carriers : has_none t.device_carriers ≡ true
-  pub lot_carriers : has_none t.lot_carriers ≡ true
+  -- where no carrier is kept, the energy is electricity
+  pub device_carriers : list_all is_device_carrier t.device_carriers ≡ true
+  pub lot_carriers : list_all is_lot_carrier t.lot_carriers ≡ true
 
 abbrev pub AreReadable : Tables → Type 0
 AreReadable = AreReadableIn 2
@@ -52,6 +52,9 @@ pub record IsKeptLot (l : Lot) : Type 0 where
 -- agrees: the end of a device's last period and its carry are those of its declarations, a lot's expiry is that of its period.
 pub record AreKeptIn (number : ℕ) (t : Tables) : Type 0 where
   pub readable : AreReadableIn number t
+  -- the device and the lot of each carrier that is kept is there
+  pub carried_devices_there : list_all (λ c. list_any (λ d. bytes_eq d.1.gsrn c.1.gsrn) t.devices) t.device_carriers ≡ true
+  pub carried_lots_there : list_all (λ c. has_key lot_key t.lots (pos c.lot)) t.lot_carriers ≡ true
   -- each piece's lot is there, and the pieces are ranges that rise and have no number in common
   pub lots_there : list_all (λ p. has_key lot_key t.lots (pos p.lot)) t.pieces ≡ true
   pub rising : IsRising (rows_of t)

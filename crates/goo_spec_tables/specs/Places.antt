@@ -7,7 +7,7 @@ use Rattle.goo_types.specs.declared.place.Place.TheVariants.{Held, Cancelled, Ex
 use Rattle.goo_tables_rows.specs.Beside.{pieces_beside}
 use Rattle.goo_tables_rows.specs.Rows.{Tables, Lot}
 use Rattle.goo_tables_rows.specs.declared.piece.PieceRow.{PieceRow}
-use Rattle.goo_spec_tables.specs.Texts.{day_of, support_of}
+use Rattle.goo_spec_tables.specs.Texts.{day_of, support_of, carrier_of}
 
 -- 1 held, 2 cancelled, 3 expired, 4 withdrawn, 5 exported
 abbrev pub place_of : ℕ → ℕ → ℕ → Place
@@ -31,6 +31,7 @@ lot_of l = record {
   first_day = day_of l.first_day;
   last_day = day_of l.last_day;
   issued_on = day_of l.issued_on;
+  carrier = carrier_of l.carrier;
 }
 
 -- certificates of one lot in one place, under consecutive numbers

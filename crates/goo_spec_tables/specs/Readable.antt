@@ -1,14 +1,17 @@
 -- Whether each value of a row is one that its reader or its limit accepts.
 use Rattle.std.specs.Prelude.{ℕ, ◌==◌, ◌&&◌, ◌||◌, if◌then◌else◌, Bool, true, false, nat_le, List, [], ◌∷◌, Option, Some, None, Result, Ok, Err}
+use Rattle.goo_types.specs.Carrier.{carrier_reading}
 use Rattle.goo_types.specs.Codes.{holder_reading, name_reading, key_reading, country_reading, tech_reading, source_reading}
 use Rattle.goo_types.specs.Day.{day_reading}
+use Rattle.goo_types.specs.declared.carrier.Carrier.{Carrier}
+use Rattle.goo_types.specs.declared.carrier.Carrier.TheVariants as carrier
 use Rattle.goo_types.specs.Gsrn.{gsrn_reading}
 use Rattle.goo_types.specs.Notice.{NoticeContents}
 use Rattle.goo_types.specs.Number.{is_number, code_of}
 use Rattle.goo_types.specs.Support.{support_reading}
 use Rattle.goo_notice_text.specs.NoticeText.{notice_in}
 use Rattle.goo_notice_text.specs.declared.notice_fault.NoticeFault.{NoticeFault}
-use Rattle.goo_tables_rows.specs.Rows.{Kept, Plant, Meta, Holder, Account, Device, Declaration, Lot, Receipt, Cancellation, Withdrawal, Correction, NoticeOut, NoticeIn}
+use Rattle.goo_tables_rows.specs.Rows.{Kept, Plant, Meta, Holder, Account, Device, DeviceCarrier, Declaration, Lot, LotCarrier, Receipt, Cancellation, Withdrawal, Correction, NoticeOut, NoticeIn}
 use Rattle.goo_tables_rows.specs.declared.peer.PeerRow.{PeerRow}
 use Rattle.goo_tables_rows.specs.declared.piece.PieceRow.{PieceRow}
 
@@ -58,8 +61,22 @@ abbrev pub is_maybe_day : Option (List ℕ) → Bool
 is_maybe_day None = true
 is_maybe_day (Some text) = reads (day_reading text)
 
+-- another carrier than electricity
+abbrev pub is_other : {F : Type 0} → Result Carrier F → Bool
+is_other (Ok carrier.Electricity) = false
+is_other (Ok c) = true
+is_other (Err e) = false
+
+-- the word for another carrier than electricity, where there is one
+abbrev pub is_maybe_other : Option (List ℕ) → Bool
+is_maybe_other None = true
+is_maybe_other (Some word) = is_other (carrier_reading word)
+
 abbrev pub is_device : Kept Device → Bool
-is_device k = reads (gsrn_reading k.1.gsrn) && (is_act k.1.account && (is_plant k.1.plant && (is_maybe_day k.1.last_day && nat_le k.1.carry 999999)))
+is_device k = reads (gsrn_reading k.1.gsrn) && (is_act k.1.account && (is_plant k.1.plant && (is_maybe_day k.1.last_day && (nat_le k.1.carry 999999 && is_maybe_other k.1.carrier))))
+
+abbrev pub is_device_carrier : Kept DeviceCarrier → Bool
+is_device_carrier k = reads (gsrn_reading k.1.gsrn) && is_other (carrier_reading k.1.carrier)
 
 -- an amount of energy in a declaration
 abbrev pub is_wh : ℕ → Bool
@@ -69,7 +86,10 @@ abbrev pub is_declaration : Declaration → Bool
 is_declaration d = reads (gsrn_reading d.device) && (reads (day_reading d.first_day) && (reads (day_reading d.last_day) && (is_wh d.gross && is_wh d.aux)))
 
 abbrev pub is_lot : Lot → Bool
-is_lot l = is_code l.origin && (reads (gsrn_reading l.device) && (is_plant l.plant && (reads (day_reading l.first_day) && (reads (day_reading l.last_day) && reads (day_reading l.issued_on)))))
+is_lot l = is_code l.origin && (reads (gsrn_reading l.device) && (is_plant l.plant && (reads (day_reading l.first_day) && (reads (day_reading l.last_day) && (reads (day_reading l.issued_on) && is_maybe_other l.carrier)))))
+
+abbrev pub is_lot_carrier : LotCarrier → Bool
+is_lot_carrier c = is_other (carrier_reading c.carrier)
 
 -- held and expired certificates name no act, all others do
 abbrev pub names_act : ℕ → ℕ → Bool
@@ -118,8 +138,3 @@ is_notice_out own n = is_act n.number && (is_act n.account && is_notice_of own n
 
 abbrev pub is_notice_in : Kept NoticeIn → Bool
 is_notice_in k = is_notice_of k.1.sender k.1.number (notice_in k.1.body)
-
--- a table without rows
-abbrev pub has_none : {X : Type 0} → List X → Bool
-has_none [] = true
-has_none (x ∷ xs) = false

@@ -1,9 +1,12 @@
 -- What the texts of columns state.
-use Rattle.std.specs.Prelude.{ℕ, List, []}
+use Rattle.std.specs.Prelude.{ℕ, List, [], Option, Some, None}
 use Rattle.std.specs.Result.{result_unwrap_or}
+use Rattle.goo_types.specs.Carrier.{carrier_reading}
 use Rattle.goo_types.specs.Day.{CalendarDay, day_reading}
 use Rattle.goo_types.specs.Notice.{NoticeContents}
 use Rattle.goo_types.specs.Support.{support_reading}
+use Rattle.goo_types.specs.declared.carrier.Carrier.{Carrier}
+use Rattle.goo_types.specs.declared.carrier.Carrier.TheVariants as carrier
 use Rattle.goo_types.specs.declared.support.Support.{Support}
 use Rattle.goo_types.specs.declared.support.Support.TheVariants as support
 use Rattle.goo_notice_text.specs.NoticeText.{notice_in}
@@ -17,6 +20,11 @@ day_of text = result_unwrap_or (day_reading text) no_day
 
 abbrev pub support_of : List ℕ → Support
 support_of text = result_unwrap_or (support_reading text) support.None
+
+-- what makes a carrier known: a word for another than electricity, or none
+abbrev pub carrier_of : Option (List ℕ) → Carrier
+carrier_of None = carrier.Electricity
+carrier_of (Some word) = result_unwrap_or (carrier_reading word) carrier.Electricity
 
 -- no notice of any registry
 abbrev pub no_notice : NoticeContents

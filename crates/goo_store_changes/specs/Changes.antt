@@ -1,4 +1,4 @@
--- Changes of the tables, one statement each.
+-- Changes of the tables, one statement each; a device or a lot of another carrier than electricity takes two.
 use Rattle.std.specs.Prelude.{◌≡◌, ◌<◌, ◌^◌, ◌&&◌, ℕ, pos, List, All, None, find, fold, take, get_or, length, string_bytes, ⊤}
 use Rattle.std.specs.List.{filter}
 use Rattle.std.specs.Ordering.{int_eq}
@@ -7,7 +7,7 @@ use Rattle.sqlite_keyed.specs.Keyed.{get_by}
 use Rattle.goo_tables_rows.specs.Once.{IsOnce}
 use Rattle.goo_tables_rows.specs.Refused.{IsSmall, CanBeKept, HasRoomFor}
 use Rattle.goo_tables_rows.specs.Rows.{Tables, meta_row, holder_in, holder_row, account_in, account_row, device_in, device_row, declaration_in, declaration_row, lot_in, lot_row, piece_row, peer_row, receipt_in, receipt_row, cancellation_in, cancellation_row, withdrawal_in, withdrawal_row, notice_out_in, notice_out_row, notice_in_in, notice_in_row, correction_in, correction_row, account_key, declaration_key, lot_key, piece_key, cancellation_key, withdrawal_key, notice_out_key, correction_key}
-use Rattle.goo_tables_holdings.specs.Changes.{with_holder, with_account, with_closed, with_device, with_progress, progressed, with_declaration, with_lot, with_piece, without_piece, with_peer, with_receipt, with_cancellation, with_withdrawal, with_notice_out, with_notice_in, with_correction, at_day, with_counters, DeviceFits, DeclarationFits, LotFits, PieceFits, ReceiptFits, CancellationFits, WithdrawalFits, CorrectionFits, CountersFit}
+use Rattle.goo_tables_holdings.specs.Changes.{with_holder, with_account, with_closed, with_device, IsNewDevice, HasRoomForDevice, with_progress, progressed, with_declaration, with_lot, IsNewLot, IsSmallLot, with_piece, without_piece, with_peer, with_receipt, with_cancellation, with_withdrawal, with_notice_out, with_notice_in, with_correction, at_day, with_counters, DeviceFits, DeclarationFits, LotFits, PieceFits, ReceiptFits, CancellationFits, WithdrawalFits, CorrectionFits, CountersFit}
 use Rattle.goo_store_changes.specs.declared.change.TableChange.{TableChange}
 use Rattle.goo_store_changes.specs.declared.change.TableChange.TheVariants.{AddHolder, AddAccount, CloseAccount, AddDevice, AddDeclaration, SetProgress, AddLot, DeletePiece, InsertPiece, AddPeer, AddReceipt, AddCancellation, AddWithdrawal, AddNoticeOut, AddNoticeIn, AddCorrection, SetToday, SetCounters}
 
@@ -50,9 +50,11 @@ ChangeFits (AddCorrection row) = CorrectionFits row
 ChangeFits (SetCounters counters) = CountersFit counters
 ChangeFits _ = Unit {0}
 
--- a device's progress is set in one row at most
+-- A device's progress is set in one row at most. A device or a lot that is added is new, and so is the row of its carrier.
 abbrev pub IsFor : Tables → TableChange → Type 0
 IsFor t (SetProgress device last_day carry) = IsOnce (filter (λ k. bytes_eq k.1.gsrn (string_bytes device)) t.devices)
+IsFor t (AddDevice row) = IsNewDevice t (device_in row).gsrn
+IsFor t (AddLot row) = IsNewLot t row.id
 IsFor t _ = Unit {0}
 
 -- each change is one for the tables that those before it leave
@@ -64,13 +66,13 @@ abbrev pub IsFree : Tables → TableChange → Type 0
 IsFree t (AddHolder row) = find (λ k. bytes_eq k.1.code (holder_in row).code) t.holders ≡ None
 IsFree t (AddAccount row) = get_by account_key t.accounts (pos row.number) ≡ None
 IsFree t (CloseAccount number) = ⊤
-IsFree t (AddDevice row) = find (λ k. bytes_eq k.1.gsrn (device_in row).gsrn) t.devices ≡ None
+IsFree t (AddDevice row) = IsNewDevice t (device_in row).gsrn
 IsFree t (AddDeclaration row) =
     (get_by declaration_key t.declarations (pos row.id) ≡ None)
     × (find (λ x. bytes_eq x.device (declaration_in row).device && bytes_eq x.first_day (declaration_in row).first_day) t.declarations ≡ None)
 IsFree t (SetProgress device last_day carry) = IsOnce (filter (λ k. bytes_eq k.1.gsrn (string_bytes device)) t.devices)
 IsFree t (AddLot row) =
-    (get_by lot_key t.lots (pos row.id) ≡ None)
+    IsNewLot t row.id
     × (find (λ x. int_eq (pos x.origin) (pos row.origin) && (bytes_eq x.device (lot_in row).device && bytes_eq x.first_day (lot_in row).first_day)) t.lots ≡ None)
 IsFree t (DeletePiece first) = ⊤
 IsFree t (InsertPiece row) = get_by piece_key t.pieces (pos row.first) ≡ None
@@ -93,11 +95,11 @@ abbrev pub HasRoom : Tables → TableChange → Type 0
 HasRoom t (AddHolder row) = HasRoomFor holder_row t.holders (holder_in row)
 HasRoom t (AddAccount row) = IsSmall (account_row (account_in row))
 HasRoom t (CloseAccount number) = All (λ a. IsSmall (account_row (record a { closed = 1 }))) (filter (λ a. int_eq (account_key a) (pos number)) t.accounts)
-HasRoom t (AddDevice row) = HasRoomFor device_row t.devices (device_in row)
+HasRoom t (AddDevice row) = HasRoomForDevice t (device_in row)
 HasRoom t (AddDeclaration row) = IsSmall (declaration_row (declaration_in row))
 HasRoom t (SetProgress device last_day carry) =
     All (λ k. CanBeKept (device_row (progressed (string_bytes last_day) carry k))) (filter (λ k. bytes_eq k.1.gsrn (string_bytes device)) t.devices)
-HasRoom t (AddLot row) = IsSmall (lot_row (lot_in row))
+HasRoom t (AddLot row) = IsSmallLot (lot_in row)
 HasRoom t (DeletePiece first) = ⊤
 HasRoom t (InsertPiece row) = IsSmall (piece_row row)
 HasRoom t (AddPeer row) = HasRoomFor peer_row t.peers row

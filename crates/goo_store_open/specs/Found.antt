@@ -7,7 +7,7 @@ use Rattle.sqlite.specs.declared.error.Error.{Error}
 use Rattle.sqlite.specs.declared.error.Error.TheVariants.{SqliteFailure, SqlInputError, InvalidColumnIndex, InvalidColumnType, IntegralValueOutOfRange, Utf8Error}
 use Rattle.sqlite.specs.declared.error.ErrorCode.TheVariants.{OutOfMemory}
 use Rattle.sqlite.specs.Effect.{Database}
-use Rattle.goo_tables_rows.specs.Rows.{Tables, Kept, Numbered, meta_row, meta_in, holder_in, account_in, device_in, declaration_in, lot_in, receipt_in, cancellation_in, withdrawal_in, notice_out_in, notice_in_in, correction_in, device_carrier_in, lot_carrier_in}
+use Rattle.goo_tables_rows.specs.Rows.{Tables, Kept, Numbered, meta_row, meta_in, holder_in, account_in, device_in, declaration_in, lot_in, receipt_in, cancellation_in, withdrawal_in, notice_out_in, notice_in_in, correction_in, device_carrier_in, lot_carrier_in, bare_device, bare_lot}
 use Rattle.goo_tables_rows.specs.Stands.{Stands, Rests}
 use Rattle.goo_tables_rows.specs.declared.meta.MetaRow.{MetaRow}
 use Rattle.goo_store_open.specs.Layout.{number_of, seen_by}
@@ -21,15 +21,15 @@ use Rattle.goo_store_open.specs.declared.layout.Layout.{Layout}
 abbrev pub values : {X : Type 0} → List (Kept X) → List X
 values = map (λ k. k.1)
 
--- what was read is what these tables hold
+-- what was read is what these tables hold, devices and lots without their carriers, which are read from tables of their own
 pub record AreOf (t : Tables) (x : Found) : Type 0 where
   pub meta : meta_in x.meta ≡ t.meta
   pub holders : map holder_in x.rows.members.holders.items ≡ values t.holders
   pub accounts : map account_in x.rows.members.accounts.items ≡ t.accounts
   pub peers : x.rows.members.peers.items ≡ values t.peers
-  pub devices : map device_in x.rows.production.devices.items ≡ values t.devices
+  pub devices : map device_in x.rows.production.devices.items ≡ map bare_device (values t.devices)
   pub declarations : map declaration_in x.rows.production.declarations.items ≡ t.declarations
-  pub lots : map lot_in x.rows.production.lots.items ≡ t.lots
+  pub lots : map lot_in x.rows.production.lots.items ≡ map bare_lot t.lots
   pub pieces : x.rows.production.pieces.items ≡ t.pieces
   pub receipts : map receipt_in x.rows.acts.receipts.items ≡ values t.receipts
   pub cancellations : map cancellation_in x.rows.acts.cancellations.items ≡ t.cancellations

@@ -1,10 +1,11 @@
 -- What each statement makes of the tables, and which numbers it can keep.
-use Rattle.std.specs.Prelude.{[], pos, Some, ℕ, List, ◌<◌, ◌^◌}
+use Rattle.std.specs.Prelude.{◌≡◌, [], pos, Option, Some, None, ℕ, List, find, ◌<◌, ◌^◌}
 use Rattle.std.specs.Ordering.{int_eq}
 use Rattle.sqlite_typed.specs.Tests.{bytes_eq}
 use Rattle.sqlite_keyed.specs.Lists.{update_where, delete_where}
-use Rattle.sqlite_keyed.specs.Keyed.{insert_by, next_key}
-use Rattle.goo_tables_rows.specs.Rows.{Tables, Kept, kept_key, Meta, Holder, Account, Device, Declaration, Lot, Receipt, Cancellation, Withdrawal, NoticeOut, NoticeIn, Correction, account_key, declaration_key, lot_key, piece_key, cancellation_key, withdrawal_key, notice_out_key, correction_key}
+use Rattle.sqlite_keyed.specs.Keyed.{get_by, insert_by, next_key}
+use Rattle.goo_tables_rows.specs.Refused.{IsSmall, HasRoomFor}
+use Rattle.goo_tables_rows.specs.Rows.{Tables, Kept, kept_key, Meta, Holder, Account, Device, Declaration, Lot, Receipt, Cancellation, Withdrawal, NoticeOut, NoticeIn, Correction, DeviceCarrier, LotCarrier, lot_carrier_key, device_row, device_carrier_row, lot_row, lot_carrier_row, account_key, declaration_key, lot_key, piece_key, cancellation_key, withdrawal_key, notice_out_key, correction_key}
 use Rattle.goo_tables_rows.specs.declared.meta.MetaRow.{MetaRow}
 use Rattle.goo_tables_rows.specs.declared.device.DeviceRow.{DeviceRow}
 use Rattle.goo_tables_rows.specs.declared.declaration.DeclarationRow.{DeclarationRow}
@@ -27,14 +28,50 @@ with_holder t x = record t { holders = added t.holders x }
 abbrev pub with_account : Tables → Account → Tables
 with_account t x = record t { accounts = insert_by account_key t.accounts x }
 
+-- the word for a device's carrier, if there is one, under the next rowid
+abbrev pub with_device_word : List (Kept DeviceCarrier) → List ℕ → Option (List ℕ) → List (Kept DeviceCarrier)
+with_device_word carriers gsrn None = carriers
+with_device_word carriers gsrn (Some word) = added carriers (record { gsrn = gsrn; carrier = word })
+
+-- a device, with the word for its carrier
 abbrev pub with_device : Tables → Device → Tables
-with_device t x = record t { devices = added t.devices x }
+with_device t x = record t { devices = added t.devices x; device_carriers = with_device_word t.device_carriers x.gsrn x.carrier }
 
 abbrev pub with_declaration : Tables → Declaration → Tables
 with_declaration t x = record t { declarations = insert_by declaration_key t.declarations x }
 
+-- the word for a lot's carrier, if there is one, under the lot's number
+abbrev pub with_lot_word : List LotCarrier → ℕ → Option (List ℕ) → List LotCarrier
+with_lot_word carriers id None = carriers
+with_lot_word carriers id (Some word) = insert_by lot_carrier_key carriers (record { lot = id; carrier = word })
+
+-- a lot, with the word for its carrier
 abbrev pub with_lot : Tables → Lot → Tables
-with_lot t x = record t { lots = insert_by lot_key t.lots x }
+with_lot t x = record t { lots = insert_by lot_key t.lots x; lot_carriers = with_lot_word t.lot_carriers x.id x.carrier }
+
+-- neither a device nor a carrier has this number
+abbrev pub IsNewDevice : Tables → List ℕ → Type 0
+IsNewDevice t gsrn = (find (λ k. bytes_eq k.1.gsrn gsrn) t.devices ≡ None) × (find (λ k. bytes_eq k.1.gsrn gsrn) t.device_carriers ≡ None)
+
+-- a device's row and that of its carrier can be stored, under rowids that their tables have left
+abbrev pub HasRoomForWord : List (Kept DeviceCarrier) → List ℕ → Option (List ℕ) → Type 0
+HasRoomForWord carriers gsrn None = Unit {0}
+HasRoomForWord carriers gsrn (Some word) = HasRoomFor device_carrier_row carriers (record { gsrn = gsrn; carrier = word })
+
+abbrev pub HasRoomForDevice : Tables → Device → Type 0
+HasRoomForDevice t x = HasRoomFor device_row t.devices x × HasRoomForWord t.device_carriers x.gsrn x.carrier
+
+-- a lot's row and that of its carrier can be stored
+abbrev pub IsSmallWord : ℕ → Option (List ℕ) → Type 0
+IsSmallWord id None = Unit {0}
+IsSmallWord id (Some word) = IsSmall (lot_carrier_row (record { lot = id; carrier = word }))
+
+abbrev pub IsSmallLot : Lot → Type 0
+IsSmallLot x = IsSmall (lot_row x) × IsSmallWord x.id x.carrier
+
+-- neither a lot nor a carrier has this number
+abbrev pub IsNewLot : Tables → ℕ → Type 0
+IsNewLot t id = (get_by lot_key t.lots (pos id) ≡ None) × (get_by lot_carrier_key t.lot_carriers (pos id) ≡ None)
 
 abbrev pub with_piece : Tables → PieceRow → Tables
 with_piece t x = record t { pieces = insert_by piece_key t.pieces x }

@@ -37,6 +37,8 @@ holds_from d t it = record {
   corrections = it.corrections;
   device_carriers = it.device_carriers;
   lot_carriers = it.lot_carriers;
+  devices_carried = it.devices_carried;
+  lots_carried = it.lots_carried;
 }
 
 -- a change in a transaction and its commit: a crash finds what it could find before, or the tables after the change

@@ -57,13 +57,13 @@ pub account_same : (y : Account) (x : AccountRow) → account_reads (account_col
 account_same y x reads = λ i. record { number = number_same reads.0 i; holder = text_same reads.1 i; closed = number_same reads.2 i }
 
 pub device_same : (y : Device) (x : DeviceRow) → device_reads (device_columns y) x → device_in x ≡ y
-device_same y x reads = λ i. record { gsrn = text_same reads.0 i; account = number_same reads.1 i; plant = plant_same y.plant x.plant reads.2 i; last_day = maybe_same y.last_day (option_map string_bytes x.last_day) reads.3 i; carry = number_same reads.4 i }
+device_same y x reads = λ i. record { gsrn = text_same reads.0 i; account = number_same reads.1 i; plant = plant_same y.plant x.plant reads.2 i; last_day = maybe_same y.last_day (option_map string_bytes x.last_day) reads.3 i; carry = number_same reads.4 i; carrier = maybe_same y.carrier (option_map string_bytes x.carrier) reads.5 i }
 
 pub declaration_same : (y : Declaration) (x : DeclarationRow) → declaration_reads (declaration_columns y) x → declaration_in x ≡ y
 declaration_same y x reads = λ i. record { id = number_same reads.0 i; device = text_same reads.1 i; first_day = text_same reads.2 i; last_day = text_same reads.3 i; gross = number_same reads.4 i; aux = number_same reads.5 i }
 
 pub lot_same : (y : Lot) (x : LotRow) → lot_reads 0 (lot_columns y) x → lot_in x ≡ y
-lot_same y x reads = λ i. record { id = number_same reads.0 i; origin = number_same reads.1 i; device = text_same reads.2 i; plant = plant_same y.plant x.plant reads.3 i; first_day = text_same reads.4 i; last_day = text_same reads.5 i; expires_on = maybe_same y.expires_on (option_map string_bytes x.expires_on) reads.6 i; issued_on = text_same reads.7 i }
+lot_same y x reads = λ i. record { id = number_same reads.0 i; origin = number_same reads.1 i; device = text_same reads.2 i; plant = plant_same y.plant x.plant reads.3 i; first_day = text_same reads.4 i; last_day = text_same reads.5 i; expires_on = maybe_same y.expires_on (option_map string_bytes x.expires_on) reads.6 i; issued_on = text_same reads.7 i; carrier = maybe_same y.carrier (option_map string_bytes x.carrier) reads.8 i }
 
 pub piece_same : (y : PieceRow) (x : PieceRow) → piece_reads (piece_columns y) x → x ≡ y
 piece_same y x reads = λ i. record { first = number_same reads.0 i; last = number_same reads.1 i; lot = number_same reads.2 i; kind = number_same reads.3 i; account = number_same reads.4 i; act = number_same reads.5 i }

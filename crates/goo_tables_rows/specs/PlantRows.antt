@@ -1,5 +1,5 @@
 -- The rows of devices, declarations, lots and pieces, as plain records.
-use Rattle.std.specs.Prelude.{ℕ, ◌+◌, ℤ, pos, List, [], ◌∷◌, ◌++◌, string_bytes, Option, option_map}
+use Rattle.std.specs.Prelude.{ℕ, ◌+◌, ℤ, pos, List, [], ◌∷◌, ◌++◌, string_bytes, Option, None, option_map}
 use Rattle.sqlite.specs.declared.types.Value.TheVariants.{Null, Int, Text}
 use Rattle.sqlite.specs.Order.{Row, column}
 use Rattle.sqlite_typed.specs.Columns.{or_null, unless_null, bytes_of, int_of}
@@ -47,19 +47,25 @@ pub record Device : Type 0 where
   pub plant : Plant
   pub last_day : Option (List ℕ)
   pub carry : ℕ
+  -- the word for its carrier, where `device_carrier` has one
+  pub carrier : Option (List ℕ)
+
+-- what the table keeps of it
+abbrev pub device_values : Device → Row
+device_values d = Text d.gsrn ∷ Int (pos d.account) ∷ (plant_columns d.plant ++ (or_null Text d.last_day ∷ Int (pos d.carry) ∷ []))
 
 -- as a query shows it
 abbrev pub device_columns : Device → Row
-device_columns d = Text d.gsrn ∷ Int (pos d.account) ∷ (plant_columns d.plant ++ (or_null Text d.last_day ∷ Int (pos d.carry) ∷ []))
+device_columns d = Text d.gsrn ∷ Int (pos d.account) ∷ (plant_columns d.plant ++ (or_null Text d.last_day ∷ Int (pos d.carry) ∷ or_null Text d.carrier ∷ []))
 
 -- as the table keeps it, under its rowid
 abbrev pub device_row : Kept Device → Row
-device_row k = Int k.0 ∷ device_columns k.1
+device_row k = Int k.0 ∷ device_values k.1
 
 abbrev pub device_in : DeviceRow → Device
-device_in d = record { gsrn = string_bytes d.gsrn; account = d.account; plant = plant_in d.plant; last_day = option_map string_bytes d.last_day; carry = d.carry }
+device_in d = record { gsrn = string_bytes d.gsrn; account = d.account; plant = plant_in d.plant; last_day = option_map string_bytes d.last_day; carry = d.carry; carrier = option_map string_bytes d.carrier }
 
--- as it is read from a stored row, whatever that holds
+-- as it is read from a stored row, whatever that holds; its carrier isn't there
 abbrev pub device_at : Row → Kept Device
 device_at r = (
   int_of (column r 0),
@@ -69,6 +75,7 @@ device_at r = (
     plant = plant_at r 3;
     last_day = unless_null bytes_of (column r 10);
     carry = number_in (column r 11);
+    carrier = None;
   },
 )
 
@@ -120,6 +127,8 @@ pub record Lot : Type 0 where
   pub last_day : List ℕ
   pub expires_on : Option (List ℕ)
   pub issued_on : List ℕ
+  -- the word for its carrier, where `lot_carrier` has one
+  pub carrier : Option (List ℕ)
 
 abbrev pub lot_key : Lot → ℤ
 lot_key l = pos l.id
@@ -129,15 +138,20 @@ abbrev pub lot_row : Lot → Row
 lot_row l =
     Int (pos l.id) ∷ Null ∷ Int (pos l.origin) ∷ Text l.device ∷ (plant_columns l.plant ++ (Text l.first_day ∷ Text l.last_day ∷ or_null Text l.expires_on ∷ Text l.issued_on ∷ []))
 
+-- what the table is given of it
+abbrev pub lot_values : Lot → Row
+lot_values l =
+    Int (pos l.id) ∷ Int (pos l.origin) ∷ Text l.device ∷ (plant_columns l.plant ++ (Text l.first_day ∷ Text l.last_day ∷ or_null Text l.expires_on ∷ Text l.issued_on ∷ []))
+
 -- as a query shows it
 abbrev pub lot_columns : Lot → Row
 lot_columns l =
-    Int (pos l.id) ∷ Int (pos l.origin) ∷ Text l.device ∷ (plant_columns l.plant ++ (Text l.first_day ∷ Text l.last_day ∷ or_null Text l.expires_on ∷ Text l.issued_on ∷ []))
+    Int (pos l.id) ∷ Int (pos l.origin) ∷ Text l.device ∷ (plant_columns l.plant ++ (Text l.first_day ∷ Text l.last_day ∷ or_null Text l.expires_on ∷ Text l.issued_on ∷ or_null Text l.carrier ∷ []))
 
 abbrev pub lot_in : LotRow → Lot
-lot_in l = record { id = l.id; origin = l.origin; device = string_bytes l.device; plant = plant_in l.plant; first_day = string_bytes l.first_day; last_day = string_bytes l.last_day; expires_on = option_map string_bytes l.expires_on; issued_on = string_bytes l.issued_on }
+lot_in l = record { id = l.id; origin = l.origin; device = string_bytes l.device; plant = plant_in l.plant; first_day = string_bytes l.first_day; last_day = string_bytes l.last_day; expires_on = option_map string_bytes l.expires_on; issued_on = string_bytes l.issued_on; carrier = option_map string_bytes l.carrier }
 
--- as it is read from a stored row, whatever that holds
+-- as it is read from a stored row, whatever that holds; its carrier isn't there
 abbrev pub lot_at : Row → Lot
 lot_at r = record {
   id = number_in (column r 0);
@@ -148,6 +162,7 @@ lot_at r = record {
   last_day = bytes_of (column r 12);
   expires_on = unless_null bytes_of (column r 13);
   issued_on = bytes_of (column r 14);
+  carrier = None;
 }
 
 -- ---- piece

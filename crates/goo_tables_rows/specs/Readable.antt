@@ -66,12 +66,13 @@ account_readable r =
 
 abbrev pub device_readable : Row → Type 0
 device_readable r =
-    (11 ≤ length r)
+    (12 ≤ length r)
     × IsText (column r 0)
     × IsSmall (column r 1)
     × plant_readable 2 r
     × IsMaybeText (column r 9)
     × IsNumber (column r 10)
+    × IsMaybeText (column r 11)
 
 abbrev pub declaration_readable : Row → Type 0
 declaration_readable r =
@@ -85,7 +86,7 @@ declaration_readable r =
 
 abbrev pub lot_readable : ℕ → Row → Type 0
 lot_readable i r =
-    (i + 14 ≤ length r)
+    (i + 15 ≤ length r)
     × IsNumber (column r (i + 0))
     × IsSmall (column r (i + 1))
     × IsText (column r (i + 2))
@@ -94,6 +95,7 @@ lot_readable i r =
     × IsText (column r (i + 11))
     × IsMaybeText (column r (i + 12))
     × IsText (column r (i + 13))
+    × IsMaybeText (column r (i + 14))
 
 abbrev pub piece_readable : Row → Type 0
 piece_readable r =

@@ -64,6 +64,7 @@ device_reads r x = (column r 0 ≡ Text (string_bytes x.gsrn))
     × plant_reads 2 r x.plant
     × (column r 9 ≡ or_null Text (option_map string_bytes x.last_day))
     × (column r 10 ≡ Int (pos x.carry))
+    × (column r 11 ≡ or_null Text (option_map string_bytes x.carrier))
 
 abbrev pub declaration_reads : Row → DeclarationRow → Type 0
 declaration_reads r x = (column r 0 ≡ Int (pos x.id))
@@ -84,6 +85,7 @@ lot_reads i r x =
     × (column r (i + 11) ≡ Text (string_bytes x.last_day))
     × (column r (i + 12) ≡ or_null Text (option_map string_bytes x.expires_on))
     × (column r (i + 13) ≡ Text (string_bytes x.issued_on))
+    × (column r (i + 14) ≡ or_null Text (option_map string_bytes x.carrier))
 
 abbrev pub piece_reads : Row → PieceRow → Type 0
 piece_reads r x = (column r 0 ≡ Int (pos x.first))

@@ -8,7 +8,7 @@ use Rattle.sqlite.specs.Effect.{Database}
 use Rattle.sqlite_trees.specs.View.{doubt}
 use Rattle.sqlite_keyed.specs.Keyed.{IsKeyedBy}
 use Rattle.goo_tables_rows.specs.Columns.{registry_schema}
-use Rattle.goo_tables_rows.specs.Rows.{Tables, kept_key, meta_row, holder_row, account_row, account_key, device_row, declaration_row, declaration_key, lot_row, lot_key, piece_row, piece_key, peer_row, receipt_row, cancellation_row, cancellation_key, withdrawal_row, withdrawal_key, notice_out_row, notice_out_key, notice_in_row, correction_row, correction_key, device_carrier_row, lot_carrier_row, lot_carrier_key}
+use Rattle.goo_tables_rows.specs.Rows.{Tables, kept_key, meta_row, holder_row, account_row, account_key, device_row, declaration_row, declaration_key, lot_row, lot_key, piece_row, piece_key, peer_row, receipt_row, cancellation_row, cancellation_key, withdrawal_row, withdrawal_key, notice_out_row, notice_out_key, notice_in_row, correction_row, correction_key, device_carrier_row, lot_carrier_row, lot_carrier_key, AreCarriedDevices, AreCarriedLots}
 
 -- the rows of a table are these, in the order of the key
 pub record Keeps {X : Type 0} (rows : List Row) (to_row : X → Row) (key : X → ℤ) (xs : List X) : Type 0 where
@@ -34,6 +34,9 @@ pub record Stands (db : Database) (t : Tables) : Type 0 where
   pub corrections : Keeps (db.trees 22) correction_row correction_key t.corrections
   pub device_carriers : Keeps (db.trees 23) device_carrier_row kept_key t.device_carriers
   pub lot_carriers : Keeps (db.trees 25) lot_carrier_row lot_carrier_key t.lot_carriers
+  -- devices and lots have the carriers that the last two tables keep
+  pub devices_carried : AreCarriedDevices t.device_carriers t.devices
+  pub lots_carried : AreCarriedLots t.lot_carriers t.lots
 
 -- trees that hold the tables
 abbrev pub Holds : Tables → Trees → Type 0

@@ -18,6 +18,8 @@ pub struct DeviceRow {
     pub last_day: Option<String>,
     /// The energy declared that no certificate stands for yet, in Wh.
     pub carry: u64,
+    /// The word for its carrier, where that is another than electricity and was asked for: it stands in `device_carrier`.
+    pub carrier: Option<String>,
 }
 
 impl FromRow for DeviceRow {
@@ -35,6 +37,7 @@ impl FromRow for DeviceRow {
             plant: plant_at(row, 2)?,
             last_day: row.get(9)?,
             carry: row.get(10)?,
+            carrier: row.get(11)?,
         })
     }
 }

@@ -27,6 +27,8 @@ pub struct LotRow {
     pub expires_on: Option<String>,
     /// The day of the issue.
     pub issued_on: String,
+    /// The word for its carrier, where that is another than electricity and was asked for: it stands in `lot_carrier`.
+    pub carrier: Option<String>,
 }
 
 /// The lot that the columns of a row from a place on state.
@@ -50,6 +52,7 @@ pub fn lot_at(row: &Row, from: usize) -> Result<LotRow, Error>
         last_day: row.get(from + 11)?,
         expires_on: row.get(from + 12)?,
         issued_on: row.get(from + 13)?,
+        carrier: row.get(from + 14)?,
     })
 }
 

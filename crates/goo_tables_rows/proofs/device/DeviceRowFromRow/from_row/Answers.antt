@@ -13,3 +13,6 @@ returns-in_err-get-3-clause-refused c = unread _ _ _ _ (λ h. (omega (arith, h.0
 
 pub returns-in_err-get-4-clause-refused : goal.returns-in_err-get-4-clause-refused
 returns-in_err-get-4-clause-refused c = unread _ _ _ _ (λ h. (omega (arith, h.0), h.5)) _ _ _ c.from_residual-in_err-get-4.ensures.1 c.in_err-get-4.ensures.named c.in_err-get-4.ensures.kind
+
+pub returns-in_err-get-5-clause-refused : goal.returns-in_err-get-5-clause-refused
+returns-in_err-get-5-clause-refused c = unread _ _ _ _ (λ h. (omega (arith, h.0), h.6)) _ _ _ c.from_residual-in_err-get-5.ensures.1 c.in_err-get-5.ensures.named c.in_err-get-5.ensures.kind
