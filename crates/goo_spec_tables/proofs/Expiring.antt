@@ -19,7 +19,7 @@ use Rattle.goo_tables_rows.specs.Beside.{beside, pieces_beside}
 use Rattle.goo_tables_rows.specs.declared.piece.PieceRow.{PieceRow}
 use Rattle.goo_spec_tables.specs.Kept.{AreKept, IsKeptLot}
 use Rattle.goo_spec_tables.specs.Places.{place_of, lot_of, piece_of}
-use Rattle.goo_spec_tables.specs.Readable.{reads, is_code, is_plant, is_lot}
+use Rattle.goo_spec_tables.specs.Readable.{reads, is_code, is_plant, is_lot, is_maybe_other}
 use Rattle.goo_types.specs.Gsrn.{gsrn_reading}
 use Rattle.goo_spec_tables.specs.Texts.{day_of, no_day}
 use Rattle.std.specs.Result.{result_unwrap_or}
@@ -91,7 +91,7 @@ fifth a b c d e f all = first_of_both e f (second_of_both d (e && f) (second_of_
 pub last_day_read : (l : Lot) → is_lot l ≡ true → IsDay (day_of l.last_day)
 last_day_read l good =
     stated_day l.last_day (day_reading l.last_day) refl
-    (fifth (is_code l.origin) (reads (gsrn_reading l.device)) (is_plant l.plant) (reads (day_reading l.first_day)) (reads (day_reading l.last_day)) (reads (day_reading l.issued_on)) good)
+    (fifth (is_code l.origin) (reads (gsrn_reading l.device)) (is_plant l.plant) (reads (day_reading l.first_day)) (reads (day_reading l.last_day)) (reads (day_reading l.issued_on) && is_maybe_other l.carrier) good)
 
 -- the row that the statement finds is the first held one above a number whose lot is over
 pub expiring_found : (t : Tables) → AreKept t → (day : CalendarDay) → IsDay day → (after : ℕ) (found : Option (PieceRow × Lot)) (row : Option Piece)

@@ -67,6 +67,8 @@ module _ (t : Tables) (kept : AreKeptIn 1 t) where
       device_carriers = kept.readable.device_carriers;
       lot_carriers = kept.readable.lot_carriers;
     };
+    carried_devices_there = kept.carried_devices_there;
+    carried_lots_there = kept.carried_lots_there;
     lots_there = all.have;
     rising = rising_after;
     apart = λ _. apart_after own;

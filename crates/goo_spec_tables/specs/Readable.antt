@@ -1,5 +1,5 @@
 -- Whether each value of a row is one that its reader or its limit accepts.
-use Rattle.std.specs.Prelude.{ℕ, ◌==◌, ◌&&◌, ◌||◌, if◌then◌else◌, Bool, true, false, nat_le, List, [], ◌∷◌, Option, Some, None, Result, Ok, Err}
+use Rattle.std.specs.Prelude.{ℕ, ◌==◌, ◌&&◌, ◌||◌, if◌then◌else◌, Bool, true, false, nat_le, List, Option, Some, None, Result, Ok, Err}
 use Rattle.goo_types.specs.Carrier.{carrier_reading}
 use Rattle.goo_types.specs.Codes.{holder_reading, name_reading, key_reading, country_reading, tech_reading, source_reading}
 use Rattle.goo_types.specs.Day.{day_reading}
