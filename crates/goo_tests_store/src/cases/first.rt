@@ -4,6 +4,79 @@ use crate::worked::Case;
 
 pub const FIRST: [Case; 4] = [
     Case {
+        name: "a_carrier_written_or_left_out",
+        serial: 1,
+        begun: 4,
+        asked: &[
+            (
+                "ISSUER",
+                r#"{"command":"register_device","account":1,"capacity_w":2000000,"commissioned":"2020-06-15","country":"DE","device":"500000000000000012","site":"North field","source":"F01010100","support":"none","tech":"T010000","key":"k892"}"#,
+                r#"{"outcome":"accepted","reply":{}}"#,
+            ),
+            (
+                "ISSUER",
+                r#"{"command":"register_device","account":1,"capacity_w":2000000,"commissioned":"2020-06-15","country":"DE","device":"500000000000000012","site":"North field","source":"F01010100","support":"none","tech":"T010000","carrier":"electricity","key":"k892"}"#,
+                r#"{"outcome":"repeated","reply":{}}"#,
+            ),
+            (
+                "ISSUER",
+                r#"{"command":"register_device","account":1,"capacity_w":2000000,"commissioned":"2020-06-15","country":"DE","device":"500000000000000012","site":"North field","source":"F01010100","support":"none","tech":"T010000","key":"k892"}"#,
+                r#"{"outcome":"repeated","reply":{}}"#,
+            ),
+            (
+                "ISSUER",
+                r#"{"command":"register_device","account":1,"capacity_w":2000000,"commissioned":"2020-06-15","country":"DE","device":"500000000000000012","site":"North field","source":"F01010100","support":"none","tech":"T010000","carrier":"gas","key":"k892"}"#,
+                r#"{"code":2,"name":"KeyReused","outcome":"refused"}"#,
+            ),
+            (
+                "ISSUER",
+                r#"{"command":"register_device","account":1,"capacity_w":2000000,"commissioned":"2020-06-15","country":"DE","device":"500000000000000012","site":"North field","source":"F01010100","support":"none","tech":"T010000","carrier":"electricity","key":"k894"}"#,
+                r#"{"code":8,"name":"DeviceExists","outcome":"refused"}"#,
+            ),
+            (
+                "ISSUER",
+                r#"{"command":"register_device","account":1,"capacity_w":2000000,"commissioned":"2020-06-15","country":"DE","device":"500000000000000012","site":"North field","source":"F01010100","support":"none","tech":"T010000","carrier":"gas","key":"k895"}"#,
+                r#"{"code":8,"name":"DeviceExists","outcome":"refused"}"#,
+            ),
+            (
+                "SUN",
+                r#"{"command":"register_device","account":1,"capacity_w":2000000,"commissioned":"2020-06-15","country":"DE","device":"500000000000000029","site":"North field","source":"F01010100","support":"none","tech":"T010000","carrier":"gas","key":"k896"}"#,
+                r#"{"code":1,"name":"NotAllowed","outcome":"refused"}"#,
+            ),
+            (
+                "ISSUER",
+                r#"{"command":"register_device","account":1,"capacity_w":2000000,"commissioned":"2020-06-15","country":"DE","device":"500000000000000029","site":"North field","source":"F01010100","support":"none","tech":"T010000","carrier":"heating-cooling","key":"k893"}"#,
+                r#"{"outcome":"accepted","reply":{}}"#,
+            ),
+            (
+                "ISSUER",
+                r#"{"command":"register_device","account":1,"capacity_w":2000000,"commissioned":"2020-06-15","country":"DE","device":"500000000000000029","site":"North field","source":"F01010100","support":"none","tech":"T010000","carrier":"heating-cooling","key":"k893"}"#,
+                r#"{"outcome":"repeated","reply":{}}"#,
+            ),
+            (
+                "ISSUER",
+                r#"{"command":"register_device","account":1,"capacity_w":2000000,"commissioned":"2020-06-15","country":"DE","device":"500000000000000029","site":"North field","source":"F01010100","support":"none","tech":"T010000","carrier":"gas","key":"k893"}"#,
+                r#"{"code":2,"name":"KeyReused","outcome":"refused"}"#,
+            ),
+            (
+                "ISSUER",
+                r#"{"command":"register_device","account":1,"capacity_w":2000000,"commissioned":"2020-06-15","country":"DE","device":"500000000000000029","site":"North field","source":"F01010100","support":"none","tech":"T010000","carrier":"electricity","key":"k893"}"#,
+                r#"{"code":2,"name":"KeyReused","outcome":"refused"}"#,
+            ),
+            (
+                "ISSUER",
+                r#"{"command":"register_device","account":1,"capacity_w":2000000,"commissioned":"2020-06-15","country":"DE","device":"500000000000000029","site":"North field","source":"F01010100","support":"none","tech":"T010000","key":"k893"}"#,
+                r#"{"code":2,"name":"KeyReused","outcome":"refused"}"#,
+            ),
+            (
+                "ISSUER",
+                r#"{"command":"register_device","account":1,"capacity_w":2000000,"commissioned":"2020-06-15","country":"DE","device":"500000000000000029","site":"North field","source":"F01010100","support":"none","tech":"T010000","key":"k897"}"#,
+                r#"{"code":8,"name":"DeviceExists","outcome":"refused"}"#,
+            ),
+        ],
+        shown: "500000000000000012 0 0 0 0 0\n500000000000000029 0 0 0 0 0\n",
+    },
+    Case {
         name: "a_correction_of_nothing",
         serial: 1,
         begun: 9,
@@ -116,63 +189,5 @@ pub const FIRST: [Case; 4] = [
             ),
         ],
         shown: "1 07000000000001 07000000001198 2025-01-01 held\n1 07000000001199 07000000001199 2025-01-01 withdrawn:2\n1 07000000001200 07000000001200 2025-01-01 withdrawn:1\n1 07000000001201 07000000001201 2025-03-01 withdrawn:1\n500000000000000012 1201000000 2000001 1201 3 999999\n",
-    },
-    Case {
-        name: "a_correction_takes_the_carry",
-        serial: 1,
-        begun: 7,
-        asked: &[
-            (
-                "ISSUER",
-                r#"{"command":"correct","device":"500000000000000012","first_day":"2025-02-01","less_wh":999998,"first":"","last":"","reason":"meter read twice","key":"k796"}"#,
-                r#"{"outcome":"accepted","reply":{"carry":1,"count":0,"withdrawal":0}}"#,
-            ),
-            (
-                "ISSUER",
-                r#"{"command":"correct","device":"500000000000000012","first_day":"2025-01-01","less_wh":2,"first":"","last":"","reason":"meter read twice","key":"k797"}"#,
-                r#"{"code":33,"name":"WrongCount","outcome":"refused"}"#,
-            ),
-            (
-                "ISSUER",
-                r#"{"command":"correct","device":"500000000000000012","first_day":"2025-01-01","less_wh":2,"first":"07000000001200","last":"07000000001200","reason":"meter read twice","key":"k798"}"#,
-                r#"{"outcome":"accepted","reply":{"carry":999999,"count":1,"withdrawal":1}}"#,
-            ),
-            (
-                "ISSUER",
-                r#"{"command":"correct","device":"500000000000000012","first_day":"2025-01-01","less_wh":999999,"first":"","last":"","reason":"meter read twice","key":"k799"}"#,
-                r#"{"outcome":"accepted","reply":{"carry":0,"count":0,"withdrawal":0}}"#,
-            ),
-            (
-                "ISSUER",
-                r#"{"command":"correct","device":"500000000000000012","first_day":"2025-02-01","less_wh":2,"first":"","last":"","reason":"meter read twice","key":"k800"}"#,
-                r#"{"code":32,"name":"OverCorrected","outcome":"refused"}"#,
-            ),
-            (
-                "ISSUER",
-                r#"{"command":"correct","device":"500000000000000012","first_day":"2025-01-01","less_wh":1198999999,"first":"07000000000001","last":"07000000001199","reason":"meter read twice","key":"k801"}"#,
-                r#"{"outcome":"accepted","reply":{"carry":1,"count":1199,"withdrawal":2}}"#,
-            ),
-            (
-                "ISSUER",
-                r#"{"command":"correct","device":"500000000000000012","first_day":"2025-01-01","less_wh":1,"first":"","last":"","reason":"meter read twice","key":"k802"}"#,
-                r#"{"code":32,"name":"OverCorrected","outcome":"refused"}"#,
-            ),
-            (
-                "ISSUER",
-                r#"{"command":"correct","device":"500000000000000012","first_day":"2025-02-01","less_wh":1,"first":"","last":"","reason":"meter read twice","key":"k803"}"#,
-                r#"{"outcome":"accepted","reply":{"carry":0,"count":0,"withdrawal":0}}"#,
-            ),
-            (
-                "ISSUER",
-                r#"{"command":"advance","day":"2025-04-05","key":"k804"}"#,
-                r#"{"outcome":"accepted","reply":{"expired":0}}"#,
-            ),
-            (
-                "ISSUER",
-                r#"{"command":"declare","device":"500000000000000012","first_day":"2025-03-01","last_day":"2025-03-31","gross_wh":2000000,"aux_wh":0,"key":"k805"}"#,
-                r#"{"outcome":"accepted","reply":{"carry":0,"count":2,"first":"07000000001201","last":"07000000001202"}}"#,
-            ),
-        ],
-        shown: "1 07000000000001 07000000001199 2025-01-01 withdrawn:2\n1 07000000001200 07000000001200 2025-01-01 withdrawn:1\n1 07000000001201 07000000001202 2025-03-01 held\n500000000000000012 1202999999 1200999999 1202 1200 0\n",
     },
 ];

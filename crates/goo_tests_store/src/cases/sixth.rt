@@ -2,7 +2,105 @@
 
 use crate::worked::Case;
 
-pub const SIXTH: [Case; 7] = [
+pub const SIXTH: [Case; 3] = [
+    Case {
+        name: "corrections_that_are_refused",
+        serial: 1,
+        begun: 9,
+        asked: &[
+            (
+                "SUN",
+                r#"{"command":"correct","device":"500000000000000029","first_day":"2025-01-01","less_wh":1,"first":"","last":"","reason":"meter read twice","key":"k727"}"#,
+                r#"{"code":1,"name":"NotAllowed","outcome":"refused"}"#,
+            ),
+            (
+                "ISSUER",
+                r#"{"command":"correct","device":"500000000000000029","first_day":"2025-01-01","less_wh":1,"first":"","last":"","reason":"meter read twice","key":"k728"}"#,
+                r#"{"code":9,"name":"UnknownDevice","outcome":"refused"}"#,
+            ),
+            (
+                "ISSUER",
+                r#"{"command":"register_device","account":1,"capacity_w":2000000,"commissioned":"2020-06-15","country":"DE","device":"500000000000000029","site":"North field","source":"F01010100","support":"none","tech":"T010000","key":"k729"}"#,
+                r#"{"outcome":"accepted","reply":{}}"#,
+            ),
+            (
+                "ISSUER",
+                r#"{"command":"declare","device":"500000000000000029","first_day":"2025-04-01","last_day":"2025-04-04","gross_wh":1000000,"aux_wh":0,"key":"k730"}"#,
+                r#"{"outcome":"accepted","reply":{"carry":0,"count":1,"first":"07000000001202","last":"07000000001202"}}"#,
+            ),
+            (
+                "ISSUER",
+                r#"{"command":"add_peer","peer":9,"key":"k731"}"#,
+                r#"{"outcome":"accepted","reply":{}}"#,
+            ),
+            (
+                "ISSUER",
+                r#"{"command":"import","notice":{"sender":9,"addressee":7,"number":1,"account":1,"version":1,"parts":[{"first":"09000000000001","last":"09000000000001","lot":{"capacity_w":2000000,"commissioned":"2020-06-15","country":"DE","device":"500000000000000012","first_day":"2025-01-01","issued_on":"2025-03-01","last_day":"2025-01-31","origin":9,"site":"North field","source":"F01010100","support":"none","tech":"T010000"}}]},"key":"k732"}"#,
+                r#"{"outcome":"accepted","reply":{"count":1}}"#,
+            ),
+            (
+                "ISSUER",
+                r#"{"command":"withdraw","first":"07000000001201","last":"07000000001201","reason":"meter read twice","key":"k733"}"#,
+                r#"{"outcome":"accepted","reply":{"count":1,"withdrawal":1}}"#,
+            ),
+            (
+                "ISSUER",
+                r#"{"command":"correct","device":"500000000000000029","first_day":"2025-01-01","less_wh":1000000000000000,"first":"","last":"","reason":"meter read twice","key":"k734"}"#,
+                r#"{"code":31,"name":"UnknownDeclaration","outcome":"refused"}"#,
+            ),
+            (
+                "ISSUER",
+                r#"{"command":"correct","device":"500000000000000012","first_day":"2025-01-31","less_wh":0,"first":"07000000000001","last":"07000000000001","reason":"meter read twice","key":"k735"}"#,
+                r#"{"code":31,"name":"UnknownDeclaration","outcome":"refused"}"#,
+            ),
+            (
+                "ISSUER",
+                r#"{"command":"correct","device":"500000000000000012","first_day":"2025-02-01","less_wh":1000000,"first":"","last":"","reason":"meter read twice","key":"k736"}"#,
+                r#"{"code":32,"name":"OverCorrected","outcome":"refused"}"#,
+            ),
+            (
+                "ISSUER",
+                r#"{"command":"correct","device":"500000000000000012","first_day":"2025-01-01","less_wh":1000000,"first":"","last":"","reason":"meter read twice","key":"k737"}"#,
+                r#"{"code":33,"name":"WrongCount","outcome":"refused"}"#,
+            ),
+            (
+                "ISSUER",
+                r#"{"command":"correct","device":"500000000000000012","first_day":"2025-01-01","less_wh":0,"first":"07000000000001","last":"07000000000001","reason":"meter read twice","key":"k738"}"#,
+                r#"{"code":33,"name":"WrongCount","outcome":"refused"}"#,
+            ),
+            (
+                "ISSUER",
+                r#"{"command":"correct","device":"500000000000000012","first_day":"2025-02-01","less_wh":999999,"first":"07000000000001","last":"07000000000002","reason":"meter read twice","key":"k739"}"#,
+                r#"{"code":33,"name":"WrongCount","outcome":"refused"}"#,
+            ),
+            (
+                "ISSUER",
+                r#"{"command":"correct","device":"500000000000000012","first_day":"2025-01-01","less_wh":1000000,"first":"07000000001203","last":"07000000001204","reason":"meter read twice","key":"k740"}"#,
+                r#"{"code":33,"name":"WrongCount","outcome":"refused"}"#,
+            ),
+            (
+                "ISSUER",
+                r#"{"command":"correct","device":"500000000000000012","first_day":"2025-01-01","less_wh":2000000,"first":"07000000001202","last":"07000000001203","reason":"meter read twice","key":"k741"}"#,
+                r#"{"code":16,"name":"UnknownNumber","number":"07000000001203","outcome":"refused"}"#,
+            ),
+            (
+                "ISSUER",
+                r#"{"command":"correct","device":"500000000000000012","first_day":"2025-01-01","less_wh":2000000,"first":"07000000001201","last":"07000000001202","reason":"meter read twice","key":"k742"}"#,
+                r#"{"code":34,"name":"OtherDevice","number":"07000000001202","outcome":"refused"}"#,
+            ),
+            (
+                "ISSUER",
+                r#"{"command":"correct","device":"500000000000000012","first_day":"2025-01-01","less_wh":1000000,"first":"09000000000001","last":"09000000000001","reason":"meter read twice","key":"k743"}"#,
+                r#"{"code":34,"name":"OtherDevice","number":"09000000000001","outcome":"refused"}"#,
+            ),
+            (
+                "ISSUER",
+                r#"{"command":"correct","device":"500000000000000012","first_day":"2025-01-01","less_wh":2000000,"first":"07000000001200","last":"07000000001201","reason":"meter read twice","key":"k744"}"#,
+                r#"{"code":17,"name":"NotHeld","number":"07000000001201","outcome":"refused"}"#,
+            ),
+        ],
+        shown: "1 07000000000001 07000000001200 2025-01-01 held\n1 07000000001201 07000000001201 2025-03-01 withdrawn:1\n1 07000000001202 07000000001202 2025-04-01 held\n1 09000000000001 09000000000001 2025-01-01 held\n500000000000000012 1201000000 0 1201 0 0\n500000000000000029 1000000 0 1 0 0\n",
+    },
     Case {
         name: "declarations_that_are_refused",
         serial: 1,
@@ -52,115 +150,51 @@ pub const SIXTH: [Case; 7] = [
         shown: "",
     },
     Case {
-        name: "just_the_capacity",
+        name: "electricity_in_a_notice_of_version_2",
         serial: 1,
         begun: 5,
-        asked: &[(
-            "ISSUER",
-            r#"{"command":"declare","device":"500000000000000012","first_day":"2025-01-01","last_day":"2025-01-31","gross_wh":1490000000,"aux_wh":0,"key":"k135"}"#,
-            r#"{"outcome":"accepted","reply":{"carry":0,"count":1490,"first":"07000000000001","last":"07000000001490"}}"#,
-        )],
-        shown: "",
-    },
-    Case {
-        name: "more_auxiliaries_than_gross",
-        serial: 1,
-        begun: 9,
         asked: &[
             (
                 "ISSUER",
-                r#"{"command":"declare","device":"500000000000000012","first_day":"2025-04-01","last_day":"2025-04-03","gross_wh":500,"aux_wh":500,"key":"k24"}"#,
-                r#"{"outcome":"accepted","reply":{"carry":0,"count":0}}"#,
+                r#"{"command":"add_peer","peer":9,"key":"k935"}"#,
+                r#"{"outcome":"accepted","reply":{}}"#,
             ),
             (
                 "ISSUER",
-                r#"{"command":"declare","device":"500000000000000012","first_day":"2025-04-04","last_day":"2025-04-04","gross_wh":500,"aux_wh":501,"key":"k25"}"#,
-                r#"{"code":13,"name":"AuxExceedsGross","outcome":"refused"}"#,
+                r#"{"command":"declare","device":"500000000000000012","first_day":"2025-01-01","last_day":"2025-01-31","gross_wh":3000000,"aux_wh":0,"key":"k936"}"#,
+                r#"{"outcome":"accepted","reply":{"carry":0,"count":3,"first":"07000000000001","last":"07000000000003"}}"#,
             ),
-        ],
-        shown: "1 07000000000001 07000000001200 2025-01-01 held\n1 07000000001201 07000000001201 2025-03-01 held\n500000000000000012 1201000000 0 1201 0 0\n",
-    },
-    Case {
-        name: "notices_that_are_refused",
-        serial: 1,
-        begun: 10,
-        asked: &[
-            (
-                "ISSUER",
-                r#"{"command":"import","notice":{"sender":9,"addressee":7,"number":2,"account":1,"version":1,"parts":[{"first":"07000000001202","last":"07000000001202","lot":{"capacity_w":2000000,"commissioned":"2020-06-15","country":"DE","device":"500000000000000012","first_day":"2025-01-01","issued_on":"2025-03-01","last_day":"2025-01-31","origin":7,"site":"North field","source":"F01010100","support":"none","tech":"T010000"}}]},"key":"k118"}"#,
-                r#"{"code":16,"name":"UnknownNumber","number":"07000000001202","outcome":"refused"}"#,
-            ),
-            (
-                "ISSUER",
-                r#"{"command":"import","notice":{"sender":9,"addressee":7,"number":2,"account":1,"version":1,"parts":[{"first":"07000000000001","last":"07000000000001","lot":{"capacity_w":2000000,"commissioned":"2020-06-15","country":"DE","device":"500000000000000012","first_day":"2025-01-01","issued_on":"2025-03-01","last_day":"2025-01-31","origin":7,"site":"North field","source":"F01010100","support":"none","tech":"T010000"}}]},"key":"k119"}"#,
-                r#"{"code":25,"name":"NumberTaken","number":"07000000000001","outcome":"refused"}"#,
-            ),
-        ],
-        shown: "",
-    },
-    Case {
-        name: "one_serial_too_few",
-        serial: 999_999_999_999,
-        begun: 5,
-        asked: &[(
-            "ISSUER",
-            r#"{"command":"declare","device":"500000000000000012","first_day":"2025-01-01","last_day":"2025-01-31","gross_wh":2000000,"aux_wh":0,"key":"k645"}"#,
-            r#"{"code":15,"name":"NumbersExhausted","outcome":"refused"}"#,
-        )],
-        shown: "500000000000000012 0 0 0 0 0\n",
-    },
-    Case {
-        name: "one_watt-hour_above_the_capacity",
-        serial: 1,
-        begun: 5,
-        asked: &[(
-            "ISSUER",
-            r#"{"command":"declare","device":"500000000000000012","first_day":"2025-01-01","last_day":"2025-01-31","gross_wh":1490000001,"aux_wh":0,"key":"k141"}"#,
-            r#"{"code":14,"name":"OverCapacity","outcome":"refused"}"#,
-        )],
-        shown: "",
-    },
-    Case {
-        name: "out_back_and_out_again",
-        serial: 1,
-        begun: 10,
-        asked: &[
             (
                 "SUN",
-                r#"{"command":"export","giver":1,"peer":9,"account":5,"first":"07000000000020","last":"07000000000029","key":"k101"}"#,
-                r#"{"outcome":"accepted","reply":{"count":10,"notice":1}}"#,
+                r#"{"command":"export","giver":1,"peer":9,"account":5,"first":"07000000000002","last":"07000000000002","key":"k937"}"#,
+                r#"{"outcome":"accepted","reply":{"count":1,"notice":1}}"#,
             ),
             (
                 "ISSUER",
-                r#"{"command":"import","notice":{"sender":9,"addressee":7,"number":1,"account":1,"version":1,"parts":[{"first":"07000000000020","last":"07000000000029","lot":{"capacity_w":2000000,"commissioned":"2020-06-15","country":"DE","device":"500000000000000012","first_day":"2025-01-01","issued_on":"2025-03-01","last_day":"2025-01-31","origin":7,"site":"North field","source":"F01010100","support":"none","tech":"T010000"}}]},"key":"k102"}"#,
-                r#"{"outcome":"accepted","reply":{"count":10}}"#,
+                r#"{"command":"import","notice":{"sender":9,"addressee":7,"number":1,"account":1,"version":2,"parts":[{"first":"07000000000002","last":"07000000000002","lot":{"capacity_w":2000000,"commissioned":"2020-06-15","country":"DE","device":"500000000000000012","first_day":"2025-01-01","issued_on":"2025-03-01","last_day":"2025-01-31","origin":7,"site":"North field","source":"F01010100","support":"none","tech":"T010000","carrier":"hydrogen"}}]},"key":"k938"}"#,
+                r#"{"code":26,"name":"LotDiffers","number":"07000000000002","outcome":"refused"}"#,
             ),
             (
                 "ISSUER",
-                r#"{"command":"import","notice":{"sender":9,"addressee":7,"number":1,"account":1,"version":1,"parts":[{"first":"07000000000020","last":"07000000000029","lot":{"capacity_w":2000000,"commissioned":"2020-06-15","country":"DE","device":"500000000000000012","first_day":"2025-01-01","issued_on":"2025-03-01","last_day":"2025-01-31","origin":7,"site":"North field","source":"F01010100","support":"none","tech":"T010000"}}]},"key":"k103"}"#,
-                r#"{"outcome":"repeated","reply":{"count":10}}"#,
+                r#"{"command":"import","notice":{"sender":9,"addressee":7,"number":1,"account":1,"version":2,"parts":[{"first":"07000000000002","last":"07000000000002","lot":{"capacity_w":2000000,"commissioned":"2020-06-15","country":"DE","device":"500000000000000012","first_day":"2025-01-01","issued_on":"2025-03-01","last_day":"2025-01-31","origin":7,"site":"North field","source":"F01010100","support":"none","tech":"T010000","carrier":"electricity"}}]},"key":"k939"}"#,
+                r#"{"outcome":"accepted","reply":{"count":1}}"#,
             ),
             (
                 "ISSUER",
-                r#"{"command":"import","notice":{"sender":9,"addressee":7,"number":1,"account":1,"version":1,"parts":[{"first":"07000000000020","last":"07000000000028","lot":{"capacity_w":2000000,"commissioned":"2020-06-15","country":"DE","device":"500000000000000012","first_day":"2025-01-01","issued_on":"2025-03-01","last_day":"2025-01-31","origin":7,"site":"North field","source":"F01010100","support":"none","tech":"T010000"}}]},"key":"k104"}"#,
+                r#"{"command":"import","notice":{"sender":9,"addressee":7,"number":1,"account":1,"version":1,"parts":[{"first":"07000000000002","last":"07000000000002","lot":{"capacity_w":2000000,"commissioned":"2020-06-15","country":"DE","device":"500000000000000012","first_day":"2025-01-01","issued_on":"2025-03-01","last_day":"2025-01-31","origin":7,"site":"North field","source":"F01010100","support":"none","tech":"T010000"}}]},"key":"k940"}"#,
+                r#"{"outcome":"repeated","reply":{"count":1}}"#,
+            ),
+            (
+                "ISSUER",
+                r#"{"command":"import","notice":{"sender":9,"addressee":7,"number":1,"account":1,"version":2,"parts":[{"first":"07000000000002","last":"07000000000002","lot":{"capacity_w":2000000,"commissioned":"2020-06-15","country":"DE","device":"500000000000000012","first_day":"2025-01-01","issued_on":"2025-03-01","last_day":"2025-01-31","origin":7,"site":"North field","source":"F01010100","support":"none","tech":"T010000","carrier":"electricity"}}]},"key":"k941"}"#,
+                r#"{"outcome":"repeated","reply":{"count":1}}"#,
+            ),
+            (
+                "ISSUER",
+                r#"{"command":"import","notice":{"sender":9,"addressee":7,"number":1,"account":1,"version":2,"parts":[{"first":"07000000000002","last":"07000000000002","lot":{"capacity_w":2000000,"commissioned":"2020-06-15","country":"DE","device":"500000000000000012","first_day":"2025-01-01","issued_on":"2025-03-01","last_day":"2025-01-31","origin":7,"site":"North field","source":"F01010100","support":"none","tech":"T010000","carrier":"hydrogen"}}]},"key":"k942"}"#,
                 r#"{"code":24,"name":"NoticeConflict","outcome":"refused"}"#,
             ),
-            (
-                "SUN",
-                r#"{"command":"export","giver":1,"peer":9,"account":5,"first":"07000000000020","last":"07000000000029","key":"k105"}"#,
-                r#"{"outcome":"accepted","reply":{"count":10,"notice":2}}"#,
-            ),
-            (
-                "ISSUER",
-                r#"{"command":"import","notice":{"sender":9,"addressee":7,"number":1,"account":1,"version":1,"parts":[{"first":"07000000000020","last":"07000000000029","lot":{"capacity_w":2000000,"commissioned":"2020-06-15","country":"DE","device":"500000000000000012","first_day":"2025-01-01","issued_on":"2025-03-01","last_day":"2025-01-31","origin":7,"site":"North field","source":"F01010100","support":"none","tech":"T010000"}}]},"key":"k106"}"#,
-                r#"{"outcome":"repeated","reply":{"count":10}}"#,
-            ),
-            (
-                "ISSUER",
-                r#"{"command":"import","notice":{"sender":9,"addressee":7,"number":2,"account":1,"version":1,"parts":[{"first":"07000000000020","last":"07000000000029","lot":{"capacity_w":2000000,"commissioned":"2020-06-15","country":"DE","device":"500000000000000012","first_day":"2025-01-01","issued_on":"2025-03-01","last_day":"2025-01-31","origin":7,"site":"North field","source":"F01010100","support":"none","tech":"T010000"}}]},"key":"k107"}"#,
-                r#"{"outcome":"accepted","reply":{"count":10}}"#,
-            ),
         ],
-        shown: "1 07000000000001 07000000001200 2025-01-01 held\n1 07000000001201 07000000001201 2025-03-01 held\n500000000000000012 1201000000 0 1201 0 0\n",
+        shown: "1 07000000000001 07000000000003 2025-01-01 held\n500000000000000012 3000000 0 3 0 0\n",
     },
 ];
