@@ -1,4 +1,4 @@
-//! The statements on `piece` joined with `lot`.
+//! The statements on `piece` joined with `lot`, and with the lot's carrier.
 
 ghost use Rattle.std.specs.Prelude.{◌≡◌, All, ◌&&◌, ◌<◌, ◌^◌, Some, false, pos, map, filter, find, reverse, nat_le, nat_lt, option_map};
 ghost use Rattle.std.specs.Ordering.{int_eq};
@@ -39,7 +39,7 @@ pub fn pieces_beginning<S: Alter>(
     ask_all(
         alloc,
         conn,
-        "SELECT p.first, p.last, p.lot, p.kind, p.account, p.act, l.id, l.origin, l.device, l.country, l.site, l.tech, l.source, l.capacity_w, l.commissioned, l.support, l.first_day, l.last_day, l.expires_on, l.issued_on FROM piece AS p JOIN lot AS l ON l.id = p.lot WHERE p.first >= ?1 AND p.first <= ?2 ORDER BY p.first",
+        "SELECT p.first, p.last, p.lot, p.kind, p.account, p.act, l.id, l.origin, l.device, l.country, l.site, l.tech, l.source, l.capacity_w, l.commissioned, l.support, l.first_day, l.last_day, l.expires_on, l.issued_on, c.carrier FROM piece AS p JOIN lot AS l ON l.id = p.lot LEFT JOIN lot_carrier AS c ON c.lot = l.id WHERE p.first >= ?1 AND p.first <= ?2 ORDER BY p.first",
         &[number(low), number(high)],
     )
 }
@@ -66,7 +66,7 @@ pub fn piece_before<S: Alter>(
     ask_first(
         alloc,
         conn,
-        "SELECT p.first, p.last, p.lot, p.kind, p.account, p.act, l.id, l.origin, l.device, l.country, l.site, l.tech, l.source, l.capacity_w, l.commissioned, l.support, l.first_day, l.last_day, l.expires_on, l.issued_on FROM piece AS p JOIN lot AS l ON l.id = p.lot WHERE p.first < ?1 ORDER BY p.first DESC LIMIT 1",
+        "SELECT p.first, p.last, p.lot, p.kind, p.account, p.act, l.id, l.origin, l.device, l.country, l.site, l.tech, l.source, l.capacity_w, l.commissioned, l.support, l.first_day, l.last_day, l.expires_on, l.issued_on, c.carrier FROM piece AS p JOIN lot AS l ON l.id = p.lot LEFT JOIN lot_carrier AS c ON c.lot = l.id WHERE p.first < ?1 ORDER BY p.first DESC LIMIT 1",
         &[number(low)],
     )
 }
@@ -91,7 +91,7 @@ pub fn pieces_of_account<S: Alter>(
     ask_all(
         alloc,
         conn,
-        "SELECT p.first, p.last, p.lot, p.kind, p.account, p.act, l.id, l.origin, l.device, l.country, l.site, l.tech, l.source, l.capacity_w, l.commissioned, l.support, l.first_day, l.last_day, l.expires_on, l.issued_on FROM piece AS p JOIN lot AS l ON l.id = p.lot WHERE p.account = ?1 ORDER BY p.first",
+        "SELECT p.first, p.last, p.lot, p.kind, p.account, p.act, l.id, l.origin, l.device, l.country, l.site, l.tech, l.source, l.capacity_w, l.commissioned, l.support, l.first_day, l.last_day, l.expires_on, l.issued_on, c.carrier FROM piece AS p JOIN lot AS l ON l.id = p.lot LEFT JOIN lot_carrier AS c ON c.lot = l.id WHERE p.account = ?1 ORDER BY p.first",
         &[small(account)],
     )
 }
@@ -120,7 +120,7 @@ pub fn next_of_account<S: Alter>(
     ask_first(
         alloc,
         conn,
-        "SELECT p.first, p.last, p.lot, p.kind, p.account, p.act, l.id, l.origin, l.device, l.country, l.site, l.tech, l.source, l.capacity_w, l.commissioned, l.support, l.first_day, l.last_day, l.expires_on, l.issued_on FROM piece AS p JOIN lot AS l ON l.id = p.lot WHERE p.account = ?1 AND p.first > ?2 ORDER BY p.first LIMIT 1",
+        "SELECT p.first, p.last, p.lot, p.kind, p.account, p.act, l.id, l.origin, l.device, l.country, l.site, l.tech, l.source, l.capacity_w, l.commissioned, l.support, l.first_day, l.last_day, l.expires_on, l.issued_on, c.carrier FROM piece AS p JOIN lot AS l ON l.id = p.lot LEFT JOIN lot_carrier AS c ON c.lot = l.id WHERE p.account = ?1 AND p.first > ?2 ORDER BY p.first LIMIT 1",
         &[small(account), number(after)],
     )
 }
@@ -147,7 +147,7 @@ pub fn next_expiring<S: Alter>(
     ask_first(
         alloc,
         conn,
-        "SELECT p.first, p.last, p.lot, p.kind, p.account, p.act, l.id, l.origin, l.device, l.country, l.site, l.tech, l.source, l.capacity_w, l.commissioned, l.support, l.first_day, l.last_day, l.expires_on, l.issued_on FROM piece AS p JOIN lot AS l ON l.id = p.lot WHERE p.kind = 1 AND p.first > ?2 AND l.expires_on < ?1 ORDER BY p.first LIMIT 1",
+        "SELECT p.first, p.last, p.lot, p.kind, p.account, p.act, l.id, l.origin, l.device, l.country, l.site, l.tech, l.source, l.capacity_w, l.commissioned, l.support, l.first_day, l.last_day, l.expires_on, l.issued_on, c.carrier FROM piece AS p JOIN lot AS l ON l.id = p.lot LEFT JOIN lot_carrier AS c ON c.lot = l.id WHERE p.kind = 1 AND p.first > ?2 AND l.expires_on < ?1 ORDER BY p.first LIMIT 1",
         &[text(day), number(after)],
     )
 }
