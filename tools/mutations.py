@@ -19,6 +19,10 @@ def gsrn(number):
 
 
 DEVICES = [gsrn(1), gsrn(2), gsrn(3)]
+OTHERS = {DEVICES[2]: {'carrier': 'hydrogen'}}
+"""What devices state of their carrier, where that isn't electricity."""
+THEIRS = ['electricity', 'gas', 'heating-cooling']
+"""The carriers of the same devices in other registries."""
 PLANT = {'capacity_w': 10 ** 11, 'commissioned': '2020-06-15', 'country': 'DE', 'site': 'North field', 'source': 'F01010100', 'support': 'none', 'tech': 'T010000'}
 HOLDERS = ['SUN', 'VOLT', 'WIND']
 OWNERS = {1: 'SUN', 2: 'VOLT', 3: 'SUN', 4: 'WIND'}
@@ -54,7 +58,7 @@ def base():
     """The first requests of each registry: all are accepted, each table gets a row, and something expires."""
     commands = [('ISSUER', of('open_holder', holder=holder, name=name)) for holder, name in zip(HOLDERS, NAMES)]
     commands += [('ISSUER', of('open_account', holder=holder)) for holder in OWNERS.values()]
-    commands += [('ISSUER', of('register_device', device=device, account=account, **PLANT)) for device, account in zip(DEVICES, (1, 2, 1))]
+    commands += [('ISSUER', of('register_device', device=device, account=account, **PLANT, **OTHERS.get(device, {}))) for device, account in zip(DEVICES, (1, 2, 1))]
     commands += [('ISSUER', of('declare', device=device, first_day='2024-09-01', last_day='2024-09-30', gross_wh=600_500_000, aux_wh=250_000)) for device in DEVICES]
     commands += [('ISSUER', of('add_peer', peer=9)), ('ISSUER', of('add_peer', peer=8)),
                  ('SUN', of('transfer', giver=1, taker=2, **ends(100, 50))),
@@ -106,8 +110,9 @@ class World:
         return self.chance.choice(['ISSUER', 'SUN']), of('close_account', account=self.chance.randrange(3, 12))
 
     def register_device(self):
-        """A device more."""
-        return 'ISSUER', of('register_device', device=gsrn(self.chance.randrange(10 ** 15)), account=self.an_account()[0],
+        """A device more, of any carrier or of electricity that isn't written."""
+        carrier = self.chance.choice([None, None, 'electricity', 'gas', 'hydrogen', 'heating-cooling'])
+        return 'ISSUER', of('register_device', device=gsrn(self.chance.randrange(10 ** 15)), account=self.an_account()[0], **({'carrier': carrier} if carrier else {}),
                             **{**PLANT, 'site': self.chance.choice(NAMES), 'support': self.chance.choice(['none', 'investment', 'production', 'both'])})
 
     def a_day(self):
@@ -160,15 +165,16 @@ class World:
         return holder, of('export', giver=account, peer=self.chance.choice([8, 9]), account=self.chance.randrange(1, 9), **self.a_range())
 
     def notice(self):
-        """A notice of another registry, of one to three parts, mostly of certificates that it issued."""
+        """A notice of another registry, of one to three parts of certificates that it issued: of version 1, or of version 2 and each of a carrier of its own."""
         self.notices += 1
         sender = self.chance.choice([8, 9])
         serial = sender * 10 ** 12 + 1000 * self.notices
-        month = self.chance.randrange(1, 13)
+        month, version = self.chance.randrange(1, 13), self.chance.choice([1, 2])
+        carriers = [{'carrier': carrier} if version == 2 else {} for carrier in THEIRS]
         parts = [part(serial + 100 * place, self.chance.randrange(1, 99),
-                      lot(sender, DEVICES[place], f'2024-{month:02}-01', f'2024-{month:02}-{20 + self.notices % 8}'))
+                      lot(sender, DEVICES[place], f'2024-{month:02}-01', f'2024-{month:02}-{20 + self.notices % 8}', **carriers[place]))
                  for place in range(self.chance.choice([1, 1, 2, 3]))]
-        return of('import', notice={'sender': sender, 'addressee': CODE, 'number': self.notices, 'account': self.chance.choice([1, 2, 3]), 'version': 1,
+        return of('import', notice={'sender': sender, 'addressee': CODE, 'number': self.notices, 'account': self.chance.choice([1, 2, 3]), 'version': version,
                                     'parts': parts})
 
     def imports(self):
@@ -198,7 +204,7 @@ JSON_TOKENS = [
     b'"\\u0000"', b'"\\ud800"', b'"\\udc00\\ud800"', b'"\\ud834\\udd1e"', b'"\\u004"', b'"\\x"', b'"\t"', b'"\xff"', b'"\xed\xa0\x80"', b'"\xc2\x85"', b'"\x7f"',
     b'" a"', b'"a "', b'"a\\u00a0"', b'NaN', b'Infinity', b'//', b'/**/', b'\xef\xbb\xbf', b'\x0c', b'\xa0', b'\r', b'\t', b'\n', b' ',
     b'"command"', b'"key"', b'"notice"', b'"k\\u0065y"', b'"first"', b'"last"', b'"account"', b'"holder"', b'"advance"', b'"import"', b'"ISSUER"', b'"none"',
-    b'"both"', b'"correct"', b'"less_wh"', b'"reason"',
+    b'"both"', b'"correct"', b'"less_wh"', b'"reason"', b'"carrier"', b'"electricity"', b'"gas"', b'"hydrogen"', b'"heating-cooling"', b'"carrier":"gas",', b'"version"',
     b'"2025-02-29"', b'"2024-02-29"', b'"1899-12-31"', b'"1900-01-01"', b'"2099-12-31"', b'"2100-01-01"', b'"2025-3-01"', b'"07000000000000"', b'"07000000000001"',
     b'"00000000000001"', b'"99999999999999"', b'"7000000000001"', b'"500000000000000013"', b'"' + b'x' * 65 + b'"', b'"' + b'k' * 41 + b'"', b'2', b'7', b'9', b'99',
     b'100',

@@ -15,6 +15,7 @@ MOST_DEPTH = 127
 MOST_HEAD, MOST_FIELDS, MOST_BODY = 8192, 32, 1_048_576
 MOST_INPUT = 16_777_216
 ISSUER = 'ISSUER'
+ELECTRICITY = 'electricity'
 
 
 # Texts and numbers
@@ -31,6 +32,7 @@ is_country = is_word('[A-Z]{2}', 2)
 is_tech = is_word('T[0-9]{6}', 7)
 is_source = is_word('F[0-9]{8}', 9)
 is_support = is_word('none|investment|production|both', 10)
+is_carrier = is_word('electricity|gas|hydrogen|heating-cooling', 15)
 
 
 def is_name(text):
@@ -243,6 +245,8 @@ def compact(value):
 
 LOT = {'capacity_w': is_watts, 'commissioned': is_day, 'country': is_country, 'device': is_gsrn, 'first_day': is_day, 'issued_on': is_day, 'last_day': is_day,
        'origin': is_code, 'site': is_name, 'source': is_source, 'support': is_support, 'tech': is_tech}
+CARRIED_LOT = {**LOT, 'carrier': is_carrier}
+"""A lot that states its carrier."""
 COMMANDS = {
     'open_holder': {'holder': is_holder, 'name': is_name},
     'open_account': {'holder': is_holder},
@@ -259,8 +263,11 @@ COMMANDS = {
     'export': {'giver': is_account, 'peer': is_code, 'account': is_account, 'first': None, 'last': None},
     'import': {'notice': None},
 }
+MAY_LACK = {'register_device': {'carrier': is_carrier}}
+"""What a body of a command may leave out."""
 INTEGERS = {'account', 'capacity_w', 'gross_wh', 'aux_wh', 'less_wh', 'giver', 'taker', 'peer', 'origin', 'sender', 'addressee', 'number', 'version'}
-NOTICE = {'sender': is_code, 'addressee': is_code, 'number': is_account, 'account': is_account, 'version': within(1, 1)}
+PLACES = ('held', 'cancelled', 'expired', 'withdrawn', 'exported')
+NOTICE = {'sender': is_code, 'addressee': is_code, 'number': is_account, 'account': is_account, 'version': within(1, 2)}
 
 
 def is_integer(value):
@@ -289,6 +296,12 @@ def need_fields(value, readers):
             raise Fault('Field')
 
 
+def members_of(lot, version=None):
+    """What a lot has to state in a notice of a version; where there is no such version it may state its carrier or not."""
+    is_carried = {1: False, 2: True}.get(version, isinstance(lot, dict) and 'carrier' in lot)
+    return CARRIED_LOT if is_carried else LOT
+
+
 def need_notice_shape(value):
     """The shape of a notice, of its parts and of their lots."""
     need_shape(value, [*NOTICE, 'parts'])
@@ -296,7 +309,7 @@ def need_notice_shape(value):
         raise Fault('Shape')
     for part in value['parts']:
         need_shape(part, ['first', 'last', 'lot'])
-        need_shape(part['lot'], LOT)
+        need_shape(part['lot'], members_of(part['lot'], value['version']))
 
 
 def is_lot(lot):
@@ -316,7 +329,7 @@ def need_notice_fields(value):
     known, before = {}, 0
     for part in value['parts']:
         need_fields(part, {})
-        need_fields(part['lot'], LOT)
+        need_fields(part['lot'], members_of(part['lot']))
         first, last, lot = int(part['first']), int(part['last']), part['lot']
         if not is_lot(lot) or first // SERIALS != lot['origin'] or first <= before or known.setdefault(lot_key(lot), lot) != lot:
             raise Fault('Field')
@@ -325,30 +338,58 @@ def need_notice_fields(value):
         raise Fault('Field')
 
 
+def without_electricity(value):
+    """A lot or a registration without its carrier where that is electricity."""
+    return {name: one for name, one in value.items() if (name, one) != ('carrier', ELECTRICITY)}
+
+
+def written(notice):
+    """A notice as it is written: of electricity alone in version 1."""
+    parts = [{**part, 'lot': without_electricity(part['lot'])} for part in notice['parts']]
+    return notice if any('carrier' in part['lot'] for part in parts) else {**notice, 'version': 1, 'parts': parts}
+
+
 def notice_in(data):
     """The notice that bytes state; Fault with the word that tells why there is none."""
     value = json_in(data)
     need_notice_shape(value)
     need_notice_fields(value)
-    if compact(value).encode() != data:
+    if compact(written(value)).encode() != data:
+        raise Fault('Canonical')
+    return value
+
+
+def certificate_in(data):
+    """The certificate that bytes show; Fault."""
+    value = json_in(data)
+    if not isinstance(value, dict) or set(value) != {'account', 'act', 'lot', 'number', 'place'} or not isinstance(value['number'], str):
+        raise Fault('Shape')
+    lot, place = value['lot'], value['place']
+    need_shape(lot, members_of(lot))
+    need_fields(lot, members_of(lot))
+    if not is_lot(lot) or (number_in(value['number']) or 0) // SERIALS != lot['origin'] or (value['act'] == 0) != (place in ('held', 'expired')):
+        raise Fault('Field')
+    if place not in PLACES or compact({**value, 'lot': without_electricity(lot)}).encode() != data:
         raise Fault('Canonical')
     return value
 
 
 def body_in(data):
-    """The key and the command that a body states; Fault."""
+    """The key and the command that a body states, as the command's one text has it; Fault."""
     value = json_in(data)
     if not isinstance(value, dict) or not isinstance(value.get('command'), str) or value['command'] not in COMMANDS:
         raise Fault('Shape')
-    readers = COMMANDS[value['command']]
+    may_lack = MAY_LACK.get(value['command'], {})
+    readers = {**COMMANDS[value['command']], **{name: takes for name, takes in may_lack.items() if name in value}}
     need_shape(value, ['key', 'command', *readers])
     if 'notice' in readers:
         need_notice_shape(value['notice'])
         need_notice_fields(value['notice'])
+        value['notice'] = written(value['notice'])
     need_fields(value, readers)
     if not is_key(value['key']):
         raise Fault('Field')
-    return value['key'], {name: one for name, one in value.items() if name != 'key'}
+    return value['key'], without_electricity({name: one for name, one in value.items() if name != 'key'})
 
 
 def ascii_of(data):

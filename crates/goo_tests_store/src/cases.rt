@@ -8,6 +8,7 @@ mod ninth;
 mod second;
 mod seventh;
 mod sixth;
+mod tenth;
 mod third;
 
 pub use eighth::EIGHTH;
@@ -18,4 +19,5 @@ pub use ninth::NINTH;
 pub use second::SECOND;
 pub use seventh::SEVENTH;
 pub use sixth::SIXTH;
+pub use tenth::TENTH;
 pub use third::THIRD;

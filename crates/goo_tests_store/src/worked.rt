@@ -2,7 +2,7 @@
 
 use crate::acts::Act;
 use crate::asking::{asks, plays};
-use crate::cases::{EIGHTH, FIFTH, FIRST, FOURTH, NINTH, SECOND, SEVENTH, SIXTH, THIRD};
+use crate::cases::{EIGHTH, FIFTH, FIRST, FOURTH, NINTH, SECOND, SEVENTH, SIXTH, TENTH, THIRD};
 use crate::claims::holds;
 use crate::deeds::is_alike;
 use crate::script::{Line, requests};
@@ -157,4 +157,9 @@ fn the_eighth_cases(rt: HostRuntime) {
 #[test]
 fn the_ninth_cases(rt: HostRuntime) {
     are_alike(&rt, rt.alloc(), &NINTH)
+}
+
+#[test]
+fn the_tenth_cases(rt: HostRuntime) {
+    are_alike(&rt, rt.alloc(), &TENTH)
 }

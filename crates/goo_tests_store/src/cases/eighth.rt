@@ -2,164 +2,194 @@
 
 use crate::worked::Case;
 
-pub const EIGHTH: [Case; 7] = [
+pub const EIGHTH: [Case; 6] = [
     Case {
-        name: "ten_certificates_come_back_once",
+        name: "notices_that_are_refused",
+        serial: 1,
+        begun: 10,
+        asked: &[
+            (
+                "ISSUER",
+                r#"{"command":"import","notice":{"sender":9,"addressee":7,"number":2,"account":1,"version":1,"parts":[{"first":"07000000001202","last":"07000000001202","lot":{"capacity_w":2000000,"commissioned":"2020-06-15","country":"DE","device":"500000000000000012","first_day":"2025-01-01","issued_on":"2025-03-01","last_day":"2025-01-31","origin":7,"site":"North field","source":"F01010100","support":"none","tech":"T010000"}}]},"key":"k118"}"#,
+                r#"{"code":16,"name":"UnknownNumber","number":"07000000001202","outcome":"refused"}"#,
+            ),
+            (
+                "ISSUER",
+                r#"{"command":"import","notice":{"sender":9,"addressee":7,"number":2,"account":1,"version":1,"parts":[{"first":"07000000000001","last":"07000000000001","lot":{"capacity_w":2000000,"commissioned":"2020-06-15","country":"DE","device":"500000000000000012","first_day":"2025-01-01","issued_on":"2025-03-01","last_day":"2025-01-31","origin":7,"site":"North field","source":"F01010100","support":"none","tech":"T010000"}}]},"key":"k119"}"#,
+                r#"{"code":25,"name":"NumberTaken","number":"07000000000001","outcome":"refused"}"#,
+            ),
+        ],
+        shown: "",
+    },
+    Case {
+        name: "one_serial_too_few",
+        serial: 999_999_999_999,
+        begun: 5,
+        asked: &[(
+            "ISSUER",
+            r#"{"command":"declare","device":"500000000000000012","first_day":"2025-01-01","last_day":"2025-01-31","gross_wh":2000000,"aux_wh":0,"key":"k645"}"#,
+            r#"{"code":15,"name":"NumbersExhausted","outcome":"refused"}"#,
+        )],
+        shown: "500000000000000012 0 0 0 0 0\n",
+    },
+    Case {
+        name: "one_watt-hour_above_the_capacity",
+        serial: 1,
+        begun: 5,
+        asked: &[(
+            "ISSUER",
+            r#"{"command":"declare","device":"500000000000000012","first_day":"2025-01-01","last_day":"2025-01-31","gross_wh":1490000001,"aux_wh":0,"key":"k141"}"#,
+            r#"{"code":14,"name":"OverCapacity","outcome":"refused"}"#,
+        )],
+        shown: "",
+    },
+    Case {
+        name: "out_back_and_out_again",
         serial: 1,
         begun: 10,
         asked: &[
             (
                 "SUN",
-                r#"{"command":"export","giver":1,"peer":9,"account":5,"first":"07000000000020","last":"07000000000029","key":"k656"}"#,
+                r#"{"command":"export","giver":1,"peer":9,"account":5,"first":"07000000000020","last":"07000000000029","key":"k101"}"#,
                 r#"{"outcome":"accepted","reply":{"count":10,"notice":1}}"#,
             ),
             (
                 "ISSUER",
-                r#"{"command":"import","notice":{"sender":9,"addressee":7,"number":1,"account":1,"version":1,"parts":[{"first":"07000000000020","last":"07000000000029","lot":{"capacity_w":2000000,"commissioned":"2020-06-15","country":"DE","device":"500000000000000012","first_day":"2025-01-01","issued_on":"2025-03-01","last_day":"2025-01-31","origin":7,"site":"North field","source":"F01010100","support":"none","tech":"T010000"}}]},"key":"k657"}"#,
+                r#"{"command":"import","notice":{"sender":9,"addressee":7,"number":1,"account":1,"version":1,"parts":[{"first":"07000000000020","last":"07000000000029","lot":{"capacity_w":2000000,"commissioned":"2020-06-15","country":"DE","device":"500000000000000012","first_day":"2025-01-01","issued_on":"2025-03-01","last_day":"2025-01-31","origin":7,"site":"North field","source":"F01010100","support":"none","tech":"T010000"}}]},"key":"k102"}"#,
                 r#"{"outcome":"accepted","reply":{"count":10}}"#,
             ),
             (
                 "ISSUER",
-                r#"{"command":"import","notice":{"sender":9,"addressee":7,"number":1,"account":1,"version":1,"parts":[{"first":"07000000000020","last":"07000000000029","lot":{"capacity_w":2000000,"commissioned":"2020-06-15","country":"DE","device":"500000000000000012","first_day":"2025-01-01","issued_on":"2025-03-01","last_day":"2025-01-31","origin":7,"site":"North field","source":"F01010100","support":"none","tech":"T010000"}}]},"key":"k658"}"#,
+                r#"{"command":"import","notice":{"sender":9,"addressee":7,"number":1,"account":1,"version":1,"parts":[{"first":"07000000000020","last":"07000000000029","lot":{"capacity_w":2000000,"commissioned":"2020-06-15","country":"DE","device":"500000000000000012","first_day":"2025-01-01","issued_on":"2025-03-01","last_day":"2025-01-31","origin":7,"site":"North field","source":"F01010100","support":"none","tech":"T010000"}}]},"key":"k103"}"#,
                 r#"{"outcome":"repeated","reply":{"count":10}}"#,
             ),
             (
                 "ISSUER",
-                r#"{"command":"import","notice":{"sender":9,"addressee":7,"number":1,"account":1,"version":1,"parts":[{"first":"07000000000020","last":"07000000000028","lot":{"capacity_w":2000000,"commissioned":"2020-06-15","country":"DE","device":"500000000000000012","first_day":"2025-01-01","issued_on":"2025-03-01","last_day":"2025-01-31","origin":7,"site":"North field","source":"F01010100","support":"none","tech":"T010000"}}]},"key":"k659"}"#,
+                r#"{"command":"import","notice":{"sender":9,"addressee":7,"number":1,"account":1,"version":1,"parts":[{"first":"07000000000020","last":"07000000000028","lot":{"capacity_w":2000000,"commissioned":"2020-06-15","country":"DE","device":"500000000000000012","first_day":"2025-01-01","issued_on":"2025-03-01","last_day":"2025-01-31","origin":7,"site":"North field","source":"F01010100","support":"none","tech":"T010000"}}]},"key":"k104"}"#,
                 r#"{"code":24,"name":"NoticeConflict","outcome":"refused"}"#,
             ),
+            (
+                "SUN",
+                r#"{"command":"export","giver":1,"peer":9,"account":5,"first":"07000000000020","last":"07000000000029","key":"k105"}"#,
+                r#"{"outcome":"accepted","reply":{"count":10,"notice":2}}"#,
+            ),
+            (
+                "ISSUER",
+                r#"{"command":"import","notice":{"sender":9,"addressee":7,"number":1,"account":1,"version":1,"parts":[{"first":"07000000000020","last":"07000000000029","lot":{"capacity_w":2000000,"commissioned":"2020-06-15","country":"DE","device":"500000000000000012","first_day":"2025-01-01","issued_on":"2025-03-01","last_day":"2025-01-31","origin":7,"site":"North field","source":"F01010100","support":"none","tech":"T010000"}}]},"key":"k106"}"#,
+                r#"{"outcome":"repeated","reply":{"count":10}}"#,
+            ),
+            (
+                "ISSUER",
+                r#"{"command":"import","notice":{"sender":9,"addressee":7,"number":2,"account":1,"version":1,"parts":[{"first":"07000000000020","last":"07000000000029","lot":{"capacity_w":2000000,"commissioned":"2020-06-15","country":"DE","device":"500000000000000012","first_day":"2025-01-01","issued_on":"2025-03-01","last_day":"2025-01-31","origin":7,"site":"North field","source":"F01010100","support":"none","tech":"T010000"}}]},"key":"k107"}"#,
+                r#"{"outcome":"accepted","reply":{"count":10}}"#,
+            ),
         ],
         shown: "1 07000000000001 07000000001200 2025-01-01 held\n1 07000000001201 07000000001201 2025-03-01 held\n500000000000000012 1201000000 0 1201 0 0\n",
     },
     Case {
-        name: "the_day_after_the_last",
+        name: "periods_that_are_refused",
         serial: 1,
         begun: 9,
         asked: &[
             (
                 "ISSUER",
-                r#"{"command":"advance","day":"2026-07-31","key":"k638"}"#,
-                r#"{"outcome":"accepted","reply":{"expired":0}}"#,
+                r#"{"command":"declare","device":"500000000000000012","first_day":"2025-03-31","last_day":"2025-04-01","gross_wh":1,"aux_wh":0,"key":"k151"}"#,
+                r#"{"code":12,"name":"PeriodSpan","outcome":"refused"}"#,
             ),
             (
                 "ISSUER",
-                r#"{"command":"advance","day":"2026-08-01","key":"k639"}"#,
-                r#"{"outcome":"accepted","reply":{"expired":1200}}"#,
+                r#"{"command":"declare","device":"500000000000000012","first_day":"2025-04-01","last_day":"2025-04-05","gross_wh":1,"aux_wh":0,"key":"k152"}"#,
+                r#"{"code":28,"name":"FuturePeriod","outcome":"refused"}"#,
+            ),
+            (
+                "ISSUER",
+                r#"{"command":"declare","device":"500000000000000012","first_day":"2020-06-14","last_day":"2020-06-30","gross_wh":1,"aux_wh":0,"key":"k153"}"#,
+                r#"{"code":10,"name":"BeforeCommissioning","outcome":"refused"}"#,
+            ),
+            (
+                "ISSUER",
+                r#"{"command":"declare","device":"500000000000000012","first_day":"2025-03-31","last_day":"2025-03-31","gross_wh":1,"aux_wh":0,"key":"k154"}"#,
+                r#"{"code":11,"name":"PeriodOrder","outcome":"refused"}"#,
             ),
         ],
-        shown: "1 07000000000001 07000000001200 2025-01-01 expired\n1 07000000001201 07000000001201 2025-03-01 held\n500000000000000012 1201000000 0 1201 0 0\n",
+        shown: "",
     },
     Case {
-        name: "the_last_day_and_the_day_after",
+        name: "refusals_of_the_other_commands",
         serial: 1,
         begun: 9,
         asked: &[
             (
                 "ISSUER",
-                r#"{"command":"advance","day":"2026-07-31","key":"k81"}"#,
-                r#"{"outcome":"accepted","reply":{"expired":0}}"#,
+                r#"{"command":"open_holder","holder":"SUN","name":"x","key":"k178"}"#,
+                r#"{"code":4,"name":"HolderExists","outcome":"refused"}"#,
             ),
             (
                 "ISSUER",
-                r#"{"command":"advance","day":"2026-08-01","key":"k82"}"#,
-                r#"{"outcome":"accepted","reply":{"expired":1200}}"#,
+                r#"{"command":"open_holder","holder":"ISSUER","name":"x","key":"k179"}"#,
+                r#"{"code":4,"name":"HolderExists","outcome":"refused"}"#,
+            ),
+            (
+                "ISSUER",
+                r#"{"command":"open_account","holder":"NOBODY","key":"k180"}"#,
+                r#"{"code":3,"name":"UnknownHolder","outcome":"refused"}"#,
+            ),
+            (
+                "ISSUER",
+                r#"{"command":"register_device","account":1,"capacity_w":2000000,"commissioned":"2020-06-15","country":"DE","device":"500000000000000012","site":"North field","source":"F01010100","support":"none","tech":"T010000","key":"k181"}"#,
+                r#"{"code":8,"name":"DeviceExists","outcome":"refused"}"#,
+            ),
+            (
+                "ISSUER",
+                r#"{"command":"declare","device":"500000000000000029","first_day":"2025-04-01","last_day":"2025-04-01","gross_wh":1,"aux_wh":0,"key":"k182"}"#,
+                r#"{"code":9,"name":"UnknownDevice","outcome":"refused"}"#,
             ),
             (
                 "SUN",
-                r#"{"command":"cancel","account":1,"first":"07000000001201","last":"07000000001201","beneficiary":"X","use_first":"2025-01-01","use_last":"2025-03-31","key":"k83"}"#,
-                r#"{"outcome":"accepted","reply":{"cancellation":1,"count":1}}"#,
+                r#"{"command":"transfer","giver":1,"taker":1,"first":"07000000000001","last":"07000000000001","key":"k183"}"#,
+                r#"{"code":19,"name":"SameAccount","outcome":"refused"}"#,
             ),
             (
                 "SUN",
-                r#"{"command":"cancel","account":1,"first":"07000000001200","last":"07000000001200","beneficiary":"X","use_first":"2025-01-01","use_last":"2025-03-31","key":"k84"}"#,
-                r#"{"code":17,"name":"NotHeld","number":"07000000001200","outcome":"refused"}"#,
-            ),
-        ],
-        shown: "1 07000000000001 07000000001200 2025-01-01 expired\n1 07000000001201 07000000001201 2025-03-01 cancelled:1\n500000000000000012 1201000000 0 1201 0 0\n",
-    },
-    Case {
-        name: "the_last_day_of_a_month",
-        serial: 1,
-        begun: 9,
-        asked: &[(
-            "ISSUER",
-            r#"{"command":"advance","day":"2026-07-31","key":"k628"}"#,
-            r#"{"outcome":"accepted","reply":{"expired":0}}"#,
-        )],
-        shown: "1 07000000000001 07000000001200 2025-01-01 held\n1 07000000001201 07000000001201 2025-03-01 held\n500000000000000012 1201000000 0 1201 0 0\n",
-    },
-    Case {
-        name: "the_last_serial_of_all",
-        serial: 999_999_999_999,
-        begun: 5,
-        asked: &[
-            (
-                "ISSUER",
-                r#"{"command":"declare","device":"500000000000000012","first_day":"2025-01-01","last_day":"2025-01-31","gross_wh":2000000,"aux_wh":0,"key":"z"}"#,
-                r#"{"code":15,"name":"NumbersExhausted","outcome":"refused"}"#,
-            ),
-            (
-                "ISSUER",
-                r#"{"command":"declare","device":"500000000000000012","first_day":"2025-01-01","last_day":"2025-01-31","gross_wh":1000000,"aux_wh":0,"key":"z"}"#,
-                r#"{"outcome":"accepted","reply":{"carry":0,"count":1,"first":"07999999999999","last":"07999999999999"}}"#,
-            ),
-            (
-                "ISSUER",
-                r#"{"command":"declare","device":"500000000000000012","first_day":"2025-02-01","last_day":"2025-02-28","gross_wh":999999,"aux_wh":0,"key":"k90"}"#,
-                r#"{"outcome":"accepted","reply":{"carry":999999,"count":0}}"#,
-            ),
-        ],
-        shown: "1 07999999999999 07999999999999 2025-01-01 held\n500000000000000012 1999999 0 1 0 999999\n",
-    },
-    Case {
-        name: "the_same_key_again",
-        serial: 1,
-        begun: 5,
-        asked: &[
-            (
-                "ISSUER",
-                r#"{"command":"declare","device":"500000000000000012","first_day":"2025-01-01","last_day":"2025-01-31","gross_wh":1234567890,"aux_wh":34567890,"key":"x"}"#,
-                r#"{"outcome":"accepted","reply":{"carry":0,"count":1200,"first":"07000000000001","last":"07000000001200"}}"#,
-            ),
-            (
-                "ISSUER",
-                r#"{"command":"declare","device":"500000000000000012","first_day":"2025-02-01","last_day":"2025-02-28","gross_wh":999999,"aux_wh":0,"key":"k14"}"#,
-                r#"{"outcome":"accepted","reply":{"carry":999999,"count":0}}"#,
-            ),
-            (
-                "ISSUER",
-                r#"{"command":"declare","device":"500000000000000012","first_day":"2025-01-01","last_day":"2025-01-31","gross_wh":1234567890,"aux_wh":34567890,"key":"x"}"#,
-                r#"{"outcome":"repeated","reply":{"carry":0,"count":1200,"first":"07000000000001","last":"07000000001200"}}"#,
-            ),
-            (
-                "ISSUER",
-                r#"{"command":"declare","device":"500000000000000012","first_day":"2025-01-01","last_day":"2025-01-31","gross_wh":1234567891,"aux_wh":34567890,"key":"x"}"#,
-                r#"{"code":2,"name":"KeyReused","outcome":"refused"}"#,
+                r#"{"command":"transfer","giver":1,"taker":3,"first":"07000000000001","last":"07000000000001","key":"k184"}"#,
+                r#"{"code":5,"name":"UnknownAccount","outcome":"refused"}"#,
             ),
             (
                 "SUN",
-                r#"{"command":"declare","device":"500000000000000012","first_day":"2025-01-01","last_day":"2025-01-31","gross_wh":1234567890,"aux_wh":34567890,"key":"x"}"#,
-                r#"{"code":1,"name":"NotAllowed","outcome":"refused"}"#,
-            ),
-        ],
-        shown: "1 07000000000001 07000000001200 2025-01-01 held\n500000000000000012 1200999999 0 1200 0 999999\n",
-    },
-    Case {
-        name: "there_and_back",
-        serial: 1,
-        begun: 9,
-        asked: &[
-            (
-                "SUN",
-                r#"{"command":"transfer","giver":1,"taker":2,"first":"07000000000100","last":"07000000000199","key":"k35"}"#,
-                r#"{"outcome":"accepted","reply":{"count":100}}"#,
+                r#"{"command":"transfer","giver":1,"taker":2,"first":"07000000001202","last":"07000000001202","key":"k185"}"#,
+                r#"{"code":16,"name":"UnknownNumber","number":"07000000001202","outcome":"refused"}"#,
             ),
             (
                 "VOLT",
-                r#"{"command":"transfer","giver":2,"taker":1,"first":"07000000000100","last":"07000000000199","key":"k36"}"#,
-                r#"{"outcome":"accepted","reply":{"count":100}}"#,
+                r#"{"command":"transfer","giver":1,"taker":2,"first":"07000000000001","last":"07000000000001","key":"k186"}"#,
+                r#"{"code":1,"name":"NotAllowed","outcome":"refused"}"#,
+            ),
+            (
+                "ISSUER",
+                r#"{"command":"advance","day":"2025-04-05","key":"k187"}"#,
+                r#"{"code":20,"name":"DateBackwards","outcome":"refused"}"#,
+            ),
+            (
+                "SUN",
+                r#"{"command":"export","giver":1,"peer":9,"account":5,"first":"07000000000001","last":"07000000000001","key":"k188"}"#,
+                r#"{"code":21,"name":"UnknownPeer","outcome":"refused"}"#,
+            ),
+            (
+                "ISSUER",
+                r#"{"command":"add_peer","peer":7,"key":"k189"}"#,
+                r#"{"code":22,"name":"PeerExists","outcome":"refused"}"#,
+            ),
+            (
+                "ISSUER",
+                r#"{"command":"import","notice":{"sender":9,"addressee":8,"number":1,"account":1,"version":1,"parts":[{"first":"07000000000001","last":"07000000000001","lot":{"capacity_w":2000000,"commissioned":"2020-06-15","country":"DE","device":"500000000000000012","first_day":"2025-01-01","issued_on":"2025-03-01","last_day":"2025-01-31","origin":7,"site":"North field","source":"F01010100","support":"none","tech":"T010000"}}]},"key":"k190"}"#,
+                r#"{"code":23,"name":"WrongRegistry","outcome":"refused"}"#,
+            ),
+            (
+                "SUN",
+                r#"{"command":"cancel","account":1,"first":"07000000000001","last":"07000000000001","beneficiary":"X","use_first":"2025-03-31","use_last":"2025-01-01","key":"k191"}"#,
+                r#"{"code":29,"name":"UsePeriod","outcome":"refused"}"#,
             ),
         ],
-        shown: "1 07000000000001 07000000001200 2025-01-01 held\n1 07000000001201 07000000001201 2025-03-01 held\n500000000000000012 1201000000 0 1201 0 0\n",
+        shown: "",
     },
 ];

@@ -4,6 +4,117 @@ use crate::worked::Case;
 
 pub const FIFTH: [Case; 4] = [
     Case {
+        name: "another_lot_and_a_stale_one",
+        serial: 1,
+        begun: 10,
+        asked: &[
+            (
+                "SUN",
+                r#"{"command":"export","giver":1,"peer":9,"account":5,"first":"07000000000020","last":"07000000000029","key":"k214"}"#,
+                r#"{"outcome":"accepted","reply":{"count":10,"notice":1}}"#,
+            ),
+            (
+                "ISSUER",
+                r#"{"command":"import","notice":{"sender":9,"addressee":7,"number":1,"account":1,"version":1,"parts":[{"first":"07000000000020","last":"07000000000029","lot":{"capacity_w":2000000,"commissioned":"2020-06-15","country":"DE","device":"500000000000000012","first_day":"2025-01-01","issued_on":"2025-03-01","last_day":"2025-01-31","origin":7,"site":"South field","source":"F01010100","support":"none","tech":"T010000"}}]},"key":"k215"}"#,
+                r#"{"code":26,"name":"LotDiffers","number":"07000000000020","outcome":"refused"}"#,
+            ),
+            (
+                "ISSUER",
+                r#"{"command":"import","notice":{"sender":9,"addressee":7,"number":2,"account":1,"version":1,"parts":[{"first":"09000000000001","last":"09000000000001","lot":{"capacity_w":2000000,"commissioned":"2020-06-15","country":"DE","device":"500000000000000012","first_day":"2023-01-01","issued_on":"2023-03-01","last_day":"2023-01-31","origin":9,"site":"North field","source":"F01010100","support":"none","tech":"T010000"}}]},"key":"k216"}"#,
+                r#"{"code":27,"name":"Stale","outcome":"refused"}"#,
+            ),
+        ],
+        shown: "1 07000000000001 07000000000019 2025-01-01 held\n1 07000000000020 07000000000029 2025-01-01 exported:1\n1 07000000000030 07000000001200 2025-01-01 held\n1 07000000001201 07000000001201 2025-03-01 held\n500000000000000012 1201000000 0 1201 0 0\n",
+    },
+    Case {
+        name: "before_the_date_moves",
+        serial: 1,
+        begun: 7,
+        asked: &[
+            (
+                "ISSUER",
+                r#"{"command":"withdraw","first":"07000000000005","last":"07000000000005","reason":"meter read twice","key":"k415"}"#,
+                r#"{"outcome":"accepted","reply":{"count":1,"withdrawal":1}}"#,
+            ),
+            (
+                "ISSUER",
+                r#"{"command":"withdraw","first":"07000000000005","last":"07000000000005","reason":"meter read twice","key":"k416"}"#,
+                r#"{"code":17,"name":"NotHeld","number":"07000000000005","outcome":"refused"}"#,
+            ),
+            (
+                "SUN",
+                r#"{"command":"withdraw","first":"07000000000006","last":"07000000000006","reason":"meter read twice","key":"k417"}"#,
+                r#"{"code":1,"name":"NotAllowed","outcome":"refused"}"#,
+            ),
+            (
+                "SUN",
+                r#"{"command":"transfer","giver":1,"taker":2,"first":"07000000000100","last":"07000000000199","key":"k418"}"#,
+                r#"{"outcome":"accepted","reply":{"count":100}}"#,
+            ),
+            (
+                "SUN",
+                r#"{"command":"transfer","giver":1,"taker":2,"first":"07000000000007","last":"07000000000007","key":"k419"}"#,
+                r#"{"outcome":"accepted","reply":{"count":1}}"#,
+            ),
+            (
+                "SUN",
+                r#"{"command":"cancel","account":1,"first":"07000000000006","last":"07000000000010","beneficiary":"X","use_first":"2025-01-01","use_last":"2025-03-31","key":"k420"}"#,
+                r#"{"code":17,"name":"NotHeld","number":"07000000000007","outcome":"refused"}"#,
+            ),
+            (
+                "ISSUER",
+                r#"{"command":"open_holder","holder":"SUN","name":"x","key":"k421"}"#,
+                r#"{"code":4,"name":"HolderExists","outcome":"refused"}"#,
+            ),
+            (
+                "ISSUER",
+                r#"{"command":"open_holder","holder":"ISSUER","name":"x","key":"k422"}"#,
+                r#"{"code":4,"name":"HolderExists","outcome":"refused"}"#,
+            ),
+            (
+                "ISSUER",
+                r#"{"command":"open_account","holder":"NOBODY","key":"k423"}"#,
+                r#"{"code":3,"name":"UnknownHolder","outcome":"refused"}"#,
+            ),
+            (
+                "ISSUER",
+                r#"{"command":"register_device","account":1,"capacity_w":2000000,"commissioned":"2020-06-15","country":"DE","device":"500000000000000012","site":"North field","source":"F01010100","support":"none","tech":"T010000","key":"k424"}"#,
+                r#"{"code":8,"name":"DeviceExists","outcome":"refused"}"#,
+            ),
+            (
+                "ISSUER",
+                r#"{"command":"declare","device":"500000000000000029","first_day":"2025-01-01","last_day":"2025-01-31","gross_wh":5,"aux_wh":0,"key":"k425"}"#,
+                r#"{"code":9,"name":"UnknownDevice","outcome":"refused"}"#,
+            ),
+            (
+                "SUN",
+                r#"{"command":"transfer","giver":1,"taker":1,"first":"07000000000001","last":"07000000000001","key":"k426"}"#,
+                r#"{"code":19,"name":"SameAccount","outcome":"refused"}"#,
+            ),
+            (
+                "SUN",
+                r#"{"command":"transfer","giver":1,"taker":3,"first":"07000000000001","last":"07000000000001","key":"k427"}"#,
+                r#"{"code":5,"name":"UnknownAccount","outcome":"refused"}"#,
+            ),
+            (
+                "SUN",
+                r#"{"command":"transfer","giver":1,"taker":2,"first":"07000000001202","last":"07000000001202","key":"k428"}"#,
+                r#"{"code":16,"name":"UnknownNumber","number":"07000000001202","outcome":"refused"}"#,
+            ),
+            (
+                "VOLT",
+                r#"{"command":"transfer","giver":1,"taker":2,"first":"07000000000001","last":"07000000000001","key":"k429"}"#,
+                r#"{"code":1,"name":"NotAllowed","outcome":"refused"}"#,
+            ),
+            (
+                "SUN",
+                r#"{"command":"cancel","account":1,"first":"07000000000001","last":"07000000000001","beneficiary":"X","use_first":"2025-03-31","use_last":"2025-01-01","key":"k430"}"#,
+                r#"{"code":29,"name":"UsePeriod","outcome":"refused"}"#,
+            ),
+        ],
+        shown: "",
+    },
+    Case {
         name: "certificates_of_another_registry",
         serial: 1,
         begun: 10,
@@ -118,91 +229,5 @@ pub const FIFTH: [Case; 4] = [
             ),
         ],
         shown: "1 07000000000001 07000000000003 2025-01-01 expired\n1 07000000000007 07000000000007 2025-01-01 expired\n1 07000000000008 07000000000008 2025-01-01 withdrawn:1\n1 07000000000009 07000000000009 2025-01-01 expired\n1 07000000000010 07000000000010 2025-01-01 withdrawn:2\n1 07000000000011 07000000000011 2025-02-01 withdrawn:2\n2 07000000000004 07000000000004 2025-01-01 expired\n2 07000000000005 07000000000005 2025-01-01 cancelled:1\n2 07000000000006 07000000000006 2025-01-01 cancelled:1\n500000000000000012 5000000 0 5 0 0\n500000000000000029 6400000 1400000 6 1 0\n",
-    },
-    Case {
-        name: "closing_an_account",
-        serial: 1,
-        begun: 5,
-        asked: &[
-            (
-                "ISSUER",
-                r#"{"command":"declare","device":"500000000000000012","first_day":"2025-01-01","last_day":"2025-01-31","gross_wh":1000000,"aux_wh":0,"key":"k125"}"#,
-                r#"{"outcome":"accepted","reply":{"carry":0,"count":1,"first":"07000000000001","last":"07000000000001"}}"#,
-            ),
-            (
-                "ISSUER",
-                r#"{"command":"close_account","account":1,"key":"k126"}"#,
-                r#"{"code":7,"name":"AccountNotEmpty","outcome":"refused"}"#,
-            ),
-            (
-                "SUN",
-                r#"{"command":"cancel","account":1,"first":"07000000000001","last":"07000000000001","beneficiary":"X","use_first":"2025-01-01","use_last":"2025-03-31","key":"k127"}"#,
-                r#"{"outcome":"accepted","reply":{"cancellation":1,"count":1}}"#,
-            ),
-            (
-                "ISSUER",
-                r#"{"command":"close_account","account":1,"key":"k128"}"#,
-                r#"{"outcome":"accepted","reply":{}}"#,
-            ),
-            (
-                "ISSUER",
-                r#"{"command":"close_account","account":1,"key":"k129"}"#,
-                r#"{"code":6,"name":"AccountClosed","outcome":"refused"}"#,
-            ),
-        ],
-        shown: "1 07000000000001 07000000000001 2025-01-01 cancelled:1\n500000000000000012 1000000 0 1 0 0\n",
-    },
-    Case {
-        name: "corrections_after_the_deadlines",
-        serial: 1,
-        begun: 9,
-        asked: &[
-            (
-                "ISSUER",
-                r#"{"command":"advance","day":"2026-02-01","key":"k827"}"#,
-                r#"{"outcome":"accepted","reply":{"expired":0}}"#,
-            ),
-            (
-                "SUN",
-                r#"{"command":"transfer","giver":1,"taker":2,"first":"07000000000001","last":"07000000000001","key":"k828"}"#,
-                r#"{"code":18,"name":"TradeClosed","number":"07000000000001","outcome":"refused"}"#,
-            ),
-            (
-                "ISSUER",
-                r#"{"command":"correct","device":"500000000000000012","first_day":"2025-01-01","less_wh":1000000,"first":"07000000000001","last":"07000000000001","reason":"meter read twice","key":"k829"}"#,
-                r#"{"outcome":"accepted","reply":{"carry":0,"count":1,"withdrawal":1}}"#,
-            ),
-            (
-                "ISSUER",
-                r#"{"command":"advance","day":"2026-08-01","key":"k830"}"#,
-                r#"{"outcome":"accepted","reply":{"expired":1199}}"#,
-            ),
-            (
-                "ISSUER",
-                r#"{"command":"correct","device":"500000000000000012","first_day":"2025-01-01","less_wh":1000000,"first":"07000000000002","last":"07000000000002","reason":"meter read twice","key":"k831"}"#,
-                r#"{"code":17,"name":"NotHeld","number":"07000000000002","outcome":"refused"}"#,
-            ),
-            (
-                "ISSUER",
-                r#"{"command":"correct","device":"500000000000000012","first_day":"2025-01-01","less_wh":1000000,"first":"07000000001201","last":"07000000001201","reason":"meter read twice","key":"k832"}"#,
-                r#"{"outcome":"accepted","reply":{"carry":0,"count":1,"withdrawal":2}}"#,
-            ),
-            (
-                "ISSUER",
-                r#"{"command":"correct","device":"500000000000000012","first_day":"2025-01-01","less_wh":1,"first":"","last":"","reason":"meter read twice","key":"k833"}"#,
-                r#"{"code":33,"name":"WrongCount","outcome":"refused"}"#,
-            ),
-            (
-                "SUN",
-                r#"{"command":"close_account","account":1,"key":"k834"}"#,
-                r#"{"outcome":"accepted","reply":{}}"#,
-            ),
-            (
-                "ISSUER",
-                r#"{"command":"correct","device":"500000000000000012","first_day":"2025-02-01","less_wh":0,"first":"","last":"","reason":"meter read twice","key":"k835"}"#,
-                r#"{"outcome":"accepted","reply":{"carry":0,"count":0,"withdrawal":0}}"#,
-            ),
-        ],
-        shown: "1 07000000000001 07000000000001 2025-01-01 withdrawn:1\n1 07000000000002 07000000001200 2025-01-01 expired\n1 07000000001201 07000000001201 2025-03-01 withdrawn:2\n500000000000000012 1201000000 2000000 1201 2 0\n",
     },
 ];
