@@ -14,7 +14,7 @@ const JANUARY: &str =
     \"first_day\":\"2025-01-01\",\"gross_wh\":1234567890,\"key\":\"d1\",\"last_day\":\"2025-01-31\"}";
 
 /// A body, and why it states no request.
-static FAULTS: [(&str, BodyFault); 55] = [
+static FAULTS: [(&str, BodyFault); 60] = [
     ("", BodyFault::NotJson),
     ("{} {}", BodyFault::NotJson),
     (
@@ -222,21 +222,52 @@ static FAULTS: [(&str, BodyFault); 55] = [
         BodyFault::Field,
     ),
     (
-        "{\"account\":1,\"capacity_w\":2000000,\"carrier\":\"electricity\",\"command\":\"register_device\",\
+        "{\"account\":1,\"capacity_w\":2000000,\"carrier\":\"Hydrogen\",\"command\":\"register_device\",\
          \"commissioned\":\"2020-06-15\",\"country\":\"DE\",\"device\":\"500000000000000012\",\"key\":\"k\",\
          \"site\":\"North field\",\"source\":\"F01010100\",\"support\":\"none\",\"tech\":\"T010000\"}",
+        BodyFault::Field,
+    ),
+    (
+        "{\"account\":1,\"capacity_w\":2000000,\"carrier\":\"\",\"command\":\"register_device\",\
+         \"commissioned\":\"2020-06-15\",\"country\":\"DE\",\"device\":\"500000000000000012\",\"key\":\"k\",\
+         \"site\":\"North field\",\"source\":\"F01010100\",\"support\":\"none\",\"tech\":\"T010000\"}",
+        BodyFault::Field,
+    ),
+    (
+        "{\"account\":1,\"capacity_w\":2000000,\"carrier\":1,\"command\":\"register_device\",\
+         \"commissioned\":\"2020-06-15\",\"country\":\"DE\",\"device\":\"500000000000000012\",\"key\":\"k\",\
+         \"site\":\"North field\",\"source\":\"F01010100\",\"support\":\"none\",\"tech\":\"T010000\"}",
+        BodyFault::Shape,
+    ),
+    (
+        "{\"account\":1,\"capacity_w\":2000000,\"carrier\":null,\"command\":\"register_device\",\
+         \"commissioned\":\"2020-06-15\",\"country\":\"DE\",\"device\":\"500000000000000012\",\"key\":\"k\",\
+         \"site\":\"North field\",\"source\":\"F01010100\",\"support\":\"none\",\"tech\":\"T010000\"}",
+        BodyFault::Shape,
+    ),
+    (
+        "{\"account\":1,\"capacity_w\":2000000,\"carrier\":\"gas\",\"command\":\"register_device\",\
+         \"commissioned\":\"2020-06-15\",\"country\":\"DE\",\"device\":\"500000000000000012\",\"key\":\"k\",\
+         \"site\":\"North field\",\"source\":\"F01010100\",\"tech\":\"T010000\"}",
+        BodyFault::Shape,
+    ),
+    (
+        "{\"account\":1,\"carrier\":\"electricity\",\"command\":\"close_account\",\"key\":\"k\"}",
         BodyFault::Shape,
     ),
 ];
 
 /// What commands are read as and told as, but for their first sign.
-static COMMANDS: [&str; 14] = [
+static COMMANDS: [&str; 16] = [
     "\"command\":\"open_holder\",\"holder\":\"SUN\",\"name\":\"Sun Power\"}",
     "\"command\":\"open_account\",\"holder\":\"SUN\"}",
     "\"account\":1,\"command\":\"close_account\"}",
     "\"account\":1,\"capacity_w\":2000000,\"command\":\"register_device\",\"commissioned\":\"2020-06-15\",\
      \"country\":\"DE\",\"device\":\"500000000000000012\",\"site\":\"North field\",\"source\":\"F01010100\",\
      \"support\":\"none\",\"tech\":\"T010000\"}",
+    "\"account\":1,\"capacity_w\":2000000,\"carrier\":\"hydrogen\",\"command\":\"register_device\",\
+     \"commissioned\":\"2020-06-15\",\"country\":\"DE\",\"device\":\"500000000000000012\",\"site\":\"North field\",\
+     \"source\":\"F01010100\",\"support\":\"none\",\"tech\":\"T010000\"}",
     "\"aux_wh\":0,\"command\":\"declare\",\"device\":\"500000000000000012\",\"first_day\":\"2025-02-01\",\
      \"gross_wh\":999999,\"last_day\":\"2025-02-28\"}",
     "\"command\":\"correct\",\"device\":\"500000000000000012\",\"first\":\"\",\"first_day\":\"2025-01-01\",\
@@ -258,6 +289,12 @@ static COMMANDS: [&str; 14] = [
      \"device\":\"500000000000000012\",\"first_day\":\"2025-01-01\",\"issued_on\":\"2025-03-01\",\
      \"last_day\":\"2025-01-31\",\"origin\":7,\"site\":\"North field\",\"source\":\"F01010100\",\
      \"support\":\"none\",\"tech\":\"T010000\"}}],\"sender\":7,\"version\":1}}",
+    "\"command\":\"import\",\"notice\":{\"account\":5,\"addressee\":9,\"number\":1,\
+     \"parts\":[{\"first\":\"07000000000020\",\"last\":\"07000000000029\",\
+     \"lot\":{\"capacity_w\":2000000,\"carrier\":\"gas\",\"commissioned\":\"2020-06-15\",\"country\":\"DE\",\
+     \"device\":\"500000000000000012\",\"first_day\":\"2025-01-01\",\"issued_on\":\"2025-03-01\",\
+     \"last_day\":\"2025-01-31\",\"origin\":7,\"site\":\"North field\",\"source\":\"F01010100\",\
+     \"support\":\"none\",\"tech\":\"T010000\"}}],\"sender\":7,\"version\":2}}",
 ];
 
 /// What a body of the issuing body's states.
@@ -325,6 +362,22 @@ fn each_command(rt: HostRuntime) {
     for command in &COMMANDS {
         is_told_again(&rt, rt.alloc(), *command);
     }
+}
+
+/// A device of electricity, which the text of a command leaves out.
+#[test]
+fn electricity_is_not_told(rt: HostRuntime) {
+    let alloc = rt.alloc();
+    let (_, rest) = COMMANDS[3]
+        .split_once("\"command\"")
+        .expect(&rt, "a command");
+    let numbers = "\"account\":1,\"capacity_w\":2000000";
+    let body = format!(in alloc;
+        "{{\"key\":\"k\",{numbers},\"carrier\":\"electricity\",\"command\"{rest}"
+    ).expect(&rt, "memory");
+    let request = read(&rt, alloc, body.as_bytes()).expect(&rt, "a request");
+    let wanted = format!(in alloc; "{{{numbers},\"command\"{rest}").expect(&rt, "memory");
+    is_told(&rt, alloc, &request.command, &wanted);
 }
 
 #[test]
