@@ -119,6 +119,27 @@ pub const QUOTED: [Line; 2] = [
     ),
 ];
 
+/// A device of hydrogen, with one certificate beside two of electricity, and another registry, which sends certificates of gas and of heat.
+pub const CARRIERS: [Line; 5] = [
+    (
+        "ISSUER",
+        r#"{"account":1,"capacity_w":2000000,"carrier":"hydrogen","command":"register_device","commissioned":"2020-06-15","country":"DE","device":"500000000000000029","key":"y1","site":"South field","source":"F01010100","support":"none","tech":"T010000"}"#,
+    ),
+    (
+        "ISSUER",
+        r#"{"aux_wh":0,"command":"declare","device":"500000000000000012","first_day":"2025-01-01","gross_wh":2000000,"key":"y2","last_day":"2025-01-31"}"#,
+    ),
+    (
+        "ISSUER",
+        r#"{"aux_wh":0,"command":"declare","device":"500000000000000029","first_day":"2025-01-01","gross_wh":1000000,"key":"y3","last_day":"2025-01-31"}"#,
+    ),
+    ("ISSUER", r#"{"command":"add_peer","key":"y4","peer":9}"#),
+    (
+        "ISSUER",
+        r#"{"command":"import","key":"y5","notice":{"account":1,"addressee":7,"number":1,"parts":[{"first":"09000000000001","last":"09000000000004","lot":{"capacity_w":1000,"carrier":"gas","commissioned":"2021-01-01","country":"NL","device":"500000000000000012","first_day":"2025-02-01","issued_on":"2025-03-01","last_day":"2025-02-28","origin":9,"site":"Pipe","source":"F01010100","support":"both","tech":"T010000"}},{"first":"09000000000005","last":"09000000000005","lot":{"capacity_w":1000,"carrier":"heating-cooling","commissioned":"2021-01-01","country":"NL","device":"500000000000000029","first_day":"2025-02-01","issued_on":"2025-03-01","last_day":"2025-02-28","origin":9,"site":"Pipe","source":"F01010100","support":"both","tech":"T010000"}}],"sender":9,"version":2}}"#,
+    ),
+];
+
 /// Requests are sent, and each is accepted.
 pub fn sends<S: Shelf>(rt: &impl Abort, alloc: Global, registry: &mut Registry<S>, lines: &[Line]) {
     for line in lines {

@@ -2,11 +2,11 @@
 
 mod values {
     pub use goo_types::{
-        AccountNo, ActNo, AddPeer, Advance, Cancel, CloseAccount, Command, Correct, Country, Day,
-        DayFault, Declare, Export, Fault, Gsrn, GsrnFault, HolderCode, Import, Key, Lot, LotFields,
-        Name, Notice, Number, NumberFault, OpenAccount, OpenHolder, Outcome, Part, Place, Range,
-        Refusal, RegisterDevice, RegistryCode, Reply, Request, RuleFault, Serial, SourceCode,
-        Support, TechCode, TextFault, Transfer, Watts, Wh, Withdraw,
+        AccountNo, ActNo, AddPeer, Advance, Cancel, Carrier, CloseAccount, Command, Correct,
+        Country, Day, DayFault, Declare, Export, Fault, Gsrn, GsrnFault, HolderCode, Import, Key,
+        Lot, LotFields, Name, Notice, Number, NumberFault, OpenAccount, OpenHolder, Outcome, Part,
+        Place, Range, Refusal, RegisterDevice, RegistryCode, Reply, Request, RuleFault, Serial,
+        SourceCode, Support, TechCode, TextFault, Transfer, Watts, Wh, Withdraw,
     };
 }
 

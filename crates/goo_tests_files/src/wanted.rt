@@ -24,6 +24,14 @@ pub const LEFT: &str =
 pub const QUOTED: &str =
     "first,last,count,device,country,site,tech,source,capacity_w,commissioned,support,first_day,last_day,issued_on,carrier\n07000000000002,07000000000002,1,500000000000000029,DE,\"Field \"\"B\"\", north\",T010000,F01010100,2000000,2020-06-15,both,2025-01-01,2025-01-31,2025-03-01,electricity\n";
 
+/// Certificates of each carrier.
+pub const CARRIERS: &str =
+    "first,last,count,device,country,site,tech,source,capacity_w,commissioned,support,first_day,last_day,issued_on,carrier\n07000000000001,07000000000002,2,500000000000000012,DE,North field,T010000,F01010100,2000000,2020-06-15,none,2025-01-01,2025-01-31,2025-03-01,electricity\n07000000000003,07000000000003,1,500000000000000029,DE,South field,T010000,F01010100,2000000,2020-06-15,none,2025-01-01,2025-01-31,2025-03-01,hydrogen\n09000000000001,09000000000004,4,500000000000000012,NL,Pipe,T010000,F01010100,1000,2021-01-01,both,2025-02-01,2025-02-28,2025-03-01,gas\n09000000000005,09000000000005,1,500000000000000029,NL,Pipe,T010000,F01010100,1000,2021-01-01,both,2025-02-01,2025-02-28,2025-03-01,heating-cooling\n";
+
+/// Their statement, which states no carrier.
+pub const OF_CARRIERS: &str =
+    "STATEMENT\nregistry 07\ndate 2025-03-01\naccount 1\nholder SUN\nstatus open\n07000000000001 07000000000002            2 500000000000000012 2025-01-01 2025-01-31 T010000 F01010100 held\n07000000000003 07000000000003            1 500000000000000029 2025-01-01 2025-01-31 T010000 F01010100 held\n09000000000001 09000000000004            4 500000000000000012 2025-02-01 2025-02-28 T010000 F01010100 held\n09000000000005 09000000000005            1 500000000000000029 2025-02-01 2025-02-28 T010000 F01010100 held\nheld 8\ncancelled 0\nexpired 0\nwithdrawn 0\nexported 0\nEND\n";
+
 /// The document of the cancellation.
 pub const DOCUMENT: &str =
     "CANCELLATION 1\nregistry 07\ndate 2025-04-05\naccount 1\nholder SUN\nbeneficiary Bäckerei Müller\nperiod 2025-01-01 2025-03-31\n07000000000001 07000000000010           10 500000000000000012 2025-01-01 2025-01-31 T010000 F01010100\ncertificates 10\nEND\n";
