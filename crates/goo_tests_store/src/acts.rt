@@ -5,6 +5,7 @@
 
 use crate::account_runs::shows_runs;
 use crate::asking::plays;
+use crate::carriers::{carries, trades_carriers};
 use crate::claims::holds;
 use crate::found::{MEMBERS, finds_members, finds_nothing};
 use crate::parts::sends_parts;
@@ -43,6 +44,10 @@ pub enum Act<'a> {
     Moves,
     /// The same once more, and the texts that people are given then.
     Keeps,
+    /// Certificates of each carrier, and what is held then.
+    Carries,
+    /// After these, the hydrogen out and back, and more of it.
+    TradesCarriers,
     /// All requests, and what it shows before the first and after each is told.
     Sights,
     /// All requests, up to the first `Store`.
@@ -104,6 +109,8 @@ fn asks_for<S: Shelf>(rt: &impl Abort, alloc: Global, registry: &mut Registry<S>
         Act::Writes => writes(rt, alloc, registry),
         Act::Moves => moves(rt, alloc, registry),
         Act::Keeps => keeps(rt, alloc, registry),
+        Act::Carries => carries(rt, alloc, registry),
+        Act::TradesCarriers => trades_carriers(rt, alloc, registry),
         Act::FindsMembers => answers(rt, alloc, registry, &MEMBERS),
         Act::GoesOn(answered, wanted) => goes_on_from(rt, alloc, registry, *answered, wanted),
         _ => (),

@@ -11,7 +11,7 @@ use std::alloc::Global;
 use std::process::Abort;
 
 /// What is done to the tables, how it is undone, and why they are not opened in between.
-type Damage = (&'static str, &'static str, OpenFault);
+pub type Damage = (&'static str, &'static str, OpenFault);
 
 /// Values that are damaged.
 const VALUES: [Damage; 16] = [
@@ -157,8 +157,8 @@ const CORRECTED: Case = Case {
     shown: "",
 };
 
-/// Corrections that are damaged, and carriers, which no device and no lot has yet. Some leave the device's sum as it was.
-const CORRECTIONS: [Damage; 12] = [
+/// Corrections that are damaged. Some leave the device's sum as it was.
+const CORRECTIONS: [Damage; 10] = [
     (
         "UPDATE correction SET less = 1 WHERE id = 2",
         "UPDATE correction SET less = 2 WHERE id = 2",
@@ -209,16 +209,6 @@ const CORRECTIONS: [Damage; 12] = [
         "UPDATE receipt SET n3 = 1 WHERE key = 'c1'",
         OpenFault::Damaged,
     ),
-    (
-        "INSERT INTO device_carrier VALUES ('500000000000000012', 'electricity')",
-        "DELETE FROM device_carrier",
-        OpenFault::Damaged,
-    ),
-    (
-        "INSERT INTO lot_carrier VALUES (1, 'hydrogen')",
-        "DELETE FROM lot_carrier",
-        OpenFault::Damaged,
-    ),
 ];
 
 /// Tables that are damaged are not opened, for this reason, and are opened once that is undone.
@@ -241,7 +231,7 @@ pub fn is_damaged(rt: &impl Abort, alloc: Global, disks: Disks, sql: &str) -> Di
 }
 
 /// The same of each of some damages, one after another.
-fn are_refused(rt: &impl Abort, alloc: Global, disks: Disks, damages: &[Damage]) -> Disks {
+pub fn are_refused(rt: &impl Abort, alloc: Global, disks: Disks, damages: &[Damage]) -> Disks {
     let mut disks = disks;
     for damage in damages {
         disks = is_refused(rt, alloc, disks, damage);

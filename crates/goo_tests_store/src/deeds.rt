@@ -8,6 +8,7 @@ ghost use Rattle.sqlite.specs.State.{HasCleanDisk};
 ghost use Rattle.goo_tables_rows.specs.Met.{IsInKeyOrder};
 
 use crate::acts::{Act, Done, done_by_lists, works};
+use crate::carriers::finds_carriers;
 use crate::claims::holds;
 use crate::disks::{Disks, blank};
 use crate::registries::{Entered, begun, opened, opened_again};
@@ -31,6 +32,8 @@ pub enum Deed<'a> {
     Edits(&'a str),
     /// The tables are asked for rows after a withdrawal.
     FindsWithdrawn,
+    /// The tables of carriers are asked for their rows, which are these.
+    FindsCarriers(&'a str),
 }
 
 /// A registry that was entered is asked, if it was.
@@ -108,6 +111,11 @@ fn performs<S: Alter + Drop>(
         Deed::FindsWithdrawn => {
             let mut conn = conn;
             finds_withdrawn(rt, alloc, &mut conn);
+            (Done::All, conn)
+        }
+        Deed::FindsCarriers(wanted) => {
+            let mut conn = conn;
+            finds_carriers(rt, alloc, &mut conn, wanted);
             (Done::All, conn)
         }
     }

@@ -13,6 +13,8 @@ mod acts;
 #[cfg(test)]
 mod asking;
 #[cfg(test)]
+mod carriers;
+#[cfg(test)]
 mod cases;
 #[cfg(test)]
 mod claims;

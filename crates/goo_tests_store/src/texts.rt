@@ -29,7 +29,7 @@ const ROOM: usize = 10_000;
 
 /// A text that is asked for.
 #[derive(Clone, Copy)]
-enum Text {
+pub enum Text {
     /// The statement of an account.
     Statement(u32),
     /// The holdings of an account.
@@ -41,7 +41,7 @@ enum Text {
 }
 
 /// Who asks for a text, and what comes of it.
-type Asked = (&'static str, Text, Result<&'static str, TextFault>);
+pub type Asked = (&'static str, Text, Result<&'static str, TextFault>);
 
 /// Of a new registry.
 const AT_FIRST: [Asked; 1] = [("ISSUER", Text::Audit, Ok(""))];
@@ -145,7 +145,7 @@ fn gives<S: Shelf>(rt: &impl Abort, alloc: Global, registry: &mut Registry<S>, a
 }
 
 /// Texts that are asked for, in turn.
-fn gives_all<S: Shelf>(
+pub fn gives_all<S: Shelf>(
     rt: &impl Abort,
     alloc: Global,
     registry: &mut Registry<S>,
