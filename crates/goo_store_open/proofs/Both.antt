@@ -29,7 +29,7 @@ module _ (layout : Layout) (a b : State) (x : Common) (later : Later) (all : All
       (subst (λ (z : AllRows). OnlyReads First a b (Ok z) ShowsAll) (sym same)
       (reads_made First a b x (rows_of_both x later) ShowsCommon ShowsAll (subst (λ (l : Layout). OnlyReads l a b (Ok x) ShowsCommon) is reads) (λ db h. record {
         members = h.members;
-        production = record { devices = h.issued.devices; declarations = h.issued.declarations; corrections = none_kept _ _ _ later.corrections.items corrections; lots = h.issued.lots; pieces = h.issued.pieces };
+        production = record { devices = h.issued.devices; bare_devices = h.issued.bare_devices; declarations = h.issued.declarations; corrections = none_kept _ _ _ later.corrections.items corrections; lots = h.issued.lots; bare_lots = h.issued.bare_lots; pieces = h.issued.pieces };
         acts = h.acts;
         notices = h.notices;
         carriers = record { devices = none_some _ _ later.carriers.devices.items devices; lots = none_kept _ _ _ later.carriers.lots.items lots };
@@ -40,7 +40,7 @@ module _ (layout : Layout) (a b : State) (x : Common) (later : Later) (all : All
       (subst (λ (z : AllRows). OnlyReads Ours a c (Ok z) ShowsAll) (sym same)
       (reads_made Ours a c later (rows_of_both x later) _ ShowsAll (reads_then Ours a b c x (Ok later) ShowsCommon ShowsLater (subst (λ (l : Layout). OnlyReads l a b (Ok x) ShowsCommon) is one) two) (λ db h. record {
         members = h.0.members;
-        production = record { devices = h.0.issued.devices; declarations = h.0.issued.declarations; corrections = h.1.corrections; lots = h.0.issued.lots; pieces = h.0.issued.pieces };
+        production = record { devices = h.0.issued.devices; bare_devices = h.0.issued.bare_devices; declarations = h.0.issued.declarations; corrections = h.1.corrections; lots = h.0.issued.lots; bare_lots = h.0.issued.bare_lots; pieces = h.0.issued.pieces };
         acts = h.0.acts;
         notices = h.0.notices;
         carriers = h.1.carriers;

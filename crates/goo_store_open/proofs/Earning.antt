@@ -7,7 +7,7 @@ use Rattle.sqlite.specs.declared.error.Error.{Error}
 use Rattle.sqlite.specs.declared.error.Error.TheVariants.{SqliteFailure}
 use Rattle.sqlite.specs.declared.error.ErrorCode.TheVariants.{OutOfMemory}
 use Rattle.goo_tables_rows.specs.Readable.{is_read_error}
-use Rattle.goo_tables_rows.specs.Rows.{Tables, Meta, Numbered, meta_row, meta_at, numbered_row, numbered_key, meta_in, account_in, declaration_in, lot_in, cancellation_in, withdrawal_in, notice_out_in, correction_in, lot_carrier_in}
+use Rattle.goo_tables_rows.specs.Rows.{Tables, Meta, Numbered, meta_row, meta_at, numbered_row, numbered_key, meta_in, account_in, declaration_in, lot_in, cancellation_in, withdrawal_in, notice_out_in, correction_in, lot_carrier_in, device_in, carried_device, carried_lot}
 use Rattle.goo_tables_rows.specs.Columns.{registry_schema}
 use Rattle.goo_tables_rows.specs.Cells.{number_in}
 use Rattle.goo_tables_rows.specs.Refused.{IsFault, is_store_error}
@@ -22,6 +22,7 @@ use Rattle.goo_store_open.specs.declared.fault.OpenFault.{OpenFault}
 use Rattle.goo_store_open.specs.declared.fault.OpenFault.TheVariants.{Damaged, Store, Memory}
 use Rattle.goo_store_open.specs.declared.layout.Layout.{Layout}
 use Rattle.goo_store_open.specs.declared.layout.Layout.TheVariants.{First, Ours}
+use Rattle.goo_store_open.proofs.Carrying.{devices_kept, devices_carried, devices_bare, lots_kept, lots_carried, lots_bare}
 use Rattle.goo_store_open.proofs.Chaining.{reads_then}
 
 abbrev tables : (m : MetaRow) (db : Database) (x : AllRows) → ShowsAll db x → Tables
@@ -29,9 +30,9 @@ tables m db x shows = record {
   meta = meta_in m;
   holders = shows.members.holders.0;
   accounts = map account_in x.members.accounts.items;
-  devices = shows.production.devices.0;
+  devices = map (carried_device shows.carriers.devices.0) shows.production.devices.0;
   declarations = map declaration_in x.production.declarations.items;
-  lots = map lot_in x.production.lots.items;
+  lots = map (carried_lot (map lot_carrier_in x.carriers.lots.items)) (map lot_in x.production.lots.items);
   pieces = x.production.pieces.items;
   peers = shows.members.peers.0;
   receipts = shows.acts.receipts.0;
@@ -52,9 +53,9 @@ earned layout db m x ours one all = (
     meta = one.only;
     holders = all.members.holders.1;
     accounts = all.members.accounts;
-    devices = all.production.devices.1;
+    devices = devices_kept all.carriers.devices.0 (db.trees 4) all.production.devices.0 all.production.devices.1;
     declarations = all.production.declarations;
-    lots = all.production.lots;
+    lots = lots_kept (map lot_carrier_in x.carriers.lots.items) (db.trees 8) (map lot_in x.production.lots.items) all.production.lots;
     pieces = all.production.pieces;
     peers = all.members.peers.1;
     receipts = all.acts.receipts.1;
@@ -65,15 +66,17 @@ earned layout db m x ours one all = (
     corrections = all.production.corrections;
     device_carriers = all.carriers.devices.1;
     lot_carriers = all.carriers.lots;
+    devices_carried = devices_carried all.carriers.devices.0 all.production.devices.0;
+    lots_carried = lots_carried (map lot_carrier_in x.carriers.lots.items) (map lot_in x.production.lots.items);
   },
   record {
     meta = refl;
     holders = sym all.members.holders.2;
     accounts = refl;
     peers = sym all.members.peers.2;
-    devices = sym all.production.devices.2;
+    devices = devices_bare all.carriers.devices.0 all.production.devices.0 (map device_in x.production.devices.items) all.production.devices.2 all.production.bare_devices;
     declarations = refl;
-    lots = refl;
+    lots = lots_bare (map lot_carrier_in x.carriers.lots.items) (map lot_in x.production.lots.items) all.production.bare_lots;
     pieces = refl;
     receipts = sym all.acts.receipts.2;
     cancellations = refl;

@@ -1,4 +1,5 @@
 pub mod Both
+pub mod Carrying
 pub mod Chaining
 pub mod Earning
 pub mod OnFiles

@@ -1,7 +1,7 @@
 -- What the rows that were read tell of the database.
-use Rattle.std.specs.Prelude.{map}
+use Rattle.std.specs.Prelude.{◌≡◌, map}
 use Rattle.sqlite.specs.Effect.{Database}
-use Rattle.goo_tables_rows.specs.Rows.{holder_row, holder_in, account_row, account_key, account_in, device_row, device_in, declaration_row, declaration_key, declaration_in, lot_row, lot_key, lot_in, piece_row, piece_key, peer_row, receipt_row, receipt_in, cancellation_row, cancellation_key, cancellation_in, withdrawal_row, withdrawal_key, withdrawal_in, notice_out_row, notice_out_key, notice_out_in, notice_in_row, notice_in_in, correction_row, correction_key, correction_in, device_carrier_row, device_carrier_in, lot_carrier_row, lot_carrier_key, lot_carrier_in}
+use Rattle.goo_tables_rows.specs.Rows.{holder_row, holder_in, account_row, account_key, account_in, device_row, device_in, declaration_row, declaration_key, declaration_in, lot_row, lot_key, lot_in, bare_device, bare_lot, piece_row, piece_key, peer_row, receipt_row, receipt_in, cancellation_row, cancellation_key, cancellation_in, withdrawal_row, withdrawal_key, withdrawal_in, notice_out_row, notice_out_key, notice_out_in, notice_in_row, notice_in_in, correction_row, correction_key, correction_in, device_carrier_row, device_carrier_in, lot_carrier_row, lot_carrier_key, lot_carrier_in}
 use Rattle.goo_tables_rows.specs.Stands.{Keeps}
 use Rattle.goo_tables_rows.specs.Met.{KeepsSome}
 use Rattle.goo_store_open.specs.declared.rows.Members.{Members}
@@ -19,10 +19,13 @@ pub record ShowsMembers (db : Database) (x : Members) : Type 0 where
   pub accounts : Keeps (db.trees 3) account_row account_key (map account_in x.accounts.items)
   pub peers : KeepsSome (db.trees 11) peer_row x.peers.items
 
+-- devices and lots without their carriers
 pub record ShowsIssued (db : Database) (x : Issued) : Type 0 where
   pub devices : KeepsSome (db.trees 4) device_row (map device_in x.devices.items)
+  pub bare_devices : map device_in x.devices.items ≡ map bare_device (map device_in x.devices.items)
   pub declarations : Keeps (db.trees 6) declaration_row declaration_key (map declaration_in x.declarations.items)
   pub lots : Keeps (db.trees 8) lot_row lot_key (map lot_in x.lots.items)
+  pub bare_lots : map lot_in x.lots.items ≡ map bare_lot (map lot_in x.lots.items)
   pub pieces : Keeps (db.trees 10) piece_row piece_key x.pieces.items
 
 pub record ShowsActs (db : Database) (x : Acts) : Type 0 where
@@ -52,9 +55,11 @@ pub record ShowsLater (db : Database) (x : Later) : Type 0 where
 
 pub record ShowsProduction (db : Database) (x : Production) : Type 0 where
   pub devices : KeepsSome (db.trees 4) device_row (map device_in x.devices.items)
+  pub bare_devices : map device_in x.devices.items ≡ map bare_device (map device_in x.devices.items)
   pub declarations : Keeps (db.trees 6) declaration_row declaration_key (map declaration_in x.declarations.items)
   pub corrections : Keeps (db.trees 22) correction_row correction_key (map correction_in x.corrections.items)
   pub lots : Keeps (db.trees 8) lot_row lot_key (map lot_in x.lots.items)
+  pub bare_lots : map lot_in x.lots.items ≡ map bare_lot (map lot_in x.lots.items)
   pub pieces : Keeps (db.trees 10) piece_row piece_key x.pieces.items
 
 -- the rows of all tables, of the two kinds together

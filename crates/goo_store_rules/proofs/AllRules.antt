@@ -1,6 +1,7 @@
 -- The rules that are judged over what was read are those of the tables.
-use Rattle.std.proofs.Common.{◌≡◌, pos, true, None, sym, subst}
+use Rattle.std.proofs.Common.{◌≡◌, pos, true, None, sym, subst, ◌∙◌}
 use Rattle.std.specs.Prelude.{◌↔◌}
+use Rattle.std.proofs.lemmas.Bool.{and_parts, and_from}
 use Rattle.goo_ranges_rows.proofs.CertificateLemmas.{certificates-rows}
 use Rattle.goo_tables_rows.specs.Rows.{Tables}
 use Rattle.goo_tables_rows.specs.Stands.{Stands}
@@ -11,6 +12,7 @@ use Rattle.goo_store_open.specs.Found.{AreOf}
 use Rattle.goo_store_open.specs.declared.finding.Found.{Found}
 use Rattle.goo_store_rules.specs.WellKept.{are_joined}
 use Rattle.goo_store_rules.specs.Rules.{KeepsRules, HaveOwnKeys, RulesAreThose}
+use Rattle.goo_store_rules.proofs.CarriersThere.{carrier_rule}
 use Rattle.goo_store_rules.proofs.KeptCertificates.{HasItsCertificates}
 use Rattle.goo_store_rules.proofs.PiecesJudged.{each_found, kept_by_rules, rules_by_kept}
 use Rattle.goo_store_rules.proofs.KeptKeys.{AreKnownRows, rows_are_known, own_fields}
@@ -31,11 +33,14 @@ module _ (db : _) (t : Tables) (x : Found) (stands : Stands db t) (keys : HaveOw
   all_kept : KeepsRules t.meta.version x → AreKeptIn t.meta.version t
   all_kept keeps =
       let parts = judged x keeps.values.numbers keeps.names.names keeps.names.declared in
-      let named = kept_by_name t x keys of (record { values = keeps.values.values; corrections = keeps.values.corrections; notices = keeps.names.notices; lots = keeps.values.lots; names = parts.0 }) in
+      let carriers = and_parts _ _ (sym (carrier_rule t x of) ∙ keeps.names.carriers) in
+      let named = kept_by_name t x keys of stands.devices_carried stands.lots_carried (record { values = keeps.values.values; corrections = keeps.values.corrections; notices = keeps.names.notices; lots = keeps.values.lots; names = parts.0 }) in
       let pieces = kept_by_rules t x of db stands (record { readable = named.readable; kept = λ id l found. named.lots (pos id) l found; certificates = has_its t })
       (each_found _ t.lots (known_rows named.readable).lots) keeps.values.numbers keeps.names.names keeps.names.places in
       record {
         readable = named.readable;
+        carried_devices_there = carriers.0;
+        carried_lots_there = carriers.1;
         lots_there = pieces.lots_there;
         rising = pieces.rising;
         apart = λ two. apart_from t (own_fields db t keys stands named.readable.lots keys.lots) named.readable.pieces pieces.lots_there (subst (λ ps. are_joined None ps ≡ true) of.pieces (keeps.whole two));
@@ -60,7 +65,7 @@ module _ (db : _) (t : Tables) (x : Found) (stands : Stands db t) (keys : HaveOw
       record {
         values = record { values = named.values; corrections = named.corrections; numbers = numbers_are x named.names judged_so; lots = named.lots };
         whole = λ two. subst (λ ps. are_joined None ps ≡ true) (sym of.pieces) (apart_back t kept.lots_there (kept.apart two));
-        names = record { names = names_are x named.names judged_so; places = pieces.places; notices = named.notices; declared = declarations_are x named.names judged_so };
+        names = record { names = names_are x named.names judged_so; places = pieces.places; notices = named.notices; declared = declarations_are x named.names judged_so; carriers = carrier_rule t x of ∙ and_from _ _ kept.carried_devices_there kept.carried_lots_there };
         production = production_back t x of kept.sound.declarations.rising kept.sound.corrections.net kept.devices kept.progress kept.rising kept.sound.issued_when_due;
       }
 

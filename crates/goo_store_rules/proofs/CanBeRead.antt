@@ -18,18 +18,18 @@ use Rattle.goo_types.specs.Texts.{day_text}
 use Rattle.goo_types.proofs.DayLemmas.{IsUtf8-day_text}
 use Rattle.goo_types.specs.Day.{CalendarDay}
 use Rattle.goo_tables_rows.specs.Readable.{IsMaybeText, numbered_meta_readable, holder_readable, account_readable, device_readable, declaration_readable, lot_readable, piece_readable, peer_readable, receipt_readable, cancellation_readable, withdrawal_readable, notice_out_readable, notice_in_readable, correction_readable, device_carrier_readable, lot_carrier_readable}
-use Rattle.goo_tables_rows.specs.Rows.{Tables, Kept, Plant, Meta, Holder, Account, Device, Declaration, Lot, lot_key, Receipt, Cancellation, Withdrawal, NoticeOut, NoticeIn, Correction, meta_columns, holder_columns, account_columns, device_columns, declaration_columns, lot_columns, piece_columns, peer_columns, receipt_columns, cancellation_columns, withdrawal_columns, notice_out_columns, notice_in_columns, correction_columns, device_carrier_columns, lot_carrier_columns}
+use Rattle.goo_tables_rows.specs.Rows.{Tables, Kept, Plant, Meta, Holder, Account, Device, DeviceCarrier, Declaration, Lot, LotCarrier, lot_key, Receipt, Cancellation, Withdrawal, NoticeOut, NoticeIn, Correction, meta_columns, holder_columns, account_columns, device_columns, declaration_columns, lot_columns, piece_columns, peer_columns, receipt_columns, cancellation_columns, withdrawal_columns, notice_out_columns, notice_in_columns, correction_columns, device_carrier_columns, lot_carrier_columns}
 use Rattle.goo_tables_rows.specs.Stands.{Stands}
 use Rattle.goo_tables_rows.specs.declared.peer.PeerRow.{PeerRow}
 use Rattle.goo_tables_rows.specs.declared.piece.PieceRow.{PieceRow}
 use Rattle.goo_notice_text.specs.NoticeText.{notice_in}
 use Rattle.goo_notice_text.proofs.NoticeTextLemmas.{notices_are_read_from_their_texts}
 use Rattle.goo_spec_tables.specs.Kept.{AreKeptIn, AreKept, IsKeptLot}
-use Rattle.goo_spec_tables.specs.Readable.{is_plant, is_meta, is_holder, is_account, is_device, is_declaration, is_lot, is_piece, is_peer, is_receipt, is_cancellation, is_withdrawal, is_correction, is_notice_out, is_notice_in, is_notice_of, has_none, is_maybe_day, is_maybe_act, is_between, is_act, is_next, is_code, is_reply, names_act}
+use Rattle.goo_spec_tables.specs.Readable.{is_plant, is_meta, is_holder, is_account, is_device, is_declaration, is_lot, is_piece, is_peer, is_receipt, is_cancellation, is_withdrawal, is_correction, is_notice_out, is_notice_in, is_notice_of, is_maybe_other, is_device_carrier, is_lot_carrier, is_maybe_day, is_maybe_act, is_between, is_act, is_next, is_code, is_reply, names_act}
 use Rattle.goo_spec_tables.specs.Texts.{day_of}
 use Rattle.goo_store_open.specs.Found.{IsReadable}
 use Rattle.goo_store_open.specs.Reading.{CanBeRead}
-use Rattle.goo_store_rules.proofs.ReadTexts.{holder_text, name_text, key_text, country_text, tech_text, source_text, gsrn_text, day_text_utf8, support_text}
+use Rattle.goo_store_rules.proofs.ReadTexts.{holder_text, name_text, key_text, country_text, tech_text, source_text, gsrn_text, day_text_utf8, support_text, carrier_text}
 
 -- ---- numbers
 
@@ -92,6 +92,10 @@ maybe_day : (o : Option (List ℕ)) → is_maybe_day o ≡ true → IsMaybeText 
 maybe_day None h = inl refl
 maybe_day (Some t) h = inr (t, refl, day_text_utf8 t h)
 
+maybe_carrier : (o : Option (List ℕ)) → is_maybe_other o ≡ true → IsMaybeText (or_null Text o)
+maybe_carrier None h = inl refl
+maybe_carrier (Some t) h = inr (t, refl, carrier_text t h)
+
 maybe_written : (text : Option (List ℕ)) (day : Option CalendarDay) → text ≡ option_map day_text day → IsMaybeText (or_null Text text)
 maybe_written None day is = inl refl
 maybe_written (Some t) None is = absurd cc
@@ -153,6 +157,7 @@ device k h = (
   ),
   maybe_day k.1.last_day (search (h, first_of_both, second_of_both)),
   (k.1.carry, refl),
+  maybe_carrier k.1.carrier (search (h, first_of_both, second_of_both)),
 )
 
 declaration : (d : Declaration) → is_declaration d ≡ true → declaration_readable (declaration_columns d)
@@ -186,6 +191,7 @@ lot l kept h = (
   (l.last_day, refl, day_text_utf8 l.last_day (search (h, first_of_both, second_of_both))),
   maybe_written l.expires_on (months_after (day_of l.last_day) 18) kept.expires,
   (l.issued_on, refl, day_text_utf8 l.issued_on (search (h, first_of_both, second_of_both))),
+  maybe_carrier l.carrier (search (h, first_of_both, second_of_both)),
 )
 
 piece : (p : PieceRow) → is_piece p ≡ true → piece_readable (piece_columns p)
@@ -250,6 +256,20 @@ correction c h = (
   (c.withdrawal, refl, maybe_small c.withdrawal (search (h, first_of_both, second_of_both))),
 )
 
+device_carrier : (k : Kept DeviceCarrier) → is_device_carrier k ≡ true → device_carrier_readable (device_carrier_columns k.1)
+device_carrier k h = (
+  omega arith,
+  (k.1.gsrn, refl, gsrn_text k.1.gsrn (search (h, first_of_both, second_of_both))),
+  (k.1.carrier, refl, carrier_text k.1.carrier (search (h, first_of_both, second_of_both))),
+)
+
+lot_carrier : (c : LotCarrier) → is_lot_carrier c ≡ true → lot_carrier_readable (lot_carrier_columns c)
+lot_carrier c h = (
+  omega arith,
+  (c.lot, refl),
+  (c.carrier, refl, carrier_text c.carrier h),
+)
+
 notice_out : (own : ℕ) (n : NoticeOut) → is_notice_out own n ≡ true → notice_out_readable (notice_out_columns n)
 notice_out own n h = (
   omega arith,
@@ -271,11 +291,6 @@ notice_in_row k h = (
 each : {X : Type 0} (p : X → Bool) (P : Row → Type 0) (to_row : X → Row) → ((x : X) → p x ≡ true → P (to_row x)) → (xs : List X) → list_all p xs ≡ true → All P (map to_row xs)
 each p P to_row so [] all = All-nil P
 each p P to_row so (x ∷ xs) all = All-cons P (to_row x) (map to_row xs) (so x (first_of_both (p x) (list_all p xs) all)) (each p P to_row so xs (second_of_both (p x) (list_all p xs) all))
-
--- a table without rows
-none : {X : Type 0} (P : Row → Type 0) (to_row : X → Row) (xs : List X) → has_none xs ≡ true → All P (map to_row xs)
-none P to_row [] is = All-nil P
-none P to_row (x ∷ xs) is = absurd (true≢false (sym is))
 
 -- rows of which more is known, beside a test that all pass
 pub each_with : {X : Type 0} (p : X → Bool) (K Q : X → Type 0) → ((x : X) → K x → p x ≡ true → Q x) → (xs : List X) → All K xs → list_all p xs ≡ true → All Q xs
@@ -316,8 +331,8 @@ kept_can_be_read_in number small db t stands kept =
       notices_out = each (is_notice_out t.meta.code) notice_out_readable notice_out_columns (notice_out t.meta.code) t.notices_out r.notices_out;
       notices_in = each is_notice_in notice_in_readable (λ k. notice_in_columns k.1) notice_in_row t.notices_in r.notices_in;
       corrections = each is_correction correction_readable correction_columns correction t.corrections r.corrections;
-      device_carriers = none device_carrier_readable (λ k. device_carrier_columns k.1) t.device_carriers r.device_carriers;
-      lot_carriers = none lot_carrier_readable lot_carrier_columns t.lot_carriers r.lot_carriers;
+      device_carriers = each is_device_carrier device_carrier_readable (λ k. device_carrier_columns k.1) device_carrier t.device_carriers r.device_carriers;
+      lot_carriers = each is_lot_carrier lot_carrier_readable lot_carrier_columns lot_carrier t.lot_carriers r.lot_carriers;
     }
 
 -- those of version 2 too, whose version is read

@@ -9,7 +9,7 @@ use Rattle.goo_types.specs.Support.{support_reading}
 use Rattle.goo_types.specs.declared.day.DayFault.{DayFault}
 use Rattle.goo_tables_rows.specs.Rows.{Lot, Plant}
 use Rattle.goo_spec_tables.specs.Texts.{day_of, no_day}
-use Rattle.goo_spec_tables.specs.Readable.{reads, is_lot, is_code, is_plant, is_between}
+use Rattle.goo_spec_tables.specs.Readable.{reads, is_lot, is_code, is_plant, is_between, is_maybe_other}
 
 unwrapped : (r : Result CalendarDay DayFault) (x : CalendarDay) → Some x ≡ result_ok r → x ≡ result_unwrap_or r no_day
 unwrapped (Ok y) x is = cc
@@ -40,4 +40,5 @@ days_read l is =
     let plant = and_parts (reads (gsrn_reading l.device)) _ device.1 in
     let days = and_parts (is_plant l.plant) _ plant.1 in
     let later = and_parts (reads (day_reading l.first_day)) _ days.1 in
-    (days.0, (later.0, and_parts (reads (day_reading l.last_day)) (reads (day_reading l.issued_on)) later.1))
+    let last = and_parts (reads (day_reading l.last_day)) _ later.1 in
+    (days.0, (later.0, (last.0, (and_parts (reads (day_reading l.issued_on)) (is_maybe_other l.carrier) last.1).0)))

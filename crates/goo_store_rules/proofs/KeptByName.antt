@@ -5,7 +5,7 @@ use Rattle.std.specs.Ordering.{eq_by_cmp}
 use Rattle.goo_types.specs.Day.{day_reading}
 use Rattle.goo_spec.specs.Sound.{AreWithinLimits}
 use Rattle.goo_spec.specs.State.{text_cmp}
-use Rattle.goo_tables_rows.specs.Rows.{Tables, Kept, Device, Lot, lot_key, lot_in}
+use Rattle.goo_tables_rows.specs.Rows.{Tables, Kept, Device, Lot, lot_key, lot_in, AreCarriedDevices, AreCarriedLots}
 use Rattle.goo_tables_rows.specs.Once.{IsOnce}
 use Rattle.goo_store_open.specs.Found.{AreOf}
 use Rattle.goo_store_open.specs.declared.finding.Found.{Found}
@@ -68,10 +68,10 @@ pub record KeepsByName (x : Found) : Type 0 where
   pub names : KeepsNames x
 
 -- over tables with their own keys
-module _ (t : Tables) (x : Found) (keys : HaveOwnKeys t) (are : AreOf t x) where
+module _ (t : Tables) (x : Found) (keys : HaveOwnKeys t) (are : AreOf t x) (carried_devices : AreCarriedDevices t.device_carriers t.devices) (carried_lots : AreCarriedLots t.lot_carriers t.lots) where
   pub kept_by_name : KeepsByName x → AreKeptByName t
   kept_by_name keeps =
-      let read = readable t x are keeps.values keeps.corrections keeps.notices in
+      let read = readable t x are carried_devices carried_lots keeps.values keeps.corrections keeps.notices in
       record {
         readable = read;
         lots = lots_kept t x are keeps.lots;

@@ -9,10 +9,12 @@ pub mod KeptTimes
 pub mod PiecesJudged
 pub mod EachRow
 pub mod RowsKnown
+pub mod Bare
 pub mod KeptValues
 pub mod KeptLots
 pub mod KeptKeys
 pub mod NamesRead
+pub mod CarriersThere
 pub mod LotsDeclared
 pub mod ByName
 pub mod KeptByName

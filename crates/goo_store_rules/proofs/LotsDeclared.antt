@@ -27,7 +27,7 @@ use Rattle.goo_spec_tables.specs.Texts.{day_of}
 use Rattle.goo_spec_tables.proofs.Known.{text_same, text_itself}
 use Rattle.goo_store_rules.specs.WellKept.{has_declaration, is_declared, text_pair_cmp}
 use Rattle.goo_store_rules.proofs.EachRow.{list_any-map}
-use Rattle.goo_store_rules.proofs.KeptValues.{rows_same}
+use Rattle.goo_store_rules.proofs.KeptValues.{rows_same, lots_same}
 use Rattle.goo_store_rules.proofs.KeptKeys.{one_day, first_day_reads}
 use Rattle.goo_store_rules.proofs.NamesRead.{str_test}
 
@@ -63,7 +63,7 @@ pub declared_rule : (t : Tables) (x : Found) → AreOf t x → list_all is_lot t
     → list_all (λ r. is_declared (has_declaration (map declaration_in x.rows.production.declarations.items)) x.meta.code (lot_in r)) x.rows.production.lots.items
     ≡ list_all (λ l. not (l.origin == t.meta.code) || list_any (declares (lot_of l)) (map declaration_of t.declarations)) t.lots
 declared_rule t x are lots declarations =
-    rows_same (is_declared (has_declaration (map declaration_in x.rows.production.declarations.items)) x.meta.code) lot_in x.rows.production.lots.items t.lots are.lots
+    lots_same (is_declared (has_declaration (map declaration_in x.rows.production.declarations.items)) x.meta.code) x.rows.production.lots.items t.lots are.lots
     ∙ (λ i. list_all (is_declared (has_declaration (are.declarations i)) (are.meta i).code) t.lots)
     ∙ list_all_same (is_declared (has_declaration t.declarations) t.meta.code) (λ l. not (l.origin == t.meta.code) || list_any (declares (lot_of l)) (map declaration_of t.declarations)) t.lots
     (all_weaker _ _ (λ l read. ap (λ b. not (l.origin == t.meta.code) || b) (declared_test l.device l.first_day (first_day_reads l read) t.declarations declarations)) t.lots (all_from_test is_lot t.lots lots))

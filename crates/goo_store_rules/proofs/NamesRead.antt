@@ -12,9 +12,9 @@ use Rattle.goo_spec.specs.Sound.{is_withdrawal_there}
 use Rattle.goo_spec.specs.State as state
 use Rattle.goo_spec.specs.State.{text_cmp, Account, Device}
 use Rattle.goo_tables_rows.specs.Rows as row
-use Rattle.goo_tables_rows.specs.Rows.{Tables, Kept, holder_in, account_in, device_in, declaration_in, correction_in, cancellation_in, withdrawal_in, notice_out_in}
+use Rattle.goo_tables_rows.specs.Rows.{Tables, Kept, bare_device, holder_in, account_in, device_in, declaration_in, correction_in, cancellation_in, withdrawal_in, notice_out_in}
 use Rattle.goo_tables_rows.specs.declared.peer.PeerRow.{PeerRow}
-use Rattle.goo_store_open.specs.Found.{AreOf}
+use Rattle.goo_store_open.specs.Found.{AreOf, values}
 use Rattle.goo_store_open.specs.declared.finding.Found.{Found}
 use Rattle.goo_spec_tables.specs.Devices.{device_of, declaration_of}
 use Rattle.goo_spec_tables.specs.Records.{withdrawal_of, correction_of}
@@ -23,7 +23,7 @@ use Rattle.goo_spec_tables.proofs.Known.{number_is, number_test}
 use Rattle.goo_store_rules.specs.WellKept.{is_no_issuer, is_another, covers_aux, account_given, cancellation_given, withdrawal_given, notice_given, has_holder, has_account, has_device, has_withdrawal, is_withdrawn}
 use Rattle.goo_store_rules.proofs.EachRow.{none_all, list_any-map}
 use Rattle.goo_store_rules.proofs.RowsKnown.{is_there}
-use Rattle.goo_store_rules.proofs.KeptValues.{rows_same, kept_same}
+use Rattle.goo_store_rules.proofs.KeptValues.{rows_same, kept_same, devices_same}
 
 pub str_test : (a q : List ℕ) → bytes_eq a q ≡ eq_by_cmp text_cmp q a
 str_test a q = texts_ties a q ∙ (eq_by_cmp_equiv nat_list_cmp_total).symm a q
@@ -57,7 +57,7 @@ module _ (t : Tables) (x : Found) (are : AreOf t x) where
 
   pub device_there : (q : List ℕ) → has_device (map device_in x.rows.production.devices.items) q ≡ contains_key devices q
   device_there q =
-      ap (λ ds. has_device ds q) are.devices ∙ list_any-map (λ d. eq_by_cmp text_cmp q d.gsrn) (λ k. k.1) t.devices
+      ap (λ ds. has_device ds q) are.devices ∙ list_any-map (λ d. eq_by_cmp text_cmp q d.gsrn) bare_device (values t.devices) ∙ list_any-map (λ d. eq_by_cmp text_cmp q d.gsrn) (λ k. k.1) t.devices
       ∙ sym (is_there nat_list_cmp_total (λ (k : Kept row.Device). k.1.gsrn) (λ k. device_of k.1) t.devices q)
 
   abbrev pub withdrawals : FinMap nat_cmp state.Withdrawal
@@ -116,7 +116,7 @@ module _ (t : Tables) (x : Found) (are : AreOf t x) where
   pub device_account_rule : list_all (λ r. has_account (map account_in x.rows.members.accounts.items) r.account) x.rows.production.devices.items
       ≡ list_all (λ k. contains_key accounts k.1.account) t.devices
   device_account_rule =
-      kept_same (λ d. has_account (map account_in x.rows.members.accounts.items) d.account) device_in x.rows.production.devices.items t.devices are.devices
+      devices_same (λ d. has_account (map account_in x.rows.members.accounts.items) d.account) x.rows.production.devices.items t.devices are.devices
       ∙ (λ i. list_all (λ k. account_there k.1.account i) t.devices)
 
   pub cancellation_account_rule : list_all (λ r. has_account (map account_in x.rows.members.accounts.items) r.account) x.rows.acts.cancellations.items

@@ -2,20 +2,21 @@
 use Rattle.std.proofs.Common.{◌≡◌, ℕ, pos, ◌&&◌, List, [], ◌∷◌, Bool, true, false, cond, map, Some, None, sym, ap, subst, ◌∙◌}
 use Rattle.std.specs.Prelude.{◌↔◌}
 use Rattle.std.specs.List.{list_all, AllByRecursion}
-use Rattle.std.specs.Ordering.{int_eq}
+use Rattle.std.specs.Ordering.{int_eq, nat_cmp, eq_by_cmp}
 use Rattle.std.specs.FinMap.{get}
 use Rattle.std.proofs.lemmas.Bool.{and_parts, and_from}
 use Rattle.goo_types.specs.Number.{code_of}
 use Rattle.goo_spec.specs.Lots.{key_of}
-use Rattle.goo_tables_rows.specs.Rows.{Tables, Lot, lot_key, account_in}
+use Rattle.goo_tables_rows.specs.Rows.{Tables, Lot, lot_key, account_in, bare_lot}
 use Rattle.goo_tables_rows.specs.Stands.{Stands}
 use Rattle.goo_store_open.specs.Found.{AreOf}
 use Rattle.goo_store_open.specs.declared.finding.Found.{Found}
 use Rattle.goo_spec_tables.specs.Kept.{AreReadableIn, AreKeptIn, IsKeptLot}
 use Rattle.goo_spec_tables.specs.Places.{lot_of}
 use Rattle.goo_spec_tables.specs.States.{state_of}
-use Rattle.goo_store_rules.specs.WellKept.{is_issued, are_apart, has_account, has_cancellation, has_withdrawal, has_sent, has_lot_of, has_over, has_closed, act_in, is_timely}
+use Rattle.goo_store_rules.specs.WellKept.{is_issued, are_apart, has_account, has_cancellation, has_withdrawal, has_sent, has_lot_of, has_over, has_closed, act_in, is_timely, pair_cmp, is_over_at}
 use Rattle.goo_store_rules.specs.Keeping.{has_its_numbers, has_its_names, has_its_places}
+use Rattle.goo_store_rules.proofs.EachRow.{list_any-map}
 use Rattle.goo_store_rules.proofs.RowsByKey.{row_under}
 use Rattle.goo_store_rules.proofs.KeptCertificates.{HasItsCertificates}
 use Rattle.goo_store_rules.proofs.KeptPieces.{rising_from, rising_back, lots_from}
@@ -107,12 +108,20 @@ rules_of_pieces x numbers names places =
 
 -- Where rows were read, the rules over what was read are those over the tables.
 module _ (t : Tables) (x : Found) (of : AreOf t x) where
+  -- neither looks at a lot's carrier
+  lot_there : (origin id : ℕ) → has_lot_of origin (map bare_lot t.lots) id ≡ has_lot_of origin t.lots id
+  lot_there origin id = list_any-map (λ l. eq_by_cmp pair_cmp (id, origin) (l.id, l.origin)) bare_lot t.lots
+
+  lot_over : (id : ℕ) → has_over t.meta.today (map bare_lot t.lots) id ≡ has_over t.meta.today t.lots id
+  lot_over id = list_any-map (λ l. is_over_at t.meta.today l.expires_on && eq_by_cmp nat_cmp id l.id) bare_lot t.lots
+
   places_same : has_its_places x
       ≡ list_all (has_its_act t) t.pieces
       && (list_all (has_its_lot t) t.pieces && list_all (is_in_time t) t.pieces)
-  places_same = λ i.
+  places_same = (λ i.
       list_all (act_in (has_cancellation (of.cancellations i)) (has_withdrawal (of.withdrawals i)) (has_sent (of.notices_out i))) (of.pieces i)
-      && (list_all (λ p. has_lot_of (code_of p.first) (of.lots i) p.lot) (of.pieces i) && list_all (is_timely (has_over (of.meta i).today (of.lots i)) (has_closed (of.accounts i))) (of.pieces i))
+      && (list_all (λ p. has_lot_of (code_of p.first) (of.lots i) p.lot) (of.pieces i) && list_all (is_timely (has_over (of.meta i).today (of.lots i)) (has_closed (of.accounts i))) (of.pieces i)))
+      ∙ (λ i. list_all (has_its_act t) t.pieces && (list_all (λ p. lot_there (code_of p.first) p.lot i) t.pieces && list_all (is_timely (λ id. lot_over id i) (has_closed t.accounts)) t.pieces))
 
   issued_same : are_issued_in x ≡ list_all (is_given t) t.pieces
   issued_same = λ i. list_all (is_issued (of.meta i).code (of.meta i).next_serial) (of.pieces i)

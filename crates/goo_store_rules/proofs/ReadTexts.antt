@@ -6,11 +6,13 @@ use Rattle.std.specs.Str.{bytes_eq}
 use Rattle.std.proofs.lemmas.Slice.Eq.{bytes_eq-Decides}
 use Rattle.std.proofs.lemmas.Bool.{ltb-true}
 use Rattle.goo_types.proofs.TextLemmas.{IsUtf8-from_list_all}
+use Rattle.goo_types.specs.Carrier.{carrier_reading}
 use Rattle.goo_types.specs.Codes.{holder_reading, name_reading, key_reading, country_reading, tech_reading, source_reading}
 use Rattle.goo_types.specs.Day.{day_reading}
 use Rattle.goo_types.specs.Gsrn.{gsrn_reading, check_sum}
 use Rattle.goo_types.specs.Support.{support_reading}
 use Rattle.goo_types.specs.TextReading.{text_reading}
+use Rattle.goo_types.specs.declared.carrier.Carrier.TheVariants as carrier
 use Rattle.goo_types.specs.declared.support.Support.TheVariants as support
 use Rattle.goo_types.specs.declared.gsrn.GsrnFault.TheVariants as gsrn
 use Rattle.goo_types.specs.declared.text_fault.TextFault.TheVariants.{Empty, TooLong, BadChar, Shape}
@@ -18,7 +20,7 @@ use Rattle.goo_types.proofs.CodeLemmas.{holder_utf8, key_utf8, country_utf8, tec
 use Rattle.goo_types.proofs.DayLemmas.{only_day_text, IsUtf8-day_text}
 use Rattle.goo_types.proofs.GsrnLemmas.{gsrn_utf8}
 use Rattle.goo_types.proofs.NameLemmas.{name_utf8}
-use Rattle.goo_spec_tables.specs.Readable.{reads}
+use Rattle.goo_spec_tables.specs.Readable.{reads, is_other}
 
 itself : (a b g s : Bool) (t : List ℕ) → reads (if a then Err Empty else (if b then Err TooLong else (if not g then Err BadChar else (if not s then Err Shape else Ok t)))) ≡ true
     → (if a then Err Empty else (if b then Err TooLong else (if not g then Err BadChar else (if not s then Err Shape else Ok t)))) ≡ Ok t
@@ -88,3 +90,17 @@ support_text t = go (bytes_eq t (codes "none")) (bytes_eq t (codes "investment")
     go false false true d p q r s e = word (codes "production") (ascii (codes "production") refl) r
     go false false false true p q r s e = word (codes "both") (ascii (codes "both") refl) s
     go false false false false p q r s e = absurd (true≢false (sym e))
+
+pub carrier_text : (t : List ℕ) → is_other (carrier_reading t) ≡ true → IsUtf8 t
+carrier_text t = go (bytes_eq t (codes "electricity")) (bytes_eq t (codes "gas")) (bytes_eq t (codes "hydrogen")) (bytes_eq t (codes "heating-cooling")) refl refl refl
+  where
+    word : (w : List ℕ) → IsUtf8 w → bytes_eq t w ≡ true → IsUtf8 t
+    word w valid is = subst IsUtf8 (sym ((bytes_eq-Decides t w).0 is)) valid
+
+    go : (a b c d : Bool) → bytes_eq t (codes "gas") ≡ b → bytes_eq t (codes "hydrogen") ≡ c → bytes_eq t (codes "heating-cooling") ≡ d
+        → is_other (if a then Ok carrier.Electricity else (if b then Ok carrier.Gas else (if c then Ok carrier.Hydrogen else (if d then Ok carrier.HeatingCooling else Err Shape)))) ≡ true → IsUtf8 t
+    go true b c d p q r e = absurd (true≢false (sym e))
+    go false true c d p q r e = word (codes "gas") (ascii (codes "gas") refl) p
+    go false false true d p q r e = word (codes "hydrogen") (ascii (codes "hydrogen") refl) q
+    go false false false true p q r e = word (codes "heating-cooling") (ascii (codes "heating-cooling") refl) r
+    go false false false false p q r e = absurd (true≢false (sym e))

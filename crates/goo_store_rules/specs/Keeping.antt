@@ -1,10 +1,10 @@
 -- The rules over all that was read.
 use Rattle.std.specs.Prelude.{◌&&◌, Bool, None, pos, string_bytes, map}
 use Rattle.std.specs.List.{list_all}
-use Rattle.goo_tables_rows.specs.Rows.{meta_in, holder_in, account_in, device_in, declaration_in, correction_in, lot_in, receipt_in, cancellation_in, withdrawal_in, notice_out_in, notice_in_in}
-use Rattle.goo_spec_tables.specs.Readable.{is_meta, is_holder, is_account, is_device, is_declaration, is_lot, is_piece, is_peer, is_receipt, is_cancellation, is_withdrawal, is_correction, is_notice_out, is_notice_in, has_none}
+use Rattle.goo_tables_rows.specs.Rows.{meta_in, holder_in, account_in, device_in, declaration_in, correction_in, lot_in, receipt_in, cancellation_in, withdrawal_in, notice_out_in, notice_in_in, device_carrier_in, lot_carrier_in}
+use Rattle.goo_spec_tables.specs.Readable.{is_meta, is_holder, is_account, is_device, is_declaration, is_lot, is_piece, is_peer, is_receipt, is_cancellation, is_withdrawal, is_correction, is_notice_out, is_notice_in, is_device_carrier, is_lot_carrier}
 use Rattle.goo_types.specs.Number.{code_of}
-use Rattle.goo_store_rules.specs.WellKept.{is_no_issuer, is_another, covers_aux, account_given, cancellation_given, withdrawal_given, notice_given, is_issued, are_apart, has_holder, has_account, has_device, has_cancellation, has_withdrawal, has_sent, has_lot_of, has_over, has_closed, act_in, is_timely, has_declaration, is_declared, is_withdrawn}
+use Rattle.goo_store_rules.specs.WellKept.{is_no_issuer, is_another, covers_aux, account_given, cancellation_given, withdrawal_given, notice_given, is_issued, are_apart, has_holder, has_account, has_device, has_lot, has_cancellation, has_withdrawal, has_sent, has_lot_of, has_over, has_closed, act_in, is_timely, has_declaration, is_declared, is_withdrawn}
 use Rattle.goo_store_open.specs.declared.finding.Found.{Found}
 
 -- each value is one that its reader or its limit accepts, the notices' texts aside
@@ -22,11 +22,11 @@ has_good_values x =
     && (list_all (λ row. is_cancellation (cancellation_in row)) x.rows.acts.cancellations.items
     && list_all (λ row. is_withdrawal (withdrawal_in row)) x.rows.acts.withdrawals.items)))))))))
 
--- the same of corrections, and nothing has a carrier
+-- the same of corrections and carriers
 abbrev pub has_good_corrections : Found → Bool
 has_good_corrections x =
     list_all (λ row. is_correction (correction_in row)) x.rows.production.corrections.items
-    && (has_none x.rows.carriers.devices.items && has_none x.rows.carriers.lots.items)
+    && (list_all (λ row. is_device_carrier (pos 0, device_carrier_in row)) x.rows.carriers.devices.items && list_all (λ row. is_lot_carrier (lot_carrier_in row)) x.rows.carriers.lots.items)
 
 -- numbers given are below the next ones, pieces apart, and nobody is where he can't be
 abbrev pub has_its_numbers : Found → Bool
@@ -71,3 +71,9 @@ has_its_declarations x =
     (list_all (λ row. is_declared declared x.meta.code (lot_in row)) x.rows.production.lots.items
     && list_all (λ row. declared (string_bytes row.device) (string_bytes row.first_day)) x.rows.production.corrections.items)
     && list_all (λ row. is_withdrawn (has_withdrawal (map withdrawal_in x.rows.acts.withdrawals.items)) row.withdrawal) x.rows.production.corrections.items
+
+-- the device and the lot of each carrier is there
+abbrev pub has_its_carriers : Found → Bool
+has_its_carriers x =
+    list_all (λ row. has_device (map device_in x.rows.production.devices.items) (string_bytes row.gsrn)) x.rows.carriers.devices.items
+    && list_all (λ row. has_lot (map lot_in x.rows.production.lots.items) row.lot) x.rows.carriers.lots.items

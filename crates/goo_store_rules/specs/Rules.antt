@@ -9,7 +9,7 @@ use Rattle.goo_tables_rows.specs.Stands.{Stands}
 use Rattle.goo_spec_tables.specs.Kept.{AreKeptIn}
 use Rattle.goo_store_open.specs.Found.{AreOf}
 use Rattle.goo_store_open.specs.declared.finding.Found.{Found}
-use Rattle.goo_store_rules.specs.Keeping.{has_good_values, has_good_corrections, has_its_numbers, has_its_names, has_its_places, has_its_notices, has_its_declarations}
+use Rattle.goo_store_rules.specs.Keeping.{has_good_values, has_good_corrections, has_its_numbers, has_its_names, has_its_places, has_its_notices, has_its_declarations, has_its_carriers}
 use Rattle.goo_store_rules.specs.Lots.{IsGoodLot}
 use Rattle.goo_store_rules.specs.Production.{KeepsProduction}
 use Rattle.goo_store_rules.specs.WellKept.{are_joined}
@@ -27,6 +27,7 @@ pub record KeepsNames (x : Found) : Type 0 where
   pub places : has_its_places x ≡ true
   pub notices : has_its_notices x ≡ true
   pub declared : has_its_declarations x ≡ true
+  pub carriers : has_its_carriers x ≡ true
 
 -- in version 2 no piece is left to join
 abbrev pub KeepsWhole : ℕ → Found → Type 0

@@ -67,6 +67,10 @@ has_account accounts number = list_any (λ a. eq_by_cmp nat_cmp number a.number)
 abbrev pub has_device : List Device → List ℕ → Bool
 has_device devices gsrn = list_any (λ d. eq_by_cmp text_cmp gsrn d.gsrn) devices
 
+-- a lot with this number
+abbrev pub has_lot : List Lot → ℕ → Bool
+has_lot lots id = list_any (λ l. eq_by_cmp nat_cmp id l.id) lots
+
 abbrev pub has_cancellation : List Cancellation → ℕ → Bool
 has_cancellation acts number = list_any (λ c. eq_by_cmp nat_cmp number c.number) acts
 

@@ -6,7 +6,8 @@ ghost use Rattle.goo_store_rules.specs.Rules.{KeepsValues, KeepsWhole, KeepsName
 
 use crate::cut::are_joined;
 use crate::keeping::{
-    are_accepted, are_corrections, are_declared, are_named, are_notices, are_numbered, are_placed,
+    are_accepted, are_carried, are_corrections, are_declared, are_named, are_notices, are_numbered,
+    are_placed,
 };
 use crate::lots::are_good;
 use crate::produced::keeps_production;
@@ -46,7 +47,8 @@ fn keeps_names(alloc: Global, found: &Found) -> Result<bool, AllocError>
         are_named(alloc, found)?
             && are_placed(alloc, found)?
             && are_notices(alloc, found)?
-            && are_declared(alloc, found)?,
+            && are_declared(alloc, found)?
+            && are_carried(alloc, found)?,
     )
 }
 

@@ -1,19 +1,20 @@
 //! The rules judged here over all that was read of a registry's tables: in parts, each as one test.
 
 ghost use Rattle.std.specs.Prelude.{◌≡◌, IfOk};
-ghost use Rattle.goo_store_rules.specs.Keeping.{has_good_values, has_good_corrections, has_its_numbers, has_its_names, has_its_places, has_its_notices, has_its_declarations};
+ghost use Rattle.goo_store_rules.specs.Keeping.{has_good_values, has_good_corrections, has_its_numbers, has_its_names, has_its_places, has_its_notices, has_its_declarations, has_its_carriers};
 
 use crate::apart::are_apart;
 use crate::lists::{
     accepts_accounts, accepts_cancellations, accepts_corrections, accepts_declarations,
-    accepts_devices, accepts_holders, accepts_lots, accepts_peers, accepts_pieces,
-    accepts_receipts, accepts_withdrawals, are_given_accounts, are_given_cancellations,
-    are_given_notices, are_given_withdrawals, are_issued, are_others, cover_aux, have_no_issuer,
+    accepts_device_carriers, accepts_devices, accepts_holders, accepts_lot_carriers, accepts_lots,
+    accepts_peers, accepts_pieces, accepts_receipts, accepts_withdrawals, are_given_accounts,
+    are_given_cancellations, are_given_notices, are_given_withdrawals, are_issued, are_others,
+    cover_aux, have_no_issuer,
 };
 use crate::names::{
-    accounts_are_there, accounts_of_acts_are_there, acts_are_there, devices_are_there,
-    have_declarations, holders_are_there, lots_are_there, places_are_in_time,
-    withdrawals_are_there,
+    accounts_are_there, accounts_of_acts_are_there, acts_are_there, carried_devices_are_there,
+    carried_lots_are_there, devices_are_there, have_declarations, holders_are_there,
+    lots_are_there, places_are_in_time, withdrawals_are_there,
 };
 use crate::notices::{accepts_all_arrived, accepts_all_sent};
 use crate::values::accepts_meta;
@@ -38,14 +39,14 @@ pub fn are_accepted(found: &Found) -> bool
         && accepts_withdrawals(&rows.acts.withdrawals)
 }
 
-/// The same of corrections, and whether nothing has a carrier.
+/// The same of corrections and carriers.
 pub fn are_corrections(found: &Found) -> bool
     ensures { result ≡ has_good_corrections found.now }
 {
     let rows = &found.rows;
     accepts_corrections(&rows.production.corrections)
-        && rows.carriers.devices.is_empty()
-        && rows.carriers.lots.is_empty()
+        && accepts_device_carriers(&rows.carriers.devices)
+        && accepts_lot_carriers(&rows.carriers.lots)
 }
 
 /// Whether what was given has a number below the next one, pieces have no number in common, and the issuing body is no
@@ -153,5 +154,21 @@ pub fn are_declared(alloc: Global, found: &Found) -> Result<bool, AllocError>
             &production.corrections,
             &production.declarations,
         )? && withdrawals_are_there(alloc, &production.corrections, &found.rows.acts.withdrawals)?,
+    )
+}
+
+/// Whether the devices and the lots of carriers are there.
+///
+/// # Errors
+///
+/// Where an allocation is refused.
+pub fn are_carried(alloc: Global, found: &Found) -> Result<bool, AllocError>
+    ensures { IfOk result (λ yes. yes ≡ has_its_carriers found.now) }
+{
+    let production = &found.rows.production;
+    let carriers = &found.rows.carriers;
+    Ok(
+        carried_devices_are_there(alloc, &carriers.devices, &production.devices)?
+            && carried_lots_are_there(alloc, &carriers.lots, &production.lots)?,
     )
 }

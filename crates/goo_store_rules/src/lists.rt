@@ -2,22 +2,25 @@
 
 ghost use Rattle.std.specs.Prelude.{◌≡◌, pos};
 ghost use Rattle.std.specs.List.{list_all};
-ghost use Rattle.goo_tables_rows.specs.Rows.{holder_in, account_in, device_in, declaration_in, lot_in, receipt_in, cancellation_in, withdrawal_in, correction_in, notice_out_in};
-ghost use Rattle.goo_spec_tables.specs.Readable.{is_holder, is_account, is_device, is_declaration, is_lot, is_piece, is_peer, is_receipt, is_cancellation, is_withdrawal, is_correction};
+ghost use Rattle.goo_tables_rows.specs.Rows.{holder_in, account_in, device_in, declaration_in, lot_in, receipt_in, cancellation_in, withdrawal_in, correction_in, notice_out_in, device_carrier_in, lot_carrier_in};
+ghost use Rattle.goo_spec_tables.specs.Readable.{is_holder, is_account, is_device, is_declaration, is_lot, is_piece, is_peer, is_receipt, is_cancellation, is_withdrawal, is_correction, is_device_carrier, is_lot_carrier};
 ghost use Rattle.goo_store_rules.specs.WellKept.{is_no_issuer, is_another, covers_aux, account_given, cancellation_given, withdrawal_given, notice_given, is_issued};
 
 use crate::receipts::accepts_receipt;
 use crate::values::{
     accepts_account, accepts_cancellation, accepts_correction, accepts_declaration, accepts_device,
-    accepts_holder, accepts_lot, accepts_peer, accepts_piece, accepts_withdrawal,
+    accepts_device_carrier, accepts_holder, accepts_lot, accepts_lot_carrier, accepts_peer,
+    accepts_piece, accepts_withdrawal,
 };
 use goo_tables_rows::account::AccountRow;
 use goo_tables_rows::cancellation::CancellationRow;
 use goo_tables_rows::correction::CorrectionRow;
 use goo_tables_rows::declaration::DeclarationRow;
 use goo_tables_rows::device::DeviceRow;
+use goo_tables_rows::device_carrier::DeviceCarrierRow;
 use goo_tables_rows::holder::HolderRow;
 use goo_tables_rows::lot::LotRow;
+use goo_tables_rows::lot_carrier::LotCarrierRow;
 use goo_tables_rows::notice_out::NoticeOutRow;
 use goo_tables_rows::peer::PeerRow;
 use goo_tables_rows::piece::PieceRow;
@@ -100,6 +103,20 @@ pub fn accepts_corrections(rows: &[CorrectionRow]) -> bool
     ensures { result ≡ list_all (λ row. is_correction (correction_in row)) rows.now }
 {
     rows.iter().all(|row| accepts_correction(row))
+}
+
+/// The same of the carriers of devices.
+pub fn accepts_device_carriers(rows: &[DeviceCarrierRow]) -> bool
+    ensures { result ≡ list_all (λ row. is_device_carrier (pos 0, device_carrier_in row)) rows.now }
+{
+    rows.iter().all(|row| accepts_device_carrier(row))
+}
+
+/// The same of the carriers of lots.
+pub fn accepts_lot_carriers(rows: &[LotCarrierRow]) -> bool
+    ensures { result ≡ list_all (λ row. is_lot_carrier (lot_carrier_in row)) rows.now }
+{
+    rows.iter().all(|row| accepts_lot_carrier(row))
 }
 
 /// Whether the issuing body is no holder.

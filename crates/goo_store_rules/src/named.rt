@@ -3,11 +3,12 @@
 ghost use Rattle.std.specs.Prelude.{◌≡◌, ℕ, List, map, IfOk};
 ghost use Rattle.std.specs.Ordering.{nat_cmp};
 ghost use Rattle.std.specs.BTreeSet.{contains};
-ghost use Rattle.goo_tables_rows.specs.Rows.{account_in, cancellation_in, withdrawal_in, notice_out_in};
-ghost use Rattle.goo_store_rules.specs.WellKept.{has_account, has_cancellation, has_withdrawal, has_sent};
+ghost use Rattle.goo_tables_rows.specs.Rows.{account_in, lot_in, cancellation_in, withdrawal_in, notice_out_in};
+ghost use Rattle.goo_store_rules.specs.WellKept.{has_account, has_lot, has_cancellation, has_withdrawal, has_sent};
 
 use goo_tables_rows::account::AccountRow;
 use goo_tables_rows::cancellation::CancellationRow;
+use goo_tables_rows::lot::LotRow;
 use goo_tables_rows::notice_out::NoticeOutRow;
 use goo_tables_rows::withdrawal::WithdrawalRow;
 use std::alloc::{AllocError, Global};
@@ -24,6 +25,21 @@ pub fn account_numbers(alloc: Global, rows: &[AccountRow]) -> Result<BTreeSet<u3
     let mut set = BTreeSet::new(alloc);
     for account in rows {
         set.insert(account.number)?;
+    }
+    Ok(set)
+}
+
+/// The numbers of the lots.
+///
+/// # Errors
+///
+/// Where an allocation is refused.
+pub fn lot_numbers(alloc: Global, rows: &[LotRow]) -> Result<BTreeSet<u64>, AllocError>
+    ensures { IfOk result (λ set. (n : ℕ) → contains nat_cmp set n ≡ has_lot (map lot_in rows.now) n) }
+{
+    let mut set = BTreeSet::new(alloc);
+    for lot in rows {
+        set.insert(lot.id)?;
     }
     Ok(set)
 }

@@ -4,24 +4,29 @@ ghost use Rattle.std.specs.Prelude.{◌≡◌, ◌&&◌, map, string_bytes, IfOk
 ghost use Rattle.std.specs.List.{list_all};
 ghost use Rattle.goo_types.specs.Number.{code_of};
 ghost use Rattle.goo_tables_rows.specs.Rows.{holder_in, account_in, device_in, declaration_in, lot_in, cancellation_in, withdrawal_in, notice_out_in};
-ghost use Rattle.goo_store_rules.specs.WellKept.{has_holder, has_account, has_device, has_cancellation, has_withdrawal, has_sent, has_lot_of, has_over, has_closed, act_in, is_timely, has_declaration, is_declared, is_withdrawn};
+ghost use Rattle.goo_store_rules.specs.WellKept.{has_holder, has_account, has_device, has_lot, has_cancellation, has_withdrawal, has_sent, has_lot_of, has_over, has_closed, act_in, is_timely, has_declaration, is_declared, is_withdrawn};
 
 use crate::declared::{corrections_are_declared, declared_periods, own_lots_are_declared};
 use crate::marked::{closed_accounts, lot_origins, lots_over};
-use crate::named::{account_numbers, cancellation_numbers, sent_numbers, withdrawal_numbers};
+use crate::named::{
+    account_numbers, cancellation_numbers, lot_numbers, sent_numbers, withdrawal_numbers,
+};
 use crate::named_texts::{device_gsrns, holder_codes};
 use crate::there::{
-    ActNumbers, accounts_are_held, cancellations_have_accounts, corrections_are_withdrawn,
-    declarations_have_devices, devices_have_accounts, notices_have_accounts, pieces_are_in_time,
-    pieces_are_of_origins, pieces_have_accounts, pieces_have_acts,
+    ActNumbers, accounts_are_held, cancellations_have_accounts, carriers_have_devices,
+    carriers_have_lots, corrections_are_withdrawn, declarations_have_devices,
+    devices_have_accounts, notices_have_accounts, pieces_are_in_time, pieces_are_of_origins,
+    pieces_have_accounts, pieces_have_acts,
 };
 use goo_tables_rows::account::AccountRow;
 use goo_tables_rows::cancellation::CancellationRow;
 use goo_tables_rows::correction::CorrectionRow;
 use goo_tables_rows::declaration::DeclarationRow;
 use goo_tables_rows::device::DeviceRow;
+use goo_tables_rows::device_carrier::DeviceCarrierRow;
 use goo_tables_rows::holder::HolderRow;
 use goo_tables_rows::lot::LotRow;
+use goo_tables_rows::lot_carrier::LotCarrierRow;
 use goo_tables_rows::notice_out::NoticeOutRow;
 use goo_tables_rows::piece::PieceRow;
 use goo_tables_rows::withdrawal::WithdrawalRow;
@@ -57,6 +62,38 @@ pub fn devices_are_there(
 {
     let gsrns = device_gsrns(alloc, devices)?;
     Ok(declarations_have_devices(declarations, &gsrns))
+}
+
+/// Whether the device of each carrier is there.
+///
+/// # Errors
+///
+/// Where an allocation is refused.
+pub fn carried_devices_are_there(
+    alloc: Global,
+    carriers: &[DeviceCarrierRow],
+    devices: &[DeviceRow],
+) -> Result<bool, AllocError>
+    ensures { IfOk result (λ yes. yes ≡ list_all (λ row. has_device (map device_in devices.now) (string_bytes row.gsrn)) carriers.now) }
+{
+    let gsrns = device_gsrns(alloc, devices)?;
+    Ok(carriers_have_devices(carriers, &gsrns))
+}
+
+/// Whether the lot of each carrier is there.
+///
+/// # Errors
+///
+/// Where an allocation is refused.
+pub fn carried_lots_are_there(
+    alloc: Global,
+    carriers: &[LotCarrierRow],
+    lots: &[LotRow],
+) -> Result<bool, AllocError>
+    ensures { IfOk result (λ yes. yes ≡ list_all (λ row. has_lot (map lot_in lots.now) row.lot) carriers.now) }
+{
+    let numbers = lot_numbers(alloc, lots)?;
+    Ok(carriers_have_lots(carriers, &numbers))
 }
 
 /// Whether the accounts of devices and pieces are there.

@@ -1,12 +1,14 @@
 //! Whether the readers of the registry's values accept texts.
 
 ghost use Rattle.std.specs.Prelude.{◌≡◌, option_map, string_bytes};
+ghost use Rattle.goo_types.specs.Carrier.{carrier_reading};
 ghost use Rattle.goo_types.specs.Codes.{holder_reading, name_reading, key_reading, country_reading, tech_reading, source_reading};
 ghost use Rattle.goo_types.specs.Day.{day_reading};
 ghost use Rattle.goo_types.specs.Gsrn.{gsrn_reading};
 ghost use Rattle.goo_types.specs.Support.{support_reading};
-ghost use Rattle.goo_spec_tables.specs.Readable.{reads, is_maybe_day};
+ghost use Rattle.goo_spec_tables.specs.Readable.{reads, is_maybe_day, is_other, is_maybe_other};
 
+use goo_types::carrier::Carrier;
 use goo_types::country::Country;
 use goo_types::day::Day;
 use goo_types::gsrn::Gsrn;
@@ -88,4 +90,24 @@ pub fn is_support(text: &str) -> bool
     ensures { result ≡ reads (support_reading text.now) }
 {
     Support::read(text.as_bytes()).is_ok()
+}
+
+/// The word for another carrier than electricity.
+pub fn is_other_carrier(text: &str) -> bool
+    ensures { result ≡ is_other (carrier_reading text.now) }
+{
+    match Carrier::read(text.as_bytes()) {
+        Ok(Carrier::Electricity) | Err(_) => false,
+        Ok(_) => true,
+    }
+}
+
+/// The word for another carrier than electricity, where there is one.
+pub fn is_other_or_none(text: &Option<String>) -> bool
+    ensures { result ≡ is_maybe_other (option_map string_bytes text.now) }
+{
+    match text {
+        Some(text) => is_other_carrier(text),
+        None => true,
+    }
 }

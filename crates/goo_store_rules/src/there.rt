@@ -13,6 +13,8 @@ use goo_tables_rows::cancellation::CancellationRow;
 use goo_tables_rows::correction::CorrectionRow;
 use goo_tables_rows::declaration::DeclarationRow;
 use goo_tables_rows::device::DeviceRow;
+use goo_tables_rows::device_carrier::DeviceCarrierRow;
+use goo_tables_rows::lot_carrier::LotCarrierRow;
 use goo_tables_rows::notice_out::NoticeOutRow;
 use goo_tables_rows::piece::PieceRow;
 use goo_types::limits::SERIALS;
@@ -45,6 +47,20 @@ pub fn declarations_have_devices(rows: &[DeclarationRow], devices: &BTreeSet<Str
     ensures { result ≡ list_all (λ row. has_text devices.now (string_bytes row.device)) rows.now }
 {
     rows.iter().all(|row| has(devices, &row.device))
+}
+
+/// Whether the device of each carrier is one of these.
+pub fn carriers_have_devices(rows: &[DeviceCarrierRow], devices: &BTreeSet<String>) -> bool
+    ensures { result ≡ list_all (λ row. has_text devices.now (string_bytes row.gsrn)) rows.now }
+{
+    rows.iter().all(|row| has(devices, &row.gsrn))
+}
+
+/// Whether the lot of each carrier is one of these.
+pub fn carriers_have_lots(rows: &[LotCarrierRow], lots: &BTreeSet<u64>) -> bool
+    ensures { result ≡ list_all (λ row. contains nat_cmp lots.now row.lot) rows.now }
+{
+    rows.iter().all(|row| has(lots, &row.lot))
 }
 
 /// Whether each piece's account is one of these.

@@ -1,23 +1,25 @@
 //! Whether each value of a row is one that its reader or its limit accepts.
 
 ghost use Rattle.std.specs.Prelude.{◌≡◌, pos};
-ghost use Rattle.goo_tables_rows.specs.Rows.{plant_in, meta_in, holder_in, account_in, device_in, declaration_in, lot_in, receipt_in, cancellation_in, withdrawal_in, correction_in};
-ghost use Rattle.goo_spec_tables.specs.Readable.{is_meta, is_holder, is_account, is_plant, is_device, is_declaration, is_lot, is_piece, is_peer, is_receipt, is_cancellation, is_withdrawal, is_correction};
+ghost use Rattle.goo_tables_rows.specs.Rows.{plant_in, meta_in, holder_in, account_in, device_in, declaration_in, lot_in, receipt_in, cancellation_in, withdrawal_in, correction_in, device_carrier_in, lot_carrier_in};
+ghost use Rattle.goo_spec_tables.specs.Readable.{is_meta, is_holder, is_account, is_plant, is_device, is_declaration, is_lot, is_piece, is_peer, is_receipt, is_cancellation, is_withdrawal, is_correction, is_device_carrier, is_lot_carrier};
 
 use crate::numbers::{
     has_act, is_energy, is_free, is_given, is_given_or_none, is_range, is_registry,
 };
 use crate::texts::{
-    is_code_text, is_country, is_day, is_day_or_none, is_gsrn, is_key, is_name, is_source,
-    is_support, is_tech,
+    is_code_text, is_country, is_day, is_day_or_none, is_gsrn, is_key, is_name, is_other_carrier,
+    is_other_or_none, is_source, is_support, is_tech,
 };
 use goo_tables_rows::account::AccountRow;
 use goo_tables_rows::cancellation::CancellationRow;
 use goo_tables_rows::correction::CorrectionRow;
 use goo_tables_rows::declaration::DeclarationRow;
 use goo_tables_rows::device::DeviceRow;
+use goo_tables_rows::device_carrier::DeviceCarrierRow;
 use goo_tables_rows::holder::HolderRow;
 use goo_tables_rows::lot::LotRow;
+use goo_tables_rows::lot_carrier::LotCarrierRow;
 use goo_tables_rows::meta::MetaRow;
 use goo_tables_rows::peer::PeerRow;
 use goo_tables_rows::piece::PieceRow;
@@ -76,6 +78,7 @@ pub fn accepts_device(row: &DeviceRow) -> bool
         && accepts_plant(&row.plant)
         && is_day_or_none(&row.last_day)
         && row.carry <= 999_999
+        && is_other_or_none(&row.carrier)
 }
 
 /// A declaration.
@@ -99,6 +102,7 @@ pub fn accepts_lot(row: &LotRow) -> bool
         && is_day(&row.first_day)
         && is_day(&row.last_day)
         && is_day(&row.issued_on)
+        && is_other_or_none(&row.carrier)
 }
 
 /// A piece.
@@ -146,4 +150,18 @@ pub fn accepts_correction(row: &CorrectionRow) -> bool
         && is_day(&row.first_day)
         && is_energy(row.less)
         && is_given_or_none(u64::from(row.withdrawal))
+}
+
+/// The carrier of a device.
+pub fn accepts_device_carrier(row: &DeviceCarrierRow) -> bool
+    ensures { result ≡ is_device_carrier (pos 0, device_carrier_in row.now) }
+{
+    is_gsrn(&row.gsrn) && is_other_carrier(&row.carrier)
+}
+
+/// The carrier of a lot.
+pub fn accepts_lot_carrier(row: &LotCarrierRow) -> bool
+    ensures { result ≡ is_lot_carrier (lot_carrier_in row.now) }
+{
+    is_other_carrier(&row.carrier)
 }

@@ -32,5 +32,6 @@ pub fn device_in_row(row: &DeviceRow) -> Result<Device, Trouble>
         capacity_w: plant.capacity_w,
         commissioned: plant.commissioned,
         support: plant.support,
+        carrier: texts::carrier(&row.carrier)?,
     }))
 }

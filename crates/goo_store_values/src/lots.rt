@@ -35,6 +35,7 @@ pub fn read_lot(row: &LotRow) -> Result<Lot, Trouble>
         first_day: texts::day(&row.first_day)?,
         last_day: texts::day(&row.last_day)?,
         issued_on: texts::day(&row.issued_on)?,
+        carrier: texts::carrier(&row.carrier)?,
     };
     Lot::new(fields).ok_or(Trouble::Refused)
 }

@@ -1,17 +1,19 @@
 //! Texts that columns keep, as values. One that is none such is `Refused`, and a notice may want `Memory`.
 
-ghost use Rattle.std.specs.Prelude.{◌≡◌, is_ok, IfErr, IfOk, IsOkUnless, IsTrue};
+ghost use Rattle.std.specs.Prelude.{◌≡◌, is_ok, option_map, string_bytes, Some, IfErr, IfOk, IsOkUnless, IsTrue};
+ghost use Rattle.goo_types.specs.Carrier.{carrier_reading};
 ghost use Rattle.goo_types.specs.Codes.{holder_reading, name_reading, country_reading, tech_reading, source_reading};
 ghost use Rattle.goo_types.specs.Day.{day_reading};
 ghost use Rattle.goo_types.specs.Gsrn.{gsrn_reading};
 ghost use Rattle.goo_types.specs.Support.{support_reading};
 ghost use Rattle.goo_notice_text.specs.NoticeText.{notice_in};
-ghost use Rattle.goo_spec_tables.specs.Readable.{reads};
-ghost use Rattle.goo_spec_tables.specs.Texts.{day_of, support_of, notice_of};
+ghost use Rattle.goo_spec_tables.specs.Readable.{reads, is_other, is_maybe_other};
+ghost use Rattle.goo_spec_tables.specs.Texts.{day_of, support_of, carrier_of, notice_of};
 ghost use Rattle.goo_store_values.specs.declared.trouble.Trouble.TheVariants.{Memory, Refused};
 
 use crate::trouble::Trouble;
 use goo_notice::{NoticeFault, read};
+use goo_types::carrier::Carrier;
 use goo_types::country::Country;
 use goo_types::day::Day;
 use goo_types::gsrn::Gsrn;
@@ -122,6 +124,30 @@ pub(crate) fn support(text: &str) -> Result<Support, Trouble>
     match Support::read(text.as_bytes()) {
         Ok(support) => Ok(support),
         Err(_) => Err(Trouble::Refused),
+    }
+}
+
+/// A carrier by its word, which is one for another than electricity.
+fn other_carrier(word: &str) -> Result<Carrier, Trouble>
+    ensures value { IfOk result (λ carrier. carrier ≡ carrier_of (Some word.now)) }
+    ensures accepts { is_ok result ≡ is_other (carrier_reading word.now) }
+    ensures cause { IfErr result (λ trouble. trouble ≡ Refused) }
+{
+    match Carrier::read(word.as_bytes()) {
+        Ok(Carrier::Electricity) | Err(_) => Err(Trouble::Refused),
+        Ok(carrier) => Ok(carrier),
+    }
+}
+
+/// The carrier of a device or a lot: electricity where no word is kept for it.
+pub(crate) fn carrier(word: &Option<String>) -> Result<Carrier, Trouble>
+    ensures value { IfOk result (λ carrier. carrier ≡ carrier_of (option_map string_bytes word.now)) }
+    ensures accepts { is_ok result ≡ is_maybe_other (option_map string_bytes word.now) }
+    ensures cause { IfErr result (λ trouble. trouble ≡ Refused) }
+{
+    match word {
+        Some(word) => other_carrier(word),
+        None => Ok(Carrier::Electricity),
     }
 }
 

@@ -5,7 +5,7 @@ use Rattle.goo_types.specs.Gsrn.{gsrn_reading}
 use Rattle.goo_types.specs.Day.{CalendarDay}
 use Rattle.goo_spec.specs.State.{text_cmp}
 use Rattle.goo_tables_rows.specs.Rows.{Kept, Device, device_in}
-use Rattle.goo_spec_tables.specs.Readable.{is_device, is_maybe_day, reads, is_act, is_plant}
+use Rattle.goo_spec_tables.specs.Readable.{is_device, is_maybe_day, reads, is_act, is_plant, is_maybe_other}
 use Rattle.goo_spec_tables.specs.Texts.{day_of}
 use Rattle.goo_store_rules.specs.Production.{HasProgress}
 use Rattle.goo_store_rules.specs.Summing.{left_at}
@@ -27,7 +27,7 @@ fourth true false c d e good = absurd (true≢false (sym good))
 fourth false b c d e good = absurd (true≢false (sym good))
 
 last_read : (k : Kept Device) → is_device k ≡ true → is_maybe_day k.1.last_day ≡ true
-last_read k good = fourth (reads (gsrn_reading k.1.gsrn)) (is_act k.1.account) (is_plant k.1.plant) (is_maybe_day k.1.last_day) (nat_le k.1.carry 999999) good
+last_read k good = fourth (reads (gsrn_reading k.1.gsrn)) (is_act k.1.account) (is_plant k.1.plant) (is_maybe_day k.1.last_day) (nat_le k.1.carry 999999 && is_maybe_other k.1.carrier) good
 
 pub returns-then-states_last : goal.returns-then-states_last
 returns-then-states_last c = λ good.
