@@ -162,4 +162,6 @@ grown_stands first db t was it = record {
   corrections = same_keeps [] (db.trees 22) _ _ _ it.bare.0 was.1.corrections;
   device_carriers = same_keeps [] (db.trees 23) _ _ _ it.bare.1.0 was.1.device_carriers;
   lot_carriers = same_keeps [] (db.trees 25) _ _ _ it.bare.1.1.0 was.1.lot_carriers;
+  devices_carried = was.1.devices_carried;
+  lots_carried = was.1.lots_carried;
 }

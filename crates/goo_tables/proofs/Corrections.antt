@@ -26,6 +26,7 @@ use Rattle.goo_tables_holdings.proofs.Queries.{in_order, last_of}
 use Rattle.goo_tables_rows.specs.Met.{HasOurTables}
 use Rattle.goo_tables_rows.proofs.Meeting.{type_rules, shape_rules, no_number, int_same}
 use Rattle.std.specs.Prelude.{⊤}
+use Rattle.std.proofs.lemmas.Iterator.Adapters.{option_map_id}
 use Rattle.std.proofs.lemmas.Bool.{lt-ltb}
 use Rattle.sqlite_keyed.specs.Keyed.{get_by}
 use Rattle.sqlite_keyed.proofs.ListLemmas.{all_of}
@@ -113,7 +114,7 @@ unfolding understood everything
 last_asks = record { names = _; is = refl; plain = (refl, refl); unlisted = refl; suits = λ _. refl }
 
 pub shows_last : (old : State) → Says old last_query [] (λ (x : Option CorrectionRow) rows. FirstZip correction_reads rows x) (λ t x. option_map correction_in x ≡ slice_get (reverse t.corrections) 0)
-shows_last old t it = shows_top corrections old it.corrections correction_same
+shows_last old t it x rows answer read = shows_top corrections old it.corrections x rows answer read ∙ option_map_id _
 
 -- ---- correction: the whole table, met as it is
 

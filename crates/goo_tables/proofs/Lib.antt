@@ -1,3 +1,7 @@
+pub mod Carried
+pub mod Bare
+pub mod DevicesBeside
+pub mod LotsBeside
 pub mod Devices
 pub mod Declarations
 pub mod Lots
@@ -14,3 +18,4 @@ pub mod MetaTable
 pub mod CreatingFails
 pub mod Creating
 pub mod Adding
+pub mod Twice

@@ -1,20 +1,36 @@
--- What the statement on `lot_carrier` shows.
-use Rattle.std.proofs.Common.{◌≡◌, List, [], ◌∷◌, map, codes, ℕ, refl, ◌∙◌, map-id}
+-- What the statements on `lot_carrier` do and show.
+use Rattle.std.proofs.Common.{◌≡◌, ◌<◌, ◌^◌, pos, List, [], ◌∷◌, map, codes, ℕ, None, Result, OnOk, IsTrue, refl, ◌∙◌, map-id}
+use Rattle.std.proofs.lemmas.Bool.{lt-ltb}
 use Rattle.std.specs.List.{AllZip}
 use Rattle.sqlite_tied.specs.Compute.{everything}
+use Rattle.sqlite.specs.declared.types.Value.TheVariants.{Null}
+use Rattle.sqlite.specs.declared.error.Error.{Error}
 use Rattle.sqlite.specs.Order.{Row}
-use Rattle.sqlite.specs.Term.{col}
+use Rattle.sqlite.specs.Term.{Term, lit, col}
 use Rattle.sqlite.specs.Query.{Query, IsAnswer}
 use Rattle.sqlite.specs.Program.{overlay}
 use Rattle.sqlite.specs.Listing.{understood}
-use Rattle.sqlite.specs.State.{State}
+use Rattle.sqlite.specs.State.{State, IsLive, Executes, ExecutesInside}
 use Rattle.sqlite_typed.proofs.TestLemmas.{then_value}
-use Rattle.goo_tables_rows.specs.Columns.{lot_carrier}
+use Rattle.goo_tables_rows.specs.Columns.{registry_schema, lot_carrier}
 use Rattle.goo_tables_rows.specs.Rows.{Tables, LotCarrier, lot_carrier_in, lot_carrier_columns, lot_carrier_row, lot_carrier_key}
 use Rattle.goo_tables_rows.specs.declared.lot_carrier.LotCarrierRow.{LotCarrierRow}
 use Rattle.goo_tables_rows.specs.Reads.{lot_carrier_reads}
 use Rattle.goo_tables_rows.specs.Stands.{Stands, Keeps}
 use Rattle.goo_tables_rows.proofs.Same.{lot_carrier_same}
+use Rattle.goo_tables_rows.proofs.Typed.{cast_int, cast_null}
+use Rattle.goo_tables_rows.proofs.Alone.{lot_carriers_stand}
+use Rattle.goo_tables_rows.proofs.Living.{KeepsLive, keeps_live}
+use Rattle.goo_tables_rows.proofs.Stored.{lot_carrier_stored}
+use Rattle.goo_tables_rows.specs.Refused.{IsTooBig, IsSmall}
+use Rattle.sqlite_keyed.specs.Keyed.{get_by}
+use Rattle.sqlite_keyed.proofs.ListLemmas.{all_of}
+use Rattle.goo_tables_holdings.specs.Changes.{IsNewLot}
+use Rattle.goo_tables_holdings.proofs.Adding.{Adds, adds_row}
+use Rattle.goo_tables_holdings.proofs.Failing.{FailsOnly, adding_fails, not_there}
+use Rattle.goo_tables.specs.Carriers.{with_lot_carrier}
+use Rattle.goo_tables.proofs.Carried.{lots_keep}
+use Rattle.goo_tables.proofs.Twice.{stays_ours}
 use Rattle.goo_tables_holdings.proofs.Queries.{in_order}
 use Rattle.goo_tables_rows.specs.Met.{HasOurTables}
 use Rattle.goo_tables_rows.proofs.Meeting.{type_rules, shape_rules, no_text, int_same}
@@ -40,6 +56,36 @@ lot_carriers = record {
   of = λ x. x;
   same = lot_carrier_same;
 }
+
+-- ---- lot_carrier: a row is added
+
+abbrev pub insert_text : List ℕ
+insert_text = codes "INSERT INTO lot_carrier (lot, carrier) VALUES (?1, ?2)"
+
+abbrev insert_terms : List Term
+insert_terms = col 0 0 ∷ lit Null ∷ col 0 1 ∷ []
+
+insert_adds : Adds insert_text 15 insert_terms 3 2
+unfolding understood everything
+insert_adds = record { is = refl; plain = (refl, refl); whole = refl }
+
+pub insert_live : KeepsLive insert_text
+insert_live = keeps_live insert_text _ insert_adds.is insert_adds.plain refl
+
+pub insert_stays : (params : Row) (old new : State) → old.now.schema ≡ registry_schema → (r : Result ℕ Error) → ExecutesInside 0 insert_text params old new r → OnOk r (IsTrue new.in_transaction × (new.now.schema ≡ registry_schema))
+insert_stays = stays_ours insert_adds refl (λ _ _. refl)
+
+pub inserts_row : (old new : State) (t : Tables) (x : LotCarrier) → IsNewLot t x.lot → (r : Result ℕ Error) → Stands old.now t → Executes insert_text (lot_carrier_columns x) old new r → OnOk r (Stands new.now (with_lot_carrier t x))
+inserts_row old new t x unmet r it =
+    adds_row insert_adds refl (λ _ _. refl) (lot_carrier_columns x) old new lot_carrier_row lot_carrier_key (λ _. refl) t.lot_carriers x it.lot_carriers it.schema (simp (cast_null, cast_int) refl) (with_lot_carrier t x)
+    (λ schema others is. lot_carriers_stand old.now new.now t it schema others _ is (lots_keep t.lot_carriers x t.lots unmet.1 unmet.0 it.lots_carried)) r
+
+pub inserting_fails : (old new : State) (t : Tables) (x : LotCarrier) → x.lot < 2 ^ 63 → Stands old.now t → IsLive old → old.step_limit ≡ None → get_by lot_carrier_key t.lot_carriers (pos x.lot) ≡ None
+    → FailsOnly (λ e. IsTooBig e × (IsSmall (lot_carrier_row x) → ⊥)) insert_text (lot_carrier_columns x) old new
+inserting_fails old new t x small it live unlimited free =
+    adding_fails insert_adds refl (λ _ _. refl) (lot_carrier_columns x) refl refl old new it.schema unlimited live (lot_carrier_row x) (simp (cast_null, cast_int) refl)
+    (λ _. record { typed = refl; present = refl; checked = refl; free = not_there lot_carrier_row lot_carrier_key (λ _. refl) (old.now.trees 25) t.lot_carriers x it.lot_carriers.are free; unique = all_of _ (λ _. refl) _; keyed = refl })
+    (lot_carrier_stored x) (lt-ltb _ _ small)
 
 -- ---- lot_carrier: the whole table
 

@@ -1,18 +1,53 @@
-//! The statements on `device_carrier`.
+//! The statements on `device_carrier` alone.
 
-ghost use Rattle.std.specs.Prelude.{◌≡◌, false, map, IfOk, All};
-ghost use Rattle.sqlite.specs.State.{HasCleanDisk};
+ghost use Rattle.std.specs.Prelude.{◌≡◌, None, false, map, find, IfOk, OnOk, All};
+ghost use Rattle.sqlite.specs.State.{HasCleanDisk, KeepsCommit, Survives};
 ghost use Rattle.sqlite.specs.Held.{state};
-ghost use Rattle.goo_tables_rows.specs.Rows.{device_carrier_in, device_carrier_row, device_carrier_columns};
+ghost use Rattle.sqlite_typed.specs.Tests.{bytes_eq};
+ghost use Rattle.goo_tables_rows.specs.Rows.{Tables, device_carrier_in, device_carrier_row, device_carrier_columns};
 ghost use Rattle.goo_tables_rows.specs.Readable.{device_carrier_readable};
-ghost use Rattle.goo_tables_rows.specs.Refused.{FailsByFault, FailsOnlyByFault};
-ghost use Rattle.goo_tables_rows.specs.Stands.{Looks};
+ghost use Rattle.goo_tables_rows.specs.Refused.{FailsByFault, FailsOnlyByFault, ChangeFailsBy, IsTooBigOrFull, HasRoomFor};
+ghost use Rattle.goo_tables_rows.specs.Lives.{LeavesLive};
+ghost use Rattle.goo_tables_rows.specs.Stands.{Sees, Looks};
 ghost use Rattle.goo_tables_rows.specs.Met.{HasOurTables, KeepsSome};
+ghost use Rattle.goo_tables_holdings.specs.Changes.{IsNewDevice};
+ghost use Rattle.goo_tables.specs.Carriers.{with_device_carrier, StaysOurs};
 
 use goo_tables_rows::ask::ask_all;
 use goo_tables_rows::device_carrier::DeviceCarrierRow;
-use sqlite::{Alter, Connection, Error};
+use goo_tables_rows::put::put;
+use goo_tables_rows::values::text;
+use sqlite::{Alter, Connection, Error, Transaction};
 use std::alloc::Global;
+
+/// Adds the carrier of a device, whose number must be new in both tables.
+///
+/// # Errors
+///
+/// In a registry's transaction, where the number is new: a failure of memory or of the disk, or of a connection
+/// that an earlier failure shut, or `TooBig` for a row that is too big to be stored, or `NoRowid` where the table
+/// has no number left for a row. Nothing is committed.
+pub(crate) fn insert_device_carrier<S: Alter>(
+    tx: &mut Transaction<'_, S>,
+    gsrn: &str,
+    carrier: &str,
+) -> Result<usize, Error>
+    ensures same_reference { tx.new.conn.ghost_name ≡ tx.old.conn.ghost_name }
+    ensures changed { HasCleanDisk (state S.Store tx.new.conn.now) → (t : Tables) → Sees (state S.Store tx.old.conn.now) t → IsNewDevice t gsrn.now
+        → OnOk result (Sees (state S.Store tx.new.conn.now) (with_device_carrier t (record { gsrn = gsrn.now; carrier = carrier.now }))) }
+    ensures refused { ChangeFailsBy IsTooBigOrFull (λ t. HasRoomFor device_carrier_row t.device_carriers (record { gsrn = gsrn.now; carrier = carrier.now })) (state S.Store tx.old.conn.now) (state S.Store tx.new.conn.now) result
+        (λ t. find (λ k. bytes_eq k.1.gsrn gsrn.now) t.device_carriers ≡ None) }
+    ensures live { LeavesLive (state S.Store tx.old.conn.now) (state S.Store tx.new.conn.now) result }
+    ensures stays { StaysOurs (state S.Store tx.old.conn.now) (state S.Store tx.new.conn.now) result }
+    ensures uncommitted { HasCleanDisk (state S.Store tx.new.conn.now) → KeepsCommit (state S.Store tx.old.conn.now) (state S.Store tx.new.conn.now) }
+    ensures survives { Survives (state S.Store tx.old.conn.now) (state S.Store tx.new.conn.now) (λ _. ⊥) }
+{
+    put(
+        tx,
+        "INSERT INTO device_carrier (gsrn, carrier) VALUES (?1, ?2)",
+        &[text(gsrn), text(carrier)],
+    )
+}
 
 /// The carriers of all devices that have one other than electricity, in the order in which they came.
 ///

@@ -1,5 +1,5 @@
 -- What the statements on a table show and make, for any table whose rows are typed and stand in the order of a key.
-use Rattle.std.proofs.Common.{◌≡◌, ◌<ℤ◌, ℕ, ℤ, Bool, true, false, cond, All, List, [], ◌∷◌, map, filter, find, reverse, take, slice_get, Option, option_map, refl, sym, ap, ap₂, subst, ◌∙◌, map-id, IsPermutation}
+use Rattle.std.proofs.Common.{◌≡◌, ◌<ℤ◌, ℕ, ℤ, Bool, true, false, cond, All, List, [], ◌∷◌, map, filter, find, reverse, take, slice_get, Option, Some, None, option_map, refl, sym, ap, ap₂, subst, ◌∙◌, map-id, IsPermutation}
 use Rattle.std.specs.List.{AllByRecursion, AllZip, list_all}
 use Rattle.sqlite.specs.declared.types.Value.TheVariants.{Int}
 use Rattle.sqlite.specs.Order.{Row, column}
@@ -31,7 +31,7 @@ use Rattle.goo_tables_rows.specs.Rows.{Kept}
 use Rattle.goo_tables_rows.specs.Stands.{Keeps}
 use Rattle.goo_tables_rows.proofs.Meeting.{IsTyped, typed_rows, listed_met, kept_met}
 use Rattle.goo_tables_rows.proofs.Ordered.{keyed_rows}
-use Rattle.goo_tables_rows.proofs.Read.{all_read, first_read, top_listed}
+use Rattle.goo_tables_rows.proofs.Read.{all_read, first_read}
 use Rattle.goo_tables_holdings.proofs.Queries.{in_order, last_of}
 
 -- the rows that a query in the order of the rowids shows
@@ -94,8 +94,14 @@ module _ {X Y Z : Type 0} (l : TableOf X Y Z) (old : State) {ys : List Y} (keeps
       let shows = ordered l.table.tree l.row l.key l.keyed old.now.trees (l.plain old.now.trees) filter_by l.columns params p l.show (λ _. refl) (l.shows params) ys keeps.are keeps.rise rows answer in
       subst (λ s. All readable s) (sym shows) (readable_left readable l.show p ys all)
 
--- where the values themselves are read: the row with the highest rowid
-module _ {X Y : Type 0} (l : TableOf X Y Y) (old : State) {ys : List Y} (keeps : Keeps (old.now.trees l.table.tree) l.row l.key ys) where
+top_read : {X Y Z : Type 0} (l : TableOf X Y Z) (ys : List Y) (o : Option X) → FirstZip l.reads (map l.show ys) o → option_map l.value o ≡ option_map l.of (slice_get ys 0)
+top_read l [] None first = refl
+top_read l [] (Some x) first = absurd first
+top_read l (y ∷ ys) None first = absurd first
+top_read l (y ∷ ys) (Some x) first = ap Some (l.same y x first)
+
+-- the row with the highest rowid
+module _ {X Y Z : Type 0} (l : TableOf X Y Z) (old : State) {ys : List Y} (keeps : Keeps (old.now.trees l.table.tree) l.row l.key ys) where
   shown_top : (rows : List Row) → IsAnswer (last_of l.table.tree l.columns) (overlay old.now.trees []) [] rows → rows ≡ take 1 (map l.show (reverse ys))
   shown_top rows answer =
       let db = overlay old.now.trees [] in
@@ -104,9 +110,9 @@ module _ {X Y : Type 0} (l : TableOf X Y Y) (old : State) {ys : List Y} (keeps :
       let all = subst (λ s. IsPermutation s (reverse ys)) (sym (unfiltered ys refl)) (IsPermutation-reverse ys) in
       answer_listed (last_of l.table.tree l.columns) db [] source (λ _. true) (λ _. refl) l.show (l.shows []) refl refl (reverse ys) all falls rows answer
 
-  pub shows_top : ((y : Y) (x : X) → l.reads (l.show y) x → l.value x ≡ y)
-      → (x : Option X) (rows : List Row) → IsAnswer (last_of l.table.tree l.columns) (overlay old.now.trees []) [] rows → FirstZip l.reads rows x → option_map l.value x ≡ slice_get (reverse ys) 0
-  shows_top same x rows answer read = top_listed l.reads l.show l.value same (reverse ys) x (first_left l.reads _ x (subst (λ s. FirstZip l.reads s x) (shown_top rows answer) read))
+  pub shows_top : (x : Option X) (rows : List Row) → IsAnswer (last_of l.table.tree l.columns) (overlay old.now.trees []) [] rows → FirstZip l.reads rows x
+      → option_map l.value x ≡ option_map l.of (slice_get (reverse ys) 0)
+  shows_top x rows answer read = top_read l (reverse ys) x (first_left l.reads _ x (subst (λ s. FirstZip l.reads s x) (shown_top rows answer) read))
 
   pub readable_top : (readable : Row → Type 0) → All readable (map l.show ys) → (rows : List Row) → IsAnswer (last_of l.table.tree l.columns) (overlay old.now.trees []) [] rows → All readable rows
   readable_top readable all rows answer = subst (λ s. All readable s) (sym (shown_top rows answer)) (All-take readable 1 (map l.show (reverse ys)) (readable_last readable l.show ys all))
@@ -127,7 +133,7 @@ IsKept {X} l = (k : Keyed) (x : X) → IsTyped l.table.key l.table.columns k →
 abbrev HasTypes : Table → State → Type 0
 HasTypes table old = AllByRecursion (λ row. passes Datatype registry_schema old.now.trees table row ≡ true) (old.now.trees table.tree)
 
-met : {X Y Z : Type 0} (l : TableOf X Y Z) (old : State) → IsShaped shape.Table (old.now.trees l.table.tree) → (xs : List X) (rows : List Row) → IsAnswer (in_order l.table.tree [] l.columns) (overlay old.now.trees []) [] rows
+pub met : {X Y Z : Type 0} (l : TableOf X Y Z) (old : State) → IsShaped shape.Table (old.now.trees l.table.tree) → (xs : List X) (rows : List Row) → IsAnswer (in_order l.table.tree [] l.columns) (overlay old.now.trees []) [] rows
     → AllZip l.reads rows xs → AllZip l.reads (map (shown_of l) (all_keyed old.now l.table.tree)) xs
 met l old shaped xs rows answer read =
     let keys = all_keyed old.now l.table.tree in

@@ -1,5 +1,5 @@
 -- What the loops over FROM go through where a table is joined from the left, and the answer to a query over it.
-use Rattle.std.proofs.Common.{◌≡◌, ℕ, ℤ, ◌<ℤ◌, Bool, true, false, cond, List, [], ◌∷◌, ◌++◌, map, filter, find, flat_map, append-nil, Option, Some, None, refl, sym, ap, subst, ◌∙◌, Less, int_eq, IsPermutation, arith}
+use Rattle.std.proofs.Common.{◌≡◌, ℕ, ℤ, Bool, true, false, cond, List, [], ◌∷◌, ◌++◌, map, filter, flat_map, Option, Some, None, refl, sym, ap, subst, ◌∙◌, Less, int_eq, IsPermutation, arith}
 use Rattle.std.specs.List.{list_all, AllByRecursion, cons_option}
 use Rattle.std.proofs.lemmas.Int.{ints}
 use Rattle.std.proofs.lemmas.List.Elements.{filter-append}
@@ -61,7 +61,7 @@ module _ {X : Type 0} (db : Trees) (t : ℕ) (encode : X → Row) (xs : List X) 
       let kept = λ (e : Env). cond (passes e) (e ∷ []) [] in
       let joins = λ (r : Row). list_all (holds (before ++ r ∷ [])) on in
       let rows : or_nulls (filter joins (db t)) ≡ map (or_empty encode) (or_none (filter p xs)) =
-          ap (λ rs. or_nulls (filter joins rs)) stored ∙ ap or_nulls (filter-map joins encode xs ∙ ap (map encode) (filter_same _ p tests xs)) ∙ nulls_or_none encode (filter p xs) in
+      ap (λ rs. or_nulls (filter joins rs)) stored ∙ ap or_nulls (filter-map joins encode xs ∙ ap (map encode) (filter_same _ p tests xs)) ∙ nulls_or_none encode (filter p xs) in
       ap (flat_map (λ (r : Row). kept (before ++ r ∷ []))) rows ∙ flat_map-map _ (or_empty encode) (or_none (filter p xs))
       ∙ sym (filter_as_flat_map passes (map whole (or_none (filter p xs))) ∙ flat_map-map kept whole (or_none (filter p xs)))
 

@@ -71,7 +71,7 @@ module _ {Y : Type 0} (row : Y → Row) (key : Y → ℤ) (keyed : (y : Y) → r
 
 -- ---- values that no row has
 
-none_pass : {Y : Type 0} (p : Y → Bool) (ys : List Y) → find p ys ≡ None → AllByRecursion (λ y. p y ≡ false) ys
+pub none_pass : {Y : Type 0} (p : Y → Bool) (ys : List Y) → find p ys ≡ None → AllByRecursion (λ y. p y ≡ false) ys
 none_pass p [] none = tt
 none_pass {Y} p (y ∷ ys) none = go (p y) refl none (none_pass p ys)
   where
