@@ -1,4 +1,4 @@
-//! Changes of the tables, one statement each.
+//! Changes of the tables, one statement each; a device or a lot of another carrier than electricity takes two.
 
 ghost use Rattle.std.specs.Prelude.{◌≡◌, OnOk, All};
 ghost use Rattle.sqlite.specs.State.{HasCleanDisk, IsLive, KeepsCommit, Survives};

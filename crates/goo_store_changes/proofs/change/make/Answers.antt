@@ -44,7 +44,7 @@ insert_device-requires g c = subst ChangeFits c.in-AddDevice.is c.requires
 pub returns-in-AddDevice : goal.returns-in-AddDevice
 returns-in-AddDevice g c = record {
   same_reference = c.insert_device.ensures.same_reference;
-  changed = λ clean t it for. subst (λ change. OnOk c.insert_device.result (Sees (state g.S.Store c.insert_device.new.tx.conn.now) (made t change))) (sym c.in-AddDevice.is) (c.insert_device.ensures.changed clean t it);
+  changed = λ clean t it for. subst (λ change. OnOk c.insert_device.result (Sees (state g.S.Store c.insert_device.new.tx.conn.now) (made t change))) (sym c.in-AddDevice.is) (c.insert_device.ensures.changed clean t it (subst (IsFor t) c.in-AddDevice.is for));
   refused = λ clean live unlimited t it free. or_less _ c.insert_device.result _ _ (subst (HasRoom t) c.in-AddDevice.is) (c.insert_device.ensures.refused clean live unlimited t it (subst (IsFree t) c.in-AddDevice.is free));
   live = c.insert_device.ensures.live;
   uncommitted = c.insert_device.ensures.uncommitted;
@@ -84,7 +84,7 @@ insert_lot-requires g c = subst ChangeFits c.in-AddLot.is c.requires
 pub returns-in-AddLot : goal.returns-in-AddLot
 returns-in-AddLot g c = record {
   same_reference = c.insert_lot.ensures.same_reference;
-  changed = λ clean t it for. subst (λ change. OnOk c.insert_lot.result (Sees (state g.S.Store c.insert_lot.new.tx.conn.now) (made t change))) (sym c.in-AddLot.is) (c.insert_lot.ensures.changed clean t it);
+  changed = λ clean t it for. subst (λ change. OnOk c.insert_lot.result (Sees (state g.S.Store c.insert_lot.new.tx.conn.now) (made t change))) (sym c.in-AddLot.is) (c.insert_lot.ensures.changed clean t it (subst (IsFor t) c.in-AddLot.is for));
   refused = λ clean live unlimited t it free. or_full _ c.insert_lot.result _ _ (subst (HasRoom t) c.in-AddLot.is) (c.insert_lot.ensures.refused clean live unlimited t it (subst (IsFree t) c.in-AddLot.is free));
   live = c.insert_lot.ensures.live;
   uncommitted = c.insert_lot.ensures.uncommitted;
