@@ -103,11 +103,11 @@ pub fn is_other_carrier(text: &str) -> bool
 }
 
 /// The word for another carrier than electricity, where there is one.
-pub fn is_other_or_none(text: &Option<String>) -> bool
-    ensures { result ≡ is_maybe_other (option_map string_bytes text.now) }
+pub fn is_other_or_none(word: &Option<String>) -> bool
+    ensures { result ≡ is_maybe_other (option_map string_bytes word.now) }
 {
-    match text {
-        Some(text) => is_other_carrier(text),
-        None => true,
-    }
+    let Some(word) = word else {
+        return true;
+    };
+    is_other_carrier(word)
 }
