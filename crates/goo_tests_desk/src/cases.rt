@@ -140,3 +140,39 @@ pub const WORKED: [(&str, &str); 7] = [
         "HTTP/1.1 413 Content Too Large\r\nContent-Type: text/plain; charset=utf-8\r\nContent-Length: 18\r\nConnection: close\r\n\r\nContent Too Large\n",
     ),
 ];
+
+/// A device of hydrogen after the certificates of a plant, and the whole answers: its certificate and its notice state the carrier, and those of the plant don't.
+pub const CARRIED: [(&str, &str); 8] = [
+    (
+        "POST /v1/requests HTTP/1.1\r\nHost: x\r\nGOO-Caller: ISSUER\r\nContent-Length: 243\r\n\r\n{\"account\":1,\"capacity_w\":2000000,\"carrier\":\"Hydrogen\",\"command\":\"register_device\",\"commissioned\":\"2020-06-15\",\"country\":\"DE\",\"device\":\"500000000000000029\",\"key\":\"y1\",\"site\":\"South field\",\"source\":\"F01010100\",\"support\":\"none\",\"tech\":\"T010000\"}",
+        "HTTP/1.1 400 Bad Request\r\nContent-Type: application/json\r\nContent-Length: 40\r\nConnection: close\r\n\r\n{\"fault\":\"Field\",\"outcome\":\"unreadable\"}",
+    ),
+    (
+        "POST /v1/requests HTTP/1.1\r\nHost: x\r\nGOO-Caller: ISSUER\r\nContent-Length: 243\r\n\r\n{\"account\":1,\"capacity_w\":2000000,\"carrier\":\"hydrogen\",\"command\":\"register_device\",\"commissioned\":\"2020-06-15\",\"country\":\"DE\",\"device\":\"500000000000000029\",\"key\":\"y1\",\"site\":\"South field\",\"source\":\"F01010100\",\"support\":\"none\",\"tech\":\"T010000\"}",
+        "HTTP/1.1 200 OK\r\nContent-Type: application/json\r\nContent-Length: 33\r\nConnection: close\r\n\r\n{\"outcome\":\"accepted\",\"reply\":{}}",
+    ),
+    (
+        "POST /v1/requests HTTP/1.1\r\nHost: x\r\nGOO-Caller: ISSUER\r\nContent-Length: 141\r\n\r\n{\"aux_wh\":0,\"command\":\"declare\",\"device\":\"500000000000000029\",\"first_day\":\"2025-03-01\",\"gross_wh\":1000000,\"key\":\"y2\",\"last_day\":\"2025-03-31\"}",
+        "HTTP/1.1 200 OK\r\nContent-Type: application/json\r\nContent-Length: 101\r\nConnection: close\r\n\r\n{\"outcome\":\"accepted\",\"reply\":{\"carry\":0,\"count\":1,\"first\":\"07000000001202\",\"last\":\"07000000001202\"}}",
+    ),
+    (
+        "GET /v1/certificates/07000000001202 HTTP/1.1\r\nHost: x\r\nGOO-Caller: SUN\r\n\r\n",
+        "HTTP/1.1 200 OK\r\nContent-Type: application/json\r\nContent-Length: 346\r\nConnection: close\r\n\r\n{\"account\":1,\"act\":0,\"lot\":{\"capacity_w\":2000000,\"carrier\":\"hydrogen\",\"commissioned\":\"2020-06-15\",\"country\":\"DE\",\"device\":\"500000000000000029\",\"first_day\":\"2025-03-01\",\"issued_on\":\"2025-04-05\",\"last_day\":\"2025-03-31\",\"origin\":7,\"site\":\"South field\",\"source\":\"F01010100\",\"support\":\"none\",\"tech\":\"T010000\"},\"number\":\"07000000001202\",\"place\":\"held\"}",
+    ),
+    (
+        "GET /v1/certificates/07000000000001 HTTP/1.1\r\nHost: x\r\nGOO-Caller: ISSUER\r\n\r\n",
+        "HTTP/1.1 200 OK\r\nContent-Type: application/json\r\nContent-Length: 325\r\nConnection: close\r\n\r\n{\"account\":1,\"act\":0,\"lot\":{\"capacity_w\":2000000,\"commissioned\":\"2020-06-15\",\"country\":\"DE\",\"device\":\"500000000000000012\",\"first_day\":\"2025-01-01\",\"issued_on\":\"2025-03-01\",\"last_day\":\"2025-01-31\",\"origin\":7,\"site\":\"North field\",\"source\":\"F01010100\",\"support\":\"none\",\"tech\":\"T010000\"},\"number\":\"07000000000001\",\"place\":\"held\"}",
+    ),
+    (
+        "POST /v1/requests HTTP/1.1\r\nHost: x\r\nGOO-Caller: ISSUER\r\nContent-Length: 42\r\n\r\n{\"command\":\"add_peer\",\"key\":\"y3\",\"peer\":9}",
+        "HTTP/1.1 200 OK\r\nContent-Type: application/json\r\nContent-Length: 33\r\nConnection: close\r\n\r\n{\"outcome\":\"accepted\",\"reply\":{}}",
+    ),
+    (
+        "POST /v1/requests HTTP/1.1\r\nHost: x\r\nGOO-Caller: SUN\r\nContent-Length: 111\r\n\r\n{\"account\":5,\"command\":\"export\",\"first\":\"07000000001202\",\"giver\":1,\"key\":\"y4\",\"last\":\"07000000001202\",\"peer\":9}",
+        "HTTP/1.1 200 OK\r\nContent-Type: application/json\r\nContent-Length: 53\r\nConnection: close\r\n\r\n{\"outcome\":\"accepted\",\"reply\":{\"count\":1,\"notice\":1}}",
+    ),
+    (
+        "GET /v1/notices/1 HTTP/1.1\r\nHost: x\r\nGOO-Caller: SUN\r\n\r\n",
+        "HTTP/1.1 200 OK\r\nContent-Type: application/json\r\nContent-Length: 406\r\nConnection: close\r\n\r\n{\"account\":5,\"addressee\":9,\"number\":1,\"parts\":[{\"first\":\"07000000001202\",\"last\":\"07000000001202\",\"lot\":{\"capacity_w\":2000000,\"carrier\":\"hydrogen\",\"commissioned\":\"2020-06-15\",\"country\":\"DE\",\"device\":\"500000000000000029\",\"first_day\":\"2025-03-01\",\"issued_on\":\"2025-04-05\",\"last_day\":\"2025-03-31\",\"origin\":7,\"site\":\"South field\",\"source\":\"F01010100\",\"support\":\"none\",\"tech\":\"T010000\"}}],\"sender\":7,\"version\":2}",
+    ),
+];

@@ -1,21 +1,23 @@
 //! The tests.
 use crate::asking::{answers, begins, new_registry, tries};
-use crate::cases::{CASES, WORKED};
+use crate::cases::{CARRIED, CASES, WORKED};
 use crate::failing::Failing;
 use crate::wire::{ACCEPTED, APOLOGY, AUDIT, AUDITED, AUDITED_NEW, OPENING, PLANT, REPEATED};
+use goo_core_list::list_shelf::ListShelf;
 use goo_desk_connection::{ServeFault, serve_one};
 use goo_desk_counter::Counter;
 use goo_desk_responses::Status;
 use goo_desk_server::serve;
+use goo_registry::Registry;
 use goo_types::fault::Fault;
 use std::alloc::Global;
 use std::io::{self, ErrorKind, Write};
 use std::net::{Shutdown, TcpListener, TcpStream};
 
-#[test]
-fn worked_requests_are_answered_byte_for_byte(rt: HostRuntime) {
+/// A registry with the certificates of a plant.
+fn with_a_plant(rt: &HostRuntime) -> Registry<ListShelf> {
     let alloc = rt.alloc();
-    let mut registry = new_registry(&rt, alloc);
+    let mut registry = new_registry(rt, alloc);
     for request in PLANT {
         let done = begins(
             alloc,
@@ -25,9 +27,26 @@ fn worked_requests_are_answered_byte_for_byte(rt: HostRuntime) {
         );
         assert!(rt; done, "{request}");
     }
+    registry
+}
+
+#[test]
+fn worked_requests_are_answered_byte_for_byte(rt: HostRuntime) {
+    let alloc = rt.alloc();
+    let mut registry = with_a_plant(&rt);
     let audited = answers(alloc, &mut registry, AUDIT, AUDITED);
     assert!(rt; audited, "the audit");
     for (request, wanted) in WORKED {
+        let same = answers(alloc, &mut registry, request, wanted);
+        assert!(rt; same, "{request}");
+    }
+}
+
+#[test]
+fn a_device_of_hydrogen(rt: HostRuntime) {
+    let alloc = rt.alloc();
+    let mut registry = with_a_plant(&rt);
+    for (request, wanted) in CARRIED {
         let same = answers(alloc, &mut registry, request, wanted);
         assert!(rt; same, "{request}");
     }
