@@ -34,6 +34,8 @@ module _ (code : ℕ) (today : CalendarDay) (next_serial : ℕ) (it : IsFirst co
   unfolding state_of rows_of carry remaining lowered total
   begun_kept = record {
     readable = record { version = refl; meta = meta_read; holders = refl; accounts = refl; devices = refl; declarations = refl; lots = refl; pieces = refl; peers = refl; receipts = refl; cancellations = refl; withdrawals = refl; notices_out = refl; notices_in = refl; corrections = refl; device_carriers = refl; lot_carriers = refl };
+    carried_devices_there = refl;
+    carried_lots_there = refl;
     lots_there = refl;
     rising = tt;
     apart = λ _. tt;

@@ -5,6 +5,7 @@ pub mod CommitLemmas
 pub mod Prepared
 pub mod CommitsAfter
 pub mod DevicesApart
+pub mod DeviceKeys
 pub mod Found
 pub mod RowsRead
 pub mod Gathering

@@ -7,8 +7,10 @@ use Rattle.std.proofs.lemmas.List.Folds.{list_all-map}
 use Rattle.std.proofs.lemmas.List.Sorted.{All-permutation, IsPermutation-reverse}
 use Rattle.sqlite.specs.Effect.{Database}
 use Rattle.sqlite_keyed.specs.Keyed.{get_by}
-use Rattle.sqlite_keyed.proofs.ListLemmas.{filter-map}
+use Rattle.sqlite_keyed.proofs.ListLemmas.{filter-map, map-map}
+use Rattle.sqlite_keyed.proofs.RuleLemmas.{first_of_both, second_of_both}
 use Rattle.sqlite_typed.specs.Tests.{bytes_eq}
+use Rattle.goo_types.specs.Gsrn.{gsrn_reading}
 use Rattle.goo_types.specs.Piece.{IsRising, IsRisingFrom}
 use Rattle.goo_types.specs.Range.{Numbers}
 use Rattle.goo_types.specs.declared.piece.Piece.{Piece}
@@ -18,7 +20,7 @@ use Rattle.goo_store.proofs.Merging.{near_found}
 use Rattle.goo_ranges_pieces.proofs.Rising.{rising-weaken}
 use Rattle.goo_tables_rows.specs.Beside.{beside, pieces_beside, joined_columns, joined_in}
 use Rattle.goo_tables_rows.specs.Readable.{joined_readable, piece_readable, lot_readable}
-use Rattle.goo_tables_rows.specs.Rows.{Tables, Meta, Device, Lot, lot_key, meta_in, device_in, piece_columns, lot_columns}
+use Rattle.goo_tables_rows.specs.Rows.{Tables, Kept, Meta, Device, bare_device, Lot, lot_key, meta_in, device_in, piece_columns, lot_columns}
 use Rattle.goo_tables_rows.specs.Stands.{Stands}
 use Rattle.goo_tables_rows.specs.declared.device.DeviceRow.{DeviceRow}
 use Rattle.goo_tables_rows.specs.declared.joined.JoinedRow.{JoinedRow}
@@ -27,7 +29,7 @@ use Rattle.goo_tables_rows.specs.declared.piece.PieceRow.{PieceRow}
 use Rattle.goo_store_open.specs.Reading.{CanBeRead}
 use Rattle.goo_spec_tables.specs.Kept.{AreKept}
 use Rattle.goo_spec_tables.specs.Places.{piece_of, rows_of}
-use Rattle.goo_spec_tables.specs.Readable.{is_meta, is_device, is_piece}
+use Rattle.goo_spec_tables.specs.Readable.{reads, is_act, is_plant, is_maybe_day, is_meta, is_device, is_piece}
 use Rattle.goo_store_values.specs.Reading.{IsReadableLot}
 use Rattle.goo_store_values.proofs.RowsRead.{found_row, each_so, lots_kept}
 use Rattle.goo_store.specs.Reading.{IsReadablePiece, AreReadablePieces, AreReadableDevices}
@@ -57,7 +59,7 @@ module _ (R : Lot → Type 0) where
 joined_read : (p : PieceRow) (l : Lot) → piece_readable (piece_columns p) → lot_readable 0 (lot_columns l) → joined_readable (joined_columns (p, l))
 joined_read p l a b = (
   (omega arith, a.1, a.2, a.3, a.4, a.5, a.6),
-  (omega arith, b.1, b.2, b.3, (omega arith, b.4.1, b.4.2, b.4.3, b.4.4, b.4.5, b.4.6, b.4.7), b.5, b.6, b.7, b.8),
+  (omega arith, b.1, b.2, b.3, (omega arith, b.4.1, b.4.2, b.4.3, b.4.4, b.4.5, b.4.6, b.4.7), b.5, b.6, b.7, b.8, b.9),
 )
 
 pub pieces_read : (t : Tables) → CanBeRead t → All joined_readable (map joined_columns (pieces_beside t))
@@ -89,6 +91,20 @@ pub meta_found : (m : Meta) → is_meta m ≡ true → (row : Option MetaRow) �
 meta_found m good None is = absurd cc
 meta_found m good (Some r) is = let same : meta_in r ≡ m = cc in ap is_meta same ∙ good
 
+-- devices that can be read can be read without their carriers
+all_bare : (ks : List (Kept Device)) → list_all is_device ks ≡ true → list_all (λ k. is_device (pos 0, bare_device k.1)) ks ≡ true
+all_bare [] good = refl
+all_bare (k ∷ ks) good = λ i. one (first_of_both (is_device k) (list_all is_device ks) good) i && all_bare ks (second_of_both (is_device k) (list_all is_device ks) good) i
+  where
+    one : is_device k ≡ true → is_device (pos 0, bare_device k.1) ≡ true
+    one read =
+        let account = second_of_both (reads (gsrn_reading k.1.gsrn)) _ read in
+        let plant = second_of_both (is_act k.1.account) _ account in
+        let day = second_of_both (is_plant k.1.plant) _ plant in
+        let carry = second_of_both (is_maybe_day k.1.last_day) _ day in
+        λ i. first_of_both (reads (gsrn_reading k.1.gsrn)) _ read i && (first_of_both (is_act k.1.account) _ account i && (first_of_both (is_plant k.1.plant) _ plant i
+        && (first_of_both (is_maybe_day k.1.last_day) _ day i && (first_of_both (nat_le k.1.carry 999999) _ carry i && true))))
+
 module _ (db : Database) (t : Tables) (stands : Stands db t) (kept : AreKept t) where
   pub pieces_kept : All IsReadablePiece (pieces_beside t)
   pieces_kept =
@@ -105,13 +121,15 @@ module _ (db : Database) (t : Tables) (stands : Stands db t) (kept : AreKept t) 
     rising = subst IsRising (ap (map piece_of) (sym is)) (rising_left piece_of test 0 (pieces_beside t) kept.rising);
   }
 
-  pub devices_found : (rows : List DeviceRow) → map device_in rows ≡ map (λ k. k.1) t.devices → AreReadableDevices rows
-  devices_found rows is = record {
-    each = listed (λ d. is_device (pos 0, d)) (λ k. k.1) device_in t.devices rows is kept.readable.devices;
-    apart = λ gsrn.
-        let p = λ (d : Device). bytes_eq d.gsrn gsrn in
-        let same : length (filter (λ r. p (device_in r)) rows) ≡ length (filter (λ k. p k.1) t.devices) =
-        sym (length-map (filter (λ r. p (device_in r)) rows) device_in) ∙ ap length (sym (filter-map p device_in rows) ∙ ap (filter p) is ∙ filter-map p (λ k. k.1) t.devices)
-        ∙ length-map (filter (λ k. p k.1) t.devices) (λ k. k.1) in
-        subst (λ n. n ≤ 1) (sym same) (kept.devices gsrn);
-  }
+  -- all devices, read without their carriers
+  pub devices_found : (rows : List DeviceRow) → map device_in rows ≡ map bare_device (map (λ k. k.1) t.devices) → AreReadableDevices rows
+  devices_found rows found =
+      let is : map device_in rows ≡ map (λ (k : Kept Device). bare_device k.1) t.devices = found ∙ map-map bare_device (λ k. k.1) t.devices in record {
+        each = listed (λ d. is_device (pos 0, d)) (λ k. bare_device k.1) device_in t.devices rows is (all_bare t.devices kept.readable.devices);
+        apart = λ gsrn.
+            let p = λ (d : Device). bytes_eq d.gsrn gsrn in
+            let same : length (filter (λ r. p (device_in r)) rows) ≡ length (filter (λ k. p k.1) t.devices) =
+            sym (length-map (filter (λ r. p (device_in r)) rows) device_in) ∙ ap length (sym (filter-map p device_in rows) ∙ ap (filter p) is ∙ filter-map p (λ k. bare_device k.1) t.devices)
+            ∙ length-map (filter (λ k. p k.1) t.devices) (λ k. bare_device k.1) in
+            subst (λ n. n ≤ 1) (sym same) (kept.devices gsrn);
+      }

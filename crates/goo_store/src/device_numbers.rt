@@ -43,7 +43,7 @@ fn note(known: &mut BTreeMap<Gsrn, Device>, row: &DeviceRow) -> Result<(), Troub
     }
 }
 
-/// The devices by their numbers.
+/// The devices by their numbers, without their carriers.
 fn note_each(alloc: Global, rows: &[DeviceRow]) -> Result<BTreeMap<Gsrn, Device>, Trouble>
     ensures noted { IfOk result (λ known. map_of text_cmp known ≡ from_entries (map device_entry (map device_in rows.now))) }
     ensures accepts { AreReadableDevices rows.now → IsOkUnless result Memory }

@@ -1,6 +1,6 @@
 -- A shelf over the tables at one moment.
 use Rattle.std.specs.Prelude.{◌≡◌, ◌≤◌, ℕ, ℤ, pos, ◌<ℤ◌, List, [], ◌∷◌, filter, length, Bool, true, cond, Option, Some, None}
-use Rattle.std.specs.List.{list_all}
+use Rattle.std.specs.List.{list_all, list_any, AllByRecursion}
 use Rattle.sqlite_typed.specs.Tests.{bytes_eq}
 use Rattle.std.specs.Coded.{Coded-set}
 use Rattle.std.proofs.Props.{props}
@@ -18,7 +18,7 @@ use Rattle.sqlite_keyed.specs.Keyed.{IsKeyedBy, get_by, has_key}
 use Rattle.goo_ranges_rows.specs.Rows.{rising-prop}
 use Rattle.goo_types.specs.declared.piece.Piece.{Piece}
 use Rattle.goo_core_shelf.specs.Shelf.{Moment, progress_of}
-use Rattle.goo_tables_rows.specs.Rows.{Tables, Lot, tables_of, kept_key, holder_row, account_row, account_key, device_row as row_of_device, declaration_row, declaration_key, lot_row, lot_key, piece_row, piece_key, peer_row, receipt_row, cancellation_row, cancellation_key, withdrawal_row, withdrawal_key, notice_out_row, notice_out_key, notice_in_row, correction_row, correction_key, device_carrier_row, lot_carrier_row, lot_carrier_key}
+use Rattle.goo_tables_rows.specs.Rows.{Tables, Kept, Device, Lot, carrier_of_device, carrier_of_lot, tables_of, kept_key, holder_row, account_row, account_key, device_row as row_of_device, declaration_row, declaration_key, lot_row, lot_key, piece_row, piece_key, peer_row, receipt_row, cancellation_row, cancellation_key, withdrawal_row, withdrawal_key, notice_out_row, notice_out_key, notice_in_row, correction_row, correction_key, device_carrier_row, lot_carrier_row, lot_carrier_key}
 use Rattle.goo_tables_rows.specs.Stands.{Stands, Holds, Keeps, doubts}
 use Rattle.goo_spec.specs.State as registry
 use Rattle.goo_spec.specs.Runs.{IsApart}
@@ -80,6 +80,16 @@ rises-prop key xs = IsAscending-prop (λ a b. key a <ℤ key b) (λ a b. lt-prop
 keeps-prop : {X : Type 0} (rows : List Row) (to_row : X → Row) (key : X → ℤ) (xs : List X) → IsProp (Keeps rows to_row key xs)
 keeps-prop rows to_row key xs a b = λ i. record { are = rows_set _ _ a.are b.are i; rise = rises-prop key xs a.rise b.rise i }
 
+unit-prop : IsProp (Unit {0})
+unit-prop a b = refl
+
+word-set : (o p : Option (List ℕ)) → IsProp (o ≡ p)
+word-set o p = Prim.hlevel props
+
+carried-prop : {X : Type 0} (f g : X → Option (List ℕ)) (xs : List X) → IsProp (AllByRecursion (λ x. f x ≡ g x) xs)
+carried-prop f g [] a b = unit-prop a b
+carried-prop f g (x ∷ xs) a b = λ i. (word-set (f x) (g x) a.0 b.0 i, carried-prop f g xs a.1 b.1 i)
+
 stands-prop : (db : Database) (t : Tables) → IsProp (Stands db t)
 stands-prop db t a b = λ i. record {
   schema = schema_set _ _ a.schema b.schema i;
@@ -99,6 +109,8 @@ stands-prop db t a b = λ i. record {
   corrections = keeps-prop _ correction_row correction_key t.corrections a.corrections b.corrections i;
   device_carriers = keeps-prop _ device_carrier_row kept_key t.device_carriers a.device_carriers b.device_carriers i;
   lot_carriers = keeps-prop _ lot_carrier_row lot_carrier_key t.lot_carriers a.lot_carriers b.lot_carriers i;
+  devices_carried = carried-prop (λ (k : Kept Device). k.1.carrier) (λ k. carrier_of_device t.device_carriers k.1.gsrn) t.devices a.devices_carried b.devices_carried i;
+  lots_carried = carried-prop (λ (l : Lot). l.carrier) (λ l. carrier_of_lot t.lot_carriers l.id) t.lots a.lots_carried b.lots_carried i;
 }
 
 readable-prop : (t : Tables) → IsProp (AreReadable t)
@@ -109,6 +121,12 @@ sound-prop s = Prim.hlevel props
 
 lots-prop : (t : Tables) → IsProp ((id : ℤ) (l : Lot) → get_by lot_key t.lots id ≡ Some l → IsKeptLot l)
 lots-prop t = Prim.hlevel props
+
+carried_devices-prop : (t : Tables) → IsProp (list_all (λ c. list_any (λ d. bytes_eq d.1.gsrn c.1.gsrn) t.devices) t.device_carriers ≡ true)
+carried_devices-prop t = Prim.hlevel props
+
+carried_lots-prop : (t : Tables) → IsProp (list_all (λ c. has_key lot_key t.lots (pos c.lot)) t.lot_carriers ≡ true)
+carried_lots-prop t = Prim.hlevel props
 
 there-prop : (t : Tables) → IsProp (list_all (λ p. has_key lot_key t.lots (pos p.lot)) t.pieces ≡ true)
 there-prop t = Prim.hlevel props
@@ -125,9 +143,6 @@ no-prop a b = λ i x. nothing (a x) (b x) i
     nothing : IsProp ⊥
     nothing a b = absurd a
 
-unit-prop : IsProp (Unit {0})
-unit-prop a b = refl
-
 apart-prop : (ps : List Piece) → IsProp (IsApart ps)
 apart-prop [] a b = refl
 apart-prop (p ∷ []) a b = λ i. (unit-prop a.0 b.0 i, unit-prop a.1 b.1 i)
@@ -136,6 +151,8 @@ apart-prop (p ∷ q ∷ qs) a b = λ i. (no-prop a.0 b.0 i, apart-prop (q ∷ qs
 kept-prop : (t : Tables) → IsProp (AreKept t)
 kept-prop t a b = λ i. record {
   readable = readable-prop t a.readable b.readable i;
+  carried_devices_there = carried_devices-prop t a.carried_devices_there b.carried_devices_there i;
+  carried_lots_there = carried_lots-prop t a.carried_lots_there b.carried_lots_there i;
   lots_there = there-prop t a.lots_there b.lots_there i;
   rising = rising-prop 0 (rows_of t) a.rising b.rising i;
   apart = λ two. apart-prop (rows_of t) (a.apart two) (b.apart two) i;

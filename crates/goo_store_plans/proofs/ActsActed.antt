@@ -51,7 +51,7 @@ module _ (t : Tables) (kept : AreKept t) where
       let none = ap (λ (e : ℕ × Rattle.goo_spec.specs.State.Account). get (from_entries {R = Rattle.std.specs.Ordering.nat_cmp} (map known_account t.accounts)) e.0) states ∙ next_free m.next_account _ kept.sound.account_numbers in
       let put = numbered (λ b. b.number) account_of a t.accounts none ∙ ap (λ (e : ℕ × Rattle.goo_spec.specs.State.Account). insert (from_entries {R = Rattle.std.specs.Ordering.nat_cmp} (map known_account t.accounts)) e.0 e.1) states in
       let rows = with_accounts t kept.readable (insert_by account_key t.accounts a) (all_inserted account_key is_account a read t.accounts kept.readable.accounts) in
-      quiet t _ (with_account (state_of t) x) kept refl refl refl refl refl refl (λ at i. record (beside at (state_of t)) { accounts = put i; next_account = m.next_account + 1 })
+      quiet t _ (with_account (state_of t) x) kept refl refl refl refl refl refl refl refl (λ at i. record (beside at (state_of t)) { accounts = put i; next_account = m.next_account + 1 })
       (with_meta (change.with_account t a) rows _ refl refl (counters_read m kept.readable.meta m.next_serial (m.next_account + 1) m.next_cancellation m.next_withdrawal m.next_notice limits.serial (omega arith, omega (arith, left)) limits.cancellation limits.withdrawal limits.notice))
 
   -- the record of a cancellation
@@ -62,7 +62,7 @@ module _ (t : Tables) (kept : AreKept t) where
       let none = ap (λ (e : ℕ × Rattle.goo_spec.specs.State.Cancellation). get (from_entries {R = Rattle.std.specs.Ordering.nat_cmp} (map known_cancellation t.cancellations)) e.0) states ∙ next_free m.next_cancellation _ kept.sound.cancellation_numbers in
       let put = numbered (λ b. b.number) record_of.cancellation_of c t.cancellations none ∙ ap (λ (e : ℕ × Rattle.goo_spec.specs.State.Cancellation). insert (from_entries {R = Rattle.std.specs.Ordering.nat_cmp} (map known_cancellation t.cancellations)) e.0 e.1) states in
       let rows = with_cancellations t kept.readable (insert_by cancellation_key t.cancellations c) (all_inserted cancellation_key is_cancellation c read t.cancellations kept.readable.cancellations) in
-      quiet t _ (with_cancellation (state_of t) x) kept refl refl refl refl refl refl (λ at i. record (beside at (state_of t)) { cancellations = put i; next_cancellation = m.next_cancellation + 1 })
+      quiet t _ (with_cancellation (state_of t) x) kept refl refl refl refl refl refl refl refl (λ at i. record (beside at (state_of t)) { cancellations = put i; next_cancellation = m.next_cancellation + 1 })
       (with_meta (change.with_cancellation t c) rows _ refl refl (counters_read m kept.readable.meta m.next_serial m.next_account (m.next_cancellation + 1) m.next_withdrawal m.next_notice limits.serial limits.account (omega arith, omega (arith, left)) limits.withdrawal limits.notice))
 
   -- the record of a withdrawal
@@ -73,7 +73,7 @@ module _ (t : Tables) (kept : AreKept t) where
       let none = ap (λ (e : ℕ × Rattle.goo_spec.specs.State.Withdrawal). get (from_entries {R = Rattle.std.specs.Ordering.nat_cmp} (map known_withdrawal t.withdrawals)) e.0) states ∙ next_free m.next_withdrawal _ kept.sound.withdrawal_numbers in
       let put = numbered (λ b. b.number) record_of.withdrawal_of w t.withdrawals none ∙ ap (λ (e : ℕ × Rattle.goo_spec.specs.State.Withdrawal). insert (from_entries {R = Rattle.std.specs.Ordering.nat_cmp} (map known_withdrawal t.withdrawals)) e.0 e.1) states in
       let rows = with_withdrawals t kept.readable (insert_by withdrawal_key t.withdrawals w) (all_inserted withdrawal_key is_withdrawal w read t.withdrawals kept.readable.withdrawals) in
-      quiet t _ (with_withdrawal (state_of t) x) kept refl refl refl refl refl refl (λ at i. record (beside at (state_of t)) { withdrawals = put i; next_withdrawal = m.next_withdrawal + 1 })
+      quiet t _ (with_withdrawal (state_of t) x) kept refl refl refl refl refl refl refl refl (λ at i. record (beside at (state_of t)) { withdrawals = put i; next_withdrawal = m.next_withdrawal + 1 })
       (with_meta (change.with_withdrawal t w) rows _ refl refl (counters_read m kept.readable.meta m.next_serial m.next_account m.next_cancellation (m.next_withdrawal + 1) m.next_notice limits.serial limits.account limits.cancellation (omega arith, omega (arith, left)) limits.notice))
 
   -- the notice of an export
@@ -84,12 +84,12 @@ module _ (t : Tables) (kept : AreKept t) where
       let none = ap (λ (e : ℕ × Rattle.goo_spec.specs.State.Sent). get (from_entries {R = Rattle.std.specs.Ordering.nat_cmp} (map known_sent t.notices_out)) e.0) states ∙ next_free m.next_notice _ kept.sound.notice_numbers in
       let put = numbered (λ b. b.number) record_of.sent_of n t.notices_out none ∙ ap (λ (e : ℕ × Rattle.goo_spec.specs.State.Sent). insert (from_entries {R = Rattle.std.specs.Ordering.nat_cmp} (map known_sent t.notices_out)) e.0 e.1) states in
       let rows = with_notices_out t kept.readable (insert_by notice_out_key t.notices_out n) (all_inserted notice_out_key (is_notice_out m.code) n read t.notices_out kept.readable.notices_out) in
-      quiet t _ (with_export (state_of t) x) kept refl refl refl refl refl refl (λ at i. record (beside at (state_of t)) { sent = put i; next_notice = m.next_notice + 1 })
+      quiet t _ (with_export (state_of t) x) kept refl refl refl refl refl refl refl refl (λ at i. record (beside at (state_of t)) { sent = put i; next_notice = m.next_notice + 1 })
       (with_meta (change.with_notice_out t n) rows _ refl refl (counters_read m kept.readable.meta m.next_serial m.next_account m.next_cancellation m.next_withdrawal (m.next_notice + 1) limits.serial limits.account limits.cancellation limits.withdrawal (omega arith, omega (arith, left))))
 
   -- another date
   pub advance_acted : (x : Advance) (today : List ℕ) → day_of today ≡ x.day → reads (day_reading today) ≡ true → IsActed t (change.at_day t today) (with_day (state_of t) x)
   unfolding state_of with_day
   advance_acted x today states read =
-      quiet t _ (with_day (state_of t) x) kept refl refl refl refl refl refl (λ at i. record (beside at (state_of t)) { today = states i })
+      quiet t _ (with_day (state_of t) x) kept refl refl refl refl refl refl refl refl (λ at i. record (beside at (state_of t)) { today = states i })
       (with_meta t kept.readable _ refl refl (today_read m kept.readable.meta today read))

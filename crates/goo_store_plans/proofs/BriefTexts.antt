@@ -8,12 +8,16 @@ use Rattle.json.specs.Print.{escape_letter, escape_byte, escape, quoted}
 use Rattle.serde_json.specs.Data.{Data, null, boolean, number, string, array, object, Items, no_items, item, Members, no_members, member}
 use Rattle.serde_json.specs.View.{items_of}
 use Rattle.serde_json.specs.Written.{number_text as text_of_number, compact_text, comma_if, items_text, members_text}
+use Rattle.goo_types.specs.Carrier.{carrier_word}
 use Rattle.goo_types.specs.Notice.{NoticeContents}
 use Rattle.goo_types.specs.Range.{Numbers}
 use Rattle.goo_types.specs.Support.{support_word}
 use Rattle.goo_types.specs.Texts.{number_text}
+use Rattle.goo_types.specs.declared.carrier.Carrier.{Carrier}
+use Rattle.goo_types.specs.declared.carrier.Carrier.TheVariants as carrier
 use Rattle.goo_types.specs.declared.command.Command.{Command}
 use Rattle.goo_types.specs.declared.command.Command.TheVariants.{OpenHolder, OpenAccount, CloseAccount, RegisterDevice, Declare, Correct, Transfer, Cancel, Withdraw, Advance, AddPeer, Export, Import}
+use Rattle.goo_types.specs.declared.command.RegisterDevice.{RegisterDevice as Registering}
 use Rattle.goo_types.specs.declared.lot_fields.LotFields.{LotFields}
 use Rattle.goo_types.specs.declared.part.Part.{Part}
 use Rattle.goo_types.specs.declared.support.Support.{Support}
@@ -22,8 +26,9 @@ use Rattle.goo_types.proofs.DigitTextLemmas.{length-digits}
 use Rattle.goo_notice.specs.Command.{command_data, command_text, IsCommand}
 use Rattle.goo_notice.specs.Correct.{first_text, last_text}
 use Rattle.goo_notice.specs.Law.{command_in}
+use Rattle.goo_notice.specs.RegisterDevice.{device_data_with, IsRegisterDevice}
 use Rattle.goo_notice_json.specs.Lot.{lot_data, IsStatedLot}
-use Rattle.goo_notice_text.specs.Notice.{notice_data, notice_text, IsStatedNotice}
+use Rattle.goo_notice_text.specs.Notice.{are_carried, version_of, notice_data, notice_text, IsStatedNotice}
 use Rattle.goo_notice_text.specs.NoticeText.{notice_in}
 use Rattle.goo_notice_json.specs.Parts.{part_data, IsStatedPart}
 use Rattle.goo_notice_text.specs.declared.notice_fault.NoticeFault.{NoticeFault}
@@ -119,9 +124,24 @@ word_short support.Investment = omega arith
 word_short support.Production = omega arith
 word_short support.Both = omega arith
 
-lot_most : (l : LotFields) → IsStatedLot l → most (lot_data l) ≤ 2000
+carrier_short : (c : Carrier) → length (carrier_word c) ≤ 15
+carrier_short carrier.Electricity = omega arith
+carrier_short carrier.Gas = omega arith
+carrier_short carrier.Hydrogen = omega arith
+carrier_short carrier.HeatingCooling = omega arith
+
+lot_most : (b : Bool) (l : LotFields) → IsStatedLot l → most (lot_data b l) ≤ 2000
 unfolding lot_data
-lot_most l is =
+lot_most true l is =
+    let device = gsrn_short l.device (ap reads is.device) in
+    let country = country_short l.country (ap reads is.country) in
+    let site = name_short l.site (ap reads is.site) in
+    let tech = tech_short l.tech (ap reads is.tech) in
+    let source = source_short l.source (ap reads is.source) in
+    let capacity = decimal_short l.capacity_w (omega (arith, is.capacity_w.1)) in
+    let origin = decimal_short l.origin (omega (arith, is.origin.1)) in
+    omega (arith, device, country, site, tech, source, capacity, origin, day_text_short l.commissioned, day_text_short l.first_day, day_text_short l.last_day, day_text_short l.issued_on, word_short l.support, carrier_short l.carrier)
+lot_most false l is =
     let device = gsrn_short l.device (ap reads is.device) in
     let country = country_short l.country (ap reads is.country) in
     let site = name_short l.site (ap reads is.site) in
@@ -131,13 +151,17 @@ lot_most l is =
     let origin = decimal_short l.origin (omega (arith, is.origin.1)) in
     omega (arith, device, country, site, tech, source, capacity, origin, day_text_short l.commissioned, day_text_short l.first_day, day_text_short l.last_day, day_text_short l.issued_on, word_short l.support)
 
-part_most : (p : Part) → IsStatedPart p → most (part_data p) ≤ 2500
+part_most : (b : Bool) (p : Part) → IsStatedPart p → most (part_data b p) ≤ 2500
 unfolding part_data
-part_most p is = omega (arith, number_short p.range.first, number_short p.range.last, lot_most p.lot is.lot)
+part_most b p is = omega (arith, number_short p.range.first, number_short p.range.last, lot_most b p.lot is.lot)
 
-parts_most : (ps : List Part) → All IsStatedPart ps → items_most (items_of (map part_data ps)) ≤ 2501 * length ps + 1
-parts_most [] are = omega arith
-parts_most (p ∷ ps) are = omega (arith, part_most p (All-head IsStatedPart p ps are), parts_most ps (All-tail IsStatedPart p ps are))
+parts_most : (b : Bool) (ps : List Part) → All IsStatedPart ps → items_most (items_of (map (part_data b) ps)) ≤ 2501 * length ps + 1
+parts_most b [] are = omega arith
+parts_most b (p ∷ ps) are = omega (arith, part_most b p (All-head IsStatedPart p ps are), parts_most b ps (All-tail IsStatedPart p ps are))
+
+version_short : (b : Bool) → version_of b < 2 ^ 64
+version_short true = omega arith
+version_short false = omega arith
 
 notice_most : (n : NoticeContents) → IsStatedNotice n → most (notice_data n) ≤ 299000
 unfolding notice_data
@@ -146,8 +170,8 @@ notice_most n is =
     let addressee = decimal_short n.addressee (omega (arith, is.addressee.1)) in
     let serial = decimal_short n.number (omega (arith, is.number.1)) in
     let sender = decimal_short n.sender (omega (arith, is.sender.1)) in
-    let version = decimal_short 1 (omega arith) in
-    omega (arith, account, addressee, serial, sender, version, parts_most n.parts is.parts, is.notice.count.1)
+    let version = decimal_short (version_of (are_carried n.parts)) (version_short (are_carried n.parts)) in
+    omega (arith, account, addressee, serial, sender, version, parts_most (are_carried n.parts) n.parts is.parts, is.notice.count.1)
 
 -- ---- notices and commands
 
@@ -155,11 +179,8 @@ notice_brief : (n : NoticeContents) → IsStatedNotice n → length (notice_text
 unfolding notice_text
 notice_brief n is = omega (arith, text_most (notice_data n), notice_most n is)
 
-command_most : (c : Command) → IsCommand c → most (command_data c) ≤ 300000
-command_most (OpenHolder c) is = omega (arith, holder_short c.holder (ap reads is.holder), name_short c.name (ap reads is.name))
-command_most (OpenAccount c) is = omega (arith, holder_short c.holder (ap reads is.holder))
-command_most (CloseAccount c) is = omega (arith, decimal_short c.account (omega (arith, is.account.1)))
-command_most (RegisterDevice c) is =
+device_most : (k : Carrier) (c : Registering) → IsRegisterDevice c → most (device_data_with k c) ≤ 300000
+device_most carrier.Electricity c is =
     let device = gsrn_short c.device (ap reads is.device) in
     let country = country_short c.country (ap reads is.country) in
     let site = name_short c.site (ap reads is.site) in
@@ -168,6 +189,39 @@ command_most (RegisterDevice c) is =
     let capacity = decimal_short c.capacity_w (omega (arith, is.capacity_w.1)) in
     let account = decimal_short c.account (omega (arith, is.account.1)) in
     omega (arith, device, country, site, tech, source, capacity, account, day_text_short c.commissioned, word_short c.support)
+device_most carrier.Gas c is =
+    let device = gsrn_short c.device (ap reads is.device) in
+    let country = country_short c.country (ap reads is.country) in
+    let site = name_short c.site (ap reads is.site) in
+    let tech = tech_short c.tech (ap reads is.tech) in
+    let source = source_short c.source (ap reads is.source) in
+    let capacity = decimal_short c.capacity_w (omega (arith, is.capacity_w.1)) in
+    let account = decimal_short c.account (omega (arith, is.account.1)) in
+    omega (arith, device, country, site, tech, source, capacity, account, day_text_short c.commissioned, word_short c.support)
+device_most carrier.Hydrogen c is =
+    let device = gsrn_short c.device (ap reads is.device) in
+    let country = country_short c.country (ap reads is.country) in
+    let site = name_short c.site (ap reads is.site) in
+    let tech = tech_short c.tech (ap reads is.tech) in
+    let source = source_short c.source (ap reads is.source) in
+    let capacity = decimal_short c.capacity_w (omega (arith, is.capacity_w.1)) in
+    let account = decimal_short c.account (omega (arith, is.account.1)) in
+    omega (arith, device, country, site, tech, source, capacity, account, day_text_short c.commissioned, word_short c.support)
+device_most carrier.HeatingCooling c is =
+    let device = gsrn_short c.device (ap reads is.device) in
+    let country = country_short c.country (ap reads is.country) in
+    let site = name_short c.site (ap reads is.site) in
+    let tech = tech_short c.tech (ap reads is.tech) in
+    let source = source_short c.source (ap reads is.source) in
+    let capacity = decimal_short c.capacity_w (omega (arith, is.capacity_w.1)) in
+    let account = decimal_short c.account (omega (arith, is.account.1)) in
+    omega (arith, device, country, site, tech, source, capacity, account, day_text_short c.commissioned, word_short c.support)
+
+command_most : (c : Command) → IsCommand c → most (command_data c) ≤ 300000
+command_most (OpenHolder c) is = omega (arith, holder_short c.holder (ap reads is.holder), name_short c.name (ap reads is.name))
+command_most (OpenAccount c) is = omega (arith, holder_short c.holder (ap reads is.holder))
+command_most (CloseAccount c) is = omega (arith, decimal_short c.account (omega (arith, is.account.1)))
+command_most (RegisterDevice c) is = device_most c.carrier c is
 command_most (Declare c) is =
     let gross = decimal_short c.gross (omega (arith, is.gross.1)) in
     let aux = decimal_short c.aux (omega (arith, is.aux.1)) in

@@ -37,7 +37,7 @@ use Rattle.goo_tables_rows.specs.declared.meta.MetaRow.{MetaRow}
 use Rattle.goo_tables_rows.specs.declared.notice_out.NoticeOutRow.{NoticeOutRow}
 use Rattle.goo_tables_rows.specs.declared.peer.PeerRow.{PeerRow}
 use Rattle.goo_tables_rows.specs.declared.withdrawal.WithdrawalRow.{WithdrawalRow}
-use Rattle.goo_tables_holdings.specs.Changes.{at_day}
+use Rattle.goo_tables_holdings.specs.Changes.{at_day, IsNewDevice}
 use Rattle.goo_tables_holdings.specs.declared.counters.CountersRow.{CountersRow}
 use Rattle.goo_spec_tables.specs.Devices.{device_of as device_in_row, progress_in}
 use Rattle.goo_spec_tables.specs.Records as record_of
@@ -50,13 +50,14 @@ use Rattle.goo_store_changes.specs.Changes.{made, made_all, IsFor, IsFree, HasRo
 use Rattle.goo_store_changes.specs.declared.change.TableChange.{TableChange}
 use Rattle.goo_store_changes.specs.declared.change.TableChange.TheVariants as change
 use Rattle.goo_store_plans.proofs.ActsActed.{numbers, account_acted, cancellation_acted, withdrawal_acted, export_acted, advance_acted}
+use Rattle.goo_store_plans.proofs.CarriersAdded.{no_device_word}
 use Rattle.goo_store_plans.proofs.ClosingActed.{closing_acted}
 use Rattle.goo_store_plans.proofs.CommandsActed.{transfer_acted, holder_acted, peer_acted}
 use Rattle.goo_store_plans.proofs.FreeChanges.{no_text, no_number}
 use Rattle.goo_store_plans.proofs.InTurn.{none_in_turn, one_in_turn, two_in_turn}
 use Rattle.goo_store_plans.proofs.Numbering.{next_free}
 use Rattle.goo_store_plans.proofs.RegisteringActed.{registering_acted}
-use Rattle.goo_store_plans.proofs.RoomChanges.{closed_room, counters_room}
+use Rattle.goo_store_plans.proofs.RoomChanges.{closed_room, counters_room, device_word_room}
 use Rattle.goo_store_plans.proofs.SmallRows.{small_holder, small_account, small_device, small_cancellation, small_withdrawal, small_notice_out}
 
 -- ---- lists of one change
@@ -117,13 +118,16 @@ module _ (t : Tables) where
   pub registers : (x : Registering) (d : DeviceRow) → known_device (pos 0, device_in d) ≡ (x.device, device_of x) → progress_in (Some (device_in d)) ≡ progress_in None → is_device (pos 0, device_in d) ≡ true
       → Does t (RegisterDevice x) (change.AddDevice d ∷ [])
   unfolding state_of
-  registers x d states begins read kept order caller accepted = record {
-    for = one_in_turn IsFor t (change.AddDevice d) tt;
-    free = one_in_turn IsFree t (change.AddDevice d) (no_text (λ k. device_in_row k.1) (λ k. k.1.gsrn) (device_in d).gsrn t.devices (ap (λ e. get (state_of t).devices e.0) states ∙ unregistered (state_of t) caller x accepted));
-    room = λ can. one_in_turn HasRoom t (change.AddDevice d) (small_device (next_key kept_key t.devices, device_in d) read, can.devices);
-    acted = registering_acted t kept x (device_in d) (λ k. states) begins (λ k. read) order.devices (unregistered (state_of t) caller x accepted);
-    lots = refl;
-  }
+  registers x d states begins read kept order caller accepted =
+      let gsrn = (device_in d).gsrn in
+      let none = no_text (λ k. device_in_row k.1) (λ k. k.1.gsrn) gsrn t.devices (ap (λ e. get (state_of t).devices e.0) states ∙ unregistered (state_of t) caller x accepted) in
+      let new : IsNewDevice t gsrn = (none, no_device_word t.devices t.device_carriers gsrn kept.carried_devices_there none) in record {
+        for = one_in_turn IsFor t (change.AddDevice d) new;
+        free = one_in_turn IsFree t (change.AddDevice d) new;
+        room = λ can. one_in_turn HasRoom t (change.AddDevice d) ((small_device (next_key kept_key t.devices, device_in d) read, can.devices), device_word_room t.device_carriers (pos 0, device_in d) read can.device_carriers);
+        acted = registering_acted t kept x (device_in d) (λ k. states) begins (λ k. read) order.devices (unregistered (state_of t) caller x accepted);
+        lots = refl;
+      }
 
   pub peers : (x : Peering) (p : PeerRow) → known_peer (pos 0, p) ≡ (x.peer, tt) → is_peer (pos 0, p) ≡ true → Does t (AddPeer x) (change.AddPeer p ∷ [])
   unfolding state_of

@@ -118,5 +118,5 @@ module _ (n : ℕ) where
 pub closing_acted : (t : Tables) → AreKept t → (x : CloseAccount) → IsActed t (change.with_closed t x.account) (with_closed (state_of t) x)
 unfolding state_of with_closed
 closing_acted t kept x =
-    quiet t (change.with_closed t x.account) (with_closed (state_of t) x) kept refl refl refl refl refl refl (λ at i. record (beside at (state_of t)) { accounts = closed_map x.account t.accounts i })
+    quiet t (change.with_closed t x.account) (with_closed (state_of t) x) kept refl refl refl refl refl refl refl refl (λ at i. record (beside at (state_of t)) { accounts = closed_map x.account t.accounts i })
     (with_accounts t kept.readable (update_where (closes x.account) (λ a. record a { closed = 1 }) t.accounts) (closed_read x.account t.accounts kept.readable.accounts))

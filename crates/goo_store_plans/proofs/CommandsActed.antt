@@ -4,9 +4,11 @@ use Rattle.std.specs.FinMap.{FinMap, get, contains_key, insert, from_entries, Is
 use Rattle.std.specs.Cmp.{nat_cmp_total}
 use Rattle.std.specs.Cmp.Lexicographic.{nat_list_cmp_total}
 use Rattle.std.specs.Ordering.{int_eq, nat_cmp}
+use Rattle.std.specs.List.{list_all, list_any}
 use Rattle.std.specs.Option.{option_or}
 use Rattle.sqlite_keyed.specs.Keyed.{IsKeyedBy, next_key, has_key, insert_by}
 use Rattle.sqlite_keyed.proofs.KeyedLemmas.{next_key_is_free}
+use Rattle.sqlite_typed.specs.Tests.{bytes_eq}
 use Rattle.goo_types.specs.declared.command.OpenHolder.{OpenHolder}
 use Rattle.goo_types.specs.declared.command.AddPeer.{AddPeer}
 use Rattle.goo_types.specs.declared.command.Transfer.{Transfer}
@@ -39,10 +41,11 @@ pub progress_same : (a b : State) → a.declarations ≡ b.declarations → a.co
 unfolding carry remaining lowered total
 progress_same a b same corrected gsrn = λ i. progress_of (record a { declarations = same i; corrections = corrected i }) gsrn
 
--- a change that leaves pieces, lots, devices, declarations, corrections and receipts
-pub quiet : (t after : Tables) (s : State) → AreKept t → after.pieces ≡ t.pieces → after.receipts ≡ t.receipts → after.lots ≡ t.lots → after.devices ≡ t.devices → s.declarations ≡ (state_of t).declarations → s.corrections ≡ (state_of t).corrections
+-- a change that leaves pieces, lots, devices, their carriers, declarations, corrections and receipts
+pub quiet : (t after : Tables) (s : State) → AreKept t → after.pieces ≡ t.pieces → after.receipts ≡ t.receipts → after.lots ≡ t.lots → after.devices ≡ t.devices
+    → after.lot_carriers ≡ t.lot_carriers → after.device_carriers ≡ t.device_carriers → s.declarations ≡ (state_of t).declarations → s.corrections ≡ (state_of t).corrections
     → ((at : Certificates) → beside at (state_of after) ≡ beside at s) → AreReadable after → IsActed t after s
-quiet t after s kept pieces receipts lots devices declarations corrections state readable = record {
+quiet t after s kept pieces receipts lots devices lot_carriers device_carriers declarations corrections state readable = record {
   pieces = pieces;
   receipts = receipts;
   state = state;
@@ -52,13 +55,15 @@ quiet t after s kept pieces receipts lots devices declarations corrections state
   lots = λ id l is. kept.lots id l (ap (λ ls. Rattle.sqlite_keyed.specs.Keyed.get_by lot_key ls id) (sym lots) ∙ is);
   devices = λ gsrn. subst (λ ds. Rattle.std.specs.Prelude.length (Rattle.std.specs.List.filter (λ k. Rattle.sqlite_typed.specs.Tests.bytes_eq k.1.gsrn gsrn) ds) ≤ 1) (sym devices) (kept.devices gsrn);
   progress = λ gsrn. ap (λ ds. progress_in (device_row ds gsrn)) devices ∙ kept.progress gsrn ∙ progress_same (state_of t) s (sym declarations) (sym corrections) gsrn;
+  carried_devices = (λ i. list_all (λ c. list_any (λ d. bytes_eq d.1.gsrn c.1.gsrn) (devices i)) (device_carriers i)) ∙ kept.carried_devices_there;
+  carried_lots = (λ i. list_all (λ c. has_key lot_key (lots i) (pos c.lot)) (lot_carriers i)) ∙ kept.carried_lots_there;
 }
 
 module _ (t : Tables) (kept : AreKept t) where
   -- certificates alone are transferred
   pub transfer_acted : (x : Transfer) → IsActed t t (with_transfer (state_of t) x)
   unfolding with_transfer
-  transfer_acted x = quiet t t (with_transfer (state_of t) x) kept refl refl refl refl refl refl (λ at. refl) kept.readable
+  transfer_acted x = quiet t t (with_transfer (state_of t) x) kept refl refl refl refl refl refl refl refl (λ at. refl) kept.readable
 
   -- a holder more
   pub holder_acted : (x : OpenHolder) (h : row.Holder) → ((k : ℤ) → known_holder (k, h) ≡ (x.holder, x.name)) → ((k : ℤ) → is_holder (k, h) ≡ true) → IsKeyedBy kept_key t.holders
@@ -68,7 +73,7 @@ module _ (t : Tables) (kept : AreKept t) where
       let key = next_key kept_key t.holders in
       let put = map_inserted nat_list_cmp_total kept_key known_holder (key, h) texts_apart t.holders (next_key_is_free kept_key t.holders rise) (ap (λ e. get (from_entries {R = text_cmp} (map known_holder t.holders)) e.0) (states key) ∙ none)
       ∙ ap (λ e. insert (from_entries {R = text_cmp} (map known_holder t.holders)) e.0 e.1) (states key) in
-      quiet t (change.with_holder t h) (with_holder (state_of t) x) kept refl refl refl refl refl refl (λ at i. record (beside at (state_of t)) { holders = put i })
+      quiet t (change.with_holder t h) (with_holder (state_of t) x) kept refl refl refl refl refl refl refl refl (λ at i. record (beside at (state_of t)) { holders = put i })
       (with_holders t kept.readable (added t.holders h) (all_inserted kept_key is_holder (key, h) (reads key) t.holders kept.readable.holders))
 
   -- another registry more
@@ -79,5 +84,5 @@ module _ (t : Tables) (kept : AreKept t) where
       let key = next_key kept_key t.peers in
       let put = map_inserted nat_cmp_total kept_key known_peer (key, p) nat_cmp-IsAntisymmetric t.peers (next_key_is_free kept_key t.peers rise) (ap (λ e. get (from_entries {R = nat_cmp} (map known_peer t.peers)) e.0) (states key) ∙ none)
       ∙ ap (λ e. insert (from_entries {R = nat_cmp} (map known_peer t.peers)) e.0 e.1) (states key) in
-      quiet t (change.with_peer t p) (with_peer (state_of t) x) kept refl refl refl refl refl refl (λ at i. record (beside at (state_of t)) { peers = put i })
+      quiet t (change.with_peer t p) (with_peer (state_of t) x) kept refl refl refl refl refl refl refl refl (λ at i. record (beside at (state_of t)) { peers = put i })
       (with_peers t kept.readable (added t.peers p) (all_inserted kept_key is_peer (key, p) (reads key) t.peers kept.readable.peers))

@@ -47,7 +47,7 @@ nothing_taken t kept = record {
   for = none_in_turn IsFor t;
   free = none_in_turn IsFree t;
   room = λ can. none_in_turn HasRoom t;
-  acted = quiet t t (state_of t) kept refl refl refl refl refl refl (λ at. refl) kept.readable;
+  acted = quiet t t (state_of t) kept refl refl refl refl refl refl refl refl (λ at. refl) kept.readable;
   lots = refl;
   these = record { devices = refl; corrections = refl };
 }

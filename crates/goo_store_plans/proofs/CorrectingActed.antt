@@ -25,7 +25,7 @@ use Rattle.goo_spec_tables.specs.Texts.{day_of}
 use Rattle.goo_spec_tables.proofs.Inserted.{all_inserted}
 use Rattle.goo_spec_tables.proofs.Known.{text_same}
 use Rattle.goo_store_plans.proofs.Lowered.{progress_apart}
-use Rattle.goo_store_plans.proofs.ProgressSet.{is_of, find_passes, moved, all_moved, all_known, found_moved, count_moved, read_moved, told_here, told_there}
+use Rattle.goo_store_plans.proofs.ProgressSet.{is_of, find_passes, moved, all_moved, all_known, found_moved, count_moved, read_moved, carried_moved, told_here, told_there}
 
 -- from the tables `t` it came to the tables `u`, which stand for the state `s` beside the certificates
 module _ (t u : Tables) (s : State) (so_far : IsActed t u s)
@@ -101,4 +101,6 @@ module _ (t u : Tables) (s : State) (so_far : IsActed t u s)
     lots = so_far.lots;
     devices = λ q. subst (λ n. n ≤ 1) (sym (count_moved made.device last_day left q u.devices)) (so_far.devices q);
     progress = progress_after;
+    carried_devices = carried_moved made.device last_day left u.device_carriers u.devices so_far.carried_devices;
+    carried_lots = so_far.carried_lots;
   }

@@ -43,7 +43,7 @@ use Rattle.goo_store_plans.specs.declared.gathered_lots.Gathered.{Gathered}
 use Rattle.goo_store_plans.specs.declared.standing.DeclarationBasis.{DeclarationBasis}
 use Rattle.goo_store_plans.proofs.ActsActed.{numbers}
 use Rattle.goo_store_plans.proofs.DeclaringActed.{none_in_row, new_key, declaring_acted, issuing_acted}
-use Rattle.goo_store_plans.proofs.FreeChanges.{free_lot}
+use Rattle.goo_store_plans.proofs.FreeChanges.{all_for, free_lot}
 use Rattle.goo_store_plans.proofs.InTurn.{first_in_turn, two_in_turn}
 use Rattle.goo_store_plans.proofs.LotsAdded.{none_there}
 use Rattle.goo_store_plans.proofs.Gathering.{with_more, with_none}
@@ -54,12 +54,6 @@ pub once_from : {X : Type 0} (xs : List X) → length xs ≤ 1 → IsOnce xs
 once_from [] few = inl refl
 once_from (x ∷ []) few = inr (x, refl)
 once_from (x ∷ y ∷ zs) few = absurd (omega (arith, few))
-
--- only the second of the changes asks for anything
-second_for : (t : Tables) (a b : TableChange) (rest : List TableChange) → ((u : Tables) → IsFor u a) → IsFor (made t a) b → All (λ c. (u : Tables) → IsFor u c) rest → AreFor t (a ∷ b ∷ rest)
-second_for t a b rest one two all zero d low = one t
-second_for t a b rest one two all (suc zero) d low = two
-second_for t a b rest one two all (suc (suc i)) d low = all i d (omega (arith, low)) (made_all (made (made t a) b) (take i rest))
 
 -- how many certificates a reply states
 abbrev ranged : ℕ → ℕ → Bool → Option Numbers
@@ -141,15 +135,13 @@ module _ (t : Tables) (q : Request) (reply : Reply) (meta : MetaRow) (x : Declar
       let changes_are : g2.changes.items ≡ AddDeclaration begins.row ∷ begins.progress ∷ SetCounters counters ∷ [] =
       changes ∙ ap (λ (g : Gathered). g.changes.items ++ SetCounters counters ∷ []) same ∙ ap (λ cs. cs ++ SetCounters counters ∷ []) begins.changes in
       let all_made : made_all t g2.changes.items ≡ change.with_counters declared counted =
-      ap (made_all t) changes_are ∙ (λ i. change.with_counters (begins.sets.made_is (change.with_declaration t d) i) ((counters_are ∙ counted_is count count_is) i)) in record {
-        for =
-            subst (AreFor t) (sym changes_are)
-            (second_for t (AddDeclaration begins.row) begins.progress (SetCounters counters ∷ []) (λ u. tt) (begins.sets.for (change.with_declaration t d) once)
-            (All-cons (λ c. (u : Tables) → IsFor u c) (SetCounters counters) [] (λ u. tt) (All-nil (λ c. (u : Tables) → IsFor u c))));
-        free =
-            subst (AreFree t) (sym changes_are)
-            (first_in_turn IsFree t (AddDeclaration begins.row) (begins.progress ∷ SetCounters counters ∷ []) declaration_free
-            (two_in_turn IsFree (change.with_declaration t d) begins.progress (SetCounters counters) (begins.sets.free (change.with_declaration t d) once) tt));
+      ap (made_all t) changes_are ∙ (λ i. change.with_counters (begins.sets.made_is (change.with_declaration t d) i) ((counters_are ∙ counted_is count count_is) i)) in
+      let free : AreFree t g2.changes.items =
+      subst (AreFree t) (sym changes_are)
+      (first_in_turn IsFree t (AddDeclaration begins.row) (begins.progress ∷ SetCounters counters ∷ []) declaration_free
+      (two_in_turn IsFree (change.with_declaration t d) begins.progress (SetCounters counters) (begins.sets.free (change.with_declaration t d) once) tt)) in record {
+        for = all_for t g2.changes.items free;
+        free = free;
         room = λ can.
             subst (HaveRoom t) (sym changes_are)
             (first_in_turn HasRoom t (AddDeclaration begins.row) (begins.progress ∷ SetCounters counters ∷ []) (small_declaration d begins.reads_row)
@@ -187,17 +179,15 @@ module _ (t : Tables) (q : Request) (reply : Reply) (meta : MetaRow) (x : Declar
       let changes_are : g2.changes.items ≡ AddDeclaration begins.row ∷ begins.progress ∷ AddLot adds.row ∷ SetCounters counters ∷ [] =
       changes ∙ ap (λ cs. cs ++ SetCounters counters ∷ []) (adds.changes ∙ ap (λ cs. cs ++ AddLot adds.row ∷ []) begins.changes) in
       let all_made : made_all t g2.changes.items ≡ change.with_counters (change.with_lot declared l) counted =
-      ap (made_all t) changes_are ∙ (λ i. change.with_counters (change.with_lot (begins.sets.made_is (change.with_declaration t d) i) l) ((counters_are ∙ counted_is count count_is) i)) in record {
-        for =
-            subst (AreFor t) (sym changes_are)
-            (second_for t (AddDeclaration begins.row) begins.progress (AddLot adds.row ∷ SetCounters counters ∷ []) (λ u. tt) (begins.sets.for (change.with_declaration t d) once)
-            (All-cons (λ c. (u : Tables) → IsFor u c) (AddLot adds.row) (SetCounters counters ∷ []) (λ u. tt) (All-cons (λ c. (u : Tables) → IsFor u c) (SetCounters counters) [] (λ u. tt) (All-nil (λ c. (u : Tables) → IsFor u c)))));
-        free =
-            subst (AreFree t) (sym changes_are)
-            (first_in_turn IsFree t (AddDeclaration begins.row) (begins.progress ∷ AddLot adds.row ∷ SetCounters counters ∷ []) declaration_free
-            (first_in_turn IsFree (change.with_declaration t d) begins.progress (AddLot adds.row ∷ SetCounters counters ∷ []) (begins.sets.free (change.with_declaration t d) once)
-            (two_in_turn IsFree (made (change.with_declaration t d) begins.progress) (AddLot adds.row) (SetCounters counters)
-            (subst (λ u. IsFree u (AddLot adds.row)) (sym (begins.sets.made_is (change.with_declaration t d))) (free_lot declared adds.row fresh unknown)) tt)));
+      ap (made_all t) changes_are ∙ (λ i. change.with_counters (change.with_lot (begins.sets.made_is (change.with_declaration t d) i) l) ((counters_are ∙ counted_is count count_is) i)) in
+      let free : AreFree t g2.changes.items =
+      subst (AreFree t) (sym changes_are)
+      (first_in_turn IsFree t (AddDeclaration begins.row) (begins.progress ∷ AddLot adds.row ∷ SetCounters counters ∷ []) declaration_free
+      (first_in_turn IsFree (change.with_declaration t d) begins.progress (AddLot adds.row ∷ SetCounters counters ∷ []) (begins.sets.free (change.with_declaration t d) once)
+      (two_in_turn IsFree (made (change.with_declaration t d) begins.progress) (AddLot adds.row) (SetCounters counters)
+      (subst (λ u. IsFree u (AddLot adds.row)) (sym (begins.sets.made_is (change.with_declaration t d))) (free_lot declared adds.row due.accepted.kept.carried_lots_there fresh unknown)) tt))) in record {
+        for = all_for t g2.changes.items free;
+        free = free;
         room = λ can.
             subst (HaveRoom t) (sym changes_are)
             (first_in_turn HasRoom t (AddDeclaration begins.row) (begins.progress ∷ AddLot adds.row ∷ SetCounters counters ∷ []) (small_declaration d begins.reads_row)

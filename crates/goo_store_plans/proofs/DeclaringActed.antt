@@ -24,7 +24,7 @@ use Rattle.goo_spec.proofs.Checking.{none_fail, passes}
 use Rattle.goo_spec.proofs.Rising.{list_any-filter, none_begins}
 use Rattle.goo_core_shelf.specs.Shelf.{progress_of}
 use Rattle.goo_ranges_rows.specs.Certificates.{beside}
-use Rattle.goo_tables_rows.specs.Rows.{Tables, Kept, Lot, lot_key, declaration_key}
+use Rattle.goo_tables_rows.specs.Rows.{Tables, Kept, Lot, LotCarrier, lot_key, declaration_key}
 use Rattle.goo_tables_rows.specs.Rows as row
 use Rattle.goo_tables_holdings.specs.Changes as change
 use Rattle.goo_tables_holdings.specs.Changes.{progressed}
@@ -42,7 +42,7 @@ use Rattle.goo_spec_tables.proofs.Known.{get-known, text_test, text_same}
 use Rattle.goo_store_plans.proofs.FreeChanges.{no_declaration}
 use Rattle.goo_store_plans.proofs.LotsAdded.{AreLotsOf, lots_before, lot_more}
 use Rattle.goo_store_plans.proofs.Numbering.{counters_read}
-use Rattle.goo_store_plans.proofs.ProgressSet.{is_of, find_passes, moved, all_moved, all_known, found_moved, count_moved, read_moved, told_here, told_there, progress_here, progress_there}
+use Rattle.goo_store_plans.proofs.ProgressSet.{is_of, find_passes, moved, all_moved, all_known, found_moved, count_moved, read_moved, carried_moved, told_here, told_there, progress_here, progress_there}
 
 module _ (t : Tables) (kept : AreKept t) (caller : List ℕ) (x : Declare) (device : Device) (known : get (state_of t).devices x.device ≡ Some device) (accepted : declare_refusal (state_of t) caller x ≡ None) where
   abbrev s : State
@@ -91,12 +91,13 @@ module _ (t : Tables) (kept : AreKept t) (caller : List ℕ) (x : Declare) (devi
     abbrev m : row.Meta
     m = t.meta
 
-    -- the tables, whatever becomes of the lots
-    abbrev with_lots : List Lot → Tables
-    with_lots lots = record t {
+    -- the tables, whatever becomes of the lots and their carriers
+    abbrev with_lots : List Lot → List LotCarrier → Tables
+    with_lots lots carriers = record t {
       declarations = insert_by declaration_key t.declarations d;
       devices = devices;
       lots = lots;
+      lot_carriers = carriers;
       meta = record m { next_serial = m.next_serial + earned s x };
     }
 
@@ -132,9 +133,9 @@ module _ (t : Tables) (kept : AreKept t) (caller : List ℕ) (x : Declare) (devi
             ap (λ o. progress_in (option_map (λ k. k.1) o)) (told_there x.device last_day left q is (find (is_of q) t.devices) (find_passes (is_of q) t.devices))
             ∙ kept.progress q ∙ sym (progress_there s x q (texts_ties x.device q ∙ is))
 
-    acted : (lots : List Lot) → AreLotsOf t lots → from_entries {R = text_cmp} (map known_lot lots) ≡ with_lot (earned s x) lot s.lots → IsActed t (with_lots lots) (with_issue s x)
+    acted : (lots : List Lot) (carriers : List LotCarrier) → AreLotsOf t lots carriers → from_entries {R = text_cmp} (map known_lot lots) ≡ with_lot (earned s x) lot s.lots → IsActed t (with_lots lots carriers) (with_issue s x)
     unfolding state_of with_issue with_declaration
-    acted lots of states_lots = record {
+    acted lots carriers of states_lots = record {
       pieces = refl;
       receipts = refl;
       state = λ at. (λ i. record (beside at s) {
@@ -161,13 +162,15 @@ module _ (t : Tables) (kept : AreKept t) (caller : List ℕ) (x : Declare) (devi
         notices_in = kept.readable.notices_in;
         corrections = kept.readable.corrections;
         device_carriers = kept.readable.device_carriers;
-        lot_carriers = kept.readable.lot_carriers;
+        lot_carriers = of.carriers_read;
       };
       have = of.have;
       rows = of.rows;
       lots = of.lots_kept;
       devices = λ q. subst (λ n. n ≤ 1) (sym (count_moved x.device last_day left q t.devices)) (kept.devices q);
       progress = λ q. progress_after q ∙ progress_same (with_declaration s x) (with_issue s x) (ap (λ o. (issued_for s x o).declarations) (sym known)) (ap (λ o. (issued_for s x o).corrections) (sym known)) q;
+      carried_devices = carried_moved x.device last_day left t.device_carriers t.devices kept.carried_devices_there;
+      carried_lots = of.carried;
     }
 
     abbrev declared : Tables
@@ -177,14 +180,14 @@ module _ (t : Tables) (kept : AreKept t) (caller : List ℕ) (x : Declare) (devi
     pub declaring_acted : (earned s x == 0) ≡ true
         → IsActed t (change.with_counters declared (numbers (m.next_serial + earned s x) m.next_account m.next_cancellation m.next_withdrawal m.next_notice)) (with_issue s x)
     unfolding state_of
-    declaring_acted none = acted t.lots (lots_before t kept) (sym (ap (λ b. cond b s.lots (insert s.lots (key_of lot) lot)) none))
+    declaring_acted none = acted t.lots t.lot_carriers (lots_before t kept) (sym (ap (λ b. cond b s.lots (insert s.lots (key_of lot) lot)) none))
 
     -- a declaration with the lot of its certificates
     pub issuing_acted : (earned s x == 0) ≡ false → (l : Lot) → lot_of l ≡ lot → has_key lot_key t.lots (lot_key l) ≡ false → is_lot l ≡ true → IsKeptLot l
         → IsActed t (change.with_counters (change.with_lot declared l) (numbers (m.next_serial + earned s x) m.next_account m.next_cancellation m.next_withdrawal m.next_notice)) (with_issue s x)
     unfolding state_of
     issuing_acted some l is fresh reads_lot keeps =
-        acted (insert_by lot_key t.lots l) (lot_more t.lots l fresh t (lots_before t kept) reads_lot keeps)
+        acted (insert_by lot_key t.lots l) (change.with_lot_word t.lot_carriers l.id l.carrier) (lot_more t.lots l fresh t t.lot_carriers (lots_before t kept) reads_lot keeps)
         (map_inserted nat_list_cmp_total lot_key known_lot l texts_apart t.lots fresh (ap (λ k. get s.lots (key_of k)) is ∙ new_key)
         ∙ ap (λ k. insert s.lots (key_of k) k) is
         ∙ sym (ap (λ b. cond b s.lots (insert s.lots (key_of lot) lot)) some))

@@ -1,5 +1,5 @@
 -- Changes that are free, since what they put in isn't there yet.
-use Rattle.std.proofs.Common.{◌≡◌, ℕ, pos, ◌&&◌, List, [], ◌∷◌, Bool, true, false, cond, map, find, Some, None, refl, ap, sym, subst, ◌∙◌, true≢false, inl, inr}
+use Rattle.std.proofs.Common.{◌≡◌, ℕ, pos, ◌&&◌, List, [], ◌∷◌, Bool, true, false, cond, map, find, take, get_or, Some, None, refl, ap, sym, subst, ◌∙◌, true≢false, inl, inr}
 use Rattle.std.specs.Str as str
 use Rattle.std.specs.Cmp.{IsTotalOrder, nat_cmp_total}
 use Rattle.std.specs.Cmp.Lexicographic.{nat_list_cmp_total}
@@ -23,14 +23,16 @@ use Rattle.goo_tables_rows.specs.Rows as row
 use Rattle.goo_tables_rows.specs.Rows.{Tables, Lot, lot_key, lot_in}
 use Rattle.goo_tables_rows.specs.declared.lot.LotRow.{LotRow}
 use Rattle.goo_tables_holdings.specs.Changes.{with_lot}
-use Rattle.goo_store_changes.specs.Changes.{IsFree, AreFree}
-use Rattle.goo_store_changes.specs.declared.change.TableChange.TheVariants.{AddLot}
+use Rattle.goo_store_changes.specs.Changes.{made_all, IsFor, AreFor, IsFree, AreFree}
+use Rattle.goo_store_changes.specs.declared.change.TableChange.{TableChange}
+use Rattle.goo_store_changes.specs.declared.change.TableChange.TheVariants.{AddHolder, AddAccount, CloseAccount, AddDevice, AddDeclaration, SetProgress, AddLot, DeletePiece, InsertPiece, AddPeer, AddReceipt, AddCancellation, AddWithdrawal, AddCorrection, AddNoticeOut, AddNoticeIn, SetToday, SetCounters}
 use Rattle.goo_spec_tables.specs.Devices.{declaration_of}
 use Rattle.goo_spec_tables.specs.Places.{lot_of}
 use Rattle.goo_spec_tables.specs.States.{known_lot}
 use Rattle.goo_spec_tables.specs.Texts.{day_of}
 use Rattle.goo_spec_tables.proofs.Known.{text_test, text_same, text_itself, number_test, number_is, receipt_total, receipt_test, notice_total, notice_test}
 use Rattle.goo_store_plans.specs.NewLots.{known_lots, AreNewLots}
+use Rattle.goo_store_plans.proofs.CarriersAdded.{HaveLots, no_lot_word, lot_words_there}
 use Rattle.goo_store_plans.proofs.InTurn.{none_in_turn, first_in_turn}
 use Rattle.goo_store_plans.proofs.LotsAdded.{none_there}
 
@@ -96,23 +98,51 @@ no_declaration x d states (y ∷ ds) none =
 -- ---- lots that become known
 
 -- a row of a lot that isn't known, under a number that no lot has
-pub free_lot : (t : Tables) (r : LotRow) → has_key lot_key t.lots (lot_key (lot_in r)) ≡ false → get (known_lots t.lots) (key_of (lot_of (lot_in r))) ≡ None → IsFree t (AddLot r)
-free_lot t r fresh unknown = (none_there (get_by lot_key t.lots (lot_key (lot_in r))) fresh, no_lot (lot_in r) t.lots unknown)
+pub free_lot : (t : Tables) (r : LotRow) → HaveLots t.lots t.lot_carriers → has_key lot_key t.lots (lot_key (lot_in r)) ≡ false → get (known_lots t.lots) (key_of (lot_of (lot_in r))) ≡ None → IsFree t (AddLot r)
+free_lot t r there fresh unknown = ((none_there (get_by lot_key t.lots (lot_key (lot_in r))) fresh, no_lot_word t.lots t.lot_carriers r.id there fresh), no_lot (lot_in r) t.lots unknown)
 
 -- the lots of a notice's parts, one after another
-pub free_lots : (ps : List Part) (rows : List LotRow) (t : Tables) → AreNewLots t.lots ps (map lot_in rows) → AreFree t (map (λ r. AddLot r) rows)
-free_lots [] [] t are = none_in_turn IsFree t
-free_lots [] (r ∷ rows) t are = absurd cc
-free_lots (p ∷ ps) rows t are = go rows are (free_lots ps)
+pub free_lots : (ps : List Part) (rows : List LotRow) (t : Tables) → HaveLots t.lots t.lot_carriers → AreNewLots t.lots ps (map lot_in rows) → AreFree t (map (λ r. AddLot r) rows)
+free_lots [] [] t there are = none_in_turn IsFree t
+free_lots [] (r ∷ rows) t there are = absurd cc
+free_lots (p ∷ ps) rows t there are = go rows are (free_lots ps)
   where
-    go : (more : List LotRow) → AreNewLots t.lots (p ∷ ps) (map lot_in more) → ((others : List LotRow) (u : Tables) → AreNewLots u.lots ps (map lot_in others) → AreFree u (map (λ r. AddLot r) others)) → AreFree t (map (λ r. AddLot r) more)
-    go more (inl known) later = later more t known.1
+    go : (more : List LotRow) → AreNewLots t.lots (p ∷ ps) (map lot_in more) → ((others : List LotRow) (u : Tables) → HaveLots u.lots u.lot_carriers → AreNewLots u.lots ps (map lot_in others) → AreFree u (map (λ r. AddLot r) others))
+        → AreFree t (map (λ r. AddLot r) more)
+    go more (inl known) later = later more t there known.1
     go [] (inr put) later = none_in_turn IsFree t
     go (r ∷ more) (inr put) later =
         let is : lot_in r ∷ map lot_in more ≡ put.0 ∷ put.1 = put.2 in
         let first : put.0 ≡ lot_in r = cc in
         let rest : put.1 ≡ map lot_in more = cc in
         let it = put.3 in
+        let fresh : has_key lot_key t.lots (lot_key (lot_in r)) ≡ false = subst (λ (l : Lot). has_key lot_key t.lots (lot_key l) ≡ false) first it.fresh in
         first_in_turn IsFree t (AddLot r) (map (λ k. AddLot k) more)
-        (free_lot t r (subst (λ (l : Lot). has_key lot_key t.lots (lot_key l) ≡ false) first it.fresh) (subst (λ (l : Lot). get (known_lots t.lots) (key_of (lot_of l)) ≡ None) first (ap (λ k. get (known_lots t.lots) (key_of k)) it.states ∙ it.unknown)))
-        (later more (with_lot t (lot_in r)) (subst (λ (l : Lot). AreNewLots (insert_by lot_key t.lots l) ps (map lot_in more)) first (subst (AreNewLots (insert_by lot_key t.lots put.0) ps) rest put.4)))
+        (free_lot t r there fresh (subst (λ (l : Lot). get (known_lots t.lots) (key_of (lot_of l)) ≡ None) first (ap (λ k. get (known_lots t.lots) (key_of k)) it.states ∙ it.unknown)))
+        (later more (with_lot t (lot_in r)) (lot_words_there t.lots t.lot_carriers (lot_in r) fresh there)
+        (subst (λ (l : Lot). AreNewLots (insert_by lot_key t.lots l) ps (map lot_in more)) first (subst (AreNewLots (insert_by lot_key t.lots put.0) ps) rest put.4)))
+
+-- ---- what is free is one for the tables
+
+free_for : (t : Tables) (d : TableChange) → IsFree t d → IsFor t d
+free_for t (AddHolder row) free = tt
+free_for t (AddAccount row) free = tt
+free_for t (CloseAccount number) free = tt
+free_for t (AddDevice row) free = free
+free_for t (AddDeclaration row) free = tt
+free_for t (SetProgress device last_day carry) free = free
+free_for t (AddLot row) free = free.0
+free_for t (DeletePiece first) free = tt
+free_for t (InsertPiece row) free = tt
+free_for t (AddPeer row) free = tt
+free_for t (AddReceipt row) free = tt
+free_for t (AddCancellation row) free = tt
+free_for t (AddWithdrawal row) free = tt
+free_for t (AddNoticeOut row) free = tt
+free_for t (AddNoticeIn row) free = tt
+free_for t (AddCorrection row) free = tt
+free_for t (SetToday day) free = tt
+free_for t (SetCounters counters) free = tt
+
+pub all_for : (t : Tables) (changes : List TableChange) → AreFree t changes → AreFor t changes
+all_for t changes free i d low = free_for (made_all t (take i changes)) (get_or changes i d) (free i d low)

@@ -26,7 +26,7 @@ use Rattle.goo_spec.specs.Lots as lots_of
 use Rattle.goo_spec.specs.State.{text_cmp}
 use Rattle.goo_spec.proofs.Mapping.{inside}
 use Rattle.goo_tables_rows.specs.Rows as row
-use Rattle.goo_tables_rows.specs.Rows.{Lot, lot_key, lot_in, declaration_key, correction_key}
+use Rattle.goo_tables_rows.specs.Rows.{Lot, lot_key, lot_in, bare_lot, declaration_key, correction_key}
 use Rattle.goo_tables_rows.specs.declared.lot.LotRow.{LotRow}
 use Rattle.goo_spec_tables.specs.Kept.{IsKeptLot}
 use Rattle.goo_spec_tables.specs.Places.{lot_of}
@@ -56,10 +56,10 @@ last_next : {X : Type 0} (key : X → ℤ) (before : ℤ) (xs : List X) → fold
 last_next key before [] = refl
 last_next key before (x ∷ xs) = last_next key (key x +ℤ pos 1) xs ∙ last_behind key before (reverse xs) x ∙ ap (λ ys. last_or key before (slice_get ys 0)) (sym (reverse-append (x ∷ []) xs))
 
-pub next_lot_is : (lots : List Lot) → pos (next_lot (slice_get (reverse lots) 0)) ≡ next_key lot_key lots
+pub next_lot_is : (lots : List Lot) → pos (next_lot (option_map bare_lot (slice_get (reverse lots) 0))) ≡ next_key lot_key lots
 next_lot_is lots = go (slice_get (reverse lots) 0) ∙ sym (last_next lot_key (pos 1) lots)
   where
-    go : (o : Option Lot) → pos (next_lot o) ≡ last_or lot_key (pos 1) o
+    go : (o : Option Lot) → pos (next_lot (option_map bare_lot o)) ≡ last_or lot_key (pos 1) o
     go None = refl
     go (Some l) = refl
 

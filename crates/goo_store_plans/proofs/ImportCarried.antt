@@ -32,7 +32,7 @@ use Rattle.goo_store_plans.specs.NewLots.{AreNewLots}
 use Rattle.goo_store_plans.specs.Room.{HaveRowids}
 use Rattle.goo_store_changes.specs.declared.change.TableChange.TheVariants.{AddLot, AddNoticeIn}
 use Rattle.goo_store_plans.specs.declared.gathered_lots.Gathered.{Gathered}
-use Rattle.goo_store_plans.proofs.FreeChanges.{no_notice, free_lots}
+use Rattle.goo_store_plans.proofs.FreeChanges.{all_for, no_notice, free_lots}
 use Rattle.goo_store_plans.proofs.ImportingActed.{absent, importing_acted, lots_made, lots_put}
 use Rattle.goo_store_plans.proofs.InTurn.{one_in_turn, both_in_turn, always_in_turn}
 use Rattle.goo_store_plans.proofs.RoomChanges.{lots_room}
@@ -75,11 +75,6 @@ module _ (t : Tables) (x : importing.Import) (q : Request) (reply : Reply) (is :
       ap (made_all t) changes_are ∙ fold-append made t (map (λ r. AddLot r) put.rows) (AddNoticeIn n ∷ [])
       ∙ ap (λ u. with_notice_in u (notice_in_in n)) (lots_made put.rows t)
 
-  for_any : All (λ c. (u : Tables) → IsFor u c) after.changes.items
-  for_any =
-      subst (All (λ c. (u : Tables) → IsFor u c)) (sym changes_are)
-      (All-push (λ c. (u : Tables) → IsFor u c) (map (λ r. AddLot r) put.rows) (AddNoticeIn n) (All-map (λ c. (u : Tables) → IsFor u c) (λ r. AddLot r) put.rows (λ k d low u. tt)) (λ u. tt))
-
   notices_same : (made_all t (map (λ r. AddLot r) put.rows)).notices_in ≡ t.notices_in
   notices_same = ap (λ (u : Tables). u.notices_in) (lots_made put.rows t ∙ lots_put new t)
 
@@ -92,7 +87,7 @@ module _ (t : Tables) (x : importing.Import) (q : Request) (reply : Reply) (is :
       let none : get (state_of t).arrived (x.notice.sender, x.notice.number) ≡ None = absent t it.kept q.caller x whole accepted new_one new lots i states reads rise in
       let missing : IsFree t (AddNoticeIn n) = no_notice (λ (k : Kept NoticeIn). arrived_of k.1) (λ k. k.1.sender) (λ k. k.1.number) i.sender i.number t.notices_in (ap (λ e. get (state_of t).arrived e.0) (states (pos 0)) ∙ none) in
       subst (AreFree t) (sym changes_are)
-      (both_in_turn IsFree t front (AddNoticeIn n ∷ []) (free_lots x.notice.parts put.rows t lots)
+      (both_in_turn IsFree t front (AddNoticeIn n ∷ []) (free_lots x.notice.parts put.rows t it.kept.carried_lots_there lots)
       (one_in_turn IsFree (made_all t front) (AddNoticeIn n) (subst (λ xs. IsFree (record t { notices_in = xs }) (AddNoticeIn n)) (sym notices_same) missing)))
 
   -- and have room, where rowids are left
@@ -108,7 +103,7 @@ module _ (t : Tables) (x : importing.Import) (q : Request) (reply : Reply) (is :
 
   pub import_carried : CarriesOut t q.command after
   import_carried = subst (λ c. CarriesOut t c after) (sym is) (record {
-    for = always_in_turn IsFor t after.changes.items for_any;
+    for = all_for t after.changes.items all_free;
     free = all_free;
     room = all_room;
     acted = subst (λ u. IsActed t u (with_import s x)) (sym all_made) (importing_acted t it.kept q.caller x whole accepted new_one new lots (notice_in_in n) states reads rise);

@@ -24,7 +24,7 @@ use Rattle.goo_spec.proofs.Checking.{none_fail, passes, unfound}
 use Rattle.goo_spec.proofs.Keys.{notices_same}
 use Rattle.goo_spec.proofs.Mapping.{inside, get_inserted}
 use Rattle.goo_ranges_rows.specs.Certificates.{beside}
-use Rattle.goo_tables_rows.specs.Rows.{Tables, Lot, lot_key, lot_in, kept_key}
+use Rattle.goo_tables_rows.specs.Rows.{Tables, Lot, LotCarrier, lot_key, lot_in, kept_key}
 use Rattle.goo_tables_rows.specs.Rows as row
 use Rattle.goo_tables_rows.specs.declared.lot.LotRow.{LotRow}
 use Rattle.goo_tables_holdings.specs.Changes as change
@@ -106,32 +106,39 @@ same_known lot (Some k) l h is = sym (inside k l is) ∙ (Decides-same_lot k lot
 
 -- ---- the lots of all parts
 
--- what lots that are put in leave
-abbrev Grown : Tables → List Part → List Lot → List Lot → Type 0
-Grown t ps new lots = AreLotsOf t (fold (insert_by lot_key) lots new) × (known_lots (fold (insert_by lot_key) lots new) ≡ with_lots ps (known_lots lots))
+-- the carriers with those of the lots that are put in
+abbrev pub with_words : List LotCarrier → List Lot → List LotCarrier
+with_words carriers new = fold (λ cs l. change.with_lot_word cs l.id l.carrier) carriers new
 
-grown : (t : Tables) (ps : List Part) (new lots : List Lot) → AreNewLots lots ps new → All (KnowsNoOther (known_lots lots)) ps → AllPairs GoesBefore ps → AreLotsOf t lots → Grown t ps new lots
-grown t [] new lots are knows order of = (subst (λ ls. AreLotsOf t (fold (insert_by lot_key) lots ls)) (sym are) of, ap (λ ls. known_lots (fold (insert_by lot_key) lots ls)) are)
-grown t (p ∷ ps) new lots are knows order of =
-    go are (λ rest more here. grown t ps rest more here) (All-head (KnowsNoOther (known_lots lots)) p ps knows) (All-tail (KnowsNoOther (known_lots lots)) p ps knows)
+-- what lots that are put in leave
+abbrev Grown : Tables → List Part → List Lot → List Lot → List LotCarrier → Type 0
+Grown t ps new lots carriers =
+    AreLotsOf t (fold (insert_by lot_key) lots new) (with_words carriers new) × (known_lots (fold (insert_by lot_key) lots new) ≡ with_lots ps (known_lots lots))
+
+grown : (t : Tables) (ps : List Part) (new lots : List Lot) (carriers : List LotCarrier) → AreNewLots lots ps new → All (KnowsNoOther (known_lots lots)) ps → AllPairs GoesBefore ps → AreLotsOf t lots carriers → Grown t ps new lots carriers
+grown t [] new lots carriers are knows order of = (subst (λ ls. AreLotsOf t (fold (insert_by lot_key) lots ls) (with_words carriers ls)) (sym are) of, ap (λ ls. known_lots (fold (insert_by lot_key) lots ls)) are)
+grown t (p ∷ ps) new lots carriers are knows order of =
+    go are (λ rest more others here. grown t ps rest more others here) (All-head (KnowsNoOther (known_lots lots)) p ps knows) (All-tail (KnowsNoOther (known_lots lots)) p ps knows)
     (λ k d h. order 0 (suc k) d (omega arith) (omega (arith, h))) (λ i j d l h. order (suc i) (suc j) d (omega (arith, l)) (omega (arith, h)))
   where
     again : (o : Option LotFields) → get (known_lots lots) (key_of p.lot) ≡ o → is_some o ≡ true → KnowsNoOther (known_lots lots) p → insert (known_lots lots) (key_of p.lot) p.lot ≡ known_lots lots
     again None is there first = absurd (true≢false (sym there))
     again (Some l) is there first = insert_known (known_lots lots) (key_of p.lot) p.lot (is ∙ ap (λ k. Some k) (first l is))
 
-    go : AreNewLots lots (p ∷ ps) new → ((rest more : List Lot) → AreNewLots more ps rest → All (KnowsNoOther (known_lots more)) ps → AllPairs GoesBefore ps → AreLotsOf t more → Grown t ps rest more) → KnowsNoOther (known_lots lots) p → All (KnowsNoOther (known_lots lots)) ps → All (GoesBefore p) ps → AllPairs GoesBefore ps
-        → AreLotsOf t (fold (insert_by lot_key) lots new) × (known_lots (fold (insert_by lot_key) lots new) ≡ with_lots ps (insert (known_lots lots) (key_of p.lot) p.lot))
+    go : AreNewLots lots (p ∷ ps) new
+        → ((rest more : List Lot) (others : List LotCarrier) → AreNewLots more ps rest → All (KnowsNoOther (known_lots more)) ps → AllPairs GoesBefore ps → AreLotsOf t more others → Grown t ps rest more others)
+        → KnowsNoOther (known_lots lots) p → All (KnowsNoOther (known_lots lots)) ps → All (GoesBefore p) ps → AllPairs GoesBefore ps
+        → AreLotsOf t (fold (insert_by lot_key) lots new) (with_words carriers new) × (known_lots (fold (insert_by lot_key) lots new) ≡ with_lots ps (insert (known_lots lots) (key_of p.lot) p.lot))
     go (inl known) later first knows before order =
-        let rest = later new lots known.1 knows order of in
+        let rest = later new lots carriers known.1 knows order of in
         (rest.0, rest.1 ∙ ap (with_lots ps) (sym (again (get (known_lots lots) (key_of p.lot)) refl known.0 first)))
     go (inr put) later first knows before order =
         let l = put.0 in
         let it = put.3 in
         let more : known_lots (insert_by lot_key lots l) ≡ insert (known_lots lots) (key_of p.lot) p.lot =
         map_inserted nat_list_cmp_total lot_key known_lot l texts_apart lots it.fresh (ap (λ k. get (known_lots lots) (key_of k)) it.states ∙ it.unknown) ∙ ap (λ k. insert (known_lots lots) (key_of k) k) it.states in
-        let rest = later put.1 (insert_by lot_key lots l) put.4 (subst (λ m. All (KnowsNoOther m) ps) (sym more) (λ k d h. later_knows (known_lots lots) p _ (knows k d h) (before k d h))) order (lot_more lots l it.fresh t of it.reads it.kept) in (
-          subst (λ ls. AreLotsOf t (fold (insert_by lot_key) lots ls)) (sym put.2) rest.0,
+        let rest = later put.1 (insert_by lot_key lots l) (change.with_lot_word carriers l.id l.carrier) put.4 (subst (λ m. All (KnowsNoOther m) ps) (sym more) (λ k d h. later_knows (known_lots lots) p _ (knows k d h) (before k d h))) order (lot_more lots l it.fresh t carriers of it.reads it.kept) in (
+          subst (λ ls. AreLotsOf t (fold (insert_by lot_key) lots ls) (with_words carriers ls)) (sym put.2) rest.0,
           ap (λ ls. known_lots (fold (insert_by lot_key) lots ls)) put.2 ∙ rest.1 ∙ ap (with_lots ps) more,
         )
 
@@ -140,7 +147,7 @@ pub lots_made : (rows : List LotRow) (t : Tables) → made_all t (map (λ r. Add
 lots_made [] t = refl
 lots_made (r ∷ rows) t = lots_made rows (change.with_lot t (lot_in r))
 
-pub lots_put : (new : List Lot) (t : Tables) → fold change.with_lot t new ≡ record t { lots = fold (insert_by lot_key) t.lots new }
+pub lots_put : (new : List Lot) (t : Tables) → fold change.with_lot t new ≡ record t { lots = fold (insert_by lot_key) t.lots new; lot_carriers = with_words t.lot_carriers new }
 lots_put [] t = refl
 lots_put (l ∷ new) t = lots_put new (change.with_lot t l)
 
@@ -180,9 +187,9 @@ module _ (t : Tables) (kept : AreKept t) (caller : List ℕ) (x : Import) (whole
   abbrev all_lots : List Lot
   all_lots = fold (insert_by lot_key) t.lots new
 
-  of : Grown t x.notice.parts new t.lots
+  of : Grown t x.notice.parts new t.lots t.lot_carriers
   unfolding state_of
-  of = grown t x.notice.parts new t.lots lots knows whole.notice.order (lots_before t kept)
+  of = grown t x.notice.parts new t.lots t.lot_carriers lots knows whole.notice.order (lots_before t kept)
 
   abbrev placed : row.Kept row.NoticeIn
   placed = (next_key kept_key t.notices_in, n)
@@ -194,7 +201,7 @@ module _ (t : Tables) (kept : AreKept t) (caller : List ℕ) (x : Import) (whole
       (ap (λ e. get (from_entries {R = notice_cmp} (map known_arrival t.notices_in)) e.0) (states placed.0) ∙ absent)
       ∙ ap (λ e. insert (from_entries {R = notice_cmp} (map known_arrival t.notices_in)) e.0 e.1) (states placed.0)
 
-  with_both : IsActed t (record t { lots = all_lots; notices_in = added t.notices_in n }) (with_import s x)
+  with_both : IsActed t (record t { lots = all_lots; lot_carriers = with_words t.lot_carriers new; notices_in = added t.notices_in n }) (with_import s x)
   unfolding state_of with_import
   with_both = record {
     pieces = refl;
@@ -217,13 +224,15 @@ module _ (t : Tables) (kept : AreKept t) (caller : List ℕ) (x : Import) (whole
       notices_in = all_inserted kept_key is_notice_in placed (reads placed.0) t.notices_in kept.readable.notices_in;
       corrections = kept.readable.corrections;
       device_carriers = kept.readable.device_carriers;
-      lot_carriers = kept.readable.lot_carriers;
+      lot_carriers = of.0.carriers_read;
     };
     have = of.0.have;
     rows = of.0.rows;
     lots = of.0.lots_kept;
     devices = kept.devices;
     progress = λ q. kept.progress q ∙ progress_same s (with_import s x) refl refl q;
+    carried_devices = kept.carried_devices_there;
+    carried_lots = of.0.carried;
   }
 
   -- the lots that weren't known, and the notice

@@ -6,6 +6,7 @@ pub mod CommandsActed
 pub mod Numbering
 pub mod ActsActed
 pub mod ClosingActed
+pub mod CarriersAdded
 pub mod RegisteringActed
 pub mod LotsAdded
 pub mod InTurn

@@ -148,6 +148,8 @@ module _ (t : Tables) (kept : AreKept t) (plan : Plan) (fits : Fits (state_of t)
       device_carriers = acted.readable.device_carriers;
       lot_carriers = acted.readable.lot_carriers;
     };
+    carried_devices_there = acted.carried_devices;
+    carried_lots_there = acted.carried_lots;
     lots_there = leave.good.have;
     rising = subst IsRising (sym rows_after) fits.turned.fits.disjoint;
     apart = λ two. subst IsApart (sym rows_after) (fits.turned.apart (kept.apart two));

@@ -1,8 +1,8 @@
 -- The progress of a device, set in its row and told of its declarations.
 use Rattle.std.proofs.Common.{◌≡◌, ℕ, ◌&&◌, nat_le, List, [], ◌∷◌, ◌++◌, Bool, true, false, cond, map, find, length, Option, Some, None, option_map, refl, ap, sym, subst, ◌∙◌, arith, true≢false, append-nil}
-use Rattle.std.specs.Prelude.{◌%◌}
+use Rattle.std.specs.Prelude.{◌%◌, ◌||◌}
 use Rattle.std.specs.Str as str
-use Rattle.std.specs.List.{filter, list_all}
+use Rattle.std.specs.List.{filter, list_all, list_any}
 use Rattle.std.proofs.lemmas.List.Elements.{filter-append}
 use Rattle.std.proofs.lemmas.Slice.Eq.{bytes_eq-Decides}
 use Rattle.sqlite_keyed.specs.Lists.{update_where}
@@ -20,10 +20,11 @@ use Rattle.goo_tables_rows.specs.Rows.{Tables, Kept, Lot, lot_key, declaration_k
 use Rattle.goo_tables_rows.specs.Rows as row
 use Rattle.goo_tables_holdings.specs.Changes.{progressed}
 use Rattle.goo_spec_tables.specs.Devices.{progress_in}
-use Rattle.goo_spec_tables.specs.Readable.{is_device, is_act, is_plant, reads}
+use Rattle.goo_spec_tables.specs.Readable.{is_device, is_act, is_plant, is_maybe_day, reads}
 use Rattle.goo_spec_tables.specs.States.{known_device}
 use Rattle.goo_spec_tables.specs.Texts.{day_of}
 use Rattle.goo_spec_tables.proofs.Known.{text_same, text_itself}
+use Rattle.goo_store_plans.proofs.CarriersAdded.{HaveDevices}
 
 -- ---- the row of a device, once its progress is set
 
@@ -89,8 +90,19 @@ module _ (gsrn last_day : List ℕ) (left : ℕ) where
       one true read =
           let a = second_of_both (reads (gsrn_reading k.1.gsrn)) _ read in
           let b = second_of_both (is_act k.1.account) _ a in
-          λ i. first_of_both (reads (gsrn_reading k.1.gsrn)) _ read i && (first_of_both (is_act k.1.account) _ a i && (first_of_both (is_plant k.1.plant) _ b i && (ends i && most i)))
+          let c = second_of_both (is_plant k.1.plant) _ b in
+          let d = second_of_both (is_maybe_day k.1.last_day) _ c in
+          let e = second_of_both (nat_le k.1.carry 999999) _ d in
+          λ i. first_of_both (reads (gsrn_reading k.1.gsrn)) _ read i && (first_of_both (is_act k.1.account) _ a i && (first_of_both (is_plant k.1.plant) _ b i && (ends i && (most i && e i))))
       one false read = read
+
+  -- each carrier stands beside its device as before
+  any_moved : (q : List ℕ) (xs : List (Kept row.Device)) → list_any (is_of q) (all_moved xs) ≡ list_any (is_of q) xs
+  any_moved q [] = refl
+  any_moved q (k ∷ xs) = λ i. bytes_eq (gsrn_stays k i) q || any_moved q xs i
+
+  pub carried_moved : (cs : List (Kept row.DeviceCarrier)) (xs : List (Kept row.Device)) → HaveDevices xs cs → HaveDevices (all_moved xs) cs
+  carried_moved cs xs there = (λ i. list_all (λ c. any_moved c.1.gsrn xs i) cs) ∙ there
 
   -- what is told of the device that declared
   pub told_here : (k : Kept row.Device) → is_of gsrn k ≡ true → progress_in (Some (moved k).1) ≡ record { last_day = Some (day_of last_day); carry = left }

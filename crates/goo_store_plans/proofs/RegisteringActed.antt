@@ -23,6 +23,7 @@ use Rattle.goo_spec_tables.specs.Devices.{device_row, progress_in}
 use Rattle.goo_spec_tables.specs.Kept.{AreKept}
 use Rattle.goo_spec_tables.specs.Readable.{is_device}
 use Rattle.goo_spec_tables.specs.States.{state_of, known_device}
+use Rattle.goo_store_plans.proofs.CarriersAdded.{device_words_read, device_words_there}
 use Rattle.goo_store_plans.proofs.CommandsActed.{progress_same}
 use Rattle.goo_spec_tables.proofs.Inserted.{here_too, swapped, all_inserted, map_inserted}
 use Rattle.goo_spec_tables.proofs.Known.{get-known, text_test, text_same}
@@ -170,7 +171,7 @@ module _ (t : Tables) (kept : AreKept t) (x : RegisterDevice) (d : row.Device) (
           notices_out = kept.readable.notices_out;
           notices_in = kept.readable.notices_in;
           corrections = kept.readable.corrections;
-          device_carriers = kept.readable.device_carriers;
+          device_carriers = device_words_read t.devices t.device_carriers d (pos 0) (reads (pos 0)) kept.readable.device_carriers;
           lot_carriers = kept.readable.lot_carriers;
         };
         have = kept.lots_there;
@@ -178,4 +179,6 @@ module _ (t : Tables) (kept : AreKept t) (x : RegisterDevice) (d : row.Device) (
         lots = kept.lots;
         devices = once;
         progress = λ gsrn. progress_kept gsrn ∙ progress_same (state_of t) (with_device (state_of t) x) refl refl gsrn;
+        carried_devices = device_words_there t.devices t.device_carriers d rise kept.carried_devices_there;
+        carried_lots = kept.carried_lots_there;
       }

@@ -1,5 +1,5 @@
 -- Changes that the tables have room for, since the rows that they make can be read.
-use Rattle.std.proofs.Common.{ℕ, ◌≡◌, pos, inl, inr, true, List, [], ◌∷◌, map, Option, ap, subst}
+use Rattle.std.proofs.Common.{ℕ, ◌≡◌, pos, inl, inr, true, List, [], ◌∷◌, map, Option, Some, None, ap, subst}
 use Rattle.std.specs.Prelude.{All}
 use Rattle.std.specs.List.{list_all}
 use Rattle.std.specs.Ordering.{int_eq}
@@ -11,18 +11,19 @@ use Rattle.goo_types.specs.declared.part.Part.{Part}
 use Rattle.goo_types.specs.declared.reply.Reply.{Reply}
 use Rattle.goo_types.specs.declared.request.Request.{Request}
 use Rattle.goo_tables_rows.specs.Refused.{IsSmall, HasRoomFor}
-use Rattle.goo_tables_rows.specs.Rows.{Tables, Kept, Lot, Receipt, kept_key, account_key, account_row, lot_key, lot_in, lot_row, receipt_row}
+use Rattle.goo_tables_rows.specs.Rows.{Tables, Kept, Device, DeviceCarrier, Lot, Receipt, kept_key, account_key, account_row, lot_key, lot_in, receipt_row}
 use Rattle.goo_tables_rows.specs.declared.lot.LotRow.{LotRow}
 use Rattle.goo_tables_holdings.specs.declared.counters.CountersRow.{CountersRow}
-use Rattle.goo_tables_holdings.specs.Changes.{with_counters}
-use Rattle.goo_spec_tables.specs.Readable.{is_code, is_account, is_meta}
+use Rattle.goo_tables_holdings.specs.Changes.{HasRoomForWord, IsSmallLot, with_counters}
+use Rattle.goo_spec_tables.specs.Readable.{is_code, is_account, is_device, is_maybe_other, is_meta}
 use Rattle.goo_store_changes.specs.Changes.{HasRoom}
 use Rattle.goo_store_changes.specs.declared.change.TableChange.TheVariants.{AddLot, CloseAccount, SetCounters}
 use Rattle.goo_store_plans.specs.Acted.{IsReceiptOf}
 use Rattle.goo_store_plans.specs.NewLots.{AreNewLots}
 use Rattle.goo_store_plans.specs.Room.{HasRowid}
 use Rattle.goo_store_values.proofs.RowsRead.{each_so}
-use Rattle.goo_store_plans.proofs.SmallRows.{small_account, small_lot, small_meta, small_receipt}
+use Rattle.goo_store_plans.proofs.CarriersAdded.{device_carrier_of}
+use Rattle.goo_store_plans.proofs.SmallRows.{short_parts, small_account, small_device_carrier, small_lot, small_meta, small_receipt}
 
 -- whatever is counted next, the registry's row is small
 pub counters_room : (t : Tables) (c : CountersRow) → is_meta t.meta ≡ true → HasRoom t (SetCounters c)
@@ -33,22 +34,32 @@ closed_room t n read =
     All-filter (λ a. int_eq (account_key a) (pos n)) (λ a. IsSmall (account_row (record a { closed = 1 }))) t.accounts
     (each_so is_account (λ a. IsSmall (account_row (record a { closed = 1 }))) small_account t.accounts read)
 
-abbrev IsSmallLot : LotRow → Type 0
-IsSmallLot r = IsSmall (lot_row (lot_in r))
+-- the row of a device's carrier, if it has one
+pub device_word_room : (cs : List (Kept DeviceCarrier)) (k : Kept Device) → is_device k ≡ true → HasRowid cs → HasRoomForWord cs k.1.gsrn k.1.carrier
+device_word_room cs k read left = go k.1.carrier (device_carrier_of k read)
+  where
+    go : (o : Option (List ℕ)) → is_maybe_other o ≡ true → HasRoomForWord cs k.1.gsrn o
+    go None other = tt
+    go (Some word) other =
+        let more : Kept DeviceCarrier = (next_key kept_key cs, record { gsrn = k.1.gsrn; carrier = word }) in
+        (small_device_carrier more (short_parts k read).0 other, left)
 
-small_lots : (ps : List Part) (rows : List LotRow) (lots : List Lot) → AreNewLots lots ps (map lot_in rows) → All IsSmallLot rows
-small_lots [] [] lots are = All-nil IsSmallLot
+abbrev IsSmallRow : LotRow → Type 0
+IsSmallRow r = IsSmallLot (lot_in r)
+
+small_lots : (ps : List Part) (rows : List LotRow) (lots : List Lot) → AreNewLots lots ps (map lot_in rows) → All IsSmallRow rows
+small_lots [] [] lots are = All-nil IsSmallRow
 small_lots [] (r ∷ rows) lots are = absurd cc
 small_lots (p ∷ ps) rows lots are = go rows are (small_lots ps)
   where
-    go : (more : List LotRow) → AreNewLots lots (p ∷ ps) (map lot_in more) → ((others : List LotRow) (u : List Lot) → AreNewLots u ps (map lot_in others) → All IsSmallLot others) → All IsSmallLot more
+    go : (more : List LotRow) → AreNewLots lots (p ∷ ps) (map lot_in more) → ((others : List LotRow) (u : List Lot) → AreNewLots u ps (map lot_in others) → All IsSmallRow others) → All IsSmallRow more
     go more (inl known) later = later more lots known.1
-    go [] (inr put) later = All-nil IsSmallLot
+    go [] (inr put) later = All-nil IsSmallRow
     go (r ∷ more) (inr put) later =
         let is : lot_in r ∷ map lot_in more ≡ put.0 ∷ put.1 = put.2 in
         let first : put.0 ≡ lot_in r = cc in
         let rest : put.1 ≡ map lot_in more = cc in
-        All-cons IsSmallLot r more (subst (λ (l : Lot). IsSmall (lot_row l)) first (small_lot put.0 put.3.reads put.3.kept))
+        All-cons IsSmallRow r more (subst IsSmallLot first (small_lot put.0 put.3.reads put.3.kept))
         (later more (insert_by lot_key lots put.0) (subst (AreNewLots (insert_by lot_key lots put.0) ps) rest put.4))
 
 -- the lots of a notice's parts have room in any tables

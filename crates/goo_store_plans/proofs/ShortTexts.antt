@@ -9,6 +9,7 @@ use Rattle.std.proofs.lemmas.Slice.Eq.{bytes_eq-Decides}
 use Rattle.sqlite.specs.Order.{bytes}
 use Rattle.sqlite.specs.declared.types.Value.TheVariants.{Text}
 use Rattle.sqlite_typed.specs.Columns.{or_null}
+use Rattle.goo_types.specs.Carrier.{carrier_reading}
 use Rattle.goo_types.specs.CodeBytes.{is_holder_byte, is_key_byte, has_letter_and_digits, has_name_chars, is_trimmed}
 use Rattle.goo_types.specs.Codes.{holder_reading, name_reading, key_reading, country_reading, tech_reading, source_reading}
 use Rattle.goo_types.specs.Day.{CalendarDay, day_reading}
@@ -16,13 +17,14 @@ use Rattle.goo_types.specs.Gsrn.{gsrn_reading, check_sum}
 use Rattle.goo_types.specs.Support.{support_reading}
 use Rattle.goo_types.specs.TextReading.{text_reading}
 use Rattle.goo_types.specs.Texts.{digits, day_text}
+use Rattle.goo_types.specs.declared.carrier.Carrier.TheVariants as carrier
 use Rattle.goo_types.specs.declared.day.DayFault.{DayFault}
 use Rattle.goo_types.specs.declared.gsrn.GsrnFault.TheVariants.{Length, Digit, Check}
 use Rattle.goo_types.specs.declared.support.Support.TheVariants as support
 use Rattle.goo_types.specs.declared.text_fault.TextFault.TheVariants.{Empty, TooLong, BadChar, Shape}
 use Rattle.goo_types.proofs.DayLemmas.{only_day_text}
 use Rattle.goo_types.proofs.DigitTextLemmas.{length-digits}
-use Rattle.goo_spec_tables.specs.Readable.{reads, is_maybe_day}
+use Rattle.goo_spec_tables.specs.Readable.{reads, is_maybe_day, is_other}
 
 -- ---- codes, keys and names
 
@@ -77,6 +79,20 @@ support_short text read = go (bytes_eq text (codes "none")) (bytes_eq text (code
     go false true c d e is f g read = word (codes "investment") (omega arith) is
     go false false true d e f is g read = word (codes "production") (omega arith) is
     go false false false true e f g is read = word (codes "both") (omega arith) is
+    go false false false false e f g h read = absurd (true≢false (sym read))
+
+pub other_short : (text : List ℕ) → is_other (carrier_reading text) ≡ true → length text ≤ 15
+other_short text read = go (bytes_eq text (codes "electricity")) (bytes_eq text (codes "gas")) (bytes_eq text (codes "hydrogen")) (bytes_eq text (codes "heating-cooling")) refl refl refl refl read
+  where
+    word : (w : List ℕ) → length w ≤ 15 → bytes_eq text w ≡ true → length text ≤ 15
+    word w few is = subst (λ x. length x ≤ 15) (sym ((bytes_eq-Decides text w).0 is)) few
+
+    go : (a b c d : Bool) → bytes_eq text (codes "electricity") ≡ a → bytes_eq text (codes "gas") ≡ b → bytes_eq text (codes "hydrogen") ≡ c → bytes_eq text (codes "heating-cooling") ≡ d
+        → is_other (if a then Ok carrier.Electricity else (if b then Ok carrier.Gas else (if c then Ok carrier.Hydrogen else (if d then Ok carrier.HeatingCooling else Err Shape)))) ≡ true → length text ≤ 15
+    go true b c d is e f g read = absurd (true≢false (sym read))
+    go false true c d e is f g read = word (codes "gas") (omega arith) is
+    go false false true d e f is g read = word (codes "hydrogen") (omega arith) is
+    go false false false true e f g is read = word (codes "heating-cooling") (omega arith) is
     go false false false false e f g h read = absurd (true≢false (sym read))
 
 pub day_text_short : (d : CalendarDay) → length (day_text d) ≡ 10

@@ -1,5 +1,5 @@
 -- Rows that can be read are small, since the texts that their readers accept are short.
-use Rattle.std.proofs.Common.{◌≡◌, ℕ, ◌≤◌, List, true, length, IsTrue, Some, arith}
+use Rattle.std.proofs.Common.{◌≡◌, ℕ, ◌≤◌, List, true, length, IsTrue, Option, Some, None, arith}
 use Rattle.std.specs.Prelude.{All}
 use Rattle.std.specs.List.{list_all}
 use Rattle.sqlite.specs.Order.{bytes}
@@ -7,6 +7,7 @@ use Rattle.sqlite.specs.Ops.{fits_i64}
 use Rattle.sqlite.specs.declared.types.Value.TheVariants.{Text}
 use Rattle.sqlite_keyed.proofs.RuleLemmas.{first_of_both, second_of_both}
 use Rattle.sqlite_typed.specs.Columns.{or_null}
+use Rattle.goo_types.specs.Carrier.{carrier_reading}
 use Rattle.goo_types.specs.Codes.{holder_reading, name_reading, country_reading, tech_reading, source_reading}
 use Rattle.goo_types.specs.Day.{day_reading, months_after}
 use Rattle.goo_types.specs.Gsrn.{gsrn_reading}
@@ -14,14 +15,14 @@ use Rattle.goo_types.specs.declared.command.Command.{Command}
 use Rattle.goo_notice.specs.Law.{command_in}
 use Rattle.goo_notice_text.specs.NoticeText.{notice_in}
 use Rattle.goo_tables_rows.specs.Refused.{IsSmall, CanBeKept}
-use Rattle.goo_tables_rows.specs.Rows.{Kept, kept_key, Plant, Meta, meta_row, Holder, holder_row, Account, account_row, Device, device_row, Declaration, declaration_row, Lot, lot_row, Receipt, receipt_row, Cancellation, cancellation_row, Withdrawal, withdrawal_row, Correction, correction_row, NoticeOut, notice_out_row, NoticeIn, notice_in_row}
-use Rattle.goo_tables_holdings.specs.Changes.{progressed}
+use Rattle.goo_tables_rows.specs.Rows.{Kept, kept_key, Plant, Meta, meta_row, Holder, holder_row, Account, account_row, Device, device_row, DeviceCarrier, device_carrier_row, Declaration, declaration_row, Lot, Receipt, receipt_row, Cancellation, cancellation_row, Withdrawal, withdrawal_row, Correction, correction_row, NoticeOut, notice_out_row, NoticeIn, notice_in_row}
+use Rattle.goo_tables_holdings.specs.Changes.{IsSmallWord, IsSmallLot, progressed}
 use Rattle.goo_spec_tables.specs.Kept.{IsKeptLot}
-use Rattle.goo_spec_tables.specs.Readable.{reads, is_between, is_code, is_act, are_ends, is_holder, is_account, is_plant, is_device, is_declaration, is_lot, is_receipt, is_cancellation, is_withdrawal, is_correction, is_notice_of, is_notice_out, is_notice_in}
+use Rattle.goo_spec_tables.specs.Readable.{reads, is_between, is_code, is_act, are_ends, is_holder, is_account, is_plant, is_device, is_declaration, is_lot, is_receipt, is_cancellation, is_withdrawal, is_correction, is_notice_of, is_notice_out, is_notice_in, is_other, is_maybe_other}
 use Rattle.goo_spec_tables.specs.Texts.{day_of}
 use Rattle.goo_store_rules.proofs.CanBeRead.{each_with}
 use Rattle.goo_store_plans.proofs.BriefTexts.{body_brief, stored_brief}
-use Rattle.goo_store_plans.proofs.ShortTexts.{holder_short, key_short, name_short, country_short, tech_short, source_short, gsrn_short, support_short, day_short, maybe_day_short, maybe_text_short}
+use Rattle.goo_store_plans.proofs.ShortTexts.{holder_short, key_short, name_short, country_short, tech_short, source_short, gsrn_short, support_short, other_short, day_short, maybe_day_short, maybe_text_short}
 
 -- ---- the registry's own row, holders and accounts
 
@@ -37,7 +38,7 @@ small_account a read = omega (arith, holder_short a.holder (first_of_both _ _ (s
 -- ---- plants, and what has one
 
 -- the texts of a plant are short
-record IsShortPlant (p : Plant) : Type 0 where
+pub record IsShortPlant (p : Plant) : Type 0 where
   country : length p.country ≤ 2
   site : length p.site ≤ 64
   tech : length p.tech ≤ 7
@@ -64,7 +65,7 @@ short_device : (k : Kept Device) → length k.1.gsrn ≤ 18 → IsShortPlant k.1
 short_device k gsrn plant day = omega (arith, gsrn, plant.country, plant.site, plant.tech, plant.source, plant.commissioned, plant.support, day)
 
 -- the number and the plant of a device
-short_parts : (k : Kept Device) → is_device k ≡ true → (length k.1.gsrn ≤ 18) × IsShortPlant k.1.plant
+pub short_parts : (k : Kept Device) → is_device k ≡ true → (length k.1.gsrn ≤ 18) × IsShortPlant k.1.plant
 short_parts k read =
     let account = second_of_both (reads (gsrn_reading k.1.gsrn)) _ read in
     let plant = second_of_both (is_act k.1.account) _ account in
@@ -77,6 +78,10 @@ small_device k read =
     let day = second_of_both (is_plant k.1.plant) _ plant in
     let parts = short_parts k read in
     short_device k parts.0 parts.1 (maybe_day_short k.1.last_day (first_of_both _ _ day))
+
+-- the row of a device's carrier
+pub small_device_carrier : (k : Kept DeviceCarrier) → length k.1.gsrn ≤ 18 → is_other (carrier_reading k.1.carrier) ≡ true → IsSmall (device_carrier_row k)
+small_device_carrier k gsrn read = omega (arith, gsrn, other_short k.1.carrier read)
 
 -- devices that are there, with another last day and carry
 pub progressed_kept : (last_day : List ℕ) (carry : ℕ) → reads (day_reading last_day) ≡ true → (ks : List (Kept Device)) → list_all is_device ks ≡ true → All (λ k. IsTrue (fits_i64 (kept_key k))) ks
@@ -91,7 +96,13 @@ small_declaration d read =
     let last = second_of_both (reads (day_reading d.first_day)) _ first in
     omega (arith, gsrn_short d.device (first_of_both _ _ read), day_short d.first_day (first_of_both _ _ first), day_short d.last_day (first_of_both _ _ last))
 
-pub small_lot : (l : Lot) → is_lot l ≡ true → IsKeptLot l → IsSmall (lot_row l)
+-- the row of a lot's carrier
+small_lot_word : (id : ℕ) (o : Option (List ℕ)) → is_maybe_other o ≡ true → IsSmallWord id o
+small_lot_word id None read = tt
+small_lot_word id (Some word) read = omega (arith, other_short word read)
+
+-- a lot's row, and that of its carrier
+pub small_lot : (l : Lot) → is_lot l ≡ true → IsKeptLot l → IsSmallLot l
 small_lot l read kept =
     let device = second_of_both (is_code l.origin) _ read in
     let plant = second_of_both (reads (gsrn_reading l.device)) _ device in
@@ -100,9 +111,12 @@ small_lot l read kept =
     let short = short_plant l.plant (first_of_both _ _ plant) in
     let begins = day_short l.first_day (first_of_both _ _ first) in
     let over = day_short l.last_day (first_of_both _ _ last) in
-    let issued = day_short l.issued_on (second_of_both (reads (day_reading l.last_day)) _ last) in
-    let ends = maybe_text_short l.expires_on (months_after (day_of l.last_day) 18) kept.expires in
-    omega (arith, gsrn_short l.device (first_of_both _ _ device), short.country, short.site, short.tech, short.source, short.commissioned, short.support, begins, over, issued, ends)
+    let issue = second_of_both (reads (day_reading l.last_day)) _ last in
+    let issued = day_short l.issued_on (first_of_both _ _ issue) in
+    let ends = maybe_text_short l.expires_on (months_after (day_of l.last_day) 18) kept.expires in (
+      omega (arith, gsrn_short l.device (first_of_both _ _ device), short.country, short.site, short.tech, short.source, short.commissioned, short.support, begins, over, issued, ends),
+      small_lot_word l.id l.carrier (second_of_both (reads (day_reading l.issued_on)) _ issue),
+    )
 
 -- ---- acts, receipts and notices
 

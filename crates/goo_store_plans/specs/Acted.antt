@@ -1,6 +1,6 @@
 -- What an accepted command changes beside the certificates, in the tables.
 use Rattle.std.specs.Prelude.{◌≡◌, ◌≤◌, ◌<◌, ◌^◌, ℕ, ℤ, pos, true, List, map, filter, length, Some}
-use Rattle.std.specs.List.{list_all}
+use Rattle.std.specs.List.{list_all, list_any}
 use Rattle.sqlite_typed.specs.Tests.{bytes_eq}
 use Rattle.sqlite_keyed.specs.Keyed.{get_by, has_key}
 use Rattle.goo_types.specs.declared.reply.Reply.{Reply}
@@ -31,6 +31,9 @@ pub record IsActed (t after : Tables) (s : State) : Type 0 where
   pub lots : (id : ℤ) (l : Lot) → get_by lot_key after.lots id ≡ Some l → IsKeptLot l
   pub devices : (gsrn : List ℕ) → length (filter (λ k. bytes_eq k.1.gsrn gsrn) after.devices) ≤ 1
   pub progress : (gsrn : List ℕ) → progress_in (device_row after.devices gsrn) ≡ progress_of s gsrn
+  -- the device and the lot of each carrier that is kept is there
+  pub carried_devices : list_all (λ c. list_any (λ d. bytes_eq d.1.gsrn c.1.gsrn) after.devices) after.device_carriers ≡ true
+  pub carried_lots : list_all (λ c. has_key lot_key after.lots (pos c.lot)) after.lot_carriers ≡ true
 
 -- the receipt of a request that is accepted with this reply
 pub record IsReceiptOf (q : Request) (reply : Reply) (r : row.Receipt) : Type 0 where

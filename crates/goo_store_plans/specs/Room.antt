@@ -8,10 +8,11 @@ use Rattle.goo_tables_rows.specs.Rows.{Tables, Kept, kept_key}
 abbrev pub HasRowid : {X : Type 0} → List (Kept X) → Type 0
 HasRowid rows = IsTrue (fits_i64 (next_key kept_key rows))
 
--- each of the five tables that choose their rowids has one left, and the devices, whose rows are changed, have such
+-- each of the six tables that choose their rowids has one left, and the devices, whose rows are changed, have such
 pub record HaveRowids (t : Tables) : Type 0 where
   pub holders : HasRowid t.holders
   pub devices : HasRowid t.devices
+  pub device_carriers : HasRowid t.device_carriers
   pub devices_there : All (λ k. IsTrue (fits_i64 (kept_key k))) t.devices
   pub peers : HasRowid t.peers
   pub receipts : HasRowid t.receipts

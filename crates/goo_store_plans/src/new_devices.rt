@@ -9,7 +9,7 @@ ghost use Rattle.goo_store_plans.specs.Plants.{IsRegistered};
 ghost use Rattle.goo_spec_tables.specs.Readable.{is_device, is_plant};
 ghost use Rattle.goo_spec_tables.specs.States.{known_device};
 
-use crate::new_rows::day_string;
+use crate::new_rows::{carrier_string, day_string};
 use goo_tables_rows::device::DeviceRow;
 use goo_tables_rows::plant::PlantRow;
 use goo_types::command::RegisterDevice;
@@ -44,5 +44,6 @@ pub fn device_row(alloc: Global, registered: &RegisterDevice) -> Result<DeviceRo
         plant: plant_row(alloc, registered)?,
         last_day: None,
         carry: 0,
+        carrier: carrier_string(alloc, registered.carrier)?,
     })
 }

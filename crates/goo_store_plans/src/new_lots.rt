@@ -10,7 +10,7 @@ ghost use Rattle.goo_store_plans.specs.LotRows.{IsRowOfPlant};
 ghost use Rattle.goo_store_values.specs.declared.trouble.Trouble.TheVariants.{Memory};
 ghost use Rattle.goo_tables_holdings.specs.Changes.{LotFits};
 
-use crate::new_rows::day_string;
+use crate::new_rows::{carrier_string, day_string};
 use goo_store_values::plants::Plant;
 use goo_store_values::trouble::Trouble;
 use goo_tables_rows::lot::LotRow;
@@ -88,5 +88,6 @@ pub fn lot_row(alloc: Global, lot: &Lot, number: u64) -> Result<LotRow, Trouble>
         last_day: day_string(alloc, lot.last_day())?,
         expires_on: maybe_day_string(alloc, lot.expires_on())?,
         issued_on: day_string(alloc, lot.issued_on())?,
+        carrier: carrier_string(alloc, lot.carrier())?,
     })
 }

@@ -1,14 +1,15 @@
 //! The rows that accepted commands leave.
 
-ghost use Rattle.std.specs.Prelude.{◌≡◌, ◌≤◌, true, false, pos, string_bytes, IfOk};
+ghost use Rattle.std.specs.Prelude.{◌≡◌, ◌≤◌, true, false, pos, string_bytes, option_map, IfOk};
 ghost use Rattle.goo_types.specs.Day.{day_reading};
 ghost use Rattle.goo_core_shelf.specs.Shelf.{cancellation_on};
 ghost use Rattle.goo_tables_rows.specs.Rows.{account_in, cancellation_in, holder_in, withdrawal_in};
 ghost use Rattle.goo_spec_tables.specs.Records.{act_or_none};
-ghost use Rattle.goo_spec_tables.specs.Readable.{is_account, is_cancellation, is_holder, is_maybe_act, is_peer, is_withdrawal, reads};
+ghost use Rattle.goo_spec_tables.specs.Readable.{is_account, is_cancellation, is_holder, is_maybe_act, is_maybe_other, is_peer, is_withdrawal, reads};
 ghost use Rattle.goo_spec_tables.specs.States.{known_account, known_cancellation, known_holder, known_peer, known_withdrawal};
-ghost use Rattle.goo_spec_tables.specs.Texts.{day_of};
+ghost use Rattle.goo_spec_tables.specs.Texts.{carrier_of, day_of};
 
+use goo_notice_json::carriers::is_other;
 use goo_tables_rows::account::AccountRow;
 use goo_tables_rows::cancellation::CancellationRow;
 use goo_tables_rows::holder::HolderRow;
@@ -16,6 +17,7 @@ use goo_tables_rows::peer::PeerRow;
 use goo_tables_rows::withdrawal::WithdrawalRow;
 use goo_types::account_no::AccountNo;
 use goo_types::act_no::ActNo;
+use goo_types::carrier::Carrier;
 use goo_types::command::{Cancel, OpenAccount, OpenHolder, Withdraw};
 use goo_types::day::Day;
 use goo_types::registry_code::RegistryCode;
@@ -27,6 +29,18 @@ pub fn day_string(alloc: Global, day: Day) -> Result<String, AllocError>
     ensures reads { IfOk result (λ text. reads (day_reading (string_bytes text)) ≡ true) }
 {
     String::from_str(alloc, day.text().as_str())
+}
+
+/// The word for a carrier; electricity has none.
+pub fn carrier_string(alloc: Global, carrier: Carrier) -> Result<Option<String>, AllocError>
+    ensures states { IfOk result (λ word. carrier_of (option_map string_bytes word) ≡ carrier) }
+    ensures reads { IfOk result (λ word. is_maybe_other (option_map string_bytes word) ≡ true) }
+{
+    if is_other(carrier) {
+        Ok(Some(String::from_str(alloc, carrier.word())?))
+    } else {
+        Ok(None)
+    }
 }
 
 /// The number of an act, 0 for none.

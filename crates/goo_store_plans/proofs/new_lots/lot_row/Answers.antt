@@ -116,5 +116,23 @@ returns-in_err-day_string-3-clause-fits c = none_made c.from_residual-in_err-day
 pub returns-in_err-day_string-3-clause-memory : goal.returns-in_err-day_string-3-clause-memory
 returns-in_err-day_string-3-clause-memory c small = only_for Memory c.from_residual-in_err-day_string-3.result c.from_residual-in_err-day_string-3.ensures.1
 
+pub returns-in_err-carrier_string-clause-id : goal.returns-in_err-carrier_string-clause-id
+returns-in_err-carrier_string-clause-id c = none_made c.from_residual-in_err-carrier_string.result (λ row. row.id ≡ c.args.number) c.from_residual-in_err-carrier_string.ensures.0
+
+pub returns-in_err-carrier_string-clause-states : goal.returns-in_err-carrier_string-clause-states
+returns-in_err-carrier_string-clause-states c = none_made c.from_residual-in_err-carrier_string.result (λ row. lot_of (lot_in row) ≡ c.args.lot.now) c.from_residual-in_err-carrier_string.ensures.0
+
+pub returns-in_err-carrier_string-clause-reads : goal.returns-in_err-carrier_string-clause-reads
+returns-in_err-carrier_string-clause-reads c = none_made c.from_residual-in_err-carrier_string.result (λ row. is_lot (lot_in row) ≡ true) c.from_residual-in_err-carrier_string.ensures.0
+
+pub returns-in_err-carrier_string-clause-kept : goal.returns-in_err-carrier_string-clause-kept
+returns-in_err-carrier_string-clause-kept c = none_made c.from_residual-in_err-carrier_string.result (λ row. IsKeptLot (lot_in row)) c.from_residual-in_err-carrier_string.ensures.0
+
+pub returns-in_err-carrier_string-clause-fits : goal.returns-in_err-carrier_string-clause-fits
+returns-in_err-carrier_string-clause-fits c = none_made c.from_residual-in_err-carrier_string.result LotFits c.from_residual-in_err-carrier_string.ensures.0
+
+pub returns-in_err-carrier_string-clause-memory : goal.returns-in_err-carrier_string-clause-memory
+returns-in_err-carrier_string-clause-memory c small = only_for Memory c.from_residual-in_err-carrier_string.result c.from_residual-in_err-carrier_string.ensures.1
+
 pub returns-clause-id : goal.returns-clause-id
 returns-clause-id c = refl

@@ -9,6 +9,8 @@ use Rattle.goo_spec_tables.specs.States.{state_of}
 use Rattle.goo_store_lookups.proofs.Looking.{looked, refused_look, well}
 use Rattle.goo_store.proofs.Found.{known}
 use Rattle.goo_store_lookups.proofs.Blaming.{blames, refused_blames}
+use Rattle.goo_store_open.proofs.Carrying.{devices_read}
+use Rattle.goo_store.proofs.DeviceKeys.{keys_bare}
 use Rattle.goo_store.proofs.RowsRead.{devices_found}
 use Rattle.goo_store.proofs.sql_shelf.SqlShelf.device_numbers.Goals as goal
 
@@ -27,7 +29,7 @@ unfolding state_of
 returns-clause-looks g c =
     looked (view g.S.Store c.args.self.now.conn) (view g.S.Store c.all_devices-found.new.conn) c.args.self.now.well _ _ c.all_devices-found.ensures.looks _ _ c.sorted_numbers.result
     c.args.self.now.refused c.told.new.refused c.told.result (λ live db may. g.met.S.Store.settled c.args.self.now.conn.store db live may) c.if-self.false c.sorted_numbers.ensures.value c.told.ensures
-    (λ kept rows numbers found read. read ∙ ap (λ ds. keys (from_entries {R = text_cmp} (map device_entry ds))) found ∙ ap (λ es. keys (from_entries {R = text_cmp} es)) (entries_same (tables_in (view g.S.Store c.args.self.now.conn)).devices))
+    (λ kept rows numbers found read. read ∙ ap (λ ds. keys (from_entries {R = text_cmp} (map device_entry ds))) found ∙ keys_bare (map (λ k. k.1) (tables_in (view g.S.Store c.args.self.now.conn)).devices) ∙ ap (λ es. keys (from_entries {R = text_cmp} es)) (entries_same (tables_in (view g.S.Store c.args.self.now.conn)).devices))
 
 pub returns-then-self-clause-store : goal.returns-then-self-clause-store
 returns-then-self-clause-store g c = refused_blames (view g.S.Store c.args.self.now.conn) c.args.self.now.refused _ c.if-self.true
@@ -35,5 +37,5 @@ returns-then-self-clause-store g c = refused_blames (view g.S.Store c.args.self.
 pub returns-clause-store : goal.returns-clause-store
 returns-clause-store g c =
     blames (view g.S.Store c.args.self.now.conn) (view g.S.Store c.all_devices-found.new.conn) c.args.self.now.well _ _ c.all_devices-found.ensures.looks _ _ c.sorted_numbers.result c.args.self.now.refused c.told.new.refused c.told.result
-    c.all_devices-found.ensures.readable c.sorted_numbers.ensures.accepts c.told.ensures (λ can. can.devices)
+    c.all_devices-found.ensures.readable c.sorted_numbers.ensures.accepts c.told.ensures (λ can. devices_read (tables_in (view g.S.Store c.args.self.now.conn)).devices can.devices)
     (λ stands kept rows found. devices_found (view g.S.Store c.args.self.now.conn).now (tables_in (view g.S.Store c.args.self.now.conn)) stands kept rows.items found)
