@@ -1,9 +1,8 @@
 -- An accepted declaration, carried out by changes.
-use Rattle.std.proofs.Common.{◌≡◌, ◌≤◌, ◌==◌, inl, inr, ℕ, zero, suc, ◌+◌, ◌-◌, pos, List, [], ◌∷◌, ◌++◌, Bool, true, false, cond, length, take, Option, Some, None, All, refl, ap, sym, subst, ◌∙◌, arith}
+use Rattle.std.proofs.Common.{◌≡◌, ◌≤◌, ◌==◌, inl, inr, ℕ, zero, suc, ◌+◌, ◌-◌, pos, List, [], ◌∷◌, ◌++◌, Bool, true, false, cond, length, Option, Some, None, refl, ap, sym, subst, ◌∙◌, arith}
 use Rattle.std.specs.Prelude.{string_bytes, filter}
 use Rattle.std.specs.FinMap.{get}
 use Rattle.std.proofs.lemmas.Bool.{eqb-true, eq-eqb, false≢true}
-use Rattle.std.proofs.lemmas.List.Elements.{All-cons, All-nil}
 use Rattle.sqlite_keyed.specs.Keyed.{next_key, has_key, get_by, insert_by}
 use Rattle.sqlite_keyed.proofs.KeyedLemmas.{next_key_is_free}
 use Rattle.sqlite_typed.specs.Tests.{bytes_eq}
@@ -32,12 +31,11 @@ use Rattle.goo_spec_tables.specs.States.{state_of}
 use Rattle.goo_spec_tables.specs.Texts.{day_of}
 use Rattle.goo_store_plans.specs.Acted.{IsActed}
 use Rattle.goo_store_plans.specs.Carrying.{CarriesOut}
-use Rattle.goo_store_changes.specs.Changes.{made, made_all, IsFor, AreFor, IsFree, AreFree, HasRoom, HaveRoom}
+use Rattle.goo_store_changes.specs.Changes.{made, made_all, IsFree, AreFree, HasRoom, HaveRoom}
 use Rattle.goo_store_plans.specs.Declaring.{Begins, Issues, IsDue}
 use Rattle.goo_store_plans.specs.LotNumbers.{AreJustWith}
 use Rattle.goo_store_plans.specs.NewLots.{known_lots}
 use Rattle.goo_store_plans.specs.Room.{HaveRowids}
-use Rattle.goo_store_changes.specs.declared.change.TableChange.{TableChange}
 use Rattle.goo_store_changes.specs.declared.change.TableChange.TheVariants.{AddDeclaration, AddLot, SetCounters}
 use Rattle.goo_store_plans.specs.declared.gathered_lots.Gathered.{Gathered}
 use Rattle.goo_store_plans.specs.declared.standing.DeclarationBasis.{DeclarationBasis}

@@ -1,8 +1,7 @@
 -- An accepted import, carried out by changes that put its lots and its notice in.
-use Rattle.std.proofs.Common.{◌≡◌, ℤ, pos, true, List, [], ◌∷◌, ◌++◌, append-nil, map, fold, Option, Some, None, All, refl, ap, sym, subst, ◌∙◌}
+use Rattle.std.proofs.Common.{◌≡◌, ℤ, pos, true, List, [], ◌∷◌, ◌++◌, append-nil, map, fold, Option, Some, None, refl, ap, sym, subst, ◌∙◌}
 use Rattle.std.specs.FinMap.{get}
 use Rattle.std.proofs.lemmas.List.Sums.{fold-append}
-use Rattle.std.proofs.lemmas.List.Elements.{All-map, All-push}
 use Rattle.sqlite_keyed.specs.Keyed.{IsKeyedBy, next_key}
 use Rattle.goo_types.specs.Notice.{IsWhole}
 use Rattle.goo_types.specs.declared.command.Command.TheVariants.{Import}
@@ -24,7 +23,7 @@ use Rattle.goo_spec_tables.specs.Records.{arrived_of}
 use Rattle.goo_spec_tables.specs.States.{state_of, known_arrival}
 use Rattle.goo_store_plans.specs.Acted.{IsActed}
 use Rattle.goo_store_plans.specs.Carrying.{CarriesOut, IsAccepted}
-use Rattle.goo_store_changes.specs.Changes.{made, made_all, IsFor, IsFree, AreFree, HasRoom, HaveRoom}
+use Rattle.goo_store_changes.specs.Changes.{made, made_all, IsFree, AreFree, HasRoom, HaveRoom}
 use Rattle.goo_store_plans.specs.GatheredLots.{ArePutIn}
 use Rattle.goo_store_plans.specs.LotNumbers.{AreJustWith}
 use Rattle.goo_store_plans.specs.LotRows.{with_rows}

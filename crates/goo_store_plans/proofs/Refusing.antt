@@ -25,7 +25,7 @@ use Rattle.goo_tables_rows.specs.declared.declaration.DeclarationRow.{Declaratio
 use Rattle.goo_tables_rows.specs.declared.device.DeviceRow.{DeviceRow}
 use Rattle.goo_tables_rows.specs.declared.lot.LotRow.{LotRow}
 use Rattle.goo_tables_rows.specs.Refused.{IsFault, FailsOnlyByFault}
-use Rattle.goo_tables_rows.specs.Rows.{Tables, Device, Lot, correction_in, declaration_in, device_in, lot_in, lot_key}
+use Rattle.goo_tables_rows.specs.Rows.{Tables, Device, Lot, correction_in, declaration_in, device_in, lot_in, lot_key, bare_lot}
 use Rattle.goo_tables_rows.specs.Stands.{Stands, Looks}
 use Rattle.goo_tables_rows.proofs.Results.{if_ok}
 use Rattle.goo_store_open.specs.Reading.{CanBeRead}
@@ -204,7 +204,7 @@ one_number a b k first second = let same : pos a ≡ pos b = first ∙ sym secon
 -- so few lots in, the next one has a number that a column keeps
 pub low_next : (lots : List Lot) (next i count : ℕ) → i < count → HasRoom count lot_key lots → ((n : ℕ) → pos n ≡ next_key lot_key lots → next ≤ n + i) → next < 2 ^ 63
 low_next lots next i count low room so_far =
-    let n : ℕ = next_lot (slice_get (reverse lots) 0) in
+    let n : ℕ = next_lot (option_map bare_lot (slice_get (reverse lots) 0)) in
     let below : next ≤ n + i = so_far n (next_lot_is lots) in
     let left : n + count ≤ 2 ^ 63 = room n (next_lot_is lots) in
     omega (arith, low, below, left)
