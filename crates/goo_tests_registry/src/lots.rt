@@ -22,6 +22,8 @@ pub struct Batch {
     pub first: &'static str,
     /// The last day.
     pub last: &'static str,
+    /// The carrier.
+    pub carrier: Carrier,
 }
 
 /// January 2025, as registry 7 issued it.
@@ -29,6 +31,7 @@ pub const JANUARY: Batch = Batch {
     origin: 7,
     first: "2025-01-01",
     last: "2025-01-31",
+    carrier: Carrier::Electricity,
 };
 
 /// The lot of a batch.
@@ -46,7 +49,7 @@ pub fn lot_of(rt: &impl Abort, batch: &Batch) -> Lot {
         first_day: day_of(rt, batch.first),
         last_day: day_of(rt, batch.last),
         issued_on: day_of(rt, "2025-03-01"),
-        carrier: Carrier::Electricity,
+        carrier: batch.carrier,
     };
     Lot::new(fields).expect(rt, "no lot")
 }

@@ -8,6 +8,7 @@ use crate::lots::{Batch, lot_of};
 use crate::three::{CERTIFICATES, three};
 use crate::values::{account_of, code_of, day_of, number_of, range_of};
 use crate::world::World;
+use goo_types::carrier::Carrier;
 use goo_types::command::{Cancel, Command, Export};
 use goo_types::name::Name;
 use goo_types::outcome::Outcome;
@@ -140,6 +141,15 @@ fn happens(rt: &impl Abort, world: &mut World, dice: &mut Dice, tally: &mut Tall
     }
 }
 
+/// What the device of a registry makes.
+fn carrier_of(code: u8) -> Carrier {
+    match code {
+        8 => Carrier::Gas,
+        9 => Carrier::Hydrogen,
+        _ => Carrier::Electricity,
+    }
+}
+
 /// The lot of a certificate, as the registry of its code issued it.
 fn lot_from(code: u8, serial: u64) -> Batch {
     let (first, last) = if serial < 3 {
@@ -151,6 +161,7 @@ fn lot_from(code: u8, serial: u64) -> Batch {
         origin: code,
         first,
         last,
+        carrier: carrier_of(code),
     }
 }
 

@@ -1,4 +1,4 @@
-//! Three registries that know one another, each with three certificates.
+//! Three registries that know one another, each with three certificates: of electricity, of gas, and of hydrogen.
 
 use crate::asking::Line;
 use crate::desk::TestDesk;
@@ -10,8 +10,8 @@ use std::process::Abort;
 /// How many certificates each issues.
 pub const CERTIFICATES: u64 = 3;
 
-/// What each registry is asked first: a holder, an account and a device.
-const MEMBERS: [Line; 3] = [
+/// What each registry is asked first: a holder and an account.
+const MEMBERS: [Line; 2] = [
     (
         "ISSUER",
         r#"{"command":"open_holder","holder":"SUN","key":"a","name":"Sun Power"}"#,
@@ -22,15 +22,15 @@ const MEMBERS: [Line; 3] = [
         r#"{"command":"open_account","holder":"SUN","key":"b"}"#,
         r#"{"outcome":"accepted","reply":{"account":1}}"#,
     ),
+];
+
+/// What registry 7 is asked then: a device of electricity, two certificates of one lot, one of another, and the other registries.
+const SEVEN: [Line; 5] = [
     (
         "ISSUER",
         r#"{"account":1,"capacity_w":2000000,"command":"register_device","commissioned":"2020-06-15","country":"DE","device":"500000000000000012","key":"c","site":"North field","source":"F01010100","support":"none","tech":"T010000"}"#,
         r#"{"outcome":"accepted","reply":{}}"#,
     ),
-];
-
-/// What registry 7 is asked then: two certificates of one lot, one of another, and the other registries.
-const SEVEN: [Line; 4] = [
     (
         "ISSUER",
         r#"{"aux_wh":0,"command":"declare","device":"500000000000000012","first_day":"2025-01-01","gross_wh":2000000,"key":"d","last_day":"2025-01-15"}"#,
@@ -53,8 +53,13 @@ const SEVEN: [Line; 4] = [
     ),
 ];
 
-/// What registry 8 is asked then: two certificates of one lot, one of another, and the other registries.
-const EIGHT: [Line; 4] = [
+/// What registry 8 is asked then: a device of gas, two certificates of one lot, one of another, and the other registries.
+const EIGHT: [Line; 5] = [
+    (
+        "ISSUER",
+        r#"{"account":1,"capacity_w":2000000,"carrier":"gas","command":"register_device","commissioned":"2020-06-15","country":"DE","device":"500000000000000012","key":"c","site":"North field","source":"F01010100","support":"none","tech":"T010000"}"#,
+        r#"{"outcome":"accepted","reply":{}}"#,
+    ),
     (
         "ISSUER",
         r#"{"aux_wh":0,"command":"declare","device":"500000000000000012","first_day":"2025-01-01","gross_wh":2000000,"key":"d","last_day":"2025-01-15"}"#,
@@ -77,8 +82,13 @@ const EIGHT: [Line; 4] = [
     ),
 ];
 
-/// What registry 9 is asked then: two certificates of one lot, one of another, and the other registries.
-const NINE: [Line; 4] = [
+/// What registry 9 is asked then: a device of hydrogen, two certificates of one lot, one of another, and the other registries.
+const NINE: [Line; 5] = [
+    (
+        "ISSUER",
+        r#"{"account":1,"capacity_w":2000000,"carrier":"hydrogen","command":"register_device","commissioned":"2020-06-15","country":"DE","device":"500000000000000012","key":"c","site":"North field","source":"F01010100","support":"none","tech":"T010000"}"#,
+        r#"{"outcome":"accepted","reply":{}}"#,
+    ),
     (
         "ISSUER",
         r#"{"aux_wh":0,"command":"declare","device":"500000000000000012","first_day":"2025-01-01","gross_wh":2000000,"key":"d","last_day":"2025-01-15"}"#,
