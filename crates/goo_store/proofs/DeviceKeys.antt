@@ -3,7 +3,7 @@ use Rattle.std.proofs.Common.{◌≡◌, ℕ, List, [], ◌∷◌, map, length, 
 use Rattle.std.specs.declared.cmp.Ordering.{Ordering}
 use Rattle.std.specs.declared.cmp.Ordering.TheVariants.{Less, Equal, Greater}
 use Rattle.std.specs.Cmp.Lexicographic.{nat_list_cmp_total}
-use Rattle.std.specs.FinMap.{FinMap, empty, entries, from_entries, keys, entries-insert, len-empty, len-entries}
+use Rattle.std.specs.FinMap.{empty, entries, from_entries, keys, entries-insert, len-empty, len-entries}
 use Rattle.std.specs.FinMap.Entries.{by_order, put}
 use Rattle.goo_spec.specs.State.{text_cmp, Device}
 use Rattle.goo_tables_rows.specs.Rows as row

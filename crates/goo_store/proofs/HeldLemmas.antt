@@ -1,5 +1,5 @@
 -- The tables that a database holds, by the version that they tell.
-use Rattle.std.proofs.Common.{◌≡◌, ◌==◌, ◌∙◌, refl, sym, ap, subst, cond, ℕ, Ok}
+use Rattle.std.proofs.Common.{◌≡◌, ◌==◌, ◌∙◌, sym, ap, subst, cond, ℕ, Ok}
 use Rattle.sqlite.specs.State.{State}
 use Rattle.sqlite.specs.Effect.{Database}
 use Rattle.goo_tables_rows.specs.First.{IsFirst, with_none}
