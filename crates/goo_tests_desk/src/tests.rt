@@ -13,10 +13,10 @@ use goo_types::fault::Fault;
 use std::alloc::Global;
 use std::io::{self, ErrorKind, Write};
 use std::net::{Shutdown, TcpListener, TcpStream};
+use std::process::Abort;
 
 /// A registry with the certificates of a plant.
-fn with_a_plant(rt: &HostRuntime) -> Registry<ListShelf> {
-    let alloc = rt.alloc();
+fn with_a_plant(rt: &impl Abort, alloc: Global) -> Registry<ListShelf> {
     let mut registry = new_registry(rt, alloc);
     for request in PLANT {
         let done = begins(
@@ -33,7 +33,7 @@ fn with_a_plant(rt: &HostRuntime) -> Registry<ListShelf> {
 #[test]
 fn worked_requests_are_answered_byte_for_byte(rt: HostRuntime) {
     let alloc = rt.alloc();
-    let mut registry = with_a_plant(&rt);
+    let mut registry = with_a_plant(&rt, alloc);
     let audited = answers(alloc, &mut registry, AUDIT, AUDITED);
     assert!(rt; audited, "the audit");
     for (request, wanted) in WORKED {
@@ -45,7 +45,7 @@ fn worked_requests_are_answered_byte_for_byte(rt: HostRuntime) {
 #[test]
 fn a_device_of_hydrogen(rt: HostRuntime) {
     let alloc = rt.alloc();
-    let mut registry = with_a_plant(&rt);
+    let mut registry = with_a_plant(&rt, alloc);
     for (request, wanted) in CARRIED {
         let same = answers(alloc, &mut registry, request, wanted);
         assert!(rt; same, "{request}");
