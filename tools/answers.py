@@ -31,10 +31,19 @@ def folders_of(crate, file):
     return lambda folders: folders[:len(module)] == module or len(folders) > 1 and folders[-2] in types
 
 
-def is_by_hand(crate, file, function, goal):
-    """Whether a goal of this function of a file, or of a closure in it, is answered by hand."""
+def owner_at(text, place):
+    """The folder of the type whose methods stand at this place, or None outside of an `impl`."""
+    owner = None
+    for line in text[:place].split('\n'):
+        head = IMPL.match(line)
+        owner = head.group(2) + (head.group(1) or '') if head else None if line == '}' else owner
+    return owner
+
+
+def is_by_hand(crate, file, function, goal, owner=None):
+    """Whether a goal of this function of a file, or of a closure in it, is answered by hand. Of functions of one name, that of this owner is meant."""
     stands = folders_of(crate, file)
-    return any(by_hand and goal == answered and function in folders and stands(folders) for folders, answered, by_hand in answers_of(crate))
+    return any(by_hand and goal == answered and function in folders and owner in (None, *folders) and stands(folders) for folders, answered, by_hand in answers_of(crate))
 
 
 def stands_by_hand(crate, place, goal):
