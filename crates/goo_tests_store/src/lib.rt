@@ -3,7 +3,8 @@
 //!
 //! It has tests alone. `script` and `cases` have the requests and what they come to, `asking` sends them, `sight` tells what a
 //! registry shows, `acts` has what is asked of a registry over any shelf, `registries` begins and opens them, `disks` has the
-//! files that they are kept in, and `deeds` what is done there. `texts` asks for what people are given, byte for byte as `wanted` has it.
+//! files that they are kept in, and `deeds` what is done there. `texts` asks for what people are given, byte for byte as `wanted` has it,
+//! and `carriers` for what isn't of electricity.
 #![tactic(auto)]
 
 #[cfg(test)]
