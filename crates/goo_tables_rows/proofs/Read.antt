@@ -55,9 +55,3 @@ module _ {X Y : Type 0} (reads : Row → X → Type 0) (show : Y → Row) (value
 
   pub first_listed : (p : Y → Bool) (ys : List Y) (o : Option X) → FirstZip reads (map show (filter p ys)) o → option_map value o ≡ find p ys
   first_listed p ys o first = first_read reads show value (λ y. y) same p ys o first ∙ option_map_id (find p ys)
-
-  pub top_listed : (ys : List Y) (o : Option X) → FirstZip reads (map show ys) o → option_map value o ≡ slice_get ys 0
-  top_listed [] None first = refl
-  top_listed [] (Some x) first = absurd first
-  top_listed (y ∷ ys) None first = absurd first
-  top_listed (y ∷ ys) (Some x) first = ap Some (same y x first)
