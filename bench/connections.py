@@ -2,12 +2,14 @@
 
 usage: python3 bench/connections.py [COUNT]
 
-One client, which opens a connection, sends a request and reads the answer to its end, COUNT times (2,000) for each of: `GET /v1/certificates/..` and
-`POST /v1/requests`, with the registry in memory and on a file. A bare connection is answered the same bytes by a server that looks at nothing; http.server looks the
-certificate up in a table, or writes a row in a transaction, and answers as many bytes. The three take turns, three times; of each the best counts.
+One client, which opens a connection, sends a request and reads the answer to its end, COUNT times (1,000) for each of: `GET /v1/certificates/..` and
+`POST /v1/requests`, with the registry in memory, on tmpfs and on a disk. A bare connection is answered the same bytes by a server that looks at nothing; http.server
+looks the certificate up in a table, or writes a row in a transaction, and answers as many bytes. The three take turns, three times; of each the best counts.
+All of it stays on 127.0.0.1.
 """
 import http.server
 import json
+import os
 import select
 import socket
 import sqlite3
@@ -16,8 +18,10 @@ import sys
 import time
 from contextlib import closing, contextmanager
 
-from measured import NEW, PROGRAM, goo, load, room
+from measured import NEW, PROGRAM, goo, head, machine, peak, ratio, room, row, usable
 
+HEAD = ['Connections', 'Where', 'goo: a second', 'Processor seconds per 1,000', 'Peak MB', 'Bare: a second', 'Ratio', 'http.server: a second', 'Ratio']
+WORKS = [('look', 'memory'), ('request', 'memory'), ('request', 'tmpfs'), ('request', 'disk')]
 RUNS = 3
 DEVICE = '500000000000000012'
 BEGINNING = [
@@ -60,15 +64,20 @@ def rate(port, requests, length):
 
 
 @contextmanager
-def serving(words):
-    """A server that says on its first line when it listens."""
-    with subprocess.Popen(words, stdout=subprocess.PIPE) as server:
-        try:
-            if not select.select([server.stdout], [], [], 30)[0] or not server.stdout.readline().startswith(b'listening'):
-                sys.exit(f'{words} does not listen')
-            yield
-        finally:
-            server.kill()
+def serving(words, spent):
+    """A server that says on its first line when it listens; in the end adds its processor seconds and its peak memory in MB to a list."""
+    server = subprocess.Popen(words, stdout=subprocess.PIPE)
+    try:
+        if not select.select([server.stdout], [], [], 30)[0] or not server.stdout.readline().startswith(b'listening'):
+            sys.exit(f'{words} does not listen')
+        yield
+    finally:
+        memory = peak(server.pid)
+        server.kill()
+        server.stdout.close()
+        _, status, used = os.wait4(server.pid, 0)
+        server.returncode = os.waitstatus_to_exitcode(status)
+        spent += [used.ru_utime + used.ru_stime, memory]
 
 
 def free_port():
@@ -131,39 +140,43 @@ def plain(port, length, path):
 
 
 def of_goo(place, kind, count, folder, turn):
-    """The rate of the registry, and how long an answer is."""
-    path, port = folder / f'registry-{kind}-{turn}', free_port()
+    """The rate of the registry, how long an answer is, its processor seconds and its peak memory."""
+    path, port, spent = folder / f'registry-{kind}-{turn}', free_port(), []
     where = ['--memory', *NEW]
-    if place == 'file':
+    if place != 'memory':
         goo('init', '--db', path, *NEW)
         where = ['--db', path]
-    with serving([PROGRAM, 'serve', *map(str, where), '--port', str(port), '--count', '1000000']):
+    with serving([PROGRAM, 'serve', *map(str, where), '--port', str(port), '--count', '1000000'], spent):
         for body in BEGINNING:
             ask(port, post(body))
         length = len(ask(port, asked(kind, 0)))
-        return rate(port, [asked(kind, number) for number in range(1, count + 1)], length if kind == 'look' else 0), length
+        found = rate(port, [asked(kind, number) for number in range(1, count + 1)], length if kind == 'look' else 0)
+    return found, length, *spent
 
 
 def of_another(words, kind, count):
     """The rate of another server."""
     port = free_port()
-    with serving([sys.executable, __file__, words[0], str(port), *map(str, words[1:])]):
+    with serving([sys.executable, __file__, words[0], str(port), *map(str, words[1:])], []):
         return rate(port, [asked(kind, number) for number in range(1, count + 1)], 0)
 
 
-def main(count):
-    print(load())
-    print('| Requests | Registry | goo, connections a second | Bare | Ratio | http.server | Ratio |\n|---|---|---|---|---|---|---|')
-    for place in ('memory', 'file'):
-        for kind in ('look', 'request'):
-            with room() as folder:
-                rates = []
-                for turn in range(RUNS):
-                    ours, length = of_goo(place, kind, count, folder, turn)
-                    path = folder / f'plain-{turn}' if place == 'file' else ':memory:'
-                    rates.append((ours, of_another(['bare', length], kind, count), of_another(['plain', length, path], kind, count)))
-                ours, bare_rate, plain_rate = (max(column) for column in zip(*rates))
-                print(f'| {count:,} {kind}s | {place} | {ours:,.0f} | {bare_rate:,.0f} | {ours / bare_rate:.2f} | {plain_rate:,.0f} | {ours / plain_rate:.2f} |', flush=True)
+def measure(kind, place, count):
+    with room(place) as folder:
+        turns = []
+        for turn in range(RUNS):
+            ours, length, seconds, memory = of_goo(place, kind, count, folder, turn)
+            path = ':memory:' if place == 'memory' else folder / f'plain-{turn}'
+            turns.append((ours, of_another(['bare', length], kind, count), of_another(['plain', length, path], kind, count), -seconds, -memory))
+        ours, bare_rate, plain_rate, seconds, memory = (max(column) for column in zip(*turns))
+    shown = [f'{ours:,.0f}', f'{-seconds * 1_000 / count:.2f}', f'{-memory:.0f}']
+    row([f'{count:,} {kind}s', place, *shown, f'{bare_rate:,.0f}', ratio(ours, bare_rate), f'{plain_rate:,.0f}', ratio(ours, plain_rate)])
+
+
+def main(count=1_000):
+    for kind, place in WORKS:
+        if usable(place):
+            measure(kind, place, count)
 
 
 if __name__ == '__main__':
@@ -171,5 +184,9 @@ if __name__ == '__main__':
         bare(*sys.argv[2:])
     elif sys.argv[1:2] == ['plain']:
         plain(*sys.argv[2:])
+    elif len(sys.argv) > 2:
+        sys.exit(__doc__)
     else:
-        main(int(sys.argv[1]) if len(sys.argv) > 1 else 2_000)
+        print(f'{machine()}\n')
+        head(HEAD)
+        main(*map(int, sys.argv[1:]))

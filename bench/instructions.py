@@ -1,7 +1,8 @@
-"""Counts the statements and the instructions of a request of `goo run --memory`, by callgrind.
+"""Counts the statements and the instructions of a request of `goo run`, by callgrind, beside the instructions of plain.rs.
 
-usage: python3 bench/instructions.py statements             statements a request, by kind of request
-       python3 bench/instructions.py costly WORKLOAD N      the costliest functions of N requests more, and the shares of the crates
+usage: python3 bench/instructions.py statements             by kind of request, in memory and on a file
+       python3 bench/instructions.py costly WORKLOAD N      the costliest functions of N requests more in memory, and the shares of the crates
+       python3 bench/instructions.py costly WORKLOAD N file the same on a file
 
 Each count is the difference of two runs, one with the requests and one without them, so that making the tables is left out. A statement is a call of the function
 by which the library looks a text up among those it has compiled, `Entry::fetch`. What is counted is the same in any hour. It needs valgrind.
@@ -10,18 +11,16 @@ import collections
 import json
 import os
 import re
+import shutil
 import subprocess
 import sys
-import tempfile
-from pathlib import Path
 
 import kinds
 import workloads
-from measured import NEW, PROGRAM
+from measured import NEW, PROGRAM, SECONDS, fast, goo, head, ratio, room, row, rust, say
 
-WORDS = [PROGRAM, 'run', '--memory', *NEW]
 STATEMENT = re.compile(r'Entry.*fetch')
-COMPILED = re.compile(r'listing.*understand')
+HEAD = ['Request', 'Statements', 'Instructions in memory', 'Rust', 'Ratio', 'Instructions on a file', 'Rust', 'Ratio']
 
 
 class Profile:
@@ -63,22 +62,45 @@ class Profile:
         return self
 
 
-def profile(lines):
-    with tempfile.TemporaryDirectory() as folder:
-        out, source = Path(folder) / 'out', Path(folder) / 'lines'
+def program(path=None):
+    """The words that start the registry, on a new file where a path is given."""
+    if path is None:
+        return [PROGRAM, 'run', '--memory', *NEW]
+    goo('init', '--db', path, *NEW)
+    return [PROGRAM, 'run', '--db', str(path)]
+
+
+def plain(path=None):
+    return [*rust(), *([str(path)] if path else [])]
+
+
+def profile(lines, words=program, on_file=False):
+    with room(fast()) as folder:
+        out, source = folder / 'out', folder / 'lines'
         source.write_text('\n'.join(lines) + '\n', encoding='utf-8')
+        command = ['valgrind', '--tool=callgrind', f'--callgrind-out-file={out}', *words(folder / 'file' if on_file else None)]
         with open(source, 'rb') as given:
-            done = subprocess.run(['valgrind', '--tool=callgrind', f'--callgrind-out-file={out}', *WORDS], stdin=given, stdout=subprocess.DEVNULL,
-                                  stderr=subprocess.DEVNULL, check=False)
+            done = subprocess.run(command, stdin=given, stdout=subprocess.DEVNULL, stderr=subprocess.DEVNULL, timeout=SECONDS, check=False)
         if done.returncode > 1:
-            sys.exit(f'{PROGRAM} ended with status {done.returncode}')
+            sys.exit(f'{" ".join(command)} ended with status {done.returncode}')
         return Profile(out.read_text(encoding='utf-8', errors='replace'))
 
 
-def outcomes(lines):
+def outcomes(lines, words):
     """How often each word of an outcome comes."""
-    done = subprocess.run(WORDS, input='\n'.join(lines) + '\n', capture_output=True, text=True, check=False)
+    done = subprocess.run(words(), input='\n'.join(lines) + '\n', capture_output=True, text=True, timeout=SECONDS, check=False)
     return collections.Counter(json.loads(line)['outcome'] for line in done.stdout.splitlines())
+
+
+def are_answered(kind, words):
+    """Whether ten requests of a kind are answered as they should be."""
+    wanted = {'repeat': 'repeated', 'refuse': 'refused'}.get(kind, 'accepted')
+    return outcomes(kinds.lines(kind, 12), words)[wanted] - outcomes(kinds.lines(kind, 2), words)[wanted] == 10
+
+
+def ten(kind, words, on_file):
+    """The first request of a kind compiles its statements, so what counts is the ten after the first two."""
+    return profile(kinds.lines(kind, 12), words, on_file).minus(profile(kinds.lines(kind, 2), words, on_file))
 
 
 def matching(counter, pattern):
@@ -89,20 +111,23 @@ def asked(found):
     """How often each function of goo_tables and goo_tables_holdings was called, in words."""
     counts = collections.Counter()
     for name, count in found.calls.items():
-        if match := re.match(r'goo_(?:tables|held)::\w+::(\w+)', name):
+        if match := re.match(r'goo_(?:tables|tables_holdings)::\w+::(\w+)', name):
             counts[match[1]] += count
     return ', '.join(name if count == 10 else f'{name} {count / 10:.3g}' for name, count in counts.most_common() if count)
 
 
-def statements():
-    print('| Request | Statements | Compiled anew | Instructions | By statement |\n|---|---|---|---|---|')
-    for kind in kinds.KINDS:
-        wanted = {'repeat': 'repeated', 'refuse': 'refused'}.get(kind, 'accepted')
-        if outcomes(kinds.lines(kind, 12))[wanted] - outcomes(kinds.lines(kind, 2))[wanted] != 10:
-            sys.exit(f'{kind}: not all are {wanted}')
-        # The first request of a kind compiles its statements, so the counts are those of the ten after the first two.
-        found = profile(kinds.lines(kind, 12)).minus(profile(kinds.lines(kind, 2)))
-        print(f'| {kind} | {matching(found.calls, STATEMENT) / 10:.1f} | {matching(found.calls, COMPILED) / 10:.1f} | {sum(found.own.values()) / 10:,.0f} | {asked(found)} |', flush=True)
+def statements(chosen, by_function=False):
+    """Prints the rows of these kinds."""
+    for kind in chosen:
+        if not are_answered(kind, program):
+            sys.exit(f'{kind}: not all are answered as they should be')
+        found = ten(kind, program, False)
+        cells = [kind, f'{matching(found.calls, STATEMENT) / 10:.1f}']
+        for on_file in (False, True):
+            ours = sum((ten(kind, program, True) if on_file else found).own.values()) / 10
+            theirs = sum(ten(kind, plain, on_file).own.values()) / 10 if rust() and are_answered(kind, plain) else 0
+            cells += [f'{ours:,.0f}', f'{theirs:,.0f}' if theirs else '', ratio(ours, theirs)]
+        row(cells + ([asked(found)] if by_function else []))
 
 
 def crate_of(name):
@@ -110,9 +135,9 @@ def crate_of(name):
     return match[1] if match else 'other'
 
 
-def costly(workload, count):
+def costly(workload, count, on_file):
     few, many = (list(workloads.WORKLOADS[workload](n)) for n in (count, 2 * count))
-    found = profile(many).minus(profile(few))
+    found = profile(many, program, on_file).minus(profile(few, program, on_file))
     total = sum(found.own.values())
     print(f'{len(many) - len(few):,} {workload} after {len(few):,}: {total / (len(many) - len(few)):,.0f} instructions each')
     print('| Function | Own share | With what it calls | Calls a request | Called most by |\n|---|---|---|---|---|')
@@ -133,10 +158,20 @@ def costly(workload, count):
             print(f'  {whole / total:7.1%} {found.calls[name] / (len(many) - len(few)):10,.1f}  {name}')
 
 
+def is_there():
+    """Whether there is a valgrind; says so where there is none."""
+    if not shutil.which('valgrind'):
+        say('no valgrind: instructions are not counted')
+    return bool(shutil.which('valgrind'))
+
+
 if __name__ == '__main__':
     if sys.argv[1:] == ['statements']:
-        statements()
-    elif len(sys.argv) == 4 and sys.argv[1] == 'costly' and sys.argv[2] in ('declarations', 'trades'):
-        costly(sys.argv[2], int(sys.argv[3]))
+        if is_there():
+            head([*HEAD, 'By function'])
+            statements(kinds.KINDS, True)
+    elif len(sys.argv) in (4, 5) and sys.argv[1] == 'costly' and sys.argv[2] in ('declarations', 'trades') and sys.argv[4:] in ([], ['file']):
+        if is_there():
+            costly(sys.argv[2], int(sys.argv[3]), len(sys.argv) == 5)
     else:
         sys.exit(__doc__)

@@ -1,30 +1,104 @@
-"""What the measurements share: the program, a run of it that is timed, and the better of runs taken in turn."""
+"""What the measurements share: the program and the baselines, a run that is timed, the places of files, and the rows of the tables.
+
+The program is crates/goo/out/goo, else what the variable GOO names. The plain registry in Rust (plain.rs) is built in a temporary folder, from the crates that Debian
+keeps in /usr/share/cargo/registry, or is the one that the variable PLAIN names.
+"""
+import functools
 import math
 import os
 import shutil
+import signal
 import subprocess
 import sys
 import tempfile
+import time
 from contextlib import contextmanager
 from pathlib import Path
 
 HERE = Path(__file__).resolve().parent
 PROGRAM = os.environ.get('GOO', str(HERE.parent / 'crates/goo/out/goo'))
-FOLDER = os.environ.get('FOLDER')
-"""Where files are made; /dev/shm is memory, so that no disk is measured."""
+CREATE = HERE.parent / 'crates/goo_tables/src/create.rt'
+CRATES = Path('/usr/share/cargo/registry')
+PLACES = {'memory': None, 'tmpfs': '/dev/shm', 'disk': os.environ.get('FOLDER', tempfile.gettempdir())}
+"""Where the registry is kept: nowhere, or in files below such a folder."""
 NEW = ['--code', '7', '--today', '2025-03-01']
 SECONDS = 600
+HEAD = ['Work', 'Where', 'n', 'Processor seconds', 'n a second', 'by the clock', 'Peak MB', 'Grows as', 'Rust seconds', 'Ratio', 'Rust peak MB', 'Python seconds', 'Ratio']
+MANIFEST = '''[package]
+name = "plain"
+version = "0.0.0"
+edition = "2021"
+[dependencies]
+rusqlite = "0"
+serde_json = "1"
+'''
+CONFIGURATION = f'''[source.crates-io]
+replace-with = "debian"
+[source.debian]
+directory = "{CRATES}"
+'''
+
+
+def say(text):
+    print(f'bench: {text}', file=sys.stderr, flush=True)
+
+
+def end(*_):
+    """A measurement that is told to end leaves no file behind."""
+    sys.exit(143)
+
+
+signal.signal(signal.SIGTERM, end)
+if not os.access(PROGRAM, os.X_OK):
+    say(f'no program {PROGRAM}: ./goo --help builds it, or set the variable GOO')
+    sys.exit(1)
+
+
+def row(cells):
+    """A row of a table in Markdown."""
+    print(f'| {" | ".join(cells)} |', flush=True)
+
+
+def head(cells):
+    row(cells)
+    print('|---' * len(cells) + '|', flush=True)
+
+
+def ratio(one, other):
+    return f'{one / other:.2f}' if other else ''
+
+
+def measured_row(work, place, count, run, growth, of_rust=None, of_python=None):
+    """A row of the table that HEAD heads."""
+    rates = [f'{run.seconds:.2f}', f'{count / run.seconds:,.0f}', f'{count / run.clock:,.0f}' if run.clock else '', f'{run.memory:.0f}']
+    beside = [f'{of_rust.seconds:.2f}', ratio(run.seconds, of_rust.seconds), f'{of_rust.memory:.0f}'] if of_rust else [''] * 3
+    row([work, place, f'{count:,}', *rates, growth, *beside, *([f'{of_python:.2f}', ratio(run.seconds, of_python)] if of_python else [''] * 2)])
+
+
+@functools.cache
+def usable(place):
+    """Whether there is such a place; says so where there isn't."""
+    folder = PLACES[place]
+    if folder is None or os.path.isdir(folder) and os.access(folder, os.W_OK):
+        return True
+    say(f'no folder {folder}: nothing is measured on {place}')
+    return False
+
+
+def fast():
+    """The folder of files whose disk is not what is measured."""
+    return 'tmpfs' if usable('tmpfs') else 'disk'
 
 
 @contextmanager
-def room():
+def room(place='disk'):
     """A folder for the files of one measurement."""
-    with tempfile.TemporaryDirectory(prefix='goo-bench-', dir=FOLDER) as folder:
+    with tempfile.TemporaryDirectory(prefix='goo-bench-', dir=PLACES[place]) as folder:
         yield Path(folder)
 
 
 def workload(name, size, to, times=1):
-    """Writes a workload, so many times, and tells how many lines it has; by a process of its own, since a child's peak begins at its parent's size."""
+    """Writes a workload, so many times, and tells how many lines it has."""
     with open(to, 'wb') as target:
         for _ in range(times):
             subprocess.run([sys.executable, HERE / 'workloads.py', name, str(size)], stdout=target, check=True)
@@ -32,19 +106,41 @@ def workload(name, size, to, times=1):
         return sum(1 for _ in written)
 
 
-class Run:
-    """A run of a command to its end: processor seconds, seconds, peak memory in MB."""
+def peak(process):
+    """The peak memory of a running process so far, in MB. What the system tells of one that has ended begins at the size of the parent."""
+    with open(f'/proc/{process}/status', encoding='utf-8') as lines:
+        return next((int(line.split()[1]) / 1024 for line in lines if line.startswith('VmHWM')), 0)
 
-    def __init__(self, words, given=os.devnull, to=os.devnull):
+
+class Run:
+    """A run of a command to its end: processor seconds, seconds by the clock, peak memory in MB."""
+
+    def __init__(self, words, given=os.devnull, to=os.devnull, fine=(0,)):
+        self.memory, begun = 0, time.monotonic()
         with open(given, 'rb') as source, open(to, 'wb') as target:
-            before = os.times().elapsed
-            child = subprocess.Popen(['timeout', str(SECONDS), *map(str, words)], stdin=source, stdout=target)
-            _, status, used = os.wait4(child.pid, 0)
-        if status != 0:
-            sys.exit(f'{" ".join(map(str, words))} ended with status {os.waitstatus_to_exitcode(status)}')
-        self.clock = os.times().elapsed - before
+            child = subprocess.Popen([str(word) for word in words], stdin=source, stdout=target)
+        try:
+            status, used = self.watch(child.pid, begun + SECONDS)
+        except BaseException:
+            child.kill()
+            raise
+        child.returncode = os.waitstatus_to_exitcode(status)
+        if child.returncode not in fine:
+            sys.exit(f'{" ".join(map(str, words))} ended with status {child.returncode}')
+        self.clock = time.monotonic() - begun
         self.seconds = used.ru_utime + used.ru_stime
-        self.memory = used.ru_maxrss / 1024
+
+    def watch(self, process, until):
+        """Waits for the end, and looks at the memory until then."""
+        pause = 0.0005
+        while time.monotonic() < until:
+            self.memory = peak(process) or self.memory
+            ended, status, used = os.wait4(process, os.WNOHANG)
+            if ended:
+                return status, used
+            time.sleep(pause)
+            pause = min(2 * pause, 0.01)
+        sys.exit(f'a run took more than {SECONDS} seconds')
 
 
 def goo(*words, **streams):
@@ -55,6 +151,7 @@ def goo(*words, **streams):
 def live(folder, *words):
     """How often a run of the program writes to standard output, and the least and the most bytes live from the first to the last of it; None without a C compiler."""
     if not shutil.which('cc'):
+        say('no cc: the memory that is live is not measured')
         return None
     library, told = folder / 'live.so', folder / 'live'
     subprocess.run(['cc', '-O2', '-shared', '-fPIC', '-o', library, HERE / 'live.c'], check=True)
@@ -63,16 +160,55 @@ def live(folder, *words):
     return tuple(map(int, told.read_text(encoding='utf-8').split()))
 
 
-def plain(lines, path=':memory:'):
-    """The seconds, of the processor and of the clock, of the baseline's transactions."""
+def python(lines, path=':memory:'):
+    """The processor seconds of the transactions of the baseline in Python."""
     done = subprocess.run([sys.executable, HERE / 'plain.py', lines, path], check=True, capture_output=True, text=True, timeout=SECONDS)
-    return tuple(map(float, done.stdout.split()))
+    return float(done.stdout.split()[0])
+
+
+@functools.cache
+def rust():
+    """The words that start the baseline in Rust, built once; None, and why, where it can't be."""
+    if 'PLAIN' in os.environ:
+        return [os.environ['PLAIN'], str(CREATE)]
+    lacking = [name for name in ('rusqlite', 'serde_json') if not any(CRATES.glob(f'{name}-[0-9]*'))]
+    if lacking or not shutil.which('cargo'):
+        what = 'no cargo' if not lacking else f'no {" and no ".join(lacking)} in {CRATES} (librust-rusqlite-dev, librust-serde-json-dev)'
+        say(f'{what}: the plain registry in Rust is left out')
+        return None
+    say('building plain.rs')
+    folder = Path(kept().name)
+    (folder / '.cargo').mkdir()
+    (folder / '.cargo/config.toml').write_text(CONFIGURATION, encoding='utf-8')
+    (folder / 'Cargo.toml').write_text(MANIFEST + f'[[bin]]\nname = "plain"\npath = "{HERE}/plain.rs"\n', encoding='utf-8')
+    around = {**os.environ, 'CARGO_HOME': str(folder / 'home'), 'CARGO_TARGET_DIR': str(folder / 'target')}
+    done = subprocess.run(['cargo', 'build', '--release', '--offline', '--quiet'], cwd=folder, env=around, capture_output=True, text=True, timeout=SECONDS, check=False)
+    if done.returncode != 0:
+        say(f'cargo builds no plain.rs, so it is left out: {done.stderr[-2000:]}')
+        return None
+    return [str(folder / 'target/release/plain'), str(CREATE)]
+
+
+@functools.cache
+def kept():
+    """A folder that stays until the measurement ends."""
+    return tempfile.TemporaryDirectory(prefix='goo-bench-plain-')
+
+
+def rust_run(path=None, **streams):
+    """A run of the baseline in Rust, or None."""
+    return Run([*rust(), *([path] if path else [])], **streams) if rust() else None
+
+
+def least(runs):
+    """The run of the fewest processor seconds, of those that there are."""
+    return min((run for run in runs if run), key=lambda it: it.seconds, default=None)
 
 
 def exponent(small, great, factor):
     """How the time grows: 1 where it goes with the size."""
-    return math.log(great / small) / math.log(factor)
+    return f'n^{math.log(great / small) / math.log(factor):.2f}' if small > 0 and great > 0 else ''
 
 
-def load():
-    return f'load {os.getloadavg()[0]:.1f} on {os.cpu_count()} processors'
+def machine():
+    return f'load {os.getloadavg()[0]:.1f} on {os.cpu_count()} processors, {PROGRAM}'

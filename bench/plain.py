@@ -41,9 +41,10 @@ class Plain:
         if path != ':memory:':
             self.ask('PRAGMA journal_mode=WAL')
             self.ask('PRAGMA synchronous=FULL')
-        for text in re.findall(r'"(CREATE [^"]*)"', CREATE.read_text(encoding='utf-8')):
-            self.ask(text)
-        self.ask('INSERT INTO meta VALUES (1, 2, ?, ?, 1, 1, 1, 1, 1)', CODE, TODAY)
+        if self.ask('SELECT 1 FROM sqlite_master').fetchone() is None:
+            for text in re.findall(r'"(CREATE [^"]*)"', CREATE.read_text(encoding='utf-8')):
+                self.ask(text)
+            self.ask('INSERT INTO meta VALUES (1, 2, ?, ?, 1, 1, 1, 1, 1)', CODE, TODAY)
 
     def ask(self, text, *values):
         return self.database.execute(text, values)

@@ -1,56 +1,86 @@
-"""Requests a second of `goo run`, in memory and on a file, each workload at n, 2n and 4n requests, beside the baseline in the same run.
+"""`goo declare` of a table and `goo run` of lines (declarations, trades, trades sent twice), beside the same requests by plain.rs and plain.py.
 
-usage: python3 bench/requests.py [memory|file]
+usage: python3 bench/requests.py [memory|tmpfs|disk ..]
 
-Prints a table: processor seconds, requests a second, peak memory, the growth as a fitted exponent, and the ratio to the baseline (bench/plain.py, in memory or on
-a file as well). Program and baseline take turns, three times; of each the least counts. On a file each request is a transaction that is synced.
+Each row: the processor seconds of the largest size, requests a second, peak memory, and how the time grows over n, 2n and 4n requests. Program and baselines take turns,
+and of each the least counts. The processor seconds of program and plain.rs are those of the whole process, those of plain.py of its transactions alone.
+On the disk, which takes most of the time, there is one size. A table needs a file; the baselines are given its rows as lines.
 """
 import sys
 from pathlib import Path
 
-from measured import NEW, exponent, goo, load, plain, room, workload
+from measured import HEAD, NEW, PLACES, exponent, goo, head, least, machine, measured_row, python, room, rust_run, usable, workload
 
-RUNS = 3
-SIZES = {'declarations': (25_000, 50_000, 100_000), 'trades': (5_000, 10_000, 20_000)}
+TURNS = 2
+SIZES = {'table': (8_000, 16_000, 32_000), 'declarations': (8_000, 16_000, 32_000), 'trades': (3_000, 6_000, 12_000)}
+ON_DISK = (1_500,)
+WORKS = [('table', 1), ('declarations', 1), ('trades', 1), ('trades', 2)]
+TITLES = {'table': '`declare`, rows', 'declarations': '`run`, declarations', 'trades': '`run`, trades'}
 
 
-def pair(place, lines, folder):
-    """One run of the program and one of the baseline."""
-    if place == 'memory':
-        return goo('run', '--memory', *NEW, given=lines), plain(lines)
-    ours, theirs = folder / 'registry', folder / 'plain'
-    for path in (ours, theirs):
+class Work:
+    """One workload of one size, in one place."""
+
+    def __init__(self, place, name, times, size, folder):
+        self.place, self.folder, self.is_table = place, folder, name == 'table'
+        self.given = self.lines = folder / 'given'
+        self.count = workload(name, size, self.given, times)
+        if self.is_table:
+            self.lines, self.before = folder / 'lines', folder / 'before'
+            self.count = workload('rows', size, self.lines)
+            workload('devices', size, self.before)
+
+    def fresh(self, name):
+        """The path of a file that is not there yet."""
+        path = self.folder / name
         for ending in ('', '-wal', '-shm'):
             Path(f'{path}{ending}').unlink(missing_ok=True)
-    goo('init', '--db', ours, *NEW)
-    return goo('run', '--db', ours, given=lines), plain(lines, theirs)
+        return path
+
+    def ours(self):
+        if self.place == 'memory':
+            return goo('run', '--memory', *NEW, given=self.given)
+        path = self.fresh('registry')
+        goo('init', '--db', path, *NEW)
+        if self.is_table:
+            goo('run', '--db', path, given=self.before)
+        return goo('declare' if self.is_table else 'run', '--db', path, given=self.given)
+
+    def of_rust(self):
+        path = None if self.place == 'memory' else self.fresh('rust')
+        if self.is_table:
+            rust_run(path, given=self.before)
+        return rust_run(path, given=self.lines)
+
+    def of_python(self):
+        path = ':memory:' if self.place == 'memory' else self.fresh('python')
+        if self.is_table:
+            python(self.before, path)
+        return python(self.lines, path)
 
 
-def measure(place, name, times, folder):
-    """One workload at three sizes; sent a second time every request is repeated."""
-    seconds = []
-    for size in SIZES[name]:
-        count = workload(name, size, folder / 'lines', times)
-        pairs = [pair(place, folder / 'lines', folder) for _ in range(RUNS)]
-        ours, theirs = min((it for it, _ in pairs), key=lambda it: it.seconds), min(it for _, it in pairs)
-        seconds.append(ours.seconds)
-        title = f'{name}{", sent twice" if times > 1 else ""}'
-        print(f'| {title} | {count:,} | {ours.seconds:.2f} | {count / ours.seconds:,.0f} | {ours.memory:.0f} MB | {theirs[0]:.2f} | {ours.seconds / theirs[0]:.2f} |', flush=True)
-    print(f'| | | grows as n^{exponent(seconds[0], seconds[-1], 4):.2f} | | | | |', flush=True)
+def measure(place, name, times):
+    """Prints the row of one workload in one place."""
+    sizes = ON_DISK if place == 'disk' else SIZES[name]
+    with room(place) as folder:
+        smaller = [Work(place, name, times, size, folder).ours().seconds for size in sizes[:-1]]
+        work = Work(place, name, times, sizes[-1], folder)
+        turns = [(work.ours(), work.of_rust(), work.of_python()) for _ in range(1 if place == 'disk' else TURNS)]
+        ours, of_rust = least(it[0] for it in turns), least(it[1] for it in turns)
+        growth = exponent(smaller[0], ours.seconds, 4) if smaller else ''
+        measured_row(f'{TITLES[name]}{" sent twice" if times > 1 else ""}', place, work.count, ours, growth, of_rust, min(it[2] for it in turns))
 
 
 def main(places):
-    for place in places:
-        print(f'{place}, {load()}\n\n| Workload | Requests | Processor seconds | Requests a second | Peak memory | sqlite3 seconds | Ratio |')
-        print('|---|---|---|---|---|---|---|')
-        with room() as folder:
-            measure(place, 'declarations', 1, folder)
-            measure(place, 'trades', 1, folder)
-            measure(place, 'trades', 2, folder)
-        print(flush=True)
+    for name, times in WORKS:
+        for place in places:
+            if not (name == 'table' and place == 'memory'):
+                measure(place, name, times)
 
 
 if __name__ == '__main__':
-    if not set(sys.argv[1:]) <= {'memory', 'file'}:
+    if not set(sys.argv[1:]) <= PLACES.keys():
         sys.exit(__doc__)
-    main(sys.argv[1:] or ['memory', 'file'])
+    print(f'{machine()}\n')
+    head(HEAD)
+    main([place for place in sys.argv[1:] or PLACES if usable(place)])

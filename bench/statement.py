@@ -1,20 +1,20 @@
-"""Seconds and peak memory of `goo statement`, of an account of 10, 1,000 and 100,000 runs, beside Python's sqlite3 module printing the same text.
+"""Opening a file and `goo statement`, of an account of n, 2n and 4n runs, beside Python's sqlite3 module printing the same text by one ordered query.
 
-usage: python3 bench/statement.py [RUNS ..]
+usage: python3 bench/statement.py
 
-Opening reads and judges all tables, whatever is asked then: so a run over the same file that asks for nothing is measured beside it, and what a statement takes beyond
-that is its own. The baseline goes over the rows of the account by one ordered query. Both texts are compared, byte for byte.
-
-What a statement holds while it is written is measured apart (bench/live.c): the most bytes that are live between its first and its last write, and beside it those of a statement of ten
-runs, of another account of the same file.
+Opening reads and judges all tables, whatever is asked then: it is measured by a run over the same file that asks for nothing, and what a statement takes beyond that is its own.
+Both texts are compared, byte for byte. What a statement holds while it is written is measured apart (live.c): the most bytes that are live between its first and its last
+write, and beside it those of a statement of ten runs, of another account of the same file. The files lie on tmpfs where there is one.
 """
 import sqlite3
 import sys
 import time
 from contextlib import closing
 
-from measured import NEW, goo, live, load, room, workload
+from measured import HEAD, NEW, exponent, fast, goo, head, least, live, machine, measured_row, room, rust_run, workload
 
+TURNS = 3
+SIZES = (10_000, 20_000, 40_000)
 QUERY = '''SELECT first, last, device, first_day, last_day, tech, source FROM piece JOIN lot ON lot.id = piece.lot WHERE account = 1 AND kind = 1 ORDER BY first'''
 
 
@@ -32,28 +32,36 @@ def plain(path, to):
     return time.process_time() - start
 
 
-def main(sizes):
-    print(load())
-    print('| Runs | Processor seconds | of which opening | Peak memory | of which opening | sqlite3 seconds | Ratio without opening |\n|---|---|---|---|---|---|---|')
-    wrong = 0
-    for runs in sizes:
-        with room() as folder:
-            workload('runs', runs, folder / 'lines')
-            goo('init', '--db', folder / 'registry', *NEW)
-            goo('run', '--db', folder / 'registry', given=folder / 'lines')
-            opening = min((goo('run', '--db', folder / 'registry') for _ in range(3)), key=lambda it: it.seconds)
-            run = min((goo('statement', '1', '--db', folder / 'registry', to=folder / 'ours') for _ in range(3)), key=lambda it: it.seconds)
-            theirs = min(plain(folder / 'registry', folder / 'theirs') for _ in range(3))
-            own = run.seconds - opening.seconds
-            print(f'| {runs:,} | {run.seconds:.2f} | {opening.seconds:.2f} | {run.memory:.0f} MB | {opening.memory:.0f} MB | {theirs:.2f} | {own / theirs:.2f} |', flush=True)
-            if (folder / 'ours').read_bytes() != (folder / 'theirs').read_bytes():
-                print('the two texts differ')
-                wrong = 1
-            whole, ten = (live(folder, 'statement', account, '--db', folder / 'registry') for account in (1, 3))
-            if whole and ten:
-                print(f'  live while it is written: {whole[2]:,} bytes at most in {whole[0]:,} writes; a statement of ten runs {ten[2]:,} in {ten[0]:,}', flush=True)
-    return wrong
+def measure(place, runs):
+    """The best runs over a file of so many runs: opening it, its opening by plain.rs, the statement beyond that, and the query."""
+    with room(place) as folder:
+        workload('runs', runs, folder / 'lines')
+        goo('init', '--db', folder / 'registry', *NEW)
+        goo('run', '--db', folder / 'registry', given=folder / 'lines')
+        opening = least(goo('run', '--db', folder / 'registry') for _ in range(TURNS))
+        of_rust = least(rust_run(folder / 'registry') for _ in range(TURNS))
+        own = least(goo('statement', '1', '--db', folder / 'registry', to=folder / 'ours') for _ in range(TURNS))
+        own.seconds, own.clock = max(own.seconds - opening.seconds, 0.001), max(own.clock - opening.clock, 0.001)
+        of_python = min(plain(folder / 'registry', folder / 'theirs') for _ in range(TURNS))
+        if (folder / 'ours').read_bytes() != (folder / 'theirs').read_bytes():
+            sys.exit('the two statements differ')
+        return opening, of_rust, own, of_python, [live(folder, 'statement', account, '--db', folder / 'registry') for account in (1, 3)]
+
+
+def main():
+    """Prints the two rows, and gives back what is to be said below the table."""
+    place = fast()
+    smaller, _, (opening, of_rust, own, of_python, (whole, ten)) = (measure(place, runs) for runs in SIZES)
+    measured_row('opening a file, runs', place, SIZES[-1], opening, exponent(smaller[0].seconds, opening.seconds, 4), of_rust)
+    measured_row('`statement` beyond opening, runs', place, SIZES[-1], own, exponent(smaller[2].seconds, own.seconds, 4), None, of_python)
+    if not whole or not ten:
+        return ''
+    return f'While the statement of {SIZES[-1]:,} runs is written {whole[2]:,} bytes are live at most, and {ten[2]:,} while one of ten runs of the same file is.'
 
 
 if __name__ == '__main__':
-    sys.exit(main([int(word) for word in sys.argv[1:]] or [10, 1_000, 100_000]))
+    if len(sys.argv) != 1:
+        sys.exit(__doc__)
+    print(f'{machine()}\n')
+    head(HEAD)
+    print(f'\n{main()}')

@@ -1,12 +1,13 @@
 """Prints the request lines of a workload, deterministic by its seed. Each request is one that a new registry accepts.
 
-usage: python3 bench/workloads.py (declarations|trades|devices|table|runs) N
+usage: python3 bench/workloads.py (declarations|trades|devices|table|rows|runs) N
 
 declarations: devices, each with the twelve months of 2024 declared, N lines in all.
 trades:       1,200,000 certificates of one lot, N transfers of random sub-ranges of at most 51 among 50 accounts, and then
               a cancellation for every tenth of them.
 devices:      what a registry needs before a table of N rows.
 table:        such a table as CSV: the twelve months of 2024 of each of these devices.
+rows:         the rows of that table as request lines.
 runs:         certificates of one lot, every second of which goes to another account: N runs in the first account; ten of them to a third one.
 """
 import calendar
@@ -48,9 +49,9 @@ def holders(count):
         yield line(ISSUING_BODY, command='open_account', holder=f'H{number}', key=f'a{number}')
 
 
-def months(device, index):
+def months(device, index, most=12):
     """The twelve months of 2024 of one device, 1,234 certificates and a carry each."""
-    for month in range(1, 13):
+    for month in range(1, most + 1):
         last = calendar.monthrange(2024, month)[1]
         yield line(ISSUING_BODY, aux_wh=0, command='declare', device=device, first_day=f'2024-{month:02d}-01',
                    gross_wh=1_234_567_891, key=f'd{index}.{month}', last_day=f'2024-{month:02d}-{last}')
@@ -103,6 +104,11 @@ def table(rows):
         yield f'd{index}.{month},{device_number(index)},2024-{month:02d}-01,2024-{month:02d}-{last},1234567891,0'
 
 
+def rows_as_lines(rows):
+    for index in range(rows // 12 + 1):
+        yield from months(device_number(index + 1), index + 1, min(12, rows - 12 * index))
+
+
 def runs(count):
     yield from holders(3)
     device = device_number(1)
@@ -113,7 +119,7 @@ def runs(count):
         yield line('H1', command='transfer', first=number, giver=1, key=f't{index}', last=number, taker=3 if index < TEN else 2)
 
 
-WORKLOADS = {'declarations': declarations, 'trades': trades, 'devices': devices, 'table': table, 'runs': runs}
+WORKLOADS = {'declarations': declarations, 'trades': trades, 'devices': devices, 'table': table, 'rows': rows_as_lines, 'runs': runs}
 
 if __name__ == '__main__':
     if len(sys.argv) != 3 or sys.argv[1] not in WORKLOADS:
