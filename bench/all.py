@@ -38,7 +38,8 @@ def machine():
     with open('/proc/cpuinfo', encoding='utf-8') as lines:
         model = next((line.split(':')[1].strip() for line in lines if line.startswith('model name')), 'a processor')
     beside = f', {words_of("rustc", "--version")}' if rust() else ''
-    return f'{datetime.date.today()}, {os.cpu_count()} processors ({model}), load {os.getloadavg()[0]:.1f} at the beginning, Python {sys.version.split()[0]} with SQLite {sqlite3.sqlite_version}{beside}.'
+    where = f'{os.cpu_count()} processors ({model}), load {os.getloadavg()[0]:.1f} at the beginning'
+    return f'{datetime.date.today()}, {where}, Python {sys.version.split()[0]} with SQLite {sqlite3.sqlite_version}{beside}.'
 
 
 def tables():

@@ -68,11 +68,16 @@ def ratio(one, other):
     return f'{one / other:.2f}' if other else ''
 
 
-def measured_row(work, place, count, run, growth, of_rust=None, of_python=None):
+def megabytes(run):
+    """The peak of a run; of a short one it was not seen."""
+    return f'{run.memory:.0f}' if run.clock > 0.1 else ''
+
+
+def measured_row(work, place, count, run, grows, of_rust=None, of_python=None):
     """A row of the table that HEAD heads."""
-    rates = [f'{run.seconds:.2f}', f'{count / run.seconds:,.0f}', f'{count / run.clock:,.0f}' if run.clock else '', f'{run.memory:.0f}']
-    beside = [f'{of_rust.seconds:.2f}', ratio(run.seconds, of_rust.seconds), f'{of_rust.memory:.0f}'] if of_rust else [''] * 3
-    row([work, place, f'{count:,}', *rates, growth, *beside, *([f'{of_python:.2f}', ratio(run.seconds, of_python)] if of_python else [''] * 2)])
+    rates = [f'{run.seconds:.2f}', f'{count / run.seconds:,.0f}', f'{count / run.clock:,.0f}', megabytes(run)]
+    beside = [f'{of_rust.seconds:.2f}', ratio(run.seconds, of_rust.seconds), megabytes(of_rust)] if of_rust else [''] * 3
+    row([work, place, f'{count:,}', *rates, grows, *beside, *([f'{of_python:.2f}', ratio(run.seconds, of_python)] if of_python else [''] * 2)])
 
 
 @functools.cache
@@ -205,9 +210,9 @@ def least(runs):
     return min((run for run in runs if run), key=lambda it: it.seconds, default=None)
 
 
-def exponent(small, great, factor):
-    """How the time grows: 1 where it goes with the size."""
-    return f'n^{math.log(great / small) / math.log(factor):.2f}' if small > 0 and great > 0 else ''
+def growth(seconds):
+    """How the time grows each time that the size is doubled: 1 where it goes with the size."""
+    return ', '.join(f'n^{math.log2(more / less):.2f}' for less, more in zip(seconds, seconds[1:]))
 
 
 def machine():

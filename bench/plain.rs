@@ -55,7 +55,11 @@ fn name<T>(code: u8, name: &'static str, number: i64) -> Done<T> {
 }
 
 fn check(fine: bool, code: u8, name: &'static str) -> Done<()> {
-    if fine { Ok(()) } else { refuse(code, name) }
+    if fine {
+        Ok(())
+    } else {
+        refuse(code, name)
+    }
 }
 
 fn text<'a>(of: &'a Map<String, Value>, member: &str) -> Done<&'a str> {
@@ -299,7 +303,9 @@ impl Plain {
             match old.iter().find(|one| one.first == piece.first) {
                 Some(one) if one == piece => 0,
                 Some(one) if one.place == piece.place => self.put("UPDATE piece SET last = ? WHERE first = ?", [piece.last, piece.first])?,
-                Some(_) => self.put("UPDATE piece SET last = ?, kind = ?, account = ?, act = ? WHERE first = ?", [piece.last, kind, account, act, piece.first])?,
+                Some(_) => {
+                    self.put("UPDATE piece SET last = ?, kind = ?, account = ?, act = ? WHERE first = ?", [piece.last, kind, account, act, piece.first])?
+                }
                 None => self.put("INSERT INTO piece VALUES (?, ?, ?, ?, ?, ?)", [piece.first, piece.last, piece.lot, kind, account, act])?,
             };
         }
@@ -349,7 +355,9 @@ impl Plain {
             Ok(text) => Ok(text),
             Err(Stop::Shape) => Ok(r#"{"fault":"Shape","outcome":"unreadable"}"#.into()),
             Err(Stop::Refused(code, name, None)) => Ok(format!(r#"{{"code":{},"name":"{}","outcome":"refused"}}"#, code, name)),
-            Err(Stop::Refused(code, name, Some(number))) => Ok(format!(r#"{{"code":{},"name":"{}","number":"{:014}","outcome":"refused"}}"#, code, name, number)),
+            Err(Stop::Refused(code, name, Some(number))) => {
+                Ok(format!(r#"{{"code":{},"name":"{}","number":"{:014}","outcome":"refused"}}"#, code, name, number))
+            }
             Err(Stop::Failed(error)) => Err(error),
         }
     }

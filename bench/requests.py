@@ -9,7 +9,7 @@ On the disk, which takes most of the time, there is one size. A table needs a fi
 import sys
 from pathlib import Path
 
-from measured import HEAD, NEW, PLACES, exponent, goo, head, least, machine, measured_row, python, room, rust_run, usable, workload
+from measured import HEAD, NEW, PLACES, goo, growth, head, least, machine, measured_row, python, room, rust_run, usable, workload
 
 TURNS = 2
 SIZES = {'table': (8_000, 16_000, 32_000), 'declarations': (8_000, 16_000, 32_000), 'trades': (3_000, 6_000, 12_000)}
@@ -67,8 +67,7 @@ def measure(place, name, times):
         work = Work(place, name, times, sizes[-1], folder)
         turns = [(work.ours(), work.of_rust(), work.of_python()) for _ in range(1 if place == 'disk' else TURNS)]
         ours, of_rust = least(it[0] for it in turns), least(it[1] for it in turns)
-        growth = exponent(smaller[0], ours.seconds, 4) if smaller else ''
-        measured_row(f'{TITLES[name]}{" sent twice" if times > 1 else ""}', place, work.count, ours, growth, of_rust, min(it[2] for it in turns))
+        measured_row(f'{TITLES[name]}{" sent twice" if times > 1 else ""}', place, work.count, ours, growth([*smaller, ours.seconds]), of_rust, min(it[2] for it in turns))
 
 
 def main(places):

@@ -1,8 +1,9 @@
-"""Opening a file and `goo statement`, of an account of n, 2n and 4n runs, beside Python's sqlite3 module printing the same text by one ordered query.
+"""Opening a file, and `goo statement` of an account of n, 2n and 4n runs, beside Python's sqlite3 module printing the same text by one ordered query.
 
 usage: python3 bench/statement.py
 
-Opening reads and judges all tables, whatever is asked then: it is measured by a run over the same file that asks for nothing, and what a statement takes beyond that is its own.
+Opening reads and judges all tables, whatever is asked then: it is measured by a run over the same file that asks for nothing, and what a statement takes beyond that is
+its own. plain.rs judges nothing when it opens the file. The statement's peak of memory is that of the whole run, opening too.
 Both texts are compared, byte for byte. What a statement holds while it is written is measured apart (live.c): the most bytes that are live between its first and its last
 write, and beside it those of a statement of ten runs, of another account of the same file. The files lie on tmpfs where there is one.
 """
@@ -11,10 +12,10 @@ import sys
 import time
 from contextlib import closing
 
-from measured import HEAD, NEW, exponent, fast, goo, head, least, live, machine, measured_row, room, rust_run, workload
+from measured import HEAD, NEW, fast, goo, growth, head, least, live, machine, measured_row, room, rust_run, workload
 
 TURNS = 3
-SIZES = (10_000, 20_000, 40_000)
+SIZES = (8_000, 16_000, 32_000)
 QUERY = '''SELECT first, last, device, first_day, last_day, tech, source FROM piece JOIN lot ON lot.id = piece.lot WHERE account = 1 AND kind = 1 ORDER BY first'''
 
 
@@ -32,14 +33,23 @@ def plain(path, to):
     return time.process_time() - start
 
 
+def opened(folder, name, size):
+    """Makes a file by a workload; the best runs that open it and ask for nothing, by the program and by plain.rs."""
+    workload(name, size, folder / 'lines')
+    goo('init', '--db', folder / 'registry', *NEW)
+    goo('run', '--db', folder / 'registry', given=folder / 'lines')
+    return least(goo('run', '--db', folder / 'registry') for _ in range(TURNS)), least(rust_run(folder / 'registry') for _ in range(TURNS))
+
+
+def of_declarations(place, size):
+    with room(place) as folder:
+        return opened(folder, 'declarations', size)
+
+
 def measure(place, runs):
     """The best runs over a file of so many runs: opening it, its opening by plain.rs, the statement beyond that, and the query."""
     with room(place) as folder:
-        workload('runs', runs, folder / 'lines')
-        goo('init', '--db', folder / 'registry', *NEW)
-        goo('run', '--db', folder / 'registry', given=folder / 'lines')
-        opening = least(goo('run', '--db', folder / 'registry') for _ in range(TURNS))
-        of_rust = least(rust_run(folder / 'registry') for _ in range(TURNS))
+        opening, of_rust = opened(folder, 'runs', runs)
         own = least(goo('statement', '1', '--db', folder / 'registry', to=folder / 'ours') for _ in range(TURNS))
         own.seconds, own.clock = max(own.seconds - opening.seconds, 0.001), max(own.clock - opening.clock, 0.001)
         of_python = min(plain(folder / 'registry', folder / 'theirs') for _ in range(TURNS))
@@ -49,11 +59,14 @@ def measure(place, runs):
 
 
 def main():
-    """Prints the two rows, and gives back what is to be said below the table."""
+    """Prints the rows, and gives back what is to be said below the table."""
     place = fast()
-    smaller, _, (opening, of_rust, own, of_python, (whole, ten)) = (measure(place, runs) for runs in SIZES)
-    measured_row('opening a file, runs', place, SIZES[-1], opening, exponent(smaller[0].seconds, opening.seconds, 4), of_rust)
-    measured_row('`statement` beyond opening, runs', place, SIZES[-1], own, exponent(smaller[2].seconds, own.seconds, 4), None, of_python)
+    found = [of_declarations(place, size) for size in SIZES]
+    measured_row('opening a file, declarations', place, SIZES[-1], found[-1][0], growth([it[0].seconds for it in found]), found[-1][1])
+    found = [measure(place, runs) for runs in SIZES]
+    opening, of_rust, own, of_python, (whole, ten) = found[-1]
+    measured_row('opening a file, runs', place, SIZES[-1], opening, growth([it[0].seconds for it in found]), of_rust)
+    measured_row('`statement` beyond opening, runs', place, SIZES[-1], own, growth([it[2].seconds for it in found]), None, of_python)
     if not whole or not ten:
         return ''
     return f'While the statement of {SIZES[-1]:,} runs is written {whole[2]:,} bytes are live at most, and {ten[2]:,} while one of ten runs of the same file is.'
