@@ -41,9 +41,9 @@ def owner_at(text, place):
 
 
 def is_by_hand(crate, file, function, goal, owner=None):
-    """Whether a goal of this function of a file, or of a closure in it, is answered by hand. Of functions of one name, that of this owner is meant."""
+    """Whether a goal of this function of a file is answered by hand. Of functions of one name, that of this owner is meant."""
     stands = folders_of(crate, file)
-    return any(by_hand and goal == answered and function in folders and owner in (None, *folders) and stands(folders) for folders, answered, by_hand in answers_of(crate))
+    return any(by_hand and goal == answered and function == folders[-1] and owner in (None, *folders) and stands(folders) for folders, answered, by_hand in answers_of(crate))
 
 
 def stands_by_hand(crate, place, goal):
