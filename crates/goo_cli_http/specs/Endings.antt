@@ -12,3 +12,4 @@ ending_of_server (Ok done) = ending.Done
 ending_of_server (Err server.Write) = ending.Failed failure.Write
 ending_of_server (Err server.Accept) = ending.Failed failure.Read
 ending_of_server (Err server.Store) = ending.Failed failure.Store
+ending_of_server (Err server.Memory) = ending.Failed failure.Memory

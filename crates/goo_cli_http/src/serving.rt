@@ -21,6 +21,7 @@ fn ending_of(served: Result<(), ServerFault>) -> Ending
         Err(ServerFault::Write) => Ending::Failed(Failure::Write),
         Err(ServerFault::Accept) => Ending::Failed(Failure::Read),
         Err(ServerFault::Store) => Ending::Failed(Failure::Store),
+        Err(ServerFault::Memory) => Ending::Failed(Failure::Memory),
     }
 }
 

@@ -13,5 +13,6 @@ pub use goo_desk_connection::{ServeFault, Served, serve_one};
 pub use goo_desk_counter::Counter;
 pub use goo_desk_lines::{LinesFault, Tally, run_lines};
 pub use goo_desk_responses::Status;
+pub use goo_desk_routes::Routes;
 pub use goo_desk_server::{ServerFault, serve, serve_stream};
 pub use law::one_response;

@@ -13,7 +13,7 @@ use crate::show::answer_show;
 use goo_desk_counter::Counter;
 use goo_desk_heads::{Method, Received, Refusal, RefusedHead, is_for_head, read_request};
 use goo_desk_responses::{Status, fixed_response};
-use goo_desk_routes::Task;
+use goo_desk_routes::{Routes, Task};
 use goo_types::fault::Fault;
 use goo_types::holder_code::HolderCode;
 use std::alloc::{AllocError, Global};
@@ -89,6 +89,7 @@ fn answer_handled<D: Counter>(
 /// The answer to what all the bytes of a stream come to.
 fn answer_request<D: Counter>(
     alloc: Global,
+    routes: &Routes,
     desk: &mut D,
     request: &Result<Received<'_>, RefusedHead>,
 ) -> Result<Answer, Fault>
@@ -104,13 +105,33 @@ fn answer_request<D: Counter>(
             Ok(answer_fixed(alloc, status, None, refused.is_head)?)
         }
         Ok(request) => {
-            let handling = handling_for(alloc, request)?;
+            let handling = handling_for(routes, request);
             answer_handled(alloc, desk, request, handling)
         }
     }
 }
 
-/// The answer to all the bytes that a stream holds.
+/// The answer to all the bytes that a stream holds, by the routes of the registry.
+///
+/// # Errors
+///
+/// As for [`answer`].
+pub fn answer_by_routes<D: Counter>(
+    alloc: Global,
+    routes: &Routes,
+    desk: &mut D,
+    bytes: &[u8],
+) -> Result<Answer, Fault>
+    ensures answered { (D.seen desk.new).lies ≡ 0 → IfOk result (λ answer. Responds D.shows D.imports (D.seen desk.old).state bytes.now answer.status answer.bytes.items (D.seen desk.new).state) }
+    ensures stopped { (D.seen desk.new).doubts ≡ 0 → OnErr result (Fails D.imports D.begins (D.seen desk.old).state bytes.now (D.seen desk.new).state) }
+    ensures doubted { (D.seen desk.new).doubts ≡ 0 → (D.seen desk.old).doubts ≡ 0 }
+    ensures lied { (D.seen desk.new).lies ≡ 0 → (D.seen desk.old).lies ≡ 0 }
+    ensures told { (D.seen desk.old).refusals ≡ 0 → IsTold result (D.seen desk.new).refusals }
+{
+    answer_request(alloc, routes, desk, &read_request(bytes))
+}
+
+/// The answer to all the bytes that a stream holds. The routes are made for it alone.
 ///
 /// # Errors
 ///
@@ -123,5 +144,7 @@ pub fn answer<D: Counter>(alloc: Global, desk: &mut D, bytes: &[u8]) -> Result<A
     ensures lied { (D.seen desk.new).lies ≡ 0 → (D.seen desk.old).lies ≡ 0 }
     ensures told { (D.seen desk.old).refusals ≡ 0 → IsTold result (D.seen desk.new).refusals }
 {
-    answer_request(alloc, desk, &read_request(bytes))
+    let request = read_request(bytes);
+    let routes = Routes::new(alloc)?;
+    answer_request(alloc, &routes, desk, &request)
 }

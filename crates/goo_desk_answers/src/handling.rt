@@ -1,13 +1,12 @@
 //! What a whole request is to be answered with.
-ghost use Rattle.std.specs.Prelude.{◌≡◌, IfOk, option_map};
+ghost use Rattle.std.specs.Prelude.{◌≡◌, option_map};
 ghost use Rattle.goo_desk_heads.specs.Requests.{parts_of};
 ghost use Rattle.goo_desk_answers.specs.Handling.{handling_of, caller_by, handling_by_caller, handling_by_route, handling_by_task};
 
 use goo_desk_heads::{Method, Received};
 use goo_desk_responses::Status;
-use goo_desk_routes::{Met, Task, find_route, task_of};
+use goo_desk_routes::{Met, Routes, Task, task_of};
 use goo_types::holder_code::HolderCode;
-use std::alloc::{AllocError, Global};
 
 /// What a whole request is to be answered with.
 #[derive(Clone, Copy)]
@@ -63,14 +62,9 @@ fn for_route(request: &Received<'_>, met: &Option<Met<'_>>) -> Handling
 }
 
 /// What a whole request is to be answered with.
-///
-/// # Errors
-///
-/// Where there is no memory for the routes.
 #[tactic(auto, unfolding(crate::specs::Handling::handling_of))]
-pub(crate) fn handling_for(alloc: Global, request: &Received<'_>) -> Result<Handling, AllocError>
-    ensures { IfOk result (λ handling. handling ≡ handling_of (parts_of request.now)) }
+pub(crate) fn handling_for(routes: &Routes, request: &Received<'_>) -> Handling
+    ensures { result ≡ handling_of (parts_of request.now) }
 {
-    let met = find_route(alloc, request.target)?;
-    Ok(for_route(request, &met))
+    for_route(request, &routes.find(request.target))
 }

@@ -12,5 +12,5 @@ mod handling;
 mod import;
 mod show;
 
-pub use desk::answer;
+pub use desk::{answer, answer_by_routes};
 pub use handling::Handling;

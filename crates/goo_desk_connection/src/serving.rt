@@ -8,9 +8,10 @@ ghost use Rattle.goo_desk_connection.specs.declared.serve_fault.ServeFault.TheVa
 use crate::reading::read_decided;
 use crate::sending::{Served, apology};
 use crate::serve_fault::ServeFault;
-use goo_desk_answers::answer;
+use goo_desk_answers::answer_by_routes;
 use goo_desk_counter::Counter;
 use goo_desk_responses::Status;
+use goo_desk_routes::Routes;
 use goo_files_streams::write_whole;
 use goo_types::fault::Fault;
 use std::alloc::Global;
@@ -19,6 +20,7 @@ use std::io::{Read, Write};
 /// Answers these bytes.
 fn serve_bytes<D: Counter, W: Write>(
     alloc: Global,
+    routes: &Routes,
     desk: &mut D,
     bytes: &[u8],
     writer: &mut W,
@@ -32,7 +34,7 @@ fn serve_bytes<D: Counter, W: Write>(
     ensures lied { (D.seen desk.new).lies ≡ 0 → (D.seen desk.old).lies ≡ 0 }
     ensures told { (D.seen desk.old).refusals ≡ 0 → IsToldIn result (D.seen desk.new).refusals }
 {
-    match answer(alloc, desk, bytes) {
+    match answer_by_routes(alloc, routes, desk, bytes) {
         Ok(answer) => {
             write_whole(writer, &answer.bytes)?;
             Ok(Served {
@@ -52,7 +54,34 @@ fn serve_bytes<D: Counter, W: Write>(
     }
 }
 
-/// Reads a request until it is decided, and answers it. The caller closes the connection.
+/// Reads a request until it is decided, and answers it by the routes of the registry. The caller closes the connection.
+///
+/// Want of memory in answering is answered 503.
+///
+/// # Errors
+///
+/// See [`ServeFault`].
+pub fn serve_by_routes<D: Counter, R: Read, W: Write>(
+    alloc: Global,
+    routes: &Routes,
+    desk: &mut D,
+    reader: &mut R,
+    writer: &mut W,
+) -> Result<Served, ServeFault>
+    ensures served { IfSome (R.remaining reader.old) (λ input. IfOk result (λ served. Sends D.shows D.imports D.begins (D.seen desk.old).state input served.status (D.seen desk.new) (W.contents writer.old) (W.contents writer.new))) }
+    ensures part { IfSome (R.remaining reader.old) (λ input. IfErr result (λ fault. fault ≡ Writing → SendsPart D.shows D.imports D.begins (D.seen desk.old).state input (D.seen desk.new) (W.contents writer.old) (W.contents writer.new))) }
+    ensures excuse { IfSome (R.remaining reader.old) (λ input. IfErr result (λ fault. fault ≡ Store → SendsExcuse D.shows D.imports D.begins (D.seen desk.old).state input (D.seen desk.new) (W.contents writer.old) (W.contents writer.new))) }
+    ensures connects { Connects D.shows D.imports D.begins (D.seen desk.old) (D.seen desk.new) }
+    ensures unapplied { IfErr result (λ fault. IsBeforeAnswer fault → (D.seen desk.new).state ≡ (D.seen desk.old).state) }
+    ensures silent { IfErr result (λ fault. IsBeforeAnswer fault → Keeps (W.contents writer.old) (W.contents writer.new)) }
+    ensures lied { (D.seen desk.new).lies ≡ 0 → (D.seen desk.old).lies ≡ 0 }
+    ensures told { (D.seen desk.old).refusals ≡ 0 → IsToldIn result (D.seen desk.new).refusals }
+{
+    let bytes = read_decided(alloc, reader)?;
+    serve_bytes(alloc, routes, desk, &bytes, writer)
+}
+
+/// Makes the routes, reads a request until it is decided, and answers it. The caller closes the connection.
 ///
 /// Want of memory in answering is answered 503.
 ///
@@ -74,6 +103,8 @@ pub fn serve_one<D: Counter, R: Read, W: Write>(
     ensures lied { (D.seen desk.new).lies ≡ 0 → (D.seen desk.old).lies ≡ 0 }
     ensures told { (D.seen desk.old).refusals ≡ 0 → IsToldIn result (D.seen desk.new).refusals }
 {
-    let bytes = read_decided(alloc, reader)?;
-    serve_bytes(alloc, desk, &bytes, writer)
+    let Ok(routes) = Routes::new(alloc) else {
+        return Err(ServeFault::Memory);
+    };
+    serve_by_routes(alloc, &routes, desk, reader, writer)
 }

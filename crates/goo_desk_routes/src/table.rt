@@ -16,19 +16,26 @@ pub struct Met<'p> {
     pub part: &'p [u8],
 }
 
+/// The routes of the registry, in a router that finds them. They are made once, and serve any number of requests.
+#[derive(Drop)]
+pub struct Routes {
+    router: Router<Route>,
+    ghost known: { router ≡ goo_desk_routes },
+}
+
 /// A router of the registry's routes.
-fn make_routes(alloc: Global) -> Result<Router<Route>, InsertError>
+fn make_router(alloc: Global) -> Result<Router<Route>, InsertError>
     ensures { IfOk result (λ rows. rows ≡ goo_desk_routes) }
 {
-    let mut routes = Router::new(alloc);
-    routes.insert("/v1/requests", Route::Requests)?;
-    routes.insert("/v1/declarations", Route::Declarations)?;
-    routes.insert("/v1/accounts/{a}/statement", Route::Statement)?;
-    routes.insert("/v1/certificates/{n}", Route::Certificate)?;
-    routes.insert("/v1/cancellations/{k}", Route::Cancellation)?;
-    routes.insert("/v1/notices/{k}", Route::Notice)?;
-    routes.insert("/v1/audit", Route::Audit)?;
-    Ok(routes)
+    let mut router = Router::new(alloc);
+    router.insert("/v1/requests", Route::Requests)?;
+    router.insert("/v1/declarations", Route::Declarations)?;
+    router.insert("/v1/accounts/{a}/statement", Route::Statement)?;
+    router.insert("/v1/certificates/{n}", Route::Certificate)?;
+    router.insert("/v1/cancellations/{k}", Route::Cancellation)?;
+    router.insert("/v1/notices/{k}", Route::Notice)?;
+    router.insert("/v1/audit", Route::Audit)?;
+    Ok(router)
 }
 
 /// The route that a path meets in a router.
@@ -62,20 +69,27 @@ fn is_path(target: &[u8]) -> bool
     }
 }
 
-/// The route that a target meets, if it meets one.
-///
-/// # Errors
-///
-/// `AllocError` where memory for the routes was refused.
-#[tactic(auto, unfolding(crate::specs::Routes::found_by))]
-pub fn find_route<'p>(alloc: Global, target: &'p str) -> Result<Option<Met<'p>>, AllocError>
-    ensures { IfOk result (λ found. option_map (λ m. (m.route, m.part.now)) found ≡ found_by target.now) }
-{
-    if !is_path(target.as_bytes()) {
-        return Ok(None);
+impl Routes {
+    /// The routes of the registry.
+    ///
+    /// # Errors
+    ///
+    /// `AllocError` where memory for them was refused.
+    pub fn new(alloc: Global) -> Result<Routes, AllocError> {
+        match make_router(alloc) {
+            Ok(router) => Ok(Routes { router }),
+            Err(_) => Err(AllocError),
+        }
     }
-    match make_routes(alloc) {
-        Ok(routes) => Ok(met_by(&routes, target)),
-        Err(_) => Err(AllocError),
+
+    /// The route that a target meets, if it meets one.
+    #[tactic(auto, unfolding(crate::specs::Routes::found_by))]
+    pub fn find<'p>(&self, target: &'p str) -> Option<Met<'p>>
+        ensures { option_map (λ m. (m.route, m.part.now)) result ≡ found_by target.now }
+    {
+        if !is_path(target.as_bytes()) {
+            return None;
+        }
+        met_by(&self.router, target)
     }
 }

@@ -4,7 +4,7 @@ use Rattle.goo_registry_desk.specs.Desk.{Seen}
 use Rattle.goo_desk_counter.specs.Counters.{Showing, Importing, Beginning}
 use Rattle.goo_desk_connection.specs.Serving.{Connects}
 use Rattle.goo_desk_server.specs.declared.server_fault.ServerFault.{ServerFault}
-use Rattle.goo_desk_server.specs.declared.server_fault.ServerFault.TheVariants.{Write, Accept, Store}
+use Rattle.goo_desk_server.specs.declared.server_fault.ServerFault.TheVariants.{Write, Accept, Store, Memory}
 
 module _ (shows : Showing) (imports : Importing) (begins : Beginning) where
   -- so many connections, one after another: each goes on from what the one before left
@@ -21,6 +21,7 @@ abbrev pub IsToldBy : ServerFault → ℕ → Type 0
 IsToldBy Write refusals = refusals ≡ 0
 IsToldBy Accept refusals = refusals ≡ 0
 IsToldBy Store refusals = refusals ≡ 1
+IsToldBy Memory refusals = refusals ≡ 0
 
 abbrev pub IsToldIn : {T : Type 0} → Result T ServerFault → ℕ → Type 0
 IsToldIn (Ok x) refusals = refusals ≡ 0

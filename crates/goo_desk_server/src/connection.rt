@@ -6,13 +6,14 @@ ghost use Rattle.goo_desk_connection.specs.Serving.{Connects};
 use crate::deadline::deadline;
 use crate::receiver::Receiver;
 use crate::sender::Sender;
-use goo_desk_connection::{ServeFault, Served, serve_one};
+use goo_desk_connection::{ServeFault, Served, serve_by_routes};
 use goo_desk_counter::Counter;
+use goo_desk_routes::Routes;
 use std::alloc::Global;
 use std::net::TcpStream;
 use std::time::Clock;
 
-/// Serves an accepted connection: its client has ten seconds to send a request and ten to take the answer, in all and not for each
+/// Serves an accepted connection by the routes of the registry: its client has ten seconds to send a request and ten to take the answer, in all and not for each
 /// call. The caller closes it.
 ///
 /// # Errors
@@ -20,6 +21,7 @@ use std::time::Clock;
 /// See [`ServeFault`]: what a deadline cuts off is a `Read` or a `Write`.
 pub fn serve_stream<D: Counter, C: Clock>(
     alloc: Global,
+    routes: &Routes,
     clock: &C,
     desk: &mut D,
     stream: &TcpStream,
@@ -42,5 +44,5 @@ pub fn serve_stream<D: Counter, C: Clock>(
         stream,
         until: None,
     };
-    serve_one(alloc, desk, &mut receiver, &mut sender)
+    serve_by_routes(alloc, routes, desk, &mut receiver, &mut sender)
 }

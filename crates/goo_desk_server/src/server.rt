@@ -9,6 +9,7 @@ use crate::server_fault::ServerFault;
 use arrayvec::ArrayString;
 use goo_desk_connection::ServeFault;
 use goo_desk_counter::Counter;
+use goo_desk_routes::Routes;
 use goo_files_streams::{WriteFault, write_whole};
 use itoa::Buffer;
 use std::alloc::Global;
@@ -42,6 +43,7 @@ fn announce<W: Write>(port: u16, writer: &mut W) -> Result<(), WriteFault>
 /// Accepts a connection, serves it and closes it. Whatever is wrong with the client ends this connection alone.
 fn serve_next<D: Counter, C: Clock>(
     alloc: Global,
+    routes: &Routes,
     clock: &C,
     desk: &mut D,
     listener: &TcpListener,
@@ -53,7 +55,7 @@ fn serve_next<D: Counter, C: Clock>(
     let Ok((stream, _)) = listener.accept() else {
         return Err(ServerFault::Accept);
     };
-    match serve_stream(alloc, clock, desk, &stream) {
+    match serve_stream(alloc, routes, clock, desk, &stream) {
         Err(ServeFault::Store) => Err(ServerFault::Store),
         _ => Ok(()),
     }
@@ -62,6 +64,7 @@ fn serve_next<D: Counter, C: Clock>(
 /// Serves so many connections in turn.
 fn serve_all<D: Counter, C: Clock>(
     alloc: Global,
+    routes: &Routes,
     clock: &C,
     desk: &mut D,
     listener: &TcpListener,
@@ -72,9 +75,31 @@ fn serve_all<D: Counter, C: Clock>(
     ensures told { (D.seen desk.old).refusals ≡ 0 → IsToldIn result (D.seen desk.new).refusals }
 {
     for _ in 0..count {
-        serve_next(alloc, clock, desk, listener)?;
+        serve_next(alloc, routes, clock, desk, listener)?;
     }
     Ok(())
+}
+
+/// Tells where it listens, and serves so many connections in turn.
+fn serve_by_routes<D: Counter, C: Clock, W: Write>(
+    alloc: Global,
+    routes: &Routes,
+    clock: &C,
+    desk: &mut D,
+    listener: &TcpListener,
+    port: u16,
+    count: u32,
+    writer: &mut W,
+) -> Result<(), ServerFault>
+    ensures announced { OnOk result (Appends (W.contents writer.old) (W.contents writer.new) (codes "listening 127.0.0.1:" ++ (decimal port ++ codes "\n"))) }
+    ensures steps { StepsUpTo D.shows D.imports D.begins count (D.seen desk.old) (D.seen desk.new) }
+    ensures lied { (D.seen desk.new).lies ≡ 0 → (D.seen desk.old).lies ≡ 0 }
+    ensures told { (D.seen desk.old).refusals ≡ 0 → IsToldIn result (D.seen desk.new).refusals }
+{
+    match announce(port, writer) {
+        Ok(()) => serve_all(alloc, routes, clock, desk, listener, count),
+        Err(_) => Err(ServerFault::Write),
+    }
 }
 
 /// Tells on `writer` at which port of 127.0.0.1 it listens, and flushes that; then serves `count` connections, one after another.
@@ -98,8 +123,8 @@ pub fn serve<D: Counter, C: Clock, W: Write>(
     ensures lied { (D.seen desk.new).lies ≡ 0 → (D.seen desk.old).lies ≡ 0 }
     ensures told { (D.seen desk.old).refusals ≡ 0 → IsToldIn result (D.seen desk.new).refusals }
 {
-    match announce(port, writer) {
-        Ok(()) => serve_all(alloc, clock, desk, listener, count),
-        Err(_) => Err(ServerFault::Write),
-    }
+    let Ok(routes) = Routes::new(alloc) else {
+        return Err(ServerFault::Memory);
+    };
+    serve_by_routes(alloc, &routes, clock, desk, listener, port, count, writer)
 }

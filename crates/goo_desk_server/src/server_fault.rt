@@ -7,4 +7,6 @@ pub enum ServerFault {
     Accept,
     /// What keeps the records failed.
     Store,
+    /// There was no room for the routes. Nobody was told that it listens.
+    Memory,
 }

@@ -1,5 +1,5 @@
 use Rattle.goo_desk_server.proofs.Connecting.{steps-none}
 use Rattle.goo_desk_server.proofs.server.serve.Goals as goal
 
-pub returns-in-Err-clause-steps : goal.returns-in-Err-clause-steps
-returns-in-Err-clause-steps g c = steps-none g.D.Counter.shows g.D.Counter.imports g.D.Counter.begins c.args.count (g.D.Desk.seen c.args.desk.now)
+pub returns-in_default-clause-steps : goal.returns-in_default-clause-steps
+returns-in_default-clause-steps g c = steps-none g.D.Counter.shows g.D.Counter.imports g.D.Counter.begins c.args.count (g.D.Desk.seen c.args.desk.now)

@@ -1,6 +1,6 @@
 use Rattle.goo_desk_connection.specs.declared.serve_fault.ServeFault.TheVariants.{Write, Store}
 use Rattle.goo_desk_connection.proofs.ServeFacts.{bytes-connect, sends-stands, part-stands, excuse-stands}
-use Rattle.goo_desk_connection.proofs.serving.serve_one.Goals as goal
+use Rattle.goo_desk_connection.proofs.serving.serve_by_routes.Goals as goal
 
 pub returns-clause-served : goal.returns-clause-served
 returns-clause-served g c =
