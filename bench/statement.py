@@ -2,8 +2,8 @@
 
 usage: python3 bench/statement.py
 
-Opening reads and judges all tables, whatever is asked then: it is measured by a run over the same file that asks for nothing, and what a statement takes beyond that is
-its own. plain.rs judges nothing when it opens the file. The statement's peak of memory is that of the whole run, opening too.
+Opening reads and judges all tables, whatever is asked then: it is measured by a run over the same file that asks for nothing, beside SQLite's own `integrity_check`. What a
+statement takes beyond that is its own; its peak of memory is that of the whole run, opening too.
 Both texts are compared, byte for byte. What a statement holds while it is written is measured apart (live.c): the most bytes that are live between its first and its last
 write, and beside it those of a statement of ten runs, of another account of the same file. The files lie on tmpfs where there is one.
 """
@@ -12,7 +12,7 @@ import sys
 import time
 from contextlib import closing
 
-from measured import HEAD, NEW, fast, goo, growth, head, least, live, machine, measured_row, room, rust_run, workload
+from measured import HEAD, NEW, fast, goo, growth, head, least, live, machine, measured_row, room, workload
 
 TURNS = 3
 SIZES = (8_000, 16_000, 32_000)
@@ -33,12 +33,21 @@ def plain(path, to):
     return time.process_time() - start
 
 
+def checked(path):
+    """SQLite's own check of a file; the processor seconds."""
+    start = time.process_time()
+    with closing(sqlite3.connect(path)) as database:
+        if database.execute('PRAGMA integrity_check').fetchall() != [('ok',)]:
+            sys.exit(f'{path} is not sound')
+    return time.process_time() - start
+
+
 def opened(folder, name, size):
-    """Makes a file by a workload; the best runs that open it and ask for nothing, by the program and by plain.rs."""
+    """Makes a file by a workload; the best run that opens it and asks for nothing, and the least seconds of SQLite's check."""
     workload(name, size, folder / 'lines')
     goo('init', '--db', folder / 'registry', *NEW)
     goo('run', '--db', folder / 'registry', given=folder / 'lines')
-    return least(goo('run', '--db', folder / 'registry') for _ in range(TURNS)), least(rust_run(folder / 'registry') for _ in range(TURNS))
+    return least(goo('run', '--db', folder / 'registry') for _ in range(TURNS)), min(checked(folder / 'registry') for _ in range(TURNS))
 
 
 def of_declarations(place, size):
@@ -47,25 +56,25 @@ def of_declarations(place, size):
 
 
 def measure(place, runs):
-    """The best runs over a file of so many runs: opening it, its opening by plain.rs, the statement beyond that, and the query."""
+    """The best over a file of so many runs: opening it, SQLite's check, the statement beyond opening, the query, and what is live."""
     with room(place) as folder:
-        opening, of_rust = opened(folder, 'runs', runs)
+        opening, check = opened(folder, 'runs', runs)
         own = least(goo('statement', '1', '--db', folder / 'registry', to=folder / 'ours') for _ in range(TURNS))
         own.seconds, own.clock = max(own.seconds - opening.seconds, 0.001), max(own.clock - opening.clock, 0.001)
         of_python = min(plain(folder / 'registry', folder / 'theirs') for _ in range(TURNS))
         if (folder / 'ours').read_bytes() != (folder / 'theirs').read_bytes():
             sys.exit('the two statements differ')
-        return opening, of_rust, own, of_python, [live(folder, 'statement', account, '--db', folder / 'registry') for account in (1, 3)]
+        return opening, check, own, of_python, [live(folder, 'statement', account, '--db', folder / 'registry') for account in (1, 3)]
 
 
 def main():
     """Prints the rows, and gives back what is to be said below the table."""
     place = fast()
     found = [of_declarations(place, size) for size in SIZES]
-    measured_row('opening a file, declarations', place, SIZES[-1], found[-1][0], growth([it[0].seconds for it in found]), found[-1][1])
+    measured_row('opening a file, declarations', place, SIZES[-1], found[-1][0], growth([it[0].seconds for it in found]), None, found[-1][1])
     found = [measure(place, runs) for runs in SIZES]
-    opening, of_rust, own, of_python, (whole, ten) = found[-1]
-    measured_row('opening a file, runs', place, SIZES[-1], opening, growth([it[0].seconds for it in found]), of_rust)
+    opening, check, own, of_python, (whole, ten) = found[-1]
+    measured_row('opening a file, runs', place, SIZES[-1], opening, growth([it[0].seconds for it in found]), None, check)
     measured_row('`statement` beyond opening, runs', place, SIZES[-1], own, growth([it[2].seconds for it in found]), None, of_python)
     if not whole or not ten:
         return ''
