@@ -60,7 +60,7 @@ fn judge<S: Shelf>(
     match command {
         Command::OpenHolder(x) => Ok(quiet(alloc, judge_open_holder(shelf, caller, x)?)),
         Command::OpenAccount(x) => Ok(quiet(alloc, judge_open_account(shelf, caller, x)?)),
-        Command::CloseAccount(x) => Ok(quiet(alloc, judge_close_account(alloc, shelf, caller, x)?)),
+        Command::CloseAccount(x) => Ok(quiet(alloc, judge_close_account(shelf, caller, x)?)),
         Command::RegisterDevice(x) => Ok(quiet(alloc, judge_register_device(shelf, caller, x)?)),
         Command::Declare(x) => judge_declare(alloc, shelf, caller, x),
         Command::Correct(x) => judge_correct(alloc, shelf, caller, x),

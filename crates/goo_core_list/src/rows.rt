@@ -9,7 +9,8 @@ ghost use Rattle.goo_core_shelf.specs.Rows.{naming_account, EndsFrom};
 ghost use Rattle.goo_core_shelf.specs.Sought.{is_sought};
 ghost use Rattle.goo_spec.specs.Energy.{is_issued_to, is_taken_back, is_corrected};
 ghost use Rattle.goo_ranges_rows.specs.Certificates.{certificates_of, issued_in, corrected_in};
-ghost use Rattle.std.specs.List.{filter};
+ghost use Rattle.std.specs.List.{filter, list_any};
+ghost use Rattle.goo_spec.specs.Lots.{is_held_by};
 ghost use Rattle.goo_core_list.specs.Rows.{inserts};
 
 use crate::corrections::Corrections;
@@ -102,6 +103,16 @@ fn add_naming(met: &mut Vec<Piece>, rows: &[Piece], account: AccountNo) -> Resul
     Ok(())
 }
 
+/// Whether an account holds one of some rows.
+fn holds_one(rows: &[Piece], account: AccountNo) -> bool
+    ensures { result ≡ list_any (λ p. is_held_by account p.place) rows.now }
+{
+    rows.iter().any(|row| match row.place {
+        Place::Held(holder) => holder == account,
+        _ => false,
+    })
+}
+
 /// The first of those rows that a look-up is for and that end at a number or after it.
 fn first_sought(rows: &[Piece], sought: &Sought, from: u64) -> Option<Piece>
     ensures { result ≡ first_of (ending_from from (filter (is_sought sought.now) rows.now)) }
@@ -169,6 +180,18 @@ impl Rows {
             add_naming(&mut met, page.rows(), account)?;
         }
         Ok(met)
+    }
+
+    /// Whether an account holds one of the rows.
+    pub fn holds(&self, account: AccountNo) -> bool
+        ensures { result ≡ list_any (λ p. is_held_by account p.place) self.now.pieces }
+    {
+        for page in self.pieces.pages() {
+            if holds_one(page.rows(), account) {
+                return true;
+            }
+        }
+        false
     }
 
     /// The first row that a look-up is for and that ends at a number or after it.

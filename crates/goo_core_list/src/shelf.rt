@@ -139,6 +139,10 @@ impl Shelf for ListShelf {
         self.rows.pieces_of(alloc, account)
     }
 
+    fn holds(&mut self, account: AccountNo) -> Result<bool, Fault> {
+        Ok(self.rows.holds(account))
+    }
+
     fn next_of(
         &mut self,
         account: AccountNo,

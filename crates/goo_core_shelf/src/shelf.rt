@@ -35,9 +35,10 @@ use std::alloc::Global;
 pub trait Shelf {
     ghost use Rattle.std.specs.Prelude.{◌≡◌, IfOk};
     ghost use Rattle.std.specs.FinMap.{get, contains_key};
+    ghost use Rattle.std.specs.List.{list_any};
     ghost use Rattle.goo_types.specs.Piece.{IsRising};
     ghost use Rattle.goo_spec.specs.Correct.{correctable as lowerable};
-    ghost use Rattle.goo_spec.specs.Lots.{lot_key};
+    ghost use Rattle.goo_spec.specs.Lots.{lot_key, is_held_by};
     ghost use Rattle.goo_ranges_rows.specs.Rows.{meeting as near};
     ghost use Rattle.goo_core_shelf.specs.Counters.{counters_of};
     ghost use Rattle.goo_core_shelf.specs.Meta.{meta_of};
@@ -211,6 +212,14 @@ pub trait Shelf {
     fn pieces_of(&mut self, alloc: Global, account: AccountNo) -> Result<Vec<Piece>, Fault>
         ensures looks { Looks (seen self.old) (seen self.new) result (λ met. met.items ≡ naming_account account (seen self.old).rows) }
         ensures rising { IfOk result (λ met. IsRising met.items) };
+
+    /// Whether an account holds a certificate.
+    ///
+    /// # Errors
+    ///
+    /// `Store` where `refused_calls` is 1 as the call ends, `Memory` where memory was refused. State and rows stay.
+    fn holds(&mut self, account: AccountNo) -> Result<bool, Fault>
+        ensures { Looks (seen self.old) (seen self.new) result (λ holds. holds ≡ list_any (λ p. is_held_by account p.place) (seen self.old).rows) };
 
     /// The least row whose place names an account and that ends after a number, or the least of all its
     /// rows; None where there is no such row.

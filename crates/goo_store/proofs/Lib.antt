@@ -12,6 +12,7 @@ pub mod Gathering
 pub mod CommitBlamed
 pub mod Next
 pub mod NextRow
+pub mod HeldFound
 pub mod CreationBlamed
 pub mod SumLemmas
 pub mod FirstTables

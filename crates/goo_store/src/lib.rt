@@ -10,6 +10,7 @@ mod creating;
 mod declarations;
 mod device_numbers;
 mod devices;
+mod held;
 mod holders;
 mod kept_lots;
 mod lots;

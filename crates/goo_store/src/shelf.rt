@@ -34,9 +34,10 @@ impl<S: Alter> Shelf for SqlShelf<S> {
     ghost use Rattle.sqlite.specs.Held.{state as view};
     ghost use Rattle.std.specs.Prelude.{◌≡◌, IfOk, IfSome};
     ghost use Rattle.std.specs.FinMap.{get, contains_key};
+    ghost use Rattle.std.specs.List.{list_any};
     ghost use Rattle.goo_types.specs.Piece.{IsRising};
     ghost use Rattle.goo_spec.specs.Correct.{correctable as lowerable};
-    ghost use Rattle.goo_spec.specs.Lots.{lot_key};
+    ghost use Rattle.goo_spec.specs.Lots.{lot_key, is_held_by};
     ghost use Rattle.goo_ranges_rows.specs.Rows.{meeting as near};
     ghost use Rattle.goo_core_shelf.specs.Counters.{counters_of};
     ghost use Rattle.goo_core_shelf.specs.Meta.{meta_of};
@@ -192,6 +193,13 @@ impl<S: Alter> Shelf for SqlShelf<S> {
         ensures rising { IfOk result (λ met. IsRising met.items) }
     {
         self.look_up_pieces_of(alloc, account)
+    }
+
+    fn holds(&mut self, account: AccountNo) -> Result<bool, Fault>
+        ensures looks { Looks (moment (view S.Store self.old.conn) self.old.refused) (moment (view S.Store self.new.conn) self.new.refused) result (λ holds. holds ≡ list_any (λ p. is_held_by account p.place) (moment (view S.Store self.old.conn) self.old.refused).rows) }
+        ensures store { BlamesStore (view S.Store self.old.conn) (view S.Store self.new.conn) self.old.refused result }
+    {
+        self.look_up_holding(account)
     }
 
     fn next_of(&mut self, account: AccountNo, after: Option<Number>) -> Result<Option<Piece>, Fault>

@@ -19,7 +19,7 @@ use Rattle.sqlite_typed.proofs.AnswerLemmas.{at_end, last_table, answer_by_keys,
 use Rattle.sqlite_typed.proofs.TestLemmas.{last_key}
 use Rattle.sqlite_keyed.specs.Keyed.{IsKeyedBy}
 use Rattle.sqlite_keyed.proofs.KeyedLemmas.{Less-from_lt}
-use Rattle.sqlite_keyed.proofs.ListLemmas.{ascending_weaker}
+use Rattle.sqlite_keyed.proofs.ListLemmas.{ascending_weaker, ascending-filter, IsPermutation-same}
 use Rattle.std.proofs.lemmas.List.Sorted.{IsPermutation-reverse}
 use Rattle.std.proofs.lemmas.List.Elements.{All-cons, All-head, All-tail, All-take}
 use Rattle.std.proofs.lemmas.Map.Views.{All-map-IsPermutation}
@@ -32,7 +32,7 @@ use Rattle.goo_tables_rows.specs.Stands.{Keeps}
 use Rattle.goo_tables_rows.proofs.Meeting.{IsTyped, typed_rows, listed_met, kept_met}
 use Rattle.goo_tables_rows.proofs.Ordered.{keyed_rows}
 use Rattle.goo_tables_rows.proofs.Read.{all_read, first_read}
-use Rattle.goo_tables_holdings.proofs.Queries.{in_order, last_of}
+use Rattle.goo_tables_holdings.proofs.Queries.{in_order, first_in_order, last_of}
 
 -- the rows that a query in the order of the rowids shows
 module _ {Y : Type 0} (tree : ℕ) (row : Y → Row) (key : Y → ℤ) (keyed : (y : Y) → column (row y) 0 ≡ Int (key y)) (trees : Trees) (plain : overlay trees [] tree ≡ trees tree) (filter_by columns : List Term) (params : Row) (p : Y → Bool) (show : Y → Row)
@@ -99,6 +99,25 @@ top_read l [] None first = refl
 top_read l [] (Some x) first = absurd first
 top_read l (y ∷ ys) None first = absurd first
 top_read l (y ∷ ys) (Some x) first = ap Some (l.same y x first)
+
+-- the first row that passes
+module _ {X Y Z : Type 0} (l : TableOf X Y Z) (old : State) {ys : List Y} (keeps : Keeps (old.now.trees l.table.tree) l.row l.key ys) (filter_by : List Term) (params : Row) where
+  shown_first : (p : Y → Bool) → ((y : Y) → list_all (holds (params ∷ l.row y ∷ [])) filter_by ≡ p y)
+      → (rows : List Row) → IsAnswer (first_in_order l.table.tree filter_by l.columns) (overlay old.now.trees []) params rows → rows ≡ take 1 (map l.show (filter p ys))
+  shown_first p tests rows answer =
+      let db = overlay old.now.trees [] in
+      let source = last_table db l.table.tree l.row l.key ys (l.plain old.now.trees ∙ keeps.are) keeps.rise (at_end db) in
+      let rises = ascending_weaker _ _ (λ a b h. last_key (ap₂ value_cmp (l.keyed a) (l.keyed b) ∙ value_cmp-Int (l.key a) (l.key b)) ∙ Less-from_lt (l.key a) (l.key b) h) _ (ascending-filter (λ a b. l.key a <ℤ l.key b) p ys keeps.rise) in
+      answer_listed (first_in_order l.table.tree filter_by l.columns) db params source p tests l.show (l.shows params) refl refl (filter p ys) (IsPermutation-same _ _ refl) rises rows answer
+
+  pub finds_first : (p : Y → Bool) → ((y : Y) → list_all (holds (params ∷ l.row y ∷ [])) filter_by ≡ p y)
+      → (x : Option X) (rows : List Row) → IsAnswer (first_in_order l.table.tree filter_by l.columns) (overlay old.now.trees []) params rows → FirstZip l.reads rows x → option_map l.value x ≡ option_map l.of (find p ys)
+  finds_first p tests x rows answer read = first_read l.reads l.show l.value l.of l.same p ys x (first_left l.reads _ x (subst (λ s. FirstZip l.reads s x) (shown_first p tests rows answer) read))
+
+  pub readable_first : (readable : Row → Type 0) → All readable (map l.show ys) → (rows : List Row) → IsAnswer (first_in_order l.table.tree filter_by l.columns) (overlay old.now.trees []) params rows → All readable rows
+  readable_first readable all rows answer =
+      let p = λ (y : Y). list_all (holds (params ∷ l.row y ∷ [])) filter_by in
+      subst (λ s. All readable s) (sym (shown_first p (λ _. refl) rows answer)) (All-take readable 1 (map l.show (filter p ys)) (readable_left readable l.show p ys all))
 
 -- the row with the highest rowid
 module _ {X Y Z : Type 0} (l : TableOf X Y Z) (old : State) {ys : List Y} (keeps : Keeps (old.now.trees l.table.tree) l.row l.key ys) where

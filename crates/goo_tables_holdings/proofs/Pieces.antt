@@ -1,5 +1,5 @@
 -- What the statements on `piece` do and show.
-use Rattle.std.proofs.Common.{◌≡◌, true, ◌<◌, ◌^◌, None, ℕ, pos, List, [], ◌∷◌, filter, codes, map, map-id, false, Ok, Err, Result, OnOk, refl, sym, ap, subst, ◌∙◌, int_eq, find, Option}
+use Rattle.std.proofs.Common.{◌≡◌, true, ◌<◌, ◌^◌, None, ℕ, pos, List, [], ◌∷◌, filter, codes, map, map-id, ◌&&◌, false, Ok, Err, Result, OnOk, refl, sym, ap, subst, ◌∙◌, int_eq, find, Option}
 use Rattle.std.specs.List.{AllZip}
 use Rattle.sqlite_tied.specs.Compute.{everything}
 use Rattle.sqlite.specs.declared.types.Value.TheVariants.{Null, Int}
@@ -19,7 +19,7 @@ use Rattle.sqlite_rules.specs.Calls.{ids_of}
 use Rattle.sqlite_sql.specs.declared.ops.BinaryOp.TheVariants.{Compare}
 use Rattle.sqlite_sql.specs.declared.ops.CompareOp.TheVariants.{Eq}
 use Rattle.sqlite_typed.proofs.AnswerLemmas.{at_end, last_table}
-use Rattle.sqlite_typed.proofs.TestLemmas.{at_ints, last_term, then_value}
+use Rattle.sqlite_typed.proofs.TestLemmas.{at_ints, last_term, then_term, then_value}
 use Rattle.sqlite_keyed.specs.Lists.{delete_where}
 use Rattle.sqlite_keyed.proofs.ListLemmas.{map-map}
 use Rattle.sqlite_keyed.proofs.KeyedLemmas.{IsKeyedBy-delete_where}
@@ -37,7 +37,7 @@ use Rattle.goo_tables_rows.proofs.One.{answer_of_one, one_keyed}
 use Rattle.goo_tables_rows.proofs.Alone.{pieces_stand}
 use Rattle.goo_tables_rows.proofs.Living.{KeepsLive, keeps_live}
 use Rattle.goo_tables_holdings.specs.Changes.{with_piece, without_piece}
-use Rattle.goo_tables_holdings.proofs.Queries.{in_order, unordered}
+use Rattle.goo_tables_holdings.proofs.Queries.{in_order, first_in_order, unordered}
 use Rattle.goo_tables_rows.specs.First.{IsFirst, HasFirstTables}
 use Rattle.goo_tables_rows.specs.Met.{HasOurTables}
 use Rattle.goo_tables_rows.proofs.Meeting.{type_rules, shape_rules, first_type_rules, first_shape_rules, no_number, int_same}
@@ -50,7 +50,7 @@ use Rattle.goo_tables_rows.specs.Refused.{IsTooBig, IsSmall, is_suited}
 use Rattle.goo_tables_holdings.proofs.Adding.{Adds, adds_row}
 use Rattle.goo_tables_holdings.proofs.Altering as any
 use Rattle.goo_tables_holdings.proofs.Failing.{FailsOnly, not_there, adding_fails}
-use Rattle.goo_tables_holdings.proofs.AnyTable.{TableOf, shown, shows_each, finds_one, IsListed, meets_listed}
+use Rattle.goo_tables_holdings.proofs.AnyTable.{TableOf, shown, shows_each, finds_one, finds_first, IsListed, meets_listed}
 use Rattle.goo_tables_holdings.proofs.Asking.{Asks, AsksFirst, SaysFirst, Tells, Says}
 use Rattle.goo_tables_holdings.proofs.Values.{whole_is, null_at_key}
 
@@ -157,6 +157,28 @@ find_asks = record { names = _; is = refl; plain = (refl, refl); unlisted = refl
 pub finds : (old : State) (first : ℕ) → Says old find_query (Int (pos first) ∷ []) (λ (x : Option PieceRow) rows. FirstZip piece_reads rows x)
     (λ t x. x ≡ find (λ (p : PieceRow). int_eq (piece_key p) (pos first)) t.pieces)
 finds old first t it x rows answer read = sym (option_map_id x) ∙ finds_one pieces old it.pieces _ (Int (pos first) ∷ []) _ (λ x. last_term (at_ints false Eq (piece_key x) (pos first))) x rows answer read ∙ option_map_id _
+
+-- ---- piece: the first row that an account holds
+
+abbrev pub held_text : List ℕ
+held_text = codes "SELECT first, last, lot, kind, account, act FROM piece WHERE account = ?1 AND kind = 1 ORDER BY first LIMIT 1"
+
+abbrev pub held_where : List Term
+held_where = op2 (Compare Eq Binary) (col 1 5) (col 0 0) ∷ op2 (Compare Eq Binary) (col 1 4) (lit (Int (pos 1))) ∷ []
+
+abbrev pub held_query : Query
+held_query = first_in_order 10 held_where pieces.columns
+
+pub held_asks : Asks held_text held_query (λ (account : ℕ). Int (pos account) ∷ [])
+unfolding understood everything
+held_asks = record { names = _; is = refl; plain = (refl, refl); unlisted = refl; suits = λ _. refl }
+
+pub finds_held : (old : State) (account : ℕ) → Says old held_query (Int (pos account) ∷ []) (λ (x : Option PieceRow) rows. FirstZip piece_reads rows x)
+    (λ t x. x ≡ find (λ (p : PieceRow). int_eq (pos p.account) (pos account) && int_eq (pos p.kind) (pos 1)) t.pieces)
+finds_held old account t it x rows answer read =
+    sym (option_map_id x)
+    ∙ finds_first pieces old it.pieces held_where (Int (pos account) ∷ []) _ (λ p. then_term (at_ints false Eq (pos p.account) (pos account)) (last_term (at_ints false Eq (pos p.kind) (pos 1)))) x rows answer read
+    ∙ option_map_id _
 
 -- ---- piece: the whole table
 

@@ -1,6 +1,7 @@
 //! The statements on `piece`.
 
-ghost use Rattle.std.specs.Prelude.{◌≡◌, ⊤, None, ◌<◌, ◌^◌, false, IfOk, OnOk, pos, All, map};
+ghost use Rattle.std.specs.Prelude.{◌≡◌, ⊤, None, ◌<◌, ◌^◌, ◌&&◌, false, IfOk, OnOk, pos, All, find, map};
+ghost use Rattle.std.specs.Ordering.{int_eq};
 ghost use Rattle.sqlite.specs.State.{HasCleanDisk, KeepsCommit, Survives};
 ghost use Rattle.sqlite.specs.Held.{state};
 ghost use Rattle.sqlite_keyed.specs.Keyed.{get_by};
@@ -92,6 +93,31 @@ pub fn find_piece<S: Alter>(
         conn,
         "SELECT first, last, lot, kind, account, act FROM piece WHERE first = ?1 ORDER BY first",
         &[number(first)],
+    )
+}
+
+/// The first of the pieces that the account holds.
+///
+/// # Errors
+///
+/// On the tables of a registry: `SqliteFailure` where memory was refused, the disk failed or an earlier failure
+/// shut the connection, and an error of reading where a row can't be read. The database stays as it was.
+pub fn first_held<S: Alter>(
+    alloc: Global,
+    conn: &mut Connection<S>,
+    account: u32,
+) -> Result<Option<PieceRow>, Error>
+    ensures looks { Looks (state S.Store conn.old) (state S.Store conn.new) result
+        (λ t found. found ≡ find (λ p. int_eq (pos p.account) (pos account) && int_eq (pos p.kind) (pos 1)) t.pieces) }
+    ensures readable { FailsOnlyByFault (state S.Store conn.old) (state S.Store conn.new) result (λ t. All piece_readable (map piece_columns t.pieces)) }
+    ensures refused { FailsByFault (state S.Store conn.old) (state S.Store conn.new) result }
+    ensures outside { conn.old.in_transaction ≡ false → conn.new.in_transaction ≡ false }
+{
+    ask_first(
+        alloc,
+        conn,
+        "SELECT first, last, lot, kind, account, act FROM piece WHERE account = ?1 AND kind = 1 ORDER BY first LIMIT 1",
+        &[small(account)],
     )
 }
 

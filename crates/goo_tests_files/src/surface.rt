@@ -45,7 +45,7 @@ mod statements {
     pub use goo_tables::notice_in::{all_notices_in, find_notice_in, insert_notice_in};
     pub use goo_tables::notice_out::{all_notices_out, find_notice_out, insert_notice_out};
     pub use goo_tables::peer::{all_peers, find_peer, insert_peer};
-    pub use goo_tables::piece::{all_pieces, delete_piece, find_piece, insert_piece};
+    pub use goo_tables::piece::{all_pieces, delete_piece, find_piece, first_held, insert_piece};
     pub use goo_tables::receipt::{all_receipts, find_receipt, insert_receipt};
     pub use goo_tables::withdrawal::{all_withdrawals, find_withdrawal, insert_withdrawal};
 }

@@ -195,6 +195,11 @@ fn is_empty<S: Shelf>(rt: &impl Abort, alloc: Global, shelf: &mut S) {
     let last_day = Day::read(b"2099-12-31").expect(rt, "a day");
     are_none(rt, shelf.meeting(alloc, range));
     are_none(rt, shelf.pieces_of(alloc, account));
+    holds(
+        rt,
+        matches!(shelf.holds(account), Ok(false)),
+        "nothing held",
+    );
     is_none(rt, shelf.next_of(account, None));
     is_none(rt, shelf.next_expiring(last_day, Some(first)));
     holds(
@@ -266,6 +271,14 @@ fn has_declarations<S: Shelf>(rt: &impl Abort, shelf: &mut S) {
     holds(rt, others.is_none(), "another device");
 }
 
+/// The first account holds certificates, and the closed one none.
+fn has_certificates<S: Shelf>(rt: &impl Abort, shelf: &mut S) {
+    let first = AccountNo::new(1).expect(rt, "no account");
+    let closed = AccountNo::new(2).expect(rt, "no account");
+    holds(rt, matches!(shelf.holds(first), Ok(true)), "some held");
+    holds(rt, matches!(shelf.holds(closed), Ok(false)), "none held");
+}
+
 /// The totals of the device.
 fn are_its_totals(rt: &impl Abort, totals: &[DeviceTotals]) {
     holds(
@@ -299,6 +312,7 @@ pub fn finds_members<S: Shelf>(rt: &impl Abort, alloc: Global, shelf: &mut S) {
     has_accounts(rt, shelf);
     has_a_device(rt, shelf);
     has_declarations(rt, shelf);
+    has_certificates(rt, shelf);
     are_its_totals(rt, &shelf.totals(alloc).expect(rt, "totals"));
     has_a_peer(rt, shelf)
 }

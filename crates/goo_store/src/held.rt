@@ -1,0 +1,41 @@
+//! Whether an account holds a certificate, as it is found.
+
+ghost use Rattle.std.specs.Prelude.{◌≡◌, is_some, ⊤};
+ghost use Rattle.std.specs.List.{list_any};
+ghost use Rattle.sqlite.specs.Held.{state as view};
+ghost use Rattle.goo_spec.specs.Lots.{is_held_by};
+ghost use Rattle.goo_core_shelf.specs.Shelf.{Looks};
+ghost use Rattle.goo_store_lookups.specs.Moments.{moment};
+ghost use Rattle.goo_store_lookups.specs.StoreFaults.{BlamesStore};
+ghost use Rattle.goo_store_values.specs.Passing.{Accepts, Passes};
+
+use crate::sql_shelf::SqlShelf;
+use goo_store_values::told::told;
+use goo_store_values::trouble::Trouble;
+use goo_tables_holdings::piece::first_held;
+use goo_tables_rows::piece::PieceRow;
+use goo_types::account_no::AccountNo;
+use goo_types::fault::Fault;
+use sqlite::{Alter, Error};
+
+/// Whether there is a row.
+fn is_there(found: Result<Option<PieceRow>, Error>) -> Result<bool, Trouble>
+    ensures value { Passes found result (λ row there. there ≡ is_some row) }
+    ensures accepts { Accepts found result (λ _. ⊤) }
+{
+    Ok(found?.is_some())
+}
+
+impl<S: Alter> SqlShelf<S> {
+    /// Whether an account holds a certificate: one statement, which shows one row that it holds.
+    pub(crate) fn look_up_holding(&mut self, account: AccountNo) -> Result<bool, Fault>
+        ensures looks { Looks (moment (view S.Store self.old.conn) self.old.refused) (moment (view S.Store self.new.conn) self.new.refused) result (λ holds. holds ≡ list_any (λ p. is_held_by account p.place) (moment (view S.Store self.old.conn) self.old.refused).rows) }
+        ensures store { BlamesStore (view S.Store self.old.conn) (view S.Store self.new.conn) self.old.refused result }
+    {
+        if self.refused {
+            return Err(Fault::Store);
+        }
+        let found = first_held(self.alloc, &mut self.conn, account.get());
+        told(is_there(found), &mut self.refused)
+    }
+}
