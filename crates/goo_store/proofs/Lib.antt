@@ -16,3 +16,4 @@ pub mod CreationBlamed
 pub mod SumLemmas
 pub mod FirstTables
 pub mod HeldLemmas
+pub mod Edges

@@ -1,6 +1,6 @@
 //! Rows that are looked up one at a time: the next one of an account, and the next one that expires.
 
-ghost use Rattle.std.specs.Prelude.{◌≡◌, ◌+◌, ◌<◌, ◌^◌, All, false, find, map, option_map, IfSome};
+ghost use Rattle.std.specs.Prelude.{◌≡◌, ◌↔◌, ◌+◌, ◌<◌, ◌^◌, All, false, find, map, option_map, IfSome, IsOkAnd, IsSomeAnd, IsTrue, Some};
 ghost use Rattle.sqlite.specs.Held.{state as view};
 ghost use Rattle.goo_types.specs.Piece.{IsForward};
 ghost use Rattle.goo_core_shelf.specs.Rows.{EndsFrom};
@@ -13,6 +13,7 @@ ghost use Rattle.goo_store.specs.NextRows.{begins_beyond, IsDated, reaching_beyo
 
 use crate::pieces::is_beyond;
 use goo_core_shelf::sought::{Sought, is_sought};
+use goo_store_values::trouble::Trouble;
 use goo_tables_holdings::joined::{next_expiring, next_of_account};
 use goo_tables_rows::joined::JoinedRow;
 use goo_types::piece::Piece;
@@ -29,6 +30,26 @@ pub fn reaching_row(before: Option<Piece>, sought: &Sought, after: u64) -> Optio
         Some(row)
     } else {
         None
+    }
+}
+
+/// The number at which the row ends that was read, if one was.
+pub fn edge_of(row: &Result<Option<Piece>, Trouble>) -> Option<u64>
+    ensures { IfSome result (λ n. IsOkAnd row.now (λ found. IsSomeAnd found (λ p. p.last ≡ n))) }
+{
+    match row {
+        Ok(Some(piece)) => Some(piece.last.get()),
+        _ => None,
+    }
+}
+
+/// Whether a row is known to end at the number.
+pub fn is_edge(edge: Option<u64>, number: u64) -> bool
+    ensures { IsTrue result ↔ (edge ≡ Some number) }
+{
+    match edge {
+        Some(end) => end == number,
+        None => false,
     }
 }
 

@@ -2,12 +2,13 @@ use Rattle.std.proofs.Common.{◌≡◌, ◌+◌, ◌&&◌, ◌∙◌, nat_le, a
 use Rattle.std.specs.List.{filter}
 use Rattle.sqlite.specs.Held.{state as view}
 use Rattle.goo_tables_rows.proofs.Results.{if_ok}
-use Rattle.goo_store_lookups.specs.Moments.{tables_in}
+use Rattle.goo_store_lookups.specs.Moments.{moment, tables_in}
 use Rattle.goo_spec_tables.specs.Places.{rows_of}
+use Rattle.goo_core_shelf.proofs.Looking.{looked_or_full}
 use Rattle.goo_store_lookups.proofs.Looking.{failed_then, looked_both}
 use Rattle.goo_store_lookups.proofs.Blaming.{blamed_then, blamed_both, blamed_err}
 use Rattle.goo_store.proofs.RowsRead.{near_rises}
-use Rattle.goo_store.proofs.Merging.{near_found}
+use Rattle.goo_store.proofs.Merging.{near_alone, near_found}
 use Rattle.goo_store.proofs.sql_shelf.SqlShelf.look_up_meeting.Goals as goal
 
 pub returns-in_err-later-clause-looks : goal.returns-in_err-later-clause-looks
@@ -56,3 +57,16 @@ returns-clause-store g c =
     (near_rises range (omega (arith, c.first.ensures.limit.rising)) (rows_of (tables_in old)) (c.args.self.now.well.kept fine).rising c.get-first.result c.get-last.result
     (c.get-first.ensures.value ∙ c.first.ensures.value) (c.get-last.ensures.value ∙ c.last.ensures.value) _ _ before
     (c.deref.ensures.value ∙ later ∙ ap (filter (λ p. nat_le c.get-first.result p.first && nat_le p.first (c.get-last.result + 1))) same)))
+
+-- ---- where the row before ends behind the range
+
+pub returns-in-Some-clause-looks : goal.returns-in-Some-clause-looks
+returns-in-Some-clause-looks g c =
+    let old = view g.S.Store c.args.self.now.conn in
+    let mid = c.row_before.new.self in
+    let range = c.args.range in
+    looked_or_full (moment old c.args.self.now.refused) (moment (view g.S.Store mid.conn) mid.refused) c.in_ok-before.before c.alone.result _ _ _ c.in_ok-before.ensures.looks c.alone.ensures.memory c.alone.ensures.value
+    (λ fine before met is.
+    is
+    ∙ near_alone range (omega (arith, c.first.ensures.limit.rising)) (rows_of (tables_in old)) (c.args.self.now.well.kept fine).rising c.get-first.result c.get-last.result
+    (c.get-first.ensures.value ∙ c.first.ensures.value) (c.get-last.ensures.value ∙ c.last.ensures.value) _ before c.in-Some.row (search rules) (search rules))
