@@ -22,7 +22,7 @@ use Rattle.goo_tables_rows.specs.declared.piece.PieceRow.{PieceRow}
 use Rattle.goo_spec_tables.specs.Devices.{device_of}
 use Rattle.goo_spec_tables.specs.States.{state_of}
 use Rattle.goo_spec_tables.specs.Places.{lot_of, piece_of, rows_of}
-use Rattle.goo_store_plans.specs.Found.{IsRowOf, IsBasisOf, IsDeviceOf, IsNext, IsStated, AreStated, AreFindingsOf, AreNone, IsEdge, IsNoBasis}
+use Rattle.goo_store_plans.specs.Found.{IsRowOf, IsBasisOf, IsDeviceOf, IsNext, IsStated, AreStated, AreFindingsOf, AreNone, AreEdges, IsNoBasis}
 use Rattle.goo_store.specs.Found.{IsBeside, Knows, KeepsFound, KeepsDevice, KeepsLot, KeepsLots, KeepsRead, KeepsRow}
 use Rattle.goo_store_lookups.specs.Holding.{sure}
 use Rattle.goo_store_lookups.specs.Moments.{tables_in, IsWell}
@@ -49,16 +49,16 @@ none_known s findings is none = record {
   own = subst (λ o. IsRowOf o (tables_in s)) (sym is.own) tt;
   basis = no_basis (tables_in s) findings.basis is.basis;
   lots = subst (AreStated (tables_in s).lots) (sym is.lots) (All-nil _);
-  edge = subst (λ o. IsEdge o (rows_of (tables_in s))) (sym is.edge) tt;
+  edges = subst (λ e. AreEdges e (rows_of (tables_in s))) (sym is.edges) (record { last = tt; asked = tt });
 }
 
 -- so is what is known after a commit, if that is right, and nothing else that is kept
-pub basis_known : (s : State) (findings : Findings) → AreNone findings → (basis : KnownBasis) → (doubts s ≡ 0 → IsBasisOf basis (tables_in s)) → Knows s (record { own = findings.own; basis = basis; lots = findings.lots; edge = findings.edge })
+pub basis_known : (s : State) (findings : Findings) → AreNone findings → (basis : KnownBasis) → (doubts s ≡ 0 → IsBasisOf basis (tables_in s)) → Knows s (record { own = findings.own; basis = basis; lots = findings.lots; edges = findings.edges })
 basis_known s findings is basis right none = record {
   own = subst (λ o. IsRowOf o (tables_in s)) (sym is.own) tt;
   basis = right none;
   lots = subst (AreStated (tables_in s).lots) (sym is.lots) (All-nil _);
-  edge = subst (λ o. IsEdge o (rows_of (tables_in s))) (sym is.edge) tt;
+  edges = subst (λ e. AreEdges e (rows_of (tables_in s))) (sym is.edges) (record { last = tt; asked = tt });
 }
 
 -- what is kept stays right
@@ -80,13 +80,13 @@ row_known old new it r looks a b knows kept none =
 
 -- what is kept after a look-up for the row is right
 pub own_known : (old new : State) (it : IsWell old) (r : Result (Option MetaRow) Error) → Looks old new r (λ t row. option_map meta_in row ≡ Some t.meta) → (findings : Findings) (b : Option MetaRow) → Knows old findings → KeepsFound r findings.own b
-    → Knows new (record { own = b; basis = findings.basis; lots = findings.lots; edge = findings.edge })
+    → Knows new (record { own = b; basis = findings.basis; lots = findings.lots; edges = findings.edges })
 own_known old new it r looks findings b knows kept none =
     let still = known old new it r _ looks findings knows in record {
       own = row_known old new it r looks findings.own b (λ none. (still none).own) kept none;
       basis = (still none).basis;
       lots = (still none).lots;
-      edge = (still none).edge;
+      edges = (still none).edges;
     }
 
 -- ---- what is kept after a device was looked up
@@ -94,7 +94,7 @@ own_known old new it r looks findings b knows kept none =
 pub device_known : (old new : State) (it : IsWell old) (r : Result (Option DeviceRow) Error) (right : Tables → Option DeviceRow → Type 0) → Looks old new r right → (gsrn : List ℕ)
     → ((row : DeviceRow) → right (tables_in old) (Some row) → get (state_of (tables_in old)).devices gsrn ≡ Some (device_of (device_in row)))
     → (findings : Findings) (b : Option KnownDevice) → Knows old findings → KeepsDevice r gsrn findings.basis.device b
-    → Knows new (record { own = findings.own; basis = record { device = b; number = findings.basis.number; next_lot = findings.basis.next_lot }; lots = findings.lots; edge = findings.edge })
+    → Knows new (record { own = findings.own; basis = record { device = b; number = findings.basis.number; next_lot = findings.basis.next_lot }; lots = findings.lots; edges = findings.edges })
 device_known old new it r right looks gsrn is_it findings b knows kept none =
     let still = known old new it r _ looks findings knows in record {
       own = (still none).own;
@@ -108,7 +108,7 @@ device_known old new it r right looks gsrn is_it findings b knows kept none =
         next_lot = (still none).basis.next_lot;
       };
       lots = (still none).lots;
-      edge = (still none).edge;
+      edges = (still none).edges;
     }
   where
     there : (q : Result (Option DeviceRow) Error) → IfOk q (right (tables_in old)) → IsOkAnd q (λ row. IsSomeAnd row (λ x. b ≡ Some (record { gsrn = gsrn; device = device_of (device_in x) }))) → IsDeviceOf b (tables_in old)
@@ -154,20 +154,20 @@ pub some_beside : (t : Tables) (test : PieceRow × Lot → Bool) (rows : List Jo
 some_beside t test rows is = unmapped (IsBeside t.lots) joined_in rows (subst (All (IsBeside t.lots)) (sym is) (All-filter test (IsBeside t.lots) (pieces_beside t) (all_beside t.lots t.pieces)))
 
 -- lots that were looked up
-lots_after : (old new : State) (it : IsWell old) {T : Type 0} (r : Result T Error) (right : Tables → T → Type 0) → Looks old new r right → (findings next : Findings) → next.own ≡ findings.own → next.basis ≡ findings.basis → (doubts new ≡ 0 → IsEdge findings.edge (rows_of (tables_in new)) → IsEdge next.edge (rows_of (tables_in new))) → Knows old findings
+lots_after : (old new : State) (it : IsWell old) {T : Type 0} (r : Result T Error) (right : Tables → T → Type 0) → Looks old new r right → (findings next : Findings) → next.own ≡ findings.own → next.basis ≡ findings.basis → (doubts new ≡ 0 → AreEdges findings.edges (rows_of (tables_in new)) → AreEdges next.edges (rows_of (tables_in new))) → Knows old findings
     → (Stands old.now (tables_in old) → IfOk r (right (tables_in old)) → AreStated (tables_in old).lots findings.lots.items → AreStated (tables_in old).lots next.lots.items) → Knows new next
-lots_after old new it r right looks findings next own basis edge knows are none =
+lots_after old new it r right looks findings next own basis edges knows are none =
     let still = known old new it r _ looks findings knows in
     let first = before old new it r _ looks none in record {
       own = subst (λ o. IsRowOf o (tables_in new)) (sym own) (still none).own;
       basis = subst (λ b. IsBasisOf b (tables_in new)) (sym basis) (still none).basis;
       lots = so_still old new it r _ looks (λ t. AreStated t.lots next.lots.items) none (are (it.stands first) (looks.found (sure new none).0 (tables_in old) (it.stands first)) (knows first).lots);
-      edge = edge none (still none).edge;
+      edges = edges none (still none).edges;
     }
 
 pub lots_known : (old new : State) (it : IsWell old) {T : Type 0} (r : Result T Error) (right : Tables → T → Type 0) → Looks old new r right → (rows : T → List JoinedRow) → ((x : T) → right (tables_in old) x → All (λ a. IsBeside (tables_in old).lots (joined_in a)) (rows x))
-    → (findings next : Findings) → next.own ≡ findings.own → next.basis ≡ findings.basis → (doubts new ≡ 0 → IsEdge findings.edge (rows_of (tables_in new)) → IsEdge next.edge (rows_of (tables_in new))) → Knows old findings → KeepsRead r rows findings.lots.items next.lots.items → Knows new next
-lots_known old new it {T} r right looks rows each findings next own basis edge knows kept = lots_after old new it r right looks findings next own basis edge knows (λ stands found are. all r found kept are)
+    → (findings next : Findings) → next.own ≡ findings.own → next.basis ≡ findings.basis → (doubts new ≡ 0 → AreEdges findings.edges (rows_of (tables_in new)) → AreEdges next.edges (rows_of (tables_in new))) → Knows old findings → KeepsRead r rows findings.lots.items next.lots.items → Knows new next
+lots_known old new it {T} r right looks rows each findings next own basis edges knows kept = lots_after old new it r right looks findings next own basis edges knows (λ stands found are. all r found kept are)
   where
     all : (q : Result T Error) → IfOk q (right (tables_in old)) → KeepsRead q rows findings.lots.items next.lots.items → AreStated (tables_in old).lots findings.lots.items → AreStated (tables_in old).lots next.lots.items
     all (Ok x) found keeps are = keeps (tables_in old).lots are (each x found)
@@ -184,8 +184,8 @@ pub kept_row : (found : Result (Option LotRow) Error) (row : LotRow) (old new : 
 kept_row found row old new is kept = subst (λ (f : Result (Option LotRow) Error). KeepsLot f old new) (sym is) kept
 
 pub lot_known : (old new : State) (it : IsWell old) (r : Result (Option LotRow) Error) (test : Lot → Bool) → Looks old new r (λ t found. option_map lot_in found ≡ find test t.lots)
-    → (findings next : Findings) → next.own ≡ findings.own → next.basis ≡ findings.basis → (doubts new ≡ 0 → IsEdge findings.edge (rows_of (tables_in new)) → IsEdge next.edge (rows_of (tables_in new))) → Knows old findings → KeepsLot r findings.lots.items next.lots.items → Knows new next
-lot_known old new it r test looks findings next own basis edge knows kept = lots_after old new it r _ looks findings next own basis edge knows (all r kept)
+    → (findings next : Findings) → next.own ≡ findings.own → next.basis ≡ findings.basis → (doubts new ≡ 0 → AreEdges findings.edges (rows_of (tables_in new)) → AreEdges next.edges (rows_of (tables_in new))) → Knows old findings → KeepsLot r findings.lots.items next.lots.items → Knows new next
+lot_known old new it r test looks findings next own basis edges knows kept = lots_after old new it r _ looks findings next own basis edges knows (all r kept)
   where
     all : (q : Result (Option LotRow) Error) → KeepsLot q findings.lots.items next.lots.items → Stands old.now (tables_in old) → IfOk q (λ found. option_map lot_in found ≡ find test (tables_in old).lots)
         → AreStated (tables_in old).lots findings.lots.items → AreStated (tables_in old).lots next.lots.items

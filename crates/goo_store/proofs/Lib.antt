@@ -17,3 +17,4 @@ pub mod SumLemmas
 pub mod FirstTables
 pub mod HeldLemmas
 pub mod Edges
+pub mod NewNumbers

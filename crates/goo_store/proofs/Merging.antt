@@ -76,7 +76,7 @@ module _ (range : Numbers) where
   -- where the last row before the range ends behind it, none begins in it
   none_within : (low : ℕ) (ps : List Piece) → IsRisingFrom low ps → (q : Piece) → Some q ≡ find begins (reverse ps) → range.last < q.last → filter within ps ≡ []
   none_within low [] rising q found far = refl
-  none_within low (p ∷ ps) rising q found far = go (begins p) refl (find begins (reverse ps)) refl
+  none_within low (p ∷ ps) rising q found far = go (λ o it. none_within (p.last + 1) ps rising.2 q it far) (begins p) refl (find begins (reverse ps)) refl
     where
       found_so : (b : Bool) → begins p ≡ b → (rest : Option Piece) → find begins (reverse ps) ≡ rest → Some q ≡ option_or rest (cond b (Some p) None)
       found_so b is rest are = found ∙ before p ps ∙ (λ i. option_or (are i) (cond (is i) (Some p) None))
@@ -87,12 +87,12 @@ module _ (range : Numbers) where
       same : (a b : Piece) → Some a ≡ Some b → a ≡ b
       same a b is = cc
 
-      go : (b : Bool) → begins p ≡ b → (rest : Option Piece) → find begins (reverse ps) ≡ rest → filter within (p ∷ ps) ≡ []
-      go false is rest are =
+      go : ((o : Piece) → Some q ≡ find begins (reverse ps) → filter within ps ≡ []) → (b : Bool) → begins p ≡ b → (rest : Option Piece) → find begins (reverse ps) ≡ rest → filter within (p ∷ ps) ≡ []
+      go later false is rest are =
           let none = none_below p.first (p ∷ ps) (omega arith, rising.1, rising.2) (ltb-false p.first range.first is) in
           let both : Some q ≡ None = found ∙ none.0 in absurd cc
-      go true is (Some o) are = left_out is (none_within (p.last + 1) ps rising.2 q (found_so true is (Some o) are ∙ sym are) far)
-      go true is None are =
+      go later true is (Some o) are = left_out is (later o (found_so true is (Some o) are ∙ sym are))
+      go later true is None are =
           let it = same q p (found_so true is None are) in
           left_out is (all_beyond (p.last + 1) ps rising.2 (omega (arith, far, ap (λ (x : Piece). x.last) it)))
 
@@ -110,5 +110,5 @@ pub near_alone : (range : Numbers) → range.first ≤ range.last → (rows : Li
 near_alone range forward rows rising low high is_low is_high before first q is far =
     let found : Some q ≡ find (λ p. nat_lt p.first range.first) (reverse rows) = sym is ∙ first ∙ (λ i. find (λ p. nat_lt p.first (is_low i)) (reverse rows)) in
     let reaches : nat_le range.first (q.last + 1) ≡ true = le-leb range.first (q.last + 1) (omega (arith, forward, far, is_high)) in
-    sym (λ i. cond (reaches i) (q ∷ []) [])
+    sym (λ i. cond (reaches i) (q ∷ []) [] ++ [])
     ∙ near_found range forward rows rising range.first range.last refl refl (Some q) [] found (sym (none_within range 0 rows rising q found (omega (arith, far, is_high))))

@@ -22,8 +22,9 @@ use Rattle.goo_tables_rows.specs.declared.piece.PieceRow.{PieceRow}
 use Rattle.goo_spec_tables.specs.Devices.{device_of}
 use Rattle.goo_spec_tables.specs.Places.{rows_of}
 use Rattle.goo_spec_tables.specs.States.{state_of}
-use Rattle.goo_store_plans.specs.Found.{IsRowOf, IsBasisOf, IsDeviceOf, IsEdge, IsNext, AreStated, AreFindingsOf}
+use Rattle.goo_store_plans.specs.Found.{IsRowOf, IsBasisOf, IsDeviceOf, IsEdge, AreEdges, IsNext, AreStated, AreFindingsOf}
 use Rattle.goo_store_lookups.specs.Moments.{tables_in}
+use Rattle.goo_store_plans.specs.declared.findings.Edges.{Edges}
 use Rattle.goo_store_plans.specs.declared.findings.Findings.{Findings}
 use Rattle.goo_store_plans.specs.declared.findings.KnownBasis.{KnownBasis}
 use Rattle.goo_store_plans.specs.declared.findings.KnownDevice.{KnownDevice}
@@ -110,10 +111,13 @@ edge-prop : (edge : Option ℕ) (rows : List Piece) → IsProp (IsEdge edge rows
 edge-prop None rows a b = λ i. tt
 edge-prop (Some n) rows a b = same-prop (list_any (λ p. p.last == n) rows) true a b
 
+edges-prop : (edges : Edges) (rows : List Piece) → IsProp (AreEdges edges rows)
+edges-prop edges rows a b = λ i. record { last = edge-prop edges.last rows a.last b.last i; asked = edge-prop edges.asked rows a.asked b.asked i }
+
 pub Knows-prop : (s : State) (findings : Findings) → IsProp (Knows s findings)
 Knows-prop s findings a b = λ i none. record {
   own = row-prop findings.own (tables_in s) (a none).own (b none).own i;
   basis = basis-prop findings.basis (tables_in s) (a none).basis (b none).basis i;
   lots = lots-prop (tables_in s).lots findings.lots.items (a none).lots (b none).lots i;
-  edge = edge-prop findings.edge (rows_of (tables_in s)) (a none).edge (b none).edge i;
+  edges = edges-prop findings.edges (rows_of (tables_in s)) (a none).edges (b none).edges i;
 }

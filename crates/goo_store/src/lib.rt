@@ -11,6 +11,7 @@ mod declarations;
 mod device_numbers;
 mod devices;
 mod holders;
+mod issuing;
 mod kept_lots;
 mod lots;
 mod lowering;

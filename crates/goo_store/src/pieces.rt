@@ -183,11 +183,11 @@ pub fn read_rising(
 }
 
 /// The piece, if there is one and it is a range that ends above a number.
-pub fn ending_behind(piece: Option<Piece>, last: u64) -> Option<Piece>
-    ensures { IfSome result (λ p. (piece ≡ Some p) × EndsFrom (last + 1) p) }
+pub fn ending_behind(piece: &Option<Piece>, last: u64) -> Option<Piece>
+    ensures { IfSome result (λ p. (piece.now ≡ Some p) × EndsFrom (last + 1) p) }
 {
     match piece {
-        Some(found) if is_beyond(&found, last) => Some(found),
+        Some(found) if is_beyond(found, last) => Some(*found),
         _ => None,
     }
 }
@@ -198,7 +198,7 @@ pub fn alone(alloc: Global, row: Piece) -> Result<Vec<Piece>, Fault>
     ensures memory { IfErr result (λ fault. fault ≡ Fault.Memory) }
 {
     let mut met = Vec::new(alloc);
-    met.push(row)?;
+    met.extend_from_slice(&[row])?;
     Ok(met)
 }
 

@@ -12,7 +12,8 @@ ghost use Rattle.goo_core_shelf.specs.Sought.{is_sought};
 ghost use Rattle.goo_store_lookups.specs.Moments.{moment};
 ghost use Rattle.goo_store_lookups.specs.StoreFaults.{BlamesStore};
 
-use crate::next_rows::{ask_next, edge_of, is_edge, reaching_row};
+use crate::issuing::is_issued_next;
+use crate::next_rows::{ask_next, edges_after, is_clear, reaching_row};
 use crate::pieces::{alone, ending_behind, join_near, read_beyond, read_maybe, read_rising};
 use crate::sql_shelf::SqlShelf;
 use goo_core_shelf::sought::Sought;
@@ -58,8 +59,8 @@ impl<S: Alter> SqlShelf<S> {
         told(rows, &mut self.refused)
     }
 
-    /// The rows with a number of the range or next to one, rising. A range within one row, short of its ends, takes one statement,
-    /// any other two.
+    /// The rows with a number of the range or next to one, rising. A range within one row, short of its ends, takes one statement, and
+    /// so do numbers that are issued next, since no row begins there. Any other range takes two.
     pub(crate) fn look_up_meeting(
         &mut self,
         alloc: Global,
@@ -72,8 +73,11 @@ impl<S: Alter> SqlShelf<S> {
         let first = range.first().get();
         let last = range.last().get();
         let before = self.row_before(alloc, first)?;
-        if let Some(row) = ending_behind(before, last) {
+        if let Some(row) = ending_behind(&before, last) {
             return alone(alloc, row);
+        }
+        if is_issued_next(&self.findings.own, range.first()) {
+            return told(join_near(alloc, range, before, &[]), &mut self.refused);
         }
         let later = self.rows_beginning(alloc, first, last + 1)?;
         told(join_near(alloc, range, before, &later), &mut self.refused)
@@ -123,7 +127,7 @@ impl<S: Alter> SqlShelf<S> {
         }
         let found = ask_next(self.alloc, &mut self.conn, sought, after);
         let row = read_beyond(found, after, &mut self.findings.lots);
-        self.findings.edge = edge_of(&row);
+        self.findings.edges = edges_after(&self.findings.edges, after, &row);
         told(row, &mut self.refused)
     }
 
@@ -145,7 +149,7 @@ impl<S: Alter> SqlShelf<S> {
             return self.first_beyond(sought, 0);
         };
         let after = after.get();
-        if is_edge(self.findings.edge, after) {
+        if is_clear(&self.findings.edges, after) {
             return self.first_beyond(sought, after);
         }
         let before = self.row_before(self.alloc, after + 1)?;

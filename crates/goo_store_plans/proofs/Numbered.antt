@@ -10,8 +10,7 @@ use Rattle.goo_tables_rows.specs.declared.lot.LotRow.{LotRow}
 use Rattle.goo_store_changes.specs.Changes.{made}
 use Rattle.goo_store_changes.specs.declared.change.TableChange.{TableChange}
 use Rattle.goo_store_changes.specs.declared.change.TableChange.TheVariants.{AddHolder, AddAccount, CloseAccount, AddDevice, AddDeclaration, SetProgress, AddLot, DeletePiece, InsertPiece, AddPeer, AddReceipt, AddCancellation, AddWithdrawal, AddNoticeOut, AddNoticeIn, AddCorrection, SetToday, SetCounters}
-use Rattle.goo_store_plans.specs.Found.{AreNumbered, IsBasisOf, IsNext}
-use Rattle.goo_store_plans.specs.declared.findings.KnownBasis.{KnownBasis}
+use Rattle.goo_store_plans.specs.Found.{AreNumbered, IsNext}
 
 -- a row under the next number is the last, and the number after it is next
 pub next_after : {X : Type 0} (key : X → ℤ) (xs : List X) (x : X) (taken : ℕ) (known after : Option ℕ) → key x ≡ pos taken → IsKeyedBy key xs → IsNext known key xs

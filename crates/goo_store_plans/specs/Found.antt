@@ -9,6 +9,7 @@ use Rattle.goo_tables_rows.specs.Rows.{Tables, Lot, declaration_key, lot_key, me
 use Rattle.goo_tables_rows.specs.declared.meta.MetaRow.{MetaRow}
 use Rattle.goo_spec_tables.specs.Places.{lot_of, rows_of}
 use Rattle.goo_spec_tables.specs.States.{state_of}
+use Rattle.goo_store_plans.specs.declared.findings.Edges.{Edges}
 use Rattle.goo_store_plans.specs.declared.findings.Findings.{Findings}
 use Rattle.goo_store_plans.specs.declared.findings.KnownBasis.{KnownBasis}
 use Rattle.goo_store_plans.specs.declared.findings.KnownDevice.{KnownDevice}
@@ -58,16 +59,20 @@ abbrev pub IsEdge : Option ℕ → List Piece → Type 0
 IsEdge None rows = Unit {0}
 IsEdge (Some n) rows = list_any (λ p. p.last == n) rows ≡ true
 
+pub record AreEdges (edges : Edges) (rows : List Piece) : Type 0 where
+  pub last : IsEdge edges.last rows
+  pub asked : IsEdge edges.asked rows
+
 -- all that is kept is so in the tables
 pub record AreFindingsOf (findings : Findings) (t : Tables) : Type 0 where
   pub own : IsRowOf findings.own t
   pub basis : IsBasisOf findings.basis t
   pub lots : AreStated t.lots findings.lots.items
-  pub edge : IsEdge findings.edge (rows_of t)
+  pub edges : AreEdges findings.edges (rows_of t)
 
 -- nothing is kept
 pub record AreNone (findings : Findings) : Type 0 where
   pub own : findings.own ≡ None
   pub basis : IsNoBasis findings.basis
   pub lots : findings.lots.items ≡ []
-  pub edge : findings.edge ≡ None
+  pub edges : findings.edges ≡ record { last = None; asked = None }

@@ -28,6 +28,15 @@ pub struct KnownBasis {
     pub next_lot: Option<u64>,
 }
 
+/// Numbers at which rows are known to end: no row reaches above one of them from below.
+#[derive(Clone, Copy)]
+pub struct Edges {
+    /// Where the row ends that was found last.
+    pub last: Option<u64>,
+    /// Where the one before it ends, by which it was asked for.
+    pub asked: Option<u64>,
+}
+
 /// What look-ups and commits found that a commit needs. All of it is so in the tables; what isn't here, the
 /// commit looks up itself.
 #[derive(Drop)]
@@ -38,8 +47,8 @@ pub struct Findings {
     pub basis: KnownBasis,
     /// Some lots that were found by their keys or beside rows that name them, under their numbers.
     pub lots: Vec<NumberedLot>,
-    /// The number at which a row ends that was found last: no row reaches above it from below.
-    pub edge: Option<u64>,
+    /// Where rows are known to end.
+    pub edges: Edges,
 }
 
 impl KnownBasis {
@@ -64,7 +73,10 @@ impl Findings {
             own: None,
             basis: KnownBasis::none(),
             lots: Vec::new(alloc),
-            edge: None,
+            edges: Edges {
+                last: None,
+                asked: None,
+            },
         }
     }
 }

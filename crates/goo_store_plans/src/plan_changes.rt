@@ -223,7 +223,7 @@ fn changes_by<S: Alter>(
         own,
         basis,
         lots,
-        edge: _,
+        edges: _,
     } = findings;
     let act = command_changes(alloc, conn, own, basis, &lots, plan)?;
     let mut added = act.added;
@@ -254,14 +254,14 @@ pub fn plan_changes<S: Alter>(
         own,
         basis,
         lots,
-        edge,
+        edges,
     } = findings;
     let basis = with_numbers(alloc, conn, basis, &plan.request.command)?;
     let completed = Findings {
         own,
         basis,
         lots,
-        edge,
+        edges,
     };
     let changes = changes_by(alloc, conn, completed, plan)?;
     let after = after_changes(&basis, &changes);

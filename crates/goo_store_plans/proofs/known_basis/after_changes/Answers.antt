@@ -1,4 +1,4 @@
-use Rattle.std.proofs.Common.{◌<◌, ◌∙◌, take, length, ap, subst, sym, arith}
+use Rattle.std.proofs.Common.{◌<◌, ◌∙◌, take, length, ap, subst, arith}
 use Rattle.std.proofs.lemmas.List.{take_all}
 use Rattle.goo_tables_rows.proofs.Inside.{fold_more}
 use Rattle.goo_store_changes.specs.Changes.{made, made_all}

@@ -1,4 +1,4 @@
-use Rattle.std.proofs.Common.{◌≡◌, ◌∙◌, ◌&&◌, nat_lt, List, Option, rules, find, ap, sym, subst, None, Some}
+use Rattle.std.proofs.Common.{◌≡◌, ◌∙◌, ◌&&◌, nat_lt, List, Option, rules, find, inl, inr, ap, sym, subst, None, Some}
 use Rattle.goo_spec.specs.State.{State}
 use Rattle.goo_types.specs.declared.piece.Piece.{Piece}
 use Rattle.sqlite.specs.Held.{state as view}
@@ -55,14 +55,17 @@ returns-in-None-clause-store g c =
 
 -- where a row is known to end at the number
 
-pub returns-then-is_edge-clause-looks : goal.returns-then-is_edge-clause-looks
-returns-then-is_edge-clause-looks g c =
+pub returns-then-is_clear-clause-looks : goal.returns-then-is_clear-clause-looks
+returns-then-is_clear-clause-looks g c =
     let old = view g.S.Store c.args.self.now.conn in
-    let new = c.first_beyond-then-is_edge.new.self in
+    let new = c.first_beyond-then-is_clear.new.self in
     let well = c.args.self.now.well in
-    looked_as (moment old c.args.self.now.refused) (moment (view g.S.Store new.conn) new.refused) c.first_beyond-then-is_edge.result _ _ c.first_beyond-then-is_edge.ensures.looks
+    let rows = rows_of (tables_in old) in
+    looked_as (moment old c.args.self.now.refused) (moment (view g.S.Store new.conn) new.refused) c.first_beyond-then-is_clear.result _ _ c.first_beyond-then-is_clear.ensures.looks
     (λ fine row found.
-    let at : c.args.self.now.findings.edge ≡ Some c.get-after.result = c.is_edge.ensures.0 c.if-is_edge.true in
-    found
-    ∙ sym (next_behind (is_sought c.args.sought.now) c.args.after c.get-after.result (c.in-Some.is ∙ ap Some (sym c.get-after.ensures.value)) (rows_of (tables_in old)) (well.kept fine).rising
-    (subst (λ o. IsEdge o (rows_of (tables_in old))) at (c.args.self.now.known fine).edge)))
+    let at : IsEdge (Some c.get-after.result) rows =
+    elim (c.is_clear.ensures c.if-is_clear.true) [
+      | inl is ↦ subst (λ o. IsEdge o rows) is (c.args.self.now.known fine).edges.last
+      | inr is ↦ subst (λ o. IsEdge o rows) is (c.args.self.now.known fine).edges.asked
+    ] in
+    found ∙ sym (next_behind (is_sought c.args.sought.now) c.args.after c.get-after.result (c.in-Some.is ∙ ap Some (sym c.get-after.ensures.value)) rows (well.kept fine).rising at))
