@@ -21,12 +21,12 @@ invariant_of-self g c = record {
   known =
       lots_known (view g.S.Store c.args.self.now.conn) (view g.S.Store c.ask_next-found.new.conn) c.args.self.now.well _ _ c.ask_next-found.ensures.looks (λ row. cons_option row [])
       (λ row is. first_beside (tables_in (view g.S.Store c.args.self.now.conn)) _ row is)
-      c.args.self.now.findings (record { own = c.args.self.now.findings.own; basis = c.args.self.now.findings.basis; lots = c.read_beyond-row.new.lots; edges = c.edges_after.result }) refl refl
+      c.args.self.now.findings (record { own = c.args.self.now.findings.own; basis = c.args.self.now.findings.basis; lots = c.read_beyond-row.new.lots; edges = c.edges_after-self.result }) refl refl
       (λ none were. record {
         last = edge_after (view g.S.Store c.args.self.now.conn) (view g.S.Store c.ask_next-found.new.conn) c.args.self.now.well c.args.sought.now c.ask_next-found.ensures.dated c.args.after _ c.ask_next-found.ensures.looks
-            c.read_beyond-row.result c.read_beyond-row.ensures.value c.edges_after.result.last c.edges_after.ensures.last none;
+            c.read_beyond-row.result c.read_beyond-row.ensures.value c.edges_after-self.result.last c.edges_after-self.ensures.last none;
         asked =
-            elim c.edges_after.ensures.asked [
+            elim c.edges_after-self.ensures.asked [
               | inl is ↦ subst (λ o. IsEdge o (rows_of (tables_in (view g.S.Store c.ask_next-found.new.conn)))) (sym is) were.last
               | inr is ↦ subst (λ o. IsEdge o (rows_of (tables_in (view g.S.Store c.ask_next-found.new.conn)))) (sym is) were.asked
             ];
