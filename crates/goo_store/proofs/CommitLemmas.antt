@@ -23,7 +23,10 @@ use Rattle.goo_store_changes.specs.Changes.{made_all, AreFor}
 use Rattle.goo_spec_tables.specs.Kept.{AreKept}
 use Rattle.goo_store_lookups.specs.Moments.{tables_in, OpensAs, count, moment, IsWell}
 use Rattle.goo_spec_tables.specs.Places.{rows_of}
+use Rattle.goo_store_plans.specs.Found.{IsBasisOf, IsNoBasis}
 use Rattle.goo_store_plans.specs.Planned.{IsPlanned}
+use Rattle.goo_store_plans.specs.declared.findings.KnownBasis.{KnownBasis}
+use Rattle.goo_store.proofs.Found.{no_basis}
 use Rattle.goo_spec_tables.specs.States.{state_of}
 use Rattle.goo_store_values.specs.Telling.{PassesOn, Tells}
 use Rattle.goo_store_lookups.specs.Holding.{is_sure, sure, LeavesCommit, opens_so, left_by}
@@ -75,6 +78,14 @@ module _ (old new : State) (it : IsWell old) (changes : List TableChange) (plan 
   tables_kept : (q : Result (Unit {0}) Error) → (doubts new ≡ 0 → OnErr q ((new.now ≡ old.now) × (new.committed ≡ old.committed))) → OnErr q (doubts new ≡ 0 → tables_in new ≡ tables_in old)
   tables_kept (Ok x) err = tt
   tables_kept (Err e) err = λ none. ap (λ (d : Database). tables_of d.trees) (err none).0
+
+  -- what is known of the basis after it is so
+  pub basis_after : (after known : KnownBasis) → (doubts old ≡ 0 → IsBasisOf after (made_all (tables_in old) changes)) → OnOk r (known ≡ after) → OnErr r (IsNoBasis known) → doubts new ≡ 0 → IsBasisOf known (tables_in new)
+  basis_after after known is done undone none = go r (tables_made r made) done undone
+    where
+      go : (q : Result (Unit {0}) Error) → OnOk q (doubts new ≡ 0 → tables_in new ≡ made_all (tables_in old) changes) → OnOk q (known ≡ after) → OnErr q (IsNoBasis known) → IsBasisOf known (tables_in new)
+      go (Ok x) tables same no = subst (λ k. IsBasisOf k (tables_in new)) (sym same) (subst (IsBasisOf after) (sym (tables none)) (is (before none)))
+      go (Err e) tables same no = no_basis (tables_in new) known no
 
   found : LeavesCommit old → HasCleanDisk new → doubts old ≡ 0 → (b : Bool) → IsEither (moment new b) (state_of (tables_in old)) (accept (state_of (tables_in old)) plan.request)
   found law late none b o left =

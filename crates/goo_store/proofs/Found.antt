@@ -12,7 +12,7 @@ use Rattle.goo_spec.proofs.Mapping.{inside}
 use Rattle.goo_types.specs.declared.lot_fields.LotFields.{LotFields}
 use Rattle.goo_types.specs.declared.piece.Piece.{Piece}
 use Rattle.goo_tables_rows.specs.Beside.{beside, pieces_beside, joined_in}
-use Rattle.goo_tables_rows.specs.Rows.{Tables, Lot, device_in, lot_in, lot_key, meta_in}
+use Rattle.goo_tables_rows.specs.Rows.{Tables, Lot, declaration_key, device_in, lot_in, lot_key, meta_in}
 use Rattle.goo_tables_rows.specs.Stands.{Looks, Stands, doubts}
 use Rattle.goo_tables_rows.specs.declared.device.DeviceRow.{DeviceRow}
 use Rattle.goo_tables_rows.specs.declared.joined.JoinedRow.{JoinedRow}
@@ -21,12 +21,13 @@ use Rattle.goo_tables_rows.specs.declared.meta.MetaRow.{MetaRow}
 use Rattle.goo_tables_rows.specs.declared.piece.PieceRow.{PieceRow}
 use Rattle.goo_spec_tables.specs.Devices.{device_of}
 use Rattle.goo_spec_tables.specs.States.{state_of}
-use Rattle.goo_spec_tables.specs.Places.{lot_of, piece_of}
-use Rattle.goo_store_plans.specs.Found.{IsRowOf, IsDeviceOf, IsStated, AreStated, AreFindingsOf, AreNone}
+use Rattle.goo_spec_tables.specs.Places.{lot_of, piece_of, rows_of}
+use Rattle.goo_store_plans.specs.Found.{IsRowOf, IsBasisOf, IsDeviceOf, IsNext, IsStated, AreStated, AreFindingsOf, AreNone, AreEdges, IsNoBasis}
 use Rattle.goo_store.specs.Found.{IsBeside, Knows, KeepsFound, KeepsDevice, KeepsLot, KeepsLots, KeepsRead, KeepsRow}
 use Rattle.goo_store_lookups.specs.Holding.{sure}
 use Rattle.goo_store_lookups.specs.Moments.{tables_in, IsWell}
 use Rattle.goo_store_plans.specs.declared.findings.Findings.{Findings}
+use Rattle.goo_store_plans.specs.declared.findings.KnownBasis.{KnownBasis}
 use Rattle.goo_store_plans.specs.declared.findings.KnownDevice.{KnownDevice}
 use Rattle.goo_store_plans.specs.declared.lot_numbers.NumberedLot.{NumberedLot}
 use Rattle.goo_store_lookups.proofs.Looking.{before, so_still}
@@ -34,12 +35,30 @@ use Rattle.goo_store_plans.proofs.RowsGathered.{found_by_key}
 use Rattle.goo_store_values.proofs.RowsRead.{found_row}
 use Rattle.goo_store.proofs.RowsRead.{unmapped}
 
+-- nothing known is right of all tables
+pub no_basis : (t : Tables) (known : KnownBasis) → IsNoBasis known → IsBasisOf known t
+no_basis t known is = record {
+  device = subst (λ o. IsDeviceOf o t) (sym is.device) tt;
+  number = subst (λ o. IsNext o declaration_key t.declarations) (sym is.number) tt;
+  next_lot = subst (λ o. IsNext o lot_key t.lots) (sym is.next_lot) tt;
+}
+
 -- nothing kept is right of all tables
 pub none_known : (s : State) (findings : Findings) → AreNone findings → Knows s findings
 none_known s findings is none = record {
   own = subst (λ o. IsRowOf o (tables_in s)) (sym is.own) tt;
-  device = subst (λ o. IsDeviceOf o (tables_in s)) (sym is.device) tt;
+  basis = no_basis (tables_in s) findings.basis is.basis;
   lots = subst (AreStated (tables_in s).lots) (sym is.lots) (All-nil _);
+  edges = subst (λ e. AreEdges e (rows_of (tables_in s))) (sym is.edges) (record { last = tt; asked = tt });
+}
+
+-- so is what is known after a commit, if that is right, and nothing else that is kept
+pub basis_known : (s : State) (findings : Findings) → AreNone findings → (basis : KnownBasis) → (doubts s ≡ 0 → IsBasisOf basis (tables_in s)) → Knows s (record { own = findings.own; basis = basis; lots = findings.lots; edges = findings.edges })
+basis_known s findings is basis right none = record {
+  own = subst (λ o. IsRowOf o (tables_in s)) (sym is.own) tt;
+  basis = right none;
+  lots = subst (AreStated (tables_in s).lots) (sym is.lots) (All-nil _);
+  edges = subst (λ e. AreEdges e (rows_of (tables_in s))) (sym is.edges) (record { last = tt; asked = tt });
 }
 
 -- what is kept stays right
@@ -61,28 +80,35 @@ row_known old new it r looks a b knows kept none =
 
 -- what is kept after a look-up for the row is right
 pub own_known : (old new : State) (it : IsWell old) (r : Result (Option MetaRow) Error) → Looks old new r (λ t row. option_map meta_in row ≡ Some t.meta) → (findings : Findings) (b : Option MetaRow) → Knows old findings → KeepsFound r findings.own b
-    → Knows new (record { own = b; device = findings.device; lots = findings.lots })
+    → Knows new (record { own = b; basis = findings.basis; lots = findings.lots; edges = findings.edges })
 own_known old new it r looks findings b knows kept none =
     let still = known old new it r _ looks findings knows in record {
       own = row_known old new it r looks findings.own b (λ none. (still none).own) kept none;
-      device = (still none).device;
+      basis = (still none).basis;
       lots = (still none).lots;
+      edges = (still none).edges;
     }
 
 -- ---- what is kept after a device was looked up
 
 pub device_known : (old new : State) (it : IsWell old) (r : Result (Option DeviceRow) Error) (right : Tables → Option DeviceRow → Type 0) → Looks old new r right → (gsrn : List ℕ)
     → ((row : DeviceRow) → right (tables_in old) (Some row) → get (state_of (tables_in old)).devices gsrn ≡ Some (device_of (device_in row)))
-    → (findings : Findings) (b : Option KnownDevice) → Knows old findings → KeepsDevice r gsrn findings.device b → Knows new (record { own = findings.own; device = b; lots = findings.lots })
+    → (findings : Findings) (b : Option KnownDevice) → Knows old findings → KeepsDevice r gsrn findings.basis.device b
+    → Knows new (record { own = findings.own; basis = record { device = b; number = findings.basis.number; next_lot = findings.basis.next_lot }; lots = findings.lots; edges = findings.edges })
 device_known old new it r right looks gsrn is_it findings b knows kept none =
     let still = known old new it r _ looks findings knows in record {
       own = (still none).own;
-      device =
-          elim kept [
-            | inl same ↦ subst (λ o. IsDeviceOf o (tables_in new)) (sym same) (still none).device
-            | inr is ↦ so_still old new it r _ looks (IsDeviceOf b) none (there r (looks.found (sure new none).0 (tables_in old) (it.stands (before old new it r _ looks none))) is)
-          ];
+      basis = record {
+        device =
+            elim kept [
+              | inl same ↦ subst (λ o. IsDeviceOf o (tables_in new)) (sym same) (still none).basis.device
+              | inr is ↦ so_still old new it r _ looks (IsDeviceOf b) none (there r (looks.found (sure new none).0 (tables_in old) (it.stands (before old new it r _ looks none))) is)
+            ];
+        number = (still none).basis.number;
+        next_lot = (still none).basis.next_lot;
+      };
       lots = (still none).lots;
+      edges = (still none).edges;
     }
   where
     there : (q : Result (Option DeviceRow) Error) → IfOk q (right (tables_in old)) → IsOkAnd q (λ row. IsSomeAnd row (λ x. b ≡ Some (record { gsrn = gsrn; device = device_of (device_in x) }))) → IsDeviceOf b (tables_in old)
@@ -128,19 +154,20 @@ pub some_beside : (t : Tables) (test : PieceRow × Lot → Bool) (rows : List Jo
 some_beside t test rows is = unmapped (IsBeside t.lots) joined_in rows (subst (All (IsBeside t.lots)) (sym is) (All-filter test (IsBeside t.lots) (pieces_beside t) (all_beside t.lots t.pieces)))
 
 -- lots that were looked up
-lots_after : (old new : State) (it : IsWell old) {T : Type 0} (r : Result T Error) (right : Tables → T → Type 0) → Looks old new r right → (findings next : Findings) → next.own ≡ findings.own → next.device ≡ findings.device → Knows old findings
+lots_after : (old new : State) (it : IsWell old) {T : Type 0} (r : Result T Error) (right : Tables → T → Type 0) → Looks old new r right → (findings next : Findings) → next.own ≡ findings.own → next.basis ≡ findings.basis → (doubts new ≡ 0 → AreEdges findings.edges (rows_of (tables_in new)) → AreEdges next.edges (rows_of (tables_in new))) → Knows old findings
     → (Stands old.now (tables_in old) → IfOk r (right (tables_in old)) → AreStated (tables_in old).lots findings.lots.items → AreStated (tables_in old).lots next.lots.items) → Knows new next
-lots_after old new it r right looks findings next own device knows are none =
+lots_after old new it r right looks findings next own basis edges knows are none =
     let still = known old new it r _ looks findings knows in
     let first = before old new it r _ looks none in record {
       own = subst (λ o. IsRowOf o (tables_in new)) (sym own) (still none).own;
-      device = subst (λ o. IsDeviceOf o (tables_in new)) (sym device) (still none).device;
+      basis = subst (λ b. IsBasisOf b (tables_in new)) (sym basis) (still none).basis;
       lots = so_still old new it r _ looks (λ t. AreStated t.lots next.lots.items) none (are (it.stands first) (looks.found (sure new none).0 (tables_in old) (it.stands first)) (knows first).lots);
+      edges = edges none (still none).edges;
     }
 
 pub lots_known : (old new : State) (it : IsWell old) {T : Type 0} (r : Result T Error) (right : Tables → T → Type 0) → Looks old new r right → (rows : T → List JoinedRow) → ((x : T) → right (tables_in old) x → All (λ a. IsBeside (tables_in old).lots (joined_in a)) (rows x))
-    → (findings next : Findings) → next.own ≡ findings.own → next.device ≡ findings.device → Knows old findings → KeepsRead r rows findings.lots.items next.lots.items → Knows new next
-lots_known old new it {T} r right looks rows each findings next own device knows kept = lots_after old new it r right looks findings next own device knows (λ stands found are. all r found kept are)
+    → (findings next : Findings) → next.own ≡ findings.own → next.basis ≡ findings.basis → (doubts new ≡ 0 → AreEdges findings.edges (rows_of (tables_in new)) → AreEdges next.edges (rows_of (tables_in new))) → Knows old findings → KeepsRead r rows findings.lots.items next.lots.items → Knows new next
+lots_known old new it {T} r right looks rows each findings next own basis edges knows kept = lots_after old new it r right looks findings next own basis edges knows (λ stands found are. all r found kept are)
   where
     all : (q : Result T Error) → IfOk q (right (tables_in old)) → KeepsRead q rows findings.lots.items next.lots.items → AreStated (tables_in old).lots findings.lots.items → AreStated (tables_in old).lots next.lots.items
     all (Ok x) found keeps are = keeps (tables_in old).lots are (each x found)
@@ -157,8 +184,8 @@ pub kept_row : (found : Result (Option LotRow) Error) (row : LotRow) (old new : 
 kept_row found row old new is kept = subst (λ (f : Result (Option LotRow) Error). KeepsLot f old new) (sym is) kept
 
 pub lot_known : (old new : State) (it : IsWell old) (r : Result (Option LotRow) Error) (test : Lot → Bool) → Looks old new r (λ t found. option_map lot_in found ≡ find test t.lots)
-    → (findings next : Findings) → next.own ≡ findings.own → next.device ≡ findings.device → Knows old findings → KeepsLot r findings.lots.items next.lots.items → Knows new next
-lot_known old new it r test looks findings next own device knows kept = lots_after old new it r _ looks findings next own device knows (all r kept)
+    → (findings next : Findings) → next.own ≡ findings.own → next.basis ≡ findings.basis → (doubts new ≡ 0 → AreEdges findings.edges (rows_of (tables_in new)) → AreEdges next.edges (rows_of (tables_in new))) → Knows old findings → KeepsLot r findings.lots.items next.lots.items → Knows new next
+lot_known old new it r test looks findings next own basis edges knows kept = lots_after old new it r _ looks findings next own basis edges knows (all r kept)
   where
     all : (q : Result (Option LotRow) Error) → KeepsLot q findings.lots.items next.lots.items → Stands old.now (tables_in old) → IfOk q (λ found. option_map lot_in found ≡ find test (tables_in old).lots)
         → AreStated (tables_in old).lots findings.lots.items → AreStated (tables_in old).lots next.lots.items

@@ -17,3 +17,5 @@ pub mod CreationBlamed
 pub mod SumLemmas
 pub mod FirstTables
 pub mod HeldLemmas
+pub mod Edges
+pub mod NewNumbers

@@ -1,5 +1,5 @@
 -- The next row that is asked for, found in tables that keep the rules.
-use Rattle.std.proofs.Common.{◌≡◌, ◌≤◌, ◌+◌, ◌&&◌, ◌==◌, nat_le, nat_lt, ℕ, zero, suc, Bool, true, false, cond, IfSome, List, [], ◌∷◌, map, find, reverse, All, Option, Some, None, option_map, refl, sym, ap, subst, ◌∙◌, arith}
+use Rattle.std.proofs.Common.{◌≡◌, ◌≤◌, ◌+◌, ◌&&◌, ◌==◌, nat_le, nat_lt, ℕ, zero, suc, Bool, true, false, cond, IfSome, IsSomeAnd, IfOk, IsErr, Ok, Err, Result, List, [], ◌∷◌, map, find, reverse, All, Option, Some, None, option_map, refl, sym, ap, subst, ◌∙◌, arith}
 use Rattle.std.specs.List.{filter}
 use Rattle.std.specs.Option.{option_or}
 use Rattle.std.proofs.lemmas.Bool.{ltb-true}
@@ -16,7 +16,7 @@ use Rattle.goo_spec_runs.specs.NextRun.{ending_from, first_of, from_of}
 use Rattle.goo_core_shelf.specs.Rows.{EndsFrom}
 use Rattle.goo_tables_rows.specs.Beside.{pieces_beside, joined_in}
 use Rattle.goo_tables_rows.specs.Rows.{Tables, Lot}
-use Rattle.goo_tables_rows.specs.Stands.{Stands}
+use Rattle.goo_tables_rows.specs.Stands.{Looks, Stands, doubts}
 use Rattle.goo_tables_rows.specs.declared.joined.JoinedRow.{JoinedRow}
 use Rattle.goo_tables_rows.specs.declared.piece.PieceRow.{PieceRow}
 use Rattle.goo_spec_tables.specs.Kept.{AreKept}
@@ -33,6 +33,16 @@ use Rattle.goo_core_shelf.specs.declared.sought.Sought.TheVariants.{Naming, Expi
 use Rattle.goo_store.specs.NextRows.{begins_beyond, IsDated, reaching_beyond}
 use Rattle.goo_store.proofs.Next.{first_beyond, next_found}
 use Rattle.goo_store.proofs.RowsRead.{pieces_kept}
+use Rattle.goo_store.proofs.Edges.{edge_found}
+use Rattle.goo_store_lookups.proofs.Looking.{before, so_still}
+use Rattle.goo_store_lookups.specs.Holding.{sure}
+use Rattle.goo_store_lookups.specs.Moments.{tables_in, IsWell}
+use Rattle.goo_store_plans.specs.Found.{IsEdge}
+use Rattle.goo_store_values.specs.Passing.{Passes}
+use Rattle.goo_store_values.specs.declared.trouble.Trouble.{Trouble}
+use Rattle.sqlite.specs.State.{State}
+use Rattle.sqlite.specs.declared.error.Error.{Error}
+use Rattle.std.specs.Prelude.{IsOkAnd}
 
 -- ---- rising rows
 
@@ -111,3 +121,18 @@ module _ (t : Tables) (kept : AreKept t) where
   unfolding rows_of
   first_of_all db stands wanted asked none =
       ap (λ a. first_of (ending_from (from_of a) (filter wanted (rows_of t)))) none ∙ first_beyond wanted 0 0 1 (rows_of t) (from_one (pieces_beside t) (pieces_kept db t stands kept) kept.rising) (omega arith) (omega arith)
+
+-- ---- the number at which the row that was found ends
+
+pub edge_after : (old new : State) (it : IsWell old) (sought : Sought) → IsDated sought → (after : ℕ) (r : Result (Option JoinedRow) Error) → Looks old new r (λ t found. option_map joined_in found ≡ find (begins_beyond sought after) (pieces_beside t))
+    → (read : Result (Option Piece) Trouble) → Passes r read (λ row piece. piece ≡ option_map piece_of (option_map joined_in row))
+    → (edge : Option ℕ) → IfSome edge (λ n. IsOkAnd read (λ found. IsSomeAnd found (λ p. p.last ≡ n))) → doubts new ≡ 0 → IsEdge edge (rows_of (tables_in new))
+edge_after old new it sought dated after r looks read passes edge is none =
+    let first = before old new it r _ looks none in
+    so_still old new it r _ looks (λ t. IsEdge edge (rows_of t)) none
+    (edge_found (λ p. is_sought sought p && nat_lt after p.first) (rows_of (tables_in old)) edge read (go (it.kept first) r (looks.found (sure new none).0 (tables_in old) (it.stands first)) passes) is)
+  where
+    go : AreKept (tables_in old) → (q : Result (Option JoinedRow) Error) → IfOk q (λ found. option_map joined_in found ≡ find (begins_beyond sought after) (pieces_beside (tables_in old)))
+        → Passes q read (λ row piece. piece ≡ option_map piece_of (option_map joined_in row)) → (row : Option Piece) → read ≡ Ok row → row ≡ find (λ p. is_sought sought p && nat_lt after p.first) (rows_of (tables_in old))
+    go kept (Ok x) found passes row same = beyond_found (tables_in old) kept sought dated after (option_map joined_in x) row found (subst (λ (z : Result (Option Piece) Trouble). IfOk z (λ piece. piece ≡ option_map piece_of (option_map joined_in x))) same passes)
+    go kept (Err e) found bad row same = absurd (subst (λ (z : Result (Option Piece) Trouble). IsErr z) same bad)

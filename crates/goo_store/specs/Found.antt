@@ -1,16 +1,18 @@
 -- What a shelf keeps of its look-ups until the next commit.
-use Rattle.std.specs.Prelude.{◌≡◌, ◌⊎◌, ℕ, pos, List, All, Option, Some, None, Result, Ok, Err, IsOkAnd, IsSomeAnd}
+use Rattle.std.specs.Prelude.{◌≡◌, ◌⊎◌, ◌==◌, Bool, true, ℕ, ℤ, pos, List, All, Option, Some, None, Result, Ok, Err, IsOkAnd, IsSomeAnd}
 use Rattle.std.specs.Coded.{Coded, Coded-set, code_by, coded×, coded_list, coded_ℕ}
 use Rattle.std.specs.FinMap.{get}
+use Rattle.std.specs.List.{list_any}
 use Rattle.std.proofs.Props.{props}
 use mathlib.Core.Path.{refl}
 use Rattle.sqlite.specs.State.{State}
 use Rattle.sqlite.specs.declared.error.Error.{Error}
-use Rattle.sqlite_keyed.specs.Keyed.{get_by}
+use Rattle.sqlite_keyed.specs.Keyed.{get_by, next_key}
 use Rattle.goo_types.specs.declared.lot_fields.LotFields.{LotFields}
+use Rattle.goo_types.specs.declared.piece.Piece.{Piece}
 use Rattle.goo_spec.specs.State.{Device}
 use Rattle.goo_tables_rows.specs.Beside.{joined_in}
-use Rattle.goo_tables_rows.specs.Rows.{Tables, Meta, Lot, device_in, lot_in, lot_key}
+use Rattle.goo_tables_rows.specs.Rows.{Tables, Meta, Lot, declaration_key, device_in, lot_in, lot_key}
 use Rattle.goo_tables_rows.specs.Stands.{doubts}
 use Rattle.goo_tables_rows.specs.declared.device.DeviceRow.{DeviceRow}
 use Rattle.goo_tables_rows.specs.declared.joined.JoinedRow.{JoinedRow}
@@ -18,10 +20,13 @@ use Rattle.goo_tables_rows.specs.declared.lot.LotRow.{LotRow}
 use Rattle.goo_tables_rows.specs.declared.meta.MetaRow.{MetaRow}
 use Rattle.goo_tables_rows.specs.declared.piece.PieceRow.{PieceRow}
 use Rattle.goo_spec_tables.specs.Devices.{device_of}
+use Rattle.goo_spec_tables.specs.Places.{rows_of}
 use Rattle.goo_spec_tables.specs.States.{state_of}
-use Rattle.goo_store_plans.specs.Found.{IsRowOf, IsDeviceOf, AreStated, AreFindingsOf}
+use Rattle.goo_store_plans.specs.Found.{IsRowOf, IsBasisOf, IsDeviceOf, IsEdge, AreEdges, IsNext, AreStated, AreFindingsOf}
 use Rattle.goo_store_lookups.specs.Moments.{tables_in}
+use Rattle.goo_store_plans.specs.declared.findings.Edges.{Edges}
 use Rattle.goo_store_plans.specs.declared.findings.Findings.{Findings}
+use Rattle.goo_store_plans.specs.declared.findings.KnownBasis.{KnownBasis}
 use Rattle.goo_store_plans.specs.declared.findings.KnownDevice.{KnownDevice}
 use Rattle.goo_store_plans.specs.declared.lot_numbers.NumberedLot.{NumberedLot}
 
@@ -68,6 +73,13 @@ coded_meta =
     (λ m. (m.version, (m.code, (m.today, (m.next_serial, (m.next_account, (m.next_cancellation, (m.next_withdrawal, m.next_notice))))))))
     (λ p. record { version = p.0; code = p.1.0; today = p.1.1.0; next_serial = p.1.1.1.0; next_account = p.1.1.1.1.0; next_cancellation = p.1.1.1.1.1.0; next_withdrawal = p.1.1.1.1.1.1.0; next_notice = p.1.1.1.1.1.1.1 }) (λ _. refl)
 
+int-prop : (a b : ℤ) → IsProp (a ≡ b)
+int-prop a b = Prim.hlevel props
+
+next-prop : {X : Type 0} (known : Option ℕ) (key : X → ℤ) (rows : List X) → IsProp (IsNext known key rows)
+next-prop None key rows a b = λ i. tt
+next-prop (Some n) key rows a b = int-prop (pos n) (next_key key rows) a b
+
 row-prop : (own : Option MetaRow) (t : Tables) → IsProp (IsRowOf own t)
 row-prop None t a b = λ i. tt
 row-prop (Some row) t a b = Coded-set coded_meta _ _ a b
@@ -85,9 +97,27 @@ lot-prop a b = Prim.hlevel props
 lots-prop : (lots : List Lot) (xs : List NumberedLot) → IsProp (AreStated lots xs)
 lots-prop lots xs a b = λ i k d low. lot-prop _ _ (a k d low) (b k d low) i
 
+basis-prop : (known : KnownBasis) (t : Tables) → IsProp (IsBasisOf known t)
+basis-prop known t a b = λ i. record {
+  device = device-prop known.device t a.device b.device i;
+  number = next-prop known.number declaration_key t.declarations a.number b.number i;
+  next_lot = next-prop known.next_lot lot_key t.lots a.next_lot b.next_lot i;
+}
+
+same-prop : (a b : Bool) → IsProp (a ≡ b)
+same-prop a b = Prim.hlevel props
+
+edge-prop : (edge : Option ℕ) (rows : List Piece) → IsProp (IsEdge edge rows)
+edge-prop None rows a b = λ i. tt
+edge-prop (Some n) rows a b = same-prop (list_any (λ p. p.last == n) rows) true a b
+
+edges-prop : (edges : Edges) (rows : List Piece) → IsProp (AreEdges edges rows)
+edges-prop edges rows a b = λ i. record { last = edge-prop edges.last rows a.last b.last i; asked = edge-prop edges.asked rows a.asked b.asked i }
+
 pub Knows-prop : (s : State) (findings : Findings) → IsProp (Knows s findings)
 Knows-prop s findings a b = λ i none. record {
   own = row-prop findings.own (tables_in s) (a none).own (b none).own i;
-  device = device-prop findings.device (tables_in s) (a none).device (b none).device i;
+  basis = basis-prop findings.basis (tables_in s) (a none).basis (b none).basis i;
   lots = lots-prop (tables_in s).lots findings.lots.items (a none).lots (b none).lots i;
+  edges = edges-prop findings.edges (rows_of (tables_in s)) (a none).edges (b none).edges i;
 }

@@ -8,3 +8,4 @@ pub mod Gathering
 pub mod NextRows
 pub mod FirstTables
 pub mod Versions
+pub mod Issuing

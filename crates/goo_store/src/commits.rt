@@ -1,10 +1,10 @@
 //! Carrying out plans: what a plan changes is gathered first, and then made in one transaction.
 
-ghost use Rattle.std.specs.Prelude.{◌≡◌, All, IfErr, IfOk};
+ghost use Rattle.std.specs.Prelude.{◌≡◌, All, IfErr, IfOk, OnErr, OnOk};
 ghost use Rattle.sqlite.specs.Held.{state as view};
 ghost use Rattle.goo_core_shelf.specs.Plan.{Fits, Commits};
-ghost use Rattle.goo_store_changes.specs.Changes.{ChangeFits};
-ghost use Rattle.goo_store_plans.specs.Found.{AreNone};
+ghost use Rattle.goo_store_changes.specs.Changes.{ChangeFits, made_all};
+ghost use Rattle.goo_store_plans.specs.Found.{AreNone, IsBasisOf, IsNoBasis};
 ghost use Rattle.goo_store_lookups.specs.Moments.{moment, tables_in};
 ghost use Rattle.goo_store_plans.specs.Planned.{IsPlanned};
 ghost use Rattle.goo_store.specs.Preparing.{Prepares};
@@ -14,10 +14,9 @@ ghost use Rattle.goo_store_values.specs.Telling.{PassesOn};
 
 use crate::sql_shelf::SqlShelf;
 use goo_core_shelf::plan::Plan;
-use goo_store_changes::change::TableChange;
 use goo_store_changes::committing::commit_changes;
-use goo_store_plans::findings::Findings;
-use goo_store_plans::plan_changes::plan_changes;
+use goo_store_plans::findings::{Findings, KnownBasis};
+use goo_store_plans::plan_changes::{Planned, plan_changes};
 use goo_store_values::told::told;
 use goo_store_values::trouble::Trouble;
 use goo_types::fault::Fault;
@@ -36,13 +35,24 @@ fn ending(made: Result<(), Error>) -> Result<(), Trouble>
     }
 }
 
+/// What is known of the basis of a declaration once a commit has ended.
+fn known_after(made: &Result<(), Error>, after: KnownBasis) -> KnownBasis
+    ensures done { OnOk made.now (result ≡ after) }
+    ensures undone { OnErr made.now (IsNoBasis result) }
+{
+    match made {
+        Ok(()) => after,
+        Err(_) => KnownBasis::none(),
+    }
+}
+
 impl<S: Alter> SqlShelf<S> {
     /// The changes that carry out a plan. Nothing is changed yet, and nothing that was found is kept
     /// any more.
-    fn changes_for(&mut self, alloc: Global, plan: &Plan) -> Result<Vec<TableChange>, Fault>
+    fn changes_for(&mut self, alloc: Global, plan: &Plan) -> Result<Planned, Fault>
         ensures prepares { Prepares (moment (view S.Store self.old.conn) self.old.refused) (moment (view S.Store self.new.conn) self.new.refused) result }
-        ensures planned { (moment (view S.Store self.new.conn) self.new.refused).doubts ≡ 0 → IfOk result (λ changes. Fits (moment (view S.Store self.new.conn) self.new.refused).state (moment (view S.Store self.new.conn) self.new.refused).rows plan.now → IsPlanned (tables_in (view S.Store self.new.conn)) changes.items plan.now) }
-        ensures fits { IfOk result (λ changes. All ChangeFits changes.items) }
+        ensures planned { (moment (view S.Store self.new.conn) self.new.refused).doubts ≡ 0 → IfOk result (λ planned. Fits (moment (view S.Store self.new.conn) self.new.refused).state (moment (view S.Store self.new.conn) self.new.refused).rows plan.now → IsPlanned (tables_in (view S.Store self.new.conn)) planned.changes.items plan.now × IsBasisOf planned.after (made_all (tables_in (view S.Store self.new.conn)) planned.changes.items)) }
+        ensures fits { IfOk result (λ planned. All ChangeFits planned.changes.items) }
         ensures taken { IfOk result (λ _. AreNone self.new.findings) }
         ensures same { (moment (view S.Store self.new.conn) self.new.refused).doubts ≡ 0 → tables_in (view S.Store self.new.conn) ≡ tables_in (view S.Store self.old.conn) }
         ensures store { BlamesCommit (view S.Store self.old.conn) (view S.Store self.new.conn) self.old.refused result (λ t. HaveWhatItNeeds t plan.now) }
@@ -51,8 +61,8 @@ impl<S: Alter> SqlShelf<S> {
             return Err(Fault::Store);
         }
         let findings = mem::replace(&mut self.findings, Findings::none(alloc));
-        let changes = plan_changes(alloc, &mut self.conn, findings, plan);
-        told(changes, &mut self.refused)
+        let planned = plan_changes(alloc, &mut self.conn, findings, plan);
+        told(planned, &mut self.refused)
     }
 
     /// Carries out the whole change of a plan, or none.
@@ -61,8 +71,9 @@ impl<S: Alter> SqlShelf<S> {
         ensures commits { Commits (moment (view S.Store self.old.conn) self.old.refused) (moment (view S.Store self.new.conn) self.new.refused) result plan.now }
         ensures store { BlamesCommit (view S.Store self.old.conn) (view S.Store self.new.conn) self.old.refused result (λ t. CanCarryOut t plan.now) }
     {
-        let changes = self.changes_for(alloc, plan)?;
-        let made = commit_changes(&mut self.conn, &changes);
+        let planned = self.changes_for(alloc, plan)?;
+        let made = commit_changes(&mut self.conn, &planned.changes);
+        self.findings.basis = known_after(&made, planned.after);
         told(ending(made), &mut self.refused)
     }
 }

@@ -135,7 +135,7 @@ impl<S: Alter> SqlShelf<S> {
             return Err(Fault::Store);
         }
         let found = find_device(self.alloc, &mut self.conn, device.text());
-        let record = read_record(found, device, &mut self.findings.device);
+        let record = read_record(found, device, &mut self.findings.basis.device);
         told(record, &mut self.refused)
     }
 }

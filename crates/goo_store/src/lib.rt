@@ -12,6 +12,7 @@ mod device_numbers;
 mod devices;
 mod held;
 mod holders;
+mod issuing;
 mod kept_lots;
 mod lots;
 mod lowering;

@@ -1,6 +1,6 @@
 //! Rows that are looked up one at a time: the next one of an account, and the next one that expires.
 
-ghost use Rattle.std.specs.Prelude.{◌≡◌, ◌+◌, ◌<◌, ◌^◌, All, false, find, map, option_map, IfSome};
+ghost use Rattle.std.specs.Prelude.{◌≡◌, ◌↔◌, ◌⊎◌, ◌+◌, ◌<◌, ◌^◌, All, false, find, map, option_map, IfSome, IsOkAnd, IsSomeAnd, IsTrue, Some};
 ghost use Rattle.sqlite.specs.Held.{state as view};
 ghost use Rattle.goo_types.specs.Piece.{IsForward};
 ghost use Rattle.goo_core_shelf.specs.Rows.{EndsFrom};
@@ -13,6 +13,8 @@ ghost use Rattle.goo_store.specs.NextRows.{begins_beyond, IsDated, reaching_beyo
 
 use crate::pieces::is_beyond;
 use goo_core_shelf::sought::{Sought, is_sought};
+use goo_store_plans::findings::Edges;
+use goo_store_values::trouble::Trouble;
 use goo_tables_holdings::joined::{next_expiring, next_of_account};
 use goo_tables_rows::joined::JoinedRow;
 use goo_types::piece::Piece;
@@ -30,6 +32,54 @@ pub fn reaching_row(before: Option<Piece>, sought: &Sought, after: u64) -> Optio
     } else {
         None
     }
+}
+
+/// The number at which the row ends that was read, if one was.
+fn edge_of(row: &Result<Option<Piece>, Trouble>) -> Option<u64>
+    ensures { IfSome result (λ n. IsOkAnd row.now (λ found. IsSomeAnd found (λ p. p.last ≡ n))) }
+{
+    match row {
+        Ok(Some(piece)) => Some(piece.last.get()),
+        _ => None,
+    }
+}
+
+/// Whether a row is known to end at the number.
+fn is_edge(edge: Option<u64>, number: u64) -> bool
+    ensures { IsTrue result ↔ (edge ≡ Some number) }
+{
+    match edge {
+        Some(end) => end == number,
+        None => false,
+    }
+}
+
+/// Whether a row is known to end at the number, so that none reaches above it from below.
+pub fn is_clear(edges: &Edges, number: u64) -> bool
+    ensures { IsTrue result → (edges.now.last ≡ Some number) ⊎ (edges.now.asked ≡ Some number) }
+{
+    is_edge(edges.last, number) || is_edge(edges.asked, number)
+}
+
+/// The number that was asked about, where a row is known to end there, or the one before it.
+fn asked_edge(edges: &Edges, after: u64) -> Option<u64>
+    ensures { (result ≡ edges.now.last) ⊎ (result ≡ edges.now.asked) }
+{
+    if is_edge(edges.last, after) {
+        edges.last
+    } else {
+        edges.asked
+    }
+}
+
+/// Where rows are known to end once a row was read that was asked for by a number.
+pub fn edges_after(edges: &Edges, after: u64, row: &Result<Option<Piece>, Trouble>) -> Edges
+    ensures last { IfSome result.last (λ n. IsOkAnd row.now (λ found. IsSomeAnd found (λ p. p.last ≡ n))) }
+    ensures asked { (result.asked ≡ edges.now.last) ⊎ (result.asked ≡ edges.now.asked) }
+{
+    let last = edge_of(row);
+    let asked = asked_edge(edges, after);
+    Edges { last, asked }
 }
 
 /// The first piece that is looked for and begins above a number, beside its lot.

@@ -1,6 +1,6 @@
 //! Rows of `piece` beside their lots, as pieces.
 
-ghost use Rattle.std.specs.Prelude.{◌≡◌, ◌+◌, ◌++◌, ◌↔◌, [], ◌∷◌, All, IfOk, IfSome, IsOk, IsOkUnless, OnOk, IsTrue, map, option_map};
+ghost use Rattle.std.specs.Prelude.{◌≡◌, ◌+◌, ◌++◌, ◌↔◌, [], ◌∷◌, All, IfErr, IfOk, IfSome, IsOk, IsOkUnless, OnOk, IsTrue, Some, map, option_map};
 ghost use Rattle.std.specs.List.{cons_option};
 ghost use Rattle.goo_types.specs.Piece.{IsRising};
 ghost use Rattle.goo_core_shelf.specs.Rows.{EndsFrom};
@@ -19,6 +19,7 @@ use goo_store_values::lots::read_lot;
 use goo_store_values::numbers;
 use goo_store_values::trouble::Trouble;
 use goo_tables_rows::joined::JoinedRow;
+use goo_types::fault::Fault;
 use goo_types::piece::Piece;
 use goo_types::place::Place;
 use goo_types::range::Range;
@@ -179,6 +180,26 @@ pub fn read_rising(
     } else {
         Err(Trouble::Refused)
     }
+}
+
+/// The piece, if there is one and it is a range that ends above a number.
+pub fn ending_behind(piece: &Option<Piece>, last: u64) -> Option<Piece>
+    ensures { IfSome result (λ p. (piece.now ≡ Some p) × EndsFrom (last + 1) p) }
+{
+    match piece {
+        Some(found) if is_beyond(found, last) => Some(*found),
+        _ => None,
+    }
+}
+
+/// A row as the only one.
+pub fn alone(alloc: Global, row: Piece) -> Result<Vec<Piece>, Fault>
+    ensures value { IfOk result (λ met. met.items ≡ row ∷ []) }
+    ensures memory { IfErr result (λ fault. fault ≡ Fault.Memory) }
+{
+    let mut met = Vec::new(alloc);
+    met.extend_from_slice(&[row])?;
+    Ok(met)
 }
 
 /// The piece before a range, where it reaches to the range or ends right before it, and then those

@@ -12,8 +12,9 @@ ghost use Rattle.goo_core_shelf.specs.Sought.{is_sought};
 ghost use Rattle.goo_store_lookups.specs.Moments.{moment};
 ghost use Rattle.goo_store_lookups.specs.StoreFaults.{BlamesStore};
 
-use crate::next_rows::{ask_next, reaching_row};
-use crate::pieces::{join_near, read_beyond, read_maybe, read_rising};
+use crate::issuing::is_issued_next;
+use crate::next_rows::{ask_next, edges_after, is_clear, reaching_row};
+use crate::pieces::{alone, ending_behind, join_near, read_beyond, read_maybe, read_rising};
 use crate::sql_shelf::SqlShelf;
 use goo_core_shelf::sought::Sought;
 use goo_store_values::told::told;
@@ -58,7 +59,8 @@ impl<S: Alter> SqlShelf<S> {
         told(rows, &mut self.refused)
     }
 
-    /// The rows with a number of the range or next to one, rising.
+    /// The rows with a number of the range or next to one, rising. A range within one row, short of its ends, takes one statement, and
+    /// so do numbers that are issued next, since no row begins there. Any other range takes two.
     pub(crate) fn look_up_meeting(
         &mut self,
         alloc: Global,
@@ -71,6 +73,12 @@ impl<S: Alter> SqlShelf<S> {
         let first = range.first().get();
         let last = range.last().get();
         let before = self.row_before(alloc, first)?;
+        if let Some(row) = ending_behind(&before, last) {
+            return alone(alloc, row);
+        }
+        if is_issued_next(&self.findings.own, range.first()) {
+            return told(join_near(alloc, range, before, &[]), &mut self.refused);
+        }
         let later = self.rows_beginning(alloc, first, last + 1)?;
         told(join_near(alloc, range, before, &later), &mut self.refused)
     }
@@ -119,13 +127,15 @@ impl<S: Alter> SqlShelf<S> {
         }
         let found = ask_next(self.alloc, &mut self.conn, sought, after);
         let row = read_beyond(found, after, &mut self.findings.lots);
+        self.findings.edges = edges_after(&self.findings.edges, after, &row);
         told(row, &mut self.refused)
     }
 
     /// The first row that is looked for and ends after a number, or the first of all such rows.
     ///
     /// That is the last row that begins at the number or before it, or else the first that begins after it: two statements
-    /// that each show one row, whatever lies between.
+    /// that each show one row, whatever lies between. Where the row that was found last ends at the number, as in a walk, the
+    /// second alone is asked.
     pub(crate) fn next_row(
         &mut self,
         sought: &Sought,
@@ -139,6 +149,9 @@ impl<S: Alter> SqlShelf<S> {
             return self.first_beyond(sought, 0);
         };
         let after = after.get();
+        if is_clear(&self.findings.edges, after) {
+            return self.first_beyond(sought, after);
+        }
         let before = self.row_before(self.alloc, after + 1)?;
         match reaching_row(before, sought, after) {
             Some(row) => Ok(Some(row)),

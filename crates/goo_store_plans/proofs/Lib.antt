@@ -40,3 +40,4 @@ pub mod NeedsDeclaring
 pub mod NeedsCorrecting
 pub mod NeedsReply
 pub mod Needs
+pub mod Numbered

@@ -21,9 +21,9 @@ use Rattle.goo_spec_tables.specs.States.{state_of}
 use Rattle.goo_spec_tables.specs.Texts.{day_of}
 use Rattle.goo_store_plans.specs.AtHand.{HasRoom}
 use Rattle.goo_store_plans.specs.Declaring.{CanBeAnswered, IsWithinLimits, lot_stated, count_of}
-use Rattle.goo_store_plans.specs.Found.{IsDeviceOf}
+use Rattle.goo_store_plans.specs.Found.{IsBasisOf}
 use Rattle.goo_store_plans.specs.Standing.{IsStanding}
-use Rattle.goo_store_plans.specs.declared.findings.KnownDevice.{KnownDevice}
+use Rattle.goo_store_plans.specs.declared.findings.KnownBasis.{KnownBasis}
 use Rattle.goo_store_plans.specs.declared.standing.DeclarationBasis.{DeclarationBasis}
 
 is_known : (s : State) (x : Declare) (o : Option Device) → device_refusal s x o ≡ None → IsSome o
@@ -75,9 +75,9 @@ module _ (t : Tables) (kept : AreKept t) (caller : List ℕ) (x : Declare) (none
     lot = lot_valid found.device standing.device;
   }
 
-  pub can_be_answered : (device : Option KnownDevice) → IsDeviceOf device t → HasRoom 1 declaration_key t.declarations → HasRoom 1 lot_key t.lots → (reply : Reply) → declare_reply s x ≡ reply → CanBeAnswered t device meta x reply
+  pub can_be_answered : (basis : KnownBasis) → IsBasisOf basis t → HasRoom 1 declaration_key t.declarations → HasRoom 1 lot_key t.lots → (reply : Reply) → declare_reply s x ≡ reply → CanBeAnswered t basis meta x reply
   unfolding declare_reply
-  can_be_answered device is declarations lots reply states = record {
+  can_be_answered basis is declarations lots reply states = record {
     carry = carry (with_declaration s x) x.device;
     issued = range_of (next_number s) (earned s x);
     reply_is = sym states;

@@ -19,13 +19,13 @@ use Rattle.goo_spec_tables.specs.Readable.{is_declaration, is_meta}
 use Rattle.goo_spec_tables.specs.Texts.{day_of}
 use Rattle.goo_store_plans.specs.AtHand.{HasStanding}
 use Rattle.goo_store_plans.specs.Carrying.{IsAccepted}
-use Rattle.goo_store_plans.specs.Found.{IsDeviceOf}
+use Rattle.goo_store_plans.specs.Found.{IsBasisOf}
 use Rattle.goo_store_plans.specs.GatheredLots.{AddsLot}
 use Rattle.goo_store_plans.specs.Progressing.{SetsProgress}
 use Rattle.goo_store_plans.specs.Standing.{IsStanding}
 use Rattle.goo_store_changes.specs.declared.change.TableChange.{TableChange}
 use Rattle.goo_store_changes.specs.declared.change.TableChange.TheVariants.{AddDeclaration}
-use Rattle.goo_store_plans.specs.declared.findings.KnownDevice.{KnownDevice}
+use Rattle.goo_store_plans.specs.declared.findings.KnownBasis.{KnownBasis}
 use Rattle.goo_store_plans.specs.declared.gathered_lots.Gathered.{Gathered}
 use Rattle.goo_store_plans.specs.declared.standing.DeclarationBasis.{DeclarationBasis}
 
@@ -79,13 +79,13 @@ pub record IsWithinLimits (meta : MetaRow) (x : Declare) (carry : ℕ) (issued :
   pub lot : IsLot (lot_stated meta x found.device)
 
 -- the device is registered, it is the one that is kept if it is, and whatever stands for the declaration is within its limits
-pub record CanBeDeclared (t : Tables) (kept : Option KnownDevice) (meta : MetaRow) (x : Declare) (carry : ℕ) (issued : Option Numbers) : Type 0 where
-  pub kept_is : IsDeviceOf kept t
+pub record CanBeDeclared (t : Tables) (kept : KnownBasis) (meta : MetaRow) (x : Declare) (carry : ℕ) (issued : Option Numbers) : Type 0 where
+  pub kept_is : IsBasisOf kept t
   pub standing : HasStanding t x.device
   pub limits : (found : DeclarationBasis) → IsStanding t x.device found → IsWithinLimits meta x carry issued found
 
 -- so by the reply, which is a declaration's
-pub record CanBeAnswered (t : Tables) (kept : Option KnownDevice) (meta : MetaRow) (x : Declare) (reply : Reply) : Type 0 where
+pub record CanBeAnswered (t : Tables) (kept : KnownBasis) (meta : MetaRow) (x : Declare) (reply : Reply) : Type 0 where
   pub carry : ℕ
   pub issued : Option Numbers
   pub reply_is : reply ≡ Declared carry issued

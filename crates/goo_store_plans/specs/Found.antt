@@ -1,13 +1,17 @@
 -- What was found in the tables before, and is kept for the next commit.
-use Rattle.std.specs.Prelude.{◌≡◌, ℕ, pos, List, [], All, Option, Some, None, option_map}
+use Rattle.std.specs.Prelude.{◌≡◌, ◌==◌, true, ℕ, ℤ, pos, List, [], All, Option, Some, None, option_map}
 use Rattle.std.specs.FinMap.{get}
-use Rattle.sqlite_keyed.specs.Keyed.{get_by}
+use Rattle.std.specs.List.{list_any}
+use Rattle.sqlite_keyed.specs.Keyed.{IsKeyedBy, get_by, next_key}
 use Rattle.goo_types.specs.declared.lot_fields.LotFields.{LotFields}
-use Rattle.goo_tables_rows.specs.Rows.{Tables, Lot, lot_key, meta_in}
+use Rattle.goo_types.specs.declared.piece.Piece.{Piece}
+use Rattle.goo_tables_rows.specs.Rows.{Tables, Lot, declaration_key, lot_key, meta_in}
 use Rattle.goo_tables_rows.specs.declared.meta.MetaRow.{MetaRow}
-use Rattle.goo_spec_tables.specs.Places.{lot_of}
+use Rattle.goo_spec_tables.specs.Places.{lot_of, rows_of}
 use Rattle.goo_spec_tables.specs.States.{state_of}
+use Rattle.goo_store_plans.specs.declared.findings.Edges.{Edges}
 use Rattle.goo_store_plans.specs.declared.findings.Findings.{Findings}
+use Rattle.goo_store_plans.specs.declared.findings.KnownBasis.{KnownBasis}
 use Rattle.goo_store_plans.specs.declared.findings.KnownDevice.{KnownDevice}
 use Rattle.goo_store_plans.specs.declared.lot_numbers.NumberedLot.{NumberedLot}
 
@@ -21,6 +25,28 @@ abbrev pub IsDeviceOf : Option KnownDevice → Tables → Type 0
 IsDeviceOf None t = Unit {0}
 IsDeviceOf (Some known) t = get (state_of t).devices known.gsrn ≡ Some known.device
 
+-- where the number of a table's next row is kept, it is one above the last
+abbrev pub IsNext : {X : Type 0} → Option ℕ → (X → ℤ) → List X → Type 0
+IsNext None key rows = Unit {0}
+IsNext (Some n) key rows = pos n ≡ next_key key rows
+
+-- what is known of the basis of a declaration is so in the tables
+pub record IsBasisOf (known : KnownBasis) (t : Tables) : Type 0 where
+  pub device : IsDeviceOf known.device t
+  pub number : IsNext known.number declaration_key t.declarations
+  pub next_lot : IsNext known.next_lot lot_key t.lots
+
+-- the rows that have these numbers come in their order
+pub record AreNumbered (t : Tables) : Type 0 where
+  pub declarations : IsKeyedBy declaration_key t.declarations
+  pub lots : IsKeyedBy lot_key t.lots
+
+-- nothing is known
+pub record IsNoBasis (known : KnownBasis) : Type 0 where
+  pub device : known.device ≡ None
+  pub number : known.number ≡ None
+  pub next_lot : known.next_lot ≡ None
+
 -- the row under the number states the lot
 abbrev pub IsStated : List Lot → ℕ → LotFields → Type 0
 IsStated lots n lot = option_map lot_of (get_by lot_key lots (pos n)) ≡ Some lot
@@ -28,14 +54,25 @@ IsStated lots n lot = option_map lot_of (get_by lot_key lots (pos n)) ≡ Some l
 abbrev pub AreStated : List Lot → List NumberedLot → Type 0
 AreStated lots xs = All (λ x. IsStated lots x.number x.lot) xs
 
+-- a row ends at the number, if one is kept
+abbrev pub IsEdge : Option ℕ → List Piece → Type 0
+IsEdge None rows = Unit {0}
+IsEdge (Some n) rows = list_any (λ p. p.last == n) rows ≡ true
+
+pub record AreEdges (edges : Edges) (rows : List Piece) : Type 0 where
+  pub last : IsEdge edges.last rows
+  pub asked : IsEdge edges.asked rows
+
 -- all that is kept is so in the tables
 pub record AreFindingsOf (findings : Findings) (t : Tables) : Type 0 where
   pub own : IsRowOf findings.own t
-  pub device : IsDeviceOf findings.device t
+  pub basis : IsBasisOf findings.basis t
   pub lots : AreStated t.lots findings.lots.items
+  pub edges : AreEdges findings.edges (rows_of t)
 
 -- nothing is kept
 pub record AreNone (findings : Findings) : Type 0 where
   pub own : findings.own ≡ None
-  pub device : findings.device ≡ None
+  pub basis : IsNoBasis findings.basis
   pub lots : findings.lots.items ≡ []
+  pub edges : findings.edges ≡ record { last = None; asked = None }

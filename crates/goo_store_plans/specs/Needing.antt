@@ -10,11 +10,11 @@ use Rattle.goo_store_plans.specs.Carried.{CanTakeNumber}
 use Rattle.goo_store_plans.specs.Correcting.{CanAnswerCorrection}
 use Rattle.goo_store_plans.specs.Declaring.{CanBeAnswered}
 use Rattle.goo_store_plans.specs.Found.{IsRowOf}
-use Rattle.goo_store_plans.specs.declared.findings.KnownDevice.{KnownDevice}
+use Rattle.goo_store_plans.specs.declared.findings.KnownBasis.{KnownBasis}
 
 -- by the registry's row, which is the one that is kept if it is: a declaration and a correction can be answered, and any other
 -- command takes a number
-pub record CanGoByRow (t : Tables) (own : Option MetaRow) (kept : Option KnownDevice) (plan : Plan) : Type 0 where
+pub record CanGoByRow (t : Tables) (own : Option MetaRow) (kept : KnownBasis) (plan : Plan) : Type 0 where
   pub own_is : IsRowOf own t
   pub declares : (meta : MetaRow) (x : Declare) → t.meta ≡ meta_in meta → plan.request.command ≡ command.Declare x → CanBeAnswered t kept meta x plan.reply
   pub corrects : (meta : MetaRow) (x : Correct) → t.meta ≡ meta_in meta → plan.request.command ≡ command.Correct x → CanAnswerCorrection t meta x plan.reply

@@ -12,14 +12,14 @@ use Rattle.goo_spec_tables.specs.States.{state_of}
 use Rattle.goo_store_plans.specs.AtHand.{HasRoom}
 use Rattle.goo_store_plans.specs.Carried.{AreInOrder}
 use Rattle.goo_store_plans.specs.EditsTaken.{HaveKeptNumbers, HaveKnownLots}
-use Rattle.goo_store_plans.specs.Found.{AreFindingsOf}
+use Rattle.goo_store_plans.specs.Found.{AreFindingsOf, IsNext}
 use Rattle.goo_store_plans.specs.Needing.{CanGoByRow}
 use Rattle.goo_store_plans.specs.declared.findings.Findings.{Findings}
-use Rattle.goo_store_plans.specs.declared.findings.KnownDevice.{KnownDevice}
+use Rattle.goo_store_plans.specs.declared.findings.KnownBasis.{KnownBasis}
 
 -- an import has room for the lots of its parts, and a command that needs the registry's row can go by it
-abbrev pub CanGo : Tables → Option MetaRow → Option KnownDevice → Plan → Command → Type 0
-CanGo t own kept plan (Import x) = HasRoom (length x.notice.parts) lot_key t.lots
+abbrev pub CanGo : Tables → Option MetaRow → KnownBasis → Plan → Command → Type 0
+CanGo t own kept plan (Import x) = IsNext kept.next_lot lot_key t.lots × HasRoom (length x.notice.parts) lot_key t.lots
 CanGo t own kept plan (OpenAccount x) = CanGoByRow t own kept plan
 CanGo t own kept plan (Declare x) = CanGoByRow t own kept plan
 CanGo t own kept plan (Correct x) = CanGoByRow t own kept plan

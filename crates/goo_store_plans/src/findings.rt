@@ -1,6 +1,6 @@
 //! What a shelf keeps of its look-ups for the next commit.
 
-ghost use Rattle.goo_store_plans.specs.Found.{AreNone};
+ghost use Rattle.goo_store_plans.specs.Found.{AreNone, IsNoBasis};
 
 use crate::lot_numbers::NumberedLot;
 use goo_core_shelf::device::Device;
@@ -17,16 +17,51 @@ pub struct KnownDevice {
     pub device: Device,
 }
 
-/// What look-ups found that a commit needs. All of it is so in the tables; what isn't here, the commit
-/// looks up itself.
+/// What is known of the basis of a declaration before it is looked up.
+#[derive(Clone, Copy)]
+pub struct KnownBasis {
+    /// The device whose record was found last.
+    pub device: Option<KnownDevice>,
+    /// The number that the next declaration gets.
+    pub number: Option<u64>,
+    /// The number that the next lot gets.
+    pub next_lot: Option<u64>,
+}
+
+/// Numbers at which rows are known to end: no row reaches above one of them from below.
+#[derive(Clone, Copy)]
+pub struct Edges {
+    /// Where the row ends that was found last.
+    pub last: Option<u64>,
+    /// Where the one before it ends, by which it was asked for.
+    pub asked: Option<u64>,
+}
+
+/// What look-ups and commits found that a commit needs. All of it is so in the tables; what isn't here, the
+/// commit looks up itself.
 #[derive(Drop)]
 pub struct Findings {
     /// The registry's row.
     pub own: Option<MetaRow>,
-    /// The device whose record was found last.
-    pub device: Option<KnownDevice>,
+    /// What is known of the basis of a declaration.
+    pub basis: KnownBasis,
     /// Some lots that were found by their keys or beside rows that name them, under their numbers.
     pub lots: Vec<NumberedLot>,
+    /// Where rows are known to end.
+    pub edges: Edges,
+}
+
+impl KnownBasis {
+    /// Nothing is known.
+    pub fn none() -> KnownBasis
+        ensures { IsNoBasis result }
+    {
+        KnownBasis {
+            device: None,
+            number: None,
+            next_lot: None,
+        }
+    }
 }
 
 impl Findings {
@@ -36,8 +71,12 @@ impl Findings {
     {
         Findings {
             own: None,
-            device: None,
+            basis: KnownBasis::none(),
             lots: Vec::new(alloc),
+            edges: Edges {
+                last: None,
+                asked: None,
+            },
         }
     }
 }

@@ -10,7 +10,7 @@ ghost use Rattle.goo_spec.specs.State.{text_cmp};
 ghost use Rattle.goo_tables_rows.specs.Rows.{lot_in, lot_key};
 ghost use Rattle.goo_store_plans.specs.AtHand.{HasRoom};
 ghost use Rattle.goo_store_changes.specs.Changes.{ChangeFits};
-ghost use Rattle.goo_store_plans.specs.Found.{AreStated};
+ghost use Rattle.goo_store_plans.specs.Found.{AreStated, IsNext};
 ghost use Rattle.goo_store_plans.specs.GatheredLots.{AddsLot, ArePutIn, Gathers};
 ghost use Rattle.goo_store_plans.specs.LookingUp.{LooksUp};
 ghost use Rattle.goo_store_plans.specs.LotRows.{is_among, next_lot};
@@ -55,14 +55,30 @@ fn number_after(found: Result<Option<LotRow>, Error>) -> Result<u64, Trouble>
     }
 }
 
-/// The number that the next lot gets.
-pub fn next_lot_number<S: Alter>(alloc: Global, conn: &mut Connection<S>) -> Result<u64, Trouble>
+/// The number that the next lot gets, as the table shows it.
+fn find_lot_number<S: Alter>(alloc: Global, conn: &mut Connection<S>) -> Result<u64, Trouble>
     ensures looks { LooksUp (state S.Store conn.old) (state S.Store conn.new) result (λ t n. pos n ≡ next_key lot_key t.lots) }
     ensures blames { BlamesDisk (state S.Store conn.old) (state S.Store conn.new) result (λ t. HasRoom 0 lot_key t.lots) }
     ensures outside { conn.old.in_transaction ≡ false → conn.new.in_transaction ≡ false }
 {
     let found = last_lot(alloc, conn);
     number_after(found)
+}
+
+/// The number that the next lot gets: the one that is known, where one is.
+pub(crate) fn next_lot_number<S: Alter>(
+    alloc: Global,
+    conn: &mut Connection<S>,
+    known: Option<u64>,
+) -> Result<u64, Trouble>
+    ensures looks { LooksUp (state S.Store conn.old) (state S.Store conn.new) result (λ t n. IsNext known lot_key t.lots → pos n ≡ next_key lot_key t.lots) }
+    ensures blames { BlamesDisk (state S.Store conn.old) (state S.Store conn.new) result (λ t. HasRoom 0 lot_key t.lots) }
+    ensures outside { conn.old.in_transaction ≡ false → conn.new.in_transaction ≡ false }
+{
+    match known {
+        Some(number) => Ok(number),
+        None => find_lot_number(alloc, conn),
+    }
 }
 
 /// Whether there is a row.
@@ -168,19 +184,21 @@ fn gather_lot<S: Alter>(
     add_lot(alloc, gathered, &part.lot)
 }
 
-/// The lots of the parts that aren't known by then, in turn. Those that are kept aren't looked up.
+/// The lots of the parts that aren't known by then, in turn. Those that are kept aren't looked up, nor is the
+/// number of the first where it is known.
 pub fn gather_lots<S: Alter>(
     alloc: Global,
     conn: &mut Connection<S>,
+    known: Option<u64>,
     kept: &[NumberedLot],
     parts: &[Part],
 ) -> Result<Gathered, Trouble>
-    ensures looks { LooksUp (state S.Store conn.old) (state S.Store conn.new) result (λ t gathered. AreStated t.lots kept.now → ArePutIn t.lots parts.now [] gathered) }
-    ensures blames { BlamesDisk (state S.Store conn.old) (state S.Store conn.new) result (λ t. HasRoom (length parts.now) lot_key t.lots) }
+    ensures looks { LooksUp (state S.Store conn.old) (state S.Store conn.new) result (λ t gathered. IsNext known lot_key t.lots → AreStated t.lots kept.now → ArePutIn t.lots parts.now [] gathered) }
+    ensures blames { BlamesDisk (state S.Store conn.old) (state S.Store conn.new) result (λ t. IsNext known lot_key t.lots × HasRoom (length parts.now) lot_key t.lots) }
     ensures outside { conn.old.in_transaction ≡ false → conn.new.in_transaction ≡ false }
     ensures fits { IfOk result (λ gathered. All ChangeFits gathered.changes.items) }
 {
-    let next = next_lot_number(alloc, conn)?;
+    let next = next_lot_number(alloc, conn, known)?;
     let changes = Vec::new(alloc);
     let added = Vec::new(alloc);
     let mut gathered = Gathered {

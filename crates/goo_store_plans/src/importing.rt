@@ -10,7 +10,7 @@ ghost use Rattle.goo_spec_tables.specs.States.{known_arrival};
 ghost use Rattle.goo_store_plans.specs.AtHand.{HasRoom};
 ghost use Rattle.goo_store_plans.specs.Carrying.{CarriesOut, IsAccepted};
 ghost use Rattle.goo_store_changes.specs.Changes.{ChangeFits};
-ghost use Rattle.goo_store_plans.specs.Found.{AreStated};
+ghost use Rattle.goo_store_plans.specs.Found.{AreStated, IsNext};
 ghost use Rattle.goo_store_plans.specs.LookingUp.{LooksUp};
 ghost use Rattle.goo_store_plans.specs.StoreFaults.{BlamesDisk};
 ghost use Rattle.goo_store_values.specs.declared.trouble.Trouble.TheVariants.{Memory};
@@ -43,19 +43,20 @@ fn notice_row(alloc: Global, notice: &Notice) -> Result<NoticeInRow, Trouble>
 }
 
 /// The lots of the notice's parts that aren't known yet, and the notice. Of lots that are kept it is
-/// known that they are.
+/// known that they are; `next_lot` is the number that the first of the others gets, where it is known.
 pub fn import_changes<S: Alter>(
     alloc: Global,
     conn: &mut Connection<S>,
+    next_lot: Option<u64>,
     kept: &[NumberedLot],
     import: &Import,
 ) -> Result<Gathered, Trouble>
-    ensures looks { LooksUp (state S.Store conn.old) (state S.Store conn.new) result (λ t gathered. AreStated t.lots kept.now → (q : Request) (reply : Reply) → q.command ≡ Command.Import import.now → IsAccepted t q reply → CarriesOut t q.command gathered) }
-    ensures blames { BlamesDisk (state S.Store conn.old) (state S.Store conn.new) result (λ t. HasRoom (length import.now.notice.parts) lot_key t.lots) }
+    ensures looks { LooksUp (state S.Store conn.old) (state S.Store conn.new) result (λ t gathered. IsNext next_lot lot_key t.lots → AreStated t.lots kept.now → (q : Request) (reply : Reply) → q.command ≡ Command.Import import.now → IsAccepted t q reply → CarriesOut t q.command gathered) }
+    ensures blames { BlamesDisk (state S.Store conn.old) (state S.Store conn.new) result (λ t. IsNext next_lot lot_key t.lots × HasRoom (length import.now.notice.parts) lot_key t.lots) }
     ensures fits { IfOk result (λ gathered. All ChangeFits gathered.changes.items) }
     ensures outside { conn.old.in_transaction ≡ false → conn.new.in_transaction ≡ false }
 {
-    let mut gathered = gather_lots(alloc, conn, kept, import.notice.parts())?;
+    let mut gathered = gather_lots(alloc, conn, next_lot, kept, import.notice.parts())?;
     let row = notice_row(alloc, &import.notice)?;
     gathered.changes.push(TableChange::AddNoticeIn(row))?;
     Ok(gathered)

@@ -10,6 +10,7 @@ pub mod findings;
 mod gathered_lots;
 mod importing;
 pub mod joining_pieces;
+mod known_basis;
 pub mod lot_numbers;
 mod member_changes;
 mod new_corrections;

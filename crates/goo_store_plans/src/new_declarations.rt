@@ -16,13 +16,13 @@ ghost use Rattle.goo_spec_tables.specs.Texts.{day_of};
 ghost use Rattle.goo_store_plans.specs.Carrying.{CarriesOut, IsAccepted};
 ghost use Rattle.goo_store_changes.specs.Changes.{ChangeFits};
 ghost use Rattle.goo_store_plans.specs.Declaring.{Begins, CanBeDeclared, IsDue, IsWithinLimits, Issues, count_of, lot_stated};
-ghost use Rattle.goo_store_plans.specs.Found.{IsDeviceOf};
+ghost use Rattle.goo_store_plans.specs.Found.{IsBasisOf};
 ghost use Rattle.goo_store_plans.specs.LookingUp.{LooksUp};
 ghost use Rattle.goo_store_plans.specs.StoreFaults.{BlamesDisk};
 ghost use Rattle.goo_store_values.specs.declared.trouble.Trouble.TheVariants.{Memory};
 
 use crate::device_progress::progress_change;
-use crate::findings::KnownDevice;
+use crate::findings::KnownBasis;
 use crate::gathered_lots::{Gathered, add_lot};
 use crate::new_rows::day_string;
 use crate::standing::{DeclarationBasis, find_standing};
@@ -165,7 +165,7 @@ fn declared_changes(
 }
 
 /// What an accepted declaration changes, by the carry in Wh and the certificates that its reply states.
-/// The device isn't looked up where it is kept.
+/// What is known of its basis isn't looked up.
 ///
 /// # Errors
 ///
@@ -174,16 +174,16 @@ pub fn declare_changes<S: Alter>(
     alloc: Global,
     conn: &mut Connection<S>,
     meta: &MetaRow,
-    kept: Option<KnownDevice>,
+    known: KnownBasis,
     declared: &Declare,
     carry: u64,
     issued: Option<Range>,
 ) -> Result<Gathered, Trouble>
-    ensures looks { LooksUp (state S.Store conn.old) (state S.Store conn.new) result (λ t gathered. (q : Request) (reply : Reply) → q.command ≡ Command.Declare declared.now → reply ≡ Declared carry issued → t.meta ≡ meta_in meta.now → IsDeviceOf kept t → IsAccepted t q reply → CarriesOut t q.command gathered) }
-    ensures blames { BlamesDisk (state S.Store conn.old) (state S.Store conn.new) result (λ t. CanBeDeclared t kept meta.now declared.now carry issued) }
+    ensures looks { LooksUp (state S.Store conn.old) (state S.Store conn.new) result (λ t gathered. (q : Request) (reply : Reply) → q.command ≡ Command.Declare declared.now → reply ≡ Declared carry issued → t.meta ≡ meta_in meta.now → IsBasisOf known t → IsAccepted t q reply → CarriesOut t q.command gathered) }
+    ensures blames { BlamesDisk (state S.Store conn.old) (state S.Store conn.new) result (λ t. CanBeDeclared t known meta.now declared.now carry issued) }
     ensures fits { IfOk result (λ gathered. All ChangeFits gathered.changes.items) }
     ensures outside { conn.old.in_transaction ≡ false → conn.new.in_transaction ≡ false }
 {
-    let standing = find_standing(alloc, conn, kept, &declared.device)?;
+    let standing = find_standing(alloc, conn, known, &declared.device)?;
     declared_changes(alloc, meta, declared, carry, issued, &standing)
 }

@@ -19,7 +19,7 @@ ghost use Rattle.goo_store_plans.specs.Correcting.{CanAnswerCorrection};
 ghost use Rattle.goo_store_plans.specs.Declaring.{CanBeAnswered};
 ghost use Rattle.goo_store_plans.specs.EditChanges.{AreForEdits};
 ghost use Rattle.goo_store_plans.specs.LookingUp.{LooksUp};
-ghost use Rattle.goo_store_plans.specs.Found.{AreFindingsOf, AreStated, IsDeviceOf, IsRowOf};
+ghost use Rattle.goo_store_plans.specs.Found.{AreFindingsOf, AreStated, IsBasisOf, IsRowOf};
 ghost use Rattle.goo_store_plans.specs.Needing.{CanGoByRow};
 ghost use Rattle.goo_store_plans.specs.PlanNeeds.{CanBePlanned, CanGo};
 ghost use Rattle.goo_store_plans.specs.Planned.{IsPlanned};
@@ -28,9 +28,10 @@ ghost use Rattle.goo_store_values.specs.declared.trouble.Trouble.TheVariants.{Me
 
 use crate::command_changes::{numbered_changes, plain_changes};
 use crate::edit_changes::changes_of_edits;
-use crate::findings::{Findings, KnownDevice};
+use crate::findings::{Findings, KnownBasis};
 use crate::gathered_lots::Gathered;
 use crate::importing::import_changes;
+use crate::known_basis::{after_changes, with_numbers};
 use crate::lot_numbers::NumberedLot;
 use crate::new_corrections::correct_changes;
 use crate::new_declarations::declare_changes;
@@ -44,6 +45,15 @@ use goo_types::command::{Command, Correct, Declare};
 use goo_types::reply::Reply;
 use sqlite::{Alter, Connection};
 use std::alloc::Global;
+
+/// Changes of the tables, and what is known of the basis of a declaration once they are made.
+#[derive(Drop)]
+pub struct Planned {
+    /// The changes.
+    pub changes: Vec<TableChange>,
+    /// What is known then.
+    pub after: KnownBasis,
+}
 
 /// Changes that put no lot in.
 fn without_lots(alloc: Global, changes: Vec<TableChange>) -> Gathered
@@ -83,18 +93,18 @@ fn declaration<S: Alter>(
     alloc: Global,
     conn: &mut Connection<S>,
     meta: &MetaRow,
-    device: Option<KnownDevice>,
+    basis: KnownBasis,
     declared: &Declare,
     reply: Reply,
 ) -> Result<Gathered, Trouble>
-    ensures looks { LooksUp (state S.Store conn.old) (state S.Store conn.new) result (λ t gathered. (q : Request) → q.command ≡ Command.Declare declared.now → t.meta ≡ meta_in meta.now → IsDeviceOf device t → IsAccepted t q reply → CarriesOut t q.command gathered) }
+    ensures looks { LooksUp (state S.Store conn.old) (state S.Store conn.new) result (λ t gathered. (q : Request) → q.command ≡ Command.Declare declared.now → t.meta ≡ meta_in meta.now → IsBasisOf basis t → IsAccepted t q reply → CarriesOut t q.command gathered) }
     ensures fits { IfOk result (λ gathered. All ChangeFits gathered.changes.items) }
-    ensures blames { BlamesDisk (state S.Store conn.old) (state S.Store conn.new) result (λ t. CanBeAnswered t device meta.now declared.now reply) }
+    ensures blames { BlamesDisk (state S.Store conn.old) (state S.Store conn.new) result (λ t. CanBeAnswered t basis meta.now declared.now reply) }
     ensures outside { conn.old.in_transaction ≡ false → conn.new.in_transaction ≡ false }
 {
     match reply {
         Reply::Declared { carry, issued } => {
-            declare_changes(alloc, conn, meta, device, declared, carry, issued)
+            declare_changes(alloc, conn, meta, basis, declared, carry, issued)
         }
         _ => Err(Trouble::Refused),
     }
@@ -131,47 +141,45 @@ fn by_own_row<S: Alter>(
     alloc: Global,
     conn: &mut Connection<S>,
     own: Option<MetaRow>,
-    device: Option<KnownDevice>,
+    basis: KnownBasis,
     plan: &Plan,
 ) -> Result<Gathered, Trouble>
-    ensures gathers { LooksUp (state S.Store conn.old) (state S.Store conn.new) result (λ t gathered. IsRowOf own t → IsDeviceOf device t → AreKept t → AreInOrder t → Fits (state_of t) (rows_of t) plan.now → CarriesOut t plan.now.request.command gathered) }
-    ensures blames { BlamesDisk (state S.Store conn.old) (state S.Store conn.new) result (λ t. CanGoByRow t own device plan.now) }
+    ensures gathers { LooksUp (state S.Store conn.old) (state S.Store conn.new) result (λ t gathered. IsRowOf own t → IsBasisOf basis t → AreKept t → AreInOrder t → Fits (state_of t) (rows_of t) plan.now → CarriesOut t plan.now.request.command gathered) }
+    ensures blames { BlamesDisk (state S.Store conn.old) (state S.Store conn.new) result (λ t. CanGoByRow t own basis plan.now) }
     ensures outside { conn.old.in_transaction ≡ false → conn.new.in_transaction ≡ false }
     ensures fits { IfOk result (λ gathered. All ChangeFits gathered.changes.items) }
 {
     let meta = known_row(alloc, conn, own)?;
     match &plan.request.command {
-        Command::Declare(command) => {
-            declaration(alloc, conn, &meta, device, command, plan.reply)
-        }
+        Command::Declare(command) => { declaration(alloc, conn, &meta, basis, command, plan.reply) }
         Command::Correct(command) => correction(alloc, conn, &meta, command, plan.reply),
         _ => numbered(alloc, &meta, plan),
     }
 }
 
-/// What the plan's command changes beside the certificates. The registry's row, the device and the
-/// lots are looked up for those commands alone that need them, where they aren't kept.
+/// What the plan's command changes beside the certificates. The registry's row, the basis of a declaration
+/// and the lots are looked up for those commands alone that need them, where they aren't known.
 fn command_changes<S: Alter>(
     alloc: Global,
     conn: &mut Connection<S>,
     own: Option<MetaRow>,
-    device: Option<KnownDevice>,
+    basis: KnownBasis,
     lots: &[NumberedLot],
     plan: &Plan,
 ) -> Result<Gathered, Trouble>
-    ensures gathers { LooksUp (state S.Store conn.old) (state S.Store conn.new) result (λ t gathered. IsRowOf own t → IsDeviceOf device t → AreStated t.lots lots.now → AreKept t → AreInOrder t → Fits (state_of t) (rows_of t) plan.now → CarriesOut t plan.now.request.command gathered) }
-    ensures blames { BlamesDisk (state S.Store conn.old) (state S.Store conn.new) result (λ t. CanGo t own device plan.now plan.now.request.command) }
+    ensures gathers { LooksUp (state S.Store conn.old) (state S.Store conn.new) result (λ t gathered. IsRowOf own t → IsBasisOf basis t → AreStated t.lots lots.now → AreKept t → AreInOrder t → Fits (state_of t) (rows_of t) plan.now → CarriesOut t plan.now.request.command gathered) }
+    ensures blames { BlamesDisk (state S.Store conn.old) (state S.Store conn.new) result (λ t. CanGo t own basis plan.now plan.now.request.command) }
     ensures outside { conn.old.in_transaction ≡ false → conn.new.in_transaction ≡ false }
     ensures fits { IfOk result (λ gathered. All ChangeFits gathered.changes.items) }
 {
     match &plan.request.command {
-        Command::Import(command) => import_changes(alloc, conn, lots, command),
+        Command::Import(command) => import_changes(alloc, conn, basis.next_lot, lots, command),
         Command::OpenAccount(_)
         | Command::Declare(_)
         | Command::Correct(_)
         | Command::Cancel(_)
         | Command::Withdraw(_)
-        | Command::Export(_) => by_own_row(alloc, conn, own, device, plan),
+        | Command::Export(_) => by_own_row(alloc, conn, own, basis, plan),
         _ => plain(alloc, plan),
     }
 }
@@ -199,14 +207,8 @@ fn joined(
     Ok(changes)
 }
 
-/// The changes of the tables that carry out a plan, of which nothing is done yet. What was found
-/// before isn't looked up again.
-///
-/// # Errors
-///
-/// `Refused` where the tables lack what the plan needs or a number is used up, `Memory`, and the errors
-/// of the statements.
-pub fn plan_changes<S: Alter>(
+/// The changes of the tables that carry out a plan. What was found before isn't looked up again.
+fn changes_by<S: Alter>(
     alloc: Global,
     conn: &mut Connection<S>,
     findings: Findings,
@@ -217,10 +219,51 @@ pub fn plan_changes<S: Alter>(
     ensures outside { conn.old.in_transaction ≡ false → conn.new.in_transaction ≡ false }
     ensures fits { IfOk result (λ changes. All ChangeFits changes.items) }
 {
-    let Findings { own, device, lots } = findings;
-    let act = command_changes(alloc, conn, own, device, &lots, plan)?;
+    let Findings {
+        own,
+        basis,
+        lots,
+        edges: _,
+    } = findings;
+    let act = command_changes(alloc, conn, own, basis, &lots, plan)?;
     let mut added = act.added;
     added.extend_from_slice(&lots)?;
     let edits = changes_of_edits(alloc, conn, &added, &plan.edits)?;
     joined(alloc, act.changes, edits, plan)
+}
+
+/// The changes of the tables that carry out a plan, of which nothing is done yet, and what is known once they are made.
+/// What was found before isn't looked up again.
+///
+/// # Errors
+///
+/// `Refused` where the tables lack what the plan needs or a number is used up, `Memory`, and the errors
+/// of the statements.
+pub fn plan_changes<S: Alter>(
+    alloc: Global,
+    conn: &mut Connection<S>,
+    findings: Findings,
+    plan: &Plan,
+) -> Result<Planned, Trouble>
+    ensures gathers { LooksUp (state S.Store conn.old) (state S.Store conn.new) result (λ t planned. AreFindingsOf findings t → AreKept t → AreInOrder t → Fits (state_of t) (rows_of t) plan.now → IsPlanned t planned.changes.items plan.now × IsBasisOf planned.after (made_all t planned.changes.items)) }
+    ensures blames { BlamesDisk (state S.Store conn.old) (state S.Store conn.new) result (λ t. CanBePlanned t findings plan.now) }
+    ensures outside { conn.old.in_transaction ≡ false → conn.new.in_transaction ≡ false }
+    ensures fits { IfOk result (λ planned. All ChangeFits planned.changes.items) }
+{
+    let Findings {
+        own,
+        basis,
+        lots,
+        edges,
+    } = findings;
+    let basis = with_numbers(alloc, conn, basis, &plan.request.command)?;
+    let completed = Findings {
+        own,
+        basis,
+        lots,
+        edges,
+    };
+    let changes = changes_by(alloc, conn, completed, plan)?;
+    let after = after_changes(&basis, &changes);
+    Ok(Planned { changes, after })
 }

@@ -9,7 +9,7 @@ ghost use Rattle.goo_spec_tables.specs.Devices.{device_of};
 ghost use Rattle.goo_spec_tables.specs.Readable.{is_device};
 ghost use Rattle.goo_spec_tables.specs.States.{state_of};
 ghost use Rattle.goo_store_plans.specs.AtHand.{HasRoom, HasStanding, IsRegistered};
-ghost use Rattle.goo_store_plans.specs.Found.{IsDeviceOf};
+ghost use Rattle.goo_store_plans.specs.Found.{IsBasisOf, IsDeviceOf, IsNext};
 ghost use Rattle.goo_store_plans.specs.LookingUp.{LooksUp};
 ghost use Rattle.goo_store_plans.specs.LotRows.{next_declaration};
 ghost use Rattle.goo_store_plans.specs.Standing.{IsStanding};
@@ -17,7 +17,7 @@ ghost use Rattle.goo_store_plans.specs.StoreFaults.{BlamesDisk};
 ghost use Rattle.goo_store_values.specs.Passing.{Accepts, Passes};
 ghost use Rattle.goo_store_values.specs.declared.trouble.Trouble.TheVariants.{Refused};
 
-use crate::findings::KnownDevice;
+use crate::findings::{KnownBasis, KnownDevice};
 use crate::gathered_lots::next_lot_number;
 use goo_core_shelf::device::Device;
 use goo_store_values::devices::device_in_row;
@@ -98,8 +98,8 @@ fn number_after(found: Result<Option<DeclarationRow>, Error>) -> Result<u64, Tro
     }
 }
 
-/// The number that the next declaration gets.
-fn next_declaration_number<S: Alter>(
+/// The number that the next declaration gets, as the table shows it.
+fn find_declaration_number<S: Alter>(
     alloc: Global,
     conn: &mut Connection<S>,
 ) -> Result<u64, Trouble>
@@ -111,7 +111,23 @@ fn next_declaration_number<S: Alter>(
     number_after(found)
 }
 
-/// What the tables hold for a declaration of a device, which isn't looked up where it is kept.
+/// The number that the next declaration gets: the one that is known, where one is.
+pub(crate) fn next_declaration_number<S: Alter>(
+    alloc: Global,
+    conn: &mut Connection<S>,
+    known: Option<u64>,
+) -> Result<u64, Trouble>
+    ensures looks { LooksUp (state S.Store conn.old) (state S.Store conn.new) result (λ t n. IsNext known declaration_key t.declarations → pos n ≡ next_key declaration_key t.declarations) }
+    ensures blames { BlamesDisk (state S.Store conn.old) (state S.Store conn.new) result (λ t. HasRoom 0 declaration_key t.declarations) }
+    ensures outside { conn.old.in_transaction ≡ false → conn.new.in_transaction ≡ false }
+{
+    match known {
+        Some(number) => Ok(number),
+        None => find_declaration_number(alloc, conn),
+    }
+}
+
+/// What the tables hold for a declaration of a device. What is known isn't looked up.
 ///
 /// # Errors
 ///
@@ -119,16 +135,16 @@ fn next_declaration_number<S: Alter>(
 pub fn find_standing<S: Alter>(
     alloc: Global,
     conn: &mut Connection<S>,
-    kept: Option<KnownDevice>,
+    known: KnownBasis,
     gsrn: &Gsrn,
 ) -> Result<DeclarationBasis, Trouble>
-    ensures looks { LooksUp (state S.Store conn.old) (state S.Store conn.new) result (λ t standing. IsDeviceOf kept t → IsStanding t gsrn.now standing) }
+    ensures looks { LooksUp (state S.Store conn.old) (state S.Store conn.new) result (λ t standing. IsBasisOf known t → IsStanding t gsrn.now standing) }
     ensures blames { BlamesDisk (state S.Store conn.old) (state S.Store conn.new) result (λ t. HasStanding t gsrn.now) }
     ensures outside { conn.old.in_transaction ≡ false → conn.new.in_transaction ≡ false }
 {
-    let device = known_registered(alloc, conn, kept, gsrn)?;
-    let number = next_declaration_number(alloc, conn)?;
-    let next_lot = next_lot_number(alloc, conn)?;
+    let device = known_registered(alloc, conn, known.device, gsrn)?;
+    let number = next_declaration_number(alloc, conn, known.number)?;
+    let next_lot = next_lot_number(alloc, conn, known.next_lot)?;
     Ok(DeclarationBasis {
         device,
         number,

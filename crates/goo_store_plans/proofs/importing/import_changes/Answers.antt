@@ -16,8 +16,8 @@ pub returns-clause-looks : goal.returns-clause-looks
 returns-clause-looks g c =
     let before = c.in_ok-gathered.gathered in
     looks_made (state g.S.Store c.args.conn.now) (state g.S.Store c.gather_lots.new.conn) before (Ok (record { changes = c.push.new.self; added = before.added; next = before.next })) _ _ c.in_ok-gathered.ensures.looks
-    (λ t it put are q reply is accepted.
-    import_carried t c.args.import.now q reply is accepted c.parts.ensures.limit it.notices_in.rise before (subst (λ ps. ArePutIn t.lots ps [] before) c.parts.ensures.value (put are))
+    (λ t it put next are q reply is accepted.
+    import_carried t c.args.import.now q reply is accepted c.parts.ensures.limit it.notices_in.rise before (subst (λ ps. ArePutIn t.lots ps [] before) c.parts.ensures.value (put next are))
     c.in_ok-row.row (λ k. c.in_ok-row.ensures.states) (λ k. c.in_ok-row.ensures.reads) (record { changes = c.push.new.self; added = before.added; next = before.next }) c.in_ok-push.ensures.items refl)
 
 pub returns-clause-fits : goal.returns-clause-fits
@@ -29,7 +29,7 @@ returns-in_err-gathered-clause-blames g c =
     let s1 = state g.S.Store c.gather_lots.new.conn in
     let same : c.from_residual.result ≡ Err c.in_err-gathered.field-0.0 = search rules in
     blames_err s0 s1 c.in_err-gathered.field-0.0 c.from_residual.result _ same
-    (blames_so s0 s1 (Err c.in_err-gathered.field-0.0) _ _ c.in_err-gathered.ensures.blames (λ t stands kept room. subst (λ ps. HasRoom (length ps) lot_key t.lots) (sym c.parts.ensures.value) room))
+    (blames_so s0 s1 (Err c.in_err-gathered.field-0.0) _ _ c.in_err-gathered.ensures.blames (λ t stands kept can. (can.0, subst (λ ps. HasRoom (length ps) lot_key t.lots) (sym c.parts.ensures.value) can.1)))
 
 pub returns-in_err-row-clause-blames : goal.returns-in_err-row-clause-blames
 returns-in_err-row-clause-blames g c =

@@ -9,7 +9,7 @@ use Rattle.goo_store_plans.proofs.plan_changes.command_changes.Goals as goal
 pub returns-in-Import-clause-gathers : goal.returns-in-Import-clause-gathers
 returns-in-Import-clause-gathers g c =
     looks_so (state g.S.Store c.args.conn.now) (state g.S.Store c.import_changes.new.conn) c.import_changes.result _ _ c.import_changes.ensures.looks
-    (λ t it gathered says known device are kept order fits. says are c.args.plan.now.request c.args.plan.now.reply c.in-Import.is (record { kept = kept; accepted = fits.accepted }))
+    (λ t it gathered says known basis are kept order fits. says basis.next_lot are c.args.plan.now.request c.args.plan.now.reply c.in-Import.is (record { kept = kept; accepted = fits.accepted }))
 
 pub returns-in_default-clause-gathers : goal.returns-in_default-clause-gathers
 returns-in_default-clause-gathers g c =
@@ -23,4 +23,4 @@ returns-in-OpenAccount-clause-gathers g c =
 pub returns-in-Import-clause-blames : goal.returns-in-Import-clause-blames
 returns-in-Import-clause-blames g c =
     blames_so (state g.S.Store c.args.conn.now) (state g.S.Store c.import_changes.new.conn) c.import_changes.result _ _ c.import_changes.ensures.blames
-    (λ t stands kept can. subst (CanGo t c.args.own c.args.device c.args.plan.now) c.in-Import.is can)
+    (λ t stands kept can. subst (CanGo t c.args.own c.args.basis c.args.plan.now) c.in-Import.is can)

@@ -21,7 +21,7 @@ returns-in-Declared-clause-blames g c =
     blames_so (state g.S.Store c.args.conn.now) (state g.S.Store c.declare_changes.new.conn) c.declare_changes.result _ _ c.declare_changes.ensures.blames
     (λ t stands kept needs.
     let same = both_same needs.carry c.in-Declared.carry needs.issued c.in-Declared.issued (sym needs.reply_is ∙ c.in-Declared.is) in
-    subst (λ k. CanBeDeclared t c.args.device c.args.meta.now c.args.declared.now k c.in-Declared.issued) same.0 (subst (CanBeDeclared t c.args.device c.args.meta.now c.args.declared.now needs.carry) same.1 needs.can))
+    subst (λ k. CanBeDeclared t c.args.basis c.args.meta.now c.args.declared.now k c.in-Declared.issued) same.0 (subst (CanBeDeclared t c.args.basis c.args.meta.now c.args.declared.now needs.carry) same.1 needs.can))
 
 pub returns-in_default-clause-blames : goal.returns-in_default-clause-blames
 returns-in_default-clause-blames g c = blames_none (state g.S.Store c.args.conn.now) (Err Refused) _ (λ t stands kept needs. absurd (c.in_default.not-Declared needs.carry needs.issued needs.reply_is))

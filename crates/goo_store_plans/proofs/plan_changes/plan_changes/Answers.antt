@@ -1,88 +1,53 @@
-use Rattle.std.proofs.Common.{◌≡◌, List, ◌++◌, Ok, Err, IsOkUnless, ap, refl, sym, subst, ◌∙◌, rules}
+use Rattle.std.proofs.Common.{◌≡◌, Ok, Err, subst, rules}
 use Rattle.sqlite.specs.Held.{state}
-use Rattle.goo_core_shelf.specs.Plan.{Fits}
-use Rattle.goo_tables_rows.specs.Rows.{Tables, Lot}
-use Rattle.goo_tables_rows.proofs.Results.{if_ok}
-use Rattle.goo_spec_tables.specs.Kept.{AreKept}
-use Rattle.goo_spec_tables.specs.Places.{rows_of}
-use Rattle.goo_spec_tables.specs.States.{state_of}
-use Rattle.goo_store_plans.specs.Carried.{AreInOrder}
-use Rattle.goo_store_plans.specs.Carrying.{CarriesOut}
 use Rattle.goo_store_changes.specs.Changes.{made_all}
-use Rattle.goo_store_plans.specs.EditChanges.{AreForEdits}
-use Rattle.goo_store_plans.specs.LotNumbers.{AreWith}
-use Rattle.goo_store_plans.specs.Found.{AreStated, IsRowOf, IsDeviceOf}
-use Rattle.goo_store_plans.proofs.EditsAtHand.{edits_at_hand}
-use Rattle.goo_store_plans.proofs.Found.{with_found}
-use Rattle.goo_store_plans.proofs.Gathered.{gathers_then, gathers_made}
-use Rattle.goo_store_plans.specs.EditsTaken.{CanTakeEdits}
+use Rattle.goo_store_plans.specs.Found.{IsBasisOf}
 use Rattle.goo_store_plans.specs.PlanNeeds.{CanBePlanned}
-use Rattle.goo_store_values.specs.declared.trouble.Trouble.TheVariants.{Memory}
-use Rattle.goo_store_plans.proofs.LookUps.{looks_then}
-use Rattle.goo_store_plans.proofs.Needs.{can_go, kept_numbers}
+use Rattle.goo_store_plans.proofs.LookUps.{looks_made, looks_then}
 use Rattle.goo_store_plans.proofs.Refusing.{blames_err, blames_made, blames_so, blames_then}
 use Rattle.goo_store_plans.proofs.plan_changes.plan_changes.Goals as goal
 
 pub returns-clause-gathers : goal.returns-clause-gathers
 returns-clause-gathers g c =
-    let start = state g.S.Store c.args.conn.now in
-    let mid = state g.S.Store c.command_changes.new.conn in
-    let end = state g.S.Store c.changes_of_edits.new.conn in
-    let plan = c.args.plan.now in
-    let act = c.in_ok-act.act in
-    let lots_kept = c.deref.result.now in
-    let added = c.deref-3.result.now in
-    let edits = c.deref-4.result.now in
-    let Carries : Tables → Type 0 = λ t. IsRowOf c.args.findings.own t → IsDeviceOf c.args.findings.device t → AreStated t.lots lots_kept → AreKept t → AreInOrder t → Fits (state_of t) (rows_of t) plan → CarriesOut t plan.request.command act in
-    gathers_made start end c.in_ok-edits.edits c.joined.result _ _
-    (gathers_then start mid end act _ _ _ c.in_ok-act.ensures.gathers c.in_ok-edits.ensures.looks (λ t pieces. Carries t × ((lots : List Lot) → AreWith t.lots added lots → AreForEdits lots edits pieces.items)) (λ t pieces carry are. (carry, are)))
-    (λ t both. if_ok c.joined.result c.joined.ensures.planned (λ changes is known kept order fits.
-    let carries = both.0 known.own known.device (subst (AreStated t.lots) (sym c.deref.ensures.value) known.lots) kept order fits in
-    let lots = (made_all t act.changes.items).lots in
-    is t kept order fits act refl carries
-    (subst (λ es. AreForEdits lots es c.in_ok-edits.edits.items) c.deref-4.ensures.value (both.1 lots (subst (λ xs. AreWith t.lots xs lots) (sym (c.deref-3.ensures.value ∙ c.in_ok-extend_from_slice.ensures.items ∙ ap (λ xs. act.added.items ++ xs) c.deref-2.ensures.value)) (with_found t.lots act.added.items c.args.findings.lots.items lots known.lots carries.lots).with)))))
-
-pub returns-in_err-act-clause-blames : goal.returns-in_err-act-clause-blames
-returns-in_err-act-clause-blames g c =
     let s0 = state g.S.Store c.args.conn.now in
-    let s1 = state g.S.Store c.command_changes.new.conn in
-    let same : c.from_residual.result ≡ Err c.in_err-act.field-0.0 = search rules in
-    blames_err s0 s1 c.in_err-act.field-0.0 c.from_residual.result _ same (blames_so s0 s1 (Err c.in_err-act.field-0.0) _ _ c.in_err-act.ensures.blames (λ t stands kept can. can_go t kept c.args.plan.now can.fits c.args.findings.own can.found.own c.args.findings.device can.found.device can.room))
+    let s1 = state g.S.Store c.with_numbers.new.conn in
+    let s2 = state g.S.Store c.changes_by.new.conn in
+    let changes = c.in_ok-changes.changes in
+    looks_made s0 s2 changes (Ok (record { changes = changes; after = c.after_changes-after.result })) _ _
+    (looks_then s0 s1 s2 c.in_ok-basis.basis (Ok changes) _ _ c.in_ok-basis.ensures.looks c.in_ok-changes.ensures.gathers)
+    (λ t it both known kept order fits.
+    let basis = both.0 known.basis in (
+      both.1 (record { own = known.own; basis = basis; lots = known.lots; edges = known.edges }) kept order fits,
+      subst (λ xs. IsBasisOf c.after_changes-after.result (made_all t xs)) c.deref.ensures.value (c.after_changes-after.ensures t order basis),
+    ))
 
-pub returns-in_err-extend_from_slice-clause-blames : goal.returns-in_err-extend_from_slice-clause-blames
-returns-in_err-extend_from_slice-clause-blames g c =
-    let memory : IsOkUnless c.from_residual-in_err-extend_from_slice.result Memory = search rules in
-    blames_made (state g.S.Store c.args.conn.now) (state g.S.Store c.command_changes.new.conn) c.in_ok-act.act _ c.in_ok-act.ensures.gathers _ c.in_ok-act.ensures.blames c.from_residual-in_err-extend_from_slice.result _
-    (λ t stands kept can first. memory)
+pub returns-in_err-basis-clause-blames : goal.returns-in_err-basis-clause-blames
+returns-in_err-basis-clause-blames g c =
+    let s0 = state g.S.Store c.args.conn.now in
+    let s1 = state g.S.Store c.with_numbers.new.conn in
+    let same : c.from_residual.result ≡ Err c.in_err-basis.field-0.0 = search rules in
+    blames_err s0 s1 c.in_err-basis.field-0.0 c.from_residual.result _ same
+    (blames_so s0 s1 (Err c.in_err-basis.field-0.0) _ _ c.in_err-basis.ensures.blames (λ t stands kept can. can.room))
 
-pub returns-in_err-edits-clause-blames : goal.returns-in_err-edits-clause-blames
-returns-in_err-edits-clause-blames g c =
-    let start = state g.S.Store c.args.conn.now in
-    let mid = state g.S.Store c.command_changes.new.conn in
-    let end = state g.S.Store c.changes_of_edits.new.conn in
-    let act = c.in_ok-act.act in
-    let lots = c.args.findings.lots.items in
-    let same : c.from_residual-in_err-edits.result ≡ Err c.in_err-edits.field-0.0 = search rules in
-    blames_err start end c.in_err-edits.field-0.0 c.from_residual-in_err-edits.result _ same
-    (blames_then start mid end act _ c.in_ok-act.ensures.gathers _ c.in_ok-act.ensures.blames (Err c.in_err-edits.field-0.0) _ c.in_err-edits.ensures.looks _ c.in_err-edits.ensures.blames (λ t. CanBePlanned t c.args.findings c.args.plan.now)
-    (λ t stands kept can carry.
-    let carries = carry can.found.own can.found.device (subst (AreStated t.lots) (sym c.deref.ensures.value) can.found.lots) kept can.order can.fits in
-    subst (λ xs. CanTakeEdits xs t c.deref-4.result.now) (sym (c.deref-3.ensures.value ∙ c.in_ok-extend_from_slice.ensures.items ∙ ap (λ xs. act.added.items ++ xs) c.deref-2.ensures.value))
-    (subst (CanTakeEdits (act.added.items ++ lots) t) (sym c.deref-4.ensures.value) (edits_at_hand t c.args.plan.now act lots can.fits carries c.in_ok-act.ensures.fits can.found.lots can.edits can.lots))))
+pub returns-in_err-changes-clause-blames : goal.returns-in_err-changes-clause-blames
+returns-in_err-changes-clause-blames g c =
+    let s0 = state g.S.Store c.args.conn.now in
+    let s1 = state g.S.Store c.with_numbers.new.conn in
+    let s2 = state g.S.Store c.changes_by.new.conn in
+    let same : c.from_residual-in_err-changes.result ≡ Err c.in_err-changes.field-0.0 = search rules in
+    blames_err s0 s2 c.in_err-changes.field-0.0 c.from_residual-in_err-changes.result _ same
+    (blames_then s0 s1 s2 c.in_ok-basis.basis _ c.in_ok-basis.ensures.looks _ c.in_ok-basis.ensures.blames (Err c.in_err-changes.field-0.0) _ c.in_err-changes.ensures.gathers _ c.in_err-changes.ensures.blames _
+    (λ t stands kept can first.
+    record { found = record { own = can.found.own; basis = first can.found.basis; lots = can.found.lots; edges = can.found.edges }; order = can.order; fits = can.fits; room = can.room; edits = can.edits; lots = can.lots }))
 
 pub returns-clause-blames : goal.returns-clause-blames
 returns-clause-blames g c =
-    let start = state g.S.Store c.args.conn.now in
-    let mid = state g.S.Store c.command_changes.new.conn in
-    let end = state g.S.Store c.changes_of_edits.new.conn in
-    let act = c.in_ok-act.act in
-    let lots = c.args.findings.lots.items in
-    let edits = c.in_ok-edits.edits in
-    let Needs : Tables → Type 0 = λ t. CanBePlanned t c.args.findings c.args.plan.now in
-    blames_made start end edits _ (looks_then start mid end act (Ok edits) _ _ c.in_ok-act.ensures.gathers c.in_ok-edits.ensures.looks) Needs
-    (blames_then start mid end act _ c.in_ok-act.ensures.gathers _ c.in_ok-act.ensures.blames (Ok edits) _ c.in_ok-edits.ensures.looks _ c.in_ok-edits.ensures.blames Needs
-    (λ t stands kept can carry.
-    let carries = carry can.found.own can.found.device (subst (AreStated t.lots) (sym c.deref.ensures.value) can.found.lots) kept can.order can.fits in
-    subst (λ xs. CanTakeEdits xs t c.deref-4.result.now) (sym (c.deref-3.ensures.value ∙ c.in_ok-extend_from_slice.ensures.items ∙ ap (λ xs. act.added.items ++ xs) c.deref-2.ensures.value))
-    (subst (CanTakeEdits (act.added.items ++ lots) t) (sym c.deref-4.ensures.value) (edits_at_hand t c.args.plan.now act lots can.fits carries c.in_ok-act.ensures.fits can.found.lots can.edits can.lots))))
-    c.joined.result _ (λ t stands kept can first. c.joined.ensures.memory (kept_numbers t kept c.args.plan.now can.fits))
+    let s0 = state g.S.Store c.args.conn.now in
+    let s1 = state g.S.Store c.with_numbers.new.conn in
+    let s2 = state g.S.Store c.changes_by.new.conn in
+    let changes = c.in_ok-changes.changes in
+    blames_made s0 s2 changes _ (looks_then s0 s1 s2 c.in_ok-basis.basis (Ok changes) _ _ c.in_ok-basis.ensures.looks c.in_ok-changes.ensures.gathers) _
+    (blames_then s0 s1 s2 c.in_ok-basis.basis _ c.in_ok-basis.ensures.looks _ c.in_ok-basis.ensures.blames (Ok changes) _ c.in_ok-changes.ensures.gathers _ c.in_ok-changes.ensures.blames (λ t. CanBePlanned t c.args.findings c.args.plan.now)
+    (λ t stands kept can first.
+    record { found = record { own = can.found.own; basis = first can.found.basis; lots = can.found.lots; edges = can.found.edges }; order = can.order; fits = can.fits; room = can.room; edits = can.edits; lots = can.lots }))
+    (Ok (record { changes = changes; after = c.after_changes-after.result })) _ (λ t stands kept can first. tt)

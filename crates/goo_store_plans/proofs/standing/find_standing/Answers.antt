@@ -33,7 +33,7 @@ returns-clause-looks g c =
     looks_made s0 s3 c.in_ok-next_lot.next_lot (Ok (record { device = c.in_ok-device.device; number = c.in_ok-number.number; next_lot = c.in_ok-next_lot.next_lot })) _ _
     (looks_then s0 s2 s3 c.in_ok-number.number (Ok c.in_ok-next_lot.next_lot) _ _
     (looks_then s0 s1 s2 c.in_ok-device.device (Ok c.in_ok-number.number) _ _ c.in_ok-device.ensures.looks c.in_ok-number.ensures.looks) c.in_ok-next_lot.ensures.looks)
-    (λ t it both known. record { device = both.0.0 known; number = both.0.1; next_lot = both.1 })
+    (λ t it both known. record { device = both.0.0 known.device; number = both.0.1 known.number; next_lot = both.1 known.next_lot })
 
 pub returns-in_err-device-clause-blames : goal.returns-in_err-device-clause-blames
 returns-in_err-device-clause-blames g c =

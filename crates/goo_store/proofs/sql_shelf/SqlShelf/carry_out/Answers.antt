@@ -2,23 +2,25 @@ use Rattle.std.proofs.Common.{◌≡◌, Err, rules, sym, subst}
 use Rattle.sqlite.specs.Held.{state as view}
 use Rattle.goo_tables_rows.specs.Stands.{doubts}
 use Rattle.goo_store_lookups.specs.Moments.{moment, tables_in}
+use Rattle.goo_store_changes.specs.Changes.{made_all}
+use Rattle.goo_store_plans.specs.Found.{IsBasisOf}
 use Rattle.goo_store_plans.specs.Planned.{IsPlanned}
 use Rattle.goo_store.proofs.CommitBlamed.{blamed, blamed_before}
-use Rattle.goo_store.proofs.CommitLemmas.{well_after, committed}
-use Rattle.goo_store.proofs.Found.{none_known}
+use Rattle.goo_store.proofs.CommitLemmas.{basis_after, well_after, committed}
+use Rattle.goo_store.proofs.Found.{basis_known}
 use Rattle.goo_store.proofs.CommitsAfter.{not_refused, not_committed, as_err, fits_still, commits_after}
 use Rattle.goo_store.proofs.sql_shelf.SqlShelf.carry_out.Goals as goal
 
-pub returns-in_err-changes-clause-commits : goal.returns-in_err-changes-clause-commits
-returns-in_err-changes-clause-commits g c =
+pub returns-in_err-planned-clause-commits : goal.returns-in_err-planned-clause-commits
+returns-in_err-planned-clause-commits g c =
     let old = moment (view g.S.Store c.args.self.now.conn) c.args.self.now.refused in
     let new = moment (view g.S.Store c.changes_for.new.self.conn) c.changes_for.new.self.refused in
-    as_err old new c.args.plan.now c.from_residual.result c.in_err-changes.field-0.0 (search rules) (not_committed old new c.args.plan.now c.in_err-changes.field-0.0 c.in_err-changes.ensures.prepares)
+    as_err old new c.args.plan.now c.from_residual.result c.in_err-planned.field-0.0 (search rules) (not_committed old new c.args.plan.now c.in_err-planned.field-0.0 c.in_err-planned.ensures.prepares)
 
-pub returns-in_err-changes-clause-store : goal.returns-in_err-changes-clause-store
-returns-in_err-changes-clause-store g c =
-    let same : c.from_residual.result ≡ Err c.in_err-changes.field-0.0 = search rules in
-    blamed_before (view g.S.Store c.args.self.now.conn) (view g.S.Store c.changes_for.new.self.conn) c.args.self.now.refused c.in_err-changes.field-0.0 c.args.plan.now c.in_err-changes.ensures.store c.from_residual.result same
+pub returns-in_err-planned-clause-store : goal.returns-in_err-planned-clause-store
+returns-in_err-planned-clause-store g c =
+    let same : c.from_residual.result ≡ Err c.in_err-planned.field-0.0 = search rules in
+    blamed_before (view g.S.Store c.args.self.now.conn) (view g.S.Store c.changes_for.new.self.conn) c.args.self.now.refused c.in_err-planned.field-0.0 c.args.plan.now c.in_err-planned.ensures.store c.from_residual.result same
 
 pub invariant_of-self : goal.invariant_of-self
 invariant_of-self g c =
@@ -28,10 +30,14 @@ invariant_of-self g c =
     let plan = c.args.plan.now in
     let it = c.commit_changes-made.ensures in
     let planned : doubts mid ≡ 0 → IsPlanned (tables_in mid) c.deref.result.now plan =
-    λ none. subst (λ xs. IsPlanned (tables_in mid) xs plan) (sym c.deref.ensures.value) (c.in_ok-changes.ensures.planned none (fits_still old (moment mid shelf.refused) plan _ c.in_ok-changes.ensures.prepares c.requires none)) in record {
+    λ none. subst (λ xs. IsPlanned (tables_in mid) xs plan) (sym c.deref.ensures.value) (c.in_ok-planned.ensures.planned none (fits_still old (moment mid shelf.refused) plan _ c.in_ok-planned.ensures.prepares c.requires none)).0 in
+    let after : doubts mid ≡ 0 → IsBasisOf c.in_ok-planned.planned.after (made_all (tables_in mid) c.deref.result.now) =
+    λ none. subst (λ xs. IsBasisOf c.in_ok-planned.planned.after (made_all (tables_in mid) xs)) (sym c.deref.ensures.value) (c.in_ok-planned.ensures.planned none (fits_still old (moment mid shelf.refused) plan _ c.in_ok-planned.ensures.prepares c.requires none)).1 in record {
       outside = it.outside;
       well = well_after mid (view g.S.Store c.commit_changes-made.new.conn) shelf.well c.deref.result.now plan planned c.commit_changes-made.result it.clean it.was_open it.works it.done it.kept it.crash;
-      known = none_known (view g.S.Store c.commit_changes-made.new.conn) shelf.findings c.in_ok-changes.ensures.taken;
+      known = basis_known (view g.S.Store c.commit_changes-made.new.conn) shelf.findings c.in_ok-planned.ensures.taken c.known_after.result
+          (basis_after mid (view g.S.Store c.commit_changes-made.new.conn) shelf.well c.deref.result.now plan planned c.commit_changes-made.result it.clean it.was_open it.works it.done it.kept it.crash
+          c.in_ok-planned.planned.after c.known_after.result after c.known_after.ensures.done c.known_after.ensures.undone);
     }
 
 pub returns-clause-commits : goal.returns-clause-commits
@@ -42,10 +48,10 @@ returns-clause-commits g c =
     let new = view g.S.Store c.commit_changes-made.new.conn in
     let plan = c.args.plan.now in
     let it = c.commit_changes-made.ensures in
-    let looks = c.in_ok-changes.ensures.prepares in
+    let looks = c.in_ok-planned.ensures.prepares in
     let planned : doubts mid ≡ 0 → IsPlanned (tables_in mid) c.deref.result.now plan =
-    λ none. subst (λ xs. IsPlanned (tables_in mid) xs plan) (sym c.deref.ensures.value) (c.in_ok-changes.ensures.planned none (fits_still old (moment mid shelf.refused) plan _ looks c.requires none)) in
-    commits_after old (moment mid shelf.refused) plan (moment new c.told.new.refused) c.in_ok-changes.changes looks c.told.result
+    λ none. subst (λ xs. IsPlanned (tables_in mid) xs plan) (sym c.deref.ensures.value) (c.in_ok-planned.ensures.planned none (fits_still old (moment mid shelf.refused) plan _ looks c.requires none)).0 in
+    commits_after old (moment mid shelf.refused) plan (moment new c.told.new.refused) c.in_ok-planned.planned looks c.told.result
     (committed mid new shelf.well c.deref.result.now plan planned c.commit_changes-made.result it.clean it.was_open it.works it.done it.kept it.crash c.ending.result shelf.refused c.told.new.refused c.told.result
     (λ live db may. g.met.S.Store.settled shelf.conn.store db live may) (not_refused shelf.refused looks.told) c.ending.ensures.passes c.told.ensures)
 
@@ -57,8 +63,8 @@ returns-clause-store g c =
     let mid = view g.S.Store shelf.conn in
     let plan = c.args.plan.now in
     let it = c.commit_changes-made.ensures in
-    let looks = c.in_ok-changes.ensures.prepares in
+    let looks = c.in_ok-planned.ensures.prepares in
     let planned : doubts mid ≡ 0 → IsPlanned (tables_in mid) c.deref.result.now plan =
-    λ none. subst (λ xs. IsPlanned (tables_in mid) xs plan) (sym c.deref.ensures.value) (c.in_ok-changes.ensures.planned none (fits_still old (moment mid shelf.refused) plan _ looks c.requires none)) in
-    blamed start mid (view g.S.Store c.commit_changes-made.new.conn) c.args.self.now.refused shelf.refused c.told.new.refused plan c.in_ok-changes.changes looks c.in_ok-changes.ensures.store
-    shelf.well c.in_ok-changes.ensures.same c.deref.result.now planned c.commit_changes-made.result it.clean it.crash it.refused c.ending.result c.ending.ensures.passes c.ending.ensures.cause c.told.result c.told.ensures
+    λ none. subst (λ xs. IsPlanned (tables_in mid) xs plan) (sym c.deref.ensures.value) (c.in_ok-planned.ensures.planned none (fits_still old (moment mid shelf.refused) plan _ looks c.requires none)).0 in
+    blamed start mid (view g.S.Store c.commit_changes-made.new.conn) c.args.self.now.refused shelf.refused c.told.new.refused plan c.in_ok-planned.planned looks c.in_ok-planned.ensures.store
+    shelf.well c.in_ok-planned.ensures.same c.deref.result.now planned c.commit_changes-made.result it.clean it.crash it.refused c.ending.result c.ending.ensures.passes c.ending.ensures.cause c.told.result c.told.ensures

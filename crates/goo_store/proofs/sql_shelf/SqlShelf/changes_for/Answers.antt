@@ -14,32 +14,32 @@ returns-then-self-clause-prepares g c = refused_prepared (view g.S.Store c.args.
 
 pub invariant_of-self : goal.invariant_of-self
 invariant_of-self g c = record {
-  outside = c.plan_changes-changes.ensures.outside c.args.self.now.outside;
-  well = well (view g.S.Store c.args.self.now.conn) (view g.S.Store c.plan_changes-changes.new.conn) c.args.self.now.well c.plan_changes-changes.result _ c.plan_changes-changes.ensures.gathers;
-  known = none_known (view g.S.Store c.plan_changes-changes.new.conn) c.replace-findings.new.dest (subst AreNone (sym c.replace-findings.ensures.after) c.none.ensures);
+  outside = c.plan_changes-planned.ensures.outside c.args.self.now.outside;
+  well = well (view g.S.Store c.args.self.now.conn) (view g.S.Store c.plan_changes-planned.new.conn) c.args.self.now.well c.plan_changes-planned.result _ c.plan_changes-planned.ensures.gathers;
+  known = none_known (view g.S.Store c.plan_changes-planned.new.conn) c.replace-findings.new.dest (subst AreNone (sym c.replace-findings.ensures.after) c.none.ensures);
 }
 
 pub returns-clause-prepares : goal.returns-clause-prepares
 returns-clause-prepares g c =
-    gathered (view g.S.Store c.args.self.now.conn) (view g.S.Store c.plan_changes-changes.new.conn) c.args.self.now.well c.plan_changes-changes.result _ c.plan_changes-changes.ensures.gathers
+    gathered (view g.S.Store c.args.self.now.conn) (view g.S.Store c.plan_changes-planned.new.conn) c.args.self.now.well c.plan_changes-planned.result _ c.plan_changes-planned.ensures.gathers
     c.args.self.now.refused c.told.new.refused c.told.result (λ live db may. g.met.S.Store.settled c.args.self.now.conn.store db live may) c.if-self.false c.told.ensures
 
 pub returns-clause-planned : goal.returns-clause-planned
 returns-clause-planned g c =
     let old = view g.S.Store c.args.self.now.conn in
-    let new = view g.S.Store c.plan_changes-changes.new.conn in
-    let after = well old new c.args.self.now.well c.plan_changes-changes.result _ c.plan_changes-changes.ensures.gathers in
-    found_after old new c.args.self.now.well c.plan_changes-changes.result _ c.plan_changes-changes.ensures.gathers _ c.args.self.now.refused c.told.new.refused c.told.result c.told.ensures
-    (λ none changes is fits. is (subst (λ o. Knows new o) (sym c.replace-findings.ensures.value) (known old new c.args.self.now.well c.plan_changes-changes.result _ c.plan_changes-changes.ensures.gathers c.args.self.now.findings c.args.self.now.known) none) (after.kept none) (in_order new.now _ (after.stands none)) fits)
+    let new = view g.S.Store c.plan_changes-planned.new.conn in
+    let after = well old new c.args.self.now.well c.plan_changes-planned.result _ c.plan_changes-planned.ensures.gathers in
+    found_after old new c.args.self.now.well c.plan_changes-planned.result _ c.plan_changes-planned.ensures.gathers _ c.args.self.now.refused c.told.new.refused c.told.result c.told.ensures
+    (λ none planned is fits. is (subst (λ o. Knows new o) (sym c.replace-findings.ensures.value) (known old new c.args.self.now.well c.plan_changes-planned.result _ c.plan_changes-planned.ensures.gathers c.args.self.now.findings c.args.self.now.known) none) (after.kept none) (in_order new.now _ (after.stands none)) fits)
 
 pub returns-then-self-clause-store : goal.returns-then-self-clause-store
 returns-then-self-clause-store g c = refused_gathering (view g.S.Store c.args.self.now.conn) c.args.self.now.refused _ (λ t. HaveWhatItNeeds t c.args.plan.now) c.if-self.true
 
 pub returns-clause-same : goal.returns-clause-same
-returns-clause-same g c = tables_same (view g.S.Store c.args.self.now.conn) (view g.S.Store c.plan_changes-changes.new.conn) c.args.self.now.well c.plan_changes-changes.result _ c.plan_changes-changes.ensures.gathers
+returns-clause-same g c = tables_same (view g.S.Store c.args.self.now.conn) (view g.S.Store c.plan_changes-planned.new.conn) c.args.self.now.well c.plan_changes-planned.result _ c.plan_changes-planned.ensures.gathers
 
 pub returns-clause-store : goal.returns-clause-store
 returns-clause-store g c =
     let old = view g.S.Store c.args.self.now.conn in
-    gathering old (view g.S.Store c.plan_changes-changes.new.conn) c.args.self.now.well c.plan_changes-changes.result _ c.plan_changes-changes.ensures.gathers
-    _ (subst (λ o. Knows old o) (sym c.replace-findings.ensures.value) c.args.self.now.known) c.args.plan.now c.args.self.now.refused c.told.new.refused c.told.result c.plan_changes-changes.ensures.blames c.told.ensures
+    gathering old (view g.S.Store c.plan_changes-planned.new.conn) c.args.self.now.well c.plan_changes-planned.result _ c.plan_changes-planned.ensures.gathers
+    _ (subst (λ o. Knows old o) (sym c.replace-findings.ensures.value) c.args.self.now.known) c.args.plan.now c.args.self.now.refused c.told.new.refused c.told.result c.plan_changes-planned.ensures.blames c.told.ensures

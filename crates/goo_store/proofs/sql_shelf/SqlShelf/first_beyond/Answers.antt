@@ -1,13 +1,14 @@
-use Rattle.std.proofs.Common.{refl, []}
+use Rattle.std.proofs.Common.{inl, inr, refl, sym, subst, []}
 use Rattle.std.specs.List.{cons_option}
 use Rattle.sqlite.specs.Held.{state as view}
 use Rattle.goo_store_lookups.specs.Moments.{tables_in}
 use Rattle.goo_spec_tables.specs.Places.{rows_of}
 use Rattle.goo_store_lookups.proofs.Looking.{looked, refused_look, well}
+use Rattle.goo_store_plans.specs.Found.{IsEdge}
 use Rattle.goo_store.proofs.Found.{lots_known, first_beside}
 use Rattle.goo_store_lookups.proofs.Blaming.{blames, refused_blames}
 use Rattle.goo_store.proofs.RowsRead.{pieces_read}
-use Rattle.goo_store.proofs.NextRow.{beyond_found, beyond_read}
+use Rattle.goo_store.proofs.NextRow.{beyond_found, beyond_read, edge_after}
 use Rattle.goo_store.proofs.sql_shelf.SqlShelf.first_beyond.Goals as goal
 
 pub returns-then-self-clause-looks : goal.returns-then-self-clause-looks
@@ -20,7 +21,17 @@ invariant_of-self g c = record {
   known =
       lots_known (view g.S.Store c.args.self.now.conn) (view g.S.Store c.ask_next-found.new.conn) c.args.self.now.well _ _ c.ask_next-found.ensures.looks (λ row. cons_option row [])
       (λ row is. first_beside (tables_in (view g.S.Store c.args.self.now.conn)) _ row is)
-      c.args.self.now.findings (record { own = c.args.self.now.findings.own; device = c.args.self.now.findings.device; lots = c.read_beyond-row.new.lots }) refl refl c.args.self.now.known c.read_beyond-row.ensures.kept;
+      c.args.self.now.findings (record { own = c.args.self.now.findings.own; basis = c.args.self.now.findings.basis; lots = c.read_beyond-row.new.lots; edges = c.edges_after-self.result }) refl refl
+      (λ none were. record {
+        last = edge_after (view g.S.Store c.args.self.now.conn) (view g.S.Store c.ask_next-found.new.conn) c.args.self.now.well c.args.sought.now c.ask_next-found.ensures.dated c.args.after _ c.ask_next-found.ensures.looks
+            c.read_beyond-row.result c.read_beyond-row.ensures.value c.edges_after-self.result.last c.edges_after-self.ensures.last none;
+        asked =
+            elim c.edges_after-self.ensures.asked [
+              | inl is ↦ subst (λ o. IsEdge o (rows_of (tables_in (view g.S.Store c.ask_next-found.new.conn)))) (sym is) were.last
+              | inr is ↦ subst (λ o. IsEdge o (rows_of (tables_in (view g.S.Store c.ask_next-found.new.conn)))) (sym is) were.asked
+            ];
+      })
+      c.args.self.now.known c.read_beyond-row.ensures.kept;
 }
 
 pub returns-clause-looks : goal.returns-clause-looks

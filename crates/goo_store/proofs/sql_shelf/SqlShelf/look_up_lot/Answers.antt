@@ -26,7 +26,7 @@ invariant_of-self g c = record {
   well = well (view g.S.Store c.args.self.now.conn) (view g.S.Store c.find_lot-found.new.conn) c.args.self.now.well _ _ c.find_lot-found.ensures.looks;
   known =
       lot_known (view g.S.Store c.args.self.now.conn) (view g.S.Store c.find_lot-found.new.conn) c.args.self.now.well _ _ c.find_lot-found.ensures.looks
-      c.args.self.now.findings (record { own = c.args.self.now.findings.own; device = c.args.self.now.findings.device; lots = c.read_found-lot.new.lots }) refl refl c.args.self.now.known c.read_found-lot.ensures.kept;
+      c.args.self.now.findings (record { own = c.args.self.now.findings.own; basis = c.args.self.now.findings.basis; lots = c.read_found-lot.new.lots; edges = c.args.self.now.findings.edges }) refl refl (λ none is. is) c.args.self.now.known c.read_found-lot.ensures.kept;
 }
 
 pub returns-clause-looks : goal.returns-clause-looks

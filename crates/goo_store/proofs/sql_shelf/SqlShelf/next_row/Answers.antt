@@ -1,4 +1,4 @@
-use Rattle.std.proofs.Common.{◌≡◌, ◌∙◌, ◌&&◌, nat_lt, List, Option, rules, find, ap, sym, None, Some}
+use Rattle.std.proofs.Common.{◌≡◌, ◌∙◌, ◌&&◌, nat_lt, List, Option, rules, find, inl, inr, ap, sym, subst, None, Some}
 use Rattle.goo_spec.specs.State.{State}
 use Rattle.goo_types.specs.declared.piece.Piece.{Piece}
 use Rattle.sqlite.specs.Held.{state as view}
@@ -7,6 +7,8 @@ use Rattle.goo_core_shelf.specs.Sought.{is_sought}
 use Rattle.goo_core_shelf.proofs.Looking.{looked, looked_as, looked_then}
 use Rattle.goo_store_lookups.specs.Moments.{moment, tables_in}
 use Rattle.goo_store_lookups.proofs.Blaming.{blamed_then}
+use Rattle.goo_store_plans.specs.Found.{IsEdge}
+use Rattle.goo_store.proofs.Edges.{next_behind}
 use Rattle.goo_store.proofs.NextRow.{before_forward, next_before, next_later, first_of_all}
 use Rattle.goo_store.proofs.sql_shelf.SqlShelf.next_row.Goals as goal
 
@@ -50,3 +52,20 @@ returns-in-None-clause-store g c =
     let new = c.first_beyond-in-None.new.self in
     blamed_then old (view g.S.Store mid.conn) (view g.S.Store new.conn) c.args.self.now.refused mid.refused new.refused c.in_ok-before.before _ c.in_ok-before.ensures.looks c.in_ok-before.ensures.store
     c.first_beyond-in-None.result _ c.first_beyond-in-None.ensures.looks c.first_beyond-in-None.ensures.store
+
+-- where a row is known to end at the number
+
+pub returns-then-is_clear-clause-looks : goal.returns-then-is_clear-clause-looks
+returns-then-is_clear-clause-looks g c =
+    let old = view g.S.Store c.args.self.now.conn in
+    let new = c.first_beyond-then-is_clear.new.self in
+    let well = c.args.self.now.well in
+    let rows = rows_of (tables_in old) in
+    looked_as (moment old c.args.self.now.refused) (moment (view g.S.Store new.conn) new.refused) c.first_beyond-then-is_clear.result _ _ c.first_beyond-then-is_clear.ensures.looks
+    (λ fine row found.
+    let at : IsEdge (Some c.get-after.result) rows =
+    elim (c.is_clear.ensures c.if-is_clear.true) [
+      | inl is ↦ subst (λ o. IsEdge o rows) is (c.args.self.now.known fine).edges.last
+      | inr is ↦ subst (λ o. IsEdge o rows) is (c.args.self.now.known fine).edges.asked
+    ] in
+    found ∙ sym (next_behind (is_sought c.args.sought.now) c.args.after c.get-after.result (c.in-Some.is ∙ ap Some (sym c.get-after.ensures.value)) rows (well.kept fine).rising at))

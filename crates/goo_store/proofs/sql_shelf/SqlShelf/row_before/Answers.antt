@@ -22,7 +22,7 @@ invariant_of-self g c = record {
   known =
       lots_known (view g.S.Store c.args.self.now.conn) (view g.S.Store c.piece_before-found.new.conn) c.args.self.now.well _ _ c.piece_before-found.ensures.looks (λ row. cons_option row [])
       (λ row is. last_beside (tables_in (view g.S.Store c.args.self.now.conn)) _ row is)
-      c.args.self.now.findings (record { own = c.args.self.now.findings.own; device = c.args.self.now.findings.device; lots = c.read_maybe-row.new.lots }) refl refl c.args.self.now.known c.read_maybe-row.ensures.kept;
+      c.args.self.now.findings (record { own = c.args.self.now.findings.own; basis = c.args.self.now.findings.basis; lots = c.read_maybe-row.new.lots; edges = c.args.self.now.findings.edges }) refl refl (λ none is. is) c.args.self.now.known c.read_maybe-row.ensures.kept;
 }
 
 pub returns-clause-looks : goal.returns-clause-looks

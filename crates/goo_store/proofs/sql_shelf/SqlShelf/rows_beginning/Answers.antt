@@ -21,7 +21,7 @@ invariant_of-self g c = record {
   known =
       lots_known (view g.S.Store c.args.self.now.conn) (view g.S.Store c.pieces_beginning-found.new.conn) c.args.self.now.well _ _ c.pieces_beginning-found.ensures.looks (λ rows. rows.items)
       (λ rows is. some_beside (tables_in (view g.S.Store c.args.self.now.conn)) _ rows.items is)
-      c.args.self.now.findings (record { own = c.args.self.now.findings.own; device = c.args.self.now.findings.device; lots = c.read_rising-rows.new.lots }) refl refl c.args.self.now.known c.read_rising-rows.ensures.kept;
+      c.args.self.now.findings (record { own = c.args.self.now.findings.own; basis = c.args.self.now.findings.basis; lots = c.read_rising-rows.new.lots; edges = c.args.self.now.findings.edges }) refl refl (λ none is. is) c.args.self.now.known c.read_rising-rows.ensures.kept;
 }
 
 pub returns-clause-looks : goal.returns-clause-looks

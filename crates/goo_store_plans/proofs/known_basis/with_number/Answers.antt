@@ -1,0 +1,20 @@
+use Rattle.std.proofs.Common.{◌≡◌, Ok, Err, Some, rules}
+use Rattle.sqlite.specs.Held.{state}
+use Rattle.goo_store_plans.proofs.LookUps.{looks_made}
+use Rattle.goo_store_plans.proofs.Refusing.{blames_err, blames_made}
+use Rattle.goo_store_plans.proofs.known_basis.with_number.Goals as goal
+
+pub returns-clause-looks : goal.returns-clause-looks
+returns-clause-looks g c =
+    looks_made (state g.S.Store c.args.conn.now) (state g.S.Store c.next_declaration_number.new.conn) c.in_ok-number.number (Ok (record { device = c.args.known.device; number = Some c.in_ok-number.number; next_lot = c.args.known.next_lot })) _ _
+    c.in_ok-number.ensures.looks (λ t it says known. record { device = known.device; number = says known.number; next_lot = known.next_lot })
+
+pub returns-in_err-number-clause-blames : goal.returns-in_err-number-clause-blames
+returns-in_err-number-clause-blames g c =
+    let same : c.from_residual.result ≡ Err c.in_err-number.field-0.0 = search rules in
+    blames_err (state g.S.Store c.args.conn.now) (state g.S.Store c.next_declaration_number.new.conn) c.in_err-number.field-0.0 c.from_residual.result _ same c.in_err-number.ensures.blames
+
+pub returns-clause-blames : goal.returns-clause-blames
+returns-clause-blames g c =
+    blames_made (state g.S.Store c.args.conn.now) (state g.S.Store c.next_declaration_number.new.conn) c.in_ok-number.number _ c.in_ok-number.ensures.looks _ c.in_ok-number.ensures.blames
+    (Ok (record { device = c.args.known.device; number = Some c.in_ok-number.number; next_lot = c.args.known.next_lot })) _ (λ t stands kept room first. tt)
