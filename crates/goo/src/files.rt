@@ -6,6 +6,7 @@ ghost use Rattle.sqlite_std_file.specs.File.{file_is_usable};
 
 use goo_cli_ending::Failure;
 use goo_cli_registry::closing::Left;
+use goo_cli_registry::first_page::make_first_page;
 use sqlite::{FileFrom, Files, Start};
 use sqlite_std_file::OpenError;
 use std::fs::{self, File};
@@ -14,26 +15,6 @@ use std::io::{self, Error, ErrorKind, Write};
 
 /// How many bytes the head of a database takes. A shorter file holds none.
 const HEAD: u64 = 100;
-
-/// How many bytes a page of a new registry has. A request changes few rows, so a small page is less to read, to check and to write.
-const PAGE: usize = 1_024;
-
-/// What the page of a database without tables begins with (SQLite, database file format): the hundred bytes of the head, and a leaf
-/// without cells. All else on the page is 0.
-const FIRST_PAGE: [u8; 108] = [
-    b'S', b'Q', b'L', b'i', b't', b'e', b' ', b'f', b'o', b'r', b'm', b'a', b't', b' ', b'3', 0,
-    // the bytes of a page; how it is written and read; none kept free; the shares of a page that a cell may take
-    4, 0, 1, 1, 0, 64, 32, 32,
-    // how often the file was changed; its pages; the first free one, and how many; the schema's version; its form
-    0, 0, 0, 1, 0, 0, 0, 1, 0, 0, 0, 0, 0, 0, 0, 0, 0, 0, 0, 1, 0, 0, 0, 4,
-    // no pages kept in memory, no pages moved, texts of UTF-8, no number of a user's, and twenty-four bytes for later
-    0, 0, 0, 0, 0, 0, 0, 0, 0, 0, 0, 1, 0, 0, 0, 0, 0, 0, 0, 0, 0, 0, 0, 0, 0, 0, 0, 0, 0, 0, 0, 0,
-    0, 0, 0, 0, 0, 0, 0, 0, 0, 0, 0, 0,
-    // the change for which the count of pages holds, and the version of SQLite that is known to read this file
-    0, 0, 0, 1, 0, 46, 99, 1,
-    // a leaf of a table: no free block, no cell, and the place where cells would begin
-    13, 0, 0, 0, 0, 4, 0, 0,
-];
 
 /// What was at a path before its files were opened.
 #[derive(Drop)]
@@ -119,9 +100,9 @@ fn begin_database(rt: &HostRuntime, path: &str) -> io::Result<()> {
 
 /// Writes the one page of a database without tables to a new file.
 fn write_page(rt: &HostRuntime, path: &str) -> io::Result<()> {
+    let page = make_first_page(rt.alloc())?;
     let mut file = File::create_new(rt, path)?;
-    file.write_all(&FIRST_PAGE)?;
-    file.write_all(&[0; PAGE - FIRST_PAGE.len()])?;
+    file.write_all(page.as_slice())?;
     file.sync_all()
 }
 

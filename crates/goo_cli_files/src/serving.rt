@@ -5,15 +5,14 @@ ghost use Rattle.sqlite.specs.State.{HasCleanDisk};
 ghost use Rattle.goo_tables_rows.specs.Met.{IsInKeyOrder};
 
 use goo_cli::{Opening, Serving};
-use goo_cli_ending::{Ending, Failure};
+use goo_cli_ending::Ending;
 use goo_cli_http::serve_registry;
 use goo_cli_registry::closing::{Left, close_registry};
-use goo_cli_registry::opening::{begin, failure_of, open_database, open_registry};
+use goo_cli_registry::in_memory::open_in_memory;
+use goo_cli_registry::opening::{begin, failure_of, open_registry};
 use goo_cli_registry::renewal_line::RenewalLine;
-use goo_cli_registry::running::SALT;
 use goo_cli_registry::start::Start;
 use goo_registry::Registry;
-use goo_store_memory::MemoryFile;
 use sqlite::{Alter, Connection, Files};
 use sqlite_disk::Disk;
 use std::io::{BufWriter, Write};
@@ -46,14 +45,9 @@ pub fn serve_in_memory<W: Write + Drop>(
     serving: Serving,
     writer: &mut BufWriter<W>,
 ) -> Ending {
-    let alloc = rt.alloc();
-    let files = Files {
-        log: MemoryFile::new(alloc),
-        db: MemoryFile::new(alloc),
-    };
-    let conn = match open_database(alloc, files, SALT) {
+    let conn = match open_in_memory(rt.alloc()) {
         Ok(conn) => conn,
-        Err((fault, _left)) => return Ending::Failed(Failure::from(fault)),
+        Err(failure) => return Ending::Failed(failure),
     };
     let (ending, _conn) = serve_new(rt, conn, opening, serving, writer);
     ending

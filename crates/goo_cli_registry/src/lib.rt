@@ -7,6 +7,8 @@
 
 pub mod closing;
 pub mod creating;
+pub mod first_page;
+pub mod in_memory;
 pub mod opening;
 pub mod renewal_line;
 pub mod running;

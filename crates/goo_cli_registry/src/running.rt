@@ -18,21 +18,18 @@ ghost use Rattle.goo_cli_registry.specs.Openings.{begun, IsRun};
 ghost use Rattle.goo_cli_registry.specs.Closings.{IfRefused, IfWhole, IsClean, HoldState, LeavesRegistry};
 
 use crate::closing::{Left, close_registry};
-use crate::opening::{begin, failure_of, open_database, open_registry};
+use crate::in_memory::open_in_memory;
+use crate::opening::{begin, failure_of, open_registry};
 use crate::renewal_line::RenewalLine;
 use crate::start::Start;
 use goo_cli::Opening;
 use goo_cli_ending::{Ending, Failure, answer_input};
 use goo_core_shelf::shelf::Shelf;
 use goo_registry::Registry;
-use goo_store_memory::MemoryFile;
 use sqlite::{Alter, Connection, Files};
 use sqlite_disk::Disk;
 use std::alloc::Global;
 use std::io::{BufWriter, Read, Write};
-
-/// The number that the salts of the log in memory begin with. Nobody but this process reads it, so any number does.
-pub const SALT: u64 = 7;
 
 /// Answers the lines of an input by a registry, and hands back what keeps its records. What is said holds so long as that
 /// returned what was written.
@@ -102,13 +99,9 @@ pub fn run_in_memory<R: Read, W: Write + Drop>(
     ensures flushed { status_of result < 2 → writer_buffer writer.new ≡ [] }
     ensures no_words { status_of result ≢ 2 }
 {
-    let files = Files {
-        log: MemoryFile::new(alloc),
-        db: MemoryFile::new(alloc),
-    };
-    let conn = match open_database(alloc, files, SALT) {
+    let conn = match open_in_memory(alloc) {
         Ok(conn) => conn,
-        Err((fault, _left)) => return Ending::Failed(Failure::from(fault)),
+        Err(failure) => return Ending::Failed(failure),
     };
     let (ending, _conn) = answer_by_tables(alloc, conn, Start::New(opening), reader, writer);
     ending

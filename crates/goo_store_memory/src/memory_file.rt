@@ -26,10 +26,15 @@ impl MemoryFile {
         ensures empty { bytes_of result ≡ [] }
         ensures unfailed { result.faults ≡ 0 }
     {
-        MemoryFile {
-            bytes: Vec::new(alloc),
-            faults: 0,
-        }
+        MemoryFile::holding(Vec::new(alloc))
+    }
+
+    /// A file that holds these bytes.
+    pub fn holding(bytes: Vec<u8>) -> MemoryFile
+        ensures held { bytes_of result ≡ bytes.items }
+        ensures unfailed { result.faults ≡ 0 }
+    {
+        MemoryFile { bytes, faults: 0 }
     }
 }
 
