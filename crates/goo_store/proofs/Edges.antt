@@ -14,11 +14,11 @@ module _ (wants : Piece → Bool) (after : ℕ) where
   -- the number isn't below rows of which one ends at it
   above_low : (low : ℕ) (ps : List Piece) → IsRisingFrom low ps → list_any (λ p. p.last == after) ps ≡ true → low ≤ after
   above_low low [] rising is = absurd (true≢false (sym is))
-  above_low low (p ∷ ps) rising is = go (p.last == after) refl is
+  above_low low (p ∷ ps) rising is = go (above_low (p.last + 1) ps rising.2) (p.last == after) refl is
     where
-      go : (b : Bool) → (p.last == after) ≡ b → (b || list_any (λ q. q.last == after) ps) ≡ true → low ≤ after
-      go true same is = omega (arith, eqb-true p.last after same, rising.0, rising.1.0)
-      go false other is = let up = above_low (p.last + 1) ps rising.2 is in omega (arith, up, rising.0, rising.1.0)
+      go : (list_any (λ q. q.last == after) ps ≡ true → p.last + 1 ≤ after) → (b : Bool) → (p.last == after) ≡ b → (b || list_any (λ q. q.last == after) ps) ≡ true → low ≤ after
+      go rest true same is = omega (arith, eqb-true p.last after same, rising.0, rising.1.0)
+      go rest false other is = let up = rest is in omega (arith, up, rising.0, rising.1.0)
 
   -- a row that ends at the number or below it is passed over
   passed : (p : Piece) (ps : List Piece) → p.first ≤ p.last → p.last ≤ after → first_of (ending_from (after + 1) (filter wants ps)) ≡ find (λ q. wants q && nat_lt after q.first) ps
@@ -29,7 +29,7 @@ module _ (wants : Piece → Bool) (after : ℕ) where
       short = lt-leb (after + 1) p.last (omega (arith, low))
 
       below : nat_lt after p.first ≡ false
-      below = le-ltb p.first after (omega (arith, forward, low))
+      below = le-ltb after p.first (omega (arith, forward, low))
 
       go : (b : Bool) → first_of (ending_from (after + 1) (cond b (p ∷ filter wants ps) (filter wants ps))) ≡ cond (b && nat_lt after p.first) (Some p) (find (λ q. wants q && nat_lt after q.first) ps)
       go true = (λ i. first_of (cond (short i) (p ∷ ending_from (after + 1) (filter wants ps)) (ending_from (after + 1) (filter wants ps)))) ∙ rest ∙ sym (λ i. cond (below i) (Some p) (find (λ q. wants q && nat_lt after q.first) ps))
@@ -37,15 +37,15 @@ module _ (wants : Piece → Bool) (after : ℕ) where
 
   next_at : (low : ℕ) (ps : List Piece) → IsRisingFrom low ps → list_any (λ p. p.last == after) ps ≡ true → first_of (ending_from (after + 1) (filter wants ps)) ≡ find (λ p. wants p && nat_lt after p.first) ps
   next_at low [] rising is = refl
-  next_at low (p ∷ ps) rising is = go (p.last == after) refl is
+  next_at low (p ∷ ps) rising is = go (next_at (p.last + 1) ps rising.2) (p.last == after) refl is
     where
-      go : (b : Bool) → (p.last == after) ≡ b → (b || list_any (λ q. q.last == after) ps) ≡ true → first_of (ending_from (after + 1) (filter wants (p ∷ ps))) ≡ find (λ q. wants q && nat_lt after q.first) (p ∷ ps)
-      go true same is =
+      go : (list_any (λ q. q.last == after) ps ≡ true → first_of (ending_from (after + 1) (filter wants ps)) ≡ find (λ q. wants q && nat_lt after q.first) ps) → (b : Bool) → (p.last == after) ≡ b → (b || list_any (λ q. q.last == after) ps) ≡ true → first_of (ending_from (after + 1) (filter wants (p ∷ ps))) ≡ find (λ q. wants q && nat_lt after q.first) (p ∷ ps)
+      go rest true same is =
           let at = eqb-true p.last after same in
           passed p ps rising.1.0 (omega (arith, at)) (first_beyond wants after (after + 1) (p.last + 1) ps rising.2 (omega (arith, at)) (omega (arith, at)))
-      go false other is =
+      go rest false other is =
           let up = above_low (p.last + 1) ps rising.2 is in
-          passed p ps rising.1.0 (omega (arith, up)) (next_at (p.last + 1) ps rising.2 is)
+          passed p ps rising.1.0 (omega (arith, up)) (rest is)
 
 -- no row reaches above the number from below, so the next is the first that begins above it
 pub next_behind : (wants : Piece → Bool) (asked : Option ℕ) (after : ℕ) → asked ≡ Some after → (ps : List Piece) → IsRising ps → IsEdge (Some after) ps
@@ -55,7 +55,7 @@ next_behind wants asked after named ps rising edge = ap (λ a. first_of (ending_
 -- a row that is found is among the rows
 found_among : (test : Piece → Bool) (n : ℕ) (ps : List Piece) (p : Piece) → Some p ≡ find test ps → p.last ≡ n → list_any (λ q. q.last == n) ps ≡ true
 found_among test n [] p found at = absurd cc
-found_among test n (q ∷ ps) p found at = go (test q) found
+found_among test n (q ∷ ps) p found at = go (λ it. found_among test n ps p it at) (test q) found
   where
     same : (a b : Piece) → Some a ≡ Some b → a ≡ b
     same a b is = cc
@@ -64,9 +64,9 @@ found_among test n (q ∷ ps) p found at = go (test q) found
     or_true true = refl
     or_true false = refl
 
-    go : (b : Bool) → Some p ≡ cond b (Some q) (find test ps) → ((q.last == n) || list_any (λ r. r.last == n) ps) ≡ true
-    go true is = ap (λ b. b || list_any (λ r. r.last == n) ps) (eq-eqb q.last n (sym (ap (λ (x : Piece). x.last) (same p q is)) ∙ at))
-    go false is = ap (λ b. (q.last == n) || b) (found_among test n ps p is at) ∙ or_true (q.last == n)
+    go : (Some p ≡ find test ps → list_any (λ r. r.last == n) ps ≡ true) → (b : Bool) → Some p ≡ cond b (Some q) (find test ps) → ((q.last == n) || list_any (λ r. r.last == n) ps) ≡ true
+    go rest true is = ap (λ b. b || list_any (λ r. r.last == n) ps) (eq-eqb q.last n (sym (ap (λ (x : Piece). x.last) (same p q is)) ∙ at))
+    go rest false is = ap (λ b. (q.last == n) || b) (rest is) ∙ or_true (q.last == n)
 
 -- so the number at which it ends is an edge
 pub edge_found : (test : Piece → Bool) (ps : List Piece) (edge : Option ℕ) (read : Result (Option Piece) Trouble) → ((row : Option Piece) → read ≡ Ok row → row ≡ find test ps)

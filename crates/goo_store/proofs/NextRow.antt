@@ -1,5 +1,5 @@
 -- The next row that is asked for, found in tables that keep the rules.
-use Rattle.std.proofs.Common.{◌≡◌, ◌≤◌, ◌+◌, ◌&&◌, ◌==◌, nat_le, nat_lt, ℕ, zero, suc, Bool, true, false, cond, IfSome, IsSomeAnd, IfOk, IsErr, Ok, Err, Result, List, [], ◌∷◌, map, find, reverse, All, Option, Some, None, option_map, refl, sym, ap, subst, ◌∙◌, arith}
+use Rattle.std.proofs.Common.{◌≡◌, ◌≤◌, ◌+◌, ◌&&◌, ◌==◌, nat_le, nat_lt, ℕ, zero, suc, Bool, true, false, cond, IfSome, IsSomeAnd, IfOk, IsErr, Ok, Err, Result, List, [], ◌∷◌, map, find, reverse, All, Option, Some, None, option_map, refl, sym, ap, subst, ◌∙◌, true≢false, arith}
 use Rattle.std.specs.List.{filter}
 use Rattle.std.specs.Option.{option_or}
 use Rattle.std.proofs.lemmas.Bool.{ltb-true}
@@ -135,4 +135,4 @@ edge_after old new it sought dated after r looks read passes edge is none =
     go : AreKept (tables_in old) → (q : Result (Option JoinedRow) Error) → IfOk q (λ found. option_map joined_in found ≡ find (begins_beyond sought after) (pieces_beside (tables_in old)))
         → Passes q read (λ row piece. piece ≡ option_map piece_of (option_map joined_in row)) → (row : Option Piece) → read ≡ Ok row → row ≡ find (λ p. is_sought sought p && nat_lt after p.first) (rows_of (tables_in old))
     go kept (Ok x) found passes row same = beyond_found (tables_in old) kept sought dated after (option_map joined_in x) row found (subst (λ (z : Result (Option Piece) Trouble). IfOk z (λ piece. piece ≡ option_map piece_of (option_map joined_in x))) same passes)
-    go kept (Err e) found bad row same = absurd (subst (λ (z : Result (Option Piece) Trouble). IsErr z) same bad)
+    go kept (Err e) found bad row same = absurd (true≢false (sym (subst (λ (z : Result (Option Piece) Trouble). IsErr z) same bad)))

@@ -35,9 +35,9 @@ invariant_of-self g c =
     λ none. subst (λ xs. IsBasisOf c.in_ok-planned.planned.after (made_all (tables_in mid) xs)) (sym c.deref.ensures.value) (c.in_ok-planned.ensures.planned none (fits_still old (moment mid shelf.refused) plan _ c.in_ok-planned.ensures.prepares c.requires none)).1 in record {
       outside = it.outside;
       well = well_after mid (view g.S.Store c.commit_changes-made.new.conn) shelf.well c.deref.result.now plan planned c.commit_changes-made.result it.clean it.was_open it.works it.done it.kept it.crash;
-      known = basis_known (view g.S.Store c.commit_changes-made.new.conn) shelf.findings c.in_ok-planned.ensures.taken c.known_after.result
+      known = basis_known (view g.S.Store c.commit_changes-made.new.conn) shelf.findings c.in_ok-planned.ensures.taken c.known_after-self.result
           (basis_after mid (view g.S.Store c.commit_changes-made.new.conn) shelf.well c.deref.result.now plan planned c.commit_changes-made.result it.clean it.was_open it.works it.done it.kept it.crash
-          c.in_ok-planned.planned.after c.known_after.result after c.known_after.ensures.done c.known_after.ensures.undone);
+          c.in_ok-planned.planned.after c.known_after-self.result after c.known_after-self.ensures.done c.known_after-self.ensures.undone);
     }
 
 pub returns-clause-commits : goal.returns-clause-commits
