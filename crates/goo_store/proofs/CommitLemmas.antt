@@ -84,8 +84,8 @@ module _ (old new : State) (it : IsWell old) (changes : List TableChange) (plan 
   basis_after after known is done undone none = go r (tables_made r made) done undone
     where
       go : (q : Result (Unit {0}) Error) → OnOk q (doubts new ≡ 0 → tables_in new ≡ made_all (tables_in old) changes) → OnOk q (known ≡ after) → OnErr q (IsNoBasis known) → IsBasisOf known (tables_in new)
-      go (Ok x) tables same no = subst (λ k. IsBasisOf k (tables_in new)) (sym same) (subst (IsBasisOf after) (sym (tables none)) (is (before none)))
-      go (Err e) tables same no = no_basis (tables_in new) known no
+      go (Ok x) tables same left = subst (λ k. IsBasisOf k (tables_in new)) (sym same) (subst (IsBasisOf after) (sym (tables none)) (is (before none)))
+      go (Err e) tables same left = no_basis (tables_in new) known left
 
   found : LeavesCommit old → HasCleanDisk new → doubts old ≡ 0 → (b : Bool) → IsEither (moment new b) (state_of (tables_in old)) (accept (state_of (tables_in old)) plan.request)
   found law late none b o left =
