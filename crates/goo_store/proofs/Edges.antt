@@ -1,5 +1,5 @@
 -- The next row after a number at which a row ends.
-use Rattle.std.proofs.Common.{◌≡◌, ◌≤◌, ◌+◌, ◌==◌, ◌&&◌, ◌||◌, nat_le, nat_lt, ℕ, Bool, true, false, cond, List, [], ◌∷◌, find, Option, Some, None, Ok, Err, Result, IfSome, IsSomeAnd, refl, sym, ap, subst, ◌∙◌, true≢false, arith}
+use Rattle.std.proofs.Common.{◌≡◌, ◌≤◌, ◌+◌, ◌==◌, ◌&&◌, ◌||◌, nat_le, nat_lt, ℕ, Bool, true, false, cond, List, [], ◌∷◌, find, Option, Some, None, Ok, Err, Result, IfSome, IsSomeAnd, refl, sym, ap, ◌∙◌, true≢false, arith}
 use Rattle.std.specs.Prelude.{IsOkAnd}
 use Rattle.std.specs.List.{filter, list_any}
 use Rattle.std.proofs.lemmas.Bool.{le-ltb, lt-leb, eqb-true, eq-eqb}

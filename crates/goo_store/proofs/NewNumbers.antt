@@ -1,6 +1,5 @@
 -- No row begins among numbers that were never issued.
-use Rattle.std.proofs.Common.{◌≡◌, ◌≤◌, ◌<◌, ◌+◌, ◌&&◌, ◌==◌, nat_le, ℕ, Bool, true, false, cond, IsSome, List, [], ◌∷◌, map, All, Option, Some, None, refl, sym, ap, subst, ◌∙◌, true≢false, arith}
-use Rattle.std.specs.Prelude.{IsSomeAnd}
+use Rattle.std.proofs.Common.{◌≡◌, ◌≤◌, ◌+◌, ◌&&◌, ◌==◌, nat_le, ℕ, Bool, true, false, cond, IsSome, List, [], ◌∷◌, map, All, Option, Some, None, refl, sym, ap, subst, ◌∙◌, true≢false, arith}
 use Rattle.std.specs.FinMap.{get}
 use Rattle.std.specs.List.{filter}
 use Rattle.std.proofs.lemmas.Bool.{le-leb, leb-true}
@@ -9,7 +8,7 @@ use Rattle.sqlite.specs.Effect.{Database}
 use Rattle.sqlite_keyed.proofs.RuleLemmas.{first_of_both}
 use Rattle.goo_types.specs.Number.{code_of, serial_of, IsNumber, is_number}
 use Rattle.goo_types.proofs.NumberLemmas.{is_number-holds}
-use Rattle.goo_types.specs.Piece.{Label, label_of, covers, at_of, IsRising, IsRisingFrom}
+use Rattle.goo_types.specs.Piece.{Label, label_of, covers, at_of, IsRisingFrom}
 use Rattle.goo_types.specs.Range.{Numbers, IsRange}
 use Rattle.goo_types.specs.declared.piece.Piece.{Piece}
 use Rattle.goo_spec.specs.Sound.{IsSound}
