@@ -2,15 +2,15 @@
 //!
 //! usage: plain CREATE [DATABASE] < LINES
 //!
-//! Reads request lines and writes an outcome line for each, as `goo run` does, over the registry's own tables (the texts of the file
-//! CREATE). It looks up the receipt, checks what the registry checks, and writes the very rows that the registry writes, one
+//! Reads its input whole, so that a read that fails leaves nothing done, and then writes an outcome line for each request line, as `goo run` does, over the
+//! registry's own tables (the texts of the file CREATE). It looks up the receipt, checks what the registry checks, and writes the very rows that the registry writes, one
 //! transaction a request; in memory unless a DATABASE is given: there in a file with a log, synced at each commit. It knows
 //! the commands of `workloads.py` and `add_peer`, and electricity alone; its code and its date are those of the measurements. Ends with status 1 where a
 //! request is not accepted. `measured.py` builds it in a temporary folder.
 
 use rusqlite::{params, Connection, OptionalExtension, Params, Row};
 use serde_json::{Map, Value};
-use std::io::{BufRead, Write};
+use std::io::{Read, Write};
 
 const CODE: i64 = 7;
 const TODAY: &str = "2025-03-01";
@@ -381,10 +381,11 @@ fn main() -> Result<(), Box<dyn std::error::Error>> {
     let plain = Plain::open(&create, words.next())?;
     let mut out = std::io::BufWriter::new(std::io::stdout().lock());
     let mut all_accepted = true;
-    for line in std::io::stdin().lock().lines() {
-        let line = line?;
+    let mut input = String::new();
+    std::io::stdin().lock().read_to_string(&mut input)?;
+    for line in input.lines() {
         if !line.is_empty() {
-            let outcome = plain.line(&line)?;
+            let outcome = plain.line(line)?;
             all_accepted &= !outcome.ends_with(r#""refused"}"#) && !outcome.ends_with(r#""unreadable"}"#);
             writeln!(out, "{}", outcome)?;
         }

@@ -1,10 +1,11 @@
 //! Changes of the tables, one statement each; a device or a lot of another carrier than electricity takes two.
 
-ghost use Rattle.std.specs.Prelude.{◌≡◌, OnOk, All};
+ghost use Rattle.std.specs.Prelude.{◌≡◌, ◌⊎◌, ⊤, ◌+◌, ◌<◌, ◌≤◌, None, IfErr, IfOk, IfSome, OnOk, All, get_or, length, take};
 ghost use Rattle.sqlite.specs.State.{HasCleanDisk, IsLive, KeepsCommit, Survives};
 ghost use Rattle.sqlite.specs.Held.{state};
-ghost use Rattle.goo_tables_rows.specs.Rows.{Tables};
-ghost use Rattle.goo_tables_rows.specs.Refused.{ChangeFailsBy, IsTooBigOrFull};
+ghost use Rattle.goo_tables_rows.specs.Rows.{Tables, piece_row};
+ghost use Rattle.goo_tables_rows.specs.Refused.{ChangeFailsBy, IsFault, IsSmall, IsTooBig, IsTooBigOrFull};
+ghost use Rattle.goo_tables_holdings.specs.Changes.{with_piece, without_piece, PieceFits};
 ghost use Rattle.goo_tables_rows.specs.Lives.{LeavesLive};
 ghost use Rattle.goo_tables_rows.specs.Stands.{Sees};
 ghost use Rattle.goo_store_changes.specs.Changes.{made, made_all, ChangeFits, IsFor, AreFor, IsFree, AreFree, HasRoom, HaveRoom};
@@ -23,7 +24,7 @@ use goo_tables::withdrawal::insert_withdrawal;
 use goo_tables_holdings::account::{close_account, insert_account};
 use goo_tables_holdings::counters::CountersRow;
 use goo_tables_holdings::holder::insert_holder;
-use goo_tables_holdings::piece::{delete_piece, insert_piece};
+use goo_tables_holdings::piece::{delete_piece, insert_piece, set_piece};
 use goo_tables_rows::account::AccountRow;
 use goo_tables_rows::cancellation::CancellationRow;
 use goo_tables_rows::correction::CorrectionRow;
@@ -106,6 +107,68 @@ fn make<S: Alter>(tx: &mut Transaction<'_, S>, change: &TableChange) -> Result<u
     }
 }
 
+/// Takes out the piece that begins with a row's first number, if there is one, and adds the row: by one statement where there is one.
+fn replace_piece<S: Alter>(tx: &mut Transaction<'_, S>, row: &PieceRow) -> Result<(), Error>
+    requires { PieceFits row.now }
+    ensures same_reference { tx.new.conn.ghost_name ≡ tx.old.conn.ghost_name }
+    ensures changed { HasCleanDisk (state S.Store tx.new.conn.now) → (t : Tables) → Sees (state S.Store tx.old.conn.now) t
+        → OnOk result (Sees (state S.Store tx.new.conn.now) (with_piece (without_piece t row.now.first) row.now)) }
+    ensures refused { ChangeFailsBy IsTooBig (λ _. IsSmall (piece_row row.now)) (state S.Store tx.old.conn.now) (state S.Store tx.new.conn.now) result (λ _. ⊤) }
+    ensures live { HasCleanDisk (state S.Store tx.new.conn.now) → IsLive (state S.Store tx.old.conn.now) → (t : Tables) → Sees (state S.Store tx.old.conn.now) t → OnOk result (IsLive (state S.Store tx.new.conn.now)) }
+    ensures uncommitted { HasCleanDisk (state S.Store tx.new.conn.now) → KeepsCommit (state S.Store tx.old.conn.now) (state S.Store tx.new.conn.now) }
+    ensures survives { Survives (state S.Store tx.old.conn.now) (state S.Store tx.new.conn.now) (λ _. ⊥) }
+{
+    if set_piece(tx, row)? == 0 {
+        insert_piece(tx, row)?;
+    }
+    Ok(())
+}
+
+/// The row that comes in the place of another one: the change at this place takes out the piece that begins as it does, and the next one adds it.
+fn replacing(changes: &[TableChange], at: usize) -> Option<PieceRow>
+    requires { at < length changes.now }
+    ensures { IfSome result (λ row. (d : TableChange) → (get_or changes.now at d ≡ TableChange.DeletePiece row.first) × (at + 1 < length changes.now) × (get_or changes.now (at + 1) d ≡ TableChange.InsertPiece row)) }
+{
+    let TableChange::DeletePiece(first) = &changes[at] else {
+        return None;
+    };
+    match changes.get(at + 1) {
+        Some(TableChange::InsertPiece(row)) if row.first == *first => Some(*row),
+        _ => None,
+    }
+}
+
+/// Makes the change at a place, and the next one too where the two are one statement; how many these are.
+fn make_at<S: Alter>(
+    tx: &mut Transaction<'_, S>,
+    changes: &[TableChange],
+    at: usize,
+) -> Result<usize, Error>
+    requires here { at < length changes.now }
+    requires fits { All ChangeFits changes.now }
+    ensures same_reference { tx.new.conn.ghost_name ≡ tx.old.conn.ghost_name }
+    ensures step { IfOk result (λ n. (0 < n) × (at + n ≤ length changes.now)) }
+    ensures changed { HasCleanDisk (state S.Store tx.new.conn.now) → (t : Tables) → Sees (state S.Store tx.old.conn.now) (made_all t (take at changes.now)) → AreFor t changes.now
+        → IfOk result (λ n. Sees (state S.Store tx.new.conn.now) (made_all t (take (at + n) changes.now))) }
+    ensures refused { HasCleanDisk (state S.Store tx.new.conn.now) → IsLive (state S.Store tx.old.conn.now) → (state S.Store tx.old.conn.now).step_limit ≡ None → (t : Tables)
+        → Sees (state S.Store tx.old.conn.now) (made_all t (take at changes.now)) → AreFor t changes.now × AreFree t changes.now
+        → IfErr result (λ e. IsFault (state S.Store tx.old.conn.now) (state S.Store tx.new.conn.now) e ⊎ (IsTooBigOrFull e × (HaveRoom t changes.now → ⊥))) }
+    ensures live { HasCleanDisk (state S.Store tx.new.conn.now) → IsLive (state S.Store tx.old.conn.now) → (t : Tables) → Sees (state S.Store tx.old.conn.now) t → OnOk result (IsLive (state S.Store tx.new.conn.now)) }
+    ensures uncommitted { HasCleanDisk (state S.Store tx.new.conn.now) → KeepsCommit (state S.Store tx.old.conn.now) (state S.Store tx.new.conn.now) }
+    ensures survives { Survives (state S.Store tx.old.conn.now) (state S.Store tx.new.conn.now) (λ _. ⊥) }
+{
+    match replacing(changes, at) {
+        Some(row) => {
+            replace_piece(tx, &row)?;
+            Ok(2)
+        }
+        None => {
+            make(tx, &changes[at])?;
+            Ok(1)
+        }
+    }
+}
+
 /// Makes the changes in turn.
 pub(crate) fn make_all<S: Alter>(
     tx: &mut Transaction<'_, S>,
@@ -121,8 +184,9 @@ pub(crate) fn make_all<S: Alter>(
     ensures uncommitted { HasCleanDisk (state S.Store tx.new.conn.now) → KeepsCommit (state S.Store tx.old.conn.now) (state S.Store tx.new.conn.now) }
     ensures survives { Survives (state S.Store tx.old.conn.now) (state S.Store tx.new.conn.now) (λ _. ⊥) }
 {
-    for change in changes {
-        make(tx, change)?;
+    let mut done = 0;
+    while done < changes.len() {
+        done += make_at(tx, changes, done)?;
     }
     Ok(())
 }

@@ -1,5 +1,5 @@
 -- What the statements on `piece` do and show.
-use Rattle.std.proofs.Common.{◌≡◌, true, ◌<◌, ◌^◌, None, ℕ, pos, List, [], ◌∷◌, filter, codes, map, map-id, ◌&&◌, false, Ok, Err, Result, OnOk, refl, sym, ap, subst, ◌∙◌, int_eq, find, Option}
+use Rattle.std.proofs.Common.{◌≡◌, true, ◌<◌, ◌^◌, length, None, ℕ, pos, List, [], ◌∷◌, filter, codes, map, map-id, ◌&&◌, false, Ok, Err, Result, OnOk, IfOk, refl, sym, ap, subst, ◌∙◌, int_eq, find, Option}
 use Rattle.std.specs.List.{AllZip}
 use Rattle.sqlite_tied.specs.Compute.{everything}
 use Rattle.sqlite.specs.declared.types.Value.TheVariants.{Null, Int}
@@ -9,20 +9,20 @@ use Rattle.sqlite.specs.Order.{Row}
 use Rattle.sqlite.specs.Term.{Term, lit, col, op2}
 use Rattle.sqlite.specs.Query.{Query, IsAnswer}
 use Rattle.sqlite.specs.Program.{overlay}
-use Rattle.sqlite.specs.Command.TheVariants.{Delete}
+use Rattle.sqlite.specs.Command.TheVariants.{Delete, Update}
 use Rattle.sqlite.specs.Edit.{without_all, id_in}
 use Rattle.sqlite.specs.Tree.{rowid}
 use Rattle.sqlite.specs.Listing.{understood}
-use Rattle.sqlite.specs.State.{State, IsLive, Executes}
+use Rattle.sqlite.specs.State.{State, IsLive, Executes, ExecutesInside}
 use Rattle.sqlite.proofs.Callers.{IsPlain, command_of}
 use Rattle.sqlite_rules.specs.Calls.{ids_of}
 use Rattle.sqlite_sql.specs.declared.ops.BinaryOp.TheVariants.{Compare}
 use Rattle.sqlite_sql.specs.declared.ops.CompareOp.TheVariants.{Eq}
 use Rattle.sqlite_typed.proofs.AnswerLemmas.{at_end, last_table}
 use Rattle.sqlite_typed.proofs.TestLemmas.{at_ints, last_term, then_term, then_value}
-use Rattle.sqlite_keyed.specs.Lists.{delete_where}
+use Rattle.sqlite_keyed.specs.Lists.{delete_where, update_where}
 use Rattle.sqlite_keyed.proofs.ListLemmas.{map-map}
-use Rattle.sqlite_keyed.proofs.KeyedLemmas.{IsKeyedBy-delete_where}
+use Rattle.sqlite_keyed.proofs.KeyedLemmas.{IsKeyedBy-delete_where, same_int}
 use Rattle.goo_tables_rows.specs.Columns.{registry_schema, piece}
 use Rattle.goo_tables_rows.specs.Rows.{Tables, piece_columns, piece_row, piece_key}
 use Rattle.goo_tables_rows.specs.declared.piece.PieceRow.{PieceRow}
@@ -31,12 +31,12 @@ use Rattle.std.proofs.lemmas.Iterator.Adapters.{option_map_id}
 use Rattle.goo_tables_rows.specs.Asked.{FirstZip}
 use Rattle.goo_tables_rows.proofs.Same.{piece_same}
 use Rattle.goo_tables_rows.specs.Stands.{Stands, Keeps}
-use Rattle.goo_tables_rows.proofs.Writing.{deletes}
+use Rattle.goo_tables_rows.proofs.Writing.{deletes, updates}
 use Rattle.goo_tables_rows.proofs.Typed.{cast_int, cast_null, removes}
 use Rattle.goo_tables_rows.proofs.One.{answer_of_one, one_keyed}
 use Rattle.goo_tables_rows.proofs.Alone.{pieces_stand}
 use Rattle.goo_tables_rows.proofs.Living.{KeepsLive, keeps_live}
-use Rattle.goo_tables_holdings.specs.Changes.{with_piece, without_piece}
+use Rattle.goo_tables_holdings.specs.Changes.{begins_as, with_piece, with_piece_set, without_piece}
 use Rattle.goo_tables_holdings.proofs.Queries.{in_order, first_in_order, unordered}
 use Rattle.goo_tables_rows.specs.First.{IsFirst, HasFirstTables}
 use Rattle.goo_tables_rows.specs.Met.{HasOurTables}
@@ -44,11 +44,17 @@ use Rattle.goo_tables_rows.proofs.Meeting.{type_rules, shape_rules, first_type_r
 use Rattle.std.specs.Prelude.{⊤}
 use Rattle.std.proofs.lemmas.Bool.{lt-ltb}
 use Rattle.sqlite_keyed.specs.Keyed.{get_by}
-use Rattle.sqlite_keyed.proofs.ListLemmas.{all_of}
+use Rattle.sqlite_keyed.proofs.ListLemmas.{all_of, all_weaker}
 use Rattle.goo_tables_rows.proofs.Stored.{piece_stored}
 use Rattle.goo_tables_rows.specs.Refused.{IsTooBig, IsSmall, is_suited}
 use Rattle.goo_tables_holdings.proofs.Adding.{Adds, adds_row}
 use Rattle.goo_tables_holdings.proofs.Altering as any
+use Rattle.goo_tables_holdings.proofs.Altering.{updating_fails, update_obeys, update_small, update_stored, kept_pass}
+use Rattle.goo_tables_rows.proofs.Failing.{whole_query}
+use Rattle.goo_tables_rows.proofs.Updating.{rows_put, updated, IsKeyedBy-update_where}
+use Rattle.sqlite.specs.Effect.{Answers}
+use Rattle.sqlite.specs.Ops.{fits_i64}
+use Rattle.std.proofs.lemmas.List.{length-map}
 use Rattle.goo_tables_holdings.proofs.Failing.{FailsOnly, not_there, adding_fails}
 use Rattle.goo_tables_holdings.proofs.AnyTable.{TableOf, shown, shows_each, finds_one, finds_first, IsListed, meets_listed}
 use Rattle.goo_tables_holdings.proofs.Asking.{Asks, AsksFirst, SaysFirst, Tells, Says}
@@ -98,6 +104,83 @@ inserting_fails old new t x small it live unlimited free =
     adding_fails insert_adds refl (λ _ _. refl) (piece_columns x) refl refl old new it.schema unlimited live (piece_row x) (simp (cast_null, cast_int) refl)
     (λ _. record { typed = refl; present = refl; checked = refl; free = not_there piece_row piece_key (λ _. refl) (old.now.trees 10) t.pieces x it.pieces.are free; unique = all_of _ (λ _. refl) _; keyed = refl })
     (piece_stored x) (lt-ltb _ _ small)
+
+-- ---- piece: a row is put in the place of another
+
+abbrev pub set_text : List ℕ
+set_text = codes "UPDATE piece SET last = ?2, lot = ?3, kind = ?4, account = ?5, act = ?6 WHERE first = ?1"
+
+abbrev set_query : Query
+set_query = unordered 10 (op2 (Compare Eq Binary) (col 1 0) (col 0 0) ∷ []) (col 1 0 ∷ col 1 0 ∷ lit Null ∷ col 0 1 ∷ col 0 2 ∷ col 0 3 ∷ col 0 4 ∷ col 0 5 ∷ [])
+
+set_is : command_of (understood registry_schema set_text) ≡ Update 6 (record { lets = []; body = set_query })
+unfolding understood everything
+set_is = refl
+
+set_plain : IsPlain (understood registry_schema set_text)
+unfolding understood everything
+set_plain = (refl, refl)
+
+pub set_live : KeepsLive set_text
+set_live = keeps_live set_text _ set_is set_plain refl
+
+abbrev setting : PieceRow → PieceRow → PieceRow
+setting x p = record x { first = p.first }
+
+set_shown : (old : State) (t : Tables) (x : PieceRow) → Keeps (old.now.trees 10) piece_row piece_key t.pieces → (rows : List Row) → Answers (record { schema = registry_schema; trees = old.now.trees }) (whole_query set_query) (piece_columns x) rows
+    → rows ≡ map (λ p. Int (piece_key p) ∷ piece_row (setting x p)) (filter (begins_as x) t.pieces)
+set_shown old t x keeps rows answers =
+    let db = overlay old.now.trees [] in
+    let source = last_table db 10 piece_row piece_key t.pieces keeps.are keeps.rise (at_end db) in
+    answer_of_one set_query db (piece_columns x) source (begins_as x) (λ p. last_term (at_ints false Eq (piece_key p) (pos x.first))) (λ p. Int (piece_key p) ∷ piece_row (setting x p)) (λ _. refl) refl refl
+    (one_keyed piece_key (pos x.first) t.pieces keeps.rise) rows (answers.answer Null)
+
+-- the tables then, and how many rows were changed
+set_made : (old new : State) (t : Tables) (x : PieceRow) (count : ℕ) → Stands old.now t → Executes set_text (piece_columns x) old new (Ok count)
+    → Stands new.now (with_piece_set t x) × (count ≡ length (filter (begins_as x) t.pieces))
+set_made old new t x count it ran =
+    let made = updates registry_schema 6 _ 10 _ _ _ _ _ refl (λ _ _. refl) set_text (piece_columns x) old new it.schema set_plain (record { lets = []; body = set_query }) set_is count ran in
+    let p = begins_as x in
+    let rows = set_shown old t x it.pieces made.0 made.1 in
+    let put = rows_put piece_key piece_row (λ _. refl) piece (λ a. simp (cast_null, cast_int) refl) p (setting x) (λ _. refl) old.now.trees t.pieces made.0 rows in (
+      pieces_stand old.now new.now t it made.2.schema_is made.2.applied.tables (update_where p (setting x) t.pieces) (record {
+        are = made.2.applied.rows ∙ updated piece_key piece_row (λ _. refl) piece (λ a. simp (cast_null, cast_int) refl) p (setting x) (λ _. refl) old.now.trees t.pieces it.pieces.are it.pieces.rise made.0 rows;
+        rise = IsKeyedBy-update_where piece_key p (setting x) (λ _. refl) t.pieces it.pieces.rise;
+      }),
+      made.3 ∙ ap length put ∙ length-map (map (setting x) (filter p t.pieces)) piece_row ∙ length-map (filter p t.pieces) (setting x),
+    )
+
+pub sets_row : (old new : State) (t : Tables) (x : PieceRow) (r : Result ℕ Error) → Stands old.now t → Executes set_text (piece_columns x) old new r → OnOk r (Stands new.now (with_piece_set t x))
+sets_row old new t x (Err e) it ran = tt
+sets_row old new t x (Ok count) it ran = (set_made old new t x count it ran).0
+
+pub counts_set : (old new : State) (t : Tables) (x : PieceRow) (r : Result ℕ Error) → Stands old.now t → ExecutesInside 0 set_text (piece_columns x) old new r → IfOk r (λ count. count ≡ length (filter (begins_as x) t.pieces))
+counts_set old new t x (Err e) it ran = tt
+counts_set old new t x (Ok count) it ran = (set_made old new t x count it ran.0).1
+
+set_suits : (x : PieceRow) → is_suited registry_schema set_text set_query (piece_columns x) ≡ true
+unfolding understood everything
+set_suits x = refl
+
+pub setting_fails : (old new : State) (t : Tables) (x : PieceRow) → x.first < 2 ^ 63 → Stands old.now t → IsLive old → old.step_limit ≡ None
+    → FailsOnly (λ e. IsTooBig e × (IsSmall (piece_row x) → ⊥)) set_text (piece_columns x) old new
+setting_fails old new t x small it live unlimited =
+    let keeps = it.pieces in
+    let p = begins_as x in
+    let once = one_keyed piece_key (pos x.first) t.pieces keeps.rise in
+    let as_it = λ (y : PieceRow) (has : p y ≡ true). sym (same_int (piece_key y) (pos x.first) has) in
+    updating_fails set_text 6 set_query refl (λ _ _. refl) set_plain (piece_columns x) (set_suits x) old new it.schema unlimited live set_is
+    (λ _ rows answers.
+    update_obeys piece_key piece_row (λ _. refl) piece refl (λ a. simp (cast_null, cast_int) refl) p (setting x) (λ _. refl) old.now.trees t.pieces once rows (set_shown old t x keeps rows answers)
+    (λ a. record { typed = refl; present = refl; checked = refl; keyed = refl }) (all_of _ (λ _. refl) _) (λ _ _. all_of _ (λ _. refl) _))
+    (IsSmall (piece_row x))
+    (λ room rows answers.
+    update_stored piece_key piece_row (λ _. refl) piece refl (λ a. simp (cast_null, cast_int) refl) p (setting x) (λ _. refl) old.now.trees t.pieces once rows (set_shown old t x keeps rows answers)
+    (λ a. piece_stored (setting x a))
+    (all_weaker (λ y. p y ≡ true) (λ y. IsSmall (piece_row (setting x y))) (λ y has. subst (λ k. IsSmall (Int k ∷ Null ∷ Int (pos x.last) ∷ Int (pos x.lot) ∷ Int (pos x.kind) ∷ Int (pos x.account) ∷ Int (pos x.act) ∷ [])) (as_it y has) room) _ (kept_pass p t.pieces)))
+    (λ rows answers.
+    update_small piece_key piece_row (λ _. refl) piece refl (λ a. simp (cast_null, cast_int) refl) p (setting x) (λ _. refl) old.now.trees t.pieces once rows (set_shown old t x keeps rows answers)
+    (λ a has. subst (λ n. fits_i64 n ≡ true) (as_it a has) (lt-ltb _ _ small)))
 
 -- ---- piece: a row is taken out
 

@@ -1,5 +1,5 @@
 -- What each statement makes of the tables, and which numbers it can keep.
-use Rattle.std.specs.Prelude.{◌≡◌, [], pos, Option, Some, None, ℕ, List, find, ◌<◌, ◌^◌}
+use Rattle.std.specs.Prelude.{◌≡◌, [], pos, Bool, Option, Some, None, ℕ, List, find, ◌<◌, ◌^◌}
 use Rattle.std.specs.Ordering.{int_eq}
 use Rattle.sqlite_typed.specs.Tests.{bytes_eq}
 use Rattle.sqlite_keyed.specs.Lists.{update_where, delete_where}
@@ -147,6 +147,14 @@ progressed last_day carry k = (k.0, record k.1 { last_day = Some last_day; carry
 
 abbrev pub with_progress : Tables → List ℕ → List ℕ → ℕ → Tables
 with_progress t gsrn last_day carry = record t { devices = update_where (λ k. bytes_eq k.1.gsrn gsrn) (progressed last_day carry) t.devices }
+
+-- a piece begins as another one does
+abbrev pub begins_as : PieceRow → PieceRow → Bool
+begins_as x p = int_eq (piece_key p) (pos x.first)
+
+-- the piece that begins as another one does is that one
+abbrev pub with_piece_set : Tables → PieceRow → Tables
+with_piece_set t x = record t { pieces = update_where (begins_as x) (λ p. record x { first = p.first }) t.pieces }
 
 abbrev pub without_piece : Tables → ℕ → Tables
 without_piece t first = record t { pieces = delete_where (λ p. int_eq (piece_key p) (pos first)) t.pieces }

@@ -1,6 +1,7 @@
 //! The statements on `piece`.
 
-ghost use Rattle.std.specs.Prelude.{◌≡◌, ⊤, None, ◌<◌, ◌^◌, ◌&&◌, false, IfOk, OnOk, pos, All, find, map};
+ghost use Rattle.std.specs.Prelude.{◌≡◌, ⊤, None, ◌<◌, ◌^◌, ◌&&◌, false, IfOk, OnOk, pos, All, find, length, map};
+ghost use Rattle.std.specs.List.{filter};
 ghost use Rattle.std.specs.Ordering.{int_eq};
 ghost use Rattle.sqlite.specs.State.{HasCleanDisk, KeepsCommit, Survives};
 ghost use Rattle.sqlite.specs.Held.{state};
@@ -12,7 +13,7 @@ ghost use Rattle.goo_tables_rows.specs.Lives.{LeavesLive};
 ghost use Rattle.goo_tables_rows.specs.Stands.{Sees, Looks, Keeps};
 ghost use Rattle.goo_tables_rows.specs.Met.{HasOurTables};
 ghost use Rattle.goo_tables_rows.specs.First.{ReadsFirst};
-ghost use Rattle.goo_tables_holdings.specs.Changes.{with_piece, without_piece, PieceFits};
+ghost use Rattle.goo_tables_holdings.specs.Changes.{begins_as, with_piece, with_piece_set, without_piece, PieceFits};
 
 use goo_tables_rows::ask::{ask_all, ask_first};
 use goo_tables_rows::piece::PieceRow;
@@ -41,6 +42,38 @@ pub fn insert_piece<S: Alter>(tx: &mut Transaction<'_, S>, piece: &PieceRow) -> 
     put(
         tx,
         "INSERT INTO piece (first, last, lot, kind, account, act) VALUES (?1, ?2, ?3, ?4, ?5, ?6)",
+        &[
+            number(piece.first),
+            number(piece.last),
+            number(piece.lot),
+            small(piece.kind),
+            small(piece.account),
+            small(piece.act),
+        ],
+    )
+}
+
+/// Puts the piece in the place of the one that begins with the same number; how many of these there were, one at most.
+///
+/// # Errors
+///
+/// In a registry's transaction: a failure of memory or of the disk, or of a connection that an earlier failure
+/// shut, or `TooBig` for a row that is too big to be stored. Nothing is committed.
+pub fn set_piece<S: Alter>(tx: &mut Transaction<'_, S>, piece: &PieceRow) -> Result<usize, Error>
+    requires { PieceFits piece.now }
+    ensures same_reference { tx.new.conn.ghost_name ≡ tx.old.conn.ghost_name }
+    ensures changed { HasCleanDisk (state S.Store tx.new.conn.now) → (t : Tables) → Sees (state S.Store tx.old.conn.now) t
+        → OnOk result (Sees (state S.Store tx.new.conn.now) (with_piece_set t piece.now)) }
+    ensures count { HasCleanDisk (state S.Store tx.new.conn.now) → (t : Tables) → Sees (state S.Store tx.old.conn.now) t
+        → IfOk result (λ n. n ≡ length (filter (begins_as piece.now) t.pieces)) }
+    ensures refused { ChangeFailsBy IsTooBig (λ _. IsSmall (piece_row piece.now)) (state S.Store tx.old.conn.now) (state S.Store tx.new.conn.now) result (λ _. ⊤) }
+    ensures live { LeavesLive (state S.Store tx.old.conn.now) (state S.Store tx.new.conn.now) result }
+    ensures uncommitted { HasCleanDisk (state S.Store tx.new.conn.now) → KeepsCommit (state S.Store tx.old.conn.now) (state S.Store tx.new.conn.now) }
+    ensures survives { Survives (state S.Store tx.old.conn.now) (state S.Store tx.new.conn.now) (λ _. ⊥) }
+{
+    put(
+        tx,
+        "UPDATE piece SET last = ?2, lot = ?3, kind = ?4, account = ?5, act = ?6 WHERE first = ?1",
         &[
             number(piece.first),
             number(piece.last),

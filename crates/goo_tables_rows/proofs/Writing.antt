@@ -1,5 +1,5 @@
 -- What INSERT and DELETE do to the trees, for any table without counters or foreign keys.
-use Rattle.std.proofs.Common.{◌≡◌, ◌⊎◌, inl, inr, ℕ, ◌/◌, List, [], length, slice_get, Option, Some, None, Ok, Err, Result, sym, ap, subst, subst₂, ◌∙◌, append-nil}
+use Rattle.std.proofs.Common.{◌≡◌, ◌⊎◌, inl, inr, ℕ, ◌/◌, List, [], length, slice_get, Option, Some, None, Ok, Err, Result, sym, ap, subst, subst₂, ◌∙◌, append-nil, unwrap_or}
 use Rattle.sqlite.specs.Order.{Row}
 use Rattle.sqlite_schema.specs.declared.schema.Column.{Column}
 use Rattle.sqlite_schema.specs.declared.schema.Keys.TheVariants.{Enforced}
@@ -86,7 +86,7 @@ module _ (schema : Schema) (at : ℕ) (name : List ℕ) (tree : ℕ) (key : Opti
         (given.0, given.1, record { schema_is = ap (λ (d : Database). d.schema) now; applied = subst (Applies schema Enforced db edit) (sym (ap (λ (d : Database). d.trees) now ∙ trees)) step })
 
     pub updates : (q : Program) → command_of (understood schema sql) ≡ Update at q → (count : ℕ) → Executes sql params old new (Ok count)
-        → (rows : List Row) × Answers (record { schema = schema; trees = db }) q params rows × Edits (edit_of db table (ids_of rows) Given 1 rows)
+        → (rows : List Row) × Answers (record { schema = schema; trees = db }) q params rows × Edits (edit_of db table (ids_of rows) Given 1 rows) × (count ≡ length (edit_of db table (ids_of rows) Given 1 rows).news)
     updates q is count h =
         let command = Update at q in
         let w = runs_as sql params old new schema has command is plain count h in
@@ -99,4 +99,5 @@ module _ (schema : Schema) (at : ℕ) (name : List ℕ) (tree : ℕ) (key : Opti
         let trees : done.0.trees ≡ written.0 = ap (λ (it : Written). it.trees) (same_value written.2) in
         let edit = edit_of db table (ids_of given.0) Given 1 given.0 in
         let step = one_step schema Enforced db written.0 edit (childless (taken_by db edit) edit.news) written.1 in
-        (given.0, given.1, record { schema_is = ap (λ (d : Database). d.schema) now; applied = subst (Applies schema Enforced db edit) (sym (ap (λ (d : Database). d.trees) now ∙ trees)) step })
+        let counted = w.counted ∙ ap (λ (p : Tally × Database). unwrap_or p.0.rows 0) (same_value (went (went done.2).2).2) ∙ ap (λ (it : Written). length it.rows) (same_value written.2) in
+        (given.0, given.1, record { schema_is = ap (λ (d : Database). d.schema) now; applied = subst (Applies schema Enforced db edit) (sym (ap (λ (d : Database). d.trees) now ∙ trees)) step }, counted)
