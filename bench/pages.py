@@ -3,7 +3,7 @@
 usage: python3 bench/pages.py [ROWS ..]      10,000 and 1,000,000 where nothing is said
 
 A new file has pages of 1,024 bytes (crates/goo_cli_registry, `make_first_page`), and the program keeps a file in the pages that it has. For each count of rows plain.rs makes one
-file, which SQLite rewrites in pages of each size (VACUUM INTO). Over each of these the program opens and checks the whole, which is measured by a run that asks for nothing, moves single
+file, whose rows SQLite then puts into files with pages of each size. Over each of these the program opens and checks the whole, which is measured by a run that asks for nothing, moves single
 certificates between two accounts, declares months of new devices, and writes a statement. The processor seconds of these three are those beyond opening; of each the least of
 some turns counts. A million rows take ten minutes and a gigabyte of memory. The files lie on tmpfs where there is one.
 """
@@ -51,15 +51,20 @@ def made(folder, rows):
 
 
 def rewritten(folder, page):
-    """The same file in pages of this size."""
+    """The same tables, indexes and rows in their order, in pages of this size. (What VACUUM leaves has its indexes elsewhere, and is no registry's file.)"""
     path = folder / 'paged'
     path.unlink(missing_ok=True)
-    with closing(sqlite3.connect(folder / 'made')) as database:
+    with closing(sqlite3.connect(path, isolation_level=None)) as database:
         database.execute(f'PRAGMA page_size = {page}')
-        database.execute(f"VACUUM INTO '{path}'")
-    with closing(sqlite3.connect(path)) as database:
-        database.execute('PRAGMA journal_mode = WAL')
-        if database.execute('PRAGMA page_size').fetchone() != (page,):
+        database.execute('ATTACH ? AS made', (str(folder / 'made'),))
+        database.execute('BEGIN')
+        made = database.execute('SELECT type, name, sql FROM made.sqlite_schema WHERE sql IS NOT NULL ORDER BY rowid').fetchall()
+        for _, _, text in made:
+            database.execute(text)
+        for name in (name for kind, name, _ in made if kind == 'table'):
+            database.execute(f'INSERT INTO main.{name} SELECT * FROM made.{name} ORDER BY rowid')
+        database.execute('COMMIT')
+        if database.execute('PRAGMA main.page_size').fetchone() != (page,):
             sys.exit(f'{path} has no pages of {page} bytes')
     return path
 
