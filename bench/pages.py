@@ -5,7 +5,7 @@ usage: python3 bench/pages.py [ROWS ..]      10,000 and 1,000,000 where nothing 
 A new file has pages of 1,024 bytes (crates/goo_cli_registry, `make_first_page`), and the program keeps a file in the pages that it has. For each count of rows plain.rs makes one
 file, whose rows SQLite then puts into files with pages of each size. Over each of these the program opens and checks the whole, which is measured by a run that asks for nothing, moves single
 certificates between two accounts, declares months of new devices, and writes a statement. The processor seconds of these three are those beyond opening; of each the least of
-some turns counts. A million rows take ten minutes and a gigabyte of memory. The files lie on tmpfs where there is one.
+some turns counts. A million rows take minutes and half a gigabyte of memory. The files lie on tmpfs where there is one.
 """
 import random
 import shutil
