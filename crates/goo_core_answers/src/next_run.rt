@@ -9,7 +9,9 @@ ghost use Rattle.goo_core_shelf.specs.Rows.{next_row, EndsFrom};
 ghost use Rattle.goo_spec.specs.Sound.{IsSound};
 ghost use Rattle.goo_spec_runs.specs.NextRun.{from_of, part_from as cut, IsNextRun, BeginsFrom};
 ghost use Rattle.goo_core_answers.specs.Reads.{kept_where, names};
+ghost use Rattle.goo_core_answers.specs.Ahead.{IsSeen};
 
+use crate::run_place::{Ahead, RunPlace};
 use goo_core_shelf::shelf::Shelf;
 use goo_types::account_no::AccountNo;
 use goo_types::fault::Fault;
@@ -36,28 +38,46 @@ fn part_from(row: &Piece, after: &Option<Number>) -> Piece
     }
 }
 
-/// The run that begins with a row, or with what of it lies after a number: it goes on for as long as rows follow.
+/// The first row after what was read: looked up, where it was not seen before.
+fn first_row<S: Shelf>(
+    shelf: &mut S,
+    account: AccountNo,
+    place: &RunPlace,
+) -> Result<Option<Piece>, Fault>
+    requires { IsReady (S.seen shelf.old) }
+    ensures looks { Looks (S.seen shelf.old) (S.seen shelf.new) result (λ found. IsSeen account place.now.after (S.seen shelf.old).rows place.now.ahead → found ≡ next_row account place.now.after (S.seen shelf.old).rows) }
+    ensures ahead { IfOk result (λ found. IfSome found (EndsFrom (from_of place.now.after))) }
+{
+    match place.ahead {
+        Ahead::Unread => shelf.next_of(account, place.after),
+        Ahead::Nothing => Ok(None),
+        Ahead::Row(row) => Ok(Some(row)),
+    }
+}
+
+/// The run that begins with a row, or with what of it lies after a number, and the place after it: the run goes on for as
+/// long as rows follow, and the row that doesn't is the one ahead.
 fn reach<S: Shelf>(
     shelf: &mut S,
     account: AccountNo,
     row: &Piece,
     after: &Option<Number>,
-) -> Result<Piece, Fault>
+) -> Result<(Piece, RunPlace), Fault>
     requires rows { (S.seen shelf.old).doubts ≡ 0 → AreRowsOf (S.seen shelf.old).state.at (S.seen shelf.old).rows }
     requires sound { (S.seen shelf.old).doubts ≡ 0 → IsSound (S.seen shelf.old).state }
     requires ready { IsReady (S.seen shelf.old) }
-    requires first { (S.seen shelf.old).doubts ≡ 0 → Some row.now ≡ next_row account after.now (S.seen shelf.old).rows }
     requires ahead { EndsFrom (from_of after.now) row.now }
-    ensures looks { Looks (S.seen shelf.old) (S.seen shelf.new) result (λ run. IsNextRun (kept_where (names account) (get (S.seen shelf.old).state.at)) (from_of after.now) (Some run)) }
-    ensures begins { IfOk result (BeginsFrom (from_of after.now)) }
+    ensures looks { Looks (S.seen shelf.old) (S.seen shelf.new) result (λ found. (Some row.now ≡ next_row account after.now (S.seen shelf.old).rows → IsNextRun (kept_where (names account) (get (S.seen shelf.old).state.at)) (from_of after.now) (Some found.0)) × IsSeen account (Some found.0.last) (S.seen shelf.old).rows found.1.ahead) }
+    ensures begins { IfOk result (λ found. BeginsFrom (from_of after.now) found.0) }
+    ensures place { IfOk result (λ found. found.1.after ≡ Some found.0.last) }
 {
     let mut run = part_from(row, after);
     loop {
         let Some(next) = shelf.next_of(account, Some(run.last))? else {
-            return Ok(run);
+            return Ok((run, RunPlace::at_the_end(run.last)));
         };
         if !run.is_followed_by(&next) {
-            return Ok(run);
+            return Ok((run, RunPlace::before(run.last, &next)));
         }
         // Numbers end somewhere, so this does.
         let _end = next.last.get();
@@ -65,28 +85,29 @@ fn reach<S: Shelf>(
     }
 }
 
-/// The first of the maximal runs of the certificates after a number whose place names an account; without
-/// a number, of all of them. None where there are none.
+/// The first of the maximal runs of the certificates after what was read whose place names an account; None where there
+/// are none. The place then lies after it.
 ///
 /// # Errors
 ///
-/// `Store` where the shelf answers it, `Memory` where memory was refused. State and rows stay as they are.
+/// `Store` where the shelf answers it, `Memory` where memory was refused. State, rows and place stay as they are.
 pub fn next_run_naming<S: Shelf>(
     shelf: &mut S,
     account: AccountNo,
-    after: Option<Number>,
+    place: &mut RunPlace,
 ) -> Result<Option<Piece>, Fault>
     requires rows { (S.seen shelf.old).doubts ≡ 0 → AreRowsOf (S.seen shelf.old).state.at (S.seen shelf.old).rows }
     requires sound { (S.seen shelf.old).doubts ≡ 0 → IsSound (S.seen shelf.old).state }
-    ensures looks { Looks (S.seen shelf.old) (S.seen shelf.new) result (IsNextRun (kept_where (names account) (get (S.seen shelf.old).state.at)) (from_of after)) }
-    ensures begins { IfOk result (λ found. IfSome found (BeginsFrom (from_of after))) }
+    requires ready { IsReady (S.seen shelf.old) }
+    ensures looks { Looks (S.seen shelf.old) (S.seen shelf.new) result (λ found. IsSeen account place.old.after (S.seen shelf.old).rows place.old.ahead → IsNextRun (kept_where (names account) (get (S.seen shelf.old).state.at)) (from_of place.old.after) found) }
+    ensures begins { IfOk result (λ found. IfSome found (BeginsFrom (from_of place.old.after))) }
+    ensures after { IfOk result (λ found. IfSome found (λ run. place.new.after ≡ Some run.last)) }
+    ensures ahead { (S.seen shelf.new).doubts ≡ 0 → IfOk result (λ found. IfSome found (λ run. IsSeen account (Some run.last) (S.seen shelf.old).rows place.new.ahead)) }
 {
-    let after = &after;
-    match shelf.next_of(account, *after)? {
-        Some(row) => {
-            let run = reach(shelf, account, &row, after)?;
-            Ok(Some(run))
-        }
-        None => Ok(None),
-    }
+    let Some(row) = first_row(shelf, account, place)? else {
+        return Ok(None);
+    };
+    let (run, next) = reach(shelf, account, &row, &place.after)?;
+    *place = next;
+    Ok(Some(run))
 }

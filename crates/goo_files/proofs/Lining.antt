@@ -16,7 +16,10 @@ use Rattle.goo_core_answers.specs.Reads.{kept_where, names}
 use Rattle.goo_core_answers.specs.declared.denial.Denial.{Denial}
 use Rattle.goo_core_answers.specs.declared.denial.Denial.TheVariants as denial
 use Rattle.goo_types.specs.declared.fault.Fault.TheVariants as fault
-use Rattle.goo_core_shelf.proofs.Looking.{still}
+use Rattle.goo_core_shelf.proofs.Looking.{still, looked_as}
+use Rattle.goo_core_answers.specs.Ahead.{IsSeen}
+use Rattle.goo_core_answers.specs.declared.run_place.Ahead.{Ahead}
+use Rattle.goo_types.specs.declared.fault.Fault.{Fault}
 use Rattle.goo_core_answers.proofs.Naming.{some_runs}
 use Rattle.goo_registry.specs.Reads.{account_denial}
 use Rattle.goo_registry.specs.AccountReads.{IsNextRunShown}
@@ -51,6 +54,15 @@ full a b u look = record {
 pub record IsWell (m : Moment) : Type 0 where
   pub sound : m.doubts ≡ 0 → IsSound m.state
   pub rows : m.doubts ≡ 0 → AreRowsOf m.state.at m.rows
+
+-- what is found after what was seen of the rows ahead is right
+pub found_after : (a b : Moment) (caller : List ℕ) (account : ℕ) (after : Option ℕ) (ahead : Ahead) (r : Result (Result (Option Piece) Denial) Fault) → (a.doubts ≡ 0 → IsSeen account after a.rows ahead)
+    → Looks a b r (λ shown. IsSeen account after a.rows ahead → IsNextRunShown a.state caller account after shown) → Looks a b r (IsNextRunShown a.state caller account after)
+found_after a b caller account after ahead r seen look = looked_as a b r (λ shown. IsSeen account after a.rows ahead → IsNextRunShown a.state caller account after shown) (IsNextRunShown a.state caller account after) look (λ none x is. is (seen none))
+
+-- what was seen after a run still is
+pub seen_on : (a b : Moment) (account last : ℕ) (after : Option ℕ) (ahead : Ahead) → after ≡ Some last → (b.doubts ≡ 0 → b.rows ≡ a.rows) → (b.doubts ≡ 0 → IsSeen account (Some last) a.rows ahead) → b.doubts ≡ 0 → IsSeen account after b.rows ahead
+seen_on a b account last after ahead is same seen none = subst (λ rows. IsSeen account after rows ahead) (sym (same none)) (subst (λ o. IsSeen account o a.rows ahead) (sym is) (seen none))
 
 -- a line a run, and a sum over the runs
 module _ {T : Type 0} (line : Piece → List ℕ) (sum : List Piece → T) where

@@ -15,7 +15,7 @@ use crate::text_fault::TextFault;
 use goo_core_shelf::shelf::Shelf;
 use goo_files_csv::{NoRoom, holding_row, holdings_header};
 use goo_files_streams::write_whole;
-use goo_registry::Registry;
+use goo_registry::{Registry, RunPlace};
 use goo_types::account_no::AccountNo;
 use goo_types::holder_code::HolderCode;
 use goo_types::piece::Piece;
@@ -82,16 +82,15 @@ fn write_rows<S: Shelf, W: Write>(
     requires shown { (S.seen registry.old.shelf).doubts ≡ 0 → account_denial caller.now (get (S.seen registry.old.shelf).state.accounts account) ≡ None }
     ensures { Writes (S.seen registry.old.shelf) (S.seen registry.new.shelf) (W.contents writer.old) (W.contents writer.new) result None (AreHeldRows (S.seen registry.old.shelf).state account) }
 {
-    let mut after = None;
+    let mut place = RunPlace::after(None);
     loop {
-        match registry.next_run(caller, account, after) {
+        match registry.read_run(caller, account, &mut place) {
             Ok(Some(run)) => {
                 if let Err(fault) = write_row(alloc, writer, &run) {
                     return Err(fault);
                 }
                 // Numbers end somewhere, so this does.
                 let _end = run.last.get();
-                after = Some(run.last);
             }
             Ok(None) => return Ok(()),
             Err(fault) => return Err(TextFault::from(fault)),

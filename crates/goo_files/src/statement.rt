@@ -15,7 +15,7 @@ use crate::writing::write_line;
 use goo_core_shelf::shelf::Shelf;
 use goo_files_documents::{Counts, statement_foot, statement_head, statement_line};
 use goo_files_streams::WriteFault;
-use goo_registry::{Heading, Registry};
+use goo_registry::{Heading, Registry, RunPlace};
 use goo_types::account_no::AccountNo;
 use goo_types::holder_code::HolderCode;
 use std::io::Write;
@@ -32,9 +32,9 @@ fn write_runs<S: Shelf, W: Write>(
     ensures { Writes (S.seen registry.old.shelf) (S.seen registry.new.shelf) (W.contents writer.old) (W.contents writer.new) result None (AreRunLines (S.seen registry.old.shelf).state account) }
 {
     let mut counts = Counts::none();
-    let mut after = None;
+    let mut place = RunPlace::after(None);
     loop {
-        match registry.next_run(caller, account, after) {
+        match registry.read_run(caller, account, &mut place) {
             Ok(Some(run)) => {
                 if write_line(writer, &statement_line(&run)).is_err() {
                     return Err(TextFault::Write);
@@ -42,7 +42,6 @@ fn write_runs<S: Shelf, W: Write>(
                 counts.add(&run);
                 // Numbers end somewhere, so this does.
                 let _end = run.last.get();
-                after = Some(run.last);
             }
             Ok(None) => return Ok(counts),
             Err(fault) => return Err(TextFault::from(fault)),

@@ -1,6 +1,7 @@
 //! An account's row, and its certificates run by run.
 
-ghost use Rattle.std.specs.Prelude.{◌≡◌, IfOk, IfSome};
+ghost use Rattle.std.specs.Prelude.{◌≡◌, Some, IfOk, IfSome};
+ghost use Rattle.goo_core_answers.specs.Ahead.{IsSeen};
 ghost use Rattle.goo_ranges_rows.specs.Rows.{AreRowsOf};
 ghost use Rattle.goo_spec.specs.Sound.{IsSound};
 ghost use Rattle.goo_core_shelf.specs.Shelf.{Looks, IsReady};
@@ -11,12 +12,12 @@ use crate::access::{absent_denial, account_denial};
 use crate::heading::Heading;
 use goo_core_answers::denial::Denial;
 use goo_core_answers::next_run::next_run_naming;
+use goo_core_answers::run_place::RunPlace;
 use goo_core_shelf::account::Account;
 use goo_core_shelf::shelf::Shelf;
 use goo_types::account_no::AccountNo;
 use goo_types::fault::Fault;
 use goo_types::holder_code::HolderCode;
-use goo_types::number::Number;
 use goo_types::piece::Piece;
 
 /// An account, or why it isn't shown.
@@ -65,7 +66,7 @@ pub fn find_heading<S: Shelf>(
     }))
 }
 
-/// The first run of an account's certificates after a number, or why it isn't shown.
+/// The first run of an account's certificates after what was read, or why it isn't shown. The place then lies after it.
 ///
 /// # Errors
 ///
@@ -76,16 +77,18 @@ pub fn find_next_run<S: Shelf>(
     shelf: &mut S,
     caller: &HolderCode,
     account: AccountNo,
-    after: Option<Number>,
+    place: &mut RunPlace,
 ) -> Result<Result<Option<Piece>, Denial>, Fault>
     requires rows { (S.seen shelf.old).doubts ≡ 0 → AreRowsOf (S.seen shelf.old).state.at (S.seen shelf.old).rows }
     requires sound { (S.seen shelf.old).doubts ≡ 0 → IsSound (S.seen shelf.old).state }
-    ensures looks { Looks (S.seen shelf.old) (S.seen shelf.new) result (IsNextRunShown (S.seen shelf.old).state caller.now account after) }
-    ensures begins { IfOk result (λ shown. IfOk shown (λ found. IfSome found (BeginsFrom (from_of after)))) }
+    ensures looks { Looks (S.seen shelf.old) (S.seen shelf.new) result (λ shown. IsSeen account place.old.after (S.seen shelf.old).rows place.old.ahead → IsNextRunShown (S.seen shelf.old).state caller.now account place.old.after shown) }
+    ensures begins { IfOk result (λ shown. IfOk shown (λ found. IfSome found (BeginsFrom (from_of place.old.after)))) }
+    ensures after { IfOk result (λ shown. IfOk shown (λ found. IfSome found (λ run. place.new.after ≡ Some run.last))) }
+    ensures ahead { (S.seen shelf.new).doubts ≡ 0 → IfOk result (λ shown. IfOk shown (λ found. IfSome found (λ run. IsSeen account (Some run.last) (S.seen shelf.old).rows place.new.ahead))) }
 {
     if let Err(denial) = find_account(shelf, caller, account)? {
         return Ok(Err(denial));
     }
-    let found = next_run_naming(shelf, account, after)?;
+    let found = next_run_naming(shelf, account, place)?;
     Ok(Ok(found))
 }

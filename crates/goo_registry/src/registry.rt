@@ -1,6 +1,6 @@
 //! A registry over what keeps its records: requests, and what may be read of it.
 
-ghost use Rattle.std.specs.Prelude.{◌≡◌, IfOk, IfSome};
+ghost use Rattle.std.specs.Prelude.{◌≡◌, Some, IfOk, IfSome};
 ghost use Rattle.goo_ranges_rows.specs.Rows.{AreRowsOf, rows-prop};
 ghost use Rattle.goo_spec.specs.Balanced.{IsBalanced};
 ghost use Rattle.goo_spec.specs.Promise.{HaveTheirPlace, AreThoseBrought, OthersAreIdle};
@@ -9,6 +9,7 @@ ghost use Rattle.goo_registry.specs.Applying.{Applies};
 ghost use Rattle.goo_registry.specs.Running.{Runs, RunsAsOne, answered};
 ghost use Rattle.goo_registry.specs.Shown.{Shows, apart as answer_of};
 ghost use Rattle.goo_spec_runs.specs.NextRun.{from_of, BeginsFrom};
+ghost use Rattle.goo_core_answers.specs.Ahead.{IsSeen};
 ghost use Rattle.goo_registry.specs.AccountReads.{IsHeadingShown, IsNextRunShown};
 ghost use Rattle.goo_registry.specs.Reads.{place_shown, notice_shown, AreHoldings, IsCancellationShown, IsAudit};
 
@@ -25,6 +26,7 @@ use crate::run::run_all;
 use crate::run_fault::RunFault;
 use goo_core_answers::audit::find_totals;
 use goo_core_answers::denial::Denial;
+use goo_core_answers::run_place::RunPlace;
 use goo_core_shelf::found::DeviceTotals;
 use goo_core_shelf::shelf::Shelf;
 use goo_types::account_no::AccountNo;
@@ -190,8 +192,8 @@ impl<S: Shelf> Registry<S> {
     }
 
     /// The first of the maximal runs of an account's certificates after a number, or of all of them; None where there
-    /// are none. It is shown to those who may see [`holdings`](Registry::holdings). Called each time with the last
-    /// number of the run before, it gives all of them, and holds no more than two rows at a time.
+    /// are none. It is shown to those who may see [`holdings`](Registry::holdings). To read all of them, one after
+    /// another, [`read_run`](Registry::read_run) looks up each row once.
     ///
     /// # Errors
     ///
@@ -207,7 +209,29 @@ impl<S: Shelf> Registry<S> {
         ensures shows { Shows (S.seen self.old.shelf) (S.seen self.new.shelf) result (IsNextRunShown (S.seen self.old.shelf).state caller.now account after) }
         ensures begins { IfOk result (λ found. IfSome found (BeginsFrom (from_of after))) }
     {
-        told(find_next_run(&mut self.shelf, caller, account, after))
+        let mut place = RunPlace::after(after);
+        told(find_next_run(&mut self.shelf, caller, account, &mut place))
+    }
+
+    /// The same, after what was read before; the place then lies after the run. Called with a new place until it gives
+    /// None, it gives all runs, and holds no more than two rows at a time. Of a registry that changed meanwhile, the
+    /// row ahead may be gone: begin with a new place then.
+    ///
+    /// # Errors
+    ///
+    /// Those of [`next_run`](Registry::next_run). The registry stays as it is.
+    pub fn read_run(
+        &mut self,
+        caller: &HolderCode,
+        account: AccountNo,
+        place: &mut RunPlace,
+    ) -> Result<Option<Piece>, ReadFault>
+        ensures shows { Shows (S.seen self.old.shelf) (S.seen self.new.shelf) result (λ shown. IsSeen account place.old.after (S.seen self.old.shelf).rows place.old.ahead → IsNextRunShown (S.seen self.old.shelf).state caller.now account place.old.after shown) }
+        ensures begins { IfOk result (λ found. IfSome found (BeginsFrom (from_of place.old.after))) }
+        ensures after { IfOk result (λ found. IfSome found (λ run. place.new.after ≡ Some run.last)) }
+        ensures ahead { (S.seen self.new.shelf).doubts ≡ 0 → IfOk result (λ found. IfSome found (λ run. IsSeen account (Some run.last) (S.seen self.old.shelf).rows place.new.ahead)) }
+    {
+        told(find_next_run(&mut self.shelf, caller, account, place))
     }
 
     /// A cancellation: its record, its holder and its certificates. It is shown to the issuing body and to the holder

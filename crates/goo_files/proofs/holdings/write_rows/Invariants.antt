@@ -1,11 +1,15 @@
-use Rattle.std.proofs.Common.{◌-◌}
+use Rattle.std.proofs.Common.{◌≡◌, ◌-◌}
+use Rattle.goo_core_answers.specs.Ahead.{IsSeen}
 use Rattle.goo_spec_runs.specs.NextRun.{from_of}
 use Rattle.goo_files.specs.Lines.{held_row, no_sum}
 use Rattle.goo_files.proofs.Lining.{IsGoing}
 use Rattle.goo_files.proofs.holdings.write_rows.Given as goal
 
 abbrev pub invariant-loop-run : goal.invariant-loop-run
-invariant-loop-run g l = IsGoing held_row no_sum (g.S.Shelf.seen l.fn.registry.shelf) (g.S.Shelf.seen l.registry.shelf) (g.W.Write.contents l.fn.writer) (g.W.Write.contents l.writer) l.account (from_of l.after) tt
+invariant-loop-run g l = record {
+  going : IsGoing held_row no_sum (g.S.Shelf.seen l.fn.registry.shelf) (g.S.Shelf.seen l.registry.shelf) (g.W.Write.contents l.fn.writer) (g.W.Write.contents l.writer) l.account (from_of l.place.after) tt;
+  seen : (g.S.Shelf.seen l.registry.shelf).doubts ≡ 0 → IsSeen l.account l.place.after (g.S.Shelf.seen l.registry.shelf).rows l.place.ahead;
+}
 
 abbrev pub decreases-loop-run : goal.decreases-loop-run
-decreases-loop-run g l = 100000000000000 - from_of l.after
+decreases-loop-run g l = 100000000000000 - from_of l.place.after
