@@ -1,14 +1,16 @@
 """Counts the statements and the instructions of a request of `goo run`, by callgrind, beside the instructions of plain.rs.
 
 usage: python3 bench/instructions.py statements             by kind of request, in memory and on a file
+       python3 bench/instructions.py opening                opening a file and a statement, by size, beside SQLite's own check of the file
        python3 bench/instructions.py costly WORKLOAD N      the costliest functions of N requests more in memory, and the shares of the crates
        python3 bench/instructions.py costly WORKLOAD N file the same on a file
 
-Each count is the difference of two runs, one with the requests and one without them, so that making the tables is left out. A statement is a call of the function
-by which the library looks a text up among those it has compiled, `Entry::fetch`. What is counted is the same in any hour. It needs valgrind.
+Each count of requests is the difference of two runs, one with the requests and one without them, so that making the tables is left out. A statement is a call of the
+function by which the library looks a text up among those it has compiled, `Entry::fetch`. What is counted is the same in any hour. It needs valgrind, and `opening` sqlite3.
 """
 import collections
 import json
+import math
 import os
 import re
 import shutil
@@ -17,9 +19,12 @@ import sys
 
 import kinds
 import workloads
-from measured import NEW, PROGRAM, SECONDS, fast, goo, head, ratio, room, row, rust, say
+from measured import NEW, PROGRAM, SECONDS, fast, goo, head, ratio, room, row, rust, say, workload
 
 STATEMENT = re.compile(r'Entry.*fetch')
+CONNECT = re.compile(r'^sqlite::file::connect')
+OPENED = (8_000, 32_000)
+OF_FILES = ['Work', 'n', 'Statements', 'Instructions', 'of them in the library\'s check', 'Grows as', '`integrity_check`', 'Ratio', 'Grows as']
 HEAD = ['Request', 'Statements', 'Instructions in memory', 'Rust', 'Ratio', 'Instructions on a file', 'Rust', 'Ratio']
 
 
@@ -74,16 +79,22 @@ def plain(path=None):
     return [*rust(), *([str(path)] if path else [])]
 
 
+def profiled(folder, words, given=os.devnull):
+    """What callgrind finds of a run."""
+    out = folder / 'out'
+    command = ['valgrind', '--tool=callgrind', f'--callgrind-out-file={out}', *map(str, words)]
+    with open(given, 'rb') as source:
+        done = subprocess.run(command, stdin=source, stdout=subprocess.DEVNULL, stderr=subprocess.DEVNULL, timeout=SECONDS, check=False)
+    if done.returncode > 1:
+        sys.exit(f'{" ".join(command)} ended with status {done.returncode}')
+    return Profile(out.read_text(encoding='utf-8', errors='replace'))
+
+
 def profile(lines, words=program, on_file=False):
     with room(fast()) as folder:
-        out, source = folder / 'out', folder / 'lines'
+        source = folder / 'lines'
         source.write_text('\n'.join(lines) + '\n', encoding='utf-8')
-        command = ['valgrind', '--tool=callgrind', f'--callgrind-out-file={out}', *words(folder / 'file' if on_file else None)]
-        with open(source, 'rb') as given:
-            done = subprocess.run(command, stdin=given, stdout=subprocess.DEVNULL, stderr=subprocess.DEVNULL, timeout=SECONDS, check=False)
-        if done.returncode > 1:
-            sys.exit(f'{" ".join(command)} ended with status {done.returncode}')
-        return Profile(out.read_text(encoding='utf-8', errors='replace'))
+        return profiled(folder, words(folder / 'file' if on_file else None), source)
 
 
 def outcomes(lines, words):
@@ -130,16 +141,52 @@ def statements(chosen, by_function=False):
         row(cells + ([asked(found)] if by_function else []))
 
 
+def of_file(name, size):
+    """What opening a file of a workload takes, what a statement of its first account does beyond that, and SQLite's own check of it."""
+    with room(fast()) as folder:
+        path = folder / 'registry'
+        workload(name, size, folder / 'lines')
+        goo('init', '--db', path, *NEW)
+        goo('run', '--db', path, given=folder / 'lines')
+        opening = profiled(folder, [PROGRAM, 'run', '--db', path])
+        beyond = profiled(folder, [PROGRAM, 'statement', '1', '--db', path]).minus(opening) if name == 'runs' else None
+        check = profiled(folder, ['sqlite3', path, 'PRAGMA integrity_check']) if shutil.which('sqlite3') else None
+        return opening, beyond, check
+
+
+def all_of(found):
+    return sum(found.own.values()) if found else 0
+
+
+def grown(less, more):
+    """The exponent by which the instructions grow with the size."""
+    return f'n^{math.log(more / less, OPENED[1] / OPENED[0]):.3f}' if less else ''
+
+
+def opening():
+    """Prints the rows of opening and of a statement, at the greater size."""
+    size = OPENED[-1]
+    for name in ('declarations', 'runs'):
+        few, many = (of_file(name, n) for n in OPENED)
+        ours, theirs = all_of(many[0]), all_of(many[2])
+        library = sum(whole for function, whole in many[0].whole.items() if CONNECT.search(function))
+        beside = [f'{theirs:,}', ratio(ours, theirs), grown(all_of(few[2]), theirs)] if theirs else [''] * 3
+        row([f'opening a file, {name}', f'{size:,}', '', f'{ours:,}', f'{library / ours:.0%}', grown(all_of(few[0]), ours), *beside])
+        if many[1]:
+            of_each = matching(many[1].calls, STATEMENT) / size
+            row([f'`statement` beyond opening, {name}', f'{size:,}', f'{of_each:.1f} a run', f'{all_of(many[1]):,}', '', grown(all_of(few[1]), all_of(many[1])), *[''] * 3])
+
+
 def crate_of(name):
     match = re.search(r'(?:^|[<\s(&:])((?:goo|sqlite|json|serde|std|core|alloc|arrayvec|jiff)[a-z_]*)::', name)
     return match[1] if match else 'other'
 
 
-def costly(workload, count, on_file):
-    few, many = (list(workloads.WORKLOADS[workload](n)) for n in (count, 2 * count))
+def costly(name, count, on_file):
+    few, many = (list(workloads.WORKLOADS[name](n)) for n in (count, 2 * count))
     found = profile(many, program, on_file).minus(profile(few, program, on_file))
     total = sum(found.own.values())
-    print(f'{len(many) - len(few):,} {workload} after {len(few):,}: {total / (len(many) - len(few)):,.0f} instructions each')
+    print(f'{len(many) - len(few):,} {name} after {len(few):,}: {total / (len(many) - len(few)):,.0f} instructions each')
     print('| Function | Own share | With what it calls | Calls a request | Called most by |\n|---|---|---|---|---|')
     for name, own in found.own.most_common(int(os.environ.get('MOST', '12'))):
         callers = ', '.join(f'{caller} {whole / total:.1%}' for caller, whole in found.callers[name].most_common(4))
@@ -170,6 +217,10 @@ if __name__ == '__main__':
         if is_there():
             head([*HEAD, 'By function'])
             statements(kinds.KINDS, True)
+    elif sys.argv[1:] == ['opening']:
+        if is_there():
+            head(OF_FILES)
+            opening()
     elif len(sys.argv) in (4, 5) and sys.argv[1] == 'costly' and sys.argv[2] in ('declarations', 'trades') and sys.argv[4:] in ([], ['file']):
         if is_there():
             costly(sys.argv[2], int(sys.argv[3]), len(sys.argv) == 5)
