@@ -1,17 +1,18 @@
 //! The certificates of an account, run by run, so that no more than a few of their rows are held at a time.
 
-ghost use Rattle.std.specs.Prelude.{◌≡◌, ◌≤◌, ◌<◌, Some, IfOk, IfSome};
+ghost use Rattle.std.specs.Prelude.{◌≡◌, ◌≤◌, ◌<◌, Some, None, IfOk, IfSome, OnErr};
+ghost use Rattle.std.specs.Option.{ForSome};
 ghost use Rattle.std.specs.FinMap.{get};
-ghost use Rattle.goo_types.specs.Piece.{IsForward};
+ghost use Rattle.goo_types.specs.Piece.{IsForward, Follows};
 ghost use Rattle.goo_ranges_rows.specs.Rows.{AreRowsOf};
-ghost use Rattle.goo_core_shelf.specs.Shelf.{Looks, IsReady};
+ghost use Rattle.goo_core_shelf.specs.Shelf.{Looks};
 ghost use Rattle.goo_core_shelf.specs.Rows.{next_row, EndsFrom};
 ghost use Rattle.goo_spec.specs.Sound.{IsSound};
 ghost use Rattle.goo_spec_runs.specs.NextRun.{from_of, part_from as cut, IsNextRun, BeginsFrom};
 ghost use Rattle.goo_core_answers.specs.Reads.{kept_where, names};
-ghost use Rattle.goo_core_answers.specs.Ahead.{IsSeen};
+ghost use Rattle.goo_core_answers.specs.Ahead.{IsSeen, IsPlaceAfter};
 
-use crate::run_place::{Ahead, RunPlace};
+use crate::run_place::RunPlace;
 use goo_core_shelf::shelf::Shelf;
 use goo_types::account_no::AccountNo;
 use goo_types::fault::Fault;
@@ -38,20 +39,14 @@ fn part_from(row: &Piece, after: &Option<Number>) -> Piece
     }
 }
 
-/// The first row after what was read: looked up, where it was not seen before.
-fn first_row<S: Shelf>(
-    shelf: &mut S,
-    account: AccountNo,
-    place: &RunPlace,
-) -> Result<Option<Piece>, Fault>
-    requires { IsReady (S.seen shelf.old) }
-    ensures looks { Looks (S.seen shelf.old) (S.seen shelf.new) result (λ found. IsSeen account place.now.after (S.seen shelf.old).rows place.now.ahead → found ≡ next_row account place.now.after (S.seen shelf.old).rows) }
-    ensures ahead { IfOk result (λ found. IfSome found (EndsFrom (from_of place.now.after))) }
+/// The row ahead, if the run goes on with it.
+fn follower(run: &Piece, ahead: &Option<Piece>) -> Option<Piece>
+    ensures follows { ForSome result (λ row. (ahead.now ≡ Some row) × Follows run.now row) }
+    ensures apart { result ≡ None → ForSome ahead.now (λ row. ¬ (Follows run.now row)) }
 {
-    match place.ahead {
-        Ahead::Unread => shelf.next_of(account, place.after),
-        Ahead::Nothing => Ok(None),
-        Ahead::Row(row) => Ok(Some(row)),
+    match ahead {
+        Some(row) if run.is_followed_by(row) => Some(*row),
+        _ => None,
     }
 }
 
@@ -65,28 +60,45 @@ fn reach<S: Shelf>(
 ) -> Result<(Piece, RunPlace), Fault>
     requires rows { (S.seen shelf.old).doubts ≡ 0 → AreRowsOf (S.seen shelf.old).state.at (S.seen shelf.old).rows }
     requires sound { (S.seen shelf.old).doubts ≡ 0 → IsSound (S.seen shelf.old).state }
-    requires ready { IsReady (S.seen shelf.old) }
     requires ahead { EndsFrom (from_of after.now) row.now }
     ensures looks { Looks (S.seen shelf.old) (S.seen shelf.new) result (λ found. (Some row.now ≡ next_row account after.now (S.seen shelf.old).rows → IsNextRun (kept_where (names account) (get (S.seen shelf.old).state.at)) (from_of after.now) (Some found.0)) × IsSeen account (Some found.0.last) (S.seen shelf.old).rows found.1.ahead) }
     ensures begins { IfOk result (λ found. BeginsFrom (from_of after.now) found.0) }
     ensures place { IfOk result (λ found. found.1.after ≡ Some found.0.last) }
 {
     let mut run = part_from(row, after);
-    loop {
-        let Some(next) = shelf.next_of(account, Some(run.last))? else {
-            return Ok((run, RunPlace::at_the_end(run.last)));
-        };
-        if !run.is_followed_by(&next) {
-            return Ok((run, RunPlace::before(run.last, &next)));
-        }
+    let mut ahead = shelf.next_of(account, Some(run.last))?;
+    while let Some(next) = follower(&run, &ahead) {
         // Numbers end somewhere, so this does.
         let _end = next.last.get();
         run.last = next.last;
+        ahead = shelf.next_of(account, Some(run.last))?;
     }
+    Ok((run, RunPlace::before(run.last, ahead)))
+}
+
+/// The run that begins with a row, or with what of it lies after a place. The place then lies after the run.
+fn read_from<S: Shelf>(
+    shelf: &mut S,
+    account: AccountNo,
+    row: &Piece,
+    place: &mut RunPlace,
+) -> Result<Option<Piece>, Fault>
+    requires rows { (S.seen shelf.old).doubts ≡ 0 → AreRowsOf (S.seen shelf.old).state.at (S.seen shelf.old).rows }
+    requires sound { (S.seen shelf.old).doubts ≡ 0 → IsSound (S.seen shelf.old).state }
+    requires ahead { EndsFrom (from_of place.old.after) row.now }
+    ensures looks { Looks (S.seen shelf.old) (S.seen shelf.new) result (λ found. Some row.now ≡ next_row account place.old.after (S.seen shelf.old).rows → IsNextRun (kept_where (names account) (get (S.seen shelf.old).state.at)) (from_of place.old.after) found) }
+    ensures begins { IfOk result (λ found. IfSome found (BeginsFrom (from_of place.old.after))) }
+    ensures place { IfOk result (λ found. IsPlaceAfter place.old found place.new) }
+    ensures stays { OnErr result (place.new ≡ place.old) }
+    ensures ahead { (S.seen shelf.new).doubts ≡ 0 → IfOk result (λ found. IfSome found (λ run. IsSeen account (Some run.last) (S.seen shelf.old).rows place.new.ahead)) }
+{
+    let (run, next) = reach(shelf, account, row, &place.after)?;
+    *place = next;
+    Ok(Some(run))
 }
 
 /// The first of the maximal runs of the certificates after what was read whose place names an account; None where there
-/// are none. The place then lies after it.
+/// are none. The place then lies after it, and where it lay if there are none.
 ///
 /// # Errors
 ///
@@ -98,16 +110,17 @@ pub fn next_run_naming<S: Shelf>(
 ) -> Result<Option<Piece>, Fault>
     requires rows { (S.seen shelf.old).doubts ≡ 0 → AreRowsOf (S.seen shelf.old).state.at (S.seen shelf.old).rows }
     requires sound { (S.seen shelf.old).doubts ≡ 0 → IsSound (S.seen shelf.old).state }
-    requires ready { IsReady (S.seen shelf.old) }
     ensures looks { Looks (S.seen shelf.old) (S.seen shelf.new) result (λ found. IsSeen account place.old.after (S.seen shelf.old).rows place.old.ahead → IsNextRun (kept_where (names account) (get (S.seen shelf.old).state.at)) (from_of place.old.after) found) }
     ensures begins { IfOk result (λ found. IfSome found (BeginsFrom (from_of place.old.after))) }
-    ensures after { IfOk result (λ found. IfSome found (λ run. place.new.after ≡ Some run.last)) }
+    ensures place { IfOk result (λ found. IsPlaceAfter place.old found place.new) }
+    ensures stays { OnErr result (place.new ≡ place.old) }
     ensures ahead { (S.seen shelf.new).doubts ≡ 0 → IfOk result (λ found. IfSome found (λ run. IsSeen account (Some run.last) (S.seen shelf.old).rows place.new.ahead)) }
 {
-    let Some(row) = first_row(shelf, account, place)? else {
-        return Ok(None);
-    };
-    let (run, next) = reach(shelf, account, &row, &place.after)?;
-    *place = next;
-    Ok(Some(run))
+    if let Some(row) = place.ahead {
+        return read_from(shelf, account, &row, place);
+    }
+    match shelf.next_of(account, place.after)? {
+        Some(row) => read_from(shelf, account, &row, place),
+        None => Ok(None),
+    }
 }

@@ -18,11 +18,11 @@ use Rattle.goo_core_answers.specs.declared.denial.Denial.TheVariants as denial
 use Rattle.goo_types.specs.declared.fault.Fault.TheVariants as fault
 use Rattle.goo_core_shelf.proofs.Looking.{still, looked_as}
 use Rattle.goo_core_answers.specs.Ahead.{IsSeen}
-use Rattle.goo_core_answers.specs.declared.run_place.Ahead.{Ahead}
+use Rattle.goo_core_answers.specs.declared.run_place.RunPlace.{RunPlace}
 use Rattle.goo_types.specs.declared.fault.Fault.{Fault}
 use Rattle.goo_core_answers.proofs.Naming.{some_runs}
 use Rattle.goo_registry.specs.Reads.{account_denial}
-use Rattle.goo_registry.specs.AccountReads.{IsNextRunShown}
+use Rattle.goo_registry.specs.AccountReads.{IsNextRunShown, IsRunRead}
 use Rattle.goo_registry.specs.Shown.{apart}
 use Rattle.goo_registry.specs.declared.read_fault.ReadFault.{ReadFault}
 use Rattle.goo_registry.specs.declared.read_fault.ReadFault.TheVariants.{NotAllowed, Unknown, Store, Memory}
@@ -56,12 +56,16 @@ pub record IsWell (m : Moment) : Type 0 where
   pub rows : m.doubts ≡ 0 → AreRowsOf m.state.at m.rows
 
 -- what is found after what was seen of the rows ahead is right
-pub found_after : (a b : Moment) (caller : List ℕ) (account : ℕ) (after : Option ℕ) (ahead : Ahead) (r : Result (Result (Option Piece) Denial) Fault) → (a.doubts ≡ 0 → IsSeen account after a.rows ahead)
-    → Looks a b r (λ shown. IsSeen account after a.rows ahead → IsNextRunShown a.state caller account after shown) → Looks a b r (IsNextRunShown a.state caller account after)
-found_after a b caller account after ahead r seen look = looked_as a b r (λ shown. IsSeen account after a.rows ahead → IsNextRunShown a.state caller account after shown) (IsNextRunShown a.state caller account after) look (λ none x is. is (seen none))
+found_shown : (m : Moment) (caller : List ℕ) (account : ℕ) (place : RunPlace) (r : Result (Option Piece) Denial) → IsSeen account place.after m.rows place.ahead → IsRunRead m caller account place r → IsNextRunShown m.state caller account place.after r
+found_shown m caller account place (Ok found) seen is = (is.0, is.1 seen)
+found_shown m caller account place (Err why) seen is = is
+
+pub found_after : (a b : Moment) (caller : List ℕ) (account : ℕ) (place : RunPlace) (r : Result (Result (Option Piece) Denial) Fault) → (a.doubts ≡ 0 → IsSeen account place.after a.rows place.ahead)
+    → Looks a b r (IsRunRead a caller account place) → Looks a b r (IsNextRunShown a.state caller account place.after)
+found_after a b caller account place r seen look = looked_as a b r (IsRunRead a caller account place) (IsNextRunShown a.state caller account place.after) look (λ none x is. found_shown a caller account place x (seen none) is)
 
 -- what was seen after a run still is
-pub seen_on : (a b : Moment) (account last : ℕ) (after : Option ℕ) (ahead : Ahead) → after ≡ Some last → (b.doubts ≡ 0 → b.rows ≡ a.rows) → (b.doubts ≡ 0 → IsSeen account (Some last) a.rows ahead) → b.doubts ≡ 0 → IsSeen account after b.rows ahead
+pub seen_on : (a b : Moment) (account last : ℕ) (after : Option ℕ) (ahead : Option Piece) → after ≡ Some last → (b.doubts ≡ 0 → b.rows ≡ a.rows) → (b.doubts ≡ 0 → IsSeen account (Some last) a.rows ahead) → b.doubts ≡ 0 → IsSeen account after b.rows ahead
 seen_on a b account last after ahead is same seen none = subst (λ rows. IsSeen account after rows ahead) (sym (same none)) (subst (λ o. IsSeen account o a.rows ahead) (sym is) (seen none))
 
 -- a line a run, and a sum over the runs

@@ -5,7 +5,10 @@ use Rattle.goo_types.specs.declared.piece.Piece.{Piece}
 use Rattle.goo_spec.specs.State.{State, Account}
 use Rattle.goo_spec_runs.specs.NextRun.{from_of, IsNextRun}
 use Rattle.goo_core_answers.specs.Reads.{kept_where, names}
+use Rattle.goo_core_answers.specs.Ahead.{IsSeen}
 use Rattle.goo_core_answers.specs.declared.denial.Denial.{Denial}
+use Rattle.goo_core_answers.specs.declared.run_place.RunPlace.{RunPlace}
+use Rattle.goo_core_shelf.specs.Shelf.{Moment}
 use Rattle.goo_registry.specs.Reads.{account_denial}
 use Rattle.goo_registry.specs.declared.heading.Heading.{Heading}
 
@@ -29,3 +32,8 @@ IsHeadingShown s caller account (Ok heading) = (account_denial caller (get s.acc
 abbrev pub IsNextRunShown : State → List ℕ → ℕ → Option ℕ → Result (Option Piece) Denial → Type 0
 IsNextRunShown s caller account after (Err denial) = account_denial caller (get s.accounts account) ≡ Some denial
 IsNextRunShown s caller account after (Ok found) = (account_denial caller (get s.accounts account) ≡ None) × IsNextRun (kept_where (names account) (get s.at)) (from_of after) found
+
+-- the same after a place, where the row ahead is the one that it says; who may see the account doesn't hang on that
+abbrev pub IsRunRead : Moment → List ℕ → ℕ → RunPlace → Result (Option Piece) Denial → Type 0
+IsRunRead m caller account place (Err denial) = account_denial caller (get m.state.accounts account) ≡ Some denial
+IsRunRead m caller account place (Ok found) = (account_denial caller (get m.state.accounts account) ≡ None) × (IsSeen account place.after m.rows place.ahead → IsNextRun (kept_where (names account) (get m.state.at)) (from_of place.after) found)

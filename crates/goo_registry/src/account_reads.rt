@@ -1,12 +1,12 @@
 //! An account's row, and its certificates run by run.
 
-ghost use Rattle.std.specs.Prelude.{◌≡◌, Some, IfOk, IfSome};
-ghost use Rattle.goo_core_answers.specs.Ahead.{IsSeen};
+ghost use Rattle.std.specs.Prelude.{◌≡◌, Some, IfOk, IfSome, OnErr};
+ghost use Rattle.goo_core_answers.specs.Ahead.{IsSeen, IsPlaceAfter};
 ghost use Rattle.goo_ranges_rows.specs.Rows.{AreRowsOf};
 ghost use Rattle.goo_spec.specs.Sound.{IsSound};
 ghost use Rattle.goo_core_shelf.specs.Shelf.{Looks, IsReady};
 ghost use Rattle.goo_spec_runs.specs.NextRun.{from_of, BeginsFrom};
-ghost use Rattle.goo_registry.specs.AccountReads.{IsAccountShown, IsHeadingShown, IsNextRunShown};
+ghost use Rattle.goo_registry.specs.AccountReads.{IsAccountShown, IsHeadingShown, IsRunRead};
 
 use crate::access::{absent_denial, account_denial};
 use crate::heading::Heading;
@@ -66,11 +66,12 @@ pub fn find_heading<S: Shelf>(
     }))
 }
 
-/// The first run of an account's certificates after what was read, or why it isn't shown. The place then lies after it.
+/// The first run of an account's certificates after what was read, or why it isn't shown. The place then lies after it,
+/// and where it lay if there is none.
 ///
 /// # Errors
 ///
-/// `Store` where the shelf answers it, `Memory` where memory was refused. State and rows stay as they are. Within
+/// `Store` where the shelf answers it, `Memory` where memory was refused. State, rows and place stay as they are. Within
 /// an answer, `NotAllowed` to a caller who is neither the issuing body nor the account's holder, and `Unknown` to
 /// the issuing body for an account that isn't there.
 pub fn find_next_run<S: Shelf>(
@@ -81,9 +82,11 @@ pub fn find_next_run<S: Shelf>(
 ) -> Result<Result<Option<Piece>, Denial>, Fault>
     requires rows { (S.seen shelf.old).doubts ≡ 0 → AreRowsOf (S.seen shelf.old).state.at (S.seen shelf.old).rows }
     requires sound { (S.seen shelf.old).doubts ≡ 0 → IsSound (S.seen shelf.old).state }
-    ensures looks { Looks (S.seen shelf.old) (S.seen shelf.new) result (λ shown. IsSeen account place.old.after (S.seen shelf.old).rows place.old.ahead → IsNextRunShown (S.seen shelf.old).state caller.now account place.old.after shown) }
+    ensures looks { Looks (S.seen shelf.old) (S.seen shelf.new) result (IsRunRead (S.seen shelf.old) caller.now account place.old) }
     ensures begins { IfOk result (λ shown. IfOk shown (λ found. IfSome found (BeginsFrom (from_of place.old.after)))) }
-    ensures after { IfOk result (λ shown. IfOk shown (λ found. IfSome found (λ run. place.new.after ≡ Some run.last))) }
+    ensures place { IfOk result (λ shown. IfOk shown (λ found. IsPlaceAfter place.old found place.new)) }
+    ensures denied { IfOk result (λ shown. OnErr shown (place.new ≡ place.old)) }
+    ensures stays { OnErr result (place.new ≡ place.old) }
     ensures ahead { (S.seen shelf.new).doubts ≡ 0 → IfOk result (λ shown. IfOk shown (λ found. IfSome found (λ run. IsSeen account (Some run.last) (S.seen shelf.old).rows place.new.ahead))) }
 {
     if let Err(denial) = find_account(shelf, caller, account)? {

@@ -1,6 +1,6 @@
 //! A registry over what keeps its records: requests, and what may be read of it.
 
-ghost use Rattle.std.specs.Prelude.{◌≡◌, Some, IfOk, IfSome};
+ghost use Rattle.std.specs.Prelude.{◌≡◌, Some, IfOk, IfSome, OnErr};
 ghost use Rattle.goo_ranges_rows.specs.Rows.{AreRowsOf, rows-prop};
 ghost use Rattle.goo_spec.specs.Balanced.{IsBalanced};
 ghost use Rattle.goo_spec.specs.Promise.{HaveTheirPlace, AreThoseBrought, OthersAreIdle};
@@ -9,8 +9,8 @@ ghost use Rattle.goo_registry.specs.Applying.{Applies};
 ghost use Rattle.goo_registry.specs.Running.{Runs, RunsAsOne, answered};
 ghost use Rattle.goo_registry.specs.Shown.{Shows, apart as answer_of};
 ghost use Rattle.goo_spec_runs.specs.NextRun.{from_of, BeginsFrom};
-ghost use Rattle.goo_core_answers.specs.Ahead.{IsSeen};
-ghost use Rattle.goo_registry.specs.AccountReads.{IsHeadingShown, IsNextRunShown};
+ghost use Rattle.goo_core_answers.specs.Ahead.{IsSeen, IsPlaceAfter};
+ghost use Rattle.goo_registry.specs.AccountReads.{IsHeadingShown, IsNextRunShown, IsRunRead};
 ghost use Rattle.goo_registry.specs.Reads.{place_shown, notice_shown, AreHoldings, IsCancellationShown, IsAudit};
 
 use crate::account_reads::{find_heading, find_next_run};
@@ -213,22 +213,23 @@ impl<S: Shelf> Registry<S> {
         told(find_next_run(&mut self.shelf, caller, account, &mut place))
     }
 
-    /// The same, after what was read before; the place then lies after the run. Called with a new place until it gives
-    /// None, it gives all runs, and holds no more than two rows at a time. Of a registry that changed meanwhile, the
-    /// row ahead may be gone: begin with a new place then.
+    /// The same, after what was read before; the place then lies after the run, and where it lay if there is none. Called
+    /// with a new place until it gives None, it gives all runs, and holds no more than two rows at a time. Of a registry
+    /// that changed meanwhile, the row ahead may be gone: begin with a new place then.
     ///
     /// # Errors
     ///
-    /// Those of [`next_run`](Registry::next_run). The registry stays as it is.
+    /// Those of [`next_run`](Registry::next_run). The registry stays as it is, and so does the place.
     pub fn read_run(
         &mut self,
         caller: &HolderCode,
         account: AccountNo,
         place: &mut RunPlace,
     ) -> Result<Option<Piece>, ReadFault>
-        ensures shows { Shows (S.seen self.old.shelf) (S.seen self.new.shelf) result (λ shown. IsSeen account place.old.after (S.seen self.old.shelf).rows place.old.ahead → IsNextRunShown (S.seen self.old.shelf).state caller.now account place.old.after shown) }
+        ensures shows { Shows (S.seen self.old.shelf) (S.seen self.new.shelf) result (IsRunRead (S.seen self.old.shelf) caller.now account place.old) }
         ensures begins { IfOk result (λ found. IfSome found (BeginsFrom (from_of place.old.after))) }
-        ensures after { IfOk result (λ found. IfSome found (λ run. place.new.after ≡ Some run.last)) }
+        ensures place { IfOk result (λ found. IsPlaceAfter place.old found place.new) }
+        ensures stays { OnErr result (place.new ≡ place.old) }
         ensures ahead { (S.seen self.new.shelf).doubts ≡ 0 → IfOk result (λ found. IfSome found (λ run. IsSeen account (Some run.last) (S.seen self.old.shelf).rows place.new.ahead)) }
     {
         told(find_next_run(&mut self.shelf, caller, account, place))

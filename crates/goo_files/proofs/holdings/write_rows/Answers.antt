@@ -28,7 +28,7 @@ returns-in-Err-write_row g c =
     let mid = g.S.Shelf.seen c.loop-run.registry.shelf in
     let new = g.S.Shelf.seen c.read_run.new.self.shelf in
     let p = c.in-Ok-Some.run' in
-    let look : Looks mid new (Ok (Ok (Some p))) (IsNextRunShown mid.state c.args.caller.now c.args.account c.loop-run.place.after) = found_after mid new c.args.caller.now c.args.account c.loop-run.place.after c.loop-run.place.ahead (Ok (Ok (Some p))) c.loop-run.invariant.seen (rw c.in-Ok-Some.field-0-is at c.in-Ok-Some.ensures.shows) in
+    let look : Looks mid new (Ok (Ok (Some p))) (IsNextRunShown mid.state c.args.caller.now c.args.account c.loop-run.place.after) = found_after mid new c.args.caller.now c.args.account c.loop-run.place (Ok (Ok (Some p))) c.loop-run.invariant.seen (rw c.in-Ok-Some.field-0-is at c.in-Ok-Some.ensures.shows) in
     let begins : BeginsFrom (from_of c.loop-run.place.after) p = rw c.in-Ok-Some.field-0-is at c.in-Ok-Some.ensures.begins in
     let part : AppendsPrefix (g.W.Write.contents c.loop-run.writer) (g.W.Write.contents c.write_row.new.writer) (held_row p) = search rules in
     let kind : IsRowFault c.in-Err-write_row.fault = c.in-Err-write_row.ensures.kinds in
@@ -41,10 +41,10 @@ loop-run-preserved g c =
     let mid = g.S.Shelf.seen c.loop-run.registry.shelf in
     let new = g.S.Shelf.seen c.read_run.new.self.shelf in
     let p = c.in-Ok-Some.run' in
-    let look : Looks mid new (Ok (Ok (Some p))) (IsNextRunShown mid.state c.args.caller.now c.args.account c.loop-run.place.after) = found_after mid new c.args.caller.now c.args.account c.loop-run.place.after c.loop-run.place.ahead (Ok (Ok (Some p))) c.loop-run.invariant.seen (rw c.in-Ok-Some.field-0-is at c.in-Ok-Some.ensures.shows) in
+    let look : Looks mid new (Ok (Ok (Some p))) (IsNextRunShown mid.state c.args.caller.now c.args.account c.loop-run.place.after) = found_after mid new c.args.caller.now c.args.account c.loop-run.place (Ok (Ok (Some p))) c.loop-run.invariant.seen (rw c.in-Ok-Some.field-0-is at c.in-Ok-Some.ensures.shows) in
     let begins : BeginsFrom (from_of c.loop-run.place.after) p = rw c.in-Ok-Some.field-0-is at c.in-Ok-Some.ensures.begins in
     let wrote : Appends (g.W.Write.contents c.loop-run.writer) (g.W.Write.contents c.write_row.new.writer) (held_row p) = search rules in
-    let after : c.read_run.new.place.after ≡ Some p.last = rw c.in-Ok-Some.field-0-is at c.in-Ok-Some.ensures.after in
+    let after : c.read_run.new.place.after ≡ Some p.last = rw c.in-Ok-Some.field-0-is at c.in-Ok-Some.ensures.place in
     record {
       going = subst (λ (o : Option ℕ). IsGoing held_row no_sum old new (g.W.Write.contents c.args.writer.now) (g.W.Write.contents c.write_row.new.writer) c.args.account (from_of o) tt) (sym after)
           (going_on held_row no_sum old mid new (g.W.Write.contents c.args.writer.now) (g.W.Write.contents c.loop-run.writer) c.args.caller.now c.args.account c.loop-run.place.after tt c.loop-run.invariant.going
@@ -57,7 +57,7 @@ returns-in-Ok-None g c =
     let old = g.S.Shelf.seen c.args.registry.now.shelf in
     let mid = g.S.Shelf.seen c.loop-run.registry.shelf in
     let new = g.S.Shelf.seen c.read_run.new.self.shelf in
-    let look : Looks mid new (Ok (Ok None)) (IsNextRunShown mid.state c.args.caller.now c.args.account c.loop-run.place.after) = found_after mid new c.args.caller.now c.args.account c.loop-run.place.after c.loop-run.place.ahead (Ok (Ok None)) c.loop-run.invariant.seen (rw c.in-Ok-None.field-0-is at c.in-Ok-None.ensures.shows) in
+    let look : Looks mid new (Ok (Ok None)) (IsNextRunShown mid.state c.args.caller.now c.args.account c.loop-run.place.after) = found_after mid new c.args.caller.now c.args.account c.loop-run.place (Ok (Ok None)) c.loop-run.invariant.seen (rw c.in-Ok-None.field-0-is at c.in-Ok-None.ensures.shows) in
     going_ends held_row no_sum old mid new (g.W.Write.contents c.args.writer.now) (g.W.Write.contents c.loop-run.writer) c.args.caller.now c.args.account c.loop-run.place.after tt c.loop-run.invariant.going look
 
 pub returns-in-Err : goal.returns-in-Err
@@ -67,4 +67,4 @@ returns-in-Err g c =
     let new = g.S.Shelf.seen c.read_run.new.self.shelf in
     subst (λ f. Writes {T = Unit {0}} old new (g.W.Write.contents c.args.writer.now) (g.W.Write.contents c.loop-run.writer) (Err f) None (AreHeldRows old.state c.args.account)) (sym c.from.ensures)
     (going_fails held_row no_sum old mid new (g.W.Write.contents c.args.writer.now) (g.W.Write.contents c.loop-run.writer) c.args.caller.now c.args.account c.loop-run.place.after tt c.loop-run.invariant.going
-    (λ sure. c.requires.shown (c.loop-run.invariant.going.looks.doubted sure)) c.in-Err.fault (found_after mid new c.args.caller.now c.args.account c.loop-run.place.after c.loop-run.place.ahead (apart {T = Option Piece} (Err c.in-Err.fault)) c.loop-run.invariant.seen c.in-Err.ensures.shows))
+    (λ sure. c.requires.shown (c.loop-run.invariant.going.looks.doubted sure)) c.in-Err.fault (found_after mid new c.args.caller.now c.args.account c.loop-run.place (apart {T = Option Piece} (Err c.in-Err.fault)) c.loop-run.invariant.seen c.in-Err.ensures.shows))

@@ -33,7 +33,7 @@ returns-then-is_err g c =
     let mid = g.S.Shelf.seen c.loop-run.registry.shelf in
     let new = g.S.Shelf.seen c.read_run.new.self.shelf in
     let p = c.in-Ok-Some.run' in
-    let look : Looks mid new (Ok (Ok (Some p))) (IsNextRunShown mid.state c.args.caller.now c.args.account c.loop-run.place.after) = found_after mid new c.args.caller.now c.args.account c.loop-run.place.after c.loop-run.place.ahead (Ok (Ok (Some p))) c.loop-run.invariant.seen (rw c.in-Ok-Some.field-0-is at c.in-Ok-Some.ensures.shows) in
+    let look : Looks mid new (Ok (Ok (Some p))) (IsNextRunShown mid.state c.args.caller.now c.args.account c.loop-run.place.after) = found_after mid new c.args.caller.now c.args.account c.loop-run.place (Ok (Ok (Some p))) c.loop-run.invariant.seen (rw c.in-Ok-Some.field-0-is at c.in-Ok-Some.ensures.shows) in
     let begins : BeginsFrom (from_of c.loop-run.place.after) p = rw c.in-Ok-Some.field-0-is at c.in-Ok-Some.ensures.begins in
     let part : AppendsPrefix (g.W.Write.contents c.loop-run.writer) (g.W.Write.contents c.write_line.new.writer) c.statement_line.result.bytes = search rules in
     going_cut statement_line counts_of old mid new (g.W.Write.contents c.args.writer.now) (g.W.Write.contents c.loop-run.writer) c.args.caller.now c.args.account c.loop-run.place.after c.loop-run.counts c.loop-run.invariant.going
@@ -45,14 +45,14 @@ loop-run-preserved g c =
     let mid = g.S.Shelf.seen c.loop-run.registry.shelf in
     let new = g.S.Shelf.seen c.read_run.new.self.shelf in
     let p = c.in-Ok-Some.run' in
-    let look : Looks mid new (Ok (Ok (Some p))) (IsNextRunShown mid.state c.args.caller.now c.args.account c.loop-run.place.after) = found_after mid new c.args.caller.now c.args.account c.loop-run.place.after c.loop-run.place.ahead (Ok (Ok (Some p))) c.loop-run.invariant.seen (rw c.in-Ok-Some.field-0-is at c.in-Ok-Some.ensures.shows) in
+    let look : Looks mid new (Ok (Ok (Some p))) (IsNextRunShown mid.state c.args.caller.now c.args.account c.loop-run.place.after) = found_after mid new c.args.caller.now c.args.account c.loop-run.place (Ok (Ok (Some p))) c.loop-run.invariant.seen (rw c.in-Ok-Some.field-0-is at c.in-Ok-Some.ensures.shows) in
     let begins : BeginsFrom (from_of c.loop-run.place.after) p = rw c.in-Ok-Some.field-0-is at c.in-Ok-Some.ensures.begins in
     let wrote : Appends (g.W.Write.contents c.loop-run.writer) (g.W.Write.contents c.write_line.new.writer) c.statement_line.result.bytes = search rules in
     let low : from_of c.loop-run.place.after ≤ p.first = begins.0 in
     let high : p.first ≤ p.last = begins.1 in
     let was : all_of c.loop-run.counts ≤ from_of c.loop-run.place.after = c.loop-run.invariant.counted in
     let more : all_of c.add.new.self ≡ all_of c.loop-run.counts + count_of p = c.add.ensures.all in
-    let after : c.read_run.new.place.after ≡ Some p.last = rw c.in-Ok-Some.field-0-is at c.in-Ok-Some.ensures.after in
+    let after : c.read_run.new.place.after ≡ Some p.last = rw c.in-Ok-Some.field-0-is at c.in-Ok-Some.ensures.place in
     let counted : all_of c.add.new.self ≤ p.last + 1 = omega (arith, low, high, was, more) in
     let going = subst (IsGoing statement_line counts_of old new (g.W.Write.contents c.args.writer.now) (g.W.Write.contents c.write_line.new.writer) c.args.account (p.last + 1)) (sym c.add.ensures.counts)
     (going_on statement_line counts_of old mid new (g.W.Write.contents c.args.writer.now) (g.W.Write.contents c.loop-run.writer) c.args.caller.now c.args.account c.loop-run.place.after c.loop-run.counts c.loop-run.invariant.going
@@ -68,7 +68,7 @@ returns-in-Ok-None g c =
     let old = g.S.Shelf.seen c.args.registry.now.shelf in
     let mid = g.S.Shelf.seen c.loop-run.registry.shelf in
     let new = g.S.Shelf.seen c.read_run.new.self.shelf in
-    let look : Looks mid new (Ok (Ok None)) (IsNextRunShown mid.state c.args.caller.now c.args.account c.loop-run.place.after) = found_after mid new c.args.caller.now c.args.account c.loop-run.place.after c.loop-run.place.ahead (Ok (Ok None)) c.loop-run.invariant.seen (rw c.in-Ok-None.field-0-is at c.in-Ok-None.ensures.shows) in
+    let look : Looks mid new (Ok (Ok None)) (IsNextRunShown mid.state c.args.caller.now c.args.account c.loop-run.place.after) = found_after mid new c.args.caller.now c.args.account c.loop-run.place (Ok (Ok None)) c.loop-run.invariant.seen (rw c.in-Ok-None.field-0-is at c.in-Ok-None.ensures.shows) in
     going_ends statement_line counts_of old mid new (g.W.Write.contents c.args.writer.now) (g.W.Write.contents c.loop-run.writer) c.args.caller.now c.args.account c.loop-run.place.after c.loop-run.counts c.loop-run.invariant.going look
 
 pub returns-in-Err : goal.returns-in-Err
@@ -78,4 +78,4 @@ returns-in-Err g c =
     let new = g.S.Shelf.seen c.read_run.new.self.shelf in
     subst (λ f. Writes {T = Counts} old new (g.W.Write.contents c.args.writer.now) (g.W.Write.contents c.loop-run.writer) (Err f) None (AreRunLines old.state c.args.account)) (sym c.from.ensures)
     (going_fails statement_line counts_of old mid new (g.W.Write.contents c.args.writer.now) (g.W.Write.contents c.loop-run.writer) c.args.caller.now c.args.account c.loop-run.place.after c.loop-run.counts c.loop-run.invariant.going
-    (λ sure. c.requires.shown (c.loop-run.invariant.going.looks.doubted sure)) c.in-Err.fault (found_after mid new c.args.caller.now c.args.account c.loop-run.place.after c.loop-run.place.ahead (apart {T = Option Piece} (Err c.in-Err.fault)) c.loop-run.invariant.seen c.in-Err.ensures.shows))
+    (λ sure. c.requires.shown (c.loop-run.invariant.going.looks.doubted sure)) c.in-Err.fault (found_after mid new c.args.caller.now c.args.account c.loop-run.place (apart {T = Option Piece} (Err c.in-Err.fault)) c.loop-run.invariant.seen c.in-Err.ensures.shows))
