@@ -8,7 +8,7 @@ ghost use Rattle.goo_cli_registry.specs.Openings.{ending_of_opening, ready_text}
 ghost use Rattle.goo_cli_registry.specs.Closings.{HoldState, IfWhole, IsClean, IsMade, Spares, SparesOrMakes, is_whole};
 
 use crate::closing::{Left, close_registry};
-use crate::opening::{begin, failure_of, open_database};
+use crate::opening::{begin, failure_of, file_options, open_database};
 use crate::start::Start;
 use goo_cli::Opening;
 use goo_cli_ending::{Denial, Ending, Failure};
@@ -48,7 +48,7 @@ fn create_registry<D: Disk + Drop>(
     ensures left { IfErr result (λ e. IsClean e.1 → SparesOrMakes files (created opening.code opening.today opening.next_serial) e.1) }
     ensures there { IfErr result (λ e. e.0 ≡ Ending.Denied Denial.AlreadyThere → IsClean e.1 → Spares files e.1) }
 {
-    let conn = match open_database(alloc, files, seed) {
+    let conn = match open_database(alloc, files, file_options(seed)) {
         Ok(conn) => conn,
         Err((fault, left)) => {
             return Err((Ending::Failed(Failure::from(fault)), Left::Parts(left)));

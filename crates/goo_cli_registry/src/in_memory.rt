@@ -9,7 +9,7 @@ use crate::first_page::make_first_page;
 use crate::opening::open_database;
 use goo_cli_ending::Failure;
 use goo_store_memory::MemoryFile;
-use sqlite::{Connection, FileStore, Files};
+use sqlite::{Connection, FileStore, Files, Options};
 use std::alloc::{AllocError, Global};
 
 /// The number that the salts of the log in memory begin with. Nobody but this process reads it, so any number does.
@@ -37,7 +37,7 @@ pub fn open_in_memory(alloc: Global) -> Result<Connection<FileStore<MemoryFile>>
     ensures ordered { IfOk result (λ conn. HasCleanDisk (file_state conn) → IsInKeyOrder (file_state conn).now) }
 {
     let files = make_files(alloc).map_err(|_| Failure::Memory)?;
-    match open_database(alloc, files, SALT) {
+    match open_database(alloc, files, Options::new(SALT)) {
         Ok(conn) => Ok(conn),
         Err((fault, _left)) => Err(Failure::from(fault)),
     }

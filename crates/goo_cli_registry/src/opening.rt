@@ -26,6 +26,21 @@ use sqlite_disk::Disk;
 use std::alloc::Global;
 use std::io::Write;
 
+/// How many pages the log of a file takes before they go to the database. Of 1,024 bytes each they are as many bytes as the thousand
+/// pages of 4,096 bytes after which SQLite does so by itself.
+const LOG_PAGES: usize = 4_000;
+
+/// How a registry in files is kept. `seed` is what the salts of a new log begin with.
+pub fn file_options(seed: u64) -> Options
+    ensures seed { result.seed ≡ seed }
+    ensures log { result.checkpoint_frames ≡ 4000 }
+{
+    Options {
+        checkpoint_frames: LOG_PAGES,
+        ..Options::new(seed)
+    }
+}
+
 /// The word for what kept files from being opened.
 fn word_for(error: Error) -> Fault
     ensures { error ≡ Error.SqliteFailure ErrorCode.OutOfMemory → result ≡ Fault.Memory }
@@ -36,7 +51,7 @@ fn word_for(error: Error) -> Fault
     }
 }
 
-/// The database that files hold, or a new one where they are empty. `seed` is what the salts of a new log begin with.
+/// The database that files hold, or a new one where they are empty.
 ///
 /// # Errors
 ///
@@ -45,7 +60,7 @@ fn word_for(error: Error) -> Fault
 pub fn open_database<D: Disk + Drop>(
     alloc: Global,
     files: Files<D>,
-    seed: u64,
+    options: Options,
 ) -> Result<Connection<FileStore<D>>, (Fault, Leftover<D>)>
     requires log { IsTrue (D.Disk.is_usable files.log) }
     requires db { IsTrue (D.Disk.is_usable files.db) }
@@ -56,7 +71,7 @@ pub fn open_database<D: Disk + Drop>(
     ensures store { IfErr result (λ e. e.0 ≡ Fault.Store → IsCleanLeft e.1 → IsBlamed files e.1) }
     ensures unharmed { IfErr result (λ e. IsCleanLeft e.1 → LeavesFiles files e.1) }
 {
-    match open_ordered(alloc, files, Options::new(seed)) {
+    match open_ordered(alloc, files, options) {
         Ok(conn) => Ok(conn),
         Err((error, left)) => Err((word_for(error), left)),
     }
@@ -116,7 +131,8 @@ pub fn begin<S: Alter>(
     }
 }
 
-/// The registry that files hold. One of version 1 becomes one of version 2, which `line` tells before.
+/// The registry that files hold. One of version 1 becomes one of version 2, which `line` tells before. `seed` is what the salts of a
+/// new log begin with.
 ///
 /// # Errors
 ///
@@ -136,7 +152,7 @@ pub fn open_registry<D: Disk + Drop, T: Write>(
     ensures ready { IfOk result (λ shelf. IsReady (moment (file_state shelf.conn) shelf.refused)) }
     ensures unharmed { IfErr result (λ e. IsCleanLeft e.1 → LeavesRegistry files e.1) }
 {
-    match open_database(alloc, files, seed) {
+    match open_database(alloc, files, file_options(seed)) {
         Ok(conn) => match SqlShelf::open_telling(alloc, conn, line) {
             Ok(shelf) => Ok(shelf),
             Err((conn, fault)) => Err((failure_of(fault), Leftover::Store(conn.into_store()))),
