@@ -3,15 +3,15 @@
 usage: python3 bench/requests.py [memory|tmpfs|disk ..]
 
 Each row: the processor seconds of the largest size, requests a second, peak memory, and how the time grows over n, 2n and 4n requests. Program and baselines take turns,
-and of each the least counts. The processor seconds of program and plain.rs are those of the whole process, those of plain.py of its transactions alone.
-On the disk, which takes most of the time, there is one size. A table needs a file; the baselines are given its rows as lines.
+and of each the least of five runs counts, at the smaller sizes too. The processor seconds of program and plain.rs are those of the whole process, those of plain.py of its
+transactions alone. On the disk there is one size. A table needs a file; the baselines are given its rows as lines.
 """
 import sys
 from pathlib import Path
 
 from measured import HEAD, NEW, PLACES, goo, growth, head, least, machine, measured_row, python, room, rust_run, usable, workload
 
-TURNS = 2
+TURNS = 5
 SIZES = {'table': (8_000, 16_000, 32_000), 'declarations': (8_000, 16_000, 32_000), 'trades': (3_000, 6_000, 12_000)}
 ON_DISK = (1_500,)
 WORKS = [('table', 1), ('declarations', 1), ('trades', 1), ('trades', 2)]
@@ -46,6 +46,10 @@ class Work:
             goo('run', '--db', path, given=self.before)
         return goo('declare' if self.is_table else 'run', '--db', path, given=self.given)
 
+    def alone(self):
+        """The least seconds of the program, with no baseline beside it."""
+        return least(self.ours() for _ in range(TURNS)).seconds
+
     def of_rust(self):
         path = None if self.place == 'memory' else self.fresh('rust')
         if self.is_table:
@@ -63,9 +67,9 @@ def measure(place, name, times):
     """Prints the row of one workload in one place."""
     sizes = ON_DISK if place == 'disk' else SIZES[name]
     with room(place) as folder:
-        smaller = [Work(place, name, times, size, folder).ours().seconds for size in sizes[:-1]]
+        smaller = [Work(place, name, times, size, folder).alone() for size in sizes[:-1]]
         work = Work(place, name, times, sizes[-1], folder)
-        turns = [(work.ours(), work.of_rust(), work.of_python()) for _ in range(1 if place == 'disk' else TURNS)]
+        turns = [(work.ours(), work.of_rust(), work.of_python()) for _ in range(TURNS)]
         ours, of_rust = least(it[0] for it in turns), least(it[1] for it in turns)
         measured_row(f'{TITLES[name]}{" sent twice" if times > 1 else ""}', place, work.count, ours, growth([*smaller, ours.seconds]), of_rust, min(it[2] for it in turns))
 
