@@ -68,6 +68,10 @@ def tables():
         print()
         head(instructions.OF_FILES)
         instructions.opening()
+        told('shares')
+        print()
+        head(instructions.OF_SHARES)
+        instructions.shares()
     told('done')
 
 

@@ -2,6 +2,7 @@
 
 usage: python3 bench/instructions.py statements             by kind of request, in memory and on a file
        python3 bench/instructions.py opening                opening a file and a statement, by size, beside SQLite's own check of the file
+       python3 bench/instructions.py shares                 where the instructions of requests go: by crate, and by function of the library and of ours
        python3 bench/instructions.py costly WORKLOAD N      the costliest functions of N requests more in memory, and the shares of the crates
        python3 bench/instructions.py costly WORKLOAD N file the same on a file
 
@@ -25,6 +26,8 @@ STATEMENT = re.compile(r'Entry.*fetch')
 CONNECT = re.compile(r'^sqlite::file::connect')
 OPENED = (8_000, 32_000)
 OF_FILES = ['Work', 'n', 'Statements', 'Instructions', 'of them in the library\'s check', 'Grows as', '`integrity_check`', 'Ratio', 'Grows as']
+SHARED = [('trades', False), ('trades', True), ('declarations', False), ('declarations', True)]
+OF_SHARES = ['Share of the instructions', 'Trades in memory', 'Trades on a file', 'Declarations in memory', 'Declarations on a file']
 HEAD = ['Request', 'Statements', 'Instructions in memory', 'Rust', 'Ratio', 'Instructions on a file', 'Rust', 'Ratio']
 
 
@@ -182,27 +185,52 @@ def crate_of(name):
     return match[1] if match else 'other'
 
 
-def costly(name, count, on_file):
+def beyond(name, count, on_file):
+    """What as many requests take again after the first ones, and how many that are."""
     few, many = (list(workloads.WORKLOADS[name](n)) for n in (count, 2 * count))
-    found = profile(many, program, on_file).minus(profile(few, program, on_file))
+    return profile(many, program, on_file).minus(profile(few, program, on_file)), len(many) - len(few)
+
+
+def by_crate(found):
+    """The instructions of each crate, all of ours as one."""
+    crates = collections.Counter()
+    for name, own in found.own.items():
+        crate = crate_of(name)
+        crates['ours (goo_*)' if crate.startswith('goo') else crate] += own
+    return crates
+
+
+def shares(count=400, crates=9, functions=16):
+    """Prints where the instructions go: by crate, ours first, and then by function; the costliest of trades on a file."""
+    found = [beyond(name, count, on_file)[0] for name, on_file in SHARED]
+    totals = [sum(each.own.values()) for each in found]
+    of_crates = [by_crate(each) for each in found]
+
+    def line(name, own, word):
+        row([word] + [f'{each[name] / total:.1%}' for each, total in zip(own, totals)])
+
+    named = [crate for crate, _ in of_crates[1].most_common() if not crate.startswith('ours')]
+    for crate in ['ours (goo_*)', *named[:crates]]:
+        line(crate, of_crates, crate)
+    for function, _ in found[1].own.most_common(functions):
+        line(function, [each.own for each in found], f'`{function}`')
+
+
+def costly(name, count, on_file):
+    found, more = beyond(name, count, on_file)
     total = sum(found.own.values())
-    print(f'{len(many) - len(few):,} {name} after {len(few):,}: {total / (len(many) - len(few)):,.0f} instructions each')
+    print(f'{more:,} {name} more: {total / more:,.0f} instructions each')
     print('| Function | Own share | With what it calls | Calls a request | Called most by |\n|---|---|---|---|---|')
     for name, own in found.own.most_common(int(os.environ.get('MOST', '12'))):
         callers = ', '.join(f'{caller} {whole / total:.1%}' for caller, whole in found.callers[name].most_common(4))
-        print(f'| `{name}` | {own / total:.1%} | {found.whole[name] / total:.1%} | {found.calls[name] / (len(many) - len(few)):,.1f} | {callers} |')
-    crates = collections.Counter()
-    for name, own in found.own.items():
-        crates[crate_of(name)] += own
-    ours = sum(own for name, own in found.own.items() if crate_of(name).startswith('goo'))
-    print(f'ours (goo_*): {ours / total:.1%}')
+        print(f'| `{name}` | {own / total:.1%} | {found.whole[name] / total:.1%} | {found.calls[name] / more:,.1f} | {callers} |')
     print('| Crate | Share |\n|---|---|')
-    for crate, own in crates.most_common(15):
+    for crate, own in by_crate(found).most_common(15):
         print(f'| {crate} | {own / total:.1%} |')
     if os.environ.get('WHOLE'):
         print('with what they call:')
         for name, whole in found.whole.most_common(int(os.environ['WHOLE'])):
-            print(f'  {whole / total:7.1%} {found.calls[name] / (len(many) - len(few)):10,.1f}  {name}')
+            print(f'  {whole / total:7.1%} {found.calls[name] / more:10,.1f}  {name}')
 
 
 def is_there():
@@ -221,6 +249,10 @@ if __name__ == '__main__':
         if is_there():
             head(OF_FILES)
             opening()
+    elif sys.argv[1:] == ['shares']:
+        if is_there():
+            head(OF_SHARES)
+            shares()
     elif len(sys.argv) in (4, 5) and sys.argv[1] == 'costly' and sys.argv[2] in ('declarations', 'trades') and sys.argv[4:] in ([], ['file']):
         if is_there():
             costly(sys.argv[2], int(sys.argv[3]), len(sys.argv) == 5)

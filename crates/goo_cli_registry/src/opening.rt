@@ -31,8 +31,9 @@ use std::io::Write;
 const LOG_PAGES: usize = 4_000;
 
 /// How a registry in files is kept. `seed` is what the salts of a new log begin with.
-pub fn file_options(seed: u64) -> Options
+pub(crate) fn file_options(seed: u64) -> Options
     ensures seed { result.seed ≡ seed }
+    ensures memory { (result.cache_pages ≡ 2000) × (result.spill_pages ≡ 2000) }
     ensures log { result.checkpoint_frames ≡ 4000 }
 {
     Options {

@@ -40,7 +40,7 @@ in_order d t it = record {
 }
 
 module _ {T : Type 0} (old new : State) (it : IsWell old) (r : Result T Trouble) (right : Tables → T → Type 0) (gathers : LooksUp old new r right) where
-  before : doubts new ≡ 0 → doubts old ≡ 0
+  pub before : doubts new ≡ 0 → doubts old ≡ 0
   before none = is_sure old (omega (arith, (sure new none).0, gathers.clean)) (gathers.was_open (sure new none).0 (sure new none).1)
 
   ours : doubts old ≡ 0 → IsOurs old

@@ -11,6 +11,7 @@ ghost use Rattle.goo_spec_tables.specs.States.{account_of};
 ghost use Rattle.goo_spec_tables.specs.Readable.{is_account};
 ghost use Rattle.goo_store_values.specs.Passing.{Accepts, Passes};
 
+use crate::lasting::keep_account;
 use crate::sql_shelf::SqlShelf;
 use goo_core_shelf::account::Account;
 use goo_store_values::texts;
@@ -35,7 +36,7 @@ fn read_account(found: Result<Option<AccountRow>, Error>) -> Result<Option<Accou
 }
 
 impl<S: Alter> SqlShelf<S> {
-    /// An account.
+    /// An account: the one that is kept, or else the one in the table, which is kept then.
     pub(crate) fn look_up_account(&mut self, account: AccountNo) -> Result<Option<Account>, Fault>
         ensures looks { Looks (moment (view S.Store self.old.conn) self.old.refused) (moment (view S.Store self.new.conn) self.new.refused) result (λ found. found ≡ get (moment (view S.Store self.old.conn) self.old.refused).state.accounts account) }
         ensures store { BlamesStore (view S.Store self.old.conn) (view S.Store self.new.conn) self.old.refused result }
@@ -43,7 +44,13 @@ impl<S: Alter> SqlShelf<S> {
         if self.refused {
             return Err(Fault::Store);
         }
+        if let Some(kept) = self.lasting.kept_account(account) {
+            return Ok(Some(kept));
+        }
         let found = find_account(self.alloc, &mut self.conn, account.get());
-        told(read_account(found), &mut self.refused)
+        self.lasting.answered = found.is_ok();
+        let read = told(read_account(found), &mut self.refused);
+        keep_account(&mut self.lasting.accounts, account, &read);
+        read
     }
 }

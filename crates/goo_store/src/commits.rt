@@ -62,6 +62,7 @@ impl<S: Alter> SqlShelf<S> {
         }
         let findings = mem::replace(&mut self.findings, Findings::none(alloc));
         let planned = plan_changes(alloc, &mut self.conn, findings, plan);
+        self.lasting.answered = false;
         told(planned, &mut self.refused)
     }
 
@@ -74,6 +75,7 @@ impl<S: Alter> SqlShelf<S> {
         let planned = self.changes_for(alloc, plan)?;
         let made = commit_changes(&mut self.conn, &planned.changes);
         self.findings.basis = known_after(&made, planned.after);
+        self.lasting.outlast(&made, &planned.changes);
         told(ending(made), &mut self.refused)
     }
 }

@@ -80,6 +80,7 @@ impl<S: Alter> SqlShelf<S> {
             return Err(Fault::Store);
         }
         let found = all_declarations(alloc, &mut self.conn);
+        self.lasting.answered = found.is_ok();
         told(read_all(alloc, found), &mut self.refused)
     }
 }

@@ -20,6 +20,7 @@ impl<S: Alter> SqlShelf<S> {
         ensures looks { Looks (moment (view S.Store self.old.conn) self.old.refused) (moment (view S.Store self.new.conn) self.new.refused) result (λ name. name ≡ get (moment (view S.Store self.old.conn) self.old.refused).state.holders code.now) }
         ensures store { BlamesStore (view S.Store self.old.conn) (view S.Store self.new.conn) self.old.refused result }
     {
+        self.lasting.answered = false;
         holders::name_of(self.alloc, &mut self.conn, &mut self.refused, code)
     }
 }

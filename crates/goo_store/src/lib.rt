@@ -14,6 +14,7 @@ mod held;
 mod holders;
 mod issuing;
 mod kept_lots;
+mod lasting;
 mod lots;
 mod lowering;
 mod next_rows;

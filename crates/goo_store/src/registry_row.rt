@@ -87,6 +87,7 @@ impl<S: Alter> SqlShelf<S> {
             return Err(Fault::Store);
         }
         let found = find_meta(self.alloc, &mut self.conn);
+        self.lasting.answered = found.is_ok();
         told(read_meta(found, &mut self.findings.own), &mut self.refused)
     }
 
@@ -99,12 +100,19 @@ impl<S: Alter> SqlShelf<S> {
         Ok(meta.code)
     }
 
-    /// The registry's date.
+    /// The registry's date: the one that is kept, or else the one in its row, which is kept then.
     pub(crate) fn look_up_today(&mut self) -> Result<Day, Fault>
         ensures looks { Looks (moment (view S.Store self.old.conn) self.old.refused) (moment (view S.Store self.new.conn) self.new.refused) result (λ day. day ≡ (moment (view S.Store self.old.conn) self.old.refused).state.today) }
         ensures store { BlamesStore (view S.Store self.old.conn) (view S.Store self.new.conn) self.old.refused result }
     {
+        if self.refused {
+            return Err(Fault::Store);
+        }
+        if let Some(today) = self.lasting.kept_today() {
+            return Ok(today);
+        }
         let meta = self.look_up_registry()?;
+        self.lasting.keep_today(meta.today);
         Ok(meta.today)
     }
 

@@ -41,6 +41,7 @@ impl<S: Alter> SqlShelf<S> {
             return Err(Fault::Store);
         }
         let found = piece_before(alloc, &mut self.conn, low);
+        self.lasting.answered = found.is_ok();
         let row = read_maybe(found, &mut self.findings.lots);
         told(row, &mut self.refused)
     }
@@ -55,6 +56,7 @@ impl<S: Alter> SqlShelf<S> {
             return Err(Fault::Store);
         }
         let found = pieces_beginning(alloc, &mut self.conn, low, high);
+        self.lasting.answered = found.is_ok();
         let rows = read_rising(alloc, found, &mut self.findings.lots);
         told(rows, &mut self.refused)
     }
@@ -93,6 +95,7 @@ impl<S: Alter> SqlShelf<S> {
             return Err(Fault::Store);
         }
         let found = pieces_beginning(alloc, &mut self.conn, 0, BEYOND_ALL);
+        self.lasting.answered = found.is_ok();
         let rows = read_rising(alloc, found, &mut self.findings.lots);
         told(rows, &mut self.refused)
     }
@@ -111,6 +114,7 @@ impl<S: Alter> SqlShelf<S> {
             return Err(Fault::Store);
         }
         let found = pieces_of_account(alloc, &mut self.conn, account.get());
+        self.lasting.answered = found.is_ok();
         let rows = read_rising(alloc, found, &mut self.findings.lots);
         told(rows, &mut self.refused)
     }
@@ -126,6 +130,7 @@ impl<S: Alter> SqlShelf<S> {
             return Err(Fault::Store);
         }
         let found = ask_next(self.alloc, &mut self.conn, sought, after);
+        self.lasting.answered = found.is_ok();
         let row = read_beyond(found, after, &mut self.findings.lots);
         self.findings.edges = edges_after(&self.findings.edges, after, &row);
         told(row, &mut self.refused)

@@ -14,10 +14,12 @@ ghost use Rattle.goo_store.specs.Creating.{meta_of};
 ghost use Rattle.goo_store_lookups.specs.Moments.{IsWell, IsWell-prop, count, moment};
 ghost use Rattle.goo_store_lookups.specs.Opening.{BlamesOpening};
 ghost use Rattle.goo_store.specs.Found.{Knows, Knows-prop};
+ghost use Rattle.goo_store.specs.Outlasting.{Lasts, Lasts-prop};
 ghost use Rattle.goo_store_open.specs.Found.{IsOutside};
 ghost use Rattle.goo_store_open.specs.declared.fault.OpenFault.TheVariants.{AlreadyThere};
 
 use crate::creating::{begin, is_empty};
+use crate::lasting::Lasting;
 use goo_store_open::fault::OpenFault;
 use goo_store_plans::findings::Findings;
 use goo_types::day::Day;
@@ -28,15 +30,18 @@ use std::alloc::Global;
 
 /// A registry's state in a database. From the first call on that was refused for another cause than
 /// memory, or that met a row which breaks the rules of the tables, it answers `Store` and calls the
-/// database no more. What look-ups found is kept for the next commit, which needs it.
+/// database no more. What look-ups found is kept for the next commit, which needs it; what few commits change is
+/// kept until one does.
 pub struct SqlShelf<S: Alter> {
     pub(crate) alloc: Global,
     pub(crate) conn: Connection<S>,
     pub(crate) refused: bool,
     pub(crate) findings: Findings,
+    pub(crate) lasting: Lasting,
     ghost outside: { conn.in_transaction ≡ false },
     ghost well: { IsWell (view S.Store conn) } by { IsWell-prop (view S.Store conn) },
     ghost known: { Knows (view S.Store conn) findings } by { Knows-prop (view S.Store conn) findings },
+    ghost lasts: { Lasts (view S.Store conn) lasting } by { Lasts-prop (view S.Store conn) lasting },
 }
 
 impl<S: Alter + Drop> Drop for SqlShelf<S> {
@@ -46,6 +51,7 @@ impl<S: Alter + Drop> Drop for SqlShelf<S> {
             conn: _conn,
             refused: _,
             findings: _findings,
+            lasting: _lasting,
         } = self;
     }
 }
@@ -63,6 +69,7 @@ impl<S: Alter> SqlShelf<S> {
             conn,
             refused: false,
             findings: Findings::none(alloc),
+            lasting: Lasting::none(alloc),
         }
     }
 
@@ -123,6 +130,7 @@ impl<S: Alter> SqlShelf<S> {
             conn,
             refused: _,
             findings: _findings,
+            lasting: _lasting,
         } = self;
         conn
     }

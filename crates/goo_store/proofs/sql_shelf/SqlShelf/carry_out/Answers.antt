@@ -1,4 +1,4 @@
-use Rattle.std.proofs.Common.{◌≡◌, Err, rules, sym, subst}
+use Rattle.std.proofs.Common.{◌≡◌, ◌∙◌, Err, OnOk, rules, sym, subst}
 use Rattle.sqlite.specs.Held.{state as view}
 use Rattle.goo_tables_rows.specs.Stands.{doubts}
 use Rattle.goo_store_lookups.specs.Moments.{moment, tables_in}
@@ -6,9 +6,12 @@ use Rattle.goo_store_changes.specs.Changes.{made_all}
 use Rattle.goo_store_plans.specs.Found.{IsBasisOf}
 use Rattle.goo_store_plans.specs.Planned.{IsPlanned}
 use Rattle.goo_store.proofs.CommitBlamed.{blamed, blamed_before}
-use Rattle.goo_store.proofs.CommitLemmas.{basis_after, well_after, committed}
+use Rattle.goo_store.proofs.CommitLemmas.{basis_after, lasts_after, well_after, committed}
 use Rattle.goo_store.proofs.Found.{basis_known}
 use Rattle.goo_store.proofs.CommitsAfter.{not_refused, not_committed, as_err, fits_still, commits_after}
+use Rattle.goo_spec_tables.specs.States.{state_of}
+use Rattle.goo_store.specs.Outlasting.{IsLasting}
+use Rattle.goo_tables_rows.specs.Rows.{Tables}
 use Rattle.goo_store.proofs.sql_shelf.SqlShelf.carry_out.Goals as goal
 
 pub returns-in_err-planned-clause-commits : goal.returns-in_err-planned-clause-commits
@@ -38,6 +41,11 @@ invariant_of-self g c =
       known = basis_known (view g.S.Store c.commit_changes-made.new.conn) shelf.findings c.in_ok-planned.ensures.taken c.known_after-self.result
           (basis_after mid (view g.S.Store c.commit_changes-made.new.conn) shelf.well c.deref.result.now plan planned c.commit_changes-made.result it.clean it.was_open it.works it.done it.kept it.crash
           c.in_ok-planned.planned.after c.known_after-self.result after c.known_after-self.ensures.done c.known_after-self.ensures.undone);
+      lasts =
+          lasts_after mid (view g.S.Store c.commit_changes-made.new.conn) shelf.well c.deref.result.now plan planned c.commit_changes-made.result it.clean it.was_open it.works it.done it.kept it.crash
+          shelf.lasting c.outlast.new.self shelf.lasts c.outlast.ensures.answered
+          (subst (λ xs. OnOk c.commit_changes-made.result ((t : Tables) → IsLasting shelf.lasting (state_of t) → IsLasting c.outlast.new.self (state_of (made_all t xs)))) (c.deref-2.ensures.value ∙ sym c.deref.ensures.value) c.outlast.ensures.made)
+          c.outlast.ensures.failed;
     }
 
 pub returns-clause-commits : goal.returns-clause-commits

@@ -5,6 +5,7 @@ use Rattle.goo_store.proofs.Found.{own_known}
 use Rattle.goo_store_lookups.proofs.Blaming.{blames, refused_blames}
 use Rattle.goo_store.proofs.RowsRead.{meta_found}
 use Rattle.goo_store_values.proofs.RowsRead.{meta_read}
+use Rattle.goo_store.proofs.Outlasting.{lasts_on}
 use Rattle.goo_store.proofs.sql_shelf.SqlShelf.look_up_registry.Goals as goal
 
 pub returns-then-self-clause-looks : goal.returns-then-self-clause-looks
@@ -15,6 +16,7 @@ invariant_of-self g c = record {
   outside = c.find_meta-found.ensures.outside c.args.self.now.outside;
   well = well (view g.S.Store c.args.self.now.conn) (view g.S.Store c.find_meta-found.new.conn) c.args.self.now.well _ _ c.find_meta-found.ensures.looks;
   known = own_known (view g.S.Store c.args.self.now.conn) (view g.S.Store c.find_meta-found.new.conn) c.args.self.now.well _ c.find_meta-found.ensures.looks c.args.self.now.findings c.read_meta.new.own c.args.self.now.known c.read_meta.ensures.kept;
+  lasts = lasts_on (view g.S.Store c.args.self.now.conn) (view g.S.Store c.find_meta-found.new.conn) c.args.self.now.well _ _ c.find_meta-found.ensures.looks c.args.self.now.lasting c.is_ok-self.result c.is_ok-self.ensures.value c.args.self.now.lasts;
 }
 
 pub returns-clause-looks : goal.returns-clause-looks

@@ -1,0 +1,147 @@
+-- What is kept over commits: still so after a statement, told without one, and left by changes.
+use Rattle.std.proofs.Common.{◌≡◌, ◌≢◌, ℕ, String, Global, Bool, false, IsTrue, All, refl, sym, ap, subst, ◌∙◌, arith, true≢false, Ok, Err, Result, OnOk, Option, Some, None, IfOk}
+use Rattle.std.specs.Prelude.{is_ok}
+use Rattle.std.specs.Ordering.{nat_cmp}
+use Rattle.std.specs.FinMap.{FinMap, get}
+use Rattle.goo_types.specs.Day.{CalendarDay}
+use Rattle.sqlite.specs.State.{State, HasCleanDisk}
+use Rattle.sqlite.specs.declared.error.Error.{Error}
+use Rattle.goo_types.specs.declared.fault.Fault.{Fault}
+use Rattle.goo_spec.specs.State as registry
+use Rattle.goo_core_shelf.specs.Meta.{meta_of}
+use Rattle.goo_core_shelf.specs.declared.own.Meta.{Meta}
+use Rattle.goo_core_shelf.specs.Shelf as shelf
+use Rattle.goo_spec_tables.specs.States.{state_of}
+use Rattle.goo_tables_rows.specs.Rows.{Tables}
+use Rattle.goo_tables_rows.specs.Stands.{Looks, doubts}
+use Rattle.goo_tables_rows.specs.declared.account.AccountRow.{AccountRow}
+use Rattle.goo_store_changes.specs.Changes.{made}
+use Rattle.goo_store_changes.specs.declared.change.TableChange.{TableChange}
+use Rattle.goo_store_changes.specs.declared.change.TableChange.TheVariants.{AddHolder, AddAccount, CloseAccount, AddDevice, AddDeclaration, SetProgress, AddLot, DeletePiece, InsertPiece, AddPeer, AddReceipt, AddCancellation, AddWithdrawal, AddNoticeOut, AddNoticeIn, AddCorrection, SetToday, SetCounters}
+use Rattle.goo_store_lookups.specs.Holding.{is_sure, LeavesCommit, safe}
+use Rattle.goo_store_lookups.specs.Moments.{tables_in, count, moment, IsWell}
+use Rattle.goo_store_lookups.specs.StoreFaults.{BlamesStore}
+use Rattle.goo_store_lookups.proofs.Looking.{before, so_still}
+use Rattle.goo_store.specs.Outlasting.{AreAccountsOf, AreLeft, IsLasting, IsTodayOf, Lasts}
+use Rattle.goo_store.specs.declared.lasting.Lasting.{Lasting}
+
+-- whether it was answered is no part of what is so
+pub whichever : (lasting : Lasting) (b : Bool) (s : registry.State) → IsLasting lasting s → IsLasting (record { answered = b; today = lasting.today; accounts = lasting.accounts }) s
+whichever lasting b s is = record { today = is.today; accounts = is.accounts }
+
+-- what is kept is so after a statement too
+pub so_on : (old new : State) (it : IsWell old) {T : Type 0} (r : Result T Error) (right : Tables → T → Type 0) → Looks old new r right → (lasting : Lasting) (b : Bool) → Lasts old lasting
+    → doubts new ≡ 0 → IsLasting (record { answered = b; today = lasting.today; accounts = lasting.accounts }) (state_of (tables_in new))
+so_on old new it r right looks lasting b lasts none =
+    whichever lasting b (state_of (tables_in new)) (so_still old new it r right looks (λ t. IsLasting lasting (state_of t)) none (lasts.so (before old new it r right looks none)))
+
+-- the database is open where a statement was answered
+pub opened : {T : Type 0} (new : State) (r : Result T Error) (b : Bool) → b ≡ is_ok r → OnOk r (HasCleanDisk new → IsTrue new.is_open) → IsTrue b → HasCleanDisk new → IsTrue new.is_open
+opened new (Ok x) b same works is = works
+opened new (Err e) b same works is = absurd (true≢false (sym is ∙ same))
+
+-- so it lasts over a statement
+pub lasts_on : (old new : State) (it : IsWell old) {T : Type 0} (r : Result T Error) (right : Tables → T → Type 0) → Looks old new r right → (lasting : Lasting) (b : Bool) → b ≡ is_ok r → Lasts old lasting
+    → Lasts new (record { answered = b; today = lasting.today; accounts = lasting.accounts })
+lasts_on old new it r right looks lasting b same lasts = record {
+  so = so_on old new it r right looks lasting b lasts;
+  is_open = opened new r b same looks.works;
+}
+
+-- nothing is kept at first
+pub lasts_first : (s : State) (lasting : Lasting) → lasting.answered ≡ false → ((r : registry.State) → IsLasting lasting r) → Lasts s lasting
+lasts_first s lasting unanswered is = record {
+  so = λ none. is (state_of (tables_in s));
+  is_open = λ answered _. absurd (true≢false (sym answered ∙ unanswered));
+}
+
+-- the date that was looked up
+pub lasts_with_today : (old new : State) (a b : Bool) (meta : Meta) → shelf.Looks (moment old a) (moment new b) (Ok meta) (λ found. found ≡ meta_of (moment old a).state) → (first last : Lasting)
+    → last ≡ record { answered = first.answered; today = Some meta.today; accounts = first.accounts } → Lasts new first → Lasts new last
+lasts_with_today old new a b meta looks first last is lasts = subst (Lasts new) (sym is) (record {
+  so = λ none. record {
+    today = ap (λ (s : registry.State). s.today) (looks.same none) ∙ sym (ap (λ (m : Meta). m.today) (looks.found none));
+    accounts = (lasts.so none).accounts;
+  };
+  is_open = lasts.is_open;
+})
+
+-- the account that was looked up, if it was found
+pub lasts_with_account : (old new : State) (a b : Bool) (number : ℕ) (r : Result (Option registry.Account) Fault) → shelf.Looks (moment old a) (moment new b) r (λ found. found ≡ get (moment old a).state.accounts number) → (first last : Lasting)
+    → last.answered ≡ first.answered → last.today ≡ first.today
+    → ((s : registry.State) → IfOk r (λ found. found ≡ get s.accounts number) → AreAccountsOf s first.accounts.items → AreAccountsOf s last.accounts.items) → Lasts new first → Lasts new last
+lasts_with_account old new a b number r looks first last answered today keeps lasts = record {
+  so = λ none. record {
+    today = subst (λ t. IsTodayOf t (state_of (tables_in new))) (sym today) (lasts.so none).today;
+    accounts = keeps (state_of (tables_in new)) (subst (λ (s : registry.State). IfOk r (λ found. found ≡ get s.accounts number)) (sym (looks.same none)) (looks.found none)) (lasts.so none).accounts;
+  };
+  is_open = λ is. lasts.is_open (sym answered ∙ is);
+}
+
+-- after calls of which it is not known whether they were answered
+pub lasts_unanswered : (old new : State) (lasting : Lasting) → (doubts new ≡ 0 → (doubts old ≡ 0) × (tables_in new ≡ tables_in old)) → Lasts old lasting → Lasts new (record { answered = false; today = lasting.today; accounts = lasting.accounts })
+lasts_unanswered old new lasting same lasts = record {
+  so = λ none. whichever lasting false (state_of (tables_in new)) (subst (λ t. IsLasting lasting (state_of t)) (sym (same none).1) (lasts.so (same none).0));
+  is_open = λ is _. absurd (true≢false (sym is));
+}
+
+-- what is kept is an answer without a statement, while the database is open
+pub kept_look : (old : State) → IsWell old → (a : Bool) → a ≡ false → LeavesCommit old → {U : Type 0} (P : U → Type 0) (x : U) → (HasCleanDisk old → IsTrue old.is_open) → (doubts old ≡ 0 → P x)
+    → shelf.Looks (moment old a) (moment old a) (Ok x) P
+kept_look old it a down law P x live is = record {
+  found = is;
+  same = λ _. refl;
+  rows_same = λ _. refl;
+  doubted = λ none. none;
+  lied = λ late. late;
+  kept = omega arith;
+  told = ap count down;
+  works = λ late. is_sure old late (live late);
+  crash = λ late none. safe old it law none a;
+}
+
+pub kept_blames : {U : Type 0} (old : State) (a : Bool) (x : U) → BlamesStore old old a (Ok x)
+kept_blames old a x = record {
+  limit = λ _ _. refl;
+  counts = λ _ _. omega arith;
+  store = λ _ _ _ _. tt;
+}
+
+-- ---- what changes leave
+
+-- the date and the accounts are changed by three alone
+pub left : (t : Tables) (change : TableChange) → ((row : AccountRow) → change ≢ AddAccount row) → ((number : ℕ) → change ≢ CloseAccount number) → ((day : String Global) → change ≢ SetToday day) → AreLeft (state_of t) (state_of (made t change))
+unfolding state_of
+left t (AddHolder row) account closing today = record { today = refl; accounts = refl }
+left t (AddAccount row) account closing today = absurd (account row refl)
+left t (CloseAccount number) account closing today = absurd (closing number refl)
+left t (AddDevice row) account closing today = record { today = refl; accounts = refl }
+left t (AddDeclaration row) account closing today = record { today = refl; accounts = refl }
+left t (SetProgress device last_day carry) account closing today = record { today = refl; accounts = refl }
+left t (AddLot row) account closing today = record { today = refl; accounts = refl }
+left t (DeletePiece first) account closing today = record { today = refl; accounts = refl }
+left t (InsertPiece row) account closing today = record { today = refl; accounts = refl }
+left t (AddPeer row) account closing today = record { today = refl; accounts = refl }
+left t (AddReceipt row) account closing today = record { today = refl; accounts = refl }
+left t (AddCancellation row) account closing today = record { today = refl; accounts = refl }
+left t (AddWithdrawal row) account closing today = record { today = refl; accounts = refl }
+left t (AddNoticeOut row) account closing today = record { today = refl; accounts = refl }
+left t (AddNoticeIn row) account closing today = record { today = refl; accounts = refl }
+left t (AddCorrection row) account closing today = record { today = refl; accounts = refl }
+left t (SetToday day) account closing today = absurd (today day refl)
+left t (SetCounters counters) account closing today = record { today = refl; accounts = refl }
+
+-- one after another
+pub left_on : (a b c : registry.State) → AreLeft a b → AreLeft b c → AreLeft a c
+left_on a b c first then = record { today = then.today ∙ first.today; accounts = then.accounts ∙ first.accounts }
+
+on_day : (today : Option CalendarDay) (old new : registry.State) → new.today ≡ old.today → IsTodayOf today old → IsTodayOf today new
+on_day None old new same is = tt
+on_day (Some day) old new same is = same ∙ is
+
+-- so what is kept is so still
+pub still_lasting : (lasting : Lasting) (old new : registry.State) → AreLeft old new → IsLasting lasting old → IsLasting lasting new
+still_lasting lasting old new are is = record {
+  today = on_day lasting.today old new are.today is.today;
+  accounts = subst (λ (m : FinMap nat_cmp registry.Account). All (λ x. get m x.number ≡ Some x.account) lasting.accounts.items) (sym are.accounts) is.accounts;
+}

@@ -1,0 +1,157 @@
+//! What look-ups found that few commits change.
+
+ghost use Rattle.std.specs.Prelude.{◌≡◌, false, is_ok, IfOk, IfSome, IsTrue, OnErr, OnOk, Some};
+ghost use Rattle.std.specs.FinMap.{get};
+ghost use Rattle.goo_spec.specs.State.{State};
+ghost use Rattle.goo_spec_tables.specs.States.{state_of};
+ghost use Rattle.goo_tables_rows.specs.Rows.{Tables};
+ghost use Rattle.goo_store_changes.specs.Changes.{made, made_all};
+ghost use Rattle.goo_store.specs.Outlasting.{AreAccountsOf, AreLeft, IsLasting};
+
+use goo_core_shelf::account::Account;
+use goo_store_changes::change::TableChange;
+use goo_types::account_no::AccountNo;
+use goo_types::day::Day;
+use goo_types::fault::Fault;
+use sqlite::Error;
+use std::alloc::Global;
+
+/// How many accounts are kept at most, so that a search of them takes less than a statement.
+const MOST_ACCOUNTS: usize = 256;
+
+/// An account that is there, beside its number.
+#[derive(Clone, Copy)]
+pub struct NumberedAccount {
+    /// Its number.
+    pub number: AccountNo,
+    /// The account.
+    pub account: Account,
+}
+
+/// What look-ups found that few commits change, and that is kept over all others. All of it is so in the
+/// tables; what isn't here is looked up. A look-up that makes no statement can't tell whether the database still
+/// answers, so what is kept is told only while the last statement was answered.
+#[derive(Drop)]
+pub struct Lasting {
+    /// Whether the last statement was answered, so that the database is open.
+    pub answered: bool,
+    /// The registry's date.
+    pub today: Option<Day>,
+    /// Some accounts that were found.
+    pub accounts: Vec<NumberedAccount>,
+}
+
+/// The account that is kept under a number, if one is.
+fn account_among(accounts: &[NumberedAccount], number: AccountNo) -> Option<Account>
+    ensures { IfSome result (λ account. (s : State) → AreAccountsOf s accounts.now → get s.accounts number ≡ Some account) }
+{
+    for kept in accounts {
+        if kept.number == number {
+            return Some(kept.account);
+        }
+    }
+    None
+}
+
+/// Makes room for an account more: where the most are kept, they go.
+fn make_room(accounts: &mut Vec<NumberedAccount>)
+    ensures kept { (s : State) → AreAccountsOf s accounts.old.items → AreAccountsOf s accounts.new.items }
+{
+    if accounts.len() >= MOST_ACCOUNTS {
+        accounts.clear();
+    }
+}
+
+/// Keeps the account that was looked up by its number, if it was found; where memory for it is refused, it isn't kept.
+pub fn keep_account(
+    accounts: &mut Vec<NumberedAccount>,
+    number: AccountNo,
+    read: &Result<Option<Account>, Fault>,
+)
+    ensures kept { (s : State) → IfOk read.now (λ found. found ≡ get s.accounts number) → AreAccountsOf s accounts.old.items → AreAccountsOf s accounts.new.items }
+{
+    let Ok(Some(account)) = read else {
+        return;
+    };
+    make_room(accounts);
+    let account = *account;
+    let _kept = accounts.extend_from_slice(&[NumberedAccount { number, account }]);
+}
+
+/// Whether a change leaves the date and the accounts.
+fn leaves(change: &TableChange) -> bool
+    ensures { IsTrue result → (t : Tables) → AreLeft (state_of t) (state_of (made t change.now)) }
+{
+    match change {
+        TableChange::SetToday(_) | TableChange::AddAccount(_) | TableChange::CloseAccount(_) =>
+            false,
+        _ => true,
+    }
+}
+
+/// Whether changes leave the date and the accounts.
+fn all_leave(changes: &[TableChange]) -> bool
+    ensures { IsTrue result → (t : Tables) → AreLeft (state_of t) (state_of (made_all t changes.now)) }
+{
+    for change in changes {
+        if !leaves(change) {
+            return false;
+        }
+    }
+    true
+}
+
+impl Lasting {
+    /// Nothing is kept.
+    pub fn none(alloc: Global) -> Lasting
+        ensures answered { result.answered ≡ false }
+        ensures lasting { (s : State) → IsLasting result s }
+    {
+        Lasting {
+            answered: false,
+            today: None,
+            accounts: Vec::new(alloc),
+        }
+    }
+
+    /// The registry's date, where it is kept and may be told.
+    pub fn kept_today(&self) -> Option<Day>
+        ensures answered { IfSome result (λ today. IsTrue self.now.answered) }
+        ensures kept { IfSome result (λ today. (s : State) → IsLasting self.now s → s.today ≡ today) }
+    {
+        if self.answered { self.today } else { None }
+    }
+
+    /// Keeps the registry's date.
+    pub fn keep_today(&mut self, today: Day)
+        ensures { self.new ≡ record self.old { today = Some today } }
+    {
+        self.today = Some(today);
+    }
+
+    /// The account under a number, where it is kept and may be told.
+    pub fn kept_account(&self, number: AccountNo) -> Option<Account>
+        ensures answered { IfSome result (λ account. IsTrue self.now.answered) }
+        ensures kept { IfSome result (λ account. (s : State) → IsLasting self.now s → get s.accounts number ≡ Some account) }
+    {
+        if self.answered {
+            account_among(&self.accounts, number)
+        } else {
+            None
+        }
+    }
+
+    /// Keeps what is so still once changes were made, or nothing where the commit failed.
+    pub fn outlast(&mut self, made: &Result<(), Error>, changes: &[TableChange])
+        ensures answered { self.new.answered ≡ is_ok made.now }
+        ensures made { OnOk made.now ((t : Tables) → IsLasting self.old (state_of t) → IsLasting self.new (state_of (made_all t changes.now))) }
+        ensures failed { OnErr made.now ((s : State) → IsLasting self.new s) }
+    {
+        self.answered = made.is_ok();
+        if self.answered && all_leave(changes) {
+            return;
+        }
+        self.today = None;
+        self.accounts.clear();
+    }
+}
