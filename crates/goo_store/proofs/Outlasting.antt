@@ -1,9 +1,7 @@
 -- What is kept over commits: still so after a statement, told without one, and left by changes.
-use Rattle.std.proofs.Common.{◌≡◌, ◌≢◌, ℕ, String, Global, Bool, false, IsTrue, All, refl, sym, ap, subst, ◌∙◌, arith, true≢false, Ok, Err, Result, OnOk, Option, Some, None, IfOk}
+use Rattle.std.proofs.Common.{◌≡◌, ◌≢◌, ℕ, String, Global, Bool, false, IsTrue, refl, sym, ap, subst, ◌∙◌, arith, true≢false, Ok, Err, Result, OnOk, Option, Some, IfOk}
 use Rattle.std.specs.Prelude.{is_ok}
-use Rattle.std.specs.Ordering.{nat_cmp}
-use Rattle.std.specs.FinMap.{FinMap, get}
-use Rattle.goo_types.specs.Day.{CalendarDay}
+use Rattle.std.specs.FinMap.{get}
 use Rattle.sqlite.specs.State.{State, HasCleanDisk}
 use Rattle.sqlite.specs.declared.error.Error.{Error}
 use Rattle.goo_types.specs.declared.fault.Fault.{Fault}
@@ -134,14 +132,3 @@ left t (SetCounters counters) account closing today = record { today = refl; acc
 -- one after another
 pub left_on : (a b c : registry.State) → AreLeft a b → AreLeft b c → AreLeft a c
 left_on a b c first then = record { today = then.today ∙ first.today; accounts = then.accounts ∙ first.accounts }
-
-on_day : (today : Option CalendarDay) (old new : registry.State) → new.today ≡ old.today → IsTodayOf today old → IsTodayOf today new
-on_day None old new same is = tt
-on_day (Some day) old new same is = same ∙ is
-
--- so what is kept is so still
-pub still_lasting : (lasting : Lasting) (old new : registry.State) → AreLeft old new → IsLasting lasting old → IsLasting lasting new
-still_lasting lasting old new are is = record {
-  today = on_day lasting.today old new are.today is.today;
-  accounts = subst (λ (m : FinMap nat_cmp registry.Account). All (λ x. get m x.number ≡ Some x.account) lasting.accounts.items) (sym are.accounts) is.accounts;
-}
