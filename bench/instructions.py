@@ -2,6 +2,7 @@
 
 usage: python3 bench/instructions.py statements             by kind of request, in memory and on a file
        python3 bench/instructions.py opening                opening a file and a statement, by size, beside SQLite's own check of the file
+       python3 bench/instructions.py growth                 whole runs of requests, by how many there are
        python3 bench/instructions.py shares                 where the instructions of requests go: by crate, and by function of the library and of ours
        python3 bench/instructions.py costly WORKLOAD N      the costliest functions of N requests more in memory, and the shares of the crates
        python3 bench/instructions.py costly WORKLOAD N file the same on a file
@@ -25,6 +26,7 @@ from measured import NEW, PROGRAM, SECONDS, fast, goo, head, ratio, room, row, r
 STATEMENT = re.compile(r'Entry.*fetch')
 CONNECT = re.compile(r'^sqlite::file::connect')
 OPENED = (8_000, 32_000)
+ANSWERED = {'declarations': (2_000, 8_000), 'trades': (3_000, 12_000)}
 OF_FILES = ['Work', 'n', 'Statements', 'Instructions', 'of them in the library\'s check', 'Grows as', '`integrity_check`', 'Ratio', 'Grows as']
 SHARED = [('trades', False), ('trades', True), ('declarations', False), ('declarations', True)]
 OF_SHARES = ['Share of the instructions', 'Trades in memory', 'Trades on a file', 'Declarations in memory', 'Declarations on a file']
@@ -166,6 +168,17 @@ def grown(less, more):
     return f'n^{math.log(more / less, OPENED[1] / OPENED[0]):.3f}' if less else ''
 
 
+def growth():
+    """Prints the rows of whole runs of requests, in memory and on a file, at the greater number."""
+    for name, counts in ANSWERED.items():
+        for on_file in (False, True):
+            few, many = (list(workloads.WORKLOADS[name](count)) for count in counts)
+            less, found = (profile(lines, program, on_file) for lines in (few, many))
+            exponent = math.log(all_of(found) / all_of(less), len(many) / len(few))
+            of_each = matching(found.calls, STATEMENT) / len(many)
+            row([f'`run`, {name}, {"on a file" if on_file else "in memory"}', f'{len(many):,}', f'{of_each:.1f} a request', f'{all_of(found):,}', '', f'n^{exponent:.3f}', *[''] * 3])
+
+
 def opening():
     """Prints the rows of opening and of a statement, at the greater size."""
     size = OPENED[-1]
@@ -249,6 +262,10 @@ if __name__ == '__main__':
         if is_there():
             head(OF_FILES)
             opening()
+    elif sys.argv[1:] == ['growth']:
+        if is_there():
+            head(OF_FILES)
+            growth()
     elif sys.argv[1:] == ['shares']:
         if is_there():
             head(OF_SHARES)

@@ -14,7 +14,7 @@ from contextlib import closing
 
 from measured import HEAD, NEW, fast, goo, growth, head, least, live, machine, measured_row, room, workload
 
-TURNS = 5
+TURNS = 9
 SIZES = (8_000, 16_000, 32_000)
 QUERY = '''SELECT first, last, device, first_day, last_day, tech, source FROM piece JOIN lot ON lot.id = piece.lot WHERE account = 1 AND kind = 1 ORDER BY first'''
 
