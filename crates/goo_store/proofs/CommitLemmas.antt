@@ -83,6 +83,14 @@ module _ (old new : State) (it : IsWell old) (changes : List TableChange) (plan 
   tables_kept (Ok x) err = tt
   tables_kept (Err e) err = λ none. ap (λ (d : Database). tables_of d.trees) (err none).0
 
+  -- what the changes make of what was so, and what is so of any tables where they were not made, is so after it
+  pub so_after : (was is : Tables → Type 0) → (doubts old ≡ 0 → was (tables_in old)) → OnOk r ((t : Tables) → was t → is (made_all t changes)) → OnErr r ((t : Tables) → is t) → doubts new ≡ 0 → is (tables_in new)
+  so_after was is so done undone none = go r (tables_made r made) done undone
+    where
+      go : (q : Result (Unit {0}) Error) → OnOk q (doubts new ≡ 0 → tables_in new ≡ made_all (tables_in old) changes) → OnOk q ((t : Tables) → was t → is (made_all t changes)) → OnErr q ((t : Tables) → is t) → is (tables_in new)
+      go (Ok x) tables on any = subst is (sym (tables none)) (on (tables_in old) (so (before none)))
+      go (Err e) tables on any = any (tables_in new)
+
   -- what is known of the basis after it is so
   pub basis_after : (after known : KnownBasis) → (doubts old ≡ 0 → IsBasisOf after (made_all (tables_in old) changes)) → OnOk r (known ≡ after) → OnErr r (IsNoBasis known) → doubts new ≡ 0 → IsBasisOf known (tables_in new)
   basis_after after known is done undone none = go r (tables_made r made) done undone

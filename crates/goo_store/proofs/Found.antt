@@ -52,10 +52,11 @@ none_known s findings is none = record {
   edges = subst (λ e. AreEdges e (rows_of (tables_in s))) (sym is.edges) (record { last = tt; asked = tt });
 }
 
--- so is what is known after a commit, if that is right, and nothing else that is kept
-pub basis_known : (s : State) (findings : Findings) → AreNone findings → (basis : KnownBasis) → (doubts s ≡ 0 → IsBasisOf basis (tables_in s)) → Knows s (record { own = findings.own; basis = basis; lots = findings.lots; edges = findings.edges })
-basis_known s findings is basis right none = record {
-  own = subst (λ o. IsRowOf o (tables_in s)) (sym is.own) tt;
+-- so are the row and the basis that are known after a commit, if they are right, and nothing else that is kept
+pub known_after : (s : State) (findings : Findings) → AreNone findings → (own : Option MetaRow) → (doubts s ≡ 0 → IsRowOf own (tables_in s)) → (basis : KnownBasis) → (doubts s ≡ 0 → IsBasisOf basis (tables_in s))
+    → Knows s (record { own = own; basis = basis; lots = findings.lots; edges = findings.edges })
+known_after s findings is own row_right basis right none = record {
+  own = row_right none;
   basis = right none;
   lots = subst (AreStated (tables_in s).lots) (sym is.lots) (All-nil _);
   edges = subst (λ e. AreEdges e (rows_of (tables_in s))) (sym is.edges) (record { last = tt; asked = tt });

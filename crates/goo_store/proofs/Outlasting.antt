@@ -1,13 +1,11 @@
 -- What is kept over commits: still so after a statement, told without one, and left by changes.
-use Rattle.std.proofs.Common.{◌≡◌, ◌≢◌, ℕ, String, Global, Bool, false, IsTrue, refl, sym, ap, subst, ◌∙◌, arith, true≢false, Ok, Err, Result, OnOk, Option, Some, IfOk}
+use Rattle.std.proofs.Common.{◌≡◌, ◌≢◌, ℕ, Bool, false, IsTrue, refl, sym, ap, subst, ◌∙◌, arith, true≢false, Ok, Err, Result, OnOk, Option, IfOk}
 use Rattle.std.specs.Prelude.{is_ok}
 use Rattle.std.specs.FinMap.{get}
 use Rattle.sqlite.specs.State.{State, HasCleanDisk}
 use Rattle.sqlite.specs.declared.error.Error.{Error}
 use Rattle.goo_types.specs.declared.fault.Fault.{Fault}
 use Rattle.goo_spec.specs.State as registry
-use Rattle.goo_core_shelf.specs.Meta.{meta_of}
-use Rattle.goo_core_shelf.specs.declared.own.Meta.{Meta}
 use Rattle.goo_core_shelf.specs.Shelf as shelf
 use Rattle.goo_spec_tables.specs.States.{state_of}
 use Rattle.goo_tables_rows.specs.Rows.{Tables}
@@ -20,18 +18,13 @@ use Rattle.goo_store_lookups.specs.Holding.{is_sure, LeavesCommit, safe}
 use Rattle.goo_store_lookups.specs.Moments.{tables_in, count, moment, IsWell}
 use Rattle.goo_store_lookups.specs.StoreFaults.{BlamesStore}
 use Rattle.goo_store_lookups.proofs.Looking.{before, so_still}
-use Rattle.goo_store.specs.Outlasting.{AreAccountsOf, AreLeft, IsLasting, IsTodayOf, Lasts}
+use Rattle.goo_store.specs.Outlasting.{AreAccountsOf, AreLeft, IsLasting, Lasts}
 use Rattle.goo_store.specs.declared.lasting.Lasting.{Lasting}
 
--- whether it was answered is no part of what is so
-pub whichever : (lasting : Lasting) (b : Bool) (s : registry.State) → IsLasting lasting s → IsLasting (record { answered = b; today = lasting.today; accounts = lasting.accounts }) s
-whichever lasting b s is = record { today = is.today; accounts = is.accounts }
-
 -- what is kept is so after a statement too
-pub so_on : (old new : State) (it : IsWell old) {T : Type 0} (r : Result T Error) (right : Tables → T → Type 0) → Looks old new r right → (lasting : Lasting) (b : Bool) → Lasts old lasting
-    → doubts new ≡ 0 → IsLasting (record { answered = b; today = lasting.today; accounts = lasting.accounts }) (state_of (tables_in new))
-so_on old new it r right looks lasting b lasts none =
-    whichever lasting b (state_of (tables_in new)) (so_still old new it r right looks (λ t. IsLasting lasting (state_of t)) none (lasts.so (before old new it r right looks none)))
+pub so_on : (old new : State) (it : IsWell old) {T : Type 0} (r : Result T Error) (right : Tables → T → Type 0) → Looks old new r right → (lasting : Lasting) → Lasts old lasting
+    → doubts new ≡ 0 → IsLasting lasting (state_of (tables_in new))
+so_on old new it r right looks lasting lasts none = so_still old new it r right looks (λ t. IsLasting lasting (state_of t)) none (lasts.so (before old new it r right looks none))
 
 -- the database is open where a statement was answered
 pub opened : {T : Type 0} (new : State) (r : Result T Error) (b : Bool) → b ≡ is_ok r → OnOk r (HasCleanDisk new → IsTrue new.is_open) → IsTrue b → HasCleanDisk new → IsTrue new.is_open
@@ -40,9 +33,9 @@ opened new (Err e) b same works is = absurd (true≢false (sym is ∙ same))
 
 -- so it lasts over a statement
 pub lasts_on : (old new : State) (it : IsWell old) {T : Type 0} (r : Result T Error) (right : Tables → T → Type 0) → Looks old new r right → (lasting : Lasting) (b : Bool) → b ≡ is_ok r → Lasts old lasting
-    → Lasts new (record { answered = b; today = lasting.today; accounts = lasting.accounts })
+    → Lasts new (record { answered = b; accounts = lasting.accounts })
 lasts_on old new it r right looks lasting b same lasts = record {
-  so = so_on old new it r right looks lasting b lasts;
+  so = so_on old new it r right looks lasting lasts;
   is_open = opened new r b same looks.works;
 }
 
@@ -53,33 +46,19 @@ lasts_first s lasting unanswered is = record {
   is_open = λ answered _. absurd (true≢false (sym answered ∙ unanswered));
 }
 
--- the date that was looked up
-pub lasts_with_today : (old new : State) (a b : Bool) (meta : Meta) → shelf.Looks (moment old a) (moment new b) (Ok meta) (λ found. found ≡ meta_of (moment old a).state) → (first last : Lasting)
-    → last ≡ record { answered = first.answered; today = Some meta.today; accounts = first.accounts } → Lasts new first → Lasts new last
-lasts_with_today old new a b meta looks first last is lasts = subst (Lasts new) (sym is) (record {
-  so = λ none. record {
-    today = ap (λ (s : registry.State). s.today) (looks.same none) ∙ sym (ap (λ (m : Meta). m.today) (looks.found none));
-    accounts = (lasts.so none).accounts;
-  };
-  is_open = lasts.is_open;
-})
-
 -- the account that was looked up, if it was found
 pub lasts_with_account : (old new : State) (a b : Bool) (number : ℕ) (r : Result (Option registry.Account) Fault) → shelf.Looks (moment old a) (moment new b) r (λ found. found ≡ get (moment old a).state.accounts number) → (first last : Lasting)
-    → last.answered ≡ first.answered → last.today ≡ first.today
+    → last.answered ≡ first.answered
     → ((s : registry.State) → IfOk r (λ found. found ≡ get s.accounts number) → AreAccountsOf s first.accounts.items → AreAccountsOf s last.accounts.items) → Lasts new first → Lasts new last
-lasts_with_account old new a b number r looks first last answered today keeps lasts = record {
-  so = λ none. record {
-    today = subst (λ t. IsTodayOf t (state_of (tables_in new))) (sym today) (lasts.so none).today;
-    accounts = keeps (state_of (tables_in new)) (subst (λ (s : registry.State). IfOk r (λ found. found ≡ get s.accounts number)) (sym (looks.same none)) (looks.found none)) (lasts.so none).accounts;
-  };
+lasts_with_account old new a b number r looks first last answered keeps lasts = record {
+  so = λ none. keeps (state_of (tables_in new)) (subst (λ (s : registry.State). IfOk r (λ found. found ≡ get s.accounts number)) (sym (looks.same none)) (looks.found none)) (lasts.so none);
   is_open = λ is. lasts.is_open (sym answered ∙ is);
 }
 
 -- after calls of which it is not known whether they were answered
-pub lasts_unanswered : (old new : State) (lasting : Lasting) → (doubts new ≡ 0 → (doubts old ≡ 0) × (tables_in new ≡ tables_in old)) → Lasts old lasting → Lasts new (record { answered = false; today = lasting.today; accounts = lasting.accounts })
+pub lasts_unanswered : (old new : State) (lasting : Lasting) → (doubts new ≡ 0 → (doubts old ≡ 0) × (tables_in new ≡ tables_in old)) → Lasts old lasting → Lasts new (record { answered = false; accounts = lasting.accounts })
 lasts_unanswered old new lasting same lasts = record {
-  so = λ none. whichever lasting false (state_of (tables_in new)) (subst (λ t. IsLasting lasting (state_of t)) (sym (same none).1) (lasts.so (same none).0));
+  so = λ none. subst (λ t. IsLasting lasting (state_of t)) (sym (same none).1) (lasts.so (same none).0);
   is_open = λ is _. absurd (true≢false (sym is));
 }
 
@@ -107,28 +86,24 @@ kept_blames old a x = record {
 
 -- ---- what changes leave
 
--- the date and the accounts are changed by three alone
-pub left : (t : Tables) (change : TableChange) → ((row : AccountRow) → change ≢ AddAccount row) → ((number : ℕ) → change ≢ CloseAccount number) → ((day : String Global) → change ≢ SetToday day) → AreLeft (state_of t) (state_of (made t change))
+-- the accounts are changed by two alone
+pub left : (t : Tables) (change : TableChange) → ((row : AccountRow) → change ≢ AddAccount row) → ((number : ℕ) → change ≢ CloseAccount number) → AreLeft (state_of t) (state_of (made t change))
 unfolding state_of
-left t (AddHolder row) account closing today = record { today = refl; accounts = refl }
-left t (AddAccount row) account closing today = absurd (account row refl)
-left t (CloseAccount number) account closing today = absurd (closing number refl)
-left t (AddDevice row) account closing today = record { today = refl; accounts = refl }
-left t (AddDeclaration row) account closing today = record { today = refl; accounts = refl }
-left t (SetProgress device last_day carry) account closing today = record { today = refl; accounts = refl }
-left t (AddLot row) account closing today = record { today = refl; accounts = refl }
-left t (DeletePiece first) account closing today = record { today = refl; accounts = refl }
-left t (InsertPiece row) account closing today = record { today = refl; accounts = refl }
-left t (AddPeer row) account closing today = record { today = refl; accounts = refl }
-left t (AddReceipt row) account closing today = record { today = refl; accounts = refl }
-left t (AddCancellation row) account closing today = record { today = refl; accounts = refl }
-left t (AddWithdrawal row) account closing today = record { today = refl; accounts = refl }
-left t (AddNoticeOut row) account closing today = record { today = refl; accounts = refl }
-left t (AddNoticeIn row) account closing today = record { today = refl; accounts = refl }
-left t (AddCorrection row) account closing today = record { today = refl; accounts = refl }
-left t (SetToday day) account closing today = absurd (today day refl)
-left t (SetCounters counters) account closing today = record { today = refl; accounts = refl }
-
--- one after another
-pub left_on : (a b c : registry.State) → AreLeft a b → AreLeft b c → AreLeft a c
-left_on a b c first then = record { today = then.today ∙ first.today; accounts = then.accounts ∙ first.accounts }
+left t (AddHolder row) account closing = refl
+left t (AddAccount row) account closing = absurd (account row refl)
+left t (CloseAccount number) account closing = absurd (closing number refl)
+left t (AddDevice row) account closing = refl
+left t (AddDeclaration row) account closing = refl
+left t (SetProgress device last_day carry) account closing = refl
+left t (AddLot row) account closing = refl
+left t (DeletePiece first) account closing = refl
+left t (InsertPiece row) account closing = refl
+left t (AddPeer row) account closing = refl
+left t (AddReceipt row) account closing = refl
+left t (AddCancellation row) account closing = refl
+left t (AddWithdrawal row) account closing = refl
+left t (AddNoticeOut row) account closing = refl
+left t (AddNoticeIn row) account closing = refl
+left t (AddCorrection row) account closing = refl
+left t (SetToday day) account closing = refl
+left t (SetCounters counters) account closing = refl

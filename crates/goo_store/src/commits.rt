@@ -12,6 +12,7 @@ ghost use Rattle.goo_store.specs.Gathering.{BlamesCommit, CanCarryOut, HaveWhatI
 ghost use Rattle.goo_store_values.specs.Passing.{IsTroubleOf};
 ghost use Rattle.goo_store_values.specs.Telling.{PassesOn};
 
+use crate::kept_registry_row::{copied, row_after};
 use crate::sql_shelf::SqlShelf;
 use goo_core_shelf::plan::Plan;
 use goo_store_changes::committing::commit_changes;
@@ -72,9 +73,11 @@ impl<S: Alter> SqlShelf<S> {
         ensures commits { Commits (moment (view S.Store self.old.conn) self.old.refused) (moment (view S.Store self.new.conn) self.new.refused) result plan.now }
         ensures store { BlamesCommit (view S.Store self.old.conn) (view S.Store self.new.conn) self.old.refused result (λ t. CanCarryOut t plan.now) }
     {
+        let own = copied(&self.findings.own);
         let planned = self.changes_for(alloc, plan)?;
         let made = commit_changes(&mut self.conn, &planned.changes);
         self.findings.basis = known_after(&made, planned.after);
+        self.findings.own = row_after(&made, own, &planned.changes);
         self.lasting.outlast(&made, &planned.changes);
         told(ending(made), &mut self.refused)
     }

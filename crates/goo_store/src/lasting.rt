@@ -11,7 +11,6 @@ ghost use Rattle.goo_store.specs.Outlasting.{AreAccountsOf, AreLeft, IsLasting};
 use goo_core_shelf::account::Account;
 use goo_store_changes::change::TableChange;
 use goo_types::account_no::AccountNo;
-use goo_types::day::Day;
 use goo_types::fault::Fault;
 use sqlite::Error;
 use std::alloc::Global;
@@ -35,8 +34,6 @@ pub struct NumberedAccount {
 pub struct Lasting {
     /// Whether the last statement was answered, so that the database is open.
     pub answered: bool,
-    /// The registry's date.
-    pub today: Option<Day>,
     /// Some accounts that were found.
     pub accounts: Vec<NumberedAccount>,
 }
@@ -78,18 +75,17 @@ pub fn keep_account(
     let _kept = accounts.extend_from_slice(&[NumberedAccount { number, account }]);
 }
 
-/// Whether a change leaves the date and the accounts.
+/// Whether a change leaves the accounts.
 fn leaves(change: &TableChange) -> bool
     ensures { IsTrue result → (t : Tables) → AreLeft (state_of t) (state_of (made t change.now)) }
 {
     match change {
-        TableChange::SetToday(_) | TableChange::AddAccount(_) | TableChange::CloseAccount(_) =>
-            false,
+        TableChange::AddAccount(_) | TableChange::CloseAccount(_) => false,
         _ => true,
     }
 }
 
-/// Whether changes leave the date and the accounts.
+/// Whether changes leave the accounts.
 fn all_leave(changes: &[TableChange]) -> bool
     ensures { IsTrue result → (t : Tables) → AreLeft (state_of t) (state_of (made_all t changes.now)) }
 {
@@ -109,24 +105,8 @@ impl Lasting {
     {
         Lasting {
             answered: false,
-            today: None,
             accounts: Vec::new(alloc),
         }
-    }
-
-    /// The registry's date, where it is kept and may be told.
-    pub fn kept_today(&self) -> Option<Day>
-        ensures answered { IfSome result (λ today. IsTrue self.now.answered) }
-        ensures kept { IfSome result (λ today. (s : State) → IsLasting self.now s → s.today ≡ today) }
-    {
-        if self.answered { self.today } else { None }
-    }
-
-    /// Keeps the registry's date.
-    pub fn keep_today(&mut self, today: Day)
-        ensures { self.new ≡ record self.old { today = Some today } }
-    {
-        self.today = Some(today);
     }
 
     /// The account under a number, where it is kept and may be told.
@@ -151,7 +131,6 @@ impl Lasting {
         if self.answered && all_leave(changes) {
             return;
         }
-        self.today = None;
         self.accounts.clear();
     }
 }

@@ -14,6 +14,7 @@ mod held;
 mod holders;
 mod issuing;
 mod kept_lots;
+mod kept_registry_row;
 mod lasting;
 mod lots;
 mod lowering;

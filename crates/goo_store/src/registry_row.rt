@@ -1,6 +1,6 @@
 //! The registry itself, as its row tells of it.
 
-ghost use Rattle.std.specs.Prelude.{◌≡◌, Some, option_map, IfErr, IfOk, IsOk, IsSomeAnd, IsTrue};
+ghost use Rattle.std.specs.Prelude.{◌≡◌, Some, option_map, IfErr, IfOk, IfSome, IsOk, IsSomeAnd, IsTrue};
 ghost use Rattle.sqlite.specs.Held.{state as view};
 ghost use Rattle.goo_tables_rows.specs.Rows.{Tables, meta_in};
 ghost use Rattle.goo_core_shelf.specs.Counters.{counters_of};
@@ -8,6 +8,7 @@ ghost use Rattle.goo_core_shelf.specs.Meta.{meta_of};
 ghost use Rattle.goo_core_shelf.specs.Shelf.{Looks};
 ghost use Rattle.goo_store_lookups.specs.Moments.{moment};
 ghost use Rattle.goo_store.specs.Found.{KeepsFound};
+ghost use Rattle.goo_store_plans.specs.Found.{IsRowOf};
 ghost use Rattle.goo_store_lookups.specs.StoreFaults.{BlamesStore};
 ghost use Rattle.goo_store_values.specs.Passing.{Accepts, Passes};
 ghost use Rattle.goo_spec_tables.specs.Readable.{is_meta};
@@ -77,14 +78,38 @@ fn read_meta(
     Ok(meta)
 }
 
+/// What the registry knows of itself, as the row tells that is kept, if one is.
+fn meta_in_kept(own: &Option<MetaRow>) -> Option<Meta>
+    ensures { IfSome result (λ meta. (t : Tables) → IsRowOf own.now t → meta ≡ meta_of (state_of t)) }
+{
+    let row = own.as_ref()?;
+    meta_in_row(row).ok()
+}
+
 impl<S: Alter> SqlShelf<S> {
-    /// What the registry knows of itself.
+    /// What the registry knows of itself, where its row is kept and may be told.
+    fn kept_registry(&self) -> Option<Meta>
+        ensures answered { IfSome result (λ meta. IsTrue self.now.lasting.answered) }
+        ensures kept { IfSome result (λ meta. (t : Tables) → IsRowOf self.now.findings.own t → meta ≡ meta_of (state_of t)) }
+    {
+        if self.lasting.answered {
+            meta_in_kept(&self.findings.own)
+        } else {
+            None
+        }
+    }
+
+    /// What the registry knows of itself: as the row tells that is kept, or else the one that is looked up, which is
+    /// kept then.
     pub(crate) fn look_up_registry(&mut self) -> Result<Meta, Fault>
         ensures looks { Looks (moment (view S.Store self.old.conn) self.old.refused) (moment (view S.Store self.new.conn) self.new.refused) result (λ meta. meta ≡ meta_of (moment (view S.Store self.old.conn) self.old.refused).state) }
         ensures store { BlamesStore (view S.Store self.old.conn) (view S.Store self.new.conn) self.old.refused result }
     {
         if self.refused {
             return Err(Fault::Store);
+        }
+        if let Some(meta) = self.kept_registry() {
+            return Ok(meta);
         }
         let found = find_meta(self.alloc, &mut self.conn);
         self.lasting.answered = found.is_ok();
@@ -100,19 +125,12 @@ impl<S: Alter> SqlShelf<S> {
         Ok(meta.code)
     }
 
-    /// The registry's date: the one that is kept, or else the one in its row, which is kept then.
+    /// The registry's date.
     pub(crate) fn look_up_today(&mut self) -> Result<Day, Fault>
         ensures looks { Looks (moment (view S.Store self.old.conn) self.old.refused) (moment (view S.Store self.new.conn) self.new.refused) result (λ day. day ≡ (moment (view S.Store self.old.conn) self.old.refused).state.today) }
         ensures store { BlamesStore (view S.Store self.old.conn) (view S.Store self.new.conn) self.old.refused result }
     {
-        if self.refused {
-            return Err(Fault::Store);
-        }
-        if let Some(today) = self.lasting.kept_today() {
-            return Ok(today);
-        }
         let meta = self.look_up_registry()?;
-        self.lasting.keep_today(meta.today);
         Ok(meta.today)
     }
 

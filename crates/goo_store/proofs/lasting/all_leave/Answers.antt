@@ -4,11 +4,10 @@ use Rattle.goo_spec_tables.specs.States.{state_of}
 use Rattle.goo_tables_rows.proofs.Inside.{fold_more}
 use Rattle.goo_store_changes.specs.Changes.{made, made_all}
 use Rattle.goo_store.specs.Outlasting.{AreLeft}
-use Rattle.goo_store.proofs.Outlasting.{left_on}
 use Rattle.goo_store.proofs.lasting.all_leave.Goals as goal
 
 pub loop-change-init : goal.loop-change-init
-loop-change-init c t = record { today = refl; accounts = refl }
+loop-change-init c t = refl
 
 pub loop-change-preserved : goal.loop-change-preserved
 loop-change-preserved c t =
@@ -17,7 +16,7 @@ loop-change-preserved c t =
     let item = c.change-item.result in
     let low : i < length xs = omega (arith, c.loop-change-test.true) in
     subst (λ u. AreLeft (state_of t) (state_of u)) (ap (made (made_all t (take i xs))) c.change-item.is ∙ fold_more made t xs i item low)
-    (left_on (state_of t) (state_of (made_all t (take i xs))) (state_of (made (made_all t (take i xs)) item)) (c.loop-change.invariant t) (c.leaves.ensures (search rules) (made_all t (take i xs))))
+    (c.leaves.ensures (search rules) (made_all t (take i xs)) ∙ c.loop-change.invariant t)
 
 pub returns : goal.returns
 returns c is t =

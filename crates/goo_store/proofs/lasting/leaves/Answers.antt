@@ -2,4 +2,4 @@ use Rattle.goo_store.proofs.Outlasting.{left}
 use Rattle.goo_store.proofs.lasting.leaves.Goals as goal
 
 pub returns-in_default : goal.returns-in_default
-returns-in_default c is t = left t c.args.change.now c.in_default.not-AddAccount c.in_default.not-CloseAccount c.in_default.not-SetToday
+returns-in_default c is t = left t c.args.change.now c.in_default.not-AddAccount c.in_default.not-CloseAccount

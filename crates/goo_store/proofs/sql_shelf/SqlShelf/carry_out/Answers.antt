@@ -3,11 +3,11 @@ use Rattle.sqlite.specs.Held.{state as view}
 use Rattle.goo_tables_rows.specs.Stands.{doubts}
 use Rattle.goo_store_lookups.specs.Moments.{moment, tables_in}
 use Rattle.goo_store_changes.specs.Changes.{made_all}
-use Rattle.goo_store_plans.specs.Found.{IsBasisOf}
+use Rattle.goo_store_plans.specs.Found.{IsBasisOf, IsRowOf}
 use Rattle.goo_store_plans.specs.Planned.{IsPlanned}
 use Rattle.goo_store.proofs.CommitBlamed.{blamed, blamed_before}
-use Rattle.goo_store.proofs.CommitLemmas.{basis_after, lasts_after, well_after, committed}
-use Rattle.goo_store.proofs.Found.{basis_known}
+use Rattle.goo_store.proofs.CommitLemmas.{basis_after, lasts_after, so_after, well_after, committed}
+use Rattle.goo_store.proofs.Found.{known_after}
 use Rattle.goo_store.proofs.CommitsAfter.{not_refused, not_committed, as_err, fits_still, commits_after}
 use Rattle.goo_spec_tables.specs.States.{state_of}
 use Rattle.goo_store.specs.Outlasting.{IsLasting}
@@ -27,7 +27,8 @@ returns-in_err-planned-clause-store g c =
 
 pub invariant_of-self : goal.invariant_of-self
 invariant_of-self g c =
-    let old = moment (view g.S.Store c.args.self.now.conn) c.args.self.now.refused in
+    let start = view g.S.Store c.args.self.now.conn in
+    let old = moment start c.args.self.now.refused in
     let shelf = c.changes_for.new.self in
     let mid = view g.S.Store shelf.conn in
     let plan = c.args.plan.now in
@@ -38,13 +39,19 @@ invariant_of-self g c =
     λ none. subst (λ xs. IsBasisOf c.in_ok-planned.planned.after (made_all (tables_in mid) xs)) (sym c.deref.ensures.value) (c.in_ok-planned.ensures.planned none (fits_still old (moment mid shelf.refused) plan _ c.in_ok-planned.ensures.prepares c.requires none)).1 in record {
       outside = it.outside;
       well = well_after mid (view g.S.Store c.commit_changes-made.new.conn) shelf.well c.deref.result.now plan planned c.commit_changes-made.result it.clean it.was_open it.works it.done it.kept it.crash;
-      known = basis_known (view g.S.Store c.commit_changes-made.new.conn) shelf.findings c.in_ok-planned.ensures.taken c.known_after-self.result
+      known = known_after (view g.S.Store c.commit_changes-made.new.conn) shelf.findings c.in_ok-planned.ensures.taken c.row_after.result
+          (so_after mid (view g.S.Store c.commit_changes-made.new.conn) shelf.well c.deref.result.now plan planned c.commit_changes-made.result it.clean it.was_open it.works it.done it.kept it.crash
+          (IsRowOf c.copied-own.result) (IsRowOf c.row_after.result)
+          (λ none. subst (IsRowOf c.copied-own.result) (sym (c.in_ok-planned.ensures.same none)) (c.copied-own.ensures (tables_in start) (c.args.self.now.known (c.in_ok-planned.ensures.prepares.doubted none)).own))
+          (subst (λ xs. OnOk c.commit_changes-made.result ((t : Tables) → IsRowOf c.copied-own.result t → IsRowOf c.row_after.result (made_all t xs))) (c.deref-2.ensures.value ∙ sym c.deref.ensures.value) c.row_after.ensures.made)
+          c.row_after.ensures.failed)
+          c.known_after-self.result
           (basis_after mid (view g.S.Store c.commit_changes-made.new.conn) shelf.well c.deref.result.now plan planned c.commit_changes-made.result it.clean it.was_open it.works it.done it.kept it.crash
           c.in_ok-planned.planned.after c.known_after-self.result after c.known_after-self.ensures.done c.known_after-self.ensures.undone);
       lasts =
           lasts_after mid (view g.S.Store c.commit_changes-made.new.conn) shelf.well c.deref.result.now plan planned c.commit_changes-made.result it.clean it.was_open it.works it.done it.kept it.crash
           shelf.lasting c.outlast.new.self shelf.lasts c.outlast.ensures.answered
-          (subst (λ xs. OnOk c.commit_changes-made.result ((t : Tables) → IsLasting shelf.lasting (state_of t) → IsLasting c.outlast.new.self (state_of (made_all t xs)))) (c.deref-2.ensures.value ∙ sym c.deref.ensures.value) c.outlast.ensures.made)
+          (subst (λ xs. OnOk c.commit_changes-made.result ((t : Tables) → IsLasting shelf.lasting (state_of t) → IsLasting c.outlast.new.self (state_of (made_all t xs)))) (c.deref-3.ensures.value ∙ sym c.deref.ensures.value) c.outlast.ensures.made)
           c.outlast.ensures.failed;
     }
 
