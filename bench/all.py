@@ -1,4 +1,4 @@
-"""Runs the whole bench, some twenty minutes, and prints the tables of README.md as Markdown.
+"""Runs the whole bench, some fifteen minutes, and prints the tables of README.md as Markdown.
 
 usage: python3 bench/all.py            prints them
        python3 bench/all.py --page     puts them into bench/README.md instead, between its two marks
@@ -17,7 +17,6 @@ import time
 
 import connections
 import instructions
-import large
 import requests
 import same
 import statement
@@ -56,12 +55,8 @@ def tables():
     requests.main([place for place in PLACES if usable(place)])
     told('opening and statements')
     below = statement.main()
-    print(f'\n{below}\n' if below else '')
-    told('large files')
-    head(large.HEAD)
-    large.main()
     told('connections')
-    print()
+    print(f'\n{below}\n' if below else '')
     head(connections.HEAD)
     connections.main()
     if instructions.is_there():

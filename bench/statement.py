@@ -42,12 +42,12 @@ def checked(path):
     return time.process_time() - start
 
 
-def opened(folder, name, size, turns=TURNS):
+def opened(folder, name, size):
     """Makes a file by a workload; the best run that opens it and asks for nothing, and the least seconds of SQLite's check."""
     workload(name, size, folder / 'lines')
     goo('init', '--db', folder / 'registry', *NEW)
     goo('run', '--db', folder / 'registry', given=folder / 'lines')
-    return least(goo('run', '--db', folder / 'registry') for _ in range(turns)), min(checked(folder / 'registry') for _ in range(turns))
+    return least(goo('run', '--db', folder / 'registry') for _ in range(TURNS)), min(checked(folder / 'registry') for _ in range(TURNS))
 
 
 def of_declarations(place, size):
