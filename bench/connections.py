@@ -4,7 +4,7 @@ usage: python3 bench/connections.py [COUNT]
 
 One client, which opens a connection, sends a request and reads the answer to its end, COUNT times (1,000) for each of: `GET /v1/certificates/..` and
 `POST /v1/requests`, with the registry in memory, on tmpfs and on a disk. A bare connection is answered the same bytes by a server that looks at nothing; http.server
-looks the certificate up in a table, or writes a row in a transaction, and answers as many bytes. The three take turns, three times; of each the best counts.
+looks the certificate up in a table, or writes a row in a transaction, and answers as many bytes. The three take turns, five times; of each the best counts.
 All of it stays on 127.0.0.1.
 """
 import http.server
@@ -22,7 +22,7 @@ from measured import NEW, PROGRAM, goo, head, machine, peak, ratio, room, row, u
 
 HEAD = ['Connections', 'Where', 'goo: a second', 'Processor seconds per 1,000', 'Peak MB', 'Bare: a second', 'Ratio', 'http.server: a second', 'Ratio']
 WORKS = [('look', 'memory'), ('request', 'memory'), ('request', 'tmpfs'), ('request', 'disk')]
-RUNS = 3
+RUNS = 5
 DEVICE = '500000000000000012'
 BEGINNING = [
     {'command': 'open_holder', 'holder': 'SUN', 'key': 'a1', 'name': 'Sun Power'},

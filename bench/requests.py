@@ -2,16 +2,18 @@
 
 usage: python3 bench/requests.py [memory|tmpfs|disk ..]
 
-Each row: the processor seconds of the largest size, requests a second, peak memory, and how the time grows over n, 2n and 4n requests. Program and baselines take turns,
-and of each the least of five runs counts, at the smaller sizes too. The processor seconds of program and plain.rs are those of the whole process, those of plain.py of its
+Each row: the processor seconds of the largest size, requests a second, peak memory, and how the time grows over n, 2n and 4n requests. All rows are gone over turn by turn,
+each with its three sizes and both baselines, so that minutes in which the machine is slow meet all of them alike; of each the least of seven runs counts, and the rows are
+printed at the end. The processor seconds of program and plain.rs are those of the whole process, those of plain.py of its
 transactions alone. On the disk there is one size. A table needs a file; the baselines are given its rows as lines.
 """
 import sys
+from contextlib import ExitStack
 from pathlib import Path
 
 from measured import HEAD, NEW, PLACES, goo, growth, head, least, machine, measured_row, python, room, rust_run, usable, workload
 
-TURNS = 5
+TURNS = 7
 SIZES = {'table': (8_000, 16_000, 32_000), 'declarations': (8_000, 16_000, 32_000), 'trades': (3_000, 6_000, 12_000)}
 ON_DISK = (1_500,)
 WORKS = [('table', 1), ('declarations', 1), ('trades', 1), ('trades', 2)]
@@ -19,14 +21,15 @@ TITLES = {'table': '`declare`, rows', 'declarations': '`run`, declarations', 'tr
 
 
 class Work:
-    """One workload of one size, in one place."""
+    """One workload of one size, in one place; its files lie in a folder of its own below this one."""
 
-    def __init__(self, place, name, times, size, folder):
-        self.place, self.folder, self.is_table = place, folder, name == 'table'
-        self.given = self.lines = folder / 'given'
+    def __init__(self, place, name, times, size, below):
+        self.place, self.folder, self.is_table = place, below / str(size), name == 'table'
+        self.folder.mkdir()
+        self.given = self.lines = self.folder / 'given'
         self.count = workload(name, size, self.given, times)
         if self.is_table:
-            self.lines, self.before = folder / 'lines', folder / 'before'
+            self.lines, self.before = self.folder / 'lines', self.folder / 'before'
             self.count = workload('rows', size, self.lines)
             workload('devices', size, self.before)
 
@@ -46,10 +49,6 @@ class Work:
             goo('run', '--db', path, given=self.before)
         return goo('declare' if self.is_table else 'run', '--db', path, given=self.given)
 
-    def alone(self):
-        """The least seconds of the program, with no baseline beside it."""
-        return least(self.ours() for _ in range(TURNS)).seconds
-
     def of_rust(self):
         path = None if self.place == 'memory' else self.fresh('rust')
         if self.is_table:
@@ -63,22 +62,35 @@ class Work:
         return python(self.lines, path)
 
 
-def measure(place, name, times):
-    """Prints the row of one workload in one place."""
-    sizes = ON_DISK if place == 'disk' else SIZES[name]
-    with room(place) as folder:
-        smaller = [Work(place, name, times, size, folder).alone() for size in sizes[:-1]]
-        work = Work(place, name, times, sizes[-1], folder)
-        turns = [(work.ours(), work.of_rust(), work.of_python()) for _ in range(TURNS)]
-        ours, of_rust = least(it[0] for it in turns), least(it[1] for it in turns)
-        measured_row(f'{TITLES[name]}{" sent twice" if times > 1 else ""}', place, work.count, ours, growth([*smaller, ours.seconds]), of_rust, min(it[2] for it in turns))
+class Measurement:
+    """One workload in one place: three sizes of it (one on the disk), and the baselines at the largest."""
+
+    def __init__(self, place, name, times, folder):
+        self.title = f'{TITLES[name]}{" sent twice" if times > 1 else ""}'
+        self.works = [Work(place, name, times, size, folder) for size in (ON_DISK if place == 'disk' else SIZES[name])]
+        self.ours, self.of_rust, self.of_python = [[] for _ in self.works], [], []
+
+    def take_a_turn(self):
+        for work, runs in zip(self.works, self.ours):
+            runs.append(work.ours())
+        self.of_rust.append(self.works[-1].of_rust())
+        self.of_python.append(self.works[-1].of_python())
+
+    def show(self):
+        """Prints the row."""
+        largest, ours = self.works[-1], [least(runs) for runs in self.ours]
+        measured_row(self.title, largest.place, largest.count, ours[-1], growth([it.seconds for it in ours]), least(self.of_rust), min(self.of_python))
 
 
 def main(places):
-    for name, times in WORKS:
-        for place in places:
-            if not (name == 'table' and place == 'memory'):
-                measure(place, name, times)
+    wanted = [(place, *work) for work in WORKS for place in places if (place, work[0]) != ('memory', 'table')]
+    with ExitStack() as rooms:
+        measurements = [Measurement(place, name, times, rooms.enter_context(room(place))) for place, name, times in wanted]
+        for _ in range(TURNS):
+            for measurement in measurements:
+                measurement.take_a_turn()
+    for measurement in measurements:
+        measurement.show()
 
 
 if __name__ == '__main__':

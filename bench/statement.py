@@ -14,7 +14,7 @@ from contextlib import closing
 
 from measured import HEAD, NEW, fast, goo, growth, head, least, live, machine, measured_row, room, workload
 
-TURNS = 9
+TURNS = 15
 SIZES = (8_000, 16_000, 32_000)
 QUERY = '''SELECT first, last, device, first_day, last_day, tech, source FROM piece JOIN lot ON lot.id = piece.lot WHERE account = 1 AND kind = 1 ORDER BY first'''
 
@@ -42,40 +42,59 @@ def checked(path):
     return time.process_time() - start
 
 
-def opened(folder, name, size):
-    """Makes a file by a workload; the best run that opens it and asks for nothing, and the least seconds of SQLite's check."""
-    workload(name, size, folder / 'lines')
-    goo('init', '--db', folder / 'registry', *NEW)
-    goo('run', '--db', folder / 'registry', given=folder / 'lines')
-    return least(goo('run', '--db', folder / 'registry') for _ in range(TURNS)), min(checked(folder / 'registry') for _ in range(TURNS))
+def made(below, name):
+    """Files of n, 2n and 4n by a workload, each in a folder of its own."""
+    for size in SIZES:
+        folder = below / str(size)
+        folder.mkdir()
+        workload(name, size, folder / 'lines')
+        goo('init', '--db', folder / 'registry', *NEW)
+        goo('run', '--db', folder / 'registry', given=folder / 'lines')
+        yield folder
 
 
-def of_declarations(place, size):
-    with room(place) as folder:
-        return opened(folder, 'declarations', size)
+def checked_run(folder):
+    """A run that opens the file and asks for nothing, and SQLite's check."""
+    return goo('run', '--db', folder / 'registry'), checked(folder / 'registry')
 
 
-def measure(place, runs):
-    """The best over a file of so many runs: opening it, SQLite's check, the statement beyond opening, the query, and what is live."""
-    with room(place) as folder:
-        opening, check = opened(folder, 'runs', runs)
-        own = least(goo('statement', '1', '--db', folder / 'registry', to=folder / 'ours') for _ in range(TURNS))
-        own.seconds, own.clock = max(own.seconds - opening.seconds, 0.001), max(own.clock - opening.clock, 0.001)
-        of_python = min(plain(folder / 'registry', folder / 'theirs') for _ in range(TURNS))
-        if (folder / 'ours').read_bytes() != (folder / 'theirs').read_bytes():
-            sys.exit('the two statements differ')
-        return opening, check, own, of_python, [live(folder, 'statement', account, '--db', folder / 'registry') for account in (1, 3)]
+def stated(folder):
+    """The statement of account 1, and the query that writes the same."""
+    ours, theirs = folder / 'ours', folder / 'theirs'
+    found = goo('statement', '1', '--db', folder / 'registry', to=ours), plain(folder / 'registry', theirs)
+    if ours.read_bytes() != theirs.read_bytes():
+        sys.exit('the two statements differ')
+    return found
+
+
+def in_turns(*works):
+    """Each work, a call and the files of its three sizes, in turns: of each file the best run, and the least seconds of what stands beside it."""
+    turns = [[[call(folder) for folder in folders] for call, folders in works] for _ in range(TURNS)]
+    return [[(least(run for run, _ in of_one), min(seconds for _, seconds in of_one)) for of_one in zip(*of_work)] for of_work in zip(*turns)]
+
+
+def beyond(own, opening):
+    """What a run takes beyond opening the file."""
+    own.seconds, own.clock = max(own.seconds - opening.seconds, 0.001), max(own.clock - opening.clock, 0.001)
+    return own
+
+
+def show(work, place, found):
+    """Prints the row of a work over files of the three sizes."""
+    own, of_python = found[-1]
+    measured_row(work, place, SIZES[-1], own, growth([it.seconds for it, _ in found]), None, of_python)
 
 
 def main():
     """Prints the rows, and gives back what is to be said below the table."""
     place = fast()
-    found = [of_declarations(place, size) for size in SIZES]
-    measured_row('opening a file, declarations', place, SIZES[-1], found[-1][0], growth([it[0].seconds for it in found]), None, found[-1][1])
-    found = [measure(place, runs) for runs in SIZES]
-    opening, check, own, of_python, (whole, ten) = found[-1]
-    measured_row('opening a file, runs', place, SIZES[-1], opening, growth([it[0].seconds for it in found]), None, check)
-    measured_row('`statement` beyond opening, runs', place, SIZES[-1], own, growth([it[2].seconds for it in found]), None, of_python)
+    with room(place) as of_declarations, room(place) as of_runs:
+        declarations, runs = [*made(of_declarations, 'declarations')], [*made(of_runs, 'runs')]
+        openings, of_holdings, statements = in_turns((checked_run, declarations), (checked_run, runs), (stated, runs))
+        whole, ten = [live(of_runs, 'statement', account, '--db', runs[-1] / 'registry') for account in (1, 3)]
+    show('opening a file, declarations', place, openings)
+    show('opening a file, runs', place, of_holdings)
+    show('`statement` beyond opening, runs', place, [(beyond(own, opening), query) for (own, query), (opening, _) in zip(statements, of_holdings)])
     if not whole or not ten:
         return ''
     return f'While the statement of {SIZES[-1]:,} runs is written {whole[2]:,} bytes are live at most, and {ten[2]:,} while one of ten runs of the same file is.'
