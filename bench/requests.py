@@ -3,7 +3,7 @@
 usage: python3 bench/requests.py [memory|tmpfs|disk ..]
 
 Each row: the processor seconds of the largest size, requests a second, peak memory, and how the time grows over n, 2n and 4n requests. All rows are gone over turn by turn,
-each with its three sizes and both baselines, so that minutes in which the machine is slow meet all of them alike; of each the least of seven runs counts, and the rows are
+each with its three sizes and both baselines, so that minutes in which the machine is slow meet all of them alike; of each the least of fourteen runs counts, and the rows are
 printed at the end. The processor seconds of program and plain.rs are those of the whole process, those of plain.py of its
 transactions alone. On the disk there is one size. A table needs a file; the baselines are given its rows as lines.
 """
@@ -13,8 +13,8 @@ from pathlib import Path
 
 from measured import HEAD, NEW, PLACES, goo, growth, head, least, machine, measured_row, python, room, rust_run, usable, workload
 
-TURNS = 7
-SIZES = {'table': (8_000, 16_000, 32_000), 'declarations': (8_000, 16_000, 32_000), 'trades': (3_000, 6_000, 12_000)}
+TURNS = 14
+SIZES = {'table': (4_000, 8_000, 16_000), 'declarations': (4_000, 8_000, 16_000), 'trades': (3_000, 6_000, 12_000)}
 ON_DISK = (1_500,)
 WORKS = [('table', 1), ('declarations', 1), ('trades', 1), ('trades', 2)]
 TITLES = {'table': '`declare`, rows', 'declarations': '`run`, declarations', 'trades': '`run`, trades'}
