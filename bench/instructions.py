@@ -20,13 +20,14 @@ import subprocess
 import sys
 
 import kinds
+import requests
 import workloads
 from measured import NEW, PROGRAM, SECONDS, fast, goo, head, ratio, room, row, rust, say, workload
 
 STATEMENT = re.compile(r'Entry.*fetch')
 CONNECT = re.compile(r'^sqlite::file::connect')
 OPENED = (8_000, 32_000)
-ANSWERED = {'declarations': (2_000, 8_000), 'trades': (3_000, 12_000)}
+ANSWERED = {'table': (2_000, 8_000), 'declarations': (2_000, 8_000), 'trades': (3_000, 12_000)}
 OF_FILES = ['Work', 'n', 'Statements', 'Instructions', 'of them in the library\'s check', 'Grows as', '`integrity_check`', 'Ratio', 'Grows as']
 SHARED = [('trades', False), ('trades', True), ('declarations', False), ('declarations', True)]
 OF_SHARES = ['Share of the instructions', 'Trades in memory', 'Trades on a file', 'Declarations in memory', 'Declarations on a file']
@@ -168,15 +169,32 @@ def grown(less, more):
     return f'n^{math.log(more / less, OPENED[1] / OPENED[0]):.3f}' if less else ''
 
 
+def importing(rows):
+    """The words that import a table into a registry on a file, which has been told of the devices of so many rows."""
+    def words(path):
+        workload('devices', rows, f'{path}-devices')
+        goo('init', '--db', path, *NEW)
+        goo('run', '--db', path, given=f'{path}-devices')
+        return [PROGRAM, 'declare', '--db', path]
+    return words
+
+
+def answered(name, times, count, on_file):
+    """How many requests a workload of this size has, each sent so many times, and what callgrind finds of the whole run that answers them."""
+    lines = list(workloads.WORKLOADS[name](count)) * times
+    is_table = name == 'table'
+    return len(lines) - is_table, profile(lines, importing(count) if is_table else program, on_file)
+
+
 def growth():
     """Prints the rows of whole runs of requests, in memory and on a file, at the greater number."""
-    for name, counts in ANSWERED.items():
-        for on_file in (False, True):
-            few, many = (list(workloads.WORKLOADS[name](count)) for count in counts)
-            less, found = (profile(lines, program, on_file) for lines in (few, many))
-            exponent = math.log(all_of(found) / all_of(less), len(many) / len(few))
-            of_each = matching(found.calls, STATEMENT) / len(many)
-            row([f'`run`, {name}, {"on a file" if on_file else "in memory"}', f'{len(many):,}', f'{of_each:.1f} a request', f'{all_of(found):,}', '', f'n^{exponent:.3f}', *[''] * 3])
+    for name, times in requests.WORKS:
+        for on_file in (True,) if name == 'table' else (False, True):
+            (few, less), (many, found) = (answered(name, times, count, on_file) for count in ANSWERED[name])
+            exponent = math.log(all_of(found) / all_of(less), many / few)
+            of_each = matching(found.calls, STATEMENT) / many
+            title = f'{requests.title_of(name, times)}, {"on a file" if on_file else "in memory"}'
+            row([title, f'{many:,}', f'{of_each:.1f} a request', f'{all_of(found):,}', '', f'n^{exponent:.3f}', *[''] * 3])
 
 
 def opening():

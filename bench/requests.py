@@ -20,6 +20,10 @@ WORKS = [('table', 1), ('declarations', 1), ('trades', 1), ('trades', 2)]
 TITLES = {'table': '`declare`, rows', 'declarations': '`run`, declarations', 'trades': '`run`, trades'}
 
 
+def title_of(name, times):
+    return f'{TITLES[name]}{" sent twice" if times > 1 else ""}'
+
+
 class Work:
     """One workload of one size, in one place; its files lie in a folder of its own below this one."""
 
@@ -66,7 +70,7 @@ class Measurement:
     """One workload in one place: three sizes of it (one on the disk), and the baselines at the largest."""
 
     def __init__(self, place, name, times, folder):
-        self.title = f'{TITLES[name]}{" sent twice" if times > 1 else ""}'
+        self.title = title_of(name, times)
         self.works = [Work(place, name, times, size, folder) for size in (ON_DISK if place == 'disk' else SIZES[name])]
         self.ours, self.of_rust, self.of_python = [[] for _ in self.works], [], []
 

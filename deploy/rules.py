@@ -1,0 +1,350 @@
+"""The rules of docs/REGISTRY.md written down a second time, apart from the registry's program, for recount: a registry in memory, as its requests leave it."""
+import bisect
+import calendar
+import collections
+import datetime
+import functools
+import json
+
+MWH = 1_000_000
+SERIALS = 10 ** 12
+MOST_SERIAL, MOST_ACT, MOST_PARTS = SERIALS - 1, 999_999_999, 100
+ISSUER = 'ISSUER'
+ELECTRICITY = 'electricity'
+PLACES = {1: 'held', 2: 'cancelled', 3: 'expired', 4: 'withdrawn', 5: 'exported'}
+HELD, CANCELLED, EXPIRED, WITHDRAWN, EXPORTED = PLACES
+Place = collections.namedtuple('Place', 'kind account act')
+PLANT = ('country', 'site', 'tech', 'source', 'capacity_w', 'commissioned', 'support')
+LOT = ('origin', 'device', *PLANT, 'first_day', 'last_day', 'issued_on', 'carrier')
+
+
+@functools.cache
+def months_after(day, months):
+    """The same day so many months on, or the last of that month; None after 2099."""
+    year, month, date = map(int, day.split('-'))
+    year, month = year + (month - 1 + months) // 12, (month - 1 + months) % 12 + 1
+    return f'{year:04}-{month:02}-{min(date, calendar.monthrange(year, month)[1]):02}' if year <= 2099 else None
+
+
+def hours(first, last):
+    """The hours of a period of whole days, and one for the change of the clocks."""
+    days = datetime.date.fromisoformat(last) - datetime.date.fromisoformat(first)
+    return 24 * (days.days + 1) + 1
+
+
+def compact(value):
+    """The one JSON text of a command or a notice."""
+    return json.dumps(value, sort_keys=True, separators=(',', ':'), ensure_ascii=False)
+
+
+class Lot(collections.namedtuple('Lot', LOT)):
+    """What the certificates of one declaration state."""
+
+    @property
+    def key(self):
+        return self.origin, self.device, self.first_day
+
+    @property
+    def expires_on(self):
+        return months_after(self.last_day, 18)
+
+    def is_closed(self, today):
+        """Whether its trade is over on a day."""
+        return is_past(months_after(self.last_day, 12), today)
+
+    def is_over(self, today):
+        """Whether its certificates can't be held any more on a day."""
+        return is_past(self.expires_on, today)
+
+    @staticmethod
+    def stated(members):
+        """The lot that the part of a notice states."""
+        return Lot(**{'carrier': ELECTRICITY, **members})
+
+
+def is_past(deadline, today):
+    """Whether the day after a deadline has come. One after 2099 never passes."""
+    return deadline is not None and today > deadline
+
+
+class Certificates:
+    """The lot and the place of each certificate, kept as runs of numbers that may be cut anywhere; and how many are in which place."""
+
+    def __init__(self):
+        self.firsts, self.runs, self.counts = [], {}, collections.Counter()
+
+    def cut(self, number):
+        """Has a run begin at this number, if one goes over it."""
+        at = bisect.bisect_left(self.firsts, number) - 1
+        if at < 0 or self.runs[self.firsts[at]][0] < number:
+            return
+        last, *rest = self.runs[self.firsts[at]]
+        self.runs[self.firsts[at]] = (number - 1, *rest)
+        self.runs[number] = (last, *rest)
+        self.firsts.insert(at + 1, number)
+
+    def within(self, first, last):
+        """The runs of the known numbers of a range."""
+        self.cut(first)
+        self.cut(last + 1)
+        low, high = bisect.bisect_left(self.firsts, first), bisect.bisect_left(self.firsts, last + 1)
+        return [(number, *self.runs[number]) for number in self.firsts[low:high]]
+
+    def add(self, first, last, lot, place):
+        """Gives every number of a range this lot and this place."""
+        for number, end, _, old in self.within(first, last):
+            self.counts[old] -= end - number + 1
+            del self.runs[number]
+        low, high = bisect.bisect_left(self.firsts, first), bisect.bisect_left(self.firsts, last + 1)
+        self.firsts[low:high] = [first]
+        self.runs[first] = (last, lot, place)
+        self.counts[place] += last - first + 1
+
+    def move(self, runs, kind, act=0, account=None):
+        """Gives the certificates of these runs another place, of this account or else of the one that they name. How many they are."""
+        for first, last, lot, place in runs:
+            self.runs[first] = (last, lot, Place(kind, account or place.account, act))
+            self.counts[place] -= last - first + 1
+            self.counts[self.runs[first][2]] += last - first + 1
+        return sum(last - first + 1 for first, last, *_ in runs)
+
+    def joined(self):
+        """The longest runs of one lot and one place."""
+        return joined((first, *self.runs[first]) for first in self.firsts)
+
+
+def joined(runs):
+    """Runs in rising order, with those made one that follow each other and say the same."""
+    longest = []
+    for first, last, *rest in runs:
+        if longest and longest[-1][1] == first - 1 and list(longest[-1][2:]) == rest:
+            longest[-1] = (longest[-1][0], last, *rest)
+        else:
+            longest.append((first, last, *rest))
+    return longest
+
+
+class Wrong(Exception):
+    """A check that an accepted request does not pass, by the refusal's name."""
+
+
+def must(holds, refusal):
+    if not holds:
+        raise Wrong(refusal)
+
+
+COMMANDS = {'import': 'take_in', **{name: name for name in ('open_holder', 'open_account', 'close_account', 'register_device', 'declare', 'correct', 'transfer', 'cancel',
+                                                            'withdraw', 'advance', 'add_peer', 'export')}}
+
+
+class Registry:
+    """A registry as its requests leave it. Each command has a method that makes its checks, carries it out, and gives kind and numbers of its answer."""
+
+    def __init__(self, code, begun, next_serial):
+        self.code, self.today = code, begun
+        self.next = {'serial': next_serial, 'account': 1, 'cancellation': 1, 'withdrawal': 1, 'notice': 1}
+        self.certificates = Certificates()
+        self.lots, self.expiring = {}, collections.defaultdict(list)
+        self.holders, self.accounts, self.devices, self.peers = {}, {}, {}, set()
+        self.declarations, self.corrections, self.left = [], [], {}
+        self.cancellations, self.withdrawals, self.sent, self.taken = {}, {}, {}, {}
+
+    def apply(self, caller, command):
+        name = command['command']
+        must(name in COMMANDS, 'Shape')
+        return getattr(self, COMMANDS[name])(caller, command)
+
+    # what checks and changes share
+
+    def take(self, kind, count=1, most=MOST_ACT):
+        """The next number of a kind, of so many that are taken."""
+        number = self.next[kind]
+        must(number + count - 1 <= most, 'NumbersExhausted')
+        self.next[kind] += count
+        return number
+
+    def holder_of(self, account):
+        return self.accounts[account][0] if account in self.accounts else None
+
+    def must_be_open(self, account):
+        must(account in self.accounts, 'UnknownAccount')
+        must(not self.accounts[account][1], 'AccountClosed')
+
+    def held(self, first, last, by=None):
+        """The runs of a range whose certificates are all known, and held by this account or by any."""
+        runs = self.certificates.within(first, last)
+        must(sum(end - number + 1 for number, end, *_ in runs) == last - first + 1, 'UnknownNumber')
+        must(all(place.kind == HELD and by in (None, place.account) for *_, place in runs), 'NotHeld')
+        return runs
+
+    def tradable(self, first, last, by):
+        runs = self.held(first, last, by)
+        must(not any(lot.is_closed(self.today) for _, _, lot, _ in runs), 'TradeClosed')
+        return runs
+
+    def bring(self, first, last, lot, account):
+        """Certificates that are now held by an account: issued, or taken in."""
+        self.lots[lot.key] = lot
+        self.expiring[lot.expires_on].append((first, last, lot))
+        self.certificates.add(first, last, lot, Place(HELD, account, 0))
+
+    # the commands
+
+    def open_holder(self, caller, of):
+        must(caller == ISSUER, 'NotAllowed')
+        must(of['holder'] not in self.holders and of['holder'] != ISSUER, 'HolderExists')
+        self.holders[of['holder']] = of['name']
+        return 1, 0, 0, 0
+
+    def open_account(self, caller, of):
+        must(caller == ISSUER, 'NotAllowed')
+        must(of['holder'] in self.holders, 'UnknownHolder')
+        number = self.take('account')
+        self.accounts[number] = (of['holder'], 0)
+        return 2, number, 0, 0
+
+    def close_account(self, caller, of):
+        account = of['account']
+        must(caller in (ISSUER, self.holder_of(account)), 'NotAllowed')
+        self.must_be_open(account)
+        must(self.certificates.counts[Place(HELD, account, 0)] == 0, 'AccountNotEmpty')
+        self.accounts[account] = (self.holder_of(account), 1)
+        return 1, 0, 0, 0
+
+    def register_device(self, caller, of):
+        must(caller == ISSUER, 'NotAllowed')
+        must(of['device'] not in self.devices, 'DeviceExists')
+        self.must_be_open(of['account'])
+        self.devices[of['device']] = {'carrier': ELECTRICITY, **of, 'last_day': None, 'carry': 0, 'declared': 0, 'less': 0, 'issued': 0, 'corrected': 0}
+        return 1, 0, 0, 0
+
+    def declare(self, caller, of):
+        must(caller == ISSUER, 'NotAllowed')
+        must(of['device'] in self.devices, 'UnknownDevice')
+        device, first_day, last_day, net = self.devices[of['device']], of['first_day'], of['last_day'], of['gross_wh'] - of['aux_wh']
+        self.must_be_open(device['account'])
+        must(first_day <= last_day and first_day[:7] == last_day[:7], 'PeriodSpan')
+        must(last_day < self.today, 'FuturePeriod')
+        must(first_day >= device['commissioned'], 'BeforeCommissioning')
+        must(device['last_day'] is None or first_day > device['last_day'], 'PeriodOrder')
+        must(not is_past(months_after(last_day, 18), self.today), 'Stale')
+        must(net >= 0, 'AuxExceedsGross')
+        must(of['gross_wh'] <= device['capacity_w'] * hours(first_day, last_day), 'OverCapacity')
+        due, carry = divmod(device['carry'] + net, MWH)
+        serial = self.take('serial', due, MOST_SERIAL)
+        self.declarations.append((of['device'], first_day, last_day, of['gross_wh'], of['aux_wh']))
+        self.left[of['device'], first_day] = net
+        device.update(last_day=last_day, carry=carry, declared=device['declared'] + net, issued=device['issued'] + due)
+        if due == 0:
+            return 3, carry, 0, 0
+        first = self.code * SERIALS + serial
+        plant = {member: device[member] for member in (*PLANT, 'carrier')}
+        self.bring(first, first + due - 1, Lot(origin=self.code, device=of['device'], first_day=first_day, last_day=last_day, issued_on=self.today, **plant), device['account'])
+        return 3, carry, first, first + due - 1
+
+    def correct(self, caller, of):
+        must(caller == ISSUER, 'NotAllowed')
+        must(of['device'] in self.devices, 'UnknownDevice')
+        device, period, less = self.devices[of['device']], (of['device'], of['first_day']), of['less_wh']
+        must(period in self.left, 'UnknownDeclaration')
+        must(less <= self.left[period], 'OverCorrected')
+        excess, carry = -((device['carry'] - less) // MWH), (device['carry'] - less) % MWH
+        first, last = (int(of['first']), int(of['last'])) if of['first'] else (1, 0)
+        must(last - first + 1 == excess, 'WrongCount')
+        act = 0
+        if excess:
+            runs = self.held(first, last)
+            must(all((lot.origin, lot.device) == (self.code, of['device']) for _, _, lot, _ in runs), 'OtherDevice')
+            act = self.withdrawn(runs, first, last, of['reason'])
+        self.left[period] -= less
+        self.corrections.append((*period, less, act))
+        device.update(carry=carry, less=device['less'] + less, corrected=device['corrected'] + excess)
+        return 10, carry, excess, act
+
+    def transfer(self, caller, of):
+        must(caller == self.holder_of(of['giver']), 'NotAllowed')
+        must(of['giver'] != of['taker'], 'SameAccount')
+        self.must_be_open(of['taker'])
+        runs = self.tradable(int(of['first']), int(of['last']), of['giver'])
+        return 4, self.certificates.move(runs, HELD, account=of['taker']), 0, 0
+
+    def cancel(self, caller, of):
+        must(caller == self.holder_of(of['account']), 'NotAllowed')
+        must(of['use_first'] <= of['use_last'], 'UsePeriod')
+        first, last = int(of['first']), int(of['last'])
+        runs = self.held(first, last, of['account'])
+        act = self.take('cancellation')
+        self.cancellations[act] = (of['account'], first, last, of['beneficiary'], of['use_first'], of['use_last'], self.today)
+        return 5, act, self.certificates.move(runs, CANCELLED, act), 0
+
+    def withdrawn(self, runs, first, last, reason):
+        """Takes certificates back; the number of the act."""
+        act = self.take('withdrawal')
+        self.withdrawals[act] = (first, last, reason, self.today)
+        self.certificates.move(runs, WITHDRAWN, act)
+        return act
+
+    def withdraw(self, caller, of):
+        must(caller == ISSUER, 'NotAllowed')
+        first, last = int(of['first']), int(of['last'])
+        return 6, self.withdrawn(self.held(first, last), first, last, of['reason']), last - first + 1, 0
+
+    def advance(self, caller, of):
+        must(caller == ISSUER, 'NotAllowed')
+        must(of['day'] > self.today, 'DateBackwards')
+        self.today = of['day']
+        over = [deadline for deadline in self.expiring if is_past(deadline, self.today)]
+        brought = [span for deadline in over for span in self.expiring.pop(deadline)]       # nothing with these deadlines can come in any more
+        return 7, sum(self.expired(*span) for span in brought), 0, 0
+
+    def expired(self, first, last, lot):
+        """Has the certificates of a lot expire that are held; how many they are."""
+        return self.certificates.move([run for run in self.certificates.within(first, last) if run[2] == lot and run[3].kind == HELD], EXPIRED)
+
+    def add_peer(self, caller, of):
+        must(caller == ISSUER, 'NotAllowed')
+        must(of['peer'] not in self.peers and of['peer'] != self.code, 'PeerExists')
+        self.peers.add(of['peer'])
+        return 1, 0, 0, 0
+
+    def export(self, caller, of):
+        must(caller == self.holder_of(of['giver']), 'NotAllowed')
+        must(of['peer'] in self.peers, 'UnknownPeer')
+        runs = self.tradable(int(of['first']), int(of['last']), of['giver'])
+        parts = joined(run[:3] for run in runs)
+        must(len(parts) <= MOST_PARTS, 'TooManyParts')
+        act = self.take('notice')
+        self.sent[act] = (of['giver'], notice_text(self.code, of['peer'], act, of['account'], parts))
+        return 8, act, self.certificates.move(runs, EXPORTED, act), 0
+
+    def arriving(self, part):
+        """The range and the lot of a notice's part, where they may come in."""
+        first, last, lot = int(part['first']), int(part['last']), Lot.stated(part['lot'])
+        runs = self.certificates.within(first, last)
+        must(not lot.is_over(self.today), 'Stale')
+        must(lot.origin != self.code or sum(end - number + 1 for number, end, *_ in runs) == last - first + 1, 'UnknownNumber')
+        must(all(place.kind == EXPORTED for *_, place in runs), 'NumberTaken')
+        must(all(known == lot for _, _, known, _ in runs) and self.lots.get(lot.key, lot) == lot, 'LotDiffers')
+        return first, last, lot
+
+    def take_in(self, caller, of):
+        notice = of['notice']
+        source = notice['sender'], notice['number']
+        must(caller == ISSUER, 'NotAllowed')
+        must(notice['addressee'] == self.code, 'WrongRegistry')
+        must(notice['sender'] in self.peers, 'UnknownPeer')
+        must(source not in self.taken, 'NoticeConflict')
+        self.must_be_open(notice['account'])
+        arriving = [self.arriving(part) for part in notice['parts']]
+        for first, last, lot in arriving:
+            self.bring(first, last, lot, notice['account'])
+        self.taken[source] = compact(notice)
+        return 9, sum(last - first + 1 for first, last, _ in arriving), 0, 0
+
+
+def notice_text(sender, addressee, number, account, parts):
+    """The text of a notice; its version is 2 where a lot has another carrier than electricity."""
+    version = 2 if any(lot.carrier != ELECTRICITY for *_, lot in parts) else 1
+    stated = [{member: value for member, value in lot._asdict().items() if version == 2 or member != 'carrier'} for *_, lot in parts]
+    return compact({'sender': sender, 'addressee': addressee, 'number': number, 'account': account, 'version': version,
+                    'parts': [{'first': f'{first:014}', 'last': f'{last:014}', 'lot': lot} for (first, last, _), lot in zip(parts, stated)]})
