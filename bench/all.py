@@ -1,4 +1,4 @@
-"""Runs the whole bench, some twenty minutes, and prints the tables of README.md as Markdown.
+"""Runs the whole bench, in less than half an hour, and prints the tables of README.md as Markdown.
 
 usage: python3 bench/all.py            prints them
        python3 bench/all.py --page     puts them into bench/README.md instead, between its two marks
