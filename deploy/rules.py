@@ -137,6 +137,15 @@ COMMANDS = {'import': 'take_in', **{name: name for name in ('open_holder', 'open
                                                             'withdraw', 'advance', 'add_peer', 'export')}}
 
 
+MEMBERS = {name: set(members.split()) for name, members in {
+    'open_holder': 'holder name', 'open_account': 'holder', 'close_account': 'account', 'advance': 'day', 'add_peer': 'peer', 'import': 'notice',
+    'register_device': 'device account country site tech source capacity_w commissioned support', 'declare': 'device first_day last_day gross_wh aux_wh',
+    'correct': 'device first_day less_wh first last reason', 'transfer': 'giver taker first last', 'withdraw': 'first last reason',
+    'cancel': 'account first last beneficiary use_first use_last', 'export': 'giver peer account first last'}.items()}
+KINDS = {'notice': dict, **dict.fromkeys(('account', 'capacity_w', 'gross_wh', 'aux_wh', 'less_wh', 'giver', 'taker', 'peer'), int)}
+"""The members of each command, and of which kind they are, if not strings (docs/FORMATS.md)."""
+
+
 class Registry:
     """A registry as its requests leave it. Each command has a method that makes its checks, carries it out, and gives kind and numbers of its answer."""
 
@@ -151,7 +160,9 @@ class Registry:
 
     def apply(self, caller, command):
         name = command['command']
-        must(name in COMMANDS, 'Shape')
+        must(name in COMMANDS and command.keys() - {'command'} - ({'carrier'} if name == 'register_device' else set()) == MEMBERS[name], 'Shape')
+        must(all(type(value) is KINDS.get(member, str) for member, value in command.items()), 'Shape')
+        must(command.get('carrier') != ELECTRICITY, 'Shape')        # it is left out
         return getattr(self, COMMANDS[name])(caller, command)
 
     # what checks and changes share
