@@ -1,4 +1,4 @@
-"""Runs the whole bench, in less than half an hour, and prints the tables of README.md as Markdown.
+"""Runs the whole bench, in about half an hour, and prints the tables of README.md as Markdown.
 
 usage: python3 bench/all.py            prints them
        python3 bench/all.py --page     puts them into bench/README.md instead, between its two marks
@@ -17,6 +17,7 @@ import time
 
 import connections
 import instructions
+import postgres
 import requests
 import same
 import statement
@@ -59,6 +60,10 @@ def tables():
     print(f'\n{below}\n' if below else '')
     head(connections.HEAD)
     connections.main()
+    told('PostgreSQL')
+    print()
+    head(postgres.HEAD)
+    postgres.main([place for place in PLACES if usable(place)])
     if instructions.is_there():
         told('instructions')
         print()

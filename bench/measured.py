@@ -4,7 +4,6 @@ The program is crates/goo/out/goo, else what the variable GOO names. The plain r
 keeps in /usr/share/cargo/registry, or is the one that the variable PLAIN names.
 """
 import functools
-import math
 import os
 import shutil
 import signal
@@ -23,7 +22,7 @@ PLACES = {'memory': None, 'tmpfs': '/dev/shm', 'disk': os.environ.get('FOLDER', 
 """Where the registry is kept: nowhere, or in files below such a folder."""
 NEW = ['--code', '7', '--today', '2025-03-01']
 SECONDS = 600
-HEAD = ['Work', 'Where', 'n', 'Processor seconds', 'n a second', 'by the clock', 'Peak MB', 'Grows as', 'Rust seconds', 'Ratio', 'Rust peak MB', 'Python seconds', 'Ratio']
+HEAD = ['Work', 'Where', 'n', 'Processor seconds', 'n a second', 'by the clock', 'Peak MB', 'Rust seconds', 'Ratio', 'Rust peak MB', 'as it comes', 'Python seconds', 'Ratio']
 MANIFEST = '''[package]
 name = "plain"
 version = "0.0.0"
@@ -73,11 +72,11 @@ def megabytes(run):
     return f'{run.memory:.0f}' if run.clock > 0.1 else ''
 
 
-def measured_row(work, place, count, run, grows, of_rust=None, of_python=None):
+def measured_row(work, place, count, run, of_rust=None, as_it_comes=None, of_python=None):
     """A row of the table that HEAD heads."""
     rates = [f'{run.seconds:.2f}', f'{count / run.seconds:,.0f}', f'{count / run.clock:,.0f}', megabytes(run)]
-    beside = [f'{of_rust.seconds:.2f}', ratio(run.seconds, of_rust.seconds), megabytes(of_rust)] if of_rust else [''] * 3
-    row([work, place, f'{count:,}', *rates, grows, *beside, *([f'{of_python:.2f}', ratio(run.seconds, of_python)] if of_python else [''] * 2)])
+    beside = [f'{of_rust.seconds:.2f}', ratio(run.seconds, of_rust.seconds), megabytes(of_rust), megabytes(as_it_comes)] if of_rust else [''] * 4
+    row([work, place, f'{count:,}', *rates, *beside, *([f'{of_python:.2f}', ratio(run.seconds, of_python)] if of_python else [''] * 2)])
 
 
 @functools.cache
@@ -200,19 +199,14 @@ def kept():
     return tempfile.TemporaryDirectory(prefix='goo-bench-plain-')
 
 
-def rust_run(path=None, **streams):
+def rust_run(path=None, *words, **streams):
     """A run of the baseline in Rust, or None."""
-    return Run([*rust(), *([path] if path else [])], **streams) if rust() else None
+    return Run([*rust(), *([path] if path else []), *words], **streams) if rust() else None
 
 
 def least(runs):
     """The run of the fewest processor seconds, of those that there are."""
     return min((run for run in runs if run), key=lambda it: it.seconds, default=None)
-
-
-def growth(seconds):
-    """How the time grows each time that the size is doubled: 1 where it goes with the size."""
-    return ', '.join(f'n^{math.log2(more / less):.2f}' for less, more in zip(seconds, seconds[1:]))
 
 
 def machine():

@@ -1,16 +1,21 @@
 //! A plain registry over Debian's `rusqlite`: what the same work costs without a proof.
 //!
-//! usage: plain CREATE [DATABASE] < LINES
+//! usage: plain CREATE [DATABASE] [--as-it-comes] < LINES
+//!        plain CREATE [DATABASE] --serve PORT
 //!
 //! Reads its input whole, so that a read that fails leaves nothing done, and then writes an outcome line for each request line, as `goo run` does, over the
-//! registry's own tables (the texts of the file CREATE). It looks up the receipt, checks what the registry checks, and writes the very rows that the registry writes, one
-//! transaction a request; in memory unless a DATABASE is given: there in a file with a log, synced at each commit. It knows
-//! the commands of `workloads.py` and `add_peer`, and electricity alone; its code and its date are those of the measurements. Ends with status 1 where a
-//! request is not accepted. `measured.py` builds it in a temporary folder.
+//! registry's own tables (the texts of the file CREATE). With --as-it-comes it reads and answers line by line, which takes less memory. It looks up the receipt, checks
+//! what the registry checks, and writes the very rows that the registry writes, one transaction a request; in memory unless a DATABASE is given: there in a file with a
+//! log, synced at each commit, locked for this program alone and in pages of the registry's size. It knows the commands of `workloads.py` and `add_peer`, and electricity
+//! alone; its code and its date are those of the measurements. Ends with status 1 where a request is not accepted.
+//!
+//! With --serve it answers `POST /v1/requests` and `GET /v1/certificates/N` over HTTP at a port of 127.0.0.1, one connection after another. A connection goes on
+//! for as long as the client likes, unless it asks for `Connection: close`. `measured.py` builds it in a temporary folder.
 
 use rusqlite::{params, Connection, OptionalExtension, Params, Row};
 use serde_json::{Map, Value};
-use std::io::{Read, Write};
+use std::io::{BufRead, BufReader, Read, Write};
+use std::net::{TcpListener, TcpStream};
 
 const CODE: i64 = 7;
 const TODAY: &str = "2025-03-01";
@@ -19,6 +24,9 @@ const LAST_ACT: i64 = 999_999_999;
 const MWH: i64 = 1_000_000;
 const HELD: i64 = 1;
 const CANCELLED: i64 = 2;
+/// The bytes of a page, and how many pages the log takes before they go to the database: as the registry has them.
+const PAGE: i64 = 1_024;
+const LOG_PAGES: i64 = 4_000;
 
 /// Why a request is not accepted.
 enum Stop {
@@ -103,7 +111,10 @@ impl Plain {
             None => Connection::open_in_memory()?,
             Some(path) => {
                 let database = Connection::open(path)?;
+                database.pragma_update(None, "page_size", PAGE)?;
+                database.pragma_update(None, "locking_mode", "EXCLUSIVE")?;
                 database.pragma_update(None, "journal_mode", "WAL")?;
+                database.pragma_update(None, "wal_autocheckpoint", LOG_PAGES)?;
                 database.pragma_update(None, "synchronous", "FULL")?;
                 database
             }
@@ -375,21 +386,127 @@ fn outcome(word: &str, (kind, one, two, three): Reply) -> String {
     format!(r#"{{"outcome":"{}","reply":{}}}"#, word, reply)
 }
 
-fn main() -> Result<(), Box<dyn std::error::Error>> {
-    let mut words = std::env::args().skip(1);
-    let create = std::fs::read_to_string(words.next().ok_or("usage: plain CREATE [DATABASE]")?)?;
-    let plain = Plain::open(&create, words.next())?;
-    let mut out = std::io::BufWriter::new(std::io::stdout().lock());
-    let mut all_accepted = true;
-    let mut input = String::new();
-    std::io::stdin().lock().read_to_string(&mut input)?;
-    for line in input.lines() {
-        if !line.is_empty() {
-            let outcome = plain.line(line)?;
-            all_accepted &= !outcome.ends_with(r#""refused"}"#) && !outcome.ends_with(r#""unreadable"}"#);
-            writeln!(out, "{}", outcome)?;
+/// A request over HTTP: what the measurements send, and no more.
+struct Asked {
+    target: String,
+    caller: String,
+    body: String,
+    closes: bool,
+}
+
+/// The next request of a connection, or none where the client is done.
+fn asked(stream: &mut impl BufRead) -> std::io::Result<Option<Asked>> {
+    let (mut line, mut length) = (String::new(), 0);
+    if stream.read_line(&mut line)? == 0 {
+        return Ok(None);
+    }
+    let target = line.split(' ').nth(1).unwrap_or("").to_string();
+    let mut asked = Asked { target, caller: String::new(), body: String::new(), closes: false };
+    loop {
+        line.clear();
+        stream.read_line(&mut line)?;
+        match line.trim_end().split_once(": ") {
+            None => break,
+            Some((name, value)) if name.eq_ignore_ascii_case("Content-Length") => length = value.parse().unwrap_or(0),
+            Some((name, value)) if name.eq_ignore_ascii_case("GOO-Caller") => asked.caller = value.to_string(),
+            Some((name, value)) if name.eq_ignore_ascii_case("Connection") => asked.closes = value.eq_ignore_ascii_case("close"),
+            Some(_) => {}
         }
     }
-    out.flush()?;
+    let mut body = vec![0; length];
+    stream.read_exact(&mut body)?;
+    asked.body = String::from_utf8_lossy(&body).into_owned();
+    Ok(Some(asked))
+}
+
+impl Plain {
+    /// What is shown of a certificate to the holder of its account and to the issuing body.
+    fn certificate(&self, caller: &str, number: i64) -> rusqlite::Result<Option<String>> {
+        let statement = "SELECT account, act, kind, capacity_w, commissioned, country, device, first_day, issued_on, last_day, origin, site, source, support, tech \
+                         FROM piece JOIN lot ON lot.id = piece.lot WHERE first <= ?1 AND ?1 <= last ORDER BY first DESC LIMIT 1";
+        let found = self.find(statement, [number], |row| {
+            let text = |at| row.get::<_, String>(at);
+            let lot = format!(
+                r#"{{"capacity_w":{},"commissioned":"{}","country":"{}","device":"{}","first_day":"{}","issued_on":"{}","last_day":"{}","origin":{},"site":"{}","source":"{}","support":"{}","tech":"{}"}}"#,
+                row.get::<_, i64>(3)?, text(4)?, text(5)?, text(6)?, text(7)?, text(8)?, text(9)?, row.get::<_, i64>(10)?, text(11)?, text(12)?, text(13)?, text(14)?
+            );
+            let (account, act, kind) = (row.get::<_, i64>(0)?, row.get::<_, i64>(1)?, row.get::<_, i64>(2)?);
+            let place = ["", "held", "cancelled", "expired", "withdrawn", "exported"][kind as usize];
+            Ok((account, format!(r#"{{"account":{},"act":{},"lot":{},"number":"{:014}","place":"{}"}}"#, account, act, lot, number, place)))
+        })?;
+        match found {
+            Some((account, shown)) if caller == "ISSUER" || self.account(account)?.map_or(false, |(holder, _)| holder == caller) => Ok(Some(shown)),
+            _ => Ok(None),
+        }
+    }
+
+    /// Answers the requests of a connection until the client is done.
+    fn converse(&self, stream: TcpStream) -> Result<(), Box<dyn std::error::Error>> {
+        stream.set_nodelay(true)?;
+        let (mut input, mut output) = (BufReader::new(stream.try_clone()?), stream);
+        while let Some(asked) = asked(&mut input)? {
+            let number = asked.target.strip_prefix("/v1/certificates/").and_then(|text| text.parse().ok());
+            let text = match number {
+                Some(number) => self.certificate(&asked.caller, number)?,
+                None => Some(self.line(&format!("{} {}", asked.caller, asked.body))?),
+            };
+            let status = match &text {
+                None => "404 Not Found",
+                Some(text) if text.ends_with(r#""refused"}"#) => "409 Conflict",
+                Some(text) if text.ends_with(r#""unreadable"}"#) => "400 Bad Request",
+                Some(_) => "200 OK",
+            };
+            let (text, goes_on) = (text.unwrap_or_default(), if asked.closes { "close" } else { "keep-alive" });
+            let head = format!("HTTP/1.1 {}\r\nContent-Type: application/json\r\nContent-Length: {}\r\nConnection: {}\r\n\r\n", status, text.len(), goes_on);
+            output.write_all((head + &text).as_bytes())?;
+            if asked.closes {
+                break;
+            }
+        }
+        Ok(())
+    }
+
+    /// Serves one connection after another; a client that goes away in the middle is none of the others' matter.
+    fn serve(&self, port: &str) -> Result<(), Box<dyn std::error::Error>> {
+        let listener = TcpListener::bind(("127.0.0.1", port.parse()?))?;
+        println!("listening 127.0.0.1:{}", port);
+        for stream in listener.incoming() {
+            let _ = self.converse(stream?);
+        }
+        Ok(())
+    }
+
+    /// Answers lines; whether all were accepted.
+    fn run<T: AsRef<str>>(&self, lines: impl Iterator<Item = std::io::Result<T>>) -> Result<bool, Box<dyn std::error::Error>> {
+        let (mut out, mut all_accepted) = (std::io::BufWriter::new(std::io::stdout().lock()), true);
+        for line in lines {
+            let line = line?;
+            if !line.as_ref().is_empty() {
+                let outcome = self.line(line.as_ref())?;
+                all_accepted &= !outcome.ends_with(r#""refused"}"#) && !outcome.ends_with(r#""unreadable"}"#);
+                writeln!(out, "{}", outcome)?;
+            }
+        }
+        out.flush()?;
+        Ok(all_accepted)
+    }
+}
+
+fn main() -> Result<(), Box<dyn std::error::Error>> {
+    let mut words: Vec<String> = std::env::args().skip(1).collect();
+    let port = words.iter().position(|word| word == "--serve").map(|at| words.drain(at..).nth(1).unwrap_or_default());
+    let as_it_comes = words.iter().position(|word| word == "--as-it-comes").map(|at| words.remove(at)).is_some();
+    let create = std::fs::read_to_string(words.first().ok_or("usage: plain CREATE [DATABASE] [--as-it-comes] [--serve PORT]")?)?;
+    let plain = Plain::open(&create, words.get(1).cloned())?;
+    if let Some(port) = port {
+        return plain.serve(&port);
+    }
+    let all_accepted = if as_it_comes {
+        plain.run(std::io::stdin().lock().lines())?
+    } else {
+        let mut input = String::new();
+        std::io::stdin().lock().read_to_string(&mut input)?;
+        plain.run(input.lines().map(Ok))?
+    };
     std::process::exit(if all_accepted { 0 } else { 1 })
 }

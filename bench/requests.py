@@ -2,20 +2,20 @@
 
 usage: python3 bench/requests.py [memory|tmpfs|disk ..]
 
-Each row: the processor seconds of the largest size, requests a second, peak memory, and how the time grows over n, 2n and 4n requests. All rows are gone over turn by turn,
-each with its three sizes and both baselines, so that minutes in which the machine is slow meet all of them alike; of each the least of fourteen runs counts, and the rows are
+Each row: the processor seconds, requests a second, and peak memory, beside the same of both baselines; of plain.rs also the peak where it reads its input as it comes and
+not whole. All rows are gone over turn by turn, so that minutes in which the machine is slow meet all of them alike; of each the least of some runs counts, and the rows are
 printed at the end. The processor seconds of program and plain.rs are those of the whole process, those of plain.py of its
-transactions alone. On the disk there is one size. A table needs a file; the baselines are given its rows as lines.
+transactions alone. On the disk there are fewer requests. A table needs a file; the baselines are given its rows as lines.
 """
 import sys
 from contextlib import ExitStack
 from pathlib import Path
 
-from measured import HEAD, NEW, PLACES, goo, growth, head, least, machine, measured_row, python, room, rust_run, usable, workload
+from measured import HEAD, NEW, PLACES, goo, head, least, machine, measured_row, python, room, rust_run, usable, workload
 
-TURNS = 14
-SIZES = {'table': (4_000, 8_000, 16_000), 'declarations': (4_000, 8_000, 16_000), 'trades': (3_000, 6_000, 12_000)}
-ON_DISK = (1_500,)
+TURNS = 6
+SIZES = {'table': 16_000, 'declarations': 16_000, 'trades': 12_000}
+ON_DISK = 1_500
 WORKS = [('table', 1), ('declarations', 1), ('trades', 1), ('trades', 2)]
 TITLES = {'table': '`declare`, rows', 'declarations': '`run`, declarations', 'trades': '`run`, trades'}
 
@@ -53,11 +53,11 @@ class Work:
             goo('run', '--db', path, given=self.before)
         return goo('declare' if self.is_table else 'run', '--db', path, given=self.given)
 
-    def of_rust(self):
+    def of_rust(self, *words):
         path = None if self.place == 'memory' else self.fresh('rust')
         if self.is_table:
             rust_run(path, given=self.before)
-        return rust_run(path, given=self.lines)
+        return rust_run(path, *words, given=self.lines)
 
     def of_python(self):
         path = ':memory:' if self.place == 'memory' else self.fresh('python')
@@ -67,23 +67,22 @@ class Work:
 
 
 class Measurement:
-    """One workload in one place: three sizes of it (one on the disk), and the baselines at the largest."""
+    """One workload in one place, and the baselines."""
 
     def __init__(self, place, name, times, folder):
-        self.title = title_of(name, times)
-        self.works = [Work(place, name, times, size, folder) for size in (ON_DISK if place == 'disk' else SIZES[name])]
-        self.ours, self.of_rust, self.of_python = [[] for _ in self.works], [], []
+        self.title, self.work = title_of(name, times), Work(place, name, times, ON_DISK if place == 'disk' else SIZES[name], folder)
+        self.ours, self.of_rust, self.as_it_comes, self.of_python = [], [], [], []
 
     def take_a_turn(self):
-        for work, runs in zip(self.works, self.ours):
-            runs.append(work.ours())
-        self.of_rust.append(self.works[-1].of_rust())
-        self.of_python.append(self.works[-1].of_python())
+        self.ours.append(self.work.ours())
+        self.of_rust.append(self.work.of_rust())
+        self.as_it_comes.append(self.work.of_rust('--as-it-comes'))
+        self.of_python.append(self.work.of_python())
 
     def show(self):
         """Prints the row."""
-        largest, ours = self.works[-1], [least(runs) for runs in self.ours]
-        measured_row(self.title, largest.place, largest.count, ours[-1], growth([it.seconds for it in ours]), least(self.of_rust), min(self.of_python))
+        runs = [least(of) for of in (self.ours, self.of_rust, self.as_it_comes)]
+        measured_row(self.title, self.work.place, self.work.count, *runs, min(self.of_python))
 
 
 def main(places):

@@ -1,4 +1,4 @@
-"""Opening a file, and `goo statement` of an account of n, 2n and 4n runs, beside Python's sqlite3 module printing the same text by one ordered query.
+"""Opening a file, and `goo statement` of an account of many runs, beside Python's sqlite3 module printing the same text by one ordered query.
 
 usage: python3 bench/statement.py
 
@@ -12,10 +12,10 @@ import sys
 import time
 from contextlib import closing
 
-from measured import HEAD, NEW, fast, goo, growth, head, least, live, machine, measured_row, room, workload
+from measured import HEAD, NEW, fast, goo, head, least, live, machine, measured_row, room, workload
 
-TURNS = 15
-SIZES = (8_000, 16_000, 32_000)
+TURNS = 6
+SIZE = 32_000
 QUERY = '''SELECT first, last, device, first_day, last_day, tech, source FROM piece JOIN lot ON lot.id = piece.lot WHERE account = 1 AND kind = 1 ORDER BY first'''
 
 
@@ -42,15 +42,12 @@ def checked(path):
     return time.process_time() - start
 
 
-def made(below, name):
-    """Files of n, 2n and 4n by a workload, each in a folder of its own."""
-    for size in SIZES:
-        folder = below / str(size)
-        folder.mkdir()
-        workload(name, size, folder / 'lines')
-        goo('init', '--db', folder / 'registry', *NEW)
-        goo('run', '--db', folder / 'registry', given=folder / 'lines')
-        yield folder
+def made(folder, name):
+    """A file of a workload, in this folder."""
+    workload(name, SIZE, folder / 'lines')
+    goo('init', '--db', folder / 'registry', *NEW)
+    goo('run', '--db', folder / 'registry', given=folder / 'lines')
+    return folder
 
 
 def checked_run(folder):
@@ -68,9 +65,9 @@ def stated(folder):
 
 
 def in_turns(*works):
-    """Each work, a call and the files of its three sizes, in turns: of each file the best run, and the least seconds of what stands beside it."""
-    turns = [[[call(folder) for folder in folders] for call, folders in works] for _ in range(TURNS)]
-    return [[(least(run for run, _ in of_one), min(seconds for _, seconds in of_one)) for of_one in zip(*of_work)] for of_work in zip(*turns)]
+    """Each work, a call and a folder, in turns: of each the best run, and the least seconds of what stands beside it."""
+    turns = [[call(folder) for call, folder in works] for _ in range(TURNS)]
+    return [(least(run for run, _ in of_work), min(seconds for _, seconds in of_work)) for of_work in zip(*turns)]
 
 
 def beyond(own, opening):
@@ -79,25 +76,24 @@ def beyond(own, opening):
     return own
 
 
-def show(work, place, found):
-    """Prints the row of a work over files of the three sizes."""
-    own, of_python = found[-1]
-    measured_row(work, place, SIZES[-1], own, growth([it.seconds for it, _ in found]), None, of_python)
+def show(work, place, own, of_python):
+    """Prints the row of a work."""
+    measured_row(work, place, SIZE, own, of_python=of_python)
 
 
 def main():
     """Prints the rows, and gives back what is to be said below the table."""
     place = fast()
     with room(place) as of_declarations, room(place) as of_runs:
-        declarations, runs = [*made(of_declarations, 'declarations')], [*made(of_runs, 'runs')]
-        openings, of_holdings, statements = in_turns((checked_run, declarations), (checked_run, runs), (stated, runs))
-        whole, ten = [live(of_runs, 'statement', account, '--db', runs[-1] / 'registry') for account in (1, 3)]
-    show('opening a file, declarations', place, openings)
-    show('opening a file, runs', place, of_holdings)
-    show('`statement` beyond opening, runs', place, [(beyond(own, opening), query) for (own, query), (opening, _) in zip(statements, of_holdings)])
+        declarations, runs = made(of_declarations, 'declarations'), made(of_runs, 'runs')
+        opening, of_holdings, (own, query) = in_turns((checked_run, declarations), (checked_run, runs), (stated, runs))
+        whole, ten = [live(of_runs, 'statement', account, '--db', runs / 'registry') for account in (1, 3)]
+    show('opening a file, declarations', place, *opening)
+    show('opening a file, runs', place, *of_holdings)
+    show('`statement` beyond opening, runs', place, beyond(own, of_holdings[0]), query)
     if not whole or not ten:
         return ''
-    return f'While the statement of {SIZES[-1]:,} runs is written {whole[2]:,} bytes are live at most, and {ten[2]:,} while one of ten runs of the same file is.'
+    return f'While the statement of {SIZE:,} runs is written {whole[2]:,} bytes are live at most, and {ten[2]:,} while one of ten runs of the same file is.'
 
 
 if __name__ == '__main__':

@@ -125,12 +125,45 @@ def joined(runs):
 
 
 class Wrong(Exception):
-    """A check that an accepted request does not pass, by the refusal's name."""
+    """A check that a request does not pass: the refusal's name, and the least certificate at fault where the refusal names one."""
+
+    def __init__(self, refusal, number=None):
+        super().__init__(refusal)
+        self.refusal, self.number = refusal, number
+
+
+class Again(Wrong):
+    """A notice that was taken in before, with the answer of that time."""
+
+    def __init__(self, answer):
+        super().__init__('NoticeConflict')
+        self.answer = answer
 
 
 def must(holds, refusal):
     if not holds:
         raise Wrong(refusal)
+
+
+def must_none(least, refusal):
+    """There is no certificate at fault, and so no least one."""
+    if least is not None:
+        raise Wrong(refusal, least)
+
+
+def least(numbers):
+    """The first of rising numbers, or None."""
+    return next(iter(numbers), None)
+
+
+def absent(runs, first, last):
+    """The numbers of a range at which a gap between its known runs begins, rising."""
+    for number, end, *_ in runs:
+        if number > first:
+            yield first
+        first = end + 1
+    if first <= last:
+        yield first
 
 
 COMMANDS = {'import': 'take_in', **{name: name for name in ('open_holder', 'open_account', 'close_account', 'register_device', 'declare', 'correct', 'transfer', 'cancel',
@@ -181,16 +214,22 @@ class Registry:
         must(account in self.accounts, 'UnknownAccount')
         must(not self.accounts[account][1], 'AccountClosed')
 
-    def held(self, first, last, by=None):
-        """The runs of a range whose certificates are all known, and held by this account or by any."""
+    def known(self, first, last):
+        """The runs of a range whose certificates are all known."""
         runs = self.certificates.within(first, last)
-        must(sum(end - number + 1 for number, end, *_ in runs) == last - first + 1, 'UnknownNumber')
-        must(all(place.kind == HELD and by in (None, place.account) for *_, place in runs), 'NotHeld')
+        must_none(least(absent(runs, first, last)), 'UnknownNumber')
+        return runs
+
+    def held(self, first, last, by=None):
+        """The same where all are held by this account, or by any."""
+        runs = self.known(first, last)
+        must_none(least(number for number, _, _, place in runs if place.kind != HELD or by not in (None, place.account)), 'NotHeld')
         return runs
 
     def tradable(self, first, last, by):
+        """The same where each may still be traded."""
         runs = self.held(first, last, by)
-        must(not any(lot.is_closed(self.today) for _, _, lot, _ in runs), 'TradeClosed')
+        must_none(least(number for number, _, lot, _ in runs if lot.is_closed(self.today)), 'TradeClosed')
         return runs
 
     def bring(self, first, last, lot, account):
@@ -264,9 +303,8 @@ class Registry:
         must(last - first + 1 == excess, 'WrongCount')
         act = 0
         if excess:
-            runs = self.held(first, last)
-            must(all((lot.origin, lot.device) == (self.code, of['device']) for _, _, lot, _ in runs), 'OtherDevice')
-            act = self.withdrawn(runs, first, last, of['reason'])
+            must_none(least(number for number, _, lot, _ in self.known(first, last) if (lot.origin, lot.device) != (self.code, of['device'])), 'OtherDevice')
+            act = self.withdrawn(self.held(first, last), first, last, of['reason'])
         self.left[period] -= less
         self.corrections.append((*period, less, act))
         device.update(carry=carry, less=device['less'] + less, corrected=device['corrected'] + excess)
@@ -328,29 +366,37 @@ class Registry:
         self.sent[act] = (of['giver'], notice_text(self.code, of['peer'], act, of['account'], parts))
         return 8, act, self.certificates.move(runs, EXPORTED, act), 0
 
-    def arriving(self, part):
-        """The range and the lot of a notice's part, where they may come in."""
-        first, last, lot = int(part['first']), int(part['last']), Lot.stated(part['lot'])
-        runs = self.certificates.within(first, last)
-        must(not lot.is_over(self.today), 'Stale')
-        must(lot.origin != self.code or sum(end - number + 1 for number, end, *_ in runs) == last - first + 1, 'UnknownNumber')
-        must(all(place.kind == EXPORTED for *_, place in runs), 'NumberTaken')
-        must(all(known == lot for _, _, known, _ in runs) and self.lots.get(lot.key, lot) == lot, 'LotDiffers')
-        return first, last, lot
+    def differing(self, first, lot, runs):
+        """The numbers of a part whose lot, or whose own content, is known to be another."""
+        if self.lots.get(lot.key, lot) != lot:
+            yield first
+        yield from (number for number, _, known, _ in runs if known != lot)
+
+    def arriving(self, parts):
+        """The range and the lot of each part of a notice, where all may come in."""
+        arriving = [(int(part['first']), int(part['last']), Lot.stated(part['lot'])) for part in parts]
+        met = [(*each, self.certificates.within(*each[:2])) for each in arriving]
+        must(not any(lot.is_over(self.today) for _, _, lot in arriving), 'Stale')
+        must_none(least(number for first, last, lot, runs in met if lot.origin == self.code for number in absent(runs, first, last)), 'UnknownNumber')
+        must_none(least(number for *_, runs in met for number, _, _, place in runs if place.kind != EXPORTED), 'NumberTaken')
+        must_none(least(number for first, _, lot, runs in met for number in self.differing(first, lot, runs)), 'LotDiffers')
+        return arriving
 
     def take_in(self, caller, of):
         notice = of['notice']
-        source = notice['sender'], notice['number']
+        source, text = (notice['sender'], notice['number']), compact(notice)
+        answer = 9, sum(int(part['last']) - int(part['first']) + 1 for part in notice['parts']), 0, 0
         must(caller == ISSUER, 'NotAllowed')
         must(notice['addressee'] == self.code, 'WrongRegistry')
         must(notice['sender'] in self.peers, 'UnknownPeer')
+        if self.taken.get(source) == text:
+            raise Again(answer)
         must(source not in self.taken, 'NoticeConflict')
         self.must_be_open(notice['account'])
-        arriving = [self.arriving(part) for part in notice['parts']]
-        for first, last, lot in arriving:
+        for first, last, lot in self.arriving(notice['parts']):
             self.bring(first, last, lot, notice['account'])
-        self.taken[source] = compact(notice)
-        return 9, sum(last - first + 1 for first, last, _ in arriving), 0, 0
+        self.taken[source] = text
+        return answer
 
 
 def notice_text(sender, addressee, number, account, parts):

@@ -72,7 +72,7 @@ class World:
     """A source of valid requests for a registry after `base`. What it knows of the registry is a guess: not all are accepted."""
 
     def __init__(self, chance):
-        self.chance, self.count, self.notices = chance, 0, 0
+        self.chance, self.count, self.notices, self.brought = chance, 0, 0, []
         self.days = {device: date(2024, 10, 1) for device in DEVICES}
         self.day = date(2025, 3, 1)
         self.kinds = {'open_holder': 2, 'open_account': 2, 'close_account': 1, 'register_device': 2, 'declare': 6, 'correct': 5, 'transfer': 8, 'cancel': 5,
@@ -90,8 +90,11 @@ class World:
         return text_of(caller, command, self.key())
 
     def a_range(self):
-        """A few certificates that stand near one another."""
-        return ends(self.chance.randrange(1, 1790), self.chance.choice([1, 1, 2, 5, 10]))
+        """A few certificates that stand near one another, at times those of another registry."""
+        count = self.chance.choice([1, 1, 2, 5, 10])
+        if self.brought and self.chance.randrange(4) == 0:
+            return ends(self.chance.choice(self.brought)[1] - OWN + self.chance.randrange(4), count)
+        return ends(self.chance.randrange(1, 1790), count)
 
     def an_account(self):
         """An account and its holder."""
@@ -137,8 +140,11 @@ class World:
                             reason=self.chance.choice(NAMES), **numbers)
 
     def transfer(self):
-        """Certificates from one account to another."""
+        """Certificates from one account to another, at times those of a notice from the account that got them."""
         (giver, holder), (taker, _) = self.chance.sample(list(OWNERS.items()), 2)
+        if self.brought and self.chance.randrange(2) == 0:
+            giver, first, count = self.chance.choice(self.brought)
+            return OWNERS[giver], of('transfer', giver=giver, taker=taker, **ends(first - OWN, self.chance.randrange(1, count + 1)))
         return holder, of('transfer', giver=giver, taker=taker, **self.a_range())
 
     def cancel(self):
@@ -151,8 +157,8 @@ class World:
         return 'ISSUER', of('withdraw', reason=self.chance.choice(NAMES), **self.a_range())
 
     def advance(self):
-        """The next day."""
-        self.day += timedelta(1)
+        """A later day; at times one after which trade is closed, or certificates have expired."""
+        self.day += timedelta(self.chance.choice([1, 1, 7, 31, 120, 240]))
         return 'ISSUER', of('advance', day=self.day.isoformat())
 
     def add_peer(self):
@@ -169,12 +175,15 @@ class World:
         self.notices += 1
         sender = self.chance.choice([8, 9])
         serial = sender * 10 ** 12 + 1000 * self.notices
-        month, version = self.chance.randrange(1, 13), self.chance.choice([1, 2])
+        month, version = self.chance.choice([1, 1, 2, 2, *range(1, 13)]), self.chance.choice([1, 2])
         carriers = [{'carrier': carrier} if version == 2 else {} for carrier in THEIRS]
+        account = self.chance.choice([1, 2, 3])
+        # the first months of 2024 are past trade when the registry begins
         parts = [part(serial + 100 * place, self.chance.randrange(1, 99),
                       lot(sender, DEVICES[place], f'2024-{month:02}-01', f'2024-{month:02}-{20 + self.notices % 8}', **carriers[place]))
                  for place in range(self.chance.choice([1, 1, 2, 3]))]
-        return of('import', notice={'sender': sender, 'addressee': CODE, 'number': self.notices, 'account': self.chance.choice([1, 2, 3]), 'version': version,
+        self.brought += [(account, int(each['first']), int(each['last']) - int(each['first']) + 1) for each in parts]
+        return of('import', notice={'sender': sender, 'addressee': CODE, 'number': self.notices, 'account': account, 'version': version,
                                     'parts': parts})
 
     def imports(self):

@@ -1,7 +1,7 @@
 """What tools/over-http and tools/on-a-file share: the program, the worked cases, and a table of trials that is run and counted.
 
-A trial is a name and a function without arguments. It returns where all is well, raises Differs with what was wanted and what came, or Skipped with
-why it can't be tried here. Each stands alone, so that `--only NAME` repeats it.
+A trial is a name and a function without arguments. It returns where all is well, and raises Differs with what was wanted and what came, or Missing with
+what this machine lacks for it. Each stands alone, so that `--only NAME` repeats it. What is missing fails the trial, unless the variable GOO_WITHOUT names it.
 """
 import argparse
 import difflib
@@ -9,6 +9,7 @@ import json
 import os
 import re
 import shlex
+import shutil
 import signal
 import subprocess
 import sys
@@ -19,6 +20,8 @@ from pathlib import Path
 
 TOP = Path(__file__).resolve().parent.parent
 NEW = ['--code', '7', '--today', '2025-03-01']
+COUNTS = re.compile(r'(\d+) passed, (\d+) failed(?:, (\d+) skipped)?')
+"""The last line of a tool."""
 PATIENCE = 120
 """Seconds that a single run of the program may take."""
 
@@ -27,8 +30,17 @@ class Differs(Exception):
     """Something else came than was wanted."""
 
 
-class Skipped(Exception):
-    """A trial that can't be made here, and why."""
+class Missing(Exception):
+    """What a trial needs and this machine lacks, by the name that `./check --without` knows, and why."""
+
+    def __init__(self, name, why):
+        super().__init__(f'{name} is missing: {why}')
+        self.name = name
+
+    @property
+    def is_left_out(self):
+        """Whether it is left out on purpose."""
+        return self.name in os.environ.get('GOO_WITHOUT', '').split()
 
 
 def expect(what, given, wanted):
@@ -118,6 +130,15 @@ def wait_for(what, test, seconds=10):
         time.sleep(0.01)
 
 
+FILE_FAULT = rb'goo: store fault\ngoo: .+\n'
+"""What tells a fault of a file: the word, and a line that names the file, with the reason where the system named one."""
+
+
+def file_fault(file, reason=''):
+    """What tells a fault of this file, for this reason."""
+    return f'goo: store fault\ngoo: {file}{": " if reason else ""}{reason}\n'.encode()
+
+
 # Pages
 
 def command_lines(page):
@@ -136,9 +157,9 @@ def mount(*words):
     try:
         done = subprocess.run(['mount', *map(str, words)], capture_output=True, check=False)
     except OSError as fault:
-        raise Skipped(f'mount: {fault}') from None
+        raise Missing('mounts', fault) from None
     if done.returncode != 0:
-        raise Skipped(f'no mount here: {done.stderr.decode().strip()}')
+        raise Missing('mounts', done.stderr.decode().strip())
 
 
 @contextmanager
@@ -157,12 +178,15 @@ def larger(place):
     mount('-o', 'remount,size=256m', place)
 
 
-def skip_all(chosen, *words):
-    """Ends the tool where the program has no such command yet: exit 2."""
-    if not chosen.list and chosen.program.run(*words)[0] == 2:
-        print(f'skipped: there is no goo {words[0]} yet')
-        print('0 passed, 0 failed')
-        sys.exit(0)
+# Libraries that are loaded ahead of the C library's
+
+def loaded_ahead(place, text):
+    """A library of this C text in a folder, for the variable LD_PRELOAD."""
+    if not shutil.which('cc'):
+        raise Missing('gcc', 'no cc on this machine')
+    (place / 'shim.c').write_text(text, encoding='utf-8')
+    subprocess.run(['cc', '-O1', '-shared', '-fPIC', '-w', '-o', str(place / 'shim.so'), str(place / 'shim.c'), '-ldl'], check=True)
+    return place / 'shim.so'
 
 
 # The table of trials
@@ -175,8 +199,7 @@ def arguments(text, more=()):
     parser.add_argument('--cases', type=Path, default=TOP / 'cases', help='the folder of the worked cases (cases/)')
     parser.add_argument('--only', action='append', default=[], metavar='TEXT', help='only trials whose name has this text')
     parser.add_argument('--without', action='append', default=[], metavar='TEXT', help='no trial whose name has this text')
-    parser.add_argument('--lacks', action='append', default=[], metavar='TEXT',
-                        help='trials whose name has this text are expected to fail with this program, and counted apart')
+    parser.add_argument('--quick', action='store_true', help='the part that ./check tries')
     parser.add_argument('--list', action='store_true', help='only the names of the trials')
     for words, options in more:
         parser.add_argument(*words, **options)
@@ -202,8 +225,8 @@ def verdict(trial):
         trial()
     except Differs as told:
         return 'FAILED', str(told)
-    except Skipped as why:
-        return 'skipped', str(why)
+    except Missing as lack:
+        return 'skipped' if lack.is_left_out else 'FAILED', str(lack)
     except Exception as fault:  # whatever else breaks a trial is told, and the next one is tried
         return 'FAILED', f'{type(fault).__name__}: {fault}'
     return 'passed', ''
@@ -214,26 +237,26 @@ def again(chosen, name):
     return shlex.join([sys.argv[0], chosen.program.path, '--cases', str(chosen.cases_folder), '--only', name])
 
 
-def run_all(chosen, table):
-    """Runs the table of trials, tells each that isn't passed with the command that repeats it, and ends with the counts."""
+def ended(passed, failed, skipped=0):
+    """Prints the counts, the last line of a tool, and gives its exit status. Where nothing was tried, that is a failure."""
+    print(f'{passed} passed, {failed} failed' + (f', {skipped} skipped' if skipped else ''), flush=True)
+    return int(failed > 0 or passed == 0)
+
+
+def run_all(chosen, table, slow=()):
+    """Runs the table of trials, tells each that isn't passed with the command that repeats it, and ends with the counts. `--quick` is without those that are slow."""
     signal.signal(signal.SIGTERM, lambda *_: sys.exit(143))  # so that a tool that is ended ends what it has started
-    counts = dict.fromkeys(('passed', 'FAILED', 'skipped', 'lacking'), 0)
+    counts = dict.fromkeys(('passed', 'FAILED', 'skipped'), 0)
     for name, trial in table:
-        if chosen.only and not has_one_of(name, chosen.only) or has_one_of(name, chosen.without):
+        if chosen.only and not has_one_of(name, chosen.only) or chosen.quick and has_one_of(name, slow):
             continue
         if chosen.list:
             print(name)
             continue
-        word, text = verdict(trial)
-        told_as_lacking = has_one_of(name, chosen.lacks)
-        if told_as_lacking:
-            word, text = {'FAILED': ('lacking', text.split('\n')[0]), 'passed': ('passed', 'though told as lacking')}.get(word, (word, text))
+        word, text = ('skipped', '') if has_one_of(name, chosen.without) else verdict(trial)
         counts[word] += 1
         if text:
             print(f'{word} {name}: {text}', flush=True)
         if word == 'FAILED':
             print('    again: ' + again(chosen, name), flush=True)
-    if not chosen.list:
-        print(f"{counts['skipped']} skipped, {counts['lacking']} lacking as told")
-        print(f"{counts['passed']} passed, {counts['FAILED']} failed")
-    return int(counts['FAILED'] > 0)
+    return 0 if chosen.list else ended(counts['passed'], counts['FAILED'], counts['skipped'])

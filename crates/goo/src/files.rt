@@ -2,35 +2,30 @@
 //!
 //! No contract can say what a file system holds, so this is short, and only tried (`tools/on-a-file`). `S` stands for what the files held.
 ghost use Rattle.std.specs.Prelude.{IfOk, IsTrue};
+ghost use Rattle.goo_cli_registry.specs.Closings.{HasSpareLog};
 ghost use Rattle.sqlite_std_file.specs.File.{file_is_usable};
 
+use crate::reason::{Reason, Refusal};
 use goo_cli_ending::Failure;
 use goo_cli_registry::closing::Left;
 use goo_cli_registry::first_page::make_first_page;
+use goo_cli_registry::settling::Settled;
 use sqlite::{FileFrom, Files, Start};
 use sqlite_std_file::OpenError;
 use std::fs::{self, File};
 use std::hash::{BuildHasher, RandomState};
-use std::io::{self, Error, ErrorKind, Write};
+use std::io::{self, ErrorKind, Write};
 
 /// How many bytes the head of a database takes. A shorter file holds none.
 const HEAD: u64 = 100;
-
-/// What was at a path before its files were opened.
-#[derive(Drop)]
-pub struct Traces {
-    path: String,
-    log: String,
-    had_file: bool,
-    had_log: bool,
-}
 
 /// The files of a registry, which nobody else can open meanwhile.
 pub struct Opened<S: Start> {
     pub files: Files<FileFrom<S>>,
     /// What the salts of a new log begin with.
     pub seed: u64,
-    pub traces: Traces,
+    /// Where the log lies.
+    pub log: String,
 }
 
 /// The files at a path at which a registry is to be.
@@ -39,20 +34,22 @@ pub struct Opened<S: Start> {
 ///
 /// `NotARegistry` where there is no file, or one that holds no database; nothing is made then. `Store` where it can't be opened, as
 /// where another program has it open; `Memory` where memory was refused.
-pub fn open_kept<S: Start>(rt: &HostRuntime, path: &str, start: S) -> Result<Opened<S>, Failure>
+pub fn open_kept<S: Start>(rt: &HostRuntime, path: &str, start: S) -> Result<Opened<S>, Refusal>
     ensures log { IfOk result (λ opened. IsTrue (file_is_usable S.Start opened.files.log)) }
     ensures db { IfOk result (λ opened. IsTrue (file_is_usable S.Start opened.files.db)) }
 {
     let real = match fs::canonicalize(rt, path) {
         Ok(real) => real,
-        Err(error) if error.kind() == ErrorKind::NotFound => return Err(Failure::NotARegistry),
-        Err(error) => return Err(failure_of(error)),
+        Err(error) if error.kind() == ErrorKind::NotFound => {
+            return Err(Refusal::from(Failure::NotARegistry));
+        }
+        Err(error) => return Err(Refusal::from(error)),
     };
-    let found = fs::metadata(rt, real.as_str()).map_err(failure_of)?;
+    let found = fs::metadata(rt, real.as_str())?;
     if found.is_file() && found.len() < HEAD {
-        return Err(Failure::NotARegistry);
+        return Err(Refusal::from(Failure::NotARegistry));
     }
-    open_at(rt, real.as_str(), true, start)
+    open_at(rt, real.as_str(), start)
 }
 
 /// The files at a path at which a registry is to be made.
@@ -60,23 +57,20 @@ pub fn open_kept<S: Start>(rt: &HostRuntime, path: &str, start: S) -> Result<Ope
 /// # Errors
 ///
 /// `Store` where they can't be made or opened, and `Memory` where memory was refused.
-pub fn open_new<S: Start>(rt: &HostRuntime, path: &str, start: S) -> Result<Opened<S>, Failure>
+pub fn open_new<S: Start>(rt: &HostRuntime, path: &str, start: S) -> Result<Opened<S>, Refusal>
     ensures log { IfOk result (λ opened. IsTrue (file_is_usable S.Start opened.files.log)) }
     ensures db { IfOk result (λ opened. IsTrue (file_is_usable S.Start opened.files.db)) }
 {
     match fs::symlink_metadata(rt, path) {
         Ok(_) => {
-            let real = fs::canonicalize(rt, path).map_err(failure_of)?;
-            open_at(rt, real.as_str(), true, start)
+            let real = fs::canonicalize(rt, path)?;
+            open_at(rt, real.as_str(), start)
         }
         Err(error) if error.kind() == ErrorKind::NotFound => {
-            let had_file = match begin_database(rt, path) {
-                Ok(()) => false,
-                Err(error) => error.kind() == ErrorKind::AlreadyExists,
-            };
-            open_at(rt, path, had_file, start)
+            let _ = begin_database(rt, path);
+            open_at(rt, path, start)
         }
-        Err(error) => Err(failure_of(error)),
+        Err(error) => Err(Refusal::from(error)),
     }
 }
 
@@ -107,67 +101,37 @@ fn write_page(rt: &HostRuntime, path: &str) -> io::Result<()> {
 }
 
 /// The files at this path, with a log that is made if need be.
-fn open_at<S: Start>(
-    rt: &HostRuntime,
-    path: &str,
-    had_file: bool,
-    start: S,
-) -> Result<Opened<S>, Failure>
+fn open_at<S: Start>(rt: &HostRuntime, path: &str, start: S) -> Result<Opened<S>, Refusal>
     ensures log { IfOk result (λ opened. IsTrue (file_is_usable S.Start opened.files.log)) }
     ensures db { IfOk result (λ opened. IsTrue (file_is_usable S.Start opened.files.db)) }
 {
-    let traces = find_traces(rt, path, had_file)?;
-    let seed = RandomState::new(rt).map_err(failure_of)?.hash_one(&0u8);
-    let files = match sqlite_std_file::open(rt, path, start) {
-        Ok(files) => files,
-        Err(OpenError::OutOfMemory) => return Err(Failure::Memory),
-        Err(OpenError::Io(error)) => return Err(failure_of(error)),
-        Err(_) => return Err(Failure::Store),
-    };
-    Ok(Opened {
-        files,
-        seed,
-        traces,
-    })
-}
-
-/// What is at this path.
-fn find_traces(rt: &HostRuntime, path: &str, had_file: bool) -> Result<Traces, Failure> {
-    let alloc = rt.alloc();
-    let log = format!(in alloc; "{path}-wal").map_err(|_| Failure::Memory)?;
-    let had_log = fs::exists(rt, log.as_str()).map_err(failure_of)?;
-    let path = String::from_str(alloc, path).map_err(|_| Failure::Memory)?;
-    Ok(Traces {
-        path,
-        log,
-        had_file,
-        had_log,
-    })
-}
-
-/// What a failed call of the system is told as.
-fn failure_of(error: Error) -> Failure {
-    if error.kind() == ErrorKind::OutOfMemory {
-        Failure::Memory
-    } else {
-        Failure::Store
+    let log = format!(in rt.alloc(); "{path}-wal")?;
+    let seed = RandomState::new(rt)?.hash_one(&0u8);
+    match sqlite_std_file::open(rt, path, start) {
+        Ok(files) => Ok(Opened { files, seed, log }),
+        Err(error) => Err(refusal_at(rt, path, error)),
     }
 }
 
-/// Lets the files go. A log that holds nothing more, or that was made for a registry that was not there, is removed before anyone else
-/// can open the files; so are files that were to become a registry and did not. Where that fails, what is left does no harm.
-pub fn let_go<S: Start>(rt: &HostRuntime, traces: &Traces, left: Left<FileFrom<S>>) {
-    let _ = match &left {
-        Left::Whole(_) => fs::remove_file(rt, traces.log.as_str()),
-        Left::Refused(_) if !traces.had_log => fs::remove_file(rt, traces.log.as_str()),
-        Left::Parts(_) if !traces.had_file => remove_both(rt, traces),
-        Left::Refused(_) | Left::Parts(_) => Ok(()),
-    };
-    drop(left);
+/// Why the files at this path are not opened.
+fn refusal_at(rt: &HostRuntime, path: &str, error: OpenError) -> Refusal {
+    match fs::metadata(rt, path) {
+        Ok(found) if found.is_dir() => Refusal::because(Reason::Folder),
+        Ok(_) | Err(_) => Refusal::from(error),
+    }
 }
 
-/// Removes the database file and then its log: without the file the log means nothing.
-fn remove_both(rt: &HostRuntime, traces: &Traces) -> io::Result<()> {
-    fs::remove_file(rt, traces.path.as_str())?;
-    fs::remove_file(rt, traces.log.as_str())
+/// Lets the files go, and tells what the system named where one of them failed. A log that may go is removed before anyone else can
+/// open the files. Where that fails, what is left does no harm.
+pub fn let_go<S: Start>(rt: &HostRuntime, log: &str, left: Left<FileFrom<S>>) -> Option<Reason>
+    requires copied { HasSpareLog left }
+{
+    let Settled {
+        files,
+        is_log_spare,
+    } = left.settle();
+    if is_log_spare {
+        let _ = fs::remove_file(rt, log);
+    }
+    Reason::met_by(files.tally())
 }

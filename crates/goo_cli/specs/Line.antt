@@ -1,5 +1,5 @@
 -- What the words of a command line ask for.
-use Rattle.std.specs.Prelude.{◌≡◌, ◌⊎◌, List, [], ◌∷◌, codes, Option, Some, None, Result, Ok, Err}
+use Rattle.std.specs.Prelude.{◌≡◌, ◌⊎◌, true, List, [], ◌∷◌, codes, Option, Some, None, Result, Ok, Err}
 use Rattle.std.specs.Result.{result_ok}
 use Rattle.clap.specs.Words.{App, IsAmong, Kinds, Row, Rule, Text, fault_of, kind_of, new_app, new_rule, subcommand_of, with_rule, with_subcommand}
 use Rattle.clap.specs.declared.error.Error.{Error}
@@ -21,6 +21,10 @@ flag_rule name = record (new_rule name) { long = Some name; action = Some SetTru
 
 abbrev pub word_rule : Text → Rule
 word_rule name = record (new_rule name) { action = Some Set }
+
+-- --version
+abbrev pub with_version : App → App
+with_version a = record a { top = record a.top { has_version = true } }
 
 -- --code C --today D [--next-serial N]
 abbrev pub with_opening : App → App
@@ -68,7 +72,7 @@ with_serve a = with_subcommand a serve_app.top
 
 -- the commands of the program
 unfoldable pub goo_app : App
-goo_app = with_serve (with_audit (with_statement (with_declare (with_run (with_init (new_app (codes "goo")))))))
+goo_app = with_serve (with_audit (with_statement (with_declare (with_run (with_init (with_version (new_app (codes "goo"))))))))
 
 -- the task of a command and its options, or what they lack
 abbrev pub task_of : Option Verb → Values → Result Asked LineFault

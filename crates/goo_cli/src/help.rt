@@ -11,6 +11,10 @@ Example:
 Exit status: 0 all was done; 1 something was refused or unreadable, an account is unknown, or a registry is there
 already; 2 the command line asks for nothing that can be done; 3 a fault, told on standard error.";
 
+/// What `--version` prints after the name: the version of the program, and the line of the toolchain that it is proved with. Which commit
+/// it was built from, no proved source can say: the note that lies beside a package does.
+pub const VERSION: &str = "0.37.0, proved with rattle-kit-13b";
+
 pub const INIT: &str = "Makes a new registry in a file";
 
 pub const INIT_EXAMPLE: &str =
@@ -34,6 +38,8 @@ pub const DECLARE: &str = "Imports the declarations of standard input, a CSV fil
 pub const DECLARE_EXAMPLE: &str =
     "Its first line is key,device,first_day,last_day,gross_wh,aux_wh; the report says of each row what became of it.
 At most 16777216 bytes are read.
+Run deploy/check-declarations FILE first: it reads the whole file and sends nothing. The periods of a device are accepted in
+order of time alone, so where one row is refused and a later one of its device stands, the refused period is lost for good.
 
 Example:
   goo declare --db registry.db < january.csv > report";

@@ -3,7 +3,7 @@ ghost use Rattle.std.specs.Prelude.{◌≡◌, Some, None, false, codes, map, If
 ghost use Rattle.clap.specs.Words.{app_of, subcommand_rows_of, with_rule, with_subcommand};
 ghost use Rattle.clap.specs.declared.builder.command.Command.TheViews.{out-Command as fields_of};
 ghost use Rattle.goo_cli.specs.Asked.{asked, asked_by};
-ghost use Rattle.goo_cli.specs.Line.{option_rule, flag_rule, word_rule, with_opening, with_place, with_init, with_run, with_declare, with_statement, with_audit, with_serve, init_app, run_app, declare_app, statement_app, audit_app, serve_app, goo_app, task_named, task_in, NoTask, FaultIn};
+ghost use Rattle.goo_cli.specs.Line.{option_rule, flag_rule, word_rule, with_version, with_opening, with_place, with_init, with_run, with_declare, with_statement, with_audit, with_serve, init_app, run_app, declare_app, statement_app, audit_app, serve_app, goo_app, task_named, task_in, NoTask, FaultIn};
 
 use crate::given::read_options;
 use crate::help;
@@ -21,6 +21,14 @@ fn with_help<'a>(command: Command<'a>, about: &'a str, example: &'a str) -> Comm
     ensures local { (fields_of result).has_globals ≡ (fields_of command.entry).has_globals }
 {
     command.about(about).after_help(example)
+}
+
+/// The program with its flag `--version`.
+fn with_version<'a>(program: Command<'a>) -> Command<'a>
+    ensures app { app_of result ≡ with_version (app_of program.entry) }
+    ensures local { (fields_of result).has_globals ≡ (fields_of program.entry).has_globals }
+{
+    program.version(help::VERSION)
 }
 
 /// The command with an option more that takes one value.
@@ -191,7 +199,7 @@ fn program_command<'a>(alloc: Global) -> Result<Command<'a>, AllocError>
     ensures { IfOk result (λ command. app_of command ≡ goo_app) }
 {
     let program = with_help(Command::new(alloc, "goo"), help::GOO, help::GOO_EXAMPLE);
-    let program = with_makers(alloc, program)?;
+    let program = with_makers(alloc, with_version(program))?;
     Ok(with_viewers(alloc, program)?)
 }
 
@@ -212,7 +220,7 @@ fn task_named<'a>(matches: &ArgMatches<'a>) -> Result<Task<'a>, LineFault>
 ///
 /// # Errors
 ///
-/// Where the words aren't a command of the program with its options, a value is missing or refused, or they ask for help;
+/// Where the words aren't a command of the program with its options, a value is missing or refused, or they ask for help or the version;
 /// and `Memory`, where there is no room to read them.
 pub fn read_task<'a, S: AsStr>(alloc: Global, words: &'a [S]) -> Result<Task<'a>, LineFault>
     ensures task { IfOk result (λ task. task_in (map S.text words.now) ≡ Some (asked_by task)) }

@@ -1,1 +1,2 @@
 mod EndingLemmas
+mod StoppedLemmas

@@ -4,6 +4,7 @@ ghost use Rattle.std.specs.Io.KnownBytes.{Appends, IsAtEnd};
 ghost use Rattle.std.specs.Io.Buffered.{writer_buffer, writer_contents};
 ghost use Rattle.goo_desk_lines.specs.Fold.{lines};
 ghost use Rattle.goo_cli_ending.specs.Endings.{status_of, IsOfLines, IsAfterInput, IsToldOf};
+ghost use Rattle.goo_cli_ending.specs.Stopped.{IsStopped};
 
 use crate::ending::Ending;
 use goo_desk_lines::run_lines;
@@ -21,6 +22,8 @@ use std::io::{BufWriter, Read, Write};
 ///   whole input was read.
 /// - `told`: a fault of the records is told just where what keeps them refused a call.
 /// - `kept`: with status 0 and 1 the desk knows what the lines come to.
+/// - `stopped`: after a fault of the records, and where memory was refused, the first lines stand and just their outcomes are written;
+///   after one of the output the first lines stand; after one of the input nothing has changed.
 /// - `lied`: what lies below the desk returned what was written before, where it did so to the end.
 pub fn answer_input<D: Desk, R: Read, W: Write + Drop>(
     alloc: Global,
@@ -32,6 +35,7 @@ pub fn answer_input<D: Desk, R: Read, W: Write + Drop>(
     ensures not_all_done { (D.seen desk.new).lies ≡ 0 → status_of result ≡ 1 → IfSome (R.remaining reader.old) (λ input. (lines (D.seen desk.old).state input).bad ≢ 0) }
     ensures written { (D.seen desk.new).lies ≡ 0 → status_of result < 2 → IfSome (R.remaining reader.old) (λ input. Appends (writer_contents W.contents writer.old) (writer_contents W.contents writer.new) (lines (D.seen desk.old).state input).text) }
     ensures kept { (D.seen desk.new).lies ≡ 0 → status_of result < 2 → IfSome (R.remaining reader.old) (λ input. (D.seen desk.new).state ≡ (lines (D.seen desk.old).state input).state) }
+    ensures stopped { (D.seen desk.new).lies ≡ 0 → IfSome (R.remaining reader.old) (λ input. IsStopped result input (D.seen desk.old).state (D.seen desk.new).state (D.seen desk.new).doubts (writer_contents W.contents writer.old) (writer_contents W.contents writer.new)) }
     ensures flushed { status_of result < 2 → writer_buffer writer.new ≡ [] }
     ensures words { IsOfLines result }
     ensures read { IsAfterInput result → IsAtEnd (R.remaining reader.new) }

@@ -1,13 +1,15 @@
 //! The commands `declare`, `statement` and `audit`, over files.
-ghost use Rattle.std.specs.Prelude.{◌≡◌, [], IfSome, IsTrue};
+ghost use Rattle.std.specs.Prelude.{◌≡◌, [], None, IfSome, IsTrue};
+ghost use Rattle.std.specs.FinMap.{get};
 ghost use Rattle.std.specs.Io.Buffered.{writer_buffer, writer_contents};
+ghost use Rattle.std.specs.Io.KnownBytes.{Keeps};
 ghost use Rattle.sqlite.specs.Files.{image_of, HoldsDatabase};
 ghost use Rattle.sqlite.specs.Tree.{Trees};
 ghost use Rattle.goo_store.specs.Versions.{state_held};
 ghost use Rattle.goo_files.specs.Texts.{IsStatement, IsAuditText};
 ghost use Rattle.goo_files.specs.Writes.{Wrote};
 ghost use Rattle.goo_cli_ending.specs.Endings.{status_of};
-ghost use Rattle.goo_cli_registry.specs.Closings.{IsClean};
+ghost use Rattle.goo_cli_registry.specs.Closings.{HasSpareLog, IsClean};
 ghost use Rattle.goo_cli_files.specs.Imports.{DeclaredIn};
 
 use goo_cli_ending::Ending;
@@ -27,6 +29,7 @@ use std::io::{BufWriter, Read, Write};
 ///
 /// - `done`: status 0 only where each row was imported and its declaration stands, and status 1 only where one doesn't, but for a
 ///   file without its header; the whole report is written then, and the database file alone holds what the rows come to.
+/// - `copied`: a log that is said to be copied into the database file is.
 pub fn declare_in_files<D: Disk + Drop, R: Read, W: Write + Drop, T: Write, E: Write>(
     alloc: Global,
     files: Files<D>,
@@ -40,6 +43,7 @@ pub fn declare_in_files<D: Disk + Drop, R: Read, W: Write + Drop, T: Write, E: W
     requires db { IsTrue (D.Disk.is_usable files.db) }
     ensures done { IsClean result.1 → (db : Trees) → HoldsDatabase (image_of D.Disk files) db → IfSome (R.remaining reader.old) (λ input. DeclaredIn (state_held db) input (writer_contents W.contents writer.old) (writer_contents W.contents writer.new) result.0 result.1) }
     ensures flushed { status_of result.0 ≡ 0 → writer_buffer writer.new ≡ [] }
+    ensures copied { HasSpareLog result.1 }
 {
     match open_registry(alloc, files, seed, line) {
         Ok(shelf) => {
@@ -55,6 +59,8 @@ pub fn declare_in_files<D: Disk + Drop, R: Read, W: Write + Drop, T: Write, E: W
 /// the files returned what was written, and `db` is the database that they held.
 ///
 /// - `shown`, `flushed`: status 0 only where the whole statement is written, and nothing is left in the writer's buffer.
+/// - `unknown`, `silent`: status 1 only where there is no such account, and nothing is written then.
+/// - `copied`: a log that is said to be copied into the database file is.
 pub fn statement_in_files<D: Disk + Drop, W: Write + Drop, E: Write>(
     alloc: Global,
     files: Files<D>,
@@ -66,7 +72,10 @@ pub fn statement_in_files<D: Disk + Drop, W: Write + Drop, E: Write>(
     requires log { IsTrue (D.Disk.is_usable files.log) }
     requires db { IsTrue (D.Disk.is_usable files.db) }
     ensures shown { IsClean result.1 → (db : Trees) → HoldsDatabase (image_of D.Disk files) db → status_of result.0 ≡ 0 → Wrote (writer_contents W.contents writer.old) (writer_contents W.contents writer.new) (IsStatement (state_held db) account) }
+    ensures unknown { IsClean result.1 → (db : Trees) → HoldsDatabase (image_of D.Disk files) db → status_of result.0 ≡ 1 → get (state_held db).accounts account ≡ None }
+    ensures silent { IsClean result.1 → status_of result.0 ≡ 1 → Keeps (writer_contents W.contents writer.old) (writer_contents W.contents writer.new) }
     ensures flushed { status_of result.0 ≡ 0 → writer_buffer writer.new ≡ [] }
+    ensures copied { HasSpareLog result.1 }
 {
     match open_registry(alloc, files, seed, line) {
         Ok(shelf) => {
@@ -90,6 +99,7 @@ pub fn audit_in_files<D: Disk + Drop, W: Write + Drop, E: Write>(
     requires db { IsTrue (D.Disk.is_usable files.db) }
     ensures shown { IsClean result.1 → (db : Trees) → HoldsDatabase (image_of D.Disk files) db → status_of result.0 ≡ 0 → Wrote (writer_contents W.contents writer.old) (writer_contents W.contents writer.new) (IsAuditText (state_held db)) }
     ensures flushed { status_of result.0 ≡ 0 → writer_buffer writer.new ≡ [] }
+    ensures copied { HasSpareLog result.1 }
 {
     match open_registry(alloc, files, seed, line) {
         Ok(shelf) => {

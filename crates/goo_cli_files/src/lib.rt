@@ -1,8 +1,11 @@
-//! The commands `declare`, `statement`, `audit` and `serve` over files: the registry that they hold is opened, worked with, and closed.
+//! The commands `declare`, `statement`, `audit` and `serve` over files: the registry that they hold is opened, worked with, and closed;
+//! and which of them, or of `init` and `run`, a command line asks for.
 #![tactic(auto)]
 
 mod in_files;
 mod serving;
+mod work;
 
 pub use in_files::{audit_in_files, declare_in_files, statement_in_files};
 pub use serving::{serve_in_files, serve_in_memory};
+pub use work::{Job, Work, copy_of, job_of, work_in_files};

@@ -1,8 +1,13 @@
 //! The command `serve`.
 ghost use Rattle.std.specs.Prelude.{◌≡◌, false, IsTrue};
+ghost use Rattle.std.specs.Io.Buffered.{writer_contents};
+ghost use Rattle.std.specs.Io.KnownBytes.{Appends};
 ghost use Rattle.sqlite.specs.Held.{state as view};
 ghost use Rattle.sqlite.specs.State.{HasCleanDisk};
 ghost use Rattle.goo_tables_rows.specs.Met.{IsInKeyOrder};
+ghost use Rattle.goo_cli_ending.specs.Endings.{status_of};
+ghost use Rattle.goo_cli_http.specs.Endings.{listening_text};
+ghost use Rattle.goo_cli_registry.specs.Closings.{HasSpareLog};
 
 use goo_cli::{Opening, Serving};
 use goo_cli_ending::Ending;
@@ -27,6 +32,7 @@ fn serve_new<S: Alter, W: Write + Drop>(
 ) -> (Ending, Connection<S>)
     requires outside { conn.in_transaction ≡ false }
     requires ordered { HasCleanDisk (view S.Store conn) → IsInKeyOrder (view S.Store conn).now }
+    ensures announced { status_of result.0 ≡ 0 → Appends (writer_contents W.contents writer.old) (writer_contents W.contents writer.new) (listening_text serving.port) }
 {
     match begin(rt.alloc(), conn, Start::New(opening)) {
         Ok(shelf) => {
@@ -38,13 +44,16 @@ fn serve_new<S: Alter, W: Write + Drop>(
     }
 }
 
-/// Serves so many connections by a new registry whose records are tables in memory, and are gone when the program ends.
+/// Serves so many connections by a new registry whose records are tables in memory, and are gone when the program ends. `announced`:
+/// status 0 only where the line is written that tells at which port.
 pub fn serve_in_memory<W: Write + Drop>(
     rt: &HostRuntime,
     opening: Opening,
     serving: Serving,
     writer: &mut BufWriter<W>,
-) -> Ending {
+) -> Ending
+    ensures announced { status_of result ≡ 0 → Appends (writer_contents W.contents writer.old) (writer_contents W.contents writer.new) (listening_text serving.port) }
+{
     let conn = match open_in_memory(rt.alloc()) {
         Ok(conn) => conn,
         Err(failure) => return Ending::Failed(failure),
@@ -53,7 +62,8 @@ pub fn serve_in_memory<W: Write + Drop>(
     ending
 }
 
-/// Serves so many connections by the registry that files hold, and closes it; `line` tells if it is of version 1.
+/// Serves so many connections by the registry that files hold, and closes it; `line` tells if it is of version 1. `announced`: as for
+/// [`serve_in_memory`]; `copied`: a log that is said to be copied into the database file is.
 pub fn serve_in_files<D: Disk + Drop, W: Write + Drop, E: Write>(
     rt: &HostRuntime,
     files: Files<D>,
@@ -64,6 +74,8 @@ pub fn serve_in_files<D: Disk + Drop, W: Write + Drop, E: Write>(
 ) -> (Ending, Left<D>)
     requires log { IsTrue (D.Disk.is_usable files.log) }
     requires db { IsTrue (D.Disk.is_usable files.db) }
+    ensures announced { status_of result.0 ≡ 0 → Appends (writer_contents W.contents writer.old) (writer_contents W.contents writer.new) (listening_text serving.port) }
+    ensures copied { HasSpareLog result.1 }
 {
     match open_registry(rt.alloc(), files, seed, line) {
         Ok(shelf) => {

@@ -1,7 +1,9 @@
 //! A registry served over HTTP on 127.0.0.1.
 ghost use Rattle.std.specs.Prelude.{◌≡◌, ◌≢◌};
+ghost use Rattle.std.specs.Io.Buffered.{writer_contents};
+ghost use Rattle.std.specs.Io.KnownBytes.{Appends};
 ghost use Rattle.goo_cli_ending.specs.Endings.{status_of};
-ghost use Rattle.goo_cli_http.specs.Endings.{ending_of_server};
+ghost use Rattle.goo_cli_http.specs.Endings.{ending_of_server, listening_text};
 
 use goo_cli::Serving;
 use goo_cli_ending::{Ending, Failure};
@@ -26,6 +28,7 @@ fn ending_of(served: Result<(), ServerFault>) -> Ending
 }
 
 /// Serves so many connections by a registry, one after another. Where the port can't be had, that is a fault of what is read.
+/// `announced`: status 0 only where the line is written that tells at which port.
 pub fn serve_registry<S: Shelf, W: Write + Drop>(
     rt: &HostRuntime,
     registry: &mut Registry<S>,
@@ -33,11 +36,12 @@ pub fn serve_registry<S: Shelf, W: Write + Drop>(
     writer: &mut BufWriter<W>,
 ) -> Ending
     ensures words { status_of result ≢ 2 }
+    ensures announced { status_of result ≡ 0 → Appends (writer_contents W.contents writer.old) (writer_contents W.contents writer.new) (listening_text serving.port) }
 {
     let Ok(listener) = TcpListener::bind(rt, ("127.0.0.1", serving.port)) else {
         return Ending::Failed(Failure::Read);
     };
-    ending_of(serve(
+    let served = serve(
         rt.alloc(),
         rt,
         registry,
@@ -45,5 +49,6 @@ pub fn serve_registry<S: Shelf, W: Write + Drop>(
         serving.port,
         serving.count,
         writer,
-    ))
+    );
+    ending_of(served)
 }

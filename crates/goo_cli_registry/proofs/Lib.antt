@@ -1,2 +1,4 @@
 mod Files
 mod RunLemmas
+mod SpareLogs
+mod StoppedLemmas

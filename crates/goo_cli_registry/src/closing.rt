@@ -1,10 +1,12 @@
 //! A registry closed, so that its file alone is the whole of it.
-ghost use Rattle.std.specs.Prelude.{◌≡◌};
+ghost use Rattle.std.specs.Prelude.{◌≡◌, IsTrue};
 ghost use Rattle.sqlite.specs.Files.{file_state};
 ghost use Rattle.sqlite.specs.State.{HasCleanDisk};
 ghost use Rattle.goo_store_lookups.specs.Moments.{moment};
-ghost use Rattle.goo_cli_registry.specs.Closings.{is_whole, files_in, IfWhole, IfRefused, IsClean, IsKept, HoldState};
+ghost use Rattle.sqlite_wal.specs.Reads.{AreClean};
+ghost use Rattle.goo_cli_registry.specs.Closings.{is_whole, files_in, HasSpareLog, IfWhole, IfRefused, IsClean, IsKept, HoldState, NeedNoLog};
 
+use crate::settling::{Settled, settle_files};
 use goo_store::sql_shelf::SqlShelf;
 use sqlite::{FileStore, Files, Leftover};
 use sqlite_disk::Disk;
@@ -41,6 +43,25 @@ impl<D: Disk> Left<D> {
         }
     }
 
+    /// The files, and whether the log may be removed: where it is copied into the database file, and where nothing of it is used. What was
+    /// there before the files were opened says nothing of that, as another program may have committed to the log since.
+    ///
+    /// - `spare`: the log may go only where the database file alone holds what both hold, after a crash too, so long as the files
+    ///   returned what was written.
+    pub fn settle(self) -> Settled<D>
+        requires copied { HasSpareLog self }
+        ensures spare { IsTrue result.is_log_spare → AreClean D.Disk result.files.log result.files.db → NeedNoLog D.Disk result.files }
+    {
+        match self {
+            Left::Whole(files) => Settled {
+                files,
+                is_log_spare: true,
+            },
+            Left::Refused(left) => settle_files(left.into_files()),
+            Left::Parts(left) => settle_files(left.into_files()),
+        }
+    }
+
     /// The log and the database file, as the command left them. Nothing is read or written any more.
     pub fn into_files(self) -> Files<D>
         ensures { (result.log, result.db) ≡ files_in self }
@@ -58,6 +79,8 @@ impl<D: Disk> Left<D> {
 pub fn close_registry<D: Disk + Drop>(shelf: SqlShelf<FileStore<D>>) -> Left<D>
     ensures clean { IsClean result → HasCleanDisk (file_state shelf.conn) }
     ensures whole { IfWhole result (λ files. HoldState D.Disk files (moment (file_state shelf.conn) shelf.refused).state) }
+    ensures copied { HasSpareLog result }
+    ensures sure { IfWhole result (λ files. AreClean D.Disk files.log files.db → (moment (file_state shelf.conn) shelf.refused).doubts ≡ 0) }
     ensures opened { IfRefused result (λ _. ⊥) }
     ensures kept { (moment (file_state shelf.conn) shelf.refused).doubts ≡ 0 → IsKept (moment (file_state shelf.conn) shelf.refused).state result }
 {

@@ -5,7 +5,7 @@ ghost use Rattle.std.specs.Io.KnownBytes.{Appends, Keeps};
 ghost use Rattle.goo_spec.specs.Created.{created};
 ghost use Rattle.goo_cli_ending.specs.Endings.{status_of};
 ghost use Rattle.goo_cli_registry.specs.Openings.{ending_of_opening, ready_text};
-ghost use Rattle.goo_cli_registry.specs.Closings.{HoldState, IfWhole, IsClean, IsMade, Spares, SparesOrMakes, is_whole};
+ghost use Rattle.goo_cli_registry.specs.Closings.{HasSpareLog, HoldState, IfWhole, IsClean, IsMade, Spares, SparesOrMakes, is_whole};
 
 use crate::closing::{Left, close_registry};
 use crate::opening::{begin, failure_of, file_options, open_database};
@@ -47,6 +47,8 @@ fn create_registry<D: Disk + Drop>(
     ensures held { IfOk result (λ left. IsClean left → SparesOrMakes files (created opening.code opening.today opening.next_serial) left) }
     ensures left { IfErr result (λ e. IsClean e.1 → SparesOrMakes files (created opening.code opening.today opening.next_serial) e.1) }
     ensures there { IfErr result (λ e. e.0 ≡ Ending.Denied Denial.AlreadyThere → IsClean e.1 → Spares files e.1) }
+    ensures copied { IfOk result HasSpareLog }
+    ensures uncopied { IfErr result (λ e. HasSpareLog e.1) }
 {
     let conn = match open_database(alloc, files, file_options(seed)) {
         Ok(conn) => conn,
@@ -108,6 +110,7 @@ fn announce<D: Disk + Drop, W: Write + Drop>(
 /// - `unready`: nothing is written before the registry is there.
 /// - `there`: status 1 only where a registry is there already, and then no harm came to what the files held.
 /// - `left`: whatever the status, no harm came to what the files held, or a new registry with these three values is there.
+/// - `copied`: a log that is said to be copied into the database file is.
 ///
 /// What is said of the files holds so long as they returned what was written.
 pub fn init_in_files<D: Disk + Drop, W: Write + Drop>(
@@ -125,6 +128,7 @@ pub fn init_in_files<D: Disk + Drop, W: Write + Drop>(
     ensures flushed { status_of result.0 ≡ 0 → writer_buffer writer.new ≡ [] }
     ensures there { status_of result.0 ≡ 1 → (result.0 ≡ Ending.Denied Denial.AlreadyThere) × (IsClean result.1 → Spares files result.1) }
     ensures left { IsClean result.1 → SparesOrMakes files (created opening.code opening.today opening.next_serial) result.1 }
+    ensures copied { HasSpareLog result.1 }
 {
     let code = opening.code;
     match create_registry(alloc, files, seed, opening) {

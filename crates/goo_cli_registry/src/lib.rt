@@ -12,4 +12,5 @@ pub mod in_memory;
 pub mod opening;
 pub mod renewal_line;
 pub mod running;
+pub mod settling;
 pub mod start;

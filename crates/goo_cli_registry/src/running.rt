@@ -13,9 +13,11 @@ ghost use Rattle.goo_store_lookups.specs.Moments.{IsWell};
 ghost use Rattle.goo_spec.specs.Created.{created};
 ghost use Rattle.goo_desk_lines.specs.Fold.{lines};
 ghost use Rattle.goo_cli_ending.specs.Endings.{status_of, IsToldOf};
+ghost use Rattle.goo_cli_ending.specs.Stopped.{IsStopped};
+ghost use Rattle.goo_cli_registry.specs.Stopped.{HoldsStopped, IfOpened};
 ghost use Rattle.goo_store_open.specs.Foreign.{LacksMeta};
 ghost use Rattle.goo_cli_registry.specs.Openings.{begun, IsRun};
-ghost use Rattle.goo_cli_registry.specs.Closings.{IfRefused, IfWhole, IsClean, HoldState, LeavesRegistry};
+ghost use Rattle.goo_cli_registry.specs.Closings.{HasSpareLog, IfRefused, IfWhole, IsClean, HoldState, LeavesRegistry};
 
 use crate::closing::{Left, close_registry};
 use crate::in_memory::open_in_memory;
@@ -43,6 +45,7 @@ pub fn answer_by<S: Shelf, R: Read, W: Write + Drop>(
     ensures not_all_done { (S.seen result.1).lies ≡ 0 → status_of result.0 ≡ 1 → IfSome (R.remaining reader.old) (λ input. (lines (S.seen registry.shelf).state input).bad ≢ 0) }
     ensures written { (S.seen result.1).lies ≡ 0 → status_of result.0 < 2 → IfSome (R.remaining reader.old) (λ input. Appends (writer_contents W.contents writer.old) (writer_contents W.contents writer.new) (lines (S.seen registry.shelf).state input).text) }
     ensures kept { (S.seen result.1).lies ≡ 0 → status_of result.0 < 2 → IfSome (R.remaining reader.old) (λ input. (S.seen result.1).state ≡ (lines (S.seen registry.shelf).state input).state) }
+    ensures stopped { (S.seen result.1).lies ≡ 0 → IfSome (R.remaining reader.old) (λ input. IsStopped result.0 input (S.seen registry.shelf).state (S.seen result.1).state (S.seen result.1).doubts (writer_contents W.contents writer.old) (writer_contents W.contents writer.new)) }
     ensures flushed { status_of result.0 < 2 → writer_buffer writer.new ≡ [] }
     ensures no_words { status_of result.0 ≢ 2 }
     ensures told { (S.seen registry.shelf).refusals ≡ 0 → IsToldOf result.0 (S.seen result.1).refusals }
@@ -113,10 +116,13 @@ pub fn run_in_memory<R: Read, W: Write + Drop>(
 /// - `all_done`, `not_all_done`, `written`, `flushed`, `no_words`: as for `run_in_memory`, from the state of the tables that were opened.
 /// - `kept`: with status 0 and 1, the database file alone holds the state that the lines come to, after a crash too, where the
 ///   log could be copied into it.
+/// - `stopped`: after a fault of the records, and where memory was refused, the first lines stand and just their outcomes are written; after one
+///   of the output the first lines stand. Where the log could be copied, the file alone holds what they come to, after a crash too.
 /// - `unharmed`: where there is no registry to run, no harm came to what the files held, after a crash too: but for a registry of version 1,
 ///   the same registry in version 2 may be found then.
+/// - `copied`: a log that is said to be copied into the database file is.
 ///
-/// What a fault or a crash leaves is the shelf's: the lines that were answered, or one more.
+/// What a crash leaves, and a fault where the log could not be copied, is the shelf's: the lines that were answered, or one more.
 pub fn run_in_files<D: Disk + Drop, R: Read, W: Write + Drop, T: Write>(
     alloc: Global,
     files: Files<D>,
@@ -131,9 +137,11 @@ pub fn run_in_files<D: Disk + Drop, R: Read, W: Write + Drop, T: Write>(
     ensures not_all_done { IsClean result.1 → (db : Trees) → HoldsDatabase (image_of D.Disk files) db → status_of result.0 ≡ 1 → IfSome (R.remaining reader.old) (λ input. (lines (state_held db) input).bad ≢ 0) }
     ensures written { IsClean result.1 → (db : Trees) → HoldsDatabase (image_of D.Disk files) db → status_of result.0 < 2 → IfSome (R.remaining reader.old) (λ input. Appends (writer_contents W.contents writer.old) (writer_contents W.contents writer.new) (lines (state_held db) input).text) }
     ensures kept { IsClean result.1 → (db : Trees) → HoldsDatabase (image_of D.Disk files) db → status_of result.0 < 2 → IfSome (R.remaining reader.old) (λ input. IfWhole result.1 (λ files. HoldState D.Disk files (lines (state_held db) input).state)) }
+    ensures stopped { IsClean result.1 → (db : Trees) → HoldsDatabase (image_of D.Disk files) db → IfSome (R.remaining reader.old) (λ input. IfOpened result.1 (HoldsStopped result.1 input (state_held db) result.0 (writer_contents W.contents writer.old) (writer_contents W.contents writer.new))) }
     ensures flushed { status_of result.0 < 2 → writer_buffer writer.new ≡ [] }
     ensures no_words { status_of result.0 ≢ 2 }
     ensures unharmed { IsClean result.1 → IfRefused result.1 (LeavesRegistry files) }
+    ensures copied { HasSpareLog result.1 }
 {
     match open_registry(alloc, files, seed, line) {
         Ok(shelf) => {

@@ -3,6 +3,9 @@ ghost use Rattle.std.specs.Prelude.{◌≡◌, ◌⊎◌, IfOk, OnErr};
 ghost use Rattle.goo_desk_heads.specs.Requests.{seen as parts_seen, parts_of};
 ghost use Rattle.goo_desk_responses.specs.Responses.{response_text, fixed};
 ghost use Rattle.goo_core_shelf.specs.Shelf.{IsTold};
+ghost use Rattle.goo_spec.specs.Sound.{IsSound};
+ghost use Rattle.goo_desk_counter.specs.Tables.{ImportsAreRuns};
+ghost use Rattle.goo_desk_answers.specs.Brought.{KeepsPromise};
 ghost use Rattle.goo_desk_answers.specs.Responds.{Does, Handles, RespondsTo, Responds, Stops, StopsIn, StopsAt, Fails, status_of_head};
 
 use crate::answered::Answer;
@@ -127,11 +130,15 @@ pub fn answer_by_routes<D: Counter>(
     ensures doubted { (D.seen desk.new).doubts ≡ 0 → (D.seen desk.old).doubts ≡ 0 }
     ensures lied { (D.seen desk.new).lies ≡ 0 → (D.seen desk.old).lies ≡ 0 }
     ensures told { (D.seen desk.old).refusals ≡ 0 → IsTold result (D.seen desk.new).refusals }
+    ensures promised { ImportsAreRuns D.imports D.begins → IsSound (D.seen desk.old).state → (D.seen desk.new).lies ≡ 0 → KeepsPromise bytes.now (D.seen desk.old).state (D.seen desk.new) result }
 {
     answer_request(alloc, routes, desk, &read_request(bytes))
 }
 
 /// The answer to all the bytes that a stream holds. The routes are made for it alone.
+///
+/// `promised`: what a registry promises after any list of requests holds of the requests that the bytes bring, and after a fault of those
+/// that stand. Its first premise is that the desk's imports are runs, as a registry's are ([`imports_are_runs`](goo_desk_counter::imports_are_runs)).
 ///
 /// # Errors
 ///
@@ -143,6 +150,7 @@ pub fn answer<D: Counter>(alloc: Global, desk: &mut D, bytes: &[u8]) -> Result<A
     ensures doubted { (D.seen desk.new).doubts ≡ 0 → (D.seen desk.old).doubts ≡ 0 }
     ensures lied { (D.seen desk.new).lies ≡ 0 → (D.seen desk.old).lies ≡ 0 }
     ensures told { (D.seen desk.old).refusals ≡ 0 → IsTold result (D.seen desk.new).refusals }
+    ensures promised { ImportsAreRuns D.imports D.begins → IsSound (D.seen desk.old).state → (D.seen desk.new).lies ≡ 0 → KeepsPromise bytes.now (D.seen desk.old).state (D.seen desk.new) result }
 {
     let request = read_request(bytes);
     let routes = Routes::new(alloc)?;

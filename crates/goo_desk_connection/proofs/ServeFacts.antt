@@ -69,7 +69,7 @@ module _ (shows : Showing) (imports : Importing) (begins : Beginning) where
   excuse-sent (Ok u) s bytes text new had has apology state written prefix = (text, record { unavailable = refl; text_is = apology; state = state }, prefix-whole had has text written)
   excuse-sent (Err e) s bytes text new had has apology state written prefix = (text, record { unavailable = refl; text_is = apology; state = state }, prefix)
 
-  served-stands : (s : State) (bytes input : List ℕ) (status : Status) (text : List ℕ) (new : Seen) → StandsFor (Some input) bytes → IsServed shows imports begins s bytes status text new → IsServed shows imports begins s input status text new
+  pub served-stands : (s : State) (bytes input : List ℕ) (status : Status) (text : List ℕ) (new : Seen) → StandsFor (Some input) bytes → IsServed shows imports begins s bytes status text new → IsServed shows imports begins s input status text new
   served-stands s bytes input status text new stands (inl answered) = inl (record { response = λ below. let (d, decides, responds) = answered.response below in (d, stands d decides, responds) })
   served-stands s bytes input status text new stands (inr excused) = inr (record {
     unavailable = excused.unavailable;

@@ -2,6 +2,9 @@
 ghost use Rattle.std.specs.Prelude.{◌≡◌, IfOk, IfErr, IfSome};
 ghost use Rattle.std.specs.Io.KnownBytes.{Keeps};
 ghost use Rattle.goo_desk_connection.specs.Serving.{Connects, Leaves, Sends, SendsPart, SendsExcuse};
+ghost use Rattle.goo_spec.specs.Sound.{IsSound};
+ghost use Rattle.goo_desk_counter.specs.Tables.{ImportsAreRuns};
+ghost use Rattle.goo_desk_connection.specs.Promised.{KeepsPromise};
 ghost use Rattle.goo_desk_connection.specs.Faults.{IsAfterReading, IsBeforeAnswer, IsToldIn};
 ghost use Rattle.goo_desk_connection.specs.declared.serve_fault.ServeFault.TheVariants.{Write as Writing, Store};
 
@@ -76,6 +79,7 @@ pub fn serve_by_routes<D: Counter, R: Read, W: Write>(
     ensures silent { IfErr result (λ fault. IsBeforeAnswer fault → Keeps (W.contents writer.old) (W.contents writer.new)) }
     ensures lied { (D.seen desk.new).lies ≡ 0 → (D.seen desk.old).lies ≡ 0 }
     ensures told { (D.seen desk.old).refusals ≡ 0 → IsToldIn result (D.seen desk.new).refusals }
+    ensures promised { ImportsAreRuns D.imports D.begins → IsSound (D.seen desk.old).state → (D.seen desk.new).lies ≡ 0 → (D.seen desk.new).doubts ≡ 0 → IfSome (R.remaining reader.old) (λ input. KeepsPromise input (D.seen desk.old).state (D.seen desk.new).state) }
 {
     let bytes = read_decided(alloc, reader)?;
     serve_bytes(alloc, routes, desk, &bytes, writer)
@@ -102,6 +106,7 @@ pub fn serve_one<D: Counter, R: Read, W: Write>(
     ensures silent { IfErr result (λ fault. IsBeforeAnswer fault → Keeps (W.contents writer.old) (W.contents writer.new)) }
     ensures lied { (D.seen desk.new).lies ≡ 0 → (D.seen desk.old).lies ≡ 0 }
     ensures told { (D.seen desk.old).refusals ≡ 0 → IsToldIn result (D.seen desk.new).refusals }
+    ensures promised { ImportsAreRuns D.imports D.begins → IsSound (D.seen desk.old).state → (D.seen desk.new).lies ≡ 0 → (D.seen desk.new).doubts ≡ 0 → IfSome (R.remaining reader.old) (λ input. KeepsPromise input (D.seen desk.old).state (D.seen desk.new).state) }
 {
     let Ok(routes) = Routes::new(alloc) else {
         return Err(ServeFault::Memory);

@@ -4,3 +4,6 @@ pub mod Faults
 pub mod Answers
 pub mod Fold
 pub mod Stops
+pub mod Requests
+pub mod Laws
+pub mod Promised

@@ -5,6 +5,7 @@
 #![tactic(auto)]
 
 mod answer;
+mod law;
 mod line;
 mod lines;
 mod lines_fault;
@@ -13,6 +14,7 @@ mod tally;
 mod unread;
 
 pub use answer::Answer;
+pub use law::lines_are_a_run;
 pub use line::read_line;
 pub use lines::Lines;
 pub use lines_fault::LinesFault;

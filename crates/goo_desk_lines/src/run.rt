@@ -6,6 +6,8 @@ ghost use Rattle.goo_desk_lines.specs.Answers.{answer_to, state_after};
 ghost use Rattle.goo_desk_lines.specs.Lines.{request_in};
 ghost use Rattle.goo_desk_lines.specs.Fold.{counted, with_line, lines};
 ghost use Rattle.goo_core_shelf.specs.Shelf.{IsTold};
+ghost use Rattle.goo_spec.specs.Sound.{IsSound};
+ghost use Rattle.goo_desk_lines.specs.Promised.{KeepsPromise};
 ghost use Rattle.goo_desk_lines.specs.Stops.{AnswersLine, IsAfterReading, IsBetweenLines, IsToldIn, IsTurnedDown, StandsWhole, StandsInPart};
 ghost use Rattle.goo_desk_lines.specs.declared.lines_fault.LinesFault.TheVariants.{Read as Reading, Write as Writing};
 
@@ -118,6 +120,9 @@ fn answer_lines<D: Desk, W: Write>(
 /// written. `Store` is answered exactly where the store refused a call. An input of more than [`MOST_INPUT`] bytes is a
 /// `Read`, or a `Memory` where there is no room for what is read of it, and none of its lines is applied. Nothing is flushed.
 ///
+/// `promised`: what a registry promises after any list of requests holds of the requests of the lines that were answered, all of them or
+/// the first ones ([`lines_are_a_run`](crate::lines_are_a_run) says that lines are a run of their requests).
+///
 /// # Example
 ///
 /// ```rust,ignore
@@ -145,6 +150,7 @@ pub fn run_lines<D: Desk, R: Read, W: Write>(
     ensures limit { IfSome (R.remaining reader.old) (λ input. 16_777_216 < length input → IsTurnedDown result (D.seen desk.old) (D.seen desk.new) (W.contents writer.old) (W.contents writer.new)) }
     ensures end { OnOk result (IsAtEnd (R.remaining reader.new)) }
     ensures read { IfErr result (λ fault. IsAfterReading fault → IsAtEnd (R.remaining reader.new)) }
+    ensures promised { IsSound (D.seen desk.old).state → (D.seen desk.new).lies ≡ 0 → IfSome (R.remaining reader.old) (λ input. KeepsPromise input (D.seen desk.old).state (D.seen desk.new) result) }
 {
     let input = read_whole(alloc, reader, MOST_INPUT)?;
     answer_lines(alloc, desk, &input, writer)

@@ -2,6 +2,9 @@
 ghost use Rattle.std.specs.Prelude.{◌≡◌, ◌++◌, codes, decimal, OnOk};
 ghost use Rattle.std.specs.Io.KnownBytes.{Appends};
 ghost use Rattle.goo_desk_connection.specs.Serving.{Connects};
+ghost use Rattle.goo_spec.specs.Sound.{IsSound};
+ghost use Rattle.goo_desk_counter.specs.Tables.{ImportsAreRuns};
+ghost use Rattle.goo_desk_server.specs.Runs.{KeepsPromise};
 ghost use Rattle.goo_desk_server.specs.Serving.{IsToldIn, StepsUpTo};
 
 use crate::connection::serve_stream;
@@ -122,6 +125,7 @@ pub fn serve<D: Counter, C: Clock, W: Write>(
     ensures steps { StepsUpTo D.shows D.imports D.begins count (D.seen desk.old) (D.seen desk.new) }
     ensures lied { (D.seen desk.new).lies ≡ 0 → (D.seen desk.old).lies ≡ 0 }
     ensures told { (D.seen desk.old).refusals ≡ 0 → IsToldIn result (D.seen desk.new).refusals }
+    ensures promised { ImportsAreRuns D.imports D.begins → IsSound (D.seen desk.old).state → (D.seen desk.new).lies ≡ 0 → (D.seen desk.new).doubts ≡ 0 → KeepsPromise count (D.seen desk.old).state (D.seen desk.new).state }
 {
     let Ok(routes) = Routes::new(alloc) else {
         return Err(ServerFault::Memory);

@@ -23,7 +23,7 @@ use Rattle.goo_files.specs.Texts.{IsDocument, denial_in, denial_by, cancellation
 use Rattle.goo_files.specs.Writes.{Writes}
 use Rattle.goo_files.specs.declared.text_fault.TextFault.{TextFault}
 use Rattle.goo_files.specs.declared.text_fault.TextFault.TheVariants as text
-use Rattle.goo_files.proofs.Chaining.{chain_ok, chain_err}
+use Rattle.goo_files.proofs.Chaining.{chain_ok, chain_err, none_denied, unwritten}
 
 -- who may see it
 
@@ -107,6 +107,7 @@ module _ (old mid new : Moment) (before after : Option (List ℕ)) (caller : Lis
     whole = λ none. tt;
     denied = λ none. absurd (clash_here denial.NotAllowed (look.doubted none) (look.found none));
     silent = λ none off. kept_none before;
+    unseen = λ late. unwritten (cancellation_denial old.state caller act) before;
     begun = λ late none off. absurd off;
   }
   second_unread Unknown look = record {
@@ -115,6 +116,7 @@ module _ (old mid new : Moment) (before after : Option (List ℕ)) (caller : Lis
     whole = λ none. tt;
     denied = λ none. absurd (clash_here denial.Unknown (look.doubted none) (look.found none));
     silent = λ none off. kept_none before;
+    unseen = λ late. unwritten (cancellation_denial old.state caller act) before;
     begun = λ late none off. absurd off;
   }
   second_unread Store look = record {
@@ -123,6 +125,7 @@ module _ (old mid new : Moment) (before after : Option (List ℕ)) (caller : Lis
     whole = λ none. tt;
     denied = λ none. tt;
     silent = λ none off. absurd off;
+    unseen = λ late. unwritten (cancellation_denial old.state caller act) before;
     begun = λ late none off. inl (kept_none before);
   }
   second_unread Memory look = record {
@@ -131,6 +134,7 @@ module _ (old mid new : Moment) (before after : Option (List ℕ)) (caller : Lis
     whole = λ none. tt;
     denied = λ none. tt;
     silent = λ none off. absurd off;
+    unseen = λ late. unwritten (cancellation_denial old.state caller act) before;
     begun = λ late none off. inl (kept_none before);
   }
 
@@ -147,6 +151,7 @@ module _ (old mid new : Moment) (before after : Option (List ℕ)) (caller : Lis
       whole = λ none. (cancellation_text (head_by found act own.code) found.runs.items, is_document none, wrote none);
       denied = λ none. tt;
       silent = λ none. tt;
+      unseen = λ late. none_denied (cancellation_denial old.state caller act) _ _ (shown_is old.state caller act found (one.found (one.works (two.lied late))));
       begun = λ late none. tt;
     }
 
@@ -157,6 +162,7 @@ module _ (old mid new : Moment) (before after : Option (List ℕ)) (caller : Lis
       whole = λ none. tt;
       denied = λ none. shown_is old.state caller act found (one.found (two.doubted none));
       silent = λ none off. absurd off;
+      unseen = λ late. none_denied (cancellation_denial old.state caller act) _ _ (shown_is old.state caller act found (one.found (one.works (two.lied late))));
       begun = λ late none off. let sure = two.works late in inr (cancellation_text (head_by found act own.code) found.runs.items, (tt, is_document sure), part sure);
     }
 

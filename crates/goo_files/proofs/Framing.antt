@@ -18,7 +18,7 @@ use Rattle.goo_files.specs.Texts.{AreRunsNaming}
 use Rattle.goo_files.specs.Writes.{Writes, Began}
 use Rattle.goo_files.specs.declared.text_fault.TextFault.{TextFault}
 use Rattle.goo_files.specs.declared.text_fault.TextFault.TheVariants as text
-use Rattle.goo_files.proofs.Chaining.{chain_ok, chain_err, plain_ok}
+use Rattle.goo_files.proofs.Chaining.{chain_ok, chain_err, plain_ok, none_denied}
 use Rattle.goo_files.proofs.Lining.{IsWell, full}
 
 module _ {T : Type 0} (line : Piece → List ℕ) (sum : List Piece → T) (foot : T → List ℕ) (Right : List ℕ → Type 0) where
@@ -50,6 +50,7 @@ module _ {T : Type 0} (line : Piece → List ℕ) (sum : List Piece → T) (foot
       whole = λ none. tt;
       denied = λ none. denial_is none;
       silent = λ none off. absurd off;
+      unseen = λ late. none_denied (account_denial caller (get old.state.accounts account)) _ _ (denial_is (look.works late));
       begun = λ late none off. begun_head mid (look.works late) part;
     }
     head_broken text.Memory is part = record {
@@ -58,6 +59,7 @@ module _ {T : Type 0} (line : Piece → List ℕ) (sum : List Piece → T) (foot
       whole = λ none. tt;
       denied = λ none. tt;
       silent = λ none off. absurd off;
+      unseen = λ late. none_denied (account_denial caller (get old.state.accounts account)) _ _ (denial_is (look.works late));
       begun = λ late none off. begun_head mid (look.works late) part;
     }
 
@@ -77,6 +79,7 @@ module _ {T : Type 0} (line : Piece → List ℕ) (sum : List Piece → T) (foot
         whole = λ none. tt;
         denied = λ none. let clash = w.denied none in cc;
         silent = λ none off. let clash = w.denied none in cc;
+        unseen = λ late. none_denied (account_denial caller (get old.state.accounts account)) _ _ (denial_is (look.works (w.looks.lied late)));
         begun = λ late none off. absurd off;
       }
       lines_cut text.Unknown w = record {
@@ -85,6 +88,7 @@ module _ {T : Type 0} (line : Piece → List ℕ) (sum : List Piece → T) (foot
         whole = λ none. tt;
         denied = λ none. let clash = w.denied none in cc;
         silent = λ none off. let clash = w.denied none in cc;
+        unseen = λ late. none_denied (account_denial caller (get old.state.accounts account)) _ _ (denial_is (look.works (w.looks.lied late)));
         begun = λ late none off. absurd off;
       }
       lines_cut text.Write w = record {
@@ -93,6 +97,7 @@ module _ {T : Type 0} (line : Piece → List ℕ) (sum : List Piece → T) (foot
         whole = λ none. tt;
         denied = λ none. denial_is (w.looks.doubted none);
         silent = λ none off. absurd off;
+        unseen = λ late. none_denied (account_denial caller (get old.state.accounts account)) _ _ (denial_is (look.works (w.looks.lied late)));
         begun = λ late none off. let sure = look.works (w.looks.lied late) in begun_lines sure (w.begun late sure tt);
       }
       lines_cut text.Store w = record {
@@ -101,6 +106,7 @@ module _ {T : Type 0} (line : Piece → List ℕ) (sum : List Piece → T) (foot
         whole = λ none. tt;
         denied = λ none. tt;
         silent = λ none off. absurd off;
+        unseen = λ late. none_denied (account_denial caller (get old.state.accounts account)) _ _ (denial_is (look.works (w.looks.lied late)));
         begun = λ late none off. let sure = look.works (w.looks.lied late) in begun_lines sure (w.begun late sure tt);
       }
       lines_cut text.Memory w = record {
@@ -109,6 +115,7 @@ module _ {T : Type 0} (line : Piece → List ℕ) (sum : List Piece → T) (foot
         whole = λ none. tt;
         denied = λ none. tt;
         silent = λ none off. absurd off;
+        unseen = λ late. none_denied (account_denial caller (get old.state.accounts account)) _ _ (denial_is (look.works (w.looks.lied late)));
         begun = λ late none off. let sure = look.works (w.looks.lied late) in begun_lines sure (w.begun late sure tt);
       }
 
@@ -130,6 +137,7 @@ module _ {T : Type 0} (line : Piece → List ℕ) (sum : List Piece → T) (foot
               appends-more before mid end head _ wrote (appends-more mid at end (flat_map line runs) _ lines (subst (λ (c : T). Appends at end (foot c)) summed last)));
           denied = λ none. tt;
           silent = λ none. tt;
+          unseen = λ late. none_denied (account_denial caller (get old.state.accounts account)) _ _ (denial_is (look.works (w.looks.lied late)));
           begun = λ late none. tt;
         }
 
@@ -140,6 +148,7 @@ module _ {T : Type 0} (line : Piece → List ℕ) (sum : List Piece → T) (foot
           whole = λ none. tt;
           denied = λ none. denial_is (w.looks.doubted none);
           silent = λ none off. absurd off;
+          unseen = λ late. none_denied (account_denial caller (get old.state.accounts account)) _ _ (denial_is (look.works (w.looks.lied late)));
           begun = λ late none off.
               let whole = whole_by (AppendsPrefix before end) (w.looks.works late) (λ runs summed lines.
               prefix-more before mid end head _ wrote (prefix-more mid at end (flat_map line runs) _ lines (subst (λ (c : T). AppendsPrefix at end (foot c)) summed part))) in

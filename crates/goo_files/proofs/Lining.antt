@@ -134,6 +134,7 @@ module _ {T : Type 0} (line : Piece → List ℕ) (sum : List Piece → T) where
           (flat_map line b.all, record { runs = b.all; are_runs = b.are_runs; is = refl; summed = b.summed ∙ ap sum (sym same) }, subst (λ l. Appends before at (flat_map line l)) (sym same) b.written);
       denied = λ none. tt;
       silent = λ none. tt;
+      unseen = λ late. tt;
       begun = λ late none. tt;
     }
 
@@ -169,6 +170,7 @@ module _ {T : Type 0} (line : Piece → List ℕ) (sum : List Piece → T) where
       whole = λ none. tt;
       denied = λ none. refl;
       silent = λ none off. absurd off;
+      unseen = λ late. tt;
       begun = λ late none off.
           let sure = look.works late in
           let was = look.doubted sure in
@@ -190,6 +192,7 @@ module _ {T : Type 0} (line : Piece → List ℕ) (sum : List Piece → T) where
       whole = λ none. tt;
       denied = λ none. absurd (not_denied denial.NotAllowed shown (look.doubted none) (look.found none));
       silent = λ none off. absurd (not_denied denial.NotAllowed shown (look.doubted none) (look.found none));
+      unseen = λ late. tt;
       begun = λ late none off. absurd off;
     }
     going_fails shown Unknown look = record {
@@ -198,6 +201,7 @@ module _ {T : Type 0} (line : Piece → List ℕ) (sum : List Piece → T) where
       whole = λ none. tt;
       denied = λ none. absurd (not_denied denial.Unknown shown (look.doubted none) (look.found none));
       silent = λ none off. absurd (not_denied denial.Unknown shown (look.doubted none) (look.found none));
+      unseen = λ late. tt;
       begun = λ late none off. absurd off;
     }
     going_fails shown Store look = record {
@@ -206,6 +210,7 @@ module _ {T : Type 0} (line : Piece → List ℕ) (sum : List Piece → T) where
       whole = λ none. tt;
       denied = λ none. tt;
       silent = λ none off. absurd off;
+      unseen = λ late. tt;
       begun = λ late none off. begun_prefix at (going.begun (going.looks.works (look.lied late))) (kept_none at);
     }
     going_fails shown Memory look = record {
@@ -214,6 +219,7 @@ module _ {T : Type 0} (line : Piece → List ℕ) (sum : List Piece → T) where
       whole = λ none. tt;
       denied = λ none. tt;
       silent = λ none off. absurd off;
+      unseen = λ late. tt;
       begun = λ late none off. begun_prefix at (going.begun (going.looks.works (look.lied late))) (kept_none at);
     }
 
@@ -228,6 +234,7 @@ module _ {T : Type 0} (line : Piece → List ℕ) (sum : List Piece → T) where
           whole = λ none. tt;
           denied = λ none. tt;
           silent = λ none off. absurd off;
+          unseen = λ late. tt;
           begun = λ late none off.
               let sure = look.works late in
               let was = look.doubted sure in

@@ -40,7 +40,8 @@ fn write_devices<W: Write>(writer: &mut W, totals: &[DeviceTotals]) -> Result<()
 ///
 /// # Errors
 ///
-/// See [`TextFault`]: after `NotAllowed` nothing was written, after the others a beginning of the text.
+/// See [`TextFault`]: after `NotAllowed` nothing was written, after the others a beginning of the text. A caller who is denied it gets no byte,
+/// however the call ends (`unseen`).
 pub fn write_audit<S: Shelf, W: Write>(
     alloc: Global,
     registry: &mut Registry<S>,

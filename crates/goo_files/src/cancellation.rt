@@ -92,7 +92,8 @@ fn write_document<W: Write>(
 ///
 /// # Errors
 ///
-/// See [`TextFault`]: after `NotAllowed` and `Unknown` nothing was written, after the others a beginning of the text.
+/// See [`TextFault`]: after `NotAllowed` and `Unknown` nothing was written, after the others a beginning of the text. A caller who is denied it gets no byte,
+/// however the call ends (`unseen`).
 pub fn write_cancellation<S: Shelf, W: Write>(
     alloc: Global,
     registry: &mut Registry<S>,

@@ -69,7 +69,8 @@ fn write_head<W: Write>(writer: &mut W, heading: &Heading) -> Result<(), WriteFa
 ///
 /// # Errors
 ///
-/// See [`TextFault`]: after `NotAllowed` and `Unknown` nothing was written, after the others a beginning of the text.
+/// See [`TextFault`]: after `NotAllowed` and `Unknown` nothing was written, after the others a beginning of the text. A caller who is denied it gets no byte,
+/// however the call ends (`unseen`).
 pub fn write_statement<S: Shelf, W: Write>(
     registry: &mut Registry<S>,
     caller: &HolderCode,

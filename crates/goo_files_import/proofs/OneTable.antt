@@ -5,6 +5,7 @@ use Rattle.csv.specs.Reading.{Reached}
 use Rattle.csv.specs.declared.parser.Config.{Config}
 use Rattle.csv.specs.declared.parser.State.{State}
 use Rattle.goo_files_import.specs.Laws.{OneTable, HeaderOrRows}
+use Rattle.goo_files_import.specs.Table.{LacksHeader, BeginsTable}
 use Rattle.goo_files_csv.specs.Rows.{header}
 
 abbrev Records : Type 0
@@ -45,3 +46,15 @@ first_is cfg s xs first row rows s1 s2 ys zs a b =
 pub header_or_rows : HeaderOrRows
 header_or_rows input rows (inl none) table = let clash : [] ≡ header ∷ rows = one_table input [] (header ∷ rows) none table in cc
 header_or_rows input rows (inr (first, (s1, ys, a), other)) (s2, zs, b, bn) = other (first_is _ _ _ first header rows s1 s2 ys zs a b)
+
+-- what ends at once has no first record
+no_first : (cfg : Config) (s : State) (xs : List ℕ) (row : List (List ℕ)) (rows : Records) (s1 s2 : State) (ys zs : List ℕ) → Reached cfg s xs [] s1 ys → next_record cfg s1 [] [] ys ≡ None → Reached cfg s xs (row ∷ rows) s2 zs → ⊥
+unfolding Reached
+no_first cfg s xs row rows s1 s2 ys zs a an b =
+    let end : next_record cfg s [] [] xs ≡ None = (λ i. next_record cfg (a.0 i) [] [] (a.1 i)) ∙ an in
+    no_read (next_record cfg s [] [] xs) b.0 end b.1
+
+-- an input that lacks its header doesn't begin with it
+pub begins_or_lacks : (input : List ℕ) (rows : Records) → LacksHeader input → BeginsTable input (header ∷ rows) → ⊥
+begins_or_lacks input rows (inl (s1, ys, a, an)) (s2, zs, b) = no_first _ _ _ header rows s1 s2 ys zs a an b
+begins_or_lacks input rows (inr (first, (s1, ys, a), other)) (s2, zs, b) = other (first_is _ _ _ first header rows s1 s2 ys zs a b)

@@ -5,8 +5,10 @@ ghost use Rattle.csv.specs.Records.{fields_of};
 ghost use Rattle.goo_files_import.specs.Import.{row_result, state_after};
 ghost use Rattle.goo_files_import.specs.Table.{LacksHeader};
 ghost use Rattle.goo_core_shelf.specs.Shelf.{IsTold};
+ghost use Rattle.goo_spec.specs.Sound.{IsSound};
+ghost use Rattle.goo_files_import.specs.Promised.{KeepsPromise};
 ghost use Rattle.goo_files_import.specs.Stands.{IsImported, StandsInPart, IsBeforeRows, IsBetweenRows, IsToldIn};
-ghost use Rattle.goo_files_import.specs.declared.cause.Cause.TheVariants.{Header as NoHeader, Read as Unread};
+ghost use Rattle.goo_files_import.specs.declared.cause.Cause.TheVariants.{Header as NoHeader, Read as Unread, Store as Refused};
 
 use crate::cause::{Cause, ImportFault};
 use crate::progress::Progress;
@@ -124,6 +126,7 @@ pub fn import_bytes<D: Desk, P: Progress>(
     ensures sure_whole { (D.seen desk.new).doubts ≡ 0 → IfOk result (λ report. IsImported caller.now input.now (D.seen desk.old).state (D.seen desk.new).state report.lines.items) }
     ensures kinds { IfErr result (λ fault. fault.cause ≢ Unread) }
     ensures header { IfErr result (λ fault. fault.cause ≡ NoHeader → LacksHeader input.now) }
+    ensures lacking { LacksHeader input.now → IfErr result (λ fault. fault.cause ≢ Refused) }
     ensures before { IfErr result (λ fault. IsBeforeRows fault.cause → (D.seen desk.new ≡ D.seen desk.old)) }
     ensures before_lines { IfErr result (λ fault. IsBeforeRows fault.cause → fault.report.lines.items ≡ []) }
     ensures part { (D.seen desk.new).lies ≡ 0 → IfErr result (λ fault. IsBetweenRows fault.cause → StandsInPart caller.now input.now (D.seen desk.old).state (D.seen desk.new) fault.report.lines.items) }
@@ -164,6 +167,9 @@ pub fn import_bytes<D: Desk, P: Progress>(
 /// a row is taken before the row is applied, so the rows of the report stand and no others, whatever happens. A row whose
 /// key is kept is repeated, so a file may come twice. `progress` is told how far it is.
 ///
+/// `promised`: what a registry promises after any list of requests holds of the requests of the rows that were applied, all of them or the
+/// first ones ([`import_is_a_run`](crate::import_is_a_run) says that an import is a run of its rows' requests).
+///
 /// # Errors
 ///
 /// See [`Cause`]: after `Header` and `Read` nothing was applied; after `Store` and `Memory` the rows of the report stand.
@@ -176,12 +182,14 @@ pub fn import_declarations<D: Desk, R: Read, P: Progress>(
 ) -> Result<Report, ImportFault>
     ensures whole { (D.seen desk.new).lies ≡ 0 → IfSome (R.remaining reader.old) (λ input. IfOk result (λ report. IsImported caller.now input (D.seen desk.old).state (D.seen desk.new).state report.lines.items)) }
     ensures header { IfSome (R.remaining reader.old) (λ input. IfErr result (λ fault. fault.cause ≡ NoHeader → LacksHeader input)) }
+    ensures lacking { IfSome (R.remaining reader.old) (λ input. LacksHeader input → IfErr result (λ fault. fault.cause ≢ Refused)) }
     ensures before { IfErr result (λ fault. IsBeforeRows fault.cause → (D.seen desk.new ≡ D.seen desk.old)) }
     ensures before_lines { IfErr result (λ fault. IsBeforeRows fault.cause → fault.report.lines.items ≡ []) }
     ensures part { (D.seen desk.new).lies ≡ 0 → IfSome (R.remaining reader.old) (λ input. IfErr result (λ fault. IsBetweenRows fault.cause → StandsInPart caller.now input (D.seen desk.old).state (D.seen desk.new) fault.report.lines.items)) }
     ensures lied { (D.seen desk.new).lies ≡ 0 → (D.seen desk.old).lies ≡ 0 }
     ensures told { (D.seen desk.old).refusals ≡ 0 → IsToldIn result (D.seen desk.new).refusals }
     ensures end { OnOk result (IsAtEnd (R.remaining reader.new)) }
+    ensures promised { IsSound (D.seen desk.old).state → (D.seen desk.new).lies ≡ 0 → IfSome (R.remaining reader.old) (λ input. KeepsPromise caller.now input (D.seen desk.old).state (D.seen desk.new) result) }
 {
     match read_whole(alloc, reader, MOST_INPUT) {
         Ok(input) => import_bytes(alloc, desk, caller, &input, progress),

@@ -3,10 +3,11 @@
 ghost use Rattle.std.specs.Prelude.{◌≡◌, Some, IfOk, IfSome, OnErr};
 ghost use Rattle.goo_ranges_rows.specs.Rows.{AreRowsOf, rows-prop};
 ghost use Rattle.goo_spec.specs.Balanced.{IsBalanced};
-ghost use Rattle.goo_spec.specs.Promise.{HaveTheirPlace, AreThoseBrought, OthersAreIdle};
+ghost use Rattle.goo_spec.specs.Promise.{HaveTheirPlace, AreThoseBrought};
+ghost use Rattle.goo_spec_idle.specs.Idle.{OthersMakeNoDifference};
 ghost use Rattle.goo_spec.specs.Sound.{IsSound};
 ghost use Rattle.goo_registry.specs.Applying.{Applies};
-ghost use Rattle.goo_registry.specs.Running.{Runs, RunsAsOne, answered};
+ghost use Rattle.goo_registry.specs.Running.{Runs, RunsAsOne, answered, answers};
 ghost use Rattle.goo_registry.specs.Shown.{Shows, apart as answer_of};
 ghost use Rattle.goo_spec_runs.specs.NextRun.{from_of, BeginsFrom};
 ghost use Rattle.goo_core_answers.specs.Ahead.{IsSeen, IsPlaceAfter};
@@ -111,7 +112,7 @@ impl<S: Shelf> Registry<S> {
     ///   those that corrections withdrew, plus a carry below 1,000,000;
     /// - `one_place`: each certificate known before, and each ever issued or imported, is in one place: the one that the
     ///   accepted requests, each once, give it when they are applied certificate by certificate (`known`: there are no others);
-    /// - `others_idle`: refused and repeated requests change nothing.
+    /// - `others_idle`: refused and repeated requests change nothing: the others alone leave the same state, and have the same outcomes.
     ///
     /// # Errors
     ///
@@ -135,7 +136,7 @@ impl<S: Shelf> Registry<S> {
         ensures energy { (S.seen self.new.shelf).doubts ≡ 0 → IsBalanced (S.seen self.new.shelf).state }
         ensures one_place { (S.seen self.new.shelf).doubts ≡ 0 → HaveTheirPlace (S.seen self.old.shelf).state (answered requests.now result) (S.seen self.new.shelf).state }
         ensures known { (S.seen self.new.shelf).doubts ≡ 0 → AreThoseBrought (S.seen self.old.shelf).state (answered requests.now result) (S.seen self.new.shelf).state }
-        ensures others_idle { (S.seen self.new.shelf).doubts ≡ 0 → OthersAreIdle (S.seen self.old.shelf).state (answered requests.now result) }
+        ensures others_idle { (S.seen self.new.shelf).doubts ≡ 0 → OthersMakeNoDifference (S.seen self.old.shelf).state (answered requests.now result) (answers result) (S.seen self.new.shelf).state }
     {
         run_all(alloc, &mut self.shelf, requests)
     }

@@ -15,6 +15,7 @@ ghost use Rattle.goo_spec_tables.specs.States.{state_of};
 ghost use Rattle.goo_store_open.specs.Found.{IsOutside};
 ghost use Rattle.goo_store_open.specs.Foreign.{LacksMeta, TellsVersion, IsForeignWord};
 ghost use Rattle.goo_ranges_rows.specs.Rows.{AreRowsOf};
+ghost use Rattle.goo_spec.specs.Runs.{IsApart};
 ghost use Rattle.goo_spec.specs.Sound.{IsSound};
 ghost use Rattle.goo_core_shelf.specs.Shelf.{IsReady};
 ghost use Rattle.goo_store_lookups.specs.Moments.{moment};
@@ -51,6 +52,7 @@ impl<S: Alter> SqlShelf<S> {
         ensures state { IfOk result (λ shelf. (t : Tables) → Stands (view S.Store conn).now t → (moment (view S.Store shelf.conn) shelf.refused).doubts ≡ 0 → (moment (view S.Store shelf.conn) shelf.refused).state ≡ state_of t) }
         ensures sound { IfOk result (λ shelf. (moment (view S.Store shelf.conn) shelf.refused).doubts ≡ 0 → IsSound (moment (view S.Store shelf.conn) shelf.refused).state) }
         ensures rows_fit { IfOk result (λ shelf. (moment (view S.Store shelf.conn) shelf.refused).doubts ≡ 0 → AreRowsOf (moment (view S.Store shelf.conn) shelf.refused).state.at (moment (view S.Store shelf.conn) shelf.refused).rows) }
+        ensures apart { IfOk result (λ shelf. (moment (view S.Store shelf.conn) shelf.refused).doubts ≡ 0 → IsApart (moment (view S.Store shelf.conn) shelf.refused).rows) }
         ensures ready { IfOk result (λ shelf. IsReady (moment (view S.Store shelf.conn) shelf.refused)) }
         ensures kept { IfOk result (λ shelf. (t : Tables) → Stands (view S.Store conn).now t → HasCleanDisk (view S.Store shelf.conn) → AreKept t) }
         ensures rests { ((view S.Store conn).now.schema ≡ first_schema → ⊥) → IfOk result (λ shelf. HasCleanDisk (view S.Store shelf.conn) → Rests (view S.Store conn) (view S.Store shelf.conn)) }
@@ -91,6 +93,7 @@ impl<S: Alter> SqlShelf<S> {
         ensures state { IfOk result (λ shelf. (t : Tables) → Stands (view S.Store conn).now t → (moment (view S.Store shelf.conn) shelf.refused).doubts ≡ 0 → (moment (view S.Store shelf.conn) shelf.refused).state ≡ state_of t) }
         ensures sound { IfOk result (λ shelf. (moment (view S.Store shelf.conn) shelf.refused).doubts ≡ 0 → IsSound (moment (view S.Store shelf.conn) shelf.refused).state) }
         ensures rows_fit { IfOk result (λ shelf. (moment (view S.Store shelf.conn) shelf.refused).doubts ≡ 0 → AreRowsOf (moment (view S.Store shelf.conn) shelf.refused).state.at (moment (view S.Store shelf.conn) shelf.refused).rows) }
+        ensures apart { IfOk result (λ shelf. (moment (view S.Store shelf.conn) shelf.refused).doubts ≡ 0 → IsApart (moment (view S.Store shelf.conn) shelf.refused).rows) }
         ensures ready { IfOk result (λ shelf. IsReady (moment (view S.Store shelf.conn) shelf.refused)) }
         ensures kept { IfOk result (λ shelf. (t : Tables) → Stands (view S.Store conn).now t → HasCleanDisk (view S.Store shelf.conn) → AreKept t) }
         ensures rests { ((view S.Store conn).now.schema ≡ first_schema → ⊥) → IfOk result (λ shelf. HasCleanDisk (view S.Store shelf.conn) → Rests (view S.Store conn) (view S.Store shelf.conn)) }

@@ -5,6 +5,7 @@ ghost use Rattle.sqlite.specs.Held.{state as view};
 ghost use Rattle.sqlite.specs.State.{HasCleanDisk, Survives};
 ghost use Rattle.goo_ranges_rows.specs.Rows.{AreRowsOf};
 ghost use Rattle.goo_spec.specs.Created.{created};
+ghost use Rattle.goo_spec.specs.Runs.{IsApart};
 ghost use Rattle.goo_spec.specs.Sound.{IsSound};
 ghost use Rattle.goo_tables_rows.specs.Columns.{no_schema};
 ghost use Rattle.goo_tables_rows.specs.Stands.{Holds};
@@ -58,7 +59,7 @@ impl<S: Alter + Drop> Drop for SqlShelf<S> {
 
 impl<S: Alter> SqlShelf<S> {
     /// The registry that a database holds by all rules.
-    pub fn over(alloc: Global, conn: Connection<S>) -> SqlShelf<S>
+    pub(crate) fn over(alloc: Global, conn: Connection<S>) -> SqlShelf<S>
         requires outside { conn.in_transaction ≡ false }
         requires well { IsWell (view S.Store conn) }
         ensures conn { result.conn ≡ conn }
@@ -92,6 +93,7 @@ impl<S: Alter> SqlShelf<S> {
         ensures rows { IfOk result (λ shelf. (moment (view S.Store shelf.conn) shelf.refused).doubts ≡ 0 → (moment (view S.Store shelf.conn) shelf.refused).rows ≡ []) }
         ensures sound { IfOk result (λ shelf. (moment (view S.Store shelf.conn) shelf.refused).doubts ≡ 0 → IsSound (moment (view S.Store shelf.conn) shelf.refused).state) }
         ensures rows_fit { IfOk result (λ shelf. (moment (view S.Store shelf.conn) shelf.refused).doubts ≡ 0 → AreRowsOf (moment (view S.Store shelf.conn) shelf.refused).state.at (moment (view S.Store shelf.conn) shelf.refused).rows) }
+        ensures apart { IfOk result (λ shelf. (moment (view S.Store shelf.conn) shelf.refused).doubts ≡ 0 → IsApart (moment (view S.Store shelf.conn) shelf.refused).rows) }
         ensures ready { IfOk result (λ shelf. IsReady (moment (view S.Store shelf.conn) shelf.refused)) }
         ensures there { IfErr result (λ e. e.1 ≡ AlreadyThere → e.0 ≡ conn) }
         ensures taken { (view S.Store conn).now.schema ≢ no_schema → IsErrAnd result (λ e. e.1 ≡ AlreadyThere) }

@@ -194,6 +194,22 @@ impl Disks {
         }
     }
 
+    /// The database file alone: its log is removed.
+    pub fn without_log(self, alloc: Global) -> Disks {
+        let Files { log: _, db } = self.files;
+        Disks {
+            files: Files {
+                log: Failing::new(Memory::new(alloc)),
+                db,
+            },
+        }
+    }
+
+    /// Whether there is nothing in the log.
+    pub fn has_no_log(&self) -> bool {
+        self.files.log.inner.bytes().is_empty()
+    }
+
     /// What a crash leaves, on disks that work.
     pub fn crashed(self) -> Disks {
         let Files { mut log, mut db } = self.files;

@@ -12,6 +12,7 @@ use goo_cli_ending::Ending;
 use goo_cli_registry::creating::init_in_files;
 use goo_cli_registry::renewal_line::RenewalLine;
 use goo_cli_registry::running::run_in_files;
+use goo_cli_registry::settling::Settled;
 use goo_types::day::Day;
 use goo_types::registry_code::RegistryCode;
 use goo_types::serial::Serial;
@@ -85,13 +86,13 @@ fn edited<D: Disk + Drop>(rt: &impl Abort, alloc: Global, files: Files<D>, sql: 
     }
 }
 
-/// A step is done on files: what it comes to, and the files as it leaves them.
+/// A step is done on files: what it comes to, and the files as it leaves them, with whether their log may go.
 fn performs<D: Disk + Drop>(
     rt: &impl Abort,
     alloc: Global,
     files: Files<D>,
     step: &Step<'_>,
-) -> (String, Files<D>) {
+) -> (String, Settled<D>) {
     if !files.may_be_used() {
         panic!(rt; "disks that may not be used");
     }
@@ -108,21 +109,31 @@ fn performs<D: Disk + Drop>(
             run_in_files(alloc, files, SEED, &mut reader, &mut writer, &mut line)
         }
         Step::Edits(sql) => {
-            let files = edited(rt, alloc, files, sql);
+            let settled = Settled {
+                files: edited(rt, alloc, files, sql),
+                is_log_spare: false,
+            };
             let text = String::from_str(alloc, EDITED).expect(rt, "memory");
-            return (text, files);
+            return (text, settled);
         }
     };
     (
         told(rt, alloc, &renewed, &ending, writer.get_ref()),
-        left.into_files(),
+        left.settle(),
     )
 }
 
-/// A step is done on disks: what it comes to, and the disks as it leaves them.
+/// A step is done on disks: what it comes to, and the disks as it leaves them. A log that may go is removed, as the program does.
 pub fn does(rt: &impl Abort, alloc: Global, disks: Disks, step: &Step<'_>) -> (String, Disks) {
-    let (told, files) = performs(rt, alloc, disks.files, step);
-    (told, Disks { files })
+    let (told, settled) = performs(rt, alloc, disks.files, step);
+    let disks = Disks {
+        files: settled.files,
+    };
+    if settled.is_log_spare {
+        (told, disks.without_log(alloc))
+    } else {
+        (told, disks)
+    }
 }
 
 /// A step comes to what it should. Where it ends with its status and a line on standard error, the disks hold what they held.

@@ -1,4 +1,5 @@
 use Rattle.goo_cli_ending.proofs.EndingLemmas.{all_done_from, not_all_done_from, written_from, kept_from, flushed_from, of_lines, after_input, told_from}
+use Rattle.goo_cli_ending.proofs.StoppedLemmas.{stopped_from}
 use Rattle.goo_cli_ending.proofs.answering.answer_input.Goals as goal
 
 pub returns-clause-all_done : goal.returns-clause-all_done
@@ -24,3 +25,8 @@ returns-clause-read g c = rw c.of_run.ensures (after_input c.run_lines-answered.
 
 pub returns-clause-told : goal.returns-clause-told
 returns-clause-told g c fresh = rw c.of_run.ensures (told_from c.run_lines-answered.result c.is_ok-flushed.result _ (c.run_lines-answered.ensures.told fresh))
+
+pub returns-clause-stopped : goal.returns-clause-stopped
+returns-clause-stopped g c sure =
+    rw c.of_run.ensures (stopped_from c.run_lines-answered.result c.is_ok-flushed.result (g.R.Read.remaining c.args.reader.now) _ _ _ _ _
+    (c.run_lines-answered.ensures.state sure) (c.run_lines-answered.ensures.whole sure) (c.run_lines-answered.ensures.part sure) c.run_lines-answered.ensures.unread c.flush.ensures.bytes)

@@ -1,4 +1,5 @@
-use Rattle.std.proofs.Common.{◌≡◌, subst, sym}
+use Rattle.std.proofs.Common.{◌≡◌, None, subst, sym}
+use Rattle.std.specs.FinMap.{get}
 use Rattle.sqlite.specs.Files.{file_state}
 use Rattle.sqlite_trees.specs.View.{doubt}
 use Rattle.goo_store.specs.Versions.{state_held}
@@ -14,3 +15,15 @@ returns-in-Ok-clause-shown g c = λ clean db holds status.
     wrote_begun (λ s. IsStatement s c.args.account) _ _ _ _
     (subst (λ shelf. (moment (file_state shelf.conn) shelf.refused).state ≡ state_held db) (sym c.new-registry.ensures) (c.in-Ok.ensures.state db holds (c.in-Ok.ensures.ready.works before)))
     (c.show_statement-ending.ensures.shown low status)
+
+pub returns-in-Ok-clause-unknown : goal.returns-in-Ok-clause-unknown
+returns-in-Ok-clause-unknown g c = λ clean db holds status.
+    let low = subst (λ shelf. doubt (file_state shelf.conn).is_clean ≡ 0) c.into_shelf.ensures (c.close_registry.ensures.clean clean) in
+    let before = subst (λ shelf. doubt (file_state shelf.conn).is_clean ≡ 0) c.new-registry.ensures (c.show_statement-ending.ensures.lied low) in
+    subst (λ s. get s.accounts c.args.account ≡ None)
+    (subst (λ shelf. (moment (file_state shelf.conn) shelf.refused).state ≡ state_held db) (sym c.new-registry.ensures) (c.in-Ok.ensures.state db holds (c.in-Ok.ensures.ready.works before)))
+    (c.show_statement-ending.ensures.unknown low status)
+
+pub returns-in-Ok-clause-silent : goal.returns-in-Ok-clause-silent
+returns-in-Ok-clause-silent g c = λ clean status.
+    c.show_statement-ending.ensures.silent (subst (λ shelf. doubt (file_state shelf.conn).is_clean ≡ 0) c.into_shelf.ensures (c.close_registry.ensures.clean clean)) status

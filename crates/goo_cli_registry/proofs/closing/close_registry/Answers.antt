@@ -1,4 +1,4 @@
-use Rattle.std.proofs.Common.{◌≡◌, Some, subst, sym}
+use Rattle.std.proofs.Common.{◌≡◌, inr, Some, subst, sym}
 use Rattle.sqlite.specs.Files.{file_state}
 use Rattle.sqlite.specs.State.{HasCleanDisk}
 use Rattle.sqlite.specs.Tree.{Trees}
@@ -29,6 +29,15 @@ copied g c = λ clean.
 
 pub returns-in-Ok-clause-whole : goal.returns-in-Ok-clause-whole
 returns-in-Ok-clause-whole g c = copied g c
+
+-- so the log may go
+pub returns-in-Ok-clause-copied : goal.returns-in-Ok-clause-copied
+returns-in-Ok-clause-copied g c = λ clean image may. inr ((file_state c.into_connection.result).committed.trees, (c.in-Ok.ensures.copied clean).left image may)
+
+pub returns-in-Ok-clause-sure : goal.returns-in-Ok-clause-sure
+returns-in-Ok-clause-sure g c = λ clean.
+    let copied = c.in-Ok.ensures.copied clean in
+    subst (λ kept. doubts (file_state kept) ≡ 0) c.into_connection.ensures.conn (is_sure (file_state c.into_connection.result) copied.was_clean copied.was_open)
 
 pub returns-in-Ok-clause-kept : goal.returns-in-Ok-clause-kept
 returns-in-Ok-clause-kept g c none = copied g c

@@ -5,6 +5,7 @@ use Rattle.goo_store.specs.Versions.{state_held}
 use Rattle.goo_store_lookups.specs.Moments.{moment}
 use Rattle.goo_cli_registry.proofs.Files.{kept_begun, not_refused}
 use Rattle.goo_cli_registry.proofs.RunLemmas.{all_done_begun, not_all_done_begun, written_begun}
+use Rattle.goo_cli_registry.proofs.StoppedLemmas.{stopped_begun, unopened}
 use Rattle.goo_cli_registry.proofs.running.run_in_files.Goals as goal
 
 -- files that returned what was written to the end did so when the registry was opened
@@ -39,6 +40,17 @@ returns-in-Ok-clause-kept g c = λ clean db holds status.
     kept_begun c.close_registry.result (g.R.Read.remaining c.args.reader.now) _ _ _
     (subst (λ shelf. (moment (file_state shelf.conn) shelf.refused).state ≡ state_held db) (sym c.new.ensures) (c.in-Ok.ensures.state db holds (c.in-Ok.ensures.ready.works before)))
     (c.answer_by-ending.ensures.kept low status) c.close_registry.ensures.whole
+
+pub returns-in-Ok-clause-stopped : goal.returns-in-Ok-clause-stopped
+returns-in-Ok-clause-stopped g c = λ clean db holds.
+    let low = c.close_registry.ensures.clean clean in
+    let before = subst (λ shelf. doubt (file_state shelf.conn).is_clean ≡ 0) c.new.ensures (c.answer_by-ending.ensures.lied low) in
+    stopped_begun c.close_registry.result _ (g.R.Read.remaining c.args.reader.now) _ _ _ _ _ _
+    (subst (λ shelf. (moment (file_state shelf.conn) shelf.refused).state ≡ state_held db) (sym c.new.ensures) (c.in-Ok.ensures.state db holds (c.in-Ok.ensures.ready.works before)))
+    (c.answer_by-ending.ensures.stopped low) c.close_registry.ensures.whole c.close_registry.ensures.sure
+
+pub returns-in-Err-clause-stopped : goal.returns-in-Err-clause-stopped
+returns-in-Err-clause-stopped g c = λ clean db holds. unopened (g.R.Read.remaining c.args.reader.now)
 
 pub returns-in-Ok-clause-unharmed : goal.returns-in-Ok-clause-unharmed
 returns-in-Ok-clause-unharmed g c clean = not_refused c.close_registry.result _ c.close_registry.ensures.opened

@@ -1,5 +1,6 @@
 use Rattle.goo_desk_connection.specs.declared.serve_fault.ServeFault.TheVariants.{Write, Store}
 use Rattle.goo_desk_connection.proofs.ServeFacts.{bytes-connect, sends-stands, part-stands, excuse-stands}
+use Rattle.goo_desk_connection.proofs.PromiseFacts.{leaves_promised, none_promised}
 use Rattle.goo_desk_connection.proofs.serving.serve_by_routes.Goals as goal
 
 pub returns-clause-served : goal.returns-clause-served
@@ -21,3 +22,11 @@ pub returns-clause-connects : goal.returns-clause-connects
 returns-clause-connects g c =
     bytes-connect g.D.Counter.shows g.D.Counter.imports g.D.Counter.begins c.in_ok-bytes.bytes.items (g.D.Desk.seen c.args.desk.now) (g.D.Desk.seen c.serve_bytes.new.desk)
     (rw c.deref.ensures.value at c.serve_bytes.ensures.leaves) c.serve_bytes.ensures.doubted c.serve_bytes.ensures.lied
+
+pub returns-in_err-bytes-clause-promised : goal.returns-in_err-bytes-clause-promised
+returns-in_err-bytes-clause-promised g c runs sound honest sure = none_promised (g.R.Read.remaining c.args.reader.now) (g.D.Desk.seen c.args.desk.now).state sound
+
+pub returns-clause-promised : goal.returns-clause-promised
+returns-clause-promised g c runs sound honest sure =
+    leaves_promised g.D.Counter.shows g.D.Counter.imports g.D.Counter.begins runs (g.R.Read.remaining c.args.reader.now) (g.D.Desk.seen c.args.desk.now) (g.D.Desk.seen c.serve_bytes.new.desk) c.in_ok-bytes.bytes.items
+    c.in_ok-bytes.ensures (rw c.deref.ensures.value at c.serve_bytes.ensures.leaves) sound honest sure

@@ -2,6 +2,7 @@ use Rattle.std.proofs.Common.{rules, ◌≡◌, ◌∙◌, [], ◌∷◌, ◌++�
 use Rattle.csv.specs.Records.{fields_of}
 use Rattle.goo_files_csv.specs.Rows.{header, is_header}
 use Rattle.goo_files_csv.proofs.Header.{header_is, header_passes}
+use Rattle.goo_files_import.proofs.OneTable.{begins_or_lacks}
 use Rattle.goo_files_import.proofs.Importing.{importing_start, importing_on, importing_ends, importing_ends_sure, importing_stops, importing_stops_sure}
 use Rattle.goo_files_import.proofs.Reading.{IsAt, at_start, at_more, at_end, at_begins}
 use Rattle.goo_files_import.proofs.import.import_bytes.Goals as goal
@@ -83,3 +84,6 @@ returns-clause-sure_whole g c none =
     let step = rw c.in-None-row.is at ((c.next-in-loop-row.ensures.steps inv.1.turns inv.1.trim).0 inv.1.ready) in
     let table = at_end c.loop-row.row-iterator.rdr c.next-in-loop-row.new.self.rdr c.loop-row.row-iterator.left c.args.input.now (header ∷ inv.0) inv.1 step in
     importing_ends_sure (g.D.Desk.seen c.args.desk.now) (g.D.Desk.seen c.loop-row.desk) c.args.caller.now c.args.input.now inv.0 c.loop-row.lines.items inv.2 table none
+
+pub returns-in-Err-clause-lacking : goal.returns-in-Err-clause-lacking
+returns-in-Err-clause-lacking g c lacks = absurd (begins_or_lacks c.args.input.now c.loop-row.invariant.0 lacks (at_begins c.loop-row.row-iterator.rdr c.loop-row.row-iterator.left c.args.input.now (header ∷ c.loop-row.invariant.0) c.loop-row.invariant.1))

@@ -1,4 +1,4 @@
-use Rattle.std.proofs.Common.{◌≡◌, ◌∙◌, ap, sym, subst}
+use Rattle.std.proofs.Common.{◌≡◌, ◌∙◌, refl, ap, sym, subst}
 use Rattle.sqlite.specs.Held.{state as view}
 use Rattle.goo_spec.specs.Created.{created}
 use Rattle.goo_ranges_rows.proofs.CertificateLemmas.{certificates-rows}
@@ -37,6 +37,9 @@ returns-in-Ok-clause-sound g c none = (c.over.result.well.kept none).sound
 pub returns-in-Ok-clause-rows_fit : goal.returns-in-Ok-clause-rows_fit
 unfolding state_of
 returns-in-Ok-clause-rows_fit g c none = certificates-rows (rows_of (tables_in (view g.S.Store c.over.result.conn))) (c.over.result.well.kept none).rising
+
+pub returns-in-Ok-clause-apart : goal.returns-in-Ok-clause-apart
+returns-in-Ok-clause-apart g c none = (c.over.result.well.kept none).apart refl
 
 pub returns-in-Ok-clause-ready : goal.returns-in-Ok-clause-ready
 returns-in-Ok-clause-ready g c = record {

@@ -1,4 +1,4 @@
-use Rattle.std.proofs.Common.{rules, ◌≡◌, ◌∙◌, ap, inl, sym, subst, IsTrue}
+use Rattle.std.proofs.Common.{rules, ◌≡◌, ◌∙◌, refl, ap, inl, sym, subst, IsTrue}
 use Rattle.sqlite.specs.Held.{state as view}
 use Rattle.sqlite.specs.State.{HasCleanDisk}
 use Rattle.goo_tables_rows.specs.Columns.{first_schema}
@@ -70,6 +70,12 @@ returns-in-Ok-clause-sound g c = λ none.
 pub returns-in-Ok-clause-rows_fit : goal.returns-in-Ok-clause-rows_fit
 returns-in-Ok-clause-rows_fit g c = λ none.
     rows_fit (tables_in (view g.S.Store c.over.result.conn)) (c.over.result.well.kept none)
+
+pub returns-in-Ok-clause-apart : goal.returns-in-Ok-clause-apart
+returns-in-Ok-clause-apart g c = λ none. (c.over.result.well.kept none).apart refl
+
+pub returns-in-Ok-judge-clause-apart : goal.returns-in-Ok-judge-clause-apart
+returns-in-Ok-judge-clause-apart g c = λ none. (c.over-in-Ok-judge.result.well.kept none).apart refl
 
 pub returns-in-Err-clause-refused : goal.returns-in-Err-clause-refused
 returns-in-Err-clause-refused g c = λ clean unlimited t stands kept.

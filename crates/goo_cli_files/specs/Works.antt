@@ -1,0 +1,59 @@
+-- What is done with a registry.
+use Rattle.std.specs.Prelude.{◌≡◌, ◌≢◌, ◌<◌, ℕ, List, Option, None, IfSome}
+use Rattle.std.specs.FinMap.{get}
+use Rattle.std.specs.Io.KnownBytes.{Appends, Keeps}
+use Rattle.sqlite_disk.specs.declared.Disk.{Ghosts}
+use Rattle.goo_spec.specs.State.{State}
+use Rattle.goo_desk_lines.specs.Fold.{lines}
+use Rattle.goo_files.specs.Texts.{IsStatement, IsAuditText}
+use Rattle.goo_files.specs.Writes.{Wrote}
+use Rattle.goo_cli.specs.Asked.{Asked, InFile, InMemory, Init, Run, Declare, Statement, Audit, Serve}
+use Rattle.goo_cli_ending.specs.declared.ending.Ending.{Ending}
+use Rattle.goo_cli_ending.specs.Endings.{status_of}
+use Rattle.goo_cli_registry.specs.declared.closing.Left.{Left}
+use Rattle.goo_cli_registry.specs.Closings.{HoldState, IfWhole}
+use Rattle.goo_cli_registry.specs.Stopped.{HoldsStopped, IfOpened}
+use Rattle.goo_cli_http.specs.Endings.{listening_text}
+use Rattle.goo_cli_files.specs.Imports.{DeclaredIn}
+use Rattle.goo_cli_files.specs.declared.work.Job.{Job}
+use Rattle.goo_cli_files.specs.declared.work.Job.TheVariants as job
+use Rattle.goo_cli_files.specs.declared.work.Work.{Work}
+use Rattle.goo_cli_files.specs.declared.work.Work.TheVariants as work
+
+-- what a command line asks for, of which this is the job
+abbrev pub asked_in : List ℕ → Work → Asked
+asked_in file work.Run = Run (InFile file)
+asked_in file work.Declare = Declare file
+asked_in file (work.Statement account) = Statement file account
+asked_in file work.Audit = Audit file
+asked_in file (work.Serve serving) = Serve (InFile file) serving
+
+abbrev pub asked_for : Job → Asked
+asked_for (job.Make file opening) = Init file.now opening
+asked_for (job.InFile file done) = asked_in file.now done
+asked_for (job.RunInMemory opening) = Run (InMemory opening)
+asked_for (job.ServeInMemory opening serving) = Serve (InMemory opening) serving
+
+module _ {D : Type 0} {g : Ghosts D} (s : State) (read had has : Option (List ℕ)) (told : Ending) (rest : Left D g) where
+  -- the lines of an input were answered from this state on: all were accepted, or some were not; their outcomes are written, and where the log
+  -- was copied, the file holds what they come to. After a fault the same is so of the first lines.
+  pub record AreAnswered (input : List ℕ) : Type 0 where
+    pub all_done : status_of told ≡ 0 → (lines s input).bad ≡ 0
+    pub not_all_done : status_of told ≡ 1 → (lines s input).bad ≢ 0
+    pub written : status_of told < 2 → Appends had has (lines s input).text
+    pub kept : status_of told < 2 → IfWhole rest (λ files. HoldState g files (lines s input).state)
+    pub stopped : IfOpened rest (HoldsStopped rest input s told had has)
+
+  -- the statement of an account is shown, or there is no such account and nothing is written
+  pub record IsStated (account : ℕ) : Type 0 where
+    pub shown : status_of told ≡ 0 → Wrote had has (IsStatement s account)
+    pub unknown : status_of told ≡ 1 → get s.accounts account ≡ None
+    pub silent : status_of told ≡ 1 → Keeps had has
+
+  -- what this work comes to, from the state that the files held
+  abbrev pub IsWorked : Work → Type 0
+  IsWorked work.Run = IfSome read AreAnswered
+  IsWorked work.Declare = IfSome read (λ input. DeclaredIn s input had has told rest)
+  IsWorked (work.Statement account) = IsStated account
+  IsWorked work.Audit = status_of told ≡ 0 → Wrote had has (IsAuditText s)
+  IsWorked (work.Serve serving) = status_of told ≡ 0 → Appends had has (listening_text serving.port)

@@ -1,0 +1,14 @@
+use Rattle.std.proofs.Common.{sym, subst}
+use Rattle.goo_registry.specs.Desks.{seen_of}
+use Rattle.goo_desk_counter.specs.Counters.{Imports}
+use Rattle.goo_desk_counter.specs.Showing.{imported_by, begun_by}
+use Rattle.goo_desk_counter.proofs.ImportFacts.{imports-stopped}
+use Rattle.goo_desk_counter.proofs.importing.import_rows.Goals as goal
+
+pub returns-in-Err : goal.returns-in-Err
+returns-in-Err g c =
+    let old = seen_of (g.S.Shelf.seen c.args.registry.now.shelf) in
+    let new = seen_of (g.S.Shelf.seen c.import_bytes.new.desk.shelf) in
+    let made = c.in-Err.ensures in
+    subst (λ r. Imports imported_by begun_by old new c.args.caller.now c.args.rows.now r) (sym c.stopped.ensures)
+    (imports-stopped old new c.args.caller.now c.args.rows.now c.in-Err.fault.cause c.in-Err.fault.report.lines.items made.kinds made.header made.before made.sure_part made.doubted made.lied made.told)

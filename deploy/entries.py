@@ -1,0 +1,383 @@
+"""Entries of the log of requests, and the archive of entries with their outcomes. docs/REPLICAS.md describes both forms.
+
+An entry is one line of JSON, {"entry":{..},"mac":".."}: the request as it came, who sent it and when, and the hash of the
+entry before. Its own hash is the SHA-256 of that line without the line end. `mac` is the HMAC-SHA-256 of the text of
+"entry", by a key that replicas alone can read. A line of the archive is an entry's line with one more member, "outcome".
+
+Every line is in one form: members in the order written here, no spaces, UTF-8. So the same entry has one text and one hash.
+"""
+import base64, dataclasses, datetime, gzip, hashlib, hmac, json, os, pathlib, re, time
+
+MONTH = re.compile(r"\d{4}-\d{2}\.jsonl(\.gz)?")
+NO_CHAIN = "-"                          # the chain of outcomes before entry 1
+PLAIN = ("/v1/requests", 200)           # the route and the status of a request that was accepted, or repeated
+SHORT = 4096                            # bytes of a body that is text whatever its length in JSON
+TAIL = 8 << 20                          # bytes; no two lines of an archive are as long
+SET_ASIDE = 500                         # the status of an entry that the registry could not decide; it changed nothing
+
+
+class Broken(Exception):
+    """An entry or a line that is not what it has to be. The text names the entry."""
+
+
+@dataclasses.dataclass(frozen=True)
+class Entry:
+    n: int                              # 1, 2, 3 and so on
+    prev: str                           # hash of entry n - 1; of entry 1: the origin, a number by chance
+    time: str                           # UTC by the clock of the host that took the request: 2026-03-01T09:00:00.123456Z
+    host: str                           # the replica that took the request
+    user: str                           # who signed in; "" for the registry's own agents
+    address: str                        # where the request came from; "" for the registry's own agents
+    role: str                           # full, reads, declares
+    caller: str                         # the holder's code, or ISSUER
+    method: str                         # POST; VERSION for an entry that moves the version, which its body names
+    route: str                          # /v1/requests, /v1/declarations; "" for VERSION
+    version: str                        # of the program that applies this entry
+    id: str                             # by chance; the replica finds the request that waits for this entry
+    body: bytes                         # exactly as it came
+
+
+@dataclasses.dataclass(frozen=True)
+class Outcome:
+    status: int                         # of HTTP: 200, 400, 403, 409; 500 for an entry that was set aside
+    body: bytes                         # the answer's
+    chain: str                          # hash of this outcome and of the chain before: replicas compare it
+
+
+@dataclasses.dataclass(frozen=True)
+class Record:
+    """One line of the archive."""
+    entry: Entry
+    outcome: Outcome
+    hash: str                           # of the entry
+
+
+def now():
+    """The time by this host's clock, as entries have it."""
+    return datetime.datetime.now(datetime.timezone.utc).strftime("%Y-%m-%dT%H:%M:%S.%fZ")
+
+
+def read_key(path):
+    """The key of the keyed hash: the bytes of a file, without white space around them."""
+    key = pathlib.Path(path).read_bytes().strip()
+    if len(key) < 16:
+        raise Broken(f"{path}: a key has at least 16 bytes")
+    return key
+
+
+# ------------------------------------------------------------------ one entry as a line
+
+TEXT_OF = json.JSONEncoder(ensure_ascii=False, separators=(",", ":")).encode
+
+
+def compact(value):
+    return TEXT_OF(value).encode()
+
+
+def body_members(body):
+    """The body as text where it is UTF-8, else in base64; so is a long one that is shorter in base64."""
+    try:
+        text = body.decode()
+        if len(body) < SHORT or len(compact(text)) <= 4 * len(body) // 3:
+            return {"body": text}
+    except UnicodeDecodeError:
+        pass
+    return {"body64": base64.b64encode(body).decode()}
+
+
+def body_of(members):
+    if "body" in members:
+        return members.pop("body").encode()
+    return base64.b64decode(members.pop("body64"), validate=True)
+
+
+def written(entry, key):
+    """The line of an entry, without its line end."""
+    members = {name: value for name, value in vars(entry).items() if name != "body"}
+    text = compact({**members, **body_members(entry.body)})
+    return b'{"entry":' + text + b',"mac":"' + mac(text, key).encode() + b'"}'
+
+
+def mac(text, key):
+    return hmac.digest(key, text, "sha256").hex()
+
+
+def hash_of(line):
+    return hashlib.sha256(line).hexdigest()
+
+
+FIELDS = [field.name for field in dataclasses.fields(Entry)]
+BEGIN, MIDDLE = b'{"entry":', b'},"mac":"'            # a quote inside a text is escaped, so the second stands in a line once
+
+
+def parts(line):
+    """The text of the entry in a line, its keyed hash, and what stands after that."""
+    at = line.find(MIDDLE)
+    if at < 0 or not line.startswith(BEGIN):
+        raise Broken(f"a line that is no entry: {line[:80]!r}")
+    end = at + len(MIDDLE) + 64
+    return line[len(BEGIN):at + 1], line[at + len(MIDDLE):end].decode("latin-1"), line[end:]
+
+
+def read_entry(line, key=None):
+    """The entry of a line of the log. With a key its keyed hash is checked."""
+    text, said, rest = parts(line)
+    if rest != b'"}':
+        raise Broken(f"a line that is no entry: {line[:80]!r}")
+    return entry_in(text, said, key)
+
+
+def entry_in(text, said, key):
+    try:
+        members = json.loads(text)
+        if key is not None and not hmac.compare_digest(mac(text, key), said):
+            raise Broken(f"entry {members['n']}: its keyed hash is wrong: no replica with this key wrote it")
+        names = [name.replace("body64", "body") for name in members]
+        entry = Entry(body=body_of(members), **members)
+        if names != FIELDS or type(entry.n) is not int:
+            raise Broken(f"entry {entry.n}: its members are {names}")
+        return entry
+    except (KeyError, TypeError, ValueError, AttributeError, RecursionError) as fault:
+        raise Broken(f"a line that is no entry: {text[:80]!r}") from fault
+
+
+# ------------------------------------------------------------------ outcomes
+
+def comparable(route, status, body):
+    """What of an outcome is the same in every replica.
+
+    An entry that was applied twice is `repeated` and not `accepted`, and a refused row of a table may get another number.
+    """
+    if route == "/v1/declarations":
+        body = re.sub(rb"(?m)^(\d+ )(?:(?:accepted|repeated)|(refused) \d+)$", rb"\1\2", body)
+    else:
+        body = body.replace(b'"outcome":"repeated"', b'"outcome":"accepted"')
+    return b"%d " % status + body
+
+
+def decided(route, status, body, chain):
+    """The outcome of an entry, after the chain of the outcomes before it."""
+    return Outcome(status, body, hashlib.sha256(chain.encode() + comparable(route, status, body)).hexdigest())
+
+
+def archived(line, outcome):
+    """The archive's line, with its line end."""
+    members = {"status": outcome.status, **body_members(outcome.body), "chain": outcome.chain}
+    return line[:-1] + b',"outcome":' + compact(members) + b"}\n"
+
+
+OUTCOME = b'","outcome":'
+
+
+def read_record(line, key=None):
+    """The record of a line of the archive, without its line end. Text in any other form than ours is refused."""
+    text, said, rest = parts(line)
+    if not rest.startswith(OUTCOME) or not rest.endswith(b"}"):
+        raise Broken(f"a line that is no record: {line[:80]!r}")
+    entry = entry_in(text, said, key)
+    try:
+        members = json.loads(rest[len(OUTCOME):-1])
+        if compact(members) != rest[len(OUTCOME):-1] or compact(json.loads(text)) != text:
+            raise Broken(f"entry {entry.n}: its line is not in the form of the archive")
+        outcome = Outcome(members["status"], body_of(members), members["chain"])
+    except (KeyError, TypeError, ValueError, AttributeError, RecursionError) as fault:
+        raise Broken(f"entry {entry.n}: its line lacks members") from fault
+    return Record(entry, outcome, hash_of(line[:-len(rest)] + b'"}'))
+
+
+# ------------------------------------------------------------------ the archive, as its readers see it
+
+def months(folder):
+    """The files of an archive, the oldest first. Of a month that is there twice, the compressed one."""
+    names = sorted(path.name for path in pathlib.Path(folder).iterdir() if MONTH.fullmatch(path.name))
+    return [pathlib.Path(folder) / name for name in names if not (name.endswith("jsonl") and f"{name}.gz" in names)]
+
+
+def lines(path, at=0):
+    """The whole lines of a file from an offset on, each with the offset after it. The beginning of a line is left out."""
+    opened = gzip.open(path) if path.suffix == ".gz" else open(path, "rb")
+    with opened as file:
+        file.seek(at)
+        for line in file:
+            if not line.endswith(b"\n"):
+                return
+            at += len(line)
+            yield line[:-1], at
+
+
+def number_in(line):
+    """The number of a line's entry, without reading the rest of it."""
+    found = re.match(rb'\{"entry":\{"n":(\d+),', line)
+    if not found:
+        raise Broken(f"a line of the archive that is no entry: {line[:80]!r}")
+    return int(found[1])
+
+
+def first_number(path):
+    """The number of a file's first entry; None while it has no whole line."""
+    return next((number_in(line) for line, _ in lines(path)), None)
+
+
+def read_archive(folder, after=0, key=None, follow=False):
+    """The records after entry `after`, in order. Numbers, hashes and chain are checked, with a key also the keyed hashes.
+
+    Ends with the last whole line. With `follow` it waits for further lines instead, and never ends.
+    """
+    last, path, at = None, None, 0
+    while True:
+        for path, line, at in whole_lines(folder, after, path, at):
+            n = number_in(line)
+            if n < after:
+                continue
+            record = read_record(line, key)
+            follows(last, record)
+            last = record
+            if n > after:
+                yield record
+        if not follow:
+            return
+        time.sleep(0.2)
+
+
+def whole_lines(folder, after, path, at):
+    """Path, line and offset of each line from a place in the archive on; from the file with entry `after` on at first."""
+    files = months(folder)
+    if path is None:
+        begun = [i for i, file in enumerate(files) if (first_number(file) or after + 1) <= after]
+        files = files[begun[-1] if begun else 0:]
+    else:
+        files = [file for file in files if file.name[:7] >= path.name[:7]]
+    for file in files:
+        begin = at if path and file.name[:7] == path.name[:7] else 0
+        try:
+            for line, end in lines(file, begin):
+                yield file, line, end
+        except FileNotFoundError:               # compressed meanwhile: the same lines stand in the other file
+            for line, end in lines(file.with_name(file.name + ".gz"), begin):
+                yield file, line, end
+
+
+def follows(before, record):
+    """Raises Broken unless a record stands after the one before it."""
+    entry, outcome = record.entry, record.outcome
+    if before is None and entry.n > 1:
+        return
+    if before and entry.n != before.entry.n + 1:
+        raise Broken(f"entry {entry.n} stands after entry {before.entry.n}")
+    if before and entry.prev != before.hash:
+        raise Broken(f"entry {entry.n}: it names another entry before it than entry {before.entry.n}")
+    if decided(entry.route, outcome.status, outcome.body, before.outcome.chain if before else NO_CHAIN).chain != outcome.chain:
+        raise Broken(f"entry {entry.n}: its outcome is not the one that was chained")
+
+
+# ------------------------------------------------------------------ the archive, as its replica writes it
+
+class Archive:
+    """Adds records. A line is cut off in the middle only by a crash; the next start takes such a line away."""
+
+    def __init__(self, folder):
+        self.folder = pathlib.Path(folder)
+        self.folder.mkdir(mode=0o750, parents=True, exist_ok=True)
+        self.file, self.month, self.last = None, "", None
+        for path in reversed(months(self.folder)):
+            self.last = mended(path)
+            if self.last:
+                self.month = path.name[:7]
+                break
+
+    def add(self, line, entry, outcome):
+        """Adds an entry's line with its outcome. Not on the disk for certain before `sync`."""
+        month = max(self.month, entry.time[:7])         # a clock that goes back does not lead to an older file
+        if self.file is None or month != self.month:
+            self.turn(month)
+        write_all(self.file, archived(line, outcome))
+        self.last = Record(entry, outcome, hash_of(line))
+
+    def turn(self, month):
+        if self.file is not None:
+            os.fdatasync(self.file)
+            os.close(self.file)
+        self.month = month
+        self.file = os.open(self.folder / f"{month}.jsonl", os.O_WRONLY | os.O_APPEND | os.O_CREAT, 0o640)
+        sync_folder(self.folder)
+
+    def sync(self):
+        if self.file is not None:
+            os.fdatasync(self.file)
+
+
+def write_all(file, text):
+    """All of the text or, where the disk is full, none of it."""
+    at = os.fstat(file).st_size
+    try:
+        while text:
+            text = text[os.write(file, text):]
+    except OSError:
+        os.ftruncate(file, at)
+        raise
+
+
+def sync_folder(folder):
+    file = os.open(folder, os.O_RDONLY)
+    os.fsync(file)
+    os.close(file)
+
+
+def mended(path, read=read_record):
+    """What the last whole line of a file is, by `read`. What stands after it goes into a file beside it: a crash cut it off."""
+    last, end = last_of(path, read)
+    if path.suffix != ".gz" and end < path.stat().st_size:
+        with open(path, "r+b") as file, open(f"{path}.cut", "ab") as cut:
+            file.seek(end)
+            cut.write(file.read())
+            file.truncate(end)
+            os.fsync(file.fileno())
+    return last
+
+
+def last_of(path, read):
+    """What the last whole line is, and the offset after it. Of a long file only the end is read."""
+    last, begin = None, max(0, path.stat().st_size - TAIL) if path.suffix != ".gz" else 0
+    end = begin
+    for line, at in lines(path, begin):
+        try:
+            last, end = read(line), at
+        except Broken:
+            if last or begin == 0:
+                break
+    if last is None and begin:
+        raise Broken(f"{path}: no whole line in its last {TAIL} bytes")
+    return last, end
+
+
+def last_plain(folder):
+    """The last record of an accepted request near the end of an archive; None where there is none."""
+    for path in reversed(months(folder)[-2:]):
+        found = None
+        begin = max(0, path.stat().st_size - TAIL) if path.suffix != ".gz" else 0
+        for line, at in lines(path, begin):
+            try:
+                record = read_record(line)
+            except Broken:
+                continue                            # the rest of a line whose beginning stands before the offset
+            found = record if (record.entry.route, record.outcome.status) == PLAIN else found
+        if found:
+            return found
+    return None
+
+
+def compress(folder):
+    """Compresses the files of finished months, each whole or not at all. A month is finished once there is a later one: entries of it may come late."""
+    for path in months(folder)[:-1]:
+        if path.suffix == ".gz":
+            continue
+        part = path.with_name(f".{path.name}.part")
+        with open(path, "rb") as plain, open(part, "wb") as file, gzip.GzipFile(path.name, "wb", fileobj=file, mtime=0) as packed:
+            while text := plain.read(1 << 20):
+                packed.write(text)
+        with open(part, "rb") as file:
+            os.fsync(file.fileno())
+        os.chmod(part, 0o640)
+        os.replace(part, path.with_name(path.name + ".gz"))
+        sync_folder(folder)
+        path.unlink()

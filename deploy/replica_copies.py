@@ -1,0 +1,208 @@
+"""Copies of a registry that are brought up to date by its log, and the check of an archive against one.
+
+A copy is a folder as copies.py describes it, with place.json: the entry that the database has applied last, its hash, and the chain of outcomes up
+to it. So each copy also holds a hash of its day, over all that came before.
+"""
+import csv, hashlib, io, json, os, pathlib, re, shutil, subprocess, tempfile, time
+
+import copies, entries
+
+EXCHANGE, CONFIGURATION = (pathlib.Path(os.environ.get(name) or otherwise) for name, otherwise in (("GOO_EXCHANGE", "/var/lib/goo-exchange"), ("GOO_CONFIGURATION", "/etc/goo")))
+STATUSES = (200, 400, 403, 409, entries.SET_ASIDE)
+LINES, BYTES = 20000, 16 << 20          # of one `goo run`
+
+
+def read_place(copy):
+    """The place of a copy: n, hash, chain, version."""
+    try:
+        place = json.loads((copy / "place.json").read_text())
+        return {name: kind(place[name]) for name, kind in (("n", int), ("hash", str), ("chain", str), ("version", str))}
+    except (OSError, ValueError, KeyError, TypeError) as fault:
+        raise entries.Broken(f"{copy}/place.json: no place in it: {fault}") from fault
+
+
+def write_place(copy, n, h, chain, version):
+    (copy / "place.json").write_text(json.dumps({"n": n, "hash": h, "chain": chain, "version": version}) + "\n")
+
+
+def placed_copies(folder):
+    """The copies that have a place, the oldest first."""
+    return [path for path in copies.copies_in(pathlib.Path(folder)) if (path / "place.json").exists()]
+
+
+# ------------------------------------------------------------------ entries applied to a copy
+
+class Replay:
+    """Applies archived entries to a database by `goo run`, and compares what they come to.
+
+    A row of a table is a `declare` of the caller under the row's key (docs/FORMATS.md), so tables go in as such lines: the program opens
+    the database once for many entries. Entries and rows that were unreadable changed nothing and are left out.
+    """
+
+    def __init__(self, goo, db):
+        self.goo, self.db = goo, db
+        self.lines, self.asked, self.size = [], [], 0       # asked: the record, and what each line has to come to
+
+    def take(self, record):
+        entry, outcome = record.entry, record.outcome
+        if entry.route == "/v1/declarations" and outcome.status == 200:
+            self.take_table(record)
+        elif entry.route == "/v1/requests" and outcome.status in (200, 403, 409) and outcome.body.startswith(b"{"):
+            self.add(record, re.sub(rb"[\r\n]", b" ", entry.body), as_one(outcome.body))        # line ends between two words of JSON
+
+    def take_table(self, record):
+        rows, told = rows_of(record.entry.body), record.outcome.body.split(b"\n")[:-1]
+        if len(rows) != len(told):
+            raise entries.Broken(f"entry {record.entry.n}: a table of {len(rows)} rows with an answer of {len(told)} lines")
+        for row, line in zip(rows, told):
+            outcome = line.split()[1]
+            if outcome != b"unreadable":
+                self.add(record, declare(row), b"refused" if outcome == b"refused" else b"accepted")
+
+    def add(self, record, request, wanted):
+        self.lines.append(record.entry.caller.encode() + b" " + request + b"\n")
+        self.asked.append((record, wanted))
+        self.size += len(self.lines[-1])
+        if len(self.lines) >= LINES or self.size > BYTES:
+            self.flush()
+
+    def flush(self):
+        """Has the program carry out what was gathered."""
+        if not self.lines:
+            return
+        done = subprocess.run([self.goo, "run", "--db", self.db], input=b"".join(self.lines), capture_output=True)
+        if done.returncode not in (0, 1) or done.stderr:
+            raise entries.Broken(f"goo run: {done.stderr.decode(errors='replace').strip()} (status {done.returncode})")
+        answers = done.stdout.splitlines()
+        if len(answers) != len(self.asked):
+            raise entries.Broken(f"entries {self.asked[0][0].entry.n} to {self.asked[-1][0].entry.n}: goo run answered {len(answers)} of {len(self.asked)}")
+        for (record, wanted), answer in zip(self.asked, answers):
+            if wanted != (as_row(answer) if record.entry.route == "/v1/declarations" else as_one(answer)):
+                raise entries.Broken(f"entry {record.entry.n}: archived as {wanted[:200].decode(errors='replace')}, and the program comes to {answer[:200].decode(errors='replace')}")
+        self.lines, self.asked, self.size = [], [], 0
+
+
+def as_one(answer):
+    """An outcome as it is the same in every replica."""
+    return answer.strip().replace(b'"outcome":"repeated"', b'"outcome":"accepted"')
+
+
+def as_row(answer):
+    outcome = json.loads(answer)["outcome"]
+    return b"accepted" if outcome in ("accepted", "repeated") else outcome.encode()
+
+
+def rows_of(body):
+    """The rows of a table, after its header."""
+    text = body.decode("latin-1").removeprefix("\xef\xbb\xbf")
+    return [row for row in csv.reader(io.StringIO(text, newline="")) if row][1:]
+
+
+def declare(row):
+    key, device, first, last, gross, aux = row
+    return entries.compact({"command": "declare", "key": key, "device": device, "first_day": first, "last_day": last, "gross_wh": int(gross), "aux_wh": int(aux)})
+
+
+def bring_up(goo, db, archive, place, key, last=None):
+    """Applies the entries after a place to a database, up to entry `last`; the place after them."""
+    replay, now = Replay(goo, db), dict(place)
+    for record in entries.read_archive(archive, place["n"], key):
+        if last is not None and record.entry.n > last:
+            break
+        if (record.entry.n, record.entry.prev) != (now["n"] + 1, now["hash"]):
+            raise entries.Broken(f"entry {record.entry.n} of the archive does not follow entry {now['n']} of the copy")
+        replay.take(record)
+        now = {"n": record.entry.n, "hash": record.hash, "chain": record.outcome.chain, "version": record.entry.version}
+    replay.flush()
+    if last is not None and now["n"] != last:
+        raise entries.Broken(f"the archive ends at entry {now['n']}, before entry {last}")
+    return now
+
+
+def audit(goo, db):
+    done = subprocess.run([goo, "audit", "--db", db], capture_output=True)
+    if done.returncode:
+        raise entries.Broken(f"goo audit: {done.stderr.decode(errors='replace').strip()}")
+    return done.stdout
+
+
+# ------------------------------------------------------------------ the copy of a night
+
+def first_copy(goo, db, folder, place):
+    """A copy of a database that nothing writes to, at a place."""
+    def fill(part):
+        copies.copy_database(db, part)
+        return place
+    return new_copy(goo, folder, fill)
+
+
+def next_copy(goo, folder, archive, key, live):
+    """The last copy with the entries since, up to where the live registry is. `live` is what a replica's /replica/digest said."""
+    before = placed_copies(folder)
+    if not before:
+        raise entries.Broken(f"{folder}: no copy with a place in it: make one by `replica-log first-copy` while registry and replica are stopped")
+
+    def fill(part):
+        copies.copy_database(before[-1] / "registry.db", part)
+        now = bring_up(goo, part / "registry.db", archive, read_place(before[-1]), key, live["n"])
+        if (now["hash"], now["chain"]) != (live["hash"], live["chain"]):
+            raise entries.Broken(f"entry {now['n']}: archive and replica differ in its hash or in the chain of outcomes")
+        if hashlib.sha256(audit(goo, part / "registry.db")).hexdigest() != live["audit"]:
+            raise entries.Broken(f"at entry {now['n']} the audit of the copy is not that of the live registry")
+        return {**now, "version": live["version"]}
+    return new_copy(goo, folder, fill), before[-1]
+
+
+def new_copy(goo, folder, fill):
+    """A copy with its own name; it appears whole or not at all."""
+    folder = pathlib.Path(folder)
+    for old in folder.glob("part-*"):
+        shutil.rmtree(old)
+    part = folder / f"part-{copies.name_now()}"
+    part.mkdir(mode=0o700)
+    place = fill(part)
+    (part / "audit.txt").write_bytes(audit(goo, part / "registry.db"))
+    write_place(part, place["n"], place["hash"], place["chain"], place["version"])
+    beside(part)
+    copies.write_list(part)
+    copies.sync(part)
+    while (copy := folder / copies.name_now()).exists():
+        time.sleep(0.2)
+    part.rename(copy)
+    copies.sync(folder)
+    return copy
+
+
+def beside(part):
+    """What stands in a copy beside the registry: the exchange's folder and the configuration."""
+    left_out = copies.owner_only(CONFIGURATION) if CONFIGURATION.is_dir() else []
+    for name, folder in (("exchange", EXCHANGE), ("configuration", CONFIGURATION)):
+        if folder.is_dir():
+            copies.archive(folder, part / f"{name}.tar", left_out if name == "configuration" else ())
+    (part / "left-out.txt").write_text("".join(f"{name}\n" for name in left_out))
+
+
+# ------------------------------------------------------------------ whether an archive is what it says
+
+def verify(goo, archive, key, copy, folder):
+    """The lines that tell what holds. Raises Broken at the first entry that does not."""
+    first = last = None
+    hashes = {read_place(one)["n"]: one for one in placed_copies(folder)} if folder else {}
+    for record in entries.read_archive(archive, 0, key):
+        first, last = first or record, record
+        if record.outcome.status not in STATUSES:
+            raise entries.Broken(f"entry {record.entry.n}: {record.outcome.status} is no outcome")
+        if one := hashes.pop(record.entry.n, None):
+            place = read_place(one)
+            if (place["hash"], place["chain"]) != (record.hash, record.outcome.chain):
+                raise entries.Broken(f"entry {record.entry.n}: {one} has another hash of that day")
+            yield f"the hash of {one.name} is that of entry {record.entry.n}"
+    if last is None:
+        raise entries.Broken(f"{archive}: no entries")
+    yield f"entries {first.entry.n} to {last.entry.n}: numbers, hashes, chain of outcomes{' and keyed hashes' if key else ''} hold; entry {last.entry.n} has the hash {last.hash}"
+    if copy:
+        place = read_place(copy)
+        with tempfile.TemporaryDirectory(prefix="goo-verify-") as part:
+            copies.copy_database(copy / "registry.db", pathlib.Path(part))
+            now = bring_up(goo, pathlib.Path(part) / "registry.db", archive, place, key)
+        yield f"entries {place['n'] + 1} to {now['n']}, applied to {copy}, come to the outcomes of the archive"

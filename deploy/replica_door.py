@@ -1,0 +1,145 @@
+"""A replica's own door: takes in requests over HTTP/1.1, one for each connection, and sends the answers.
+
+The rules for what is answered by a status alone are the registry's (docs/HTTP.md). Of a request's head nothing goes on but the
+method, the path and four fields that the front door sets: GOO-Caller, GOO-User, GOO-Address and GOO-Role.
+"""
+import asyncio, dataclasses, os, re, socket
+
+from replica_registry import Answer, address_of
+
+HEAD, FIELDS, BODY = 8192, 32, 1048576          # bytes, fields, bytes: the registry's own limits
+SEND = 10                                       # seconds to send a request, and to take the answer
+TEXT = "text/plain; charset=utf-8"
+PHRASES = {200: "OK", 400: "Bad Request", 403: "Forbidden", 404: "Not Found", 405: "Method Not Allowed", 409: "Conflict", 413: "Content Too Large",
+           500: "Internal Server Error", 501: "Not Implemented", 503: "Service Unavailable"}
+LINE = re.compile(r"([A-Z]+) ([!-~]+) HTTP/1\.([01])")
+FIELD = re.compile(r"([!#$%&'*+.^_`|~0-9A-Za-z-]+):[ \t]*([\t -~\x80-\xff]*?)[ \t]*")
+OURS = ("goo-caller", "goo-user", "goo-address", "goo-role")
+
+
+class Refusal(Exception):
+    """A request that is answered by a status alone."""
+
+
+@dataclasses.dataclass(eq=False, slots=True)
+class Call:
+    """A request that came whole."""
+    method: str
+    target: str
+    caller: str
+    user: str
+    address: str
+    role: str
+    body: bytes = b""
+    gone: bool = False                          # the client has closed its end
+
+
+def plain(status, why=""):
+    return Answer(status, TEXT, (why or PHRASES[status]).encode() + b"\n")
+
+
+def head_of(text):
+    """The call in a request's head, without its body, and the body's length."""
+    lines = text.decode("latin-1").split("\r\n")
+    line, fields = LINE.fullmatch(lines[0]), [FIELD.fullmatch(line) for line in lines[1:]]
+    if not line or not all(fields) or len(fields) > FIELDS:
+        raise Refusal(400)
+    named = {}
+    for field in fields:
+        named.setdefault(field[1].lower(), []).append(field[2])
+    hosts = len(named.get("host", ()))
+    if hosts > 1 or hosts == 0 and line[3] == "1":
+        raise Refusal(400)
+    if "transfer-encoding" in named:
+        raise Refusal(501)
+    length = length_of(named.get("content-length", ["0"]))
+    if any(len(named.get(name, ())) > 1 for name in OURS):
+        named.pop("goo-caller", None)           # two of one: nobody knows which the front door set, so there is no caller
+    caller, user, address, role = (named.get(name, [""])[0] for name in OURS)
+    return Call(line[1], line[2], caller if re.fullmatch("[!-~]{0,40}", caller) else "", words(user), words(address), role), length
+
+
+def length_of(said):
+    if len(said) > 1 or not re.fullmatch("[0-9]{1,19}", said[0]):
+        raise Refusal(400)
+    if int(said[0]) > BODY:
+        raise Refusal(413)
+    return int(said[0])
+
+
+def words(field):
+    return field.encode("latin-1").decode("utf-8", "replace")[:255]
+
+
+class Connection(asyncio.Protocol):
+    """One request, and its answer by `serve`."""
+
+    def __init__(self, serve):
+        self.serve, self.came, self.call, self.begin, self.answered, self.task = serve, bytearray(), None, 0, False, None
+
+    def connection_made(self, transport):
+        self.transport = transport
+        self.timer = asyncio.get_running_loop().call_later(SEND, self.transport.abort)
+
+    def data_received(self, data):
+        if self.task is None and not self.answered:
+            self.came += data
+            try:
+                self.look()
+            except Refusal as status:
+                self.send(plain(status.args[0]), {})
+
+    def look(self):
+        if self.call is None:
+            end = self.came.find(b"\r\n\r\n", 0, HEAD)
+            if end < 0:
+                if len(self.came) >= HEAD:
+                    raise Refusal(400)
+                return
+            self.call, length = head_of(bytes(self.came[:end]))
+            self.begin, self.end = end + 4, end + 4 + length
+        if len(self.came) >= self.end:
+            self.timer.cancel()
+            self.call.body = bytes(self.came[self.begin:self.end])
+            self.came = b""
+            self.task = asyncio.get_running_loop().create_task(self.carry())
+
+    def eof_received(self):
+        if self.call:
+            self.call.gone = True
+        if self.task is None and not self.answered:
+            self.send(plain(400), {})
+        return True
+
+    def connection_lost(self, fault):
+        self.timer.cancel()
+        if self.call:
+            self.call.gone = True
+
+    async def carry(self):
+        self.send(*await self.serve(self.call))
+
+    def send(self, answer, fields):
+        self.answered = True
+        self.timer.cancel()
+        if answer.allow:
+            fields["Allow"] = answer.allow
+        more = "".join(f"{name}: {value}\r\n" for name, value in fields.items())
+        head = f"HTTP/1.1 {answer.status} {PHRASES.get(answer.status, 'Other')}\r\nContent-Type: {answer.kind}\r\n{more}Content-Length: {len(answer.body)}\r\nConnection: close\r\n\r\n"
+        self.transport.write(head.encode("latin-1") + (b"" if self.call and self.call.method == "HEAD" else answer.body))
+        if not self.transport.is_closing():
+            self.timer = asyncio.get_running_loop().call_later(SEND, self.transport.abort)
+            self.transport.close()              # once all of it is sent
+
+
+async def open_door(listen, serve):
+    """A server at a path, at HOST:PORT, or at the socket that systemd has opened for us."""
+    loop = asyncio.get_running_loop()
+    if os.environ.get("LISTEN_FDS") == "1" and os.environ.get("LISTEN_PID") == str(os.getpid()):
+        given = socket.socket(fileno=3)
+        begin = loop.create_unix_server if given.family == socket.AF_UNIX else loop.create_server
+        return await begin(lambda: Connection(serve), sock=given, backlog=512)
+    family, address = address_of(listen)
+    if family == socket.AF_UNIX:
+        return await loop.create_unix_server(lambda: Connection(serve), address, backlog=512)
+    return await loop.create_server(lambda: Connection(serve), *address, backlog=512)

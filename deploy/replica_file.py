@@ -1,0 +1,191 @@
+"""The log as files of lines on this host: the store `alone` of a replica.
+
+LOG/00000000000000000001.jsonl and so on: each file is named by its first entry. Each line is an entry and has the hash of the
+line before. An entry counts once it is synced to the disk. Files whose entries are all in the archive are deleted.
+"""
+import collections, fcntl, os, pathlib, time
+
+import entries
+
+SIZE = 16 << 20                 # bytes after which a new file is begun
+ROOM = 4 << 20                  # bytes that have to be free again after the disk was full
+Point = collections.namedtuple("Point", "n h version")          # an end of the log: entry n, its hash, and the version after it
+
+
+class NoAnswer(Exception):
+    """The store said nothing definite: what was asked may have happened, or may still."""
+
+
+class NoRoom(Exception):
+    """The disk is full, and nothing was added."""
+
+
+def after(entry, line):
+    """The end of a log whose last entry this is."""
+    return Point(entry.n, entries.hash_of(line), entry.body.decode() if entry.method == "VERSION" else entry.version)
+
+
+def whole_line(line):
+    entries.read_entry(line)
+    return line
+
+
+class FileStore:
+    """The interface that both stores have: `last`, `end`, `append`, `lines_from`, `lacks`, `is_aside`, `report`, `prune`, `trouble`, `figures`, `tasks`."""
+
+    compares = False                            # there are no other replicas
+    quorum = tells = True                       # it always answers, and the replica hears of each entry as it is appended
+    ahead = 2                                   # entries that wait to be applied when the next append begins
+
+    def __init__(self, folder, key, applied=0):
+        self.folder, self.key = pathlib.Path(folder), key
+        self.lock = os.open(folder, os.O_RDONLY)
+        fcntl.flock(self.lock, fcntl.LOCK_EX | fcntl.LOCK_NB)
+        self.full = False
+        for path in reversed(self.files()):
+            if line := entries.mended(path, whole_line):
+                break
+        else:
+            raise entries.Broken(f"{folder}: there is no log; `replica-log found` begins one")
+        self.last = after(entries.read_entry(line, key), line)
+        if self.last.n < applied:
+            raise entries.Broken(f"{folder}: the log ends at entry {self.last.n} and the registry has applied entry {applied}")
+        self.open(self.files()[-1])
+
+    def files(self):
+        return sorted(self.folder.glob("*.jsonl"))
+
+    def open(self, path):
+        self.file = os.open(path, os.O_WRONLY | os.O_APPEND | os.O_CREAT, 0o640)
+        os.fsync(self.file)                     # what is there may be applied only once it is on the disk
+        entries.sync_folder(self.folder)
+
+    async def end(self):
+        """The log's end, at or after the time of the call."""
+        return self.last
+
+    def tasks(self, replica):
+        return []
+
+    def figures(self):
+        """The size of the log and, where it is shipped, how many entries and seconds the other host is behind."""
+        said = {"log_bytes": sum(path.stat().st_size for path in self.files())}
+        try:
+            n, when = map(int, (self.folder.parent / "shipped").read_text().split())
+            return {**said, "shipped_lag_entries": max(0, self.last.n - n), "shipped_age_seconds": max(0, int(time.time()) - when)}
+        except (OSError, ValueError):
+            return said
+
+    def trouble(self):
+        if self.full:
+            disk = os.statvfs(self.folder)
+            self.full = disk.f_bavail * disk.f_frsize < ROOM
+        return "the disk of the log is full" if self.full else ""
+
+    async def append(self, lines, end, last, wanted):
+        """Adds entries and syncs them: whether they are in the log, and its end. `last` is the end with them in it."""
+        try:
+            self.put(lines)
+        except NoRoom:
+            self.full = True
+            return False, end
+        self.full, self.last = False, last
+        return True, last
+
+    def put(self, lines):
+        """An error of the sync itself ends the replica: nobody knows then what is on the disk. The next start reads it."""
+        if os.fstat(self.file).st_size > SIZE:
+            os.close(self.file)
+            self.open(self.folder / f"{self.last.n + 1:020}.jsonl")
+        try:
+            entries.write_all(self.file, b"".join(line + b"\n" for line in lines))
+        except OSError as fault:
+            raise NoRoom(str(fault)) from fault
+        os.fdatasync(self.file)
+
+    async def lines_from(self, n):
+        """Entries from n on, the first of perhaps many."""
+        return read_lines(self.folder, n) if n <= self.last.n else []
+
+    def lacks(self, n):
+        """Whether an entry was in the log and is no longer there."""
+        return n <= self.last.n
+
+    async def is_aside(self, entry):
+        """The operator's word that the registry will not decide an entry."""
+        return (self.folder / f"{entry.n}.aside").exists()
+
+    async def report(self, place, digests):
+        """Nobody else is to be told."""
+        return ""
+
+    def prune(self, n):
+        """Deletes the files whose entries are all at or below n, but for the last file."""
+        files = self.files()
+        for path, following in zip(files, files[1:]):
+            if int(following.stem) <= n + 1:
+                path.unlink()
+
+
+class ShippedLog(FileStore):
+    """A log that another host sends here: it is read and never written. Nobody here knows whether it goes on elsewhere, so reads say that they may be stale."""
+
+    quorum = tells = False
+
+    def __init__(self, folder, key, applied=0):
+        self.folder, self.key, self.full, self.seen = pathlib.Path(folder), key, False, None
+        self.look()
+
+    def look(self):
+        """The end of what has come."""
+        files = self.files()
+        if not files:
+            raise entries.Broken(f"{self.folder}: no log has come here")
+        seen = (files[-1].name, files[-1].stat().st_size)
+        if seen != self.seen and (line := entries.last_of(files[-1], whole_line)[0]):
+            self.last, self.seen = after(entries.read_entry(line, self.key), line), seen
+
+    async def lines_from(self, n):
+        self.look()
+        return read_lines(self.folder, n) if n <= self.last.n else []
+
+    def trouble(self):
+        return "this replica takes no writes"
+
+    def prune(self, n):
+        """Who sends the log decides how much of it stays here."""
+
+
+def read_lines(folder, n, most=500):
+    """Lines of the log from entry n on; none where the log does not go back so far."""
+    files = sorted(pathlib.Path(folder).glob("*.jsonl"))
+    found = []
+    for path in [file for file in files if int(file.stem) <= n][-1:] + [file for file in files if int(file.stem) > n]:
+        for line, _ in entries.lines(path):
+            if entries.number_in(line) == n + len(found):
+                found.append(line)
+            if len(found) == most:
+                return found
+    return found
+
+
+def last_number(folder):
+    """The number of the last whole entry of a log that another program may be writing."""
+    for path in sorted(pathlib.Path(folder).glob("*.jsonl"), reverse=True):
+        if (n := entries.last_of(path, entries.number_in)[0]) is not None:
+            return n
+    return 0
+
+
+def begin(folder, line, n):
+    """A new log with its first entry."""
+    folder = pathlib.Path(folder)
+    folder.mkdir(mode=0o750, parents=True, exist_ok=True)
+    if any(folder.glob("*.jsonl")):
+        raise entries.Broken(f"{folder}: there is a log already")
+    path = folder / f"{n:020}.jsonl"
+    with open(path, "xb") as file:
+        file.write(line + b"\n")
+        file.flush()
+        os.fsync(file.fileno())
+    entries.sync_folder(folder)

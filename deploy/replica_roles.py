@@ -1,0 +1,21 @@
+"""What a role lets a caller do. The third word of a line in callers says the role; nginx sends it on as GOO-Role."""
+import json
+
+
+def allows(call):
+    """`full`, or no word: everything the registry allows. `reads`: GET alone. `declares`: declarations alone. Another word: nothing."""
+    if call.role in ("", "full"):
+        return True
+    if call.role == "reads":
+        return call.method == "GET"
+    return call.role == "declares" and call.method == "POST" and (call.target == "/v1/declarations" or command_of(call.body) == "declare")
+
+
+def command_of(body):
+    """The command of a request; None where the body has none, two of them, or can't be read."""
+    try:
+        members = json.loads(body, object_pairs_hook=list)
+        commands = [value for name, value in members if name == "command"]
+        return commands[0] if len(commands) == 1 else None
+    except (ValueError, TypeError, RecursionError):
+        return None

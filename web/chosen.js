@@ -1,0 +1,83 @@
+// What somebody has chosen of an account's holdings: lots or runs, over many pages of the list, with their running sum.
+
+import {h, count, result} from './dom.js';
+import {ungrouped} from './commands.js';
+import {t} from './language.js';
+import {problemOf} from './words.js';
+
+/** A row by what it is: a lot by its registry, device and first day, a run by its first number. */
+const keyOf = (of, by) => by === 'run' ? of.first : `${of.origin} ${of.device} ${of.first_day}`;
+
+export const chosen = {
+  account: undefined, by: 'lot', rows: new Map(), listeners: new Set(),
+
+  /** Another account begins with nothing chosen. */
+  begin(account) {
+    if (account !== this.account) this.rows.clear();
+    this.account = account;
+    this.listeners.clear();
+  },
+  /** Lots and runs aren't mixed, so that nothing is chosen twice. */
+  set(of, by, isChosen) {
+    if (by !== this.by) { this.rows.clear(); this.by = by; }
+    if (isChosen) this.rows.set(keyOf(of, by), of); else this.rows.delete(keyOf(of, by));
+  },
+  has(of, by) { return by === this.by && this.rows.has(keyOf(of, by)); },
+  get count() { return [...this.rows.values()].reduce((sum, of) => sum + of.count, 0); },
+  tell() { for (const listener of this.listeners) listener(); },
+  clear() { this.rows.clear(); this.tell(); },
+
+  /** The box of a row. */
+  box(of, by) {
+    const box = h('input', {type: 'checkbox', checked: this.has(of, by), 'aria-label': t`Choose ${of.first ?? of.site} ${of.first_day}, ${count(of.count)}`, onchange: () => {
+      this.set(of, by, box.checked);
+      this.tell();
+    }});
+    this.listeners.add(() => { box.checked = this.has(of, by); });
+    return box;
+  },
+  /** Chooses all that fit the filters, on whatever page they are. */
+  allButton(find) {
+    const button = h('button', {type: 'button', onclick: async () => {
+      button.disabled = true;
+      const items = await find().catch(() => []);
+      for (const of of items) this.set(of, of.lot === undefined ? 'run' : 'lot', true);
+      this.tell();
+      button.disabled = false;
+    }}, t`Choose all of these`);
+    return button;
+  },
+  /** Chooses a quantity of what fits the filters, in an order. `find({count, order})` answers with ranges that add up to it. */
+  quantityForm(find) {
+    const amount = h('input', {id: 'quantity', name: 'count', inputmode: 'numeric', autocomplete: 'off'}), told = h('div', {'aria-live': 'polite'});
+    const order = h('select', {id: 'quantity-order', name: 'order'}, Object.entries(ORDERS).map(([value, text]) => h('option', {value}, text)));
+    const onsubmit = async (event) => {
+      event.preventDefault();
+      told.replaceChildren();
+      try {
+        const {items} = await find({count: ungrouped(amount.value), order: order.value});
+        this.rows.clear();
+        for (const of of items) this.set(of, 'run', true);
+        this.tell();
+      } catch (fault) { told.replaceChildren(result(problemOf(fault))); }
+    };
+    return h('form', {class: 'quantity', novalidate: true, onsubmit, 'aria-label': t`Choose a quantity`}, h('label', {for: 'quantity'}, t`Or a quantity`), amount, h('label', {for: 'quantity-order'}, t`of`), order,
+      h('button', {type: 'submit'}, t`Choose`), told);
+  },
+};
+
+/** In which order a quantity is made up. */
+const ORDERS = {oldest: t`the oldest production`, expiring: t`the soonest to expire`, fewest: t`the fewest ranges`};
+
+/** The bar at the foot of the page: the running sum, and what can be done with it. */
+export function toolbar(...acts) {
+  const told = h('p', {'aria-live': 'polite'});
+  const bar = h('section', {class: 'chosen', 'aria-label': t`Chosen`}, told, h('div', {class: 'buttons'}, acts, h('button', {type: 'button', onclick: () => chosen.clear()}, t`Clear`)));
+  const show = () => {
+    bar.hidden = chosen.rows.size === 0;
+    told.replaceChildren(h('b', {}, t`${count(chosen.count)} certificates`), ' ', chosen.by === 'run' ? t`chosen in ${count(chosen.rows.size)} runs` : t`chosen in ${count(chosen.rows.size)} lots`);
+  };
+  chosen.listeners.add(show);
+  show();
+  return bar;
+}

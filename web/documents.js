@@ -1,0 +1,80 @@
+// What the registry keeps for others to read: documents of cancellations, certificates, notices to other registries.
+
+import {h, table, facts, written, number, between, count, place, result, save, special, printButton, textButton} from './dom.js';
+import {ask} from './forms.js';
+import {life} from './history.js';
+import {t} from './language.js';
+import {sheet} from './paper.js';
+import {asked, records} from './records.js';
+import {read} from './registry.js';
+import * as texts from './texts.js';
+
+const MANY = /^[0-9]{1,9}(-[0-9]{1,9})?(,[0-9]{1,9}(-[0-9]{1,9})?)*$/;
+
+/** The document of one cancellation or of several, with all facts of its lots and the check code, by the records of acts. */
+async function wholePaper(numbers) {
+  const {items, text, code} = await asked('documents', {numbers}), [first] = items, own = items.map((of) => of.number);
+  return [
+    h('div', {class: 'buttons'}, printButton({class: 'main'}), textButton(`cancellation-${String(first.registry).padStart(2, '0')}-${own[0]}${own.length > 1 ? `-and-${own.length - 1}-more` : ''}`, text),
+      h('a', {href: `#account/${first.account}`}, t`Back to the account`)),
+    sheet(items, code),
+  ];
+}
+
+/** The document of a cancellation. What it says is the registry's alone: of the page's address only digits are taken. */
+export async function paper(k) {
+  if (records.isThere && MANY.test(k)) {
+    try { return await wholePaper(k); } catch (fault) { if (!MANY.test(k) || k.includes(',') || k.includes('-')) throw fault; }      // one by itself the registry has too
+  }
+  if (!/^[0-9]{1,9}$/.test(k)) return [h('h1', {}, 'Cancellation'), result({good: false, title: 'No such document', sentence: 'A cancellation’s number has 1 to 9 digits.'})];
+  const {text, problem} = await read(`/v1/cancellations/${k}`);
+  if (problem) return [h('h1', {}, `Cancellation ${k}`), result(problem)];
+  const {facts: f, lines} = texts.document(text);
+  const own = f.head.split(' ')[1], [used, until] = f.period.split(' ');
+  return [
+    h('div', {class: 'buttons'}, printButton({class: 'main'}), textButton(`cancellation-${f.registry}-${own}`, text),
+      h('a', {href: `#account/${f.account}`}, 'Back to the account')),
+    h('article', {class: 'sheet'},
+      h('p', {class: 'house'}, 'Registry of guarantees of origin ', f.registry),
+      h('h1', {}, `Cancellation ${own}`),
+      h('p', {class: 'claim'}, h('b', {}, `${count(Number(f.certificates))} MWh`), ' of energy, used from ', between(used, until), ' by ', h('b', {}, written(f.beneficiary))),
+      facts([['Registry', f.registry], ['Cancellation', own], ['Day of cancellation', f.date], ['Holder', `${f.holder}, account ${f.account}`],
+        ['Beneficiary', f.beneficiary], ['Period of use', between(used, until)], ['Certificates', `${count(Number(f.certificates))} of 1 MWh each`]]),
+      special(f.beneficiary).length ? h('p', {class: 'foot'}, `The beneficiary’s name has characters that cannot be seen, or that change the order of its letters. Their codes stand in its place: ${special(f.beneficiary).join(', ')}.`) : null,
+      table('Certificates cancelled', [['Certificates', 'range'], ['Count', 'right'], ['Device', 'wide'], ['Period', 'wide'], ['Tech.'], ['Source']],
+        lines.map((l) => [between(number(l.first), number(l.last)), count(l.count), l.device,
+          between(l.first_day, l.last_day), l.tech, l.source])),
+      h('p', {class: 'foot'}, 'Guarantees of origin under Directive (EU) 2018/2001, Article 19. These certificates are used up: they cannot be transferred or cancelled again. The registry keeps this cancellation under the number above.')),
+  ];
+}
+
+const FIELDS = [['device', 'Device'], ['carrier', 'Carrier'], ['site', 'Site'], ['country', 'Country'], ['tech', 'Technology'], ['source', 'Energy source'],
+  ['capacity_w', 'Capacity in W'], ['commissioned', 'Commissioned on'], ['support', 'Support'], ['first_day', 'Produced from'],
+  ['last_day', 'Produced to'], ['issued_on', 'Issued on'], ['origin', 'Registry of origin']];
+
+async function certificate(n) {
+  const {text, problem} = await read(`/v1/certificates/${n}`);
+  if (problem) return result(problem);
+  const c = JSON.parse(text), lot = {carrier: 'electricity', ...c.lot};     // a lot of electricity doesn't say so
+  return [h('div', {class: 'certificate'},
+    h('p', {class: 'headline'}, number(c.number), place(c.place, String(c.act)), h('span', {class: 'quiet'}, `account ${c.account}`)),
+    facts(FIELDS.map(([key, label]) => [label, key === 'capacity_w' ? count(lot[key]) : String(lot[key])]))), records.isThere ? await life(n).catch(() => null) : null];
+}
+
+export const lookUp = (n) => [h('h1', {}, 'Look up'),
+  ask('A certificate', ['number', 'number', 'Number', '14 digits'], 'Look up', certificate, n),
+  ask('A cancellation document', ['number', 'account', 'Cancellation', 'Its number'], 'Open', (k) => {
+    location.hash = `document/${k}`;
+    return '';
+  })];
+
+export const noticeAsk = () => ask('Save a notice that was sent', ['number', 'account', 'Notice', 'Its number'], 'Save', noticeSave);
+export const noticeButton = (k) => h('p', {}, h('button', {type: 'button', onclick: async (e) => e.target.after(await noticeSave(k))}, `Save notice ${k}`));
+
+async function noticeSave(k) {
+  const {text, problem} = await read(`/v1/notices/${k}`);
+  if (problem) return result(problem);
+  const n = JSON.parse(text);
+  save(`notice-${String(n.sender).padStart(2, '0')}-${k}.json`, text, 'application/json');
+  return h('p', {class: 'quiet'}, ` Notice ${k} to registry ${n.addressee}, account ${n.account}: ${n.parts.length} parts, saved.`);
+}

@@ -1,0 +1,58 @@
+// What has happened: the acts that the caller may see, one of them whole, and the life of a certificate.
+
+import {h, table, facts, number, between, count, written, place} from './dom.js';
+import {t} from './language.js';
+import {listing, stands} from './listing.js';
+import {asked} from './records.js';
+import {session} from './session.js';
+
+export const KINDS = {issue: t`issue`, transfer: t`transfer`, cancellation: t`cancellation`, withdrawal: t`withdrawal`, correction: t`correction`, export: t`export`, import: t`import`,
+  expiry: t`expiry`, holder: t`holder opened`, account: t`account opened`, closing: t`account closed`, device: t`device registered`, date: t`date moved`, peer: t`registry added`, unreadable: t`unreadable`};
+const OUTCOMES = {accepted: t`accepted`, refused: t`refused`, unreadable: t`unreadable`, 'set aside': t`set aside`};
+
+/** An account with its holder's code and name. */
+export const party = (p) => p ? h('span', {class: 'party'}, String(p.account), p.holder ? [' ', h('b', {}, p.holder), ' ', written(p.name)] : null) : '';
+
+const whenOf = (act) => h('a', {href: `#act/${act.id}`}, act.time ? `${act.time.slice(0, 10)} ${act.time.slice(11, 16)}` : act.day);
+const outcome = (act) => act.outcome === 'accepted' ? OUTCOMES.accepted : h('b', {class: 'word refused'}, act.refusal ? `${OUTCOMES[act.outcome]}: ${act.refusal}` : OUTCOMES[act.outcome]);
+
+/** The document that an act made. */
+function paperOf(act) {
+  if (!act.number || act.outcome !== 'accepted') return '';
+  if (act.kind === 'cancellation') return h('a', {href: `#document/${act.number}`}, t`cancellation ${act.number}`);
+  return {withdrawal: t`withdrawal ${act.number}`, correction: t`withdrawal ${act.number}`, export: t`notice ${act.number}`, import: t`notice ${act.number}`, account: t`account ${act.number}`}[act.kind] ?? String(act.number);
+}
+
+/** The first of an act's ranges, and how many more there are. */
+const rangesOf = (act) => act.ranges.length === 0 ? '' : [between(number(act.ranges[0].first), number(act.ranges[0].last)), act.ranges_in_all > 1 ? t` and ${count(act.ranges_in_all - 1)} more` : ''];
+
+const COLUMNS = [[t`When, UTC`, 'wide'], [t`Act`], [t`Count`, 'right'], [t`From`, 'wide'], [t`To`, 'wide'], [t`Certificates`, 'range'], [t`Outcome`], [t`Document`, 'wide'], [t`Note`, 'wide']];
+const far = (act) => act.kind === 'export' || act.kind === 'import' ? t`registry ${act.peer}` : '';
+const cells = (act) => Object.assign([whenOf(act), KINDS[act.kind], act.count ? count(act.count) : '', act.kind === 'import' ? far(act) : party(act.giver), act.kind === 'export' ? far(act) : party(act.taker), rangesOf(act),
+  outcome(act), paperOf(act), [act.device ?? '', act.device && act.note ? ', ' : '', act.note ? written(act.note) : '', act.user ? t` by ${act.user}` : '']], {kind: act.outcome === 'accepted' ? 'accepted' : 'refused'});
+
+const choices = (words) => [['', t`all`], ...Object.entries(words)];
+const FILTERS = [{name: 'account', label: t`Account`}, {name: 'kind', label: t`Act`, options: choices(KINDS)}, {name: 'outcome', label: t`Outcome`, options: choices(OUTCOMES)},
+  {name: 'from', label: t`From day`, type: 'date'}, {name: 'to', label: t`To day`, type: 'date'}, {name: 'q', label: t`Text in note, key or device`}];
+
+export const history = (account, said) => [h('h1', {}, t`History`),
+  h('p', {class: 'lead'}, session.isIssuer ? t`All acts of the registry, the newest first.` : t`The acts that touched your accounts, the newest first.`),
+  listing({name: 'acts', given: {account, ...Object.fromEntries(new URLSearchParams(said ?? ''))}, filters: FILTERS, columns: () => COLUMNS, row: cells, empty: t`No act fits.`})];
+
+/** One act with all its ranges. */
+export async function act(id) {
+  const of = await asked(`acts/${encodeURIComponent(id)}`);
+  const known = [[t`When, UTC`, of.time?.slice(0, 19).replace('T', ' ')], [t`Registry’s date`, of.day], [t`Outcome`, outcome(of)], [t`Document`, paperOf(of)], [t`From`, party(of.giver)], [t`To`, party(of.taker)], [t`Registry`, far(of)],
+    [t`Device`, of.device], [t`Holder`, of.holder], ['Wh', of.wh === null ? null : count(of.wh)], [t`Note`, of.note], [t`User`, of.user], [t`Caller`, of.caller], [t`Key`, of.key], [t`Entry of the log`, of.entry ? count(of.entry) : null],
+    [t`Certificates`, of.count ? count(of.count) : null]].filter(([, value]) => value);
+  return [h('h1', {}, t`Act ${of.id}: ${KINDS[of.kind]}`), h('div', {class: 'certificate'}, facts(known)),
+    of.ranges.length ? table(t`${count(of.ranges.length)} ranges`, [[t`Certificates`, 'range'], [t`Count`, 'right'], [t`From account`], [t`Account`], [t`Place`]], of.ranges.map((r) =>
+      [between(number(r.first), number(r.last)), count(r.count), r.from_account ?? '', r.account, place(r.place)])) : null,
+    h('p', {class: 'quiet'}, stands(of))];
+}
+
+/** The acts that a certificate went through, as far as the caller may see them. */
+export async function life(n) {
+  const of = await asked(`certificates/${Number(n)}`);
+  return [h('h3', {}, t`Its life`), table(stands(of), COLUMNS.filter((_, i) => ![2, 5].includes(i)), of.life.map((row) => Object.assign(cells(row).filter((_, i) => ![2, 5].includes(i)), {kind: row.outcome === 'accepted' ? 'accepted' : 'refused'})))];
+}

@@ -1,0 +1,69 @@
+// A list of the records: filters above, a table that its heads sort, a page of rows at a time, and the whole as CSV.
+
+import {h, table, count, result} from './dom.js';
+import {t} from './language.js';
+import {asked, pathOf} from './records.js';
+import {problemOf} from './words.js';
+
+const ROWS = 100;
+let serial = 0;
+
+/** A field of a filter: a text, a day, a choice of `options` ([value, text] each), or a box to tick. */
+function filterField({name, label, type = 'text', options}, value, onchange) {
+  const id = `l${++serial}`;
+  const box = options ? h('select', {id, name, onchange}, options.map(([of, text]) => h('option', {value: of, selected: of === (value ?? '')}, text)))
+    : h('input', {id, name, type, value: type === 'checkbox' ? '1' : value ?? '', checked: type === 'checkbox' && value === '1', autocomplete: 'off', onchange});
+  return h('div', {class: type === 'checkbox' ? 'tick' : null}, type === 'checkbox' ? [box, h('label', {for: id}, label)] : [h('label', {for: id}, label), box]);
+}
+
+/** What a filter's fields say, by name. */
+function valuesOf(form) {
+  return Object.fromEntries([...form.elements].filter((e) => e.name && (e.type !== 'checkbox' || e.checked) && e.value.trim() !== '').map((e) => [e.name, e.value.trim()]));
+}
+
+/**
+ * A list of the records. `name` is its route, `fixed` what is always asked, `given` the filters at first; `columns(values)` are
+ * [name, class, column that it is sorted by]; `row(item, values)` its cells; `summary(answer, values)` stands above the table.
+ * `changed(values)` hears of each new filter.
+ */
+export function listing({name, fixed = {}, given = {}, filters = [], columns, row, summary = () => null, caption, empty = t`There is nothing here.`, csv = true, changed = () => null}) {
+  const shown = h('div', {class: 'listed', 'aria-live': 'polite'});
+  const pages = [];                            // where each page begun; the last is the one that is shown
+  let sort = given.sort, turn = 0;
+  const form = h('form', {class: 'filters', role: 'search', novalidate: true, 'aria-label': t`Filters`, onsubmit: (e) => { e.preventDefault(); again(); }},
+    filters.map((filter) => filterField(filter, given[filter.name], () => again())),
+    filters.some(({type, options}) => !type && !options) ? h('button', {type: 'submit'}, t`Find`) : null);
+  const values = () => ({...valuesOf(form), ...(sort ? {sort} : {})});
+  const again = () => { pages.length = 0; load(null); changed(values()); };
+  const load = async (from) => {
+    const mine = ++turn, said = values();
+    pages.push(from);
+    shown.setAttribute('aria-busy', 'true');
+    let made;
+    try { made = drawn(await asked(name, {limit: ROWS, ...fixed, ...said, ...(from === null ? {} : {[name === 'acts' ? 'before' : 'offset']: from})}), said); } catch (fault) { made = [result(problemOf(fault))]; }
+    if (mine !== turn) return;
+    shown.removeAttribute('aria-busy');
+    shown.replaceChildren(...made.flat(Infinity).filter(Boolean));
+  };
+  const heads = (said) => columns(said).map(([title, kind, by]) => [title, kind, by ? headButton(title, by) : null]);
+  const headButton = (title, by) => h('button', {type: 'button', class: 'head', 'aria-label': t`Sort by ${title}`, onclick: () => {
+    sort = sort === by ? `-${by}` : by;
+    again();
+  }}, title, sort === by ? ' ↑' : sort === `-${by}` ? ' ↓' : '');
+  const drawn = (answer, said) => [
+    summary(answer, said),
+    answer.items.length === 0 ? h('p', {class: 'quiet'}, empty) : table(caption?.(answer, said) ?? stands(answer), heads(said), answer.items.map((item) => row(item, said))),
+    h('div', {class: 'buttons'},
+      pages.length > 1 ? h('button', {type: 'button', onclick: () => { pages.pop(); load(pages.pop()); }}, t`Page before`) : null,
+      answer.next ? h('button', {type: 'button', onclick: () => load(answer.next)}, t`Next page`) : null,
+      csv && answer.items.length ? csvLink(name, {...fixed, ...said}) : null),
+  ];
+  load(null);
+  return [filters.length ? form : null, shown];
+}
+
+/** By what the answer stands. */
+export const stands = ({stands: {today, time, entry}}) => t`By the registry’s date ${today}, entry ${count(entry)}`;
+
+/** A link that saves a whole list for a spreadsheet. */
+export const csvLink = (name, parameters) => h('a', {class: 'button', href: pathOf(name, {...parameters, format: 'csv'}), download: `${name}.csv`}, t`Save as CSV`);

@@ -1,0 +1,78 @@
+// The way to the records of acts: the service beside the registry that has history, search and choice. Where it isn't
+// there, the page shows what the registry itself tells.
+
+import {t} from './language.js';
+import {Unread, pause} from './registry.js';
+import * as words from './words.js';
+
+export const records = {isThere: false};
+
+/** The address of a list; parameters without a value are left out. */
+export function pathOf(name, parameters = {}) {
+  const given = Object.entries(parameters).filter(([, value]) => value !== undefined && value !== null && value !== '');
+  return `/records/v1/${name}${given.length ? `?${new URLSearchParams(given)}` : ''}`;
+}
+
+/** Finds out whether the service is there. */
+export async function findRecords() {
+  try { records.isThere = (await fetch(pathOf('status'), {cache: 'no-store', signal: AbortSignal.timeout(20_000)})).ok; } catch { records.isThere = false; }
+}
+
+/** An answer of the records. A question that they can't answer is thrown, in words. */
+export async function asked(name, parameters, tries = 10) {
+  let answer;
+  try { answer = await fetch(pathOf(name, parameters), {cache: 'no-store'}); } catch { throw new Unread(words.unread(0)); }
+  if (answer.ok) return answer.json();
+  if (answer.status === 429 && tries > 1) {
+    await pause(1000);
+    return asked(name, parameters, tries - 1);
+  }
+  throw new Unread(await problemOf(answer));
+}
+
+async function problemOf(answer) {
+  const said = await answer.json().then((value) => value.error, () => null);
+  if (answer.status === 503 || answer.status === 502) return {good: false, title: t`The records are not there`, sentence: t`They are being made, or do not answer. The registry itself is not touched by this. Try again in a minute.`};
+  return {...words.unread(answer.status), ...(said ? {sentence: `${said[0].toUpperCase()}${said.slice(1)}.`} : {})};
+}
+
+/** Every item of a list, page by page. `progress` is told how many there are. */
+export async function everyItem(name, parameters, progress = () => null) {
+  const items = [];
+  for (let offset = 0; offset !== null;) {
+    const answer = await asked(name, {...parameters, limit: 1000, offset});
+    items.push(...answer.items);
+    progress(items.length);
+    offset = answer.next ?? null;
+  }
+  return items;
+}
+
+// ------------------------------------------------------------------ names of codes
+
+const names = new Map();
+
+/** What is found by `find`, asked for once; '' where that fails, as a name is only said besides. */
+async function once(key, find) {
+  if (!records.isThere) return '';
+  if (!names.has(key)) names.set(key, await find().catch(() => ''));
+  return names.get(key);
+}
+
+/** Code and name of an account's holder, as far as the caller may know them: his own accounts, and those that he has dealt with. */
+export const holderOf = (account) => once(`account ${account}`, async () => {
+  const own = (await asked('accounts', {account})).items[0];
+  if (own) return `${own.holder}, ${own.name}`;
+  const {items} = await asked('acts', {account, kind: 'transfer', outcome: 'accepted', limit: 1});
+  const found = items.flatMap((act) => [act.giver, act.taker]).find((party) => party?.account === Number(account));
+  return found?.holder ? `${found.holder}, ${found.name}` : '';
+});
+
+/** The site of a device. */
+export const siteOf = (device) => once(`device ${device}`, async () => (await asked('devices', {device})).items[0]?.site ?? '');
+
+/** The name of a holder. */
+export const nameOf = (holder) => once(`holder ${holder}`, async () => (await everyItem('holders')).find(({code}) => code === holder)?.name ?? '');
+
+/** Forgets the names, as one may have been opened since. */
+export const forgetNames = () => names.clear();

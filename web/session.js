@@ -1,0 +1,46 @@
+// Who is signed in, the day by the server's clock, and what this browser has seen.
+
+import {t} from './language.js';
+import {whoAmI} from './registry.js';
+
+export const session = {caller: '', isIssuer: false, ahead: 0};
+
+/** Asks the front door who is signed in; false where that is nobody whom the registry knows. */
+export async function signIn() {
+  const {caller, time} = await whoAmI();
+  Object.assign(session, {caller, isIssuer: caller === 'ISSUER', ahead: time ? time - Date.now() : 0});
+  return caller !== '';
+}
+
+/** The day by the server's clock, in the time zone of this browser. */
+export function today() {
+  const at = new Date(Date.now() + session.ahead), two = (n) => String(n).padStart(2, '0');
+  return `${at.getFullYear()}-${two(at.getMonth() + 1)}-${two(at.getDate())}`;
+}
+
+/** The same day of the month so many months on, or the last of that month. */
+export function monthsAfter(day, months) {
+  const [y, m, d] = day.split('-').map(Number), last = new Date(Date.UTC(y, m + months, 0)).getUTCDate();
+  return new Date(Date.UTC(y, m - 1 + months, Math.min(d, last))).toISOString().slice(0, 10);
+}
+
+/** Accounts seen, the registry's code and date, by caller. Nothing depends on it, so what can't be read is forgotten. */
+export const memory = {
+  get() {
+    try {
+      const seen = JSON.parse(localStorage.getItem(`goo/seen/${session.caller}`));
+      return {...seen, accounts: {...seen?.accounts}};
+    } catch { return {accounts: {}}; }
+  },
+  put(change) {
+    const seen = this.get();
+    change(seen);
+    try { localStorage.setItem(`goo/seen/${session.caller}`, JSON.stringify(seen)); } catch { /* no room: it is only forgotten */ }
+    showFacts();
+  },
+};
+
+export function showFacts() {
+  const {registry, date} = memory.get();
+  document.getElementById('facts').textContent = registry ? t`Registry ${registry}, date ${date}` : t`1 certificate = 1 MWh`;
+}

@@ -1,0 +1,48 @@
+// The lists of what the registry has: devices, declarations, corrections, cancellations, withdrawals, notices, holders, and
+// the statistics. Each as the records of acts have it, with what may be filtered, and as CSV.
+
+import {h, number, between, count, day, written} from './dom.js';
+import {t} from './language.js';
+import {listing} from './listing.js';
+import {coded, lines} from './paper.js';
+import {session} from './session.js';
+
+const ACCOUNT = {name: 'account', label: t`Account`}, DEVICE = {name: 'device', label: t`Device (GSRN)`};
+const range = (of) => of.first ? between(number(of.first), number(of.last)) : '';
+const act = (of, text) => h('a', {href: `#act/${of.act}`}, text);
+const wh = (n) => n ? count(n) : '0';
+const site = (of) => h('a', {href: `#holdings/${of.account}/${new URLSearchParams({device: of.gsrn})}`}, written(of.site));
+/** What became of a notice; a refusal stands out. */
+const fate = (of) => !of.fate ? '' : /refused|failed/i.test(of.fate) ? h('b', {class: 'word refused'}, of.fate) : of.fate;
+
+/** Each list: title, filters, columns, the cells of a row, who has it. */
+const LISTS = {
+  devices: {title: t`Devices`, filters: [ACCOUNT, DEVICE], columns: [[t`Device`, 'wide'], [t`Account`], [t`Technology and source`, 'wide'], [t`Capacity in W`, 'right'], [t`Commissioned on`, 'wide'], [t`Last declared day`], [t`Issued`, 'right'], [t`Withdrawn`, 'right'], [t`Carry Wh`, 'right']],
+    row: (of) => [lines(site(of), h('span', {class: 'code'}, of.gsrn), coded('country', of.country)), of.account, lines(coded('tech', of.tech), coded('source', of.source), t(of.carrier)), count(of.capacity_w),
+      lines(day(of.commissioned), of.support === 'none' ? t`no support` : t(of.support)), day(of.last_day), count(of.issued), count(of.withdrawn), wh(of.carry_wh)]},
+  declarations: {title: t`Declarations`, filters: [ACCOUNT, DEVICE], columns: [[t`Declared on`], [t`Device (GSRN)`, 'wide'], [t`Period`, 'wide'], [t`Gross in Wh`, 'right'], [t`Auxiliaries in Wh`, 'right'], [t`Less corrections Wh`, 'right'], [t`Certificates`, 'range'], [t`Count`, 'right'], [t`Key`, 'wide']],
+    row: (of) => [act(of, of.day), of.device, between(of.first_day, of.last_day), wh(of.gross_wh), wh(of.aux_wh), wh(of.corrected_wh), range(of), of.first ? count(Number(of.last) - Number(of.first) + 1) : '0', of.key ?? '']},
+  corrections: {title: t`Corrections`, filters: [ACCOUNT, DEVICE], columns: [[t`Corrected on`], [t`Device (GSRN)`, 'wide'], [t`First day of the period`], [t`Less, in Wh`, 'right'], [t`Withdrawal`, 'right'], [t`Certificates`, 'range'], [t`Reason`, 'wide']],
+    row: (of) => [act(of, of.day), of.device, day(of.first_day), wh(of.less_wh), of.withdrawal || '', range(of), of.reason ? written(of.reason) : '']},
+  cancellations: {title: t`Cancellations`, filters: [ACCOUNT, {name: 'number', label: t`Cancellation`}], columns: [[t`Cancellation`], [t`Day`], [t`Account`], [t`Count`, 'right'], [t`Certificates`, 'range'], [t`Beneficiary`, 'wide'], [t`Period of use`, 'wide']],
+    row: (of) => [h('a', {href: `#document/${of.number}`}, of.number), act(of, of.day), of.account, count(of.count), range(of), written(of.beneficiary), between(of.use_first, of.use_last)]},
+  withdrawals: {title: t`Withdrawals`, filters: [], columns: [[t`Withdrawal`], [t`Day`], [t`Count`, 'right'], [t`Certificates`, 'range'], [t`Reason`, 'wide']], row: (of) => [of.number, act(of, of.day), count(of.count), range(of), written(of.reason)]},
+  notices: {title: t`Notices`, filters: [ACCOUNT, {name: 'peer', label: t`Registry`}, {name: 'number', label: t`Notice`}], columns: [[t`Notice`], [t`Day`], [t`Way`], [t`Registry`], [t`Account`], [t`Account there`], [t`Count`, 'right'], [t`What became of it`, 'wide']],
+    row: (of) => [of.number, act(of, of.day), of.sent ? t`sent` : t`received`, of.peer, of.account, of.far_account ?? '', count(of.count), fate(of)]},
+  holders: {title: t`Holders`, filters: [], ofIssuer: true, columns: [[t`Holder code`], [t`Name`, 'wide'], [t`Accounts`, 'right']], row: (of) => [of.code, written(of.name), count(of.accounts)]},
+};
+
+const BY = {month: t`month`, tech: t`technology`, source: t`energy source`, carrier: t`carrier`, country: t`country`, device: t`device`, production: t`month of production`};
+const FLOWS = {issued: t`Issued`, imported: t`Imported`, cancelled: t`Cancelled`, expired: t`Expired`, withdrawn: t`Withdrawn`, exported: t`Exported`};
+const wordOf = (by, code) => ['tech', 'source', 'country'].includes(by) ? coded(by, code) : by === 'carrier' ? t(code) : code;
+const statistics = () => listing({name: 'statistics', given: {by: 'month'}, filters: [{name: 'by', label: t`Added up by`, options: Object.entries(BY)}, {name: 'from', label: t`From day`, type: 'date'}, {name: 'to', label: t`To day`, type: 'date'}],
+  columns: ({by}) => [[BY[by][0].toUpperCase() + BY[by].slice(1), 'wide'], ...Object.values(FLOWS).map((text) => [text, 'right'])], row: (of, {by}) => [wordOf(by, of[by]), ...Object.keys(FLOWS).map((name) => count(of[name]))]});
+
+/** The way between the lists, and the one that is open. */
+export function lists(name = 'devices', said) {
+  const own = Object.entries(LISTS).filter(([, {ofIssuer}]) => session.isIssuer || !ofIssuer), titles = [...own.map(([of, {title}]) => [of, title]), ['statistics', t`Statistics`]];
+  const open = titles.some(([of]) => of === name) ? name : 'devices';
+  return [h('h1', {}, titles.find(([of]) => of === open)[1]),
+    h('p', {class: 'known', role: 'navigation', 'aria-label': t`Lists`}, titles.map(([of, title]) => [h('a', {href: `#lists/${of}`, 'aria-current': of === open ? 'true' : null}, title), ' '])),
+    open === 'statistics' ? statistics() : listing({name: open, given: Object.fromEntries(new URLSearchParams(said ?? '')), filters: LISTS[open].filters, columns: () => LISTS[open].columns, row: LISTS[open].row})];
+}
