@@ -3,11 +3,12 @@
 usage: from archives import make_archive
        make_archive(goo, folder, [("office", "ISSUER", "/v1/requests", b'{"command":..}'), ..])
 """
-import datetime, http.client, pathlib, secrets, socket, subprocess, sys
+import datetime, pathlib, secrets, subprocess, sys
 
 sys.path.insert(0, str(pathlib.Path(__file__).resolve().parent.parent / "deploy"))
 sys.dont_write_bytecode = True
 import entries
+from client import answered, listening, post
 
 KEY = b"the key of a trial"
 
@@ -17,38 +18,22 @@ def make_archive(goo, folder, requests, code=7, today="2025-03-01", begin="2025-
 
     `then` is called with the port of the registry before it ends.
     """
-    port = free_port()
-    registry = subprocess.Popen([goo, "serve", "--memory", "--code", str(code), "--today", today, "--port", str(port), "--count", "1000000"], stdout=subprocess.PIPE)
+    words = [goo, "serve", "--memory", "--code", str(code), "--today", today, "--count", "1000000", "--port"]
+    port, registry, _ = listening(lambda port: subprocess.Popen([*words, str(port)], stdout=subprocess.PIPE))
     try:
-        registry.stdout.readline()
         archive, origin = entries.Archive(folder), secrets.token_hex(32)
         for count, (user, caller, route, body) in enumerate(requests):
             took = datetime.datetime.fromisoformat(begin) + datetime.timedelta(seconds=count * step)
             before, chain = (archive.last.hash, archive.last.outcome.chain) if archive.last else (origin, entries.NO_CHAIN)
             entry = entries.Entry(n=count + 1, prev=before, time=took.strftime("%Y-%m-%dT%H:%M:%S.%fZ"), host="h1", user=user, address="127.0.0.1" if user else "",
                                   role="full", caller=caller, method="POST", route=route, version="trial", id=secrets.token_hex(8), body=body)
-            status, answer = ask(port, caller, route, body)
+            status, answer = answered(port, post(body, caller, route))
             archive.add(entries.written(entry, key), entry, entries.decided(route, status, answer, chain))
         archive.sync()
         if then:
             then(port)
     finally:
         registry.terminate()
-        registry.wait(20)
+        registry.wait()
         registry.stdout.close()
     return archive
-
-
-def free_port():
-    with socket.socket() as s:
-        s.bind(("127.0.0.1", 0))
-        return s.getsockname()[1]
-
-
-def ask(port, caller, route, body):
-    connection = http.client.HTTPConnection("127.0.0.1", port, timeout=60)
-    connection.request("POST", route, body, {"GOO-Caller": caller})
-    answer = connection.getresponse()
-    text = answer.read()
-    connection.close()
-    return answer.status, text

@@ -1,9 +1,14 @@
-"""The bytes of requests and responses over HTTP, and a connection on loopback: for the tools that ask a server byte for byte."""
+"""The bytes of requests and responses over HTTP, and a server and connections on loopback: for the tools that ask a server byte for byte."""
+import select
 import socket
 from contextlib import closing
 
 PHRASES = {200: 'OK', 400: 'Bad Request', 403: 'Forbidden', 404: 'Not Found', 405: 'Method Not Allowed', 409: 'Conflict', 413: 'Content Too Large',
            501: 'Not Implemented', 503: 'Service Unavailable'}
+PATIENCE = 120
+"""Seconds that a server may take for anything, on a machine that does much else."""
+TRIES = 5
+"""Ports that a server is begun at, where each was taken by somebody else."""
 
 
 def free_port():
@@ -13,7 +18,19 @@ def free_port():
         return listener.getsockname()[1]
 
 
-def ask(port, sent, ends=False, patience=20):
+def listening(start, patience=PATIENCE):
+    """A server that `start(port)` begins on a free port, another one where somebody took it meanwhile: its port, its process and the first line that it prints, if any."""
+    for _ in range(TRIES):
+        port = free_port()
+        process = start(port)
+        ready, _, _ = select.select([process.stdout], [], [], patience)
+        line = process.stdout.readline() if ready else b''
+        if line or process.wait(patience) != 3:
+            break
+    return port, process, line
+
+
+def ask(port, sent, ends=False, patience=PATIENCE):
     """Sends the bytes of a request and reads the answer to its end; `ends` where the stream ends after them."""
     with closing(socket.create_connection(('127.0.0.1', port), timeout=patience)) as stream:
         if sent:
@@ -21,6 +38,12 @@ def ask(port, sent, ends=False, patience=20):
         if ends:
             stream.shutdown(socket.SHUT_WR)
         return read_all(stream)
+
+
+def answered(port, sent):
+    """The status and the body of the answer to a request."""
+    head, _, body = ask(port, sent).partition(b'\r\n\r\n')
+    return int(head.split(b' ')[1]), body
 
 
 def read_all(stream):
