@@ -11,11 +11,13 @@ import os
 import re
 import select
 import shutil
-import socket
 import subprocess
 import sys
-from contextlib import closing, contextmanager
+from contextlib import contextmanager
+from pathlib import Path
 
+sys.path.append(str(Path(__file__).resolve().parent.parent / 'tools'))
+from client import answered, free_port, post
 from measured import NEW, PROGRAM, goo, head, machine, peak, ratio, room, row, rust, say, usable
 
 HEAD = ['Connections', 'Where', 'goo: a second', 'Processor seconds per 1,000', 'Peak MB', 'Rust: a second', 'Ratio', 'Rust, connections that go on', 'Ratio']
@@ -43,14 +45,12 @@ end
 '''}
 
 
-def ask(port, body):
-    """The whole answer to a request of the beginning."""
-    text = json.dumps(body).encode()
-    with closing(socket.create_connection(('127.0.0.1', port), timeout=30)) as stream:
-        stream.sendall(b'POST /v1/requests HTTP/1.1\r\nHost: x\r\nGOO-Caller: ISSUER\r\nConnection: close\r\nContent-Length: %d\r\n\r\n' % len(text) + text)
-        answer = b''.join(iter(lambda: stream.recv(65536), b''))
-    if b'"outcome":"accepted"' not in answer:
-        sys.exit(f'{body} was answered {answer!r}')
+def begin(port):
+    """Asks for what a registry begins with."""
+    for body in BEGINNING:
+        status, answer = answered(port, post(json.dumps(body), more=['Connection: close']))
+        if (status, b'"outcome":"accepted"' in answer) != (200, True):
+            sys.exit(f'{body} was answered {status} {answer!r}')
 
 
 def asked_by_wrk(port, kind, connection, seconds, folder):
@@ -82,18 +82,11 @@ def serving(words, spent):
         spent += [used.ru_utime + used.ru_stime, memory]
 
 
-def free_port():
-    with closing(socket.socket()) as listener:
-        listener.bind(('127.0.0.1', 0))
-        return listener.getsockname()[1]
-
-
 def measured(words, port, kind, connection, seconds, folder):
     """Requests a second of a server, its processor seconds for a thousand of them, and its peak memory in MB."""
     spent = []
     with serving(words, spent):
-        for body in BEGINNING:
-            ask(port, body)
+        begin(port)
         count, rate = asked_by_wrk(port, kind, connection, seconds, folder)
     return rate, 1_000 * spent[0] / count, spent[1]
 

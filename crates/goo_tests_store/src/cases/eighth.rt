@@ -2,7 +2,36 @@
 
 use crate::worked::Case;
 
-pub const EIGHTH: [Case; 6] = [
+pub const EIGHTH: [Case; 8] = [
+    Case {
+        name: "just_the_capacity",
+        serial: 1,
+        begun: 5,
+        asked: &[(
+            "ISSUER",
+            r#"{"command":"declare","device":"500000000000000012","first_day":"2025-01-01","last_day":"2025-01-31","gross_wh":1490000000,"aux_wh":0,"key":"k135"}"#,
+            r#"{"outcome":"accepted","reply":{"carry":0,"count":1490,"first":"07000000000001","last":"07000000001490"}}"#,
+        )],
+        shown: "",
+    },
+    Case {
+        name: "more_auxiliaries_than_gross",
+        serial: 1,
+        begun: 9,
+        asked: &[
+            (
+                "ISSUER",
+                r#"{"command":"declare","device":"500000000000000012","first_day":"2025-04-01","last_day":"2025-04-03","gross_wh":500,"aux_wh":500,"key":"k24"}"#,
+                r#"{"outcome":"accepted","reply":{"carry":0,"count":0}}"#,
+            ),
+            (
+                "ISSUER",
+                r#"{"command":"declare","device":"500000000000000012","first_day":"2025-04-04","last_day":"2025-04-04","gross_wh":500,"aux_wh":501,"key":"k25"}"#,
+                r#"{"code":13,"name":"AuxExceedsGross","outcome":"refused"}"#,
+            ),
+        ],
+        shown: "1 07000000000001 07000000001200 2025-01-01 held\n1 07000000001201 07000000001201 2025-03-01 held\n500000000000000012 1201000000 0 1201 0 0\n",
+    },
     Case {
         name: "notices_that_are_refused",
         serial: 1,

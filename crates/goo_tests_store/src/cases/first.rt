@@ -2,7 +2,7 @@
 
 use crate::worked::Case;
 
-pub const FIRST: [Case; 3] = [
+pub const FIRST: [Case; 4] = [
     Case {
         name: "a_carrier_written_or_left_out",
         serial: 1,
@@ -166,5 +166,28 @@ pub const FIRST: [Case; 3] = [
             ),
         ],
         shown: "1 07000000000001 07000000000098 2025-01-01 held\n1 07000000000099 07000000000099 2025-01-01 withdrawn:1\n1 07000000000200 07000000001200 2025-01-01 held\n1 07000000001201 07000000001201 2025-03-01 held\n2 07000000000100 07000000000101 2025-01-01 withdrawn:1\n2 07000000000102 07000000000149 2025-01-01 held\n2 07000000000150 07000000000150 2025-01-01 withdrawn:2\n2 07000000000151 07000000000199 2025-01-01 held\n500000000000000012 1201000000 4000000 1201 4 0\n",
+    },
+    Case {
+        name: "a_correction_over_two_lots",
+        serial: 1,
+        begun: 9,
+        asked: &[
+            (
+                "ISSUER",
+                r#"{"command":"correct","device":"500000000000000012","first_day":"2025-01-01","less_wh":2000000,"first":"07000000001200","last":"07000000001201","reason":"meter read twice","key":"k815"}"#,
+                r#"{"outcome":"accepted","reply":{"carry":0,"count":2,"withdrawal":1}}"#,
+            ),
+            (
+                "ISSUER",
+                r#"{"command":"correct","device":"500000000000000012","first_day":"2025-03-01","less_wh":1,"first":"07000000001199","last":"07000000001199","reason":"meter read twice","key":"k816"}"#,
+                r#"{"outcome":"accepted","reply":{"carry":999999,"count":1,"withdrawal":2}}"#,
+            ),
+            (
+                "ISSUER",
+                r#"{"command":"correct","device":"500000000000000012","first_day":"2025-03-01","less_wh":1,"first":"","last":"","reason":"meter read twice","key":"k817"}"#,
+                r#"{"code":32,"name":"OverCorrected","outcome":"refused"}"#,
+            ),
+        ],
+        shown: "1 07000000000001 07000000001198 2025-01-01 held\n1 07000000001199 07000000001199 2025-01-01 withdrawn:2\n1 07000000001200 07000000001200 2025-01-01 withdrawn:1\n1 07000000001201 07000000001201 2025-03-01 withdrawn:1\n500000000000000012 1201000000 2000001 1201 3 999999\n",
     },
 ];

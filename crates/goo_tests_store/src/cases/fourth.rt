@@ -2,7 +2,7 @@
 
 use crate::worked::Case;
 
-pub const FOURTH: [Case; 8] = [
+pub const FOURTH: [Case; 9] = [
     Case {
         name: "a_number_that_another_account_holds",
         serial: 1,
@@ -182,5 +182,28 @@ pub const FOURTH: [Case; 8] = [
             ),
         ],
         shown: "",
+    },
+    Case {
+        name: "another_lot_and_a_stale_one",
+        serial: 1,
+        begun: 10,
+        asked: &[
+            (
+                "SUN",
+                r#"{"command":"export","giver":1,"peer":9,"account":5,"first":"07000000000020","last":"07000000000029","key":"k214"}"#,
+                r#"{"outcome":"accepted","reply":{"count":10,"notice":1}}"#,
+            ),
+            (
+                "ISSUER",
+                r#"{"command":"import","notice":{"sender":9,"addressee":7,"number":1,"account":1,"version":1,"parts":[{"first":"07000000000020","last":"07000000000029","lot":{"capacity_w":2000000,"commissioned":"2020-06-15","country":"DE","device":"500000000000000012","first_day":"2025-01-01","issued_on":"2025-03-01","last_day":"2025-01-31","origin":7,"site":"South field","source":"F01010100","support":"none","tech":"T010000"}}]},"key":"k215"}"#,
+                r#"{"code":26,"name":"LotDiffers","number":"07000000000020","outcome":"refused"}"#,
+            ),
+            (
+                "ISSUER",
+                r#"{"command":"import","notice":{"sender":9,"addressee":7,"number":2,"account":1,"version":1,"parts":[{"first":"09000000000001","last":"09000000000001","lot":{"capacity_w":2000000,"commissioned":"2020-06-15","country":"DE","device":"500000000000000012","first_day":"2023-01-01","issued_on":"2023-03-01","last_day":"2023-01-31","origin":9,"site":"North field","source":"F01010100","support":"none","tech":"T010000"}}]},"key":"k216"}"#,
+                r#"{"code":27,"name":"Stale","outcome":"refused"}"#,
+            ),
+        ],
+        shown: "1 07000000000001 07000000000019 2025-01-01 held\n1 07000000000020 07000000000029 2025-01-01 exported:1\n1 07000000000030 07000000001200 2025-01-01 held\n1 07000000001201 07000000001201 2025-03-01 held\n500000000000000012 1201000000 0 1201 0 0\n",
     },
 ];

@@ -2,30 +2,7 @@
 
 use crate::worked::Case;
 
-pub const SECOND: [Case; 4] = [
-    Case {
-        name: "a_correction_over_two_lots",
-        serial: 1,
-        begun: 9,
-        asked: &[
-            (
-                "ISSUER",
-                r#"{"command":"correct","device":"500000000000000012","first_day":"2025-01-01","less_wh":2000000,"first":"07000000001200","last":"07000000001201","reason":"meter read twice","key":"k815"}"#,
-                r#"{"outcome":"accepted","reply":{"carry":0,"count":2,"withdrawal":1}}"#,
-            ),
-            (
-                "ISSUER",
-                r#"{"command":"correct","device":"500000000000000012","first_day":"2025-03-01","less_wh":1,"first":"07000000001199","last":"07000000001199","reason":"meter read twice","key":"k816"}"#,
-                r#"{"outcome":"accepted","reply":{"carry":999999,"count":1,"withdrawal":2}}"#,
-            ),
-            (
-                "ISSUER",
-                r#"{"command":"correct","device":"500000000000000012","first_day":"2025-03-01","less_wh":1,"first":"","last":"","reason":"meter read twice","key":"k817"}"#,
-                r#"{"code":32,"name":"OverCorrected","outcome":"refused"}"#,
-            ),
-        ],
-        shown: "1 07000000000001 07000000001198 2025-01-01 held\n1 07000000001199 07000000001199 2025-01-01 withdrawn:2\n1 07000000001200 07000000001200 2025-01-01 withdrawn:1\n1 07000000001201 07000000001201 2025-03-01 withdrawn:1\n500000000000000012 1201000000 2000001 1201 3 999999\n",
-    },
+pub const SECOND: [Case; 3] = [
     Case {
         name: "a_correction_takes_the_carry",
         serial: 1,
