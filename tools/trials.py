@@ -18,14 +18,12 @@ import time
 from contextlib import contextmanager
 from pathlib import Path
 
+from client import PATIENCE
+
 TOP = Path(__file__).resolve().parent.parent
 NEW = ['--code', '7', '--today', '2025-03-01']
 COUNTS = re.compile(r'(\d+) passed, (\d+) failed(?:, (\d+) skipped)?')
 """The last line of a tool."""
-PATIENCE = 120
-"""Seconds that a single run of the program may take."""
-
-
 class Differs(Exception):
     """Something else came than was wanted."""
 
@@ -121,7 +119,7 @@ def folder():
         yield Path(name)
 
 
-def wait_for(what, test, seconds=10):
+def wait_for(what, test, seconds=PATIENCE):
     """Waits until the test holds."""
     until = time.monotonic() + seconds
     while not test():
