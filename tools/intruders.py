@@ -146,6 +146,27 @@ def public(tally):
         tally.check("and the records hear of no user", heads.count("get /verify?number=1 ") == 11 and "goo-" not in heads and "authorization" not in heads, heads)
 
 
+def page_files(tally):
+    """The page's files: their own limit, and the issuing body's own lists in place of those that come with the page."""
+    rates = ("zone=goo_files:10m rate=10r/s", "zone=goo_files:10m rate=1r/m"), ("zone=goo_files burst=300", "zone=goo_files burst=30"), ("zone=goo_rate:10m rate=20r/s", "zone=goo_rate:10m rate=1r/m"), ("zone=goo_rate burst=60", "zone=goo_rate burst=5")
+    with Place(changes=rates) as place:
+        got = [place.ask("anna", "GET", "/v1/certificates/1")[0] for _ in range(8)]
+        tally.check("six requests of an address, and then 429", got == [404] * 6 + [429] * 2, got)
+        names = ("/", "/style.css", "/page.js", "/lists.js")
+        got = together(lambda at: place.ask("anna", "GET", names[at % 4])[0], 40)
+        tally.check("that leaves the page's files as they are, which have a limit of their own", 31 <= got.count(200) <= 35 and got.count(200) + got.count(429) == 40, got)
+    with Place(rate=200) as place:
+        shipped, own = (HOME / "web/lists.js").read_text(), place.etc / "lists.js"
+        got = [place.ask(None, "GET", "/lists.js")[2]]
+        own.write_text("export const LISTS = {};\n")
+        s, h, t = place.ask(None, "GET", "/lists.js")
+        own.unlink()
+        got += [t, place.ask("anna", "GET", "/lists.js")[2]]
+        tally.check("lists in /etc/goo take the place of those beside the page, for as long as they are there", got == [shipped, "export const LISTS = {};\n", shipped] and "javascript" in h["Content-Type"], got)
+        got = [place.ask("office", "GET", path)[0] for path in ("/users", "/callers", "/tls/key.pem", "/etc/goo/lists.js", f"{place.etc}/users", "/lists.js/../users", "/lists.js/")]
+        tally.check("nothing else of that folder is there", set(got) <= {400, 404}, got)
+
+
 def worked(place):
     """How long nginx's workers have been at work, in seconds."""
     times = [pathlib.Path(f"/proc/{number}/stat").read_text().rpartition(")")[2].split() for number in workers(place)]

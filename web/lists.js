@@ -1,9 +1,9 @@
 // The codes that this issuing body uses. A device with another one is asked about before it is sent, and its certificates
 // would carry the code for good; the registry itself takes any code of the right form.
 //
-// This file is the issuing body's own: replace the lists with those in force. The technologies and the sources here are
-// common ones of the EECS Rules, Fact Sheet 5; the countries are those of the European Economic Area, their neighbours
-// and the Energy Community, by ISO 3166-1.
+// An issuing body's own lists stand in /etc/goo/lists.js, a copy of this file with the lists in force, which the front door
+// gives in its place. The technologies and the sources here are common ones of the EECS Rules, Fact Sheet 5; the countries
+// are those of the European Economic Area, their neighbours and the Energy Community, by ISO 3166-1.
 
 export const COUNTRIES = {
   AL: 'Albania', AT: 'Austria', BA: 'Bosnia and Herzegovina', BE: 'Belgium', BG: 'Bulgaria', CH: 'Switzerland', CY: 'Cyprus', CZ: 'Czechia',
