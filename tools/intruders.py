@@ -573,7 +573,7 @@ def one_way(tally):
     socket_unit, door, registry = unit("goo-door.socket"), unit("goo-door.service"), unit("goo.service")
     port = re.search(r"--port (\d+)", registry["ExecStart"])[1]
     tally.check("the registry and the way to it are in one network of their own, whichever of them starts first",
-                (registry["PrivateNetwork"], door["PrivateNetwork"], door["JoinsNamespaceOf"], registry["JoinsNamespaceOf"]) == ("yes", "yes", "goo.service", "goo-door.service")
+                tuple(of.get(line) for line in ("PrivateNetwork", "JoinsNamespaceOf") for of in (registry, door)) == ("yes", "yes", "goo-door.service", "goo.service")
                 and door["ExecStart"].endswith(f" 127.0.0.1:{port}"), (registry, door))
     tally.check("nginx takes that way", f"unix:{socket_unit['ListenStream']};" in (HOME / "deploy/nginx/goo.conf").read_text(), socket_unit)
     if os.geteuid() or subprocess.run(["unshare", "-n", "true"], capture_output=True).returncode or not os.path.exists("/lib/systemd/systemd-socket-proxyd"):
@@ -582,7 +582,8 @@ def one_way(tally):
     with Place(rate=200) as place:
         path = str(place.dir / "way.sock")
         words = json.dumps([port, path, group, int(socket_unit["SocketMode"], 8), pwd.getpwnam("daemon").pw_uid])
-        with subprocess.Popen(["unshare", "-n", sys.executable, "-c", INSIDE, words], stdin=subprocess.PIPE, stdout=subprocess.PIPE, text=True) as inside:
+        network = ["unshare", "-n"] if registry.get("PrivateNetwork") == "yes" else []
+        with subprocess.Popen([*network, sys.executable, "-c", INSIDE, words], stdin=subprocess.PIPE, stdout=subprocess.PIPE, text=True) as inside:
             inside.stdout.readline()
             def asks(user, groups, *words):
                 return subprocess.run([sys.executable, "-c", ASK, *words], user=user, group=pwd.getpwnam(user).pw_gid, extra_groups=groups, capture_output=True, text=True, timeout=120).stdout.strip()
