@@ -488,7 +488,7 @@ def rotates(tally, place):
         place.ask("bela", "GET", "/v1/audit")
         return (place.dir / "front-door.log").exists() and lines_of_log(place, 0)
     comes(is_new)
-    new = {line["user"] for line in lines_of_log(place, 1)}
+    new = {line["user"] for line in lines_of_log(place, 0)}
     old = list(place.dir.glob("front-door.log-*"))
     tally.check("rotated: the old lines in a file of their own, the new ones in a new one", out.returncode == 0 and len(old) == 1 and "log-2" in old[0].read_text() and new == {"bela"}, (out, old, new))
 
