@@ -11,7 +11,7 @@ def basic(user, password):
     return base64.b64encode(f"{user}:{password}".encode()).decode()
 
 
-def raw(place, text, wait=20):
+def raw(place, text, wait=120):
     """Bytes as they are, through TLS; all that comes back."""
     with socket.create_connection(("127.0.0.1", place.port), timeout=wait) as s, place.tls().wrap_socket(s, server_hostname="localhost") as t:
         t.sendall(text)
@@ -224,14 +224,14 @@ def shakes(place, version, ciphers=None, name="localhost"):
     if ciphers:
         context.set_ciphers(ciphers)
     try:
-        with socket.create_connection(("127.0.0.1", place.port), timeout=20) as s, context.wrap_socket(s, server_hostname=name) as t:
+        with socket.create_connection(("127.0.0.1", place.port), timeout=120) as s, context.wrap_socket(s, server_hostname=name) as t:
             return t.cipher()[0]
     except (ssl.SSLError, ConnectionError):
         return ""
 
 
 def plainly(place, text):
-    with socket.create_connection(("127.0.0.1", place.plain), timeout=20) as s:
+    with socket.create_connection(("127.0.0.1", place.plain), timeout=120) as s:
         s.sendall(text.encode())
         return s.recv(4000).decode()
 
@@ -284,7 +284,7 @@ def half_sent(port, count, begin):
     held = []
     for _ in range(count):
         s = socket.socket()
-        s.settimeout(5)
+        s.settimeout(60)
         held.append(s)
         try:
             s.connect(("127.0.0.1", port))
@@ -354,7 +354,7 @@ def long_account(place, count):
 
 def leaves(place, user, path):
     """Asks, and leaves after a second."""
-    with socket.create_connection(("127.0.0.1", place.port), timeout=20) as s, place.tls().wrap_socket(s, server_hostname="localhost") as t:
+    with socket.create_connection(("127.0.0.1", place.port), timeout=120) as s, place.tls().wrap_socket(s, server_hostname="localhost") as t:
         t.sendall(f"GET {path} HTTP/1.1\r\nHost: localhost\r\nAuthorization: Basic {basic(user, f'pw-{user}')}\r\n\r\n".encode())
         time.sleep(0.9)
 
