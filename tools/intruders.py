@@ -362,7 +362,7 @@ def leaves(place, user, path):
 def abandoned(tally):
     """One holder asks for a long statement and leaves, sixty times in three seconds; another one asks for his own."""
     with Place() as place:
-        tally.check("an account of 12,000 runs", long_account(place, 6000), "")
+        tally.check("an account of 4,000 runs", long_account(place, 2000), "")
         with concurrent.futures.ThreadPoolExecutor(20) as pool:
             list(pool.map(lambda _: leaves(place, "anna", "/v1/accounts/1/statement"), range(60)))
         begun = time.monotonic()
