@@ -371,7 +371,7 @@ def forged(cluster, work):
     log = sorted((host.state / "log").glob("*.jsonl"))[-1]
     whole = log.read_bytes()
     last = entries.read_entry(whole.splitlines()[-1])
-    line = entries.written(entries.Entry(**{**vars(last), "n": entry + 1, "prev": entries.hash_of(whole.splitlines()[-1]), "body": b'{"command":"open_account","key":"forged","holder":"C1"}'}), b"another key of someone")
+    line = entries.written(last._replace(n=entry + 1, prev=entries.hash_of(whole.splitlines()[-1]), body=b'{"command":"open_account","key":"forged","holder":"C1"}'), b"another key of someone")
     log.write_bytes(whole + line + b"\n")
     said = run(*host.inside(*host.command("replica")), timeout=20)
     log.write_bytes(whole)

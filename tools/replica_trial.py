@@ -632,7 +632,9 @@ class Weak(threading.Thread):
     def carry(self, near):
         request = b""
         while b"\r\n\r\n" not in request:
-            request += near.recv(65536)
+            if not (part := near.recv(65536)):
+                return                          # a connection that was opened ahead and not needed
+            request += part
         head, _, rest = request.partition(b"\r\n\r\n")
         length = int(re.search(rb"(?i)content-length: *(\d+)", head)[1])
         while len(rest) < length:
