@@ -13,7 +13,7 @@ import socket
 import subprocess
 import threading
 import time
-from replica_trial import (Bare, GOO, REPLICA, VERSION, Weak, ask, carried_out, check, day, dump, gsrn, must, run)
+from replica_trial import (Bare, GOO, REPLICA, VERSION, Weak, ask, carried_out, check, day, dump, gsrn, must, run, until)
 import loopback
 import entries
 
@@ -468,6 +468,43 @@ def shipped(cluster, work):
     check(f"/metrics: {metrics.count('# TYPE')} figures, also how far the shipped log is behind", not wrong and "goo_replica_shipped_lag_entries" in metrics, (wrong, metrics))
 
 
+def by_ssh(cluster, work):
+    """The log goes to another host by ssh: sshd and ssh as Debian has them, with keys of the trial, in a network of their own."""
+    if lacking := [name for name in ("rsync", "ssh", "sshd", "ip") if not shutil.which(name)] + ["root"] * (os.geteuid() != 0):
+        return check.lacks("shipping by ssh", " ".join(lacking))
+    host, folder, ns = cluster.hosts[0], cluster.folder / "ssh", f"gr{os.getpid()}-ssh"
+    (folder / "there").mkdir(parents=True)
+    for name in ("host", "user"):
+        must("ssh-keygen", "-q", "-t", "ed25519", "-N", "", "-f", folder / name)
+    (folder / "sshd_config").write_text(f"ListenAddress 127.0.0.1\nHostKey {folder}/host\nAuthorizedKeysFile {folder}/user.pub\nStrictModes no\nPermitRootLogin prohibit-password\nPasswordAuthentication no\nUsePAM no\nPidFile none\n")
+    (folder / "known").write_text(f"127.0.0.1 {(folder / 'host.pub').read_text()}")
+    must("ip", "netns", "add", ns)
+    try:
+        must("ip", "-n", ns, "link", "set", "lo", "up")
+        shipped_there(cluster, work, folder, ["ip", "netns", "exec", ns])
+    finally:
+        run("ip", "netns", "del", ns)
+
+
+def shipped_there(cluster, work, folder, inside):
+    host, key = cluster.hosts[0], entries.read_key(cluster.folder / "mac.key")
+    ship = lambda: run(*inside, REPLICA.parent / "replica-log", "ship", f"127.0.0.1:{folder}/there", "--once", *host.common(),
+                       env={**os.environ, "RSYNC_RSH": f"ssh -F none -i {folder}/user -o UserKnownHostsFile={folder}/known -o StrictHostKeyChecking=yes -o BatchMode=yes"})
+    some(work, 10, "ssh")
+    entry, down = cluster.even(30), ship()
+    with open(folder / "sshd.log", "w") as log:             # with a /run of its own, where it looks for an empty folder
+        sshd = subprocess.Popen([*inside, "unshare", "--mount", "sh", "-c", f"mount -t tmpfs none /run && mkdir /run/sshd && exec $(command -v sshd) -D -e -f {folder}/sshd_config"], stderr=log)
+    try:
+        done = until(lambda: (sent := ship()).returncode == 0 and sent)
+        log = [line for path in sorted((folder / "there/log").glob("*.jsonl")) for line, _ in entries.lines(path)]
+        archive = list(entries.read_archive(folder / "there/archive", 0, key))
+        check(f"by ssh: without a host there {down.stderr.strip().splitlines()[-1:]}; with one, log and archive are there whole up to entry {entry}",
+              down.returncode == 1 and "not shipped" in down.stderr and done and entries.read_entry(log[-1], key).n == archive[-1].entry.n == entry, (down, done, (folder / "sshd.log").read_text()[-600:]))
+    finally:
+        sshd.terminate()
+        sshd.wait(20)
+
+
 def follower(cluster, work):
     """A second registry, begun from a copy, follows the shipped log and answers reads; writes are 503."""
     if not shutil.which("rsync"):
@@ -546,4 +583,4 @@ def slots(cluster, work):
     check("300 files of a place, the slot in hand lost at a power failure: the last synced place stands", not bad, bad[:3])
 
 
-PIECES = [entry_form, slots, roles, as_before, twice, no_registry, crashes, torn_tables, table_cuts, weak, full_disk, set_aside, version, copies, tampered, forged, restored, old_place, shipped, follower, large]
+PIECES = [entry_form, slots, roles, as_before, twice, no_registry, crashes, torn_tables, table_cuts, weak, full_disk, set_aside, version, copies, tampered, forged, restored, old_place, shipped, by_ssh, follower, large]
