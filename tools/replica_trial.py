@@ -609,7 +609,7 @@ def tear(host, chance):
     """Takes by chance from what a replica had not synced to the disk: the end of the archive after the last entry that made it
     sync, the slot of the place in hand, and what is in the log after all that was applied. How many bytes it was."""
     with open(host.state / "place", "r+b") as file:
-        slots = [int((os.pread(file.fileno(), 20, 4096 * slot).split() or [b"0"])[0]) for slot in (0, 1)]
+        slots = [int(number[0]) if (number := re.match(rb"\d+", os.pread(file.fileno(), 20, 4096 * slot))) else 0 for slot in (0, 1)]      # one that was torn before is none
         path = entries.months(host.state / "archive")[-1]
         kept = last = 0
         for line, at in entries.lines(path):
