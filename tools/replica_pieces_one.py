@@ -472,7 +472,7 @@ def by_ssh(cluster, work):
     """The log goes to another host by ssh: sshd and ssh as Debian has them, with keys of the trial, in a network of their own."""
     if lacking := [name for name in ("rsync", "ssh", "sshd", "ip") if not shutil.which(name)] + ["root"] * (os.geteuid() != 0):
         return check.lacks("shipping by ssh", " ".join(lacking))
-    host, folder, ns = cluster.hosts[0], cluster.folder / "ssh", f"gr{os.getpid()}-ssh"
+    folder, ns = cluster.folder / "ssh", f"gr{os.getpid()}-ssh"
     (folder / "there").mkdir(parents=True)
     for name in ("host", "user"):
         must("ssh-keygen", "-q", "-t", "ed25519", "-N", "", "-f", folder / name)
