@@ -6,7 +6,7 @@ entry before. Its own hash is the SHA-256 of that line without the line end. `ma
 
 Every line is in one form: members in the order written here, no spaces, UTF-8. So the same entry has one text and one hash.
 """
-import base64, dataclasses, datetime, gzip, hashlib, hmac, json, os, pathlib, re, time
+import base64, datetime, gzip, hashlib, hmac, json, os, pathlib, re, time, typing
 
 MONTH = re.compile(r"\d{4}-\d{2}\.jsonl(\.gz)?")
 NO_CHAIN = "-"                          # the chain of outcomes before entry 1
@@ -20,8 +20,7 @@ class Broken(Exception):
     """An entry or a line that is not what it has to be. The text names the entry."""
 
 
-@dataclasses.dataclass(frozen=True)
-class Entry:
+class Entry(typing.NamedTuple):
     n: int                              # 1, 2, 3 and so on
     prev: str                           # hash of entry n - 1; of entry 1: the origin, a number by chance
     time: str                           # UTC by the clock of the host that took the request: 2026-03-01T09:00:00.123456Z
@@ -37,15 +36,13 @@ class Entry:
     body: bytes                         # exactly as it came
 
 
-@dataclasses.dataclass(frozen=True)
-class Outcome:
+class Outcome(typing.NamedTuple):
     status: int                         # of HTTP: 200, 400, 403, 409; 500 for an entry that was set aside
     body: bytes                         # the answer's
     chain: str                          # hash of this outcome and of the chain before: replicas compare it
 
 
-@dataclasses.dataclass(frozen=True)
-class Record:
+class Record(typing.NamedTuple):
     """One line of the archive."""
     entry: Entry
     outcome: Outcome
@@ -54,7 +51,7 @@ class Record:
 
 def now():
     """The time by this host's clock, as entries have it."""
-    return datetime.datetime.now(datetime.timezone.utc).strftime("%Y-%m-%dT%H:%M:%S.%fZ")
+    return datetime.datetime.now(datetime.timezone.utc).isoformat(timespec="microseconds")[:26] + "Z"
 
 
 def read_key(path):
@@ -68,21 +65,22 @@ def read_key(path):
 # ------------------------------------------------------------------ one entry as a line
 
 TEXT_OF = json.JSONEncoder(ensure_ascii=False, separators=(",", ":")).encode
+quoted = json.encoder.encode_basestring         # a text as TEXT_OF writes it
 
 
 def compact(value):
     return TEXT_OF(value).encode()
 
 
-def body_members(body):
+def body_member(body):
     """The body as text where it is UTF-8, else in base64; so is a long one that is shorter in base64."""
     try:
-        text = body.decode()
-        if len(body) < SHORT or len(compact(text)) <= 4 * len(body) // 3:
-            return {"body": text}
+        text = quoted(body.decode())
+        if len(body) < SHORT or len(text.encode()) <= 4 * len(body) // 3:
+            return f'"body":{text}'
     except UnicodeDecodeError:
         pass
-    return {"body64": base64.b64encode(body).decode()}
+    return f'"body64":"{base64.b64encode(body).decode()}"'
 
 
 def body_of(members):
@@ -91,10 +89,13 @@ def body_of(members):
     return base64.b64decode(members.pop("body64"), validate=True)
 
 
+FIELDS = list(Entry._fields)
+FORM = '{"n":%d,' + ",".join(f'"{name}":%s' for name in FIELDS[1:-1]) + ",%s}"
+
+
 def written(entry, key):
     """The line of an entry, without its line end."""
-    members = {name: value for name, value in vars(entry).items() if name != "body"}
-    text = compact({**members, **body_members(entry.body)})
+    text = (FORM % (entry.n, *map(quoted, entry[1:-1]), body_member(entry.body))).encode()
     return b'{"entry":' + text + b',"mac":"' + mac(text, key).encode() + b'"}'
 
 
@@ -106,7 +107,6 @@ def hash_of(line):
     return hashlib.sha256(line).hexdigest()
 
 
-FIELDS = [field.name for field in dataclasses.fields(Entry)]
 BEGIN, MIDDLE = b'{"entry":', b'},"mac":"'            # a quote inside a text is escaped, so the second stands in a line once
 
 
@@ -162,8 +162,8 @@ def decided(route, status, body, chain):
 
 def archived(line, outcome):
     """The archive's line, with its line end."""
-    members = {"status": outcome.status, **body_members(outcome.body), "chain": outcome.chain}
-    return line[:-1] + b',"outcome":' + compact(members) + b"}\n"
+    said = f',"outcome":{{"status":{outcome.status},{body_member(outcome.body)},"chain":"{outcome.chain}"}}}}\n'
+    return line[:-1] + said.encode()
 
 
 OUTCOME = b'","outcome":'
@@ -285,13 +285,13 @@ class Archive:
                 self.month = path.name[:7]
                 break
 
-    def add(self, line, entry, outcome):
-        """Adds an entry's line with its outcome. Not on the disk for certain before `sync`."""
+    def add(self, line, entry, outcome, h=""):
+        """Adds an entry's line with its outcome; `h` is its hash, where it is known. Not on the disk for certain before `sync`."""
         month = max(self.month, entry.time[:7])         # a clock that goes back does not lead to an older file
         if self.file is None or month != self.month:
             self.turn(month)
         write_all(self.file, archived(line, outcome))
-        self.last = Record(entry, outcome, hash_of(line))
+        self.last = Record(entry, outcome, h or hash_of(line))
 
     def turn(self, month):
         if self.file is not None:
@@ -308,12 +308,12 @@ class Archive:
 
 def write_all(file, text):
     """All of the text or, where the disk is full, none of it."""
-    at = os.fstat(file).st_size
+    done = 0
     try:
-        while text:
-            text = text[os.write(file, text):]
+        while done < len(text):
+            done += os.write(file, text[done:])
     except OSError:
-        os.ftruncate(file, at)
+        os.ftruncate(file, os.fstat(file).st_size - done)
         raise
 
 

@@ -5,7 +5,7 @@ to it. So each copy also holds a hash of its day, over all that came before.
 """
 import csv, hashlib, io, json, os, pathlib, re, shutil, subprocess, tempfile, time
 
-import copies, entries
+import copies, entries, replica_roles
 
 EXCHANGE, CONFIGURATION = (pathlib.Path(os.environ.get(name) or otherwise) for name, otherwise in (("GOO_EXCHANGE", "/var/lib/goo-exchange"), ("GOO_CONFIGURATION", "/etc/goo")))
 STATUSES = (200, 400, 403, 409, entries.SET_ASIDE)
@@ -45,7 +45,10 @@ class Replay:
 
     def take(self, record):
         entry, outcome = record.entry, record.outcome
-        if entry.route == "/v1/declarations" and outcome.status == 200:
+        if entry.method == "POST" and not replica_roles.allows(entry.role, entry.method, entry.route, entry.body):
+            if outcome.status != 403:
+                raise entries.Broken(f"entry {entry.n}: its role {entry.role} does not allow it, and it is archived with status {outcome.status}")
+        elif entry.route == "/v1/declarations" and outcome.status == 200:
             self.take_table(record)
         elif entry.route == "/v1/requests" and outcome.status in (200, 403, 409) and outcome.body.startswith(b"{"):
             self.add(record, re.sub(rb"[\r\n]", b" ", entry.body), as_one(outcome.body))        # line ends between two words of JSON

@@ -12,8 +12,8 @@ SEND = 10                                       # seconds to send a request, and
 TEXT = "text/plain; charset=utf-8"
 PHRASES = {200: "OK", 400: "Bad Request", 403: "Forbidden", 404: "Not Found", 405: "Method Not Allowed", 409: "Conflict", 413: "Content Too Large",
            500: "Internal Server Error", 501: "Not Implemented", 503: "Service Unavailable"}
-LINE = re.compile(r"([A-Z]+) ([!-~]+) HTTP/1\.([01])")
-FIELD = re.compile(r"([!#$%&'*+.^_`|~0-9A-Za-z-]+):[ \t]*([\t -~\x80-\xff]*?)[ \t]*")
+WHOLE = re.compile(r"([A-Z]+) ([!-~]+) HTTP/1\.([01])((?:\r\n[!#$%&'*+.^_`|~0-9A-Za-z-]+:[\t -~\x80-\xff]*)*)")
+CALLER = re.compile("[!-~]{0,40}")
 OURS = ("goo-caller", "goo-user", "goo-address", "goo-role")
 
 
@@ -40,15 +40,15 @@ def plain(status, why=""):
 
 def head_of(text):
     """The call in a request's head, without its body, and the body's length."""
-    lines = text.decode("latin-1").split("\r\n")
-    line, fields = LINE.fullmatch(lines[0]), [FIELD.fullmatch(line) for line in lines[1:]]
-    if not line or not all(fields) or len(fields) > FIELDS:
+    head = WHOLE.fullmatch(text.decode("latin-1"))
+    if not head or head[4].count("\r\n") > FIELDS:
         raise Refusal(400)
     named = {}
-    for field in fields:
-        named.setdefault(field[1].lower(), []).append(field[2])
+    for line in head[4].split("\r\n")[1:]:
+        name, _, value = line.partition(":")
+        named.setdefault(name.lower(), []).append(value.strip(" \t"))
     hosts = len(named.get("host", ()))
-    if hosts > 1 or hosts == 0 and line[3] == "1":
+    if hosts > 1 or hosts == 0 and head[3] == "1":
         raise Refusal(400)
     if "transfer-encoding" in named:
         raise Refusal(501)
@@ -56,7 +56,7 @@ def head_of(text):
     if any(len(named.get(name, ())) > 1 for name in OURS):
         named.pop("goo-caller", None)           # two of one: nobody knows which the front door set, so there is no caller
     caller, user, address, role = (named.get(name, [""])[0] for name in OURS)
-    return Call(line[1], line[2], caller if re.fullmatch("[!-~]{0,40}", caller) else "", words(user), words(address), role), length
+    return Call(head[1], head[2], caller if CALLER.fullmatch(caller) else "", words(user), words(address), role), length
 
 
 def length_of(said):

@@ -7,29 +7,104 @@ Answer = collections.namedtuple("Answer", "status kind body allow", defaults=(""
 
 
 class Registry:
+    """The connection of the next question is opened while the registry is at this one, so that it comes to it at once.
+
+    Whoever asks next takes it: the registry answers one connection after another, and an idle one would hold up those behind it.
+    """
+
     def __init__(self, address):
         """`address` is the path of a socket, or HOST:PORT."""
         self.family, self.address = address_of(address)
+        self.next = None
 
     async def ask(self, method, target, caller, body=b"", patience=300):
         """The registry's answer, which came whole. Anything else raises one of BROKEN."""
         head = f"{method} {target} HTTP/1.1\r\nHost: goo\r\n{f'GOO-Caller: {caller}' if caller else 'Accept: */*'}\r\nContent-Length: {len(body)}\r\n\r\n"
-        async with asyncio.timeout(patience):
-            return await self.talk(head.encode("latin-1") + body, method)
+        with self.taken() as s:
+            return await Talk(s, method, patience).about(head.encode("latin-1") + body, self.ahead)
 
-    async def talk(self, request, method):
-        """By bare sockets: asyncio's streams cost several times as much, for each entry."""
-        loop, came = asyncio.get_running_loop(), b""
-        with socket.socket(self.family, socket.SOCK_STREAM) as s:
+    def taken(self):
+        s, self.next = self.next, None
+        if s and not is_open(s):
+            s.close()
+            s = None
+        return s or self.connected()
+
+    def connected(self):
+        s = socket.socket(self.family, socket.SOCK_STREAM)
+        try:
             s.settimeout(CONNECT)               # on this host it connects at once or not at all
             s.connect(self.address)
             s.setblocking(False)
-            await loop.sock_sendall(s, request)
-            while part := await loop.sock_recv(s, 1 << 18):
-                came += part
-                if answer := whole_answer(came, method):
-                    return answer
-        raise EOFError("cut off")
+            return s
+        except OSError:
+            s.close()
+            raise
+
+    def ahead(self):
+        try:
+            self.next = self.next or self.connected()
+        except OSError:
+            pass                                # the next question tells
+
+
+def is_open(s):
+    try:
+        s.recv(1, socket.MSG_PEEK)              # at its end, or an answer to nothing
+    except BlockingIOError:
+        return True
+    except OSError:
+        pass
+    return False
+
+
+class Talk:
+    """A question and its answer by a bare socket: asyncio's streams cost several times as much, for each entry."""
+
+    def __init__(self, s, method, patience):
+        self.s, self.method, self.patience = s, method, patience
+        self.came, self.head, self.begin, self.end = bytearray(), None, 0, 0
+        self.loop = asyncio.get_running_loop()
+        self.done = self.loop.create_future()
+
+    async def about(self, request, sent):
+        timer = self.loop.call_later(self.patience, self.settle, None, TimeoutError())
+        self.loop.add_reader(self.s, self.take)
+        try:
+            if rest := request[self.s.send(request):]:
+                async with asyncio.timeout(self.patience):
+                    await self.loop.sock_sendall(self.s, rest)
+            sent()
+            return await self.done
+        finally:
+            self.loop.remove_reader(self.s)
+            timer.cancel()
+
+    def settle(self, answer, fault=None):
+        if not self.done.done():
+            self.loop.remove_reader(self.s)
+            if fault:
+                self.done.set_exception(fault)
+                self.done.exception()           # seen, should nobody wait for it any longer
+            else:
+                self.done.set_result(answer)
+
+    def take(self):
+        """What came: the whole answer, a part of it, or the end."""
+        try:
+            part = self.s.recv(1 << 18)
+            self.came += part
+            if self.head is None and (end := self.came.find(b"\r\n\r\n")) >= 0:
+                self.head, length = head_of(self.came[:end].decode("latin-1"))
+                self.begin, self.end = end + 4, end + 4 + (0 if self.method == "HEAD" else length)
+            if self.head and len(self.came) >= self.end:
+                self.settle(self.head._replace(body=bytes(self.came[self.begin:self.end])))
+            elif not part:
+                raise EOFError("cut off")
+        except BlockingIOError:
+            pass
+        except BROKEN as fault:
+            self.settle(None, fault)
 
 
 def address_of(text):
@@ -40,13 +115,8 @@ def address_of(text):
     return socket.AF_INET, (host or "127.0.0.1", int(port))
 
 
-def whole_answer(text, method):
-    """The answer, once it is there whole."""
-    head, between, body = text.partition(b"\r\n\r\n")
-    if not between:
-        return None
-    first, *lines = head.decode("latin-1").split("\r\n")
+def head_of(text):
+    """The answer of which this is the head, without its body, and the body's length."""
+    first, *lines = text.split("\r\n")
     fields = {name.lower(): value.strip() for name, _, value in (line.partition(":") for line in lines)}
-    if method != "HEAD" and int(fields["content-length"]) > len(body):
-        return None
-    return Answer(int(first.split()[1]), fields.get("content-type", ""), body, fields.get("allow", ""))
+    return Answer(int(first.split()[1]), fields.get("content-type", ""), b"", fields.get("allow", "")), int(fields["content-length"])

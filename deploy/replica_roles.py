@@ -2,13 +2,13 @@
 import json
 
 
-def allows(call):
+def allows(role, method, route, body):
     """`full`, or no word: everything the registry allows. `reads`: GET alone. `declares`: declarations alone. Another word: nothing."""
-    if call.role in ("", "full"):
+    if role in ("", "full"):
         return True
-    if call.role == "reads":
-        return call.method == "GET"
-    return call.role == "declares" and call.method == "POST" and (call.target == "/v1/declarations" or command_of(call.body) == "declare")
+    if role == "reads":
+        return method == "GET"
+    return role == "declares" and method == "POST" and (route == "/v1/declarations" or command_of(body) == "declare")
 
 
 def command_of(body):

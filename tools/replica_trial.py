@@ -10,10 +10,13 @@ sys.path.insert(0, str(REPLICA.parent))
 sys.dont_write_bytecode = True
 import entries
 import loopback
+import replica_roles
 
 GOO = loopback.program()
 LIBC = ctypes.CDLL(None, use_errno=True)
 TODAY, CODE, VERSION = "2026-03-01", 7, "trial"
+GATE = "10.99.0.9"                  # what stands between the hosts and everybody else
+Gate = collections.namedtuple("Gate", "fd port address")
 PATIENCE = 20                       # of a client; longer than a replica takes to give a request up
 
 
@@ -161,6 +164,22 @@ class Host:
         except (OSError, ValueError):
             return {}
 
+    def says(self, words):
+        """Waits until this host takes nothing and gives these words as the reason; its health then."""
+        until(lambda: words in self.health().get("why", ""))
+        return self.health()
+
+
+def until(holds, patience=90):
+    """Waits until something holds; what it was at last. A host that does not answer yet is asked again."""
+    end, now = time.monotonic() + patience, None
+    while time.monotonic() < end:
+        with contextlib.suppress(OSError, ValueError):
+            if now := holds():
+                break
+        time.sleep(0.2)
+    return now
+
 
 class Cluster:
     """One host, or three with etcd. What ended is started again, as systemd does it."""
@@ -169,7 +188,7 @@ class Cluster:
         self.begun = begun                      # a registry that is there already
         self.folder, self.count, self.tls, self.memory = folder, count, tls, memory and os.geteuid() == 0
         self.switch, self.ended, self.delay = f"gr{os.getpid()}-s", False, (0.2, 1.5)
-        self.etcd_state, self.quota = "new", 8 << 30
+        self.etcd_state, self.quota, self.gate = "new", 8 << 30, None
         self.hosts = [Host(self, i) for i in range(1, count + 1)]
         self.chance = random.Random(1)
 
@@ -189,6 +208,9 @@ class Cluster:
             must("ip", "netns", "add", self.switch)
             must("ip", "-n", self.switch, "link", "add", "br0", "type", "bridge")
             must("ip", "-n", self.switch, "link", "set", "br0", "up")
+            must("ip", "-n", self.switch, "addr", "add", f"{GATE}/24", "dev", "br0")
+            must("ip", "-n", self.switch, "link", "set", "lo", "up")
+            self.gate = Gate(os.open(f"/run/netns/{self.switch}", os.O_RDONLY), 443, GATE)
         for host in self.hosts:
             host.lay()
             (host.folder / "version").write_text(VERSION)
@@ -226,7 +248,7 @@ class Cluster:
         for host in self.hosts:
             tls = host.folder / "tls"
             tls.mkdir()
-            (tls / "ext").write_text(f"subjectAltName=IP:{host.address},IP:127.0.0.1\nextendedKeyUsage=serverAuth,clientAuth\n")
+            (tls / "ext").write_text(f"subjectAltName=IP:{host.address},IP:127.0.0.1,IP:{GATE}\nextendedKeyUsage=serverAuth,clientAuth\n")
             openssl("req", "-newkey", "ec", "-pkeyopt", "ec_paramgen_curve:prime256v1", "-nodes", "-subj", f"/O={host.name}", "-keyout", tls / "key", "-out", tls / "csr")
             openssl("x509", "-req", "-in", tls / "csr", "-CA", self.folder / "ca.pem", "-CAkey", self.folder / "ca.key", "-CAcreateserial", "-days", "2", "-extfile", tls / "ext", "-out", tls / "pem")
 
@@ -296,6 +318,8 @@ class Cluster:
             if self.memory:
                 run("umount", host.disk)
         if self.count > 1:
+            if self.gate:
+                os.close(self.gate.fd)
             run("ip", "netns", "del", self.switch)
 
 
@@ -585,7 +609,7 @@ def tear(host, chance):
     """Takes by chance from what a replica had not synced to the disk: the end of the archive after the last entry that made it
     sync, the slot of the place in hand, and what is in the log after all that was applied. How many bytes it was."""
     with open(host.state / "place", "r+b") as file:
-        slots = [int((os.pread(file.fileno(), 20, 4096 * slot).split() or [b"0"])[0]) for slot in (0, 1)]
+        slots = [int(number[0]) if (number := re.match(rb"\d+", os.pread(file.fileno(), 20, 4096 * slot))) else 0 for slot in (0, 1)]      # one that was torn before is none
         path = entries.months(host.state / "archive")[-1]
         kept = last = 0
         for line, at in entries.lines(path):
@@ -632,7 +656,9 @@ class Weak(threading.Thread):
     def carry(self, near):
         request = b""
         while b"\r\n\r\n" not in request:
-            request += near.recv(65536)
+            if not (part := near.recv(65536)):
+                return                          # a connection that was opened ahead and not needed
+            request += part
         head, _, rest = request.partition(b"\r\n\r\n")
         length = int(re.search(rb"(?i)content-length: *(\d+)", head)[1])
         while len(rest) < length:
@@ -704,6 +730,11 @@ class Bare:
         self.process.wait(20)
 
 
+def carried_out(entry):
+    """Whether the registry is asked for it."""
+    return entry.method == "POST" and replica_roles.allows(entry.role, entry.method, entry.route, entry.body)
+
+
 class Replayed:
     """The log applied in one pass by a fresh goo, and held against what clients were told and shown."""
 
@@ -759,7 +790,7 @@ def replayed(cluster, work, log):
     bare = Bare(cluster, folder / "registry.db")
     run_of = Replayed(bare, work)
     for entry in log:
-        if entry.method == "POST":
+        if carried_out(entry):
             run_of.take(entry)
     bare.stop()
     check(f"the log of {len(log)} entries in one pass by a fresh goo: all {run_of.seen} answers that clients were told ({len(run_of.codes)} tables with another number of a refused row)",
