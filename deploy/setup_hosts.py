@@ -22,14 +22,18 @@ DROP_INS = {'goo-replica.service': 'goo-replica.service.conf', 'goo-backup.servi
 DAYS = 3650
 
 
+def is_address(text):
+    """Whether it is an address of another host than only of this one."""
+    try:
+        return not ipaddress.IPv4Address(text).is_loopback
+    except ValueError:
+        return False
+
+
 def addresses_of(text):
     """The three hosts' addresses, this one first."""
     found = text.split(',')
-    try:
-        wrong = [one for one in found if ipaddress.IPv4Address(one).is_loopback]
-    except ValueError as fault:
-        raise Refused(f'--hosts {text}: {fault}') from fault
-    if len(set(found)) != len(NAMES) or wrong:
+    if len(set(found)) != len(NAMES) or not all(map(is_address, found)):
         raise Refused(f'--hosts {text}: it takes three different addresses of IPv4, this host first, with commas between')
     if f' {found[0]}/' not in says('ip', '-4', '-oneline', 'address'):
         raise Refused(f'--hosts {text}: {found[0]} is no address of this host; the first address is that of the host where this is given')
