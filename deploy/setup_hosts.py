@@ -19,6 +19,8 @@ THEIRS = {'192.0.2.1': 0, '192.0.2.2': 1, '192.0.2.3': 2, '192.0.2.10': 3}
 OWN_LINE = re.compile(r'(name|listen-|advertise-|initial-advertise-)')
 """Lines of etcd.yaml that differ from host to host."""
 DROP_INS = {'goo-replica.service': 'goo-replica.service.conf', 'goo-backup.service': 'goo-backup-etcd.conf'}
+AGAIN = ('goo-door.socket', 'goo.service', 'goo-replica.service')
+"""What is started again where the work ends before its end."""
 DAYS = 3650
 
 
@@ -58,7 +60,7 @@ def stop_at_end():
         place.close()
         if place.n == last:
             return last
-        run('systemctl', 'start', *LED[::-1])
+        run('systemctl', 'start', *AGAIN)
     raise Refused(f'the registry does not come to the end of its log, which is entry {last}')
 
 
@@ -136,9 +138,13 @@ def lead(hosts, balancer):
     shutil.rmtree(goods, ignore_errors=True)
     goods.mkdir(mode=0o700, parents=True)
     make_certificates(goods, addresses)
-    said = {'entry': stop_at_end(), 'version': run(REPLICA, 'program').strip()}
-    for at in (1, 2):
-        pack(goods, at, addresses, balancer, said)
+    said = {'version': run(REPLICA, 'program').strip(), 'entry': stop_at_end()}
+    try:
+        for at in (1, 2):
+            pack(goods, at, addresses, balancer, said)
+    except (Refused, OSError):
+        run('systemctl', 'start', *AGAIN)
+        raise
     put_configuration(pathlib.Path('/'), goods, 0, addresses, balancer)
     for path in goods.iterdir():
         if path.name not in ('ca.key', 'ca.pem', 'h2.tar', 'h3.tar'):
