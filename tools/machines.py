@@ -39,6 +39,7 @@ def make_base(base):
     (part / 'etc/hostname').write_text('registry\n')
     (part / 'etc/hosts').write_text(f'127.0.0.1 localhost registry {NAME}\n')
     (part / 'etc/fstab').write_text('')
+    here('systemctl', f'--root={part}', 'disable', 'etcd', 'apt-daily.timer', 'apt-daily-upgrade.timer')         # three hosts start etcd again, as apt does
     part.rename(base / 'root')
 
 
@@ -210,7 +211,7 @@ class Emulated(Machine):
         self.run('mkdir -p /goods && mount -o ro /dev/vdb /goods')
         return self.is_up()
 
-    def connect(self, agent, patience=400):
+    def connect(self, agent, patience=1200):
         """Waits for the guest agent; what it says to earlier questions is passed over."""
         end = time.monotonic() + patience
         while time.monotonic() < end and self.process.poll() is None:
