@@ -57,7 +57,7 @@ class Done:
 class Machine:
     """A machine whose files are kept from one start to the next."""
 
-    process = None
+    process, power_cuts = None, 2
 
     def waits_for(self, text, patience=120):
         """Whether a command succeeds within this time."""
@@ -187,7 +187,7 @@ class Container(Machine):
 class Emulated(Machine):
     """qemu without the processor's help, from a disk with what was set up in a container. Commands are given through its guest agent."""
 
-    answers_inside = '/dev/ttyS1'
+    answers_inside, power_cuts = '/dev/ttyS1', 1
 
     def __init__(self, base, goods, folder, overlay):
         self.folder, self.line, self.console, self.answers = folder, None, folder / 'console', folder / 'answers'
@@ -201,7 +201,7 @@ class Emulated(Machine):
         agent = self.folder / 'agent'
         agent.unlink(missing_ok=True)
         self.process = subprocess.Popen([
-            'qemu-system-x86_64', '-accel', 'tcg,thread=multi', '-cpu', 'max', '-m', '1200', '-smp', '2', '-nodefaults', '-no-user-config', '-nographic', '-no-reboot', '-nic', 'none',
+            'qemu-system-x86_64', '-accel', 'tcg,thread=multi', '-cpu', 'max', '-m', '1200', '-smp', '4', '-nodefaults', '-no-user-config', '-nographic', '-no-reboot', '-nic', 'none',
             '-kernel', self.folder / 'vmlinuz', '-initrd', self.folder / 'initrd.img', '-append', 'root=/dev/vda rw console=ttyS0 panic=-1 quiet',
             '-drive', f'file={self.folder}/disk,if=virtio,format=raw', '-drive', f'file={self.folder}/goods.img,if=virtio,format=raw,readonly=on',
             '-serial', f'file:{self.console}', '-chardev', f'file,id=answers,path={self.answers},append=on', '-serial', 'chardev:answers',
