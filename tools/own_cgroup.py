@@ -15,9 +15,9 @@ def hierarchies():
             yield folder + places['name=systemd'].rstrip('/')
 
 
-def own_cgroups():
-    """A new cgroup in each hierarchy; none where the machine has no cgroups of version 2."""
-    folders = [pathlib.Path(place) / f'goo-trial-{os.getpid()}' for place in hierarchies()]
+def own_cgroups(name='one'):
+    """A new cgroup in each hierarchy, where a trial may have several; none where the machine has no cgroups of version 2."""
+    folders = [pathlib.Path(place) / f'goo-trial-{os.getpid()}-{name}' for place in hierarchies()]
     for folder in folders:
         folder.mkdir()
     return folders

@@ -1,0 +1,260 @@
+"""What `goo-setup status` and `goo-setup doctor` tell: what runs on this host, what is wrong, and what to do about it."""
+import configparser
+import datetime
+import http.client
+import json
+import pathlib
+import re
+import shutil
+import socket
+import subprocess
+import tempfile
+import time
+
+from setup_common import CLOSED, COPIES, DATABASE, ETC, EXCHANGE, LOG, ON_ONE, REGISTRY, Refused, is_active, leads, says, units, word_of, words_of_log
+
+DOOR, DESK = '/run/goo/door.sock', '/run/goo-records/web.sock'
+TOLD = pathlib.Path('/run/goo-alarm')
+GOODS = pathlib.Path('/root/goo-hosts')
+"""What the first of three hosts made for the others: it holds keys."""
+EXPIRES_SOON, COPY_OLD, SILENT = 30, 2, datetime.timedelta(hours=1)
+"""Days, days, and how long the exchange may be silent."""
+ROOM = 1 << 30
+PATIENCE = 180
+"""Seconds for the registry to take requests, on a host that is busy."""
+
+
+class Connection(http.client.HTTPConnection):
+    """A connection to a socket of this host."""
+
+    def __init__(self, path):
+        super().__init__('localhost', timeout=10)
+        self.path = path
+
+    def connect(self):
+        self.sock = socket.socket(socket.AF_UNIX)
+        self.sock.settimeout(self.timeout)
+        self.sock.connect(self.path)
+
+
+def ask(path, route):
+    """Status and text of an answer; None where there is none."""
+    try:
+        connection = Connection(path)
+        connection.request('GET', route, headers={'GOO-Caller': 'ISSUER'})
+        answer = connection.getresponse()
+        return answer.status, answer.read().decode()
+    except (OSError, http.client.HTTPException):
+        return None
+
+
+def told(text):
+    """The object of an answer's text; an empty one where it has none."""
+    try:
+        found = json.loads(text)
+    except ValueError:
+        return {}
+    return found if isinstance(found, dict) else {}
+
+
+def health():
+    """Why the registry takes no requests (nothing where it does), and the entry that it has applied last (None without a log)."""
+    answer = ask(DOOR, '/healthz')
+    if answer is None:
+        return 'it does not answer', None
+    said = told(answer[1])
+    return said.get('why') or ('' if answer[0] == 200 or 'entry' not in said else f'{said.get("behind")} entries behind'), said.get('entry')
+
+
+def book():
+    """By which entry and date the book of acts stands; nothing where it does not answer."""
+    answer = ask(DESK, '/records/v1/accounts?limit=1')
+    return told(answer[1]).get('stands') or {} if answer and answer[0] == 200 else {}
+
+
+def wait_for_registry():
+    end = time.monotonic() + PATIENCE
+    while time.monotonic() < end:
+        why, _ = health()
+        if not why:
+            return
+        time.sleep(0.5)
+    raise Refused(f'the registry takes no requests: {why}. goo-setup doctor tells more')
+
+
+def last_copy():
+    """The newest copy and its age in days; None where there is none."""
+    copies = sorted(path for path in COPIES.iterdir() if re.match(r'\d{4}-\d{2}-\d{2}', path.name)) if COPIES.exists() else []
+    today = datetime.datetime.now(datetime.timezone.utc).date()
+    return (copies[-1].name, (today - datetime.date.fromisoformat(copies[-1].name[:10])).days) if copies else None
+
+
+def failed_units():
+    return [line.split()[0] for line in says('systemctl', '--failed', '--plain', '--no-legend').split('\n') if line.startswith('goo')]
+
+
+def last_alarm():
+    """The newest alarm since the host was started."""
+    stamps = sorted(TOLD.glob('*.told'), key=lambda path: path.stat().st_mtime) if TOLD.exists() else []
+    return f'{datetime.datetime.fromtimestamp(stamps[-1].stat().st_mtime):%F %T}, {stamps[-1].stem}' if stamps else 'none since the host was started'
+
+
+def versions():
+    """The package's version, and what the program says of itself."""
+    said = subprocess.run(['goo', '--version'], capture_output=True, text=True, check=False)
+    found = re.match(r'(goo )?\d+\.\d+\.\d+.*', said.stdout + said.stderr)
+    return says('dpkg-query', '-W', '-f', '${Version}', 'goo') or 'no package', found[0] if found else 'it tells none'
+
+
+def status(given):
+    package, program = versions()
+    why, entry = health()
+    stands = book()
+    print(f'package   {package}\nprogram   {program}')
+    print(f'registry  {why or "takes requests"}{"" if entry is None else f"; entry {entry}"}')
+    print(f'book      {"entry {entry}, date {today}".format_map(stands) if stands else "does not answer"}')
+    if words_of_log():
+        silent = [address for address in members() if not answers(address)]
+        print(f'host      {word_of(words_of_log(), "--name")} of three; etcd answers on {", ".join(address for address in members() if address not in silent) or "none"}'
+              + (f', not on {", ".join(silent)}' if silent else ''))
+    for unit in units():
+        print(f'unit      {unit} {says("systemctl", "is-active", unit) or "unknown"}')
+    copy = last_copy()
+    print(f'copy      {f"{copy[0]}, {copy[1]} days old" if copy else "none"}')
+    for peer in exchange_state().get('peers', []):
+        print(f'peer      {peer.get("registry")}, last heard of {peer.get("contact") or "never"}')
+    print(f'alarm     {last_alarm()}')
+    print(f'failed    {", ".join(failed_units()) or "none"}')
+    return 1 if why else 0
+
+
+def members():
+    """The addresses of the three hosts, this one's first."""
+    return re.findall(r'https://([0-9.]+):2379', word_of(words_of_log(), '--etcd'))
+
+
+def answers(address):
+    try:
+        socket.create_connection((address, 2379), 3).close()
+    except OSError:
+        return False
+    return True
+
+
+def ailments():
+    """What is wrong, each with what to do."""
+    if not DATABASE.exists():
+        yield f'{DATABASE} is not there', 'begin a registry by goo-setup, or go back to a copy by /usr/lib/goo/restore'
+        return
+    if CLOSED.exists():
+        yield 'the front door was closed by restore', 'OPERATING.md, "Copies, and back from a copy"; at the end /usr/lib/goo/restore --open'
+    yield from registry_ailments()
+    for unit in units():
+        if says('systemctl', 'is-active', unit) not in ('active', ''):
+            yield f'{unit} is not running', f'systemctl status {unit}; systemctl start {unit}'
+    for unit in failed_units():
+        yield f'{unit} has failed', f'journalctl -u {unit} -n 20'
+    copy = last_copy()
+    if copy is None or copy[1] > COPY_OLD:
+        yield f'the last copy is {f"{copy[1]} days old" if copy else "not there"}', 'systemctl start goo-backup; journalctl -u goo-backup'
+    for path in filter(pathlib.Path.exists, (REGISTRY, LOG, COPIES)):
+        if shutil.disk_usage(path).free < ROOM:
+            yield f'{shutil.disk_usage(path).free >> 20} MB are free on {path}', 'make room, or give it a larger disk'
+    yield from member_ailments()
+    yield from exchange_ailments()
+    yield from certificate_ailments()
+    yield from host_ailments()
+
+
+def registry_ailments():
+    why, entry = health()
+    if why:
+        yield f'the registry takes no requests: {why}', 'journalctl -u goo -u goo-replica -n 50; OPERATING.md, "After a fault"'
+    stands = book()
+    today = datetime.date.today().isoformat()
+    if not stands:
+        yield 'the book of acts does not answer', 'journalctl -u goo-records -u goo-records-web -n 20'
+    elif stands['today'] != today:
+        yield f"the registry's date is {stands['today']}, today is {today}", ('journalctl -u goo-advance' if leads() else f'where the first host is lost: systemctl enable --now {ON_ONE}') + '; OPERATING.md, "The date"'
+    if entry is not None and stands and stands['entry'] + 1000 < entry:
+        yield f'the book of acts stands at entry {stands["entry"]}, the log at {entry}', 'journalctl -u goo-records -n 20'
+
+
+def member_ailments():
+    """What is wrong with the three hosts."""
+    silent = [address for address in members() if not answers(address)]
+    for address in silent:
+        yield f'etcd on {address} does not answer', 'look at that host; two of three have to be up for writes'
+    if GOODS.exists() and not silent:
+        yield f'{GOODS} holds keys', f'once both others have joined, move {GOODS}/ca.key to where such things are kept; rm -r {GOODS}'
+
+
+def exchange_state():
+    """What the last run of the exchange found; an empty object where it never ran."""
+    path = EXCHANGE / 'state.json'
+    return told(path.read_text(encoding='utf-8')) if path.exists() else {}
+
+
+def in_words(trouble):
+    return '; '.join(map(str, trouble)) if isinstance(trouble, list) else str(trouble)
+
+
+def exchange_ailments():
+    conf = configparser.ConfigParser()
+    conf.read(ETC / 'exchange.conf', encoding='utf-8')
+    peers = [section for section in conf.sections() if section.startswith('peer ')]
+    if peers and leads() and not is_active('goo-exchange.timer'):
+        yield f'{len(peers)} peers in {ETC}/exchange.conf, and goo-exchange.timer is not running', 'systemctl enable --now goo-exchange.timer'
+    state = exchange_state()
+    for found, name in ((state, 'the exchange'), *((peer, f'registry {peer.get("registry")}') for peer in state.get('peers', []))):
+        if found.get('trouble'):
+            yield f'{name}: {in_words(found["trouble"])}', 'journalctl -u goo-exchange -n 20; OPERATING.md, "Exchange with other registries"'
+    written = state.get('written')
+    if peers and written and datetime.datetime.now(datetime.timezone.utc) - datetime.datetime.fromisoformat(written) > SILENT:
+        yield f'the exchange ran last at {written}', 'systemctl status goo-exchange.timer; journalctl -u goo-exchange -n 20'
+
+
+def days_left(certificate):
+    """For how many days a certificate holds; None where it cannot be read."""
+    end = says('openssl', 'x509', '-in', certificate, '-noout', '-enddate').removeprefix('notAfter=')
+    return (datetime.datetime.strptime(end, '%b %d %H:%M:%S %Y %Z') - datetime.datetime.utcnow()).days if end else None
+
+
+def certificate_ailments():
+    chain, etcd = ETC / 'tls/cert.pem', [ETC / f'etcd/{name}.pem' for name in ('ca', 'member', 'replica')]
+    for path, remedy in ((chain, f'put a new one into {ETC}/tls; nginx -t && systemctl reload nginx'), *((path, 'OPERATING.md, "Three hosts"') for path in etcd if words_of_log())):
+        left = days_left(path)
+        if left is None:
+            yield f'{path} cannot be read', 'OPERATING.md, "TLS"' if path == chain else remedy
+        elif left < EXPIRES_SOON:
+            yield f'the certificate {path} ends in {left} days', remedy
+    name = re.search(r'server_name (\S+);', (ETC / 'host.conf').read_text(encoding='utf-8'))
+    if name and 'does NOT match' in says('openssl', 'x509', '-in', chain, '-noout', '-checkhost', name[1]):
+        yield f'{chain} is not for {name[1]}', f'{ETC}/host.conf has the name that it has to be for'
+
+
+def host_ailments():
+    for name in ('tls/key.pem', 'exchange.key', 'replica.key'):
+        path = ETC / name
+        if not path.exists():
+            yield f'{path} is not there', 'put the kept one there; a new one is made by goo-setup, and then the log or the peers do not know it'
+        elif path.stat().st_mode & 0o077:
+            yield f'{path} can be read by others than its owner', f'chmod 400 {path}'
+    with tempfile.TemporaryDirectory() as place:
+        done = subprocess.run(['/usr/lib/goo/callers', '--map', f'{place}/map'], capture_output=True, text=True, check=False)
+    for line in done.stderr.splitlines():
+        yield line, f'{ETC}/callers and {ETC}/users; then /usr/lib/goo/callers --reload'
+    if not is_active('nginx'):
+        yield 'nginx is not running', 'systemctl status nginx; systemctl start nginx'
+    if subprocess.run(['nginx', '-t', '-q'], capture_output=True, check=False).returncode:
+        yield 'nginx refuses its configuration', 'nginx -t'
+    if says('timedatectl', 'show', '--property', 'NTPSynchronized', '--value') == 'no':
+        yield "the host's clock is not set by the network", 'apt-get install systemd-timesyncd, or chrony'
+
+
+def doctor(given):
+    found = list(ailments())
+    for what, remedy in found:
+        print(f'{what}\n    {remedy}')
+    print('all is well' if not found else f'{len(found)} to look at')
+    return 1 if found else 0
