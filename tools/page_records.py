@@ -1,13 +1,9 @@
 """A place with the log of requests and the records of acts beside the registry, and the trials of the page in it. For tools/page."""
 import calendar, json, http.client, os, subprocess, sys, time
 
-from selenium.common.exceptions import StaleElementReferenceException
-
-from browser import Browser, By
+from browser import By, SECONDS
 from loopback import HOME, Place, free_port, wait_for
 
-SECONDS = 30
-"""Most that anything here may take to come."""
 PLANTS = [("T010000", "F01040100", "DE", "electricity", "Solarpark Nordfeld", "none"), ("T020001", "F01050100", "AT", "electricity", "Windpark Parndorf", "investment"),
           ("T030000", "F01050200", "DE", "hydrogen", "Electrolyser by the mill", "production"), ("T050000", "F01030400", "FR", "gas", "Biogaz de la Loire", "both")]
 MONTHS = [(2023, 9), (2024, 3), (2024, 9), (2024, 10), (2024, 11), (2024, 12)]
@@ -84,7 +80,7 @@ class WithRecords(Place):
                 print(f"--- {log.name}", log.read_text()[-800:], sep="\n", file=sys.stderr)
         for process in reversed(self.beside):
             process.terminate()
-            process.wait(20)
+            process.wait(SECONDS)
         super().__exit__(kind, *rest)
 
 
@@ -145,24 +141,11 @@ def cells(b, css="main tbody tr"):
 
 
 def cells_once(b, holds):
-    """The same once it is as wanted, or as it is after ten seconds."""
-    end = time.monotonic() + 10
+    """The same once it is as wanted, or as it is in the end."""
+    end = time.monotonic() + SECONDS
     while not holds(rows := cells(b)) and time.monotonic() < end:
         time.sleep(0.05)
     return rows
-
-
-def press(b, css, text):
-    """Clicks it; once more where the page has drawn it anew meanwhile."""
-    for last in (False, False, True):
-        try:
-            e = b.see(css, text)
-            b.d.execute_script("arguments[0].scrollIntoView({block: 'center'})", e)
-            e.click()
-            return
-        except StaleElementReferenceException:
-            if last:
-                raise
 
 
 # -------------------------------------------------------------------- own accounts, holdings, history, deadlines
@@ -184,11 +167,11 @@ class Seen:
         self.check("at sign-in a holder sees his own accounts with the sums of their statements", [[row[0], *row[3:8]] for row in rows] == wanted and "Sun Power GmbH" in rows[0][1], (rows, wanted))
         held = [line for account in (1, 3) for line in statement(self.place, account)[0]]
         expire, close = total(line for line in held if line[5] == "2023-09-30"), total(line for line in held if line[5] == "2024-03-31")
-        got = b.see("main .result").text
+        got = b.text("main .result")
         self.check("and what expires or closes within 60 days", f"trade closes for {close:,}, {expire:,} expire" in got, (got, close, expire))
         self.readable(b, "own accounts")
         b.picture("accounts-own")
-        press(b, "main .result a", "Which")
+        b.press("main .result a", "Which")
         rows = [row for row in (b.see("h1", "Deadlines"), b.see("table")) and cells(b)]
         self.check("each of them is a row, the soonest first", len(rows) == 8 and [row[0] for row in rows] == ["2025-03-30"] * 4 + ["2025-03-31"] * 4
                    and sum(int(row[2].replace(",", "")) for row in rows) == expire + close, rows)
@@ -198,15 +181,15 @@ class Seen:
         b, check = self.b, self.check
         held, sums = statement(self.place, 1)
         b.go("holdings/1", ".summed")
-        got = b.see(".summed").text
+        got = b.text(".summed")
         check("the holdings have the sum of the statement", f"{sums['held']:,} certificates" in got and "in 18 lots" in got, got)
         b.see(".filters [name=tech]").send_keys("Wind")
         wind = total(line for line in held if line[6] == "T020001")
-        got = b.see(".summed b", f"{wind:,} certificates").text
+        got = b.text(".summed b", f"{wind:,} certificates")
         check("a filter leaves its own, and stands in the address", len(cells(b)) == 6 and "tech=T020001" in b.d.current_url, (got, b.d.current_url))
-        press(b, "th.right button.head", "Count")
+        b.press("th.right button.head", "Count")
         b.see("th.right button.head", "Count \u2191")
-        press(b, "th.right button.head", "Count")
+        b.press("th.right button.head", "Count")
         b.see("th.right button.head", "Count \u2193")
         counts = [int(row[-2].replace(",", "")) for row in cells(b)]
         check("a head sorts, and turns it round", counts == sorted(counts, reverse=True) and len(set(counts)) > 2, counts)
@@ -215,7 +198,7 @@ class Seen:
         wanted = {tech: total(line for line in held if line[6] == tech) for tech in ("T010000", "T020001", "T030000")}
         got = {row[0].split()[-1]: int(row[1].replace(",", "")) for row in cells_once(b, lambda rows: rows and len(rows[0]) == 3)}
         check("subtotals by technology", got == wanted, (got, wanted))
-        press(b, "td a", "Solar")
+        b.press("td a", "Solar")
         b.see(".summed b", f"{wanted['T010000']:,} certificates")
         check("each leads to its lots", len(cells_once(b, lambda rows: len(rows) == 6)) == 6, cells(b))
         self.choose()
@@ -227,15 +210,15 @@ class Seen:
         counts = [int(row[-2].replace(",", "")) for row in cells(b)]
         for at in (1, 3, 3, 4):
             boxes[at].click()
-        got = b.see(".chosen").text
+        got = b.text(".chosen")
         check("lots are chosen, with a running sum", f"{counts[1] + counts[4]:,} certificates chosen in 2 lots" in got.replace("\n", " "), got)
         b.see(".filters [name=tech]").send_keys("Wind")
         b.see("tbody td", "Parndorf")
-        check("which stay chosen under another filter", f"{counts[1] + counts[4]:,} certificates" in b.see(".chosen").text)
+        check("which stay chosen under another filter", f"{counts[1] + counts[4]:,} certificates" in b.text(".chosen"))
         self.readable(b, "holdings")
         b.picture("holdings")
         b.picture("holdings-dark", widths=(1440,), dark=True)
-        press(b, "main button", "Choose all of these")
+        b.press("main button", "Choose all of these")
         wind = total(line for line in statement(self.place, 1)[0] if line[6] == "T020001")
         b.see(".chosen", f"{counts[1] + counts[4] + wind:,} certificates")
         check("and all that fit a filter are chosen at once", True)
@@ -253,8 +236,8 @@ class Seen:
         b.see(".filters [name=outcome]").send_keys("accepted")
         rows = cells_once(b, lambda rows: len(rows) == 3)
         check("filters of the history", [row[2] for row in rows] == ["4", "40", "10"], rows)
-        press(b, "td a", "20")
-        check("an act by itself", all(word in b.see("main dl", "2 VOLT Volt Handel AG").text for word in ("2025-03-01", "accepted")))
+        b.press("td a", "20")
+        check("an act by itself", all(word in b.text("main dl", "2 VOLT Volt Handel AG") for word in ("2025-03-01", "accepted")))
         b.go("look-up/07000000000848", "table")
         life = [row[1:4] for row in cells(b)]
         check("the life of a certificate", [of[0] for of in life] == ["issue", "transfer", "transfer"], life)
@@ -264,11 +247,11 @@ class Seen:
         b = self.b
         b.go("transfer/1/07000000000733/07000000000733")
         b.fill("transfer", taker="2")
-        b.see("form.transfer button[type=submit]").click()
-        got = b.see("dialog[open]").text
+        b.press("form.transfer button[type=submit]")
+        got = b.text("dialog[open]")
         self.check("the question before a transfer names both holders", "SUN, Sun Power GmbH" in got and "VOLT, Volt Handel AG" in got, got)
         b.picture("sure-named")
-        b.see("dialog[open] .buttons button:last-child").click()
+        b.press("dialog[open] .buttons button:last-child")
 
     def lists(self):
         b, check = self.b, self.check
@@ -291,16 +274,16 @@ class Seen:
         """The switch, and every text of the pages in German."""
         b, check = self.b, self.check
         b.go("", "table")
-        press(b, "nav button", "Deutsch")
+        b.press("nav button", "Deutsch")
         b.see("h1", "Ihre Konten")
-        check("the switch turns the page to German, with its numbers", f"{self.held(1):,}".replace(",", ".") in b.see("table").text and b.d.execute_script("return document.documentElement.lang") == "de")
+        check("the switch turns the page to German, with its numbers", f"{self.held(1):,}".replace(",", ".") in b.text("table") and b.d.execute_script("return document.documentElement.lang") == "de")
         for page, title in (("holdings/1", "Bestand"), ("history", "Verlauf"), ("lists/devices", "Anlagen"), ("document/1", "Entwertung 1"), ("transfer", "Übertragen")):
             b.go(page)
             check(f"#{page} in German", b.see("h1", title))
         b.picture("transfer-german")
         lacking = b.script("return [...(await import('/language.js')).missing]")
         check("no text lacks its German", lacking == [], lacking)
-        press(b, "nav button", "English")
+        b.press("nav button", "English")
         b.see("h1", "Transfer")
 
     def devices(self):
@@ -313,12 +296,12 @@ class Seen:
         b.go("register")
         box = b.see("form.register_device ~ .drop input")
         box.send_keys(str(self.place.dir / "faults.csv"))
-        got = b.see("main .result.bad").text
+        got = b.text("main .result.bad")
         check("a row at fault is told, and nothing is sent", "1 row is at fault" in got and cells(b)[0][1:] == ["country", "Two letters."], (got, cells(b)))
         box.send_keys(str(self.place.dir / "devices.csv"))
-        press(b, "main .buttons button", "Register 12 devices")
+        b.press("main .buttons button", "Register 12 devices")
         b.picture("devices-csv")
-        b.see("dialog[open] button.main").click()
+        b.press("dialog[open] button.main")
         b.see("main .result", "12 devices registered")
         audit = self.place.ask("office", "GET", "/v1/audit")[2]
         check("12 devices are registered, by the registry's audit", all(gsrn(700 + n) in audit for n in range(1, 13)))
@@ -332,27 +315,27 @@ class Seen:
         self.b.go(address, ".quantity")
         self.b.see("#quantity").send_keys(count)
         self.b.see("#quantity-order").send_keys(order)
-        press(self.b, ".quantity button", "Choose")
+        self.b.press(".quantity button", "Choose")
 
     def quantity(self):
         b, check = self.b, self.check
         self.choose_quantity("holdings/1", "999,999", "the oldest")
         b.see(".quantity .result", "999,999 were asked for")
-        check("more than there is can't be chosen, and the page says how many there are", f"{self.held(1):,} certificates" in b.see(".quantity .result").text)
+        check("more than there is can't be chosen, and the page says how many there are", f"{self.held(1):,} certificates" in b.text(".quantity .result"))
         self.choose_quantity("holdings/1/tradable=1", "1,000", "the fewest")
-        got = b.see(".chosen", "certificates").text.replace("\n", " ")
+        got = b.text(".chosen", "certificates").replace("\n", " ")
         check("a quantity is chosen", got.startswith("1,000 certificates chosen in"), got)
         before = [self.held(account) for account in (1, 2)]
-        press(b, ".chosen button", "Transfer")
+        b.press(".chosen button", "Transfer")
         b.see("form.bundle")
         b.fill("bundle", taker="2")
         self.readable(b, "a selection")
         b.picture("selection")
-        press(b, "form.bundle button.main", "Transfer 1,000")
-        got = b.see("dialog[open]").text
+        b.press("form.bundle button.main", "Transfer 1,000")
+        got = b.text("dialog[open]")
         check("the question tells how many, in how many requests, and both holders", all(text in got for text in ("1,000", "SUN, Sun Power GmbH", "VOLT, Volt Handel AG", "can’t be taken back")), got)
         b.picture("selection-sure")
-        b.see("dialog[open] button.main").click()
+        b.press("dialog[open] button.main")
         b.see("main .result", "All ")
         self.place.followed()
         check("1,000 have moved, by the registry's statements", [self.held(account) for account in (1, 2)] == [before[0] - 1000, before[1] + 1000], before)
@@ -362,25 +345,25 @@ class Seen:
         """An answer that is lost in the middle of a selection: the page is loaded anew, goes on, and nothing is done twice."""
         b, check, place = self.b, self.check, self.place
         b.go("holdings/1/tech=T010000&tradable=1", ".summed")
-        press(b, "main button", "Choose all of these")
-        text = b.see(".chosen", "certificates chosen in").text
+        b.press("main button", "Choose all of these")
+        text = b.text(".chosen", "certificates chosen in")
         chosen, before = int(text.split()[0].replace(",", "")), [self.held(account) for account in (1, 2)]
-        press(b, ".chosen button", "Transfer")
+        b.press(".chosen button", "Transfer")
         b.fill("bundle", taker="2")
-        press(b, "form.bundle button.main", "Transfer")
+        b.press("form.bundle button.main", "Transfer")
         fates = iter(("passed", "passed", "unheard"))
         place.relay.fate = lambda: next(fates, "passed")
         posts = sum(head.startswith("POST") for head in place.relay.heads)
-        b.see("dialog[open] button.main").click()
-        got = b.see("main .result.kept", "requests are answered").text
+        b.press("dialog[open] button.main")
+        got = b.text("main .result.kept", "requests are answered")
         check("an answer is lost: what is answered is told, and the rest is kept", got.startswith("2 of ") and "No answer" in got, got)
         b.picture("selection-lost")
-        b.go("", "table")
-        got = b.see("#unanswered li").text
+        b.load("", "table")
+        got = b.text("#unanswered li")
         check("it is there after the page was loaded anew", "2 of " in got and "To account 2" in got, got)
         self.readable(b, "a selection to go on with")
-        press(b, "#unanswered button", "Go on")
-        total_of = b.see("#unanswered .result", "All ").text
+        b.press("#unanswered button", "Go on")
+        total_of = b.text("#unanswered .result", "All ")
         place.relay.fate = None
         sent = sum(head.startswith("POST") for head in place.relay.heads) - posts
         check("gone on with, every certificate has moved once", [self.held(account) for account in (1, 2)] == [before[0] - chosen, before[1] + chosen] and f"All {sent - 1} requests" in total_of, (before, chosen, total_of, sent))
@@ -390,26 +373,26 @@ class Seen:
     def cancel_many(self):
         b, check = self.b, self.check
         self.choose_quantity("holdings/1", "1,200", "the oldest")
-        press(b, ".chosen button", "Cancel")
+        b.press(".chosen button", "Cancel")
         b.fill("bundle", beneficiary="Stadtwerke Nordheim", use_first="2023-10-01", use_last="2024-06-30")
         before = self.held(1)
-        press(b, "form.bundle button.main", "Cancel")
-        b.see("dialog[open] button.main").click()
-        got = b.see("main .result", "All ").text
+        b.press("form.bundle button.main", "Cancel")
+        b.press("dialog[open] button.main")
+        got = b.text("main .result", "All ")
         check("1,200 are cancelled in as many requests as there are ranges", "1,200 certificates cancelled" in got and self.held(1) == before - 1200, got)
         self.place.followed()
-        press(b, "main .result a", "One document")
+        b.press("main .result a", "One document")
         self.document()
 
     def document(self):
         """One document of many cancellations, with the facts of each lot and a code that anybody can check."""
         b, check, place = self.b, self.check, self.place
-        got, numbers = b.see("article.sheet", "1,200 MWh").text, b.d.current_url.split("document/")[1].replace("%2C", ",")
+        got, numbers = b.text("article.sheet", "1,200 MWh"), b.d.current_url.split("document/")[1].replace("%2C", ",")
         lots = {line.split()[3] for number in spread(numbers) for line in place.ask("anna", "GET", f"/v1/cancellations/{number}")[2].splitlines() if line[:2].isdigit()}
         facts = [(PLANTS[i][4], power) for i, power in ((0, "2 MW"), (1, "3 MW"), (2, "4 MW")) if gsrn(i + 1) in lots]
         check("one document of all cancellations has the facts of each lot", len(spread(numbers)) > 1 and len(facts) > 1 and all(text in got for fact in facts for text in fact)
               and all(text in got for text in ("Solar F01040100", "Germany DE", "electricity", "since 2020-06-15", "no support", "Stadtwerke Nordheim", "Sun Power GmbH", "registry 07")), (numbers, facts, got))
-        code = b.see(".sheet .check b").text
+        code = b.text(".sheet .check b")
         self.readable(b, "document of many")
         b.picture("document-many")
         b.picture("document-many-printed", widths=(794,), printed=True)
@@ -425,24 +408,24 @@ class Seen:
         b.d.get(f"https://localhost:{self.place.port}/verify.html")
         b.see("[name=number]").send_keys(numbers)
         b.see("[name=code]").send_keys(code.lower().replace("-", " "))
-        b.see("form.verify button").click()
-        got = b.see("article.sheet", "1,200 MWh").text
-        check("anybody can check a document, and sees what the registry has", "They belong together" in b.see(".result").text and "Stadtwerke Nordheim" in got, got)
+        b.press("form.verify button")
+        got = b.text("article.sheet", "1,200 MWh")
+        check("anybody can check a document, and sees what the registry has", "They belong together" in b.text(".result") and "Stadtwerke Nordheim" in got, got)
         self.readable(b, "the public check")
         b.picture("verify")
         b.see("[name=code]").send_keys("A")
-        b.see("form.verify button").click()
+        b.press("form.verify button")
         check("a wrong code is told", b.see(".result.bad", "do not belong together") and not b.d.find_elements(By.CSS_SELECTOR, ".sheet"))
 
     def export_many(self):
         b, check = self.b, self.check
         self.choose_quantity("holdings/3/tradable=1", "600", "the soonest")
-        press(b, ".chosen button", "Export")
+        b.press(".chosen button", "Export")
         b.fill("bundle", peer="9", account="5")
         before = self.held(3)
-        press(b, "form.bundle button.main", "Export")
-        b.see("dialog[open] button.main").click()
-        got = b.see("main .result", "accepted").text
+        b.press("form.bundle button.main", "Export")
+        b.press("dialog[open] button.main")
+        got = b.text("main .result", "accepted")
         check("600 are exported", "600 certificates exported" in got and "Notices " in got and self.held(3) == before - 600, got)
 
     def of_other(self):
@@ -474,46 +457,47 @@ def many_lots(place):
     return devices * days
 
 
-STEPS = {"office": ["devices"], "anna": ["accounts", "holdings", "history", "names", "lists", "german", "quantity", "lost_in_the_middle", "cancel_many", "export_many"], "bela": ["of_other"], "public": ["public"]}
-IN_QUICK = {"anna": ["accounts", "lost_in_the_middle", "cancel_many"], "public": ["public"]}
+PUBLIC = "nemo"
+"""Whose browser stands for anybody's: he signs in nowhere here."""
+STEPS = {"office": ["devices"], "anna": ["accounts", "holdings", "history", "names", "lists", "german", "quantity", "lost_in_the_middle", "cancel_many", "export_many"], "bela": ["of_other"], PUBLIC: ["public"]}
+IN_QUICK = {"anna": ["accounts", "lost_in_the_middle", "cancel_many"], PUBLIC: ["public"]}
 
 
-def ten_thousand(place, check, pictures, clock):
+def ten_thousand(b, check):
     """The first page of ten thousand lots is there within seconds, and the sum is of all."""
-    lots = many_lots(place)
-    b = Browser(place, "office", check, pictures, clock)
-    b.sign_in()
+    lots = many_lots(b.place)
     begun = time.monotonic()
     b.go("holdings/4", ".summed")
     took = time.monotonic() - begun
-    check(f"of {lots:,} lots a hundred are drawn, in {took:.1f} s, and the sum is of all", len(cells(b)) == 100 and f"{lots:,} certificates" in b.see(".summed").text and took < 15, took)
-    press(b, "main .buttons button", "Next page")
+    check(f"of {lots:,} lots a hundred are drawn, in {took:.1f} s, and the sum is of all", len(cells(b)) == 100 and f"{lots:,} certificates" in b.text(".summed") and took < 15, took)
+    b.press("main .buttons button", "Next page")
     b.see("main .buttons button", "Page before")
-    press(b, "main button", "Choose all of these")
-    b.see(".chosen", f"{lots:,} certificates", seconds=60)
+    b.press("main button", "Choose all of these")
+    b.see(".chosen", f"{lots:,} certificates")
     check("all are chosen, over all pages", True)
-    b.quit()
 
 
-def trials(check, readable, pictures, clock, quick):
+def trials(browsers, check, readable, quick):
     """The trials of the page over the records."""
-    with WithRecords(rate=200) as place:
-        world(place)
-        for user, steps in (IN_QUICK if quick else STEPS).items():
-            b = Browser(place, user, check, pictures, clock)
-            seen = Seen(b, check, readable)
-            try:
-                b.size(1440) if user == "public" else b.sign_in()
-                for step in steps:
-                    begun = time.monotonic()
-                    getattr(seen, step)()
-                    print(f"     records, {step}: {time.monotonic() - begun:.0f} s", flush=True)
-            except Exception as e:
-                check(f"records, {user} to the end", False, f"{type(e).__name__}: {e}")
-                b.picture("stopped", widths=(1440,))
-            b.quit()
-        if not quick:
-            try:
-                ten_thousand(place, check, pictures, clock)
-            except Exception as e:
-                check("ten thousand lots to the end", False, f"{type(e).__name__}: {e}")
+    try:
+        with WithRecords(rate=200, cost=4) as place:
+            world(place)
+            for user, steps in (IN_QUICK if quick else STEPS).items():
+                tried(Seen(browsers.of(user, place), check, readable), steps)
+    except Exception as e:
+        check("the records to the end", False, f"{type(e).__name__}: {e}")
+
+
+def tried(seen, steps):
+    """The steps of one user; one that ends early ends those after it too."""
+    b, at = seen.b, "sign-in"
+    try:
+        b.size(1440) if b.user == PUBLIC else b.sign_in()
+        for at in steps:
+            begun = time.monotonic()
+            getattr(seen, at)()
+            print(f"     records, {at}: {time.monotonic() - begun:.0f} s", flush=True)
+    except Exception as e:
+        seen.check(f"records, {b.user}, {at} to the end", False, f"{type(e).__name__}: {e}")
+        b.picture("stopped", widths=(1440,))
+    b.errors()
