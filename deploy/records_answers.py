@@ -1,5 +1,7 @@
 """What people ask of the book of acts: one function for each list, over one connection and for one viewer. Each shows a viewer what the registry would show him, and no more."""
 import base64
+import bisect
+import datetime
 import hashlib
 import hmac
 from dataclasses import dataclass
@@ -19,8 +21,12 @@ KEYS = {'lot': 'lot.id', 'run': 'run.first', 'month': 'substr(lot.first_day, 1, 
 ORDERS = {'oldest': 'lot.first_day, run.first', 'expiring': 'lot.expires_on IS NULL, lot.expires_on, run.first', 'fewest': 'run.last - run.first DESC, run.first'}
 LOT_FILTERS = {'tech': 'lot.tech = ?', 'source': 'lot.source = ?', 'country': 'lot.country = ?', 'carrier': 'lot.carrier = ?', 'device': 'lot.device = ?', 'origin': 'lot.origin = ?',
                'from': 'lot.first_day >= ?', 'to': 'lot.last_day <= ?', 'expires_before': 'lot.expires_on <= ?', 'support': 'lot.support = ?'}
-ACT_FILTERS = {'kind': 'act.kind = ?', 'outcome': 'act.outcome = ?', 'caller': 'act.caller = ?', 'device': 'act.device = ?', 'key': 'act.key = ?', 'number': 'act.number = ?', 'peer': 'act.peer = ?',
-               'from': 'act.day >= ?', 'to': 'act.day <= ?', 'before': 'act.id < ?', 'entry': 'act.entry = ?', 'refusal': 'act.refusal = ?'}
+ACT_FILTERS = {name: f'act.{name} = ?' for name in ('kind', 'outcome', 'refusal', 'caller', 'user', 'device', 'peer', 'number')}
+OWN_ALONE = ('user', 'key')
+"""Members of an act that its own side and the issuing body see. Nobody else finds it by them."""
+
+DAYS = ('from', 'to', 'expires_before')
+"""Parameters that are days."""
 
 
 class NotFound(Exception):
@@ -72,8 +78,8 @@ class Conditions:
     def add_given(self, filters, asked):
         """Those filters that were asked for."""
         for name, text in filters.items():
-            if asked.get(name):
-                self.add(text, (asked[name],))
+            if value := day_of(asked, name) if name in DAYS else asked.get(name):
+                self.add(text, (value,))
 
     @property
     def where(self):
@@ -89,6 +95,19 @@ def number_of(asked, name, default=None, most=10 ** 15):
     if not (digits.isascii() and digits.isdigit() and int(digits) <= most):
         raise BadQuestion(f'{name} is {text!r}, and not a whole number up to {most:,}')
     return int(digits)
+
+
+def day_of(asked, name):
+    """A parameter that is a day."""
+    text = asked.get(name)
+    try:
+        if text and datetime.date.fromisoformat(text).isoformat() == text:
+            return text
+    except ValueError:
+        pass
+    if text:
+        raise BadQuestion(f'{name} is {text!r}, and not a day as 2025-03-31')
+    return None
 
 
 def rows(database, text, values=()):
@@ -118,18 +137,47 @@ def standing(database):
 
 def acts(database, viewer, asked):
     """Acts that the viewer may see, the newest first. `before` is the id to go on from."""
-    source, conditions = 'act', Conditions()
+    source, column, conditions = 'act', 'act.id', Conditions()
     if account := number_of(asked, 'account'):
-        source, conditions = 'touched CROSS JOIN act ON act.id = touched.act', Conditions(('touched.account = ?', (account,)), viewer.of_acts())
-    elif not viewer.sees_all:
-        source, conditions = 'seen CROSS JOIN act ON act.id = seen.act', Conditions(('seen.viewer = ?', (viewer.caller,)))
+        source, column, conditions = 'touched CROSS JOIN act ON act.id = touched.act', 'touched.act', Conditions(('touched.account = ?', (account,)), viewer.of_acts())
+    elif not viewer.sees_all and not asked.get('key'):
+        source, column, conditions = 'seen CROSS JOIN act ON act.id = seen.act', 'seen.act', Conditions(('seen.viewer = ?', (viewer.caller,)))
+    else:
+        conditions.add(*viewer.of_acts())
+    conditions.add(f'{column} BETWEEN ? AND ?', ids_asked(database, asked))
     conditions.add_given(ACT_FILTERS, asked)
-    if text := asked.get('q'):
-        conditions.add("instr(lower(coalesce(act.note, '') || ' ' || coalesce(act.key, '') || ' ' || coalesce(act.device, '') || ' ' || coalesce(act.holder, '')), lower(?))", (text,))
+    add_words(conditions, viewer, asked)
     limit, _ = page(asked)
-    found = rows(database, f'SELECT act.* FROM {source} WHERE {conditions.where} ORDER BY {source.split()[0]}.{"id" if source == "act" else "act"} DESC LIMIT ?', (*conditions.values, limit))
+    found = rows(database, f'SELECT act.* FROM {source} WHERE {conditions.where} ORDER BY {column} DESC LIMIT ?', (*conditions.values, limit))
     shown = [told(database, viewer, act, RANGES) for act in found]
     return {'items': shown, 'next': found[-1]['id'] if len(found) == limit else None}
+
+
+def ids_asked(database, asked):
+    """The first and the last id of the acts of these entries and days. Acts stand in the order of entries, and the registry's date never goes back, so both are found by halving."""
+    most, = database.execute('SELECT coalesce(max(id), 0) FROM act').fetchone()
+    entry, before = number_of(asked, 'entry'), number_of(asked, 'before', most + 1)
+    low, high = 1, min(before - 1, most)
+    for column, first, last in (('entry', entry, entry), ('day', day_of(asked, 'from'), day_of(asked, 'to'))):
+        def of(number):
+            return database.execute(f'SELECT {column} FROM act WHERE id = ?', (number,)).fetchone()[0]
+
+        low = max(low, bisect.bisect_left(range(1, most + 1), first, key=of) + 1) if first else low
+        high = min(high, bisect.bisect_right(range(1, most + 1), last, key=of)) if last else high
+    return low, high
+
+
+def add_words(conditions, viewer, asked):
+    """The key (with `*` at its end: all that begin so) and the text that were asked for. What the viewer does not see, he does not find."""
+    if any(asked.get(name) for name in OWN_ALONE) and not viewer.sees_all:
+        conditions.add('act.caller = ?', (viewer.caller,))
+    if (key := asked.get('key') or '').endswith('*'):
+        conditions.add('act.key >= ? AND act.key < ?', (key[:-1], f'{key[:-1]}\x7f'))
+    elif key:
+        conditions.add('act.key = ?', (key,))
+    if text := asked.get('q'):
+        own_key, whose = ('act.key', ()) if viewer.sees_all else ('CASE WHEN act.caller = ? THEN act.key END', (viewer.caller,))
+        conditions.add(f"instr(lower(coalesce(act.note, '') || ' ' || coalesce({own_key}, '') || ' ' || coalesce(act.device, '') || ' ' || coalesce(act.holder, '')), lower(?))", (*whose, text))
 
 
 def act(database, viewer, number):
@@ -227,7 +275,7 @@ def deadlines(database, viewer, asked):
     return {'items': rows(database, f'''SELECT run.account, lot.id AS lot, {LOT_COLUMNS}, sum(run.last - run.first + 1) AS count,
                                                CASE WHEN lot.trade_until >= (SELECT today FROM meta) THEN 'trade' ELSE 'expiry' END AS next
                                         FROM run JOIN lot ON lot.id = run.lot WHERE {conditions.where} AND (lot.trade_until BETWEEN (SELECT today FROM meta) AND {near} OR lot.expires_on <= {near})
-                                        GROUP BY run.account, lot.id ORDER BY min(coalesce(lot.expires_on, '9999'), CASE WHEN lot.trade_until >= (SELECT today FROM meta) THEN lot.trade_until ELSE '9999' END)''',
+                                        GROUP BY run.account, lot.id ORDER BY min(coalesce(lot.expires_on, '9999'), CASE WHEN lot.trade_until >= (SELECT today FROM meta) THEN lot.trade_until ELSE '9999' END), run.account, lot.id''',
                           (*conditions.values, f'+{days} days', f'+{days} days'))}
 
 
@@ -277,7 +325,7 @@ LISTS = {
 """Each list: its query, the column of the account that decides who sees a row, and the column that it is sorted by."""
 
 
-def listed(database, viewer, name, asked):
+def listed(name, database, viewer, asked):
     """A list of the registry's records, the newest first where they are acts."""
     text, account, order = LISTS[name]
     conditions = Conditions(viewer.of_accounts(account))

@@ -3,29 +3,30 @@
 Each accepted request is carried out once more by rules.py, in memory, and what it changed is written here: the act, the ranges of certificates that it moved,
 and the rows that it left. Refused and unreadable requests are acts that changed nothing. The file can be made anew at any time.
 """
+import bisect
+import collections
 import csv
 import io
 import json
 import sqlite3
 
+import rules
 from rules import EXPORTED, ISSUER, LOT, PLANT, Again, Certificates, Registry, months_after
 
-FORM = 1
-"""Of this file. A file of another form is made anew."""
+FORM = 2
+"""Of this file. A file of another form is made anew, and nothing is read from it until then."""
 TABLES = f'''
 CREATE TABLE meta (id INTEGER PRIMARY KEY CHECK (id = 1), form INTEGER, code INTEGER, today TEXT, entry INTEGER, hash TEXT, time TEXT) STRICT;
 CREATE TABLE act (id INTEGER PRIMARY KEY, entry INTEGER NOT NULL, line INTEGER NOT NULL, time TEXT, user TEXT, caller TEXT NOT NULL, day TEXT NOT NULL, kind TEXT NOT NULL,
                   outcome TEXT NOT NULL, refusal TEXT, key TEXT, holder TEXT, giver INTEGER, taker INTEGER, device TEXT, peer INTEGER, number INTEGER, wh INTEGER, note TEXT) STRICT;
-CREATE INDEX act_by_kind ON act (kind, id);
+CREATE INDEX act_by_key ON act (key);
 CREATE TABLE seen (viewer TEXT, act INTEGER, PRIMARY KEY (viewer, act)) STRICT, WITHOUT ROWID;
 CREATE TABLE touched (account INTEGER, act INTEGER, PRIMARY KEY (account, act)) STRICT, WITHOUT ROWID;
 CREATE TABLE moved (id INTEGER PRIMARY KEY, act INTEGER, first INTEGER, last INTEGER, lot INTEGER, kind INTEGER, account INTEGER, from_kind INTEGER, from_account INTEGER) STRICT;
-CREATE INDEX moved_by_act ON moved (act, first);
 CREATE VIRTUAL TABLE passed USING rtree_i32 (id, first, last, lot, to_lot);
 CREATE TABLE lot (id INTEGER PRIMARY KEY, {', '.join(f'{member} {"INTEGER" if member in ("origin", "capacity_w") else "TEXT"}' for member in LOT)}, trade_until TEXT, expires_on TEXT, begin INTEGER,
                   UNIQUE (origin, device, first_day)) STRICT;
 CREATE TABLE run (first INTEGER PRIMARY KEY, last INTEGER NOT NULL, lot INTEGER NOT NULL, kind INTEGER NOT NULL, account INTEGER NOT NULL, number INTEGER NOT NULL) STRICT;
-CREATE INDEX run_by_account ON run (account, kind, first);
 CREATE TABLE holder (code TEXT PRIMARY KEY, name TEXT NOT NULL, act INTEGER NOT NULL) STRICT;
 CREATE TABLE account (number INTEGER PRIMARY KEY, holder TEXT NOT NULL, closed INTEGER NOT NULL, act INTEGER NOT NULL) STRICT;
 CREATE INDEX account_by_holder ON account (holder);
@@ -41,6 +42,17 @@ CREATE TABLE withdrawal (number INTEGER PRIMARY KEY, first INTEGER, last INTEGER
 CREATE TABLE peer (code INTEGER PRIMARY KEY, act INTEGER) STRICT;
 CREATE TABLE notice (sent INTEGER, peer INTEGER, number INTEGER, account INTEGER, far_account INTEGER, count INTEGER, day TEXT, act INTEGER, PRIMARY KEY (sent, peer, number)) STRICT, WITHOUT ROWID;
 '''
+INDEXES = """
+CREATE INDEX act_by_kind ON act (kind, id);
+CREATE INDEX act_by_device ON act (device, id) WHERE device IS NOT NULL;
+CREATE INDEX moved_by_act ON moved (act, first);
+CREATE INDEX run_by_account ON run (account, kind, first);
+"""
+"""What only readers need. It is made at the end, from whole tables, which is quicker."""
+CACHE = 65_536
+"""KiB of the file that the writer keeps in memory."""
+NO_ACT = {'id': 0, 'entry': 0, 'line': 0, **dict.fromkeys(('time', 'user', 'caller', 'day', 'kind', 'outcome', 'refusal', 'key', 'holder', 'giver', 'taker', 'device', 'peer', 'number', 'wh', 'note'))}
+"""The columns of an act, in the order of its table."""
 KINDS = {'declare': 'issue', 'correct': 'correction', 'transfer': 'transfer', 'cancel': 'cancellation', 'withdraw': 'withdrawal', 'export': 'export', 'import': 'import',
          'open_holder': 'holder', 'open_account': 'account', 'close_account': 'closing', 'register_device': 'device', 'advance': 'date', 'add_peer': 'peer'}
 """The kind of act by the word of its command. `expiry` has no command: a new date makes it. `unreadable` is what no command could be read from."""
@@ -52,12 +64,28 @@ class Mismatch(Exception):
     """What the log says of a request is not what the rules give. The text names the entry."""
 
 
+class Noted(dict):
+    """Runs by their first numbers, which keep the numbers of those that were changed or removed."""
+
+    def __init__(self):
+        super().__init__()
+        self.noted = set()
+
+    def __setitem__(self, first, run):
+        self.noted.add(first)
+        super().__setitem__(first, run)
+
+    def __delitem__(self, first):
+        self.noted.add(first)
+        super().__delitem__(first)
+
+
 class Watched(Certificates):
     """Certificates that keep each change of place until it is asked for: first, last, lot, place before (None where there was none), place after."""
 
     def __init__(self):
         super().__init__()
-        self.changes = []
+        self.runs, self.changes, self.unwritten = Noted(), [], set()
 
     def add(self, first, last, lot, place):
         known = {number: (end, old) for number, end, _, old in self.within(first, last)}
@@ -73,9 +101,25 @@ class Watched(Certificates):
         return count
 
     def taken(self):
-        """The changes since this was last asked."""
+        """The changes since this was last asked. Runs that were cut and say the same are made one again."""
+        for first in sorted(self.runs.noted):
+            if first in self.runs:
+                self.join(self.runs[first][0] + 1)
+                self.join(first)
+        self.unwritten |= self.runs.noted
+        self.runs.noted.clear()
         changes, self.changes = self.changes, []
         return changes
+
+    def join(self, number):
+        """Makes one of the run that begins with this number and the one before it, where they say the same."""
+        at = bisect.bisect_left(self.firsts, number)
+        if at and number in self.runs:
+            before, (last, *says) = self.firsts[at - 1], self.runs[number]
+            end, *said = self.runs[before]
+            if end == number - 1 and said == says:
+                self.runs[before] = (last, *says)
+                del self.runs[number], self.firsts[at]
 
 
 class WatchedRegistry(Registry):
@@ -91,33 +135,70 @@ def connected(path, read_only=False):
     return database
 
 
+def opened(path):
+    """A connection that reads one moment of a finished book."""
+    database = connected(path, read_only=True)
+    database.execute('BEGIN')
+    form, = database.execute('SELECT form FROM meta').fetchone()
+    if form != FORM:
+        database.close()
+        raise Mismatch(f'{path.resolve()} has form {form}, and this program reads form {FORM}: goo-records.service makes it anew')
+    return database
+
+
 class Book:
-    """Writes a book. Between `begin` and `commit` several entries are written at once."""
+    """Writes a book. What entries change waits in memory until `commit` writes all of it."""
 
     def __init__(self, database, registry):
         self.database, self.registry = database, registry
-        self.seen, self.lots, self.begins = set(), {}, {}
-        self.acts = self.moves = 0
+        self.inserts, self.updates = collections.defaultdict(list), collections.defaultdict(list)
+        self.accepted, self.seen, self.touched = set(), set(), set()
+        self.lots, self.begins = {}, {}
+        self.acts = self.moves = self.waiting = 0
 
     @staticmethod
     def make(path, registry):
-        """A new book of a registry in which nothing has happened yet."""
+        """A new book of a registry in which nothing has happened yet. Nobody reads it before `open`, and it is made anew after a crash, so nothing is synchronized until then."""
         path.unlink(missing_ok=True)
         database = connected(path)
-        database.executescript(f'PRAGMA journal_mode = WAL; PRAGMA synchronous = NORMAL; BEGIN; {TABLES} COMMIT;')
+        database.executescript(f'PRAGMA journal_mode = OFF; PRAGMA synchronous = OFF; PRAGMA cache_size = -{CACHE}; BEGIN; {TABLES} COMMIT;')
         database.execute('INSERT INTO meta VALUES (1, ?, ?, ?, 0, NULL, NULL)', (FORM, registry.code, registry.today))
         return Book(database, registry)
 
-    def write(self, statement, *values):
-        self.database.execute(statement, values)
+    def open(self):
+        """Makes the book ready for readers beside the writer."""
+        self.database.executescript(f'{INDEXES} PRAGMA journal_mode = WAL; PRAGMA synchronous = NORMAL;')
 
-    def begin(self):
-        self.write('BEGIN IMMEDIATE')
+    def insert(self, table, *values):
+        self.inserts[f'INSERT INTO {table} VALUES ({", ".join("?" * len(values))})'].append(values)
+
+    def update(self, statement, *values):
+        self.updates[statement].append(values)
 
     def commit(self, entry, digest, time):
-        """Ends what was begun, as of this entry."""
-        self.write('UPDATE meta SET today = ?, entry = ?, hash = ?, time = ?', self.registry.today, entry, digest, time)
-        self.write('COMMIT')
+        """Writes what waits, as of this entry."""
+        self.database.execute('BEGIN IMMEDIATE')
+        for table in ('seen', 'touched'):
+            self.inserts[f'INSERT INTO {table} VALUES (?, ?)'] = sorted(getattr(self, table))
+        for statements in (self.inserts, self.updates):         # a row is there before it is changed
+            for statement, rows in statements.items():
+                self.database.executemany(statement, rows)
+        self.write_runs()
+        self.database.execute('UPDATE meta SET today = ?, entry = ?, hash = ?, time = ?', (self.registry.today, entry, digest, time))
+        self.database.execute('COMMIT')
+        for waited in (self.inserts, self.updates, self.accepted, self.seen, self.touched):
+            waited.clear()
+        self.waiting = 0
+
+    def write_runs(self):
+        """Brings the table of runs to what they are now."""
+        certificates = self.registry.certificates
+        known = sorted(first for first in certificates.unwritten if first in certificates.runs)
+        self.database.executemany('DELETE FROM run WHERE first = ?', ((first,) for first in sorted(certificates.unwritten.difference(known))))
+        rows = ((first, *certificates.runs[first]) for first in known)
+        self.database.executemany('INSERT OR REPLACE INTO run VALUES (?, ?, ?, ?, ?, ?)',
+                                  ((first, last, self.lots[lot.key], place.kind, place.account, place.act) for first, last, lot, place in rows))
+        certificates.unwritten.clear()
 
     # ---------------------------------------------------------------- entries
 
@@ -144,10 +225,10 @@ class Book:
     def take_answer(self, at, command, outcome, why, reply=None):
         """Writes one request with its outcome. A repeated one whose first answer was never archived is the first one."""
         word, key = command.get('command'), command.get('key')
-        if outcome == 'repeated' and (at['caller'], key) in self.seen:
+        if outcome == 'repeated' and self.has_accepted(at['caller'], key):
             return
         if outcome in ('accepted', 'repeated'):
-            self.seen.add((at['caller'], key))
+            self.accepted.add((at['caller'], key))
             self.accept(at, key, {name: value for name, value in command.items() if name != 'key'}, reply)
         else:
             self.add_act({**at, 'kind': KINDS.get(word, 'unreadable'), 'outcome': outcome, 'refusal': why, 'key': key if isinstance(key, str) else None, **parties(command, {})})
@@ -160,9 +241,9 @@ class Book:
             return
         except Exception as fault:     # the rules refuse what the registry accepted: whatever the reason, the two differ
             raise Mismatch(f'entry {at["entry"]}: the registry accepted it, the rules say {fault!r}') from fault
+        if reply is not None and reply != rules.reply(*answer):
+            raise Mismatch(f'entry {at["entry"]}: the registry answered {reply}, the rules {rules.reply(*answer)}')
         number = answer[1] if command['command'] in NUMBERED else answer[3] if command['command'] == 'correct' else None
-        if reply and number and number not in reply.values():
-            raise Mismatch(f'entry {at["entry"]}: the registry answered {reply}, the rules {answer}')
         act = self.add_act({**at, 'kind': KINDS[command['command']], 'outcome': 'accepted', 'key': key, 'number': number or None, **parties(command, self.registry.devices)})
         changes = self.registry.certificates.taken()
         if command['command'] == 'advance':
@@ -171,26 +252,30 @@ class Book:
             self.move(act, changes)
         LEFT.get(command['command'], lambda *_: None)(self, act, command, answer, changes)
 
+    def has_accepted(self, caller, key):
+        """Whether there is an accepted request of this caller under this key."""
+        return (caller, key) in self.accepted or bool(self.database.execute("SELECT 1 FROM act WHERE key = ? AND caller = ? AND outcome = 'accepted'", (key, caller)).fetchone())
+
     def add_act(self, members):
-        self.acts += 1
-        row = {'id': self.acts, 'line': 0, 'time': None, 'user': None, 'day': self.registry.today, **members}
-        self.write(f'INSERT INTO act ({", ".join(row)}) VALUES ({", ".join("?" * len(row))})', *row.values())
+        self.acts, self.waiting = self.acts + 1, self.waiting + 1
+        row = {**NO_ACT, 'id': self.acts, 'day': self.registry.today, **members}
+        self.insert('act', *row.values())
         self.show(row['caller'], self.acts)
         if row['outcome'] == 'accepted':
-            self.show(row.get('holder'), self.acts)
-            for account in {row.get('giver'), row.get('taker')} - {None}:
+            self.show(row['holder'], self.acts)
+            for account in {row['giver'], row['taker']} - {None}:
                 self.touch(account, self.acts)
         return self.acts
 
     def touch(self, account, act):
         """An act that touches an account is seen by its holder."""
-        self.write('INSERT OR IGNORE INTO touched VALUES (?, ?)', account, act)
+        self.touched.add((account, act))
         self.show(self.registry.holder_of(account), act)
 
     def show(self, viewer, act):
         """The issuing body sees every act, so only holders are written."""
         if viewer not in (None, ISSUER):
-            self.write('INSERT OR IGNORE INTO seen VALUES (?, ?)', viewer, act)
+            self.seen.add((viewer, act))
 
     # ---------------------------------------------------------------- certificates
 
@@ -201,53 +286,36 @@ class Book:
             self.move(act, [change for change in changes if change[3].account == account])
 
     def move(self, act, changes):
-        """Writes the ranges that an act moved, and the runs that are left."""
+        """Writes the ranges that an act moved."""
         for first, last, lot, old, new in changes:
             known = self.lot(lot, first)
             giver = old.account if old and old.kind != EXPORTED else None      # whoever exported it has no part in its return
             self.moves += 1
-            self.write('INSERT INTO moved VALUES (?, ?, ?, ?, ?, ?, ?, ?, ?)', self.moves, act, first, last, known, new.kind, new.account, old and old.kind, giver)
+            self.insert('moved', self.moves, act, first, last, known, new.kind, new.account, old and old.kind, giver)
             begin = self.begins[known]
-            self.write('INSERT INTO passed VALUES (?, ?, ?, ?, ?)', self.moves, first - begin, last - begin, known, known)
+            self.insert('passed', self.moves, first - begin, last - begin, known, known)
             for account in {new.account, giver} - {None}:
                 self.touch(account, act)
-            self.place(first, last, known, new)
 
     def lot(self, lot, first):
         """The number of a lot, which is written where it is new, with a number of a certificate that offsets in the lot are counted from."""
         if lot.key not in self.lots:
             self.lots[lot.key] = known = len(self.lots) + 1
             self.begins[known] = first
-            self.write(f'INSERT INTO lot VALUES ({", ".join("?" * (len(LOT) + 4))})', known, *lot, months_after(lot.last_day, 12), lot.expires_on, first)
+            self.insert('lot', known, *lot, months_after(lot.last_day, 12), lot.expires_on, first)
         return self.lots[lot.key]
-
-    def place(self, first, last, lot, place):
-        """Gives a range one place: runs are cut at its ends, and joined again with neighbours that say the same."""
-        for edge in (first, last + 1):
-            self.write('INSERT INTO run SELECT ?, last, lot, kind, account, number FROM run WHERE first = (SELECT max(first) FROM run WHERE first < ?) AND last >= ?', edge, edge, edge)
-            self.write('UPDATE run SET last = ? WHERE first = (SELECT max(first) FROM run WHERE first < ?) AND last >= ?', edge - 1, edge, edge)
-        self.write('DELETE FROM run WHERE first BETWEEN ? AND ?', first, last)
-        same = (lot, place.kind, place.account, place.act)
-        ask = self.database.execute
-        if after := ask('SELECT last FROM run WHERE first = ? AND (lot, kind, account, number) = (?, ?, ?, ?)', (last + 1, *same)).fetchone():
-            self.write('DELETE FROM run WHERE first = ?', last + 1)
-            last = after['last']
-        if before := ask('SELECT first FROM run WHERE first = (SELECT max(first) FROM run WHERE first < ?) AND last = ? AND (lot, kind, account, number) = (?, ?, ?, ?)', (first, first - 1, *same)).fetchone():
-            self.write('UPDATE run SET last = ? WHERE first = ?', last, before['first'])
-        else:
-            self.write('INSERT INTO run VALUES (?, ?, ?, ?, ?, ?)', first, last, *same)
 
     # ---------------------------------------------------------------- what commands leave besides
 
     def left_holder(self, act, of, answer, changes):
-        self.write('INSERT INTO holder VALUES (?, ?, ?)', of['holder'], of['name'], act)
+        self.insert('holder', of['holder'], of['name'], act)
 
     def left_account(self, act, of, answer, changes):
-        self.write('INSERT INTO account VALUES (?, ?, 0, ?)', answer[1], of['holder'], act)
+        self.insert('account', answer[1], of['holder'], 0, act)
         self.touch(answer[1], act)
 
     def left_closing(self, act, of, answer, changes):
-        self.write('UPDATE account SET closed = 1 WHERE number = ?', of['account'])
+        self.update('UPDATE account SET closed = 1 WHERE number = ?', of['account'])
 
     def left_device(self, act, of, answer, changes):
         self.write_device(of['device'], act)
@@ -257,40 +325,40 @@ class Book:
         of = self.registry.devices[gsrn]
         sums = [of[member] for member in ('last_day', 'carry', 'declared', 'less', 'issued', 'corrected')]
         if act is None:
-            self.write('UPDATE device SET last_day = ?, carry_wh = ?, declared_wh = ?, corrected_wh = ?, issued = ?, withdrawn = ? WHERE gsrn = ?', *sums, gsrn)
+            self.update('UPDATE device SET last_day = ?, carry_wh = ?, declared_wh = ?, corrected_wh = ?, issued = ?, withdrawn = ? WHERE gsrn = ?', *sums, gsrn)
         else:
-            self.write(f'INSERT INTO device VALUES ({", ".join("?" * (len(PLANT) + 10))})', gsrn, of['account'], *(of[member] for member in PLANT), of['carrier'], *sums, act)
+            self.insert('device', gsrn, of['account'], *(of[member] for member in PLANT), of['carrier'], *sums, act)
 
     def left_declaration(self, act, of, answer, changes):
         first, last = (answer[2], answer[3]) if changes else (None, None)
-        self.write('INSERT INTO declaration VALUES (?, ?, ?, ?, ?, 0, ?, ?, ?)', of['device'], of['first_day'], of['last_day'], of['gross_wh'], of['aux_wh'], first, last, act)
+        self.insert('declaration', of['device'], of['first_day'], of['last_day'], of['gross_wh'], of['aux_wh'], 0, first, last, act)
         self.write_device(of['device'])
 
     def left_correction(self, act, of, answer, changes):
-        self.write('INSERT INTO correction VALUES (?, ?, ?, ?, ?)', act, of['device'], of['first_day'], of['less_wh'], answer[3] or None)
-        self.write('UPDATE declaration SET corrected_wh = corrected_wh + ? WHERE (device, first_day) = (?, ?)', of['less_wh'], of['device'], of['first_day'])
+        self.insert('correction', act, of['device'], of['first_day'], of['less_wh'], answer[3] or None)
+        self.update('UPDATE declaration SET corrected_wh = corrected_wh + ? WHERE (device, first_day) = (?, ?)', of['less_wh'], of['device'], of['first_day'])
         self.write_device(of['device'])
         if answer[3]:
             self.write_withdrawal(answer[3], act)
 
     def write_withdrawal(self, number, act):
-        self.write('INSERT INTO withdrawal VALUES (?, ?, ?, ?, ?, ?)', number, *self.registry.withdrawals[number], act)
+        self.insert('withdrawal', number, *self.registry.withdrawals.pop(number), act)
 
     def left_withdrawal(self, act, of, answer, changes):
         self.write_withdrawal(answer[1], act)
 
     def left_cancellation(self, act, of, answer, changes):
-        self.write('INSERT INTO cancellation VALUES (?, ?, ?, ?, ?, ?, ?, ?, ?)', answer[1], *self.registry.cancellations[answer[1]], act)
+        self.insert('cancellation', answer[1], *self.registry.cancellations.pop(answer[1]), act)
 
     def left_peer(self, act, of, answer, changes):
-        self.write('INSERT INTO peer VALUES (?, ?)', of['peer'], act)
+        self.insert('peer', of['peer'], act)
 
     def left_export(self, act, of, answer, changes):
-        self.write('INSERT INTO notice VALUES (1, ?, ?, ?, ?, ?, ?, ?)', of['peer'], answer[1], of['giver'], of['account'], answer[2], self.registry.today, act)
+        self.insert('notice', 1, of['peer'], answer[1], of['giver'], of['account'], answer[2], self.registry.today, act)
 
     def left_import(self, act, of, answer, changes):
         notice = of['notice']
-        self.write('INSERT INTO notice VALUES (0, ?, ?, ?, NULL, ?, ?, ?)', notice['sender'], notice['number'], notice['account'], answer[1], self.registry.today, act)
+        self.insert('notice', 0, notice['sender'], notice['number'], notice['account'], None, answer[1], self.registry.today, act)
 
 
 NUMBERED = ('open_account', 'cancel', 'withdraw', 'export')

@@ -10,21 +10,19 @@ import json
 import os
 import re
 import sqlite3
+import sys
 from pathlib import Path
 
 from flask import Flask, Response, request
 
 import records_answers as answers
 from records_answers import BadQuestion, NotFound, TooFew, Viewer
-from records_book import connected
+from records_book import Mismatch, opened
 from rules import ISSUER, PLACES
 
 FOLDER, EXCHANGE = Path('/var/lib/goo-records'), Path('/var/lib/goo-records/exchange.json')
-PAGES = (Path(__file__).resolve().parent.parent / 'docs/records.yaml', Path('/usr/share/doc/goo/records.yaml'))
+PAGES = (Path(__file__).resolve().parent.parent / 'docs/records.yaml', Path('/usr/share/goo/api/records.yaml'))
 CALLER = re.compile(r'[A-Z0-9][A-Z0-9_-]{0,15}')
-LISTS = {'acts': answers.acts, 'holdings': answers.holdings, 'deadlines': answers.deadlines, 'choice': answers.choice, 'holders': answers.holders, 'withdrawals': answers.withdrawals,
-         'statistics': answers.statistics}
-ONES = {'acts': answers.act, 'certificates': answers.certificate}
 FORMULA = ('=', '+', '-', '@', '\t', '\r')
 """What a cell begins with that a spreadsheet would compute."""
 NUMBERS = ('first', 'last')
@@ -79,9 +77,8 @@ class Service:
         return (self.folder / 'code.key').read_bytes().strip()
 
     def book(self):
-        database = connected(self.folder / 'current', read_only=True)
+        database = opened(self.folder / 'current')      # one answer is of one moment
         database.create_function('PLACE', 1, PLACES.get, deterministic=True)
-        database.execute('BEGIN')       # one answer is of one moment
         return database
 
     def viewer(self):
@@ -99,10 +96,13 @@ class Service:
     def tried(self, ask):
         try:
             database = self.book()
-        except (sqlite3.Error, OSError):
+        except (sqlite3.Error, Mismatch, OSError):
             return reply(503, {'error': 'the records are being made'})
         try:
             return ask(database)
+        except sqlite3.DatabaseError as error:
+            print(f'records: {self.folder / "current"}: {error}', file=sys.stderr, flush=True)
+            return reply(503, {'error': 'the records cannot be read'})
         except BadQuestion as error:
             return reply(400, {'error': str(error)})
         except NotFound as error:
@@ -118,10 +118,33 @@ class Service:
             return as_csv(name, answer['items'])
         return reply(200, {'stands': answers.standing(database), **answer})
 
-    def with_fates(self, answer):
+    # The routes. Each question has the book, who asks, and what he asks for.
+
+    @functools.cached_property
+    def lists(self):
+        """What may be saved as a file too."""
+        return {'acts': answers.acts, 'holdings': answers.holdings, 'deadlines': answers.deadlines, 'choice': answers.choice, 'holders': answers.holders, 'withdrawals': answers.withdrawals,
+                'statistics': answers.statistics, **{name: functools.partial(answers.listed, name) for name in answers.LISTS}, 'notices': self.notices}
+
+    @functools.cached_property
+    def ones(self):
+        """What has a number."""
+        return {'acts': answers.act, 'certificates': answers.certificate, 'cancellations': self.cancellation}
+
+    @functools.cached_property
+    def others(self):
+        return {'status': lambda database, viewer, asked: {'caller': viewer.caller}, 'documents': self.documents}
+
+    def notices(self, database, viewer, asked):
         """Notices with what became of them, as far as the exchange was told; null where it says nothing."""
-        fates = fates_in(self.exchange)
+        fates, answer = fates_in(self.exchange), answers.listed('notices', database, viewer, asked)
         return {**answer, 'items': [{**row, 'fate': fates.get((row['sent'], row['peer'], row['number']))} for row in answer['items']]}
+
+    def cancellation(self, database, viewer, number):
+        return answers.shown_document(database, viewer, number, self.key)
+
+    def documents(self, database, viewer, asked):
+        return answers.shown_documents(database, viewer, asked, self.key)
 
 
 def fates_in(path):
@@ -138,31 +161,20 @@ def application(folder=None, exchange=None):
     service = Service(Path(folder or os.environ.get('GOO_RECORDS', FOLDER)), Path(exchange or os.environ.get('GOO_EXCHANGE', EXCHANGE)))
     app = Flask('goo-records', static_folder=None)
 
-    @app.get('/records/v1/status')
-    def status():
-        return service.answered(lambda database, viewer: {'caller': viewer.caller})
-
     @app.get('/records/v1/<name>')
     def a_list(name):
-        if name == 'notices':
-            return service.answered(lambda database, viewer: service.with_fates(answers.listed(database, viewer, name, request.args)), name)
-        if name == 'documents':
-            return service.answered(lambda database, viewer: answers.shown_documents(database, viewer, request.args, service.key))
-        if name in LISTS:
-            return service.answered(lambda database, viewer: LISTS[name](database, viewer, request.args), name)
-        if name in answers.LISTS:
-            return service.answered(lambda database, viewer: answers.listed(database, viewer, name, request.args), name)
-        return reply(404, {'error': f'there is no list {name}'})
+        ask = service.lists.get(name) or service.others.get(name)
+        if ask is None:
+            return reply(404, {'error': f'there is no list {name}'})
+        return service.answered(lambda database, viewer: ask(database, viewer, request.args), name if name in service.lists else None)
 
     @app.get('/records/v1/<name>/<int:number>')
     def one(name, number):
         if number >= 10 ** 15:
             return reply(404, {'error': f'there is no number {number}'})
-        if name == 'cancellations':
-            return service.answered(lambda database, viewer: answers.shown_document(database, viewer, number, service.key))
-        if name in ONES:
-            return service.answered(lambda database, viewer: ONES[name](database, viewer, number))
-        return reply(404, {'error': f'there is no {name}'})
+        if name not in service.ones:
+            return reply(404, {'error': f'there is no {name}'})
+        return service.answered(lambda database, viewer: service.ones[name](database, viewer, number))
 
     @app.get('/records/v1/openapi.yaml')
     def described():

@@ -179,6 +179,21 @@ KINDS = {'notice': dict, **dict.fromkeys(('account', 'capacity_w', 'gross_wh', '
 """The members of each command, and of which kind they are, if not strings (docs/FORMATS.md)."""
 
 
+REPLIES = {
+    1: lambda *_: {}, 2: lambda account, *_: {'account': account}, 4: lambda count, *_: {'count': count}, 7: lambda expired, *_: {'expired': expired},
+    5: lambda act, count, _: {'cancellation': act, 'count': count}, 6: lambda act, count, _: {'withdrawal': act, 'count': count},
+    8: lambda act, count, _: {'notice': act, 'count': count}, 9: lambda count, *_: {'count': count},
+    10: lambda carry, count, act: {'carry': carry, 'count': count, 'withdrawal': act},
+    3: lambda carry, first, last: {'carry': carry, 'count': last - first + 1, 'first': f'{first:014}', 'last': f'{last:014}'} if first else {'carry': carry, 'count': 0},
+}
+"""The reply to a request by the kind of its answer (docs/FORMATS.md, "An outcome")."""
+
+
+def reply(kind, *numbers):
+    """The reply that an answer states."""
+    return REPLIES[kind](*numbers)
+
+
 class Registry:
     """A registry as its requests leave it. Each command has a method that makes its checks, carries it out, and gives kind and numbers of its answer."""
 

@@ -17,7 +17,7 @@ import mutations
 import readings
 from client import response
 from readings import Fault, compact
-from rules import ISSUER, LOT, PLACES, Again, Registry, Wrong
+from rules import ISSUER, LOT, PLACES, Again, Registry, Wrong, reply
 
 
 def script(path):
@@ -31,19 +31,6 @@ def script(path):
 recount = script(TOP / 'deploy/recount')
 CODES = {name: int(code) for code, name in re.findall(r'^\| (\d+) \| `(\w+)` \|', (TOP / 'docs/REGISTRY.md').read_text(encoding='utf-8'), re.M)}
 """The number of each refusal, by the table of docs/REGISTRY.md."""
-REPLIES = {
-    1: lambda *_: {}, 2: lambda account, *_: {'account': account}, 4: lambda count, *_: {'count': count}, 7: lambda expired, *_: {'expired': expired},
-    5: lambda act, count, _: {'cancellation': act, 'count': count}, 6: lambda act, count, _: {'withdrawal': act, 'count': count},
-    8: lambda act, count, _: {'notice': act, 'count': count}, 9: lambda count, *_: {'count': count},
-    10: lambda carry, count, act: {'carry': carry, 'count': count, 'withdrawal': act},
-    3: lambda carry, first, last: {'carry': carry, 'count': last - first + 1, 'first': f'{first:014}', 'last': f'{last:014}'} if first else {'carry': carry, 'count': 0},
-}
-"""The reply to a request by the kind of its answer (docs/FORMATS.md, "An outcome")."""
-
-
-def reply(kind, *numbers):
-    """The reply that an answer states."""
-    return REPLIES[kind](*numbers)
 
 
 def outcome(word, **more):

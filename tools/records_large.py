@@ -1,0 +1,153 @@
+"""A book of many acts, for tools/records --large: the time and the memory that it takes to make, and the time of its answers, beside the registry's own statement.
+
+Two holders trade single certificates by chance, until the acts are so many as were asked for; the archive says that each was accepted, and the book fails where the rules say otherwise.
+Two others hold every second certificate of a stretch in turn. The registry gets the requests of these two, so that its statement of their account is the same as in the book.
+"""
+import http.client
+import itertools
+import json
+import os
+import random
+import secrets
+import subprocess
+import time
+
+import entries
+from archives import KEY
+from client import free_port
+from records_trial import ACCOUNTS, CODE, DEVICES, OWN, TODAY, TOP, Requests, Service
+from rules import ISSUER
+
+ALTERNATE, TRADED = 1_000, 30_000
+"""Certificates that change hands one by one: every second of a stretch, and those of two who trade by chance."""
+ASKED = 100
+"""How often each question is asked."""
+YEAR = range(1, 13)
+EACH = 2 * ALTERNATE // len(YEAR) + 1
+"""Certificates of each declaration of the alternating ones."""
+
+
+def declared(device, mwh):
+    """A year of declarations of a device."""
+    return [(ISSUER, {'command': 'declare', 'key': f'{device}-{month}', 'device': device, 'first_day': f'2025-{month:02}-01', 'last_day': f'2025-{month:02}-28', 'gross_wh': mwh * 1_000_000,
+                      'aux_wh': 0}) for month in YEAR]
+
+
+def transferred(key, giver, taker, number):
+    return ACCOUNTS[giver], {'command': 'transfer', 'key': key, 'giver': giver, 'taker': taker, 'first': f'{number:014}', 'last': f'{number:014}'}
+
+
+def shared():
+    """What the registry gets too: holders, accounts and devices, and what accounts 3 and 4 do."""
+    yield from [(caller, json.loads(body)) for _, caller, _, body in Requests(5).begin()][:-1]      # the last one is a repeated one
+    yield from declared(DEVICES[2], EACH)
+    yield from (transferred(f'a{at}', 3, 4, OWN + 1 + 2 * at) for at in range(ALTERNATE))
+
+
+def traded(count):
+    """What accounts 1 and 2 do: single certificates back and forth, by chance."""
+    chance, first, holder = random.Random(5), OWN + 1 + EACH * len(YEAR), {}
+    yield from declared(DEVICES[0], TRADED // len(YEAR))
+    for at in range(count - len(YEAR)):
+        number = first + chance.randrange(TRADED)
+        giver = holder.get(number, 1)
+        holder[number] = 3 - giver
+        yield transferred(f't{at}', giver, 3 - giver, number)
+
+
+def write_archive(folder, requests):
+    """An archive of requests that were all accepted; how many they are."""
+    archive, before, chain, count = entries.Archive(folder), secrets.token_hex(32), entries.NO_CHAIN, 0
+    for count, (caller, command) in enumerate(requests, 1):
+        entry = entries.Entry(n=count, prev=before, time='2026-02-01T00:00:00.000000Z', host='h', user=f'user-{caller.lower()}', address='', role='full', caller=caller, method='POST',
+                              route='/v1/requests', version='trial', id=f'{count:x}', body=json.dumps(command, ensure_ascii=False).encode())
+        line = entries.written(entry, KEY)
+        outcome = entries.decided(entry.route, 200, b'{"outcome":"accepted"}', chain)
+        archive.add(line, entry, outcome)
+        before, chain = entries.hash_of(line), outcome.chain
+    archive.sync()
+    return count
+
+
+def measured(words):
+    """Runs a program to its end: its exit status, its processor seconds, and the most memory that it had, in MB."""
+    process = subprocess.Popen(words, stdout=subprocess.DEVNULL)
+    _, status, used = os.wait4(process.pid, 0)
+    process.returncode = os.waitstatus_to_exitcode(status)
+    return process.returncode, used.ru_utime + used.ru_stime, used.ru_maxrss / 1024
+
+
+def times(ask):
+    """A hundred answers: the last of them; the median and the 99th slowest in milliseconds by the clock, and processor milliseconds of one."""
+    took, begun = [], time.process_time()
+    for _ in range(ASKED):
+        start = time.perf_counter()
+        answer = ask()
+        took.append((time.perf_counter() - start) * 1000)
+    took.sort()
+    return answer, f'median {took[ASKED // 2]:,.1f} ms, 99th of {ASKED} {took[98]:,.1f} ms, processor {(time.process_time() - begun) / ASKED * 1000:,.1f} ms'
+
+
+class OwnStatement:
+    """`with OwnStatement(..) as ask`: the registry itself over the requests of two accounts, asked for a statement."""
+
+    def __init__(self, goo, folder, requests):
+        db, self.port = folder / 'alternate.db', free_port()
+        lines = ''.join(f'{caller} {json.dumps(command, ensure_ascii=False)}\n' for caller, command in requests)
+        subprocess.run([goo, 'init', '--db', db, '--code', str(CODE), '--today', TODAY], check=True, stdout=subprocess.DEVNULL)
+        subprocess.run([goo, 'run', '--db', db], input=lines.encode(), check=True, stdout=subprocess.DEVNULL)
+        self.process = subprocess.Popen([goo, 'serve', '--db', db, '--port', str(self.port), '--count', '1000000'], stdout=subprocess.PIPE)
+        self.process.stdout.readline()
+
+    def __enter__(self):
+        return self.ask
+
+    def __exit__(self, *_):
+        self.process.terminate()
+        self.process.wait(60)
+        self.process.stdout.close()
+
+    def ask(self, account=3):
+        connection = http.client.HTTPConnection('127.0.0.1', self.port, timeout=600)
+        connection.request('GET', f'/v1/accounts/{account}/statement', headers={'GOO-Caller': ISSUER})
+        text = connection.getresponse().read().decode()
+        connection.close()
+        return text
+
+
+def statement_lines(runs, place='held'):
+    """Runs of a list of holdings as lines of a statement."""
+    return [f'{run["first"]} {run["last"]} {run["count"]:12} {run["device"]} {run["first_day"]} {run["last_day"]} {run["tech"]} {run["source"]} {place}' for run in runs]
+
+
+QUESTIONS = (('acts', {}), ('acts', {'account': 1}), ('acts', {'account': 1, 'q': 't77'}), ('acts', {'key': 't77'}), ('acts/5000', {}), ('holdings', {'account': 1}), ('holdings', {'account': 1, 'by': 'run'}),
+             ('holdings', {'account': 1, 'by': 'run', 'q': 'Field', 'sort': '-count'}), ('holdings', {'by': 'month'}), ('deadlines', {}), ('choice', {'account': 1, 'count': 5000}),
+             ('choice', {'account': 1, 'count': 5000, 'order': 'fewest'}), (f'certificates/{OWN + 5000}', {}), ('accounts', {}), ('devices', {}), ('declarations', {}), ('statistics', {'by': 'month,tech'}))
+"""What the holder of account 1 asks, who has some 15,000 runs and half of the acts."""
+
+
+def large(tally, goo, folder, count):
+    """Makes the archive and its book, asks it everything, and the registry for the statement of an account that both have."""
+    both = list(shared())
+    acts = write_archive(folder / 'large', itertools.chain(both, traded(count - len(both))))
+    print(f'an archive of {acts:,} acts is written; load {os.getloadavg()[0]:.1f}', flush=True)
+    begun, into = time.monotonic(), folder / 'of-large'
+    status, seconds, most = measured([TOP / 'deploy/records', 'follow', '--begun', str(CODE), TODAY, '1', '--archive', folder / 'large', '--into', into, '--once'])
+    took, size = time.monotonic() - begun, (into / 'current').stat().st_size / 1e6 if status == 0 else 0
+    tally.check(f'a book of {acts:,} acts is made: {seconds:.1f} s of the processor, {took:.1f} s by the clock, {most:,.0f} MB of memory, a file of {size:,.0f} MB', [status] if status else [])
+    if status == 0:
+        answers(tally, Service(into), goo, folder, both)
+    print(f'load {os.getloadavg()[0]:.1f}', flush=True)
+
+
+def answers(tally, service, goo, folder, both):
+    """The time of each kind of answer, and of the registry's own statement."""
+    for path, parameters in QUESTIONS:
+        (status, answer), told = times(lambda: service.ask(ACCOUNTS[1], f'/records/v1/{path}', limit=1000, **parameters))
+        tally.check(f'{path} {parameters or ""}: {told}', [(status, answer)] if status != 200 else [])
+    with OwnStatement(goo, folder, both) as ask:
+        text, told = times(ask)
+        print(f"the registry's own statement of {ALTERNATE:,} runs: {told.rsplit(',', 1)[0]}", flush=True)
+        runs, told = times(lambda: service.items(ACCOUNTS[3], 'holdings', by='run', account=3))
+        own = [line for line in text.splitlines() if line.endswith(' held')]
+        tally.check(f'the same {len(own):,} runs as a list of holdings: {told}', set(statement_lines(runs)) ^ set(own) or ([] if len(own) >= ALTERNATE else [len(own)]))
