@@ -2,7 +2,8 @@
 import asyncio, collections, socket
 
 BROKEN = (OSError, TimeoutError, EOFError, ValueError, LookupError)
-CONNECT = 0.5                               # seconds
+CONNECT, SOON = 0.5, 0.001                  # seconds
+PART = 1 << 18                              # bytes taken at once
 Answer = collections.namedtuple("Answer", "status kind body allow", defaults=("",))
 
 
@@ -21,7 +22,8 @@ class Registry:
         """The registry's answer, which came whole. Anything else raises one of BROKEN."""
         head = f"{method} {target} HTTP/1.1\r\nHost: goo\r\n{f'GOO-Caller: {caller}' if caller else 'Accept: */*'}\r\nContent-Length: {len(body)}\r\n\r\n"
         with self.taken() as s:
-            return await Talk(s, method, patience).about(head.encode("latin-1") + body, self.ahead)
+            async with asyncio.timeout(patience):
+                return await Talk(s, method).about(head.encode("latin-1") + body, self.ahead)
 
     def taken(self):
         s, self.next = self.next, None
@@ -61,50 +63,42 @@ def is_open(s):
 class Talk:
     """A question and its answer by a bare socket: asyncio's streams cost several times as much, for each entry."""
 
-    def __init__(self, s, method, patience):
-        self.s, self.method, self.patience = s, method, patience
+    def __init__(self, s, method):
+        self.s, self.method = s, method
         self.came, self.head, self.begin, self.end = bytearray(), None, 0, 0
-        self.loop = asyncio.get_running_loop()
-        self.done = self.loop.create_future()
 
     async def about(self, request, sent):
-        timer = self.loop.call_later(self.patience, self.settle, None, TimeoutError())
-        self.loop.add_reader(self.s, self.take)
-        try:
-            if rest := request[self.s.send(request):]:
-                async with asyncio.timeout(self.patience):
-                    await self.loop.sock_sendall(self.s, rest)
-            sent()
-            return await self.done
-        finally:
-            self.loop.remove_reader(self.s)
-            timer.cancel()
-
-    def settle(self, answer, fault=None):
-        if not self.done.done():
-            self.loop.remove_reader(self.s)
-            if fault:
-                self.done.set_exception(fault)
-                self.done.exception()           # seen, should nobody wait for it any longer
-            else:
-                self.done.set_result(answer)
-
-    def take(self):
-        """What came: the whole answer, a part of it, or the end."""
-        try:
-            part = self.s.recv(1 << 18)
-            self.came += part
-            if self.head is None and (end := self.came.find(b"\r\n\r\n")) >= 0:
-                self.head, length = head_of(self.came[:end].decode("latin-1"))
-                self.begin, self.end = end + 4, end + 4 + (0 if self.method == "HEAD" else length)
-            if self.head and len(self.came) >= self.end:
-                self.settle(self.head._replace(body=bytes(self.came[self.begin:self.end])))
-            elif not part:
-                raise EOFError("cut off")
-        except BlockingIOError:
+        loop = asyncio.get_running_loop()
+        if rest := request[self.s.send(request):]:
+            await loop.sock_sendall(self.s, rest)
+        sent()
+        if answer := self.soon():
+            return answer
+        while not (answer := self.take(await loop.sock_recv(self.s, PART))):
             pass
-        except BROKEN as fault:
-            self.settle(None, fault)
+        return answer
+
+    def soon(self):
+        """Most answers are there within a millisecond: to turn to others meanwhile would take longer than to wait."""
+        self.s.settimeout(SOON)
+        try:
+            return self.take(self.s.recv(PART))
+        except TimeoutError:
+            return None
+        finally:
+            self.s.setblocking(False)
+
+    def take(self, part):
+        """The answer, once all of it came."""
+        self.came += part
+        if self.head is None and (end := self.came.find(b"\r\n\r\n")) >= 0:
+            self.head, length = head_of(self.came[:end].decode("latin-1"))
+            self.begin, self.end = end + 4, end + 4 + (0 if self.method == "HEAD" else length)
+        if self.head and len(self.came) >= self.end:
+            return self.head._replace(body=bytes(self.came[self.begin:self.end]))
+        if not part:
+            raise EOFError("cut off")
+        return None
 
 
 def address_of(text):
