@@ -359,21 +359,6 @@ def notice_in(data):
     return value
 
 
-def certificate_in(data):
-    """The certificate that bytes show; Fault."""
-    value = json_in(data)
-    if not isinstance(value, dict) or set(value) != {'account', 'act', 'lot', 'number', 'place'} or not isinstance(value['number'], str):
-        raise Fault('Shape')
-    lot, place = value['lot'], value['place']
-    need_shape(lot, members_of(lot))
-    need_fields(lot, members_of(lot))
-    if not is_lot(lot) or (number_in(value['number']) or 0) // SERIALS != lot['origin'] or (value['act'] == 0) != (place in ('held', 'expired')):
-        raise Fault('Field')
-    if place not in PLACES or compact({**value, 'lot': without_electricity(lot)}).encode() != data:
-        raise Fault('Canonical')
-    return value
-
-
 def body_in(data):
     """The key and the command that a body states, as the command's one text has it; Fault."""
     value = json_in(data)

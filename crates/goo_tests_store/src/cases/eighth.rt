@@ -2,76 +2,7 @@
 
 use crate::worked::Case;
 
-pub const EIGHTH: [Case; 8] = [
-    Case {
-        name: "just_the_capacity",
-        serial: 1,
-        begun: 5,
-        asked: &[(
-            "ISSUER",
-            r#"{"command":"declare","device":"500000000000000012","first_day":"2025-01-01","last_day":"2025-01-31","gross_wh":1490000000,"aux_wh":0,"key":"k135"}"#,
-            r#"{"outcome":"accepted","reply":{"carry":0,"count":1490,"first":"07000000000001","last":"07000000001490"}}"#,
-        )],
-        shown: "",
-    },
-    Case {
-        name: "more_auxiliaries_than_gross",
-        serial: 1,
-        begun: 9,
-        asked: &[
-            (
-                "ISSUER",
-                r#"{"command":"declare","device":"500000000000000012","first_day":"2025-04-01","last_day":"2025-04-03","gross_wh":500,"aux_wh":500,"key":"k24"}"#,
-                r#"{"outcome":"accepted","reply":{"carry":0,"count":0}}"#,
-            ),
-            (
-                "ISSUER",
-                r#"{"command":"declare","device":"500000000000000012","first_day":"2025-04-04","last_day":"2025-04-04","gross_wh":500,"aux_wh":501,"key":"k25"}"#,
-                r#"{"code":13,"name":"AuxExceedsGross","outcome":"refused"}"#,
-            ),
-        ],
-        shown: "1 07000000000001 07000000001200 2025-01-01 held\n1 07000000001201 07000000001201 2025-03-01 held\n500000000000000012 1201000000 0 1201 0 0\n",
-    },
-    Case {
-        name: "notices_that_are_refused",
-        serial: 1,
-        begun: 10,
-        asked: &[
-            (
-                "ISSUER",
-                r#"{"command":"import","notice":{"sender":9,"addressee":7,"number":2,"account":1,"version":1,"parts":[{"first":"07000000001202","last":"07000000001202","lot":{"capacity_w":2000000,"commissioned":"2020-06-15","country":"DE","device":"500000000000000012","first_day":"2025-01-01","issued_on":"2025-03-01","last_day":"2025-01-31","origin":7,"site":"North field","source":"F01010100","support":"none","tech":"T010000"}}]},"key":"k118"}"#,
-                r#"{"code":16,"name":"UnknownNumber","number":"07000000001202","outcome":"refused"}"#,
-            ),
-            (
-                "ISSUER",
-                r#"{"command":"import","notice":{"sender":9,"addressee":7,"number":2,"account":1,"version":1,"parts":[{"first":"07000000000001","last":"07000000000001","lot":{"capacity_w":2000000,"commissioned":"2020-06-15","country":"DE","device":"500000000000000012","first_day":"2025-01-01","issued_on":"2025-03-01","last_day":"2025-01-31","origin":7,"site":"North field","source":"F01010100","support":"none","tech":"T010000"}}]},"key":"k119"}"#,
-                r#"{"code":25,"name":"NumberTaken","number":"07000000000001","outcome":"refused"}"#,
-            ),
-        ],
-        shown: "",
-    },
-    Case {
-        name: "one_serial_too_few",
-        serial: 999_999_999_999,
-        begun: 5,
-        asked: &[(
-            "ISSUER",
-            r#"{"command":"declare","device":"500000000000000012","first_day":"2025-01-01","last_day":"2025-01-31","gross_wh":2000000,"aux_wh":0,"key":"k645"}"#,
-            r#"{"code":15,"name":"NumbersExhausted","outcome":"refused"}"#,
-        )],
-        shown: "500000000000000012 0 0 0 0 0\n",
-    },
-    Case {
-        name: "one_watt-hour_above_the_capacity",
-        serial: 1,
-        begun: 5,
-        asked: &[(
-            "ISSUER",
-            r#"{"command":"declare","device":"500000000000000012","first_day":"2025-01-01","last_day":"2025-01-31","gross_wh":1490000001,"aux_wh":0,"key":"k141"}"#,
-            r#"{"code":14,"name":"OverCapacity","outcome":"refused"}"#,
-        )],
-        shown: "",
-    },
+pub const EIGHTH: [Case; 5] = [
     Case {
         name: "out_back_and_out_again",
         serial: 1,
@@ -220,5 +151,51 @@ pub const EIGHTH: [Case; 8] = [
             ),
         ],
         shown: "",
+    },
+    Case {
+        name: "ten_certificates_come_back_once",
+        serial: 1,
+        begun: 10,
+        asked: &[
+            (
+                "SUN",
+                r#"{"command":"export","giver":1,"peer":9,"account":5,"first":"07000000000020","last":"07000000000029","key":"k656"}"#,
+                r#"{"outcome":"accepted","reply":{"count":10,"notice":1}}"#,
+            ),
+            (
+                "ISSUER",
+                r#"{"command":"import","notice":{"sender":9,"addressee":7,"number":1,"account":1,"version":1,"parts":[{"first":"07000000000020","last":"07000000000029","lot":{"capacity_w":2000000,"commissioned":"2020-06-15","country":"DE","device":"500000000000000012","first_day":"2025-01-01","issued_on":"2025-03-01","last_day":"2025-01-31","origin":7,"site":"North field","source":"F01010100","support":"none","tech":"T010000"}}]},"key":"k657"}"#,
+                r#"{"outcome":"accepted","reply":{"count":10}}"#,
+            ),
+            (
+                "ISSUER",
+                r#"{"command":"import","notice":{"sender":9,"addressee":7,"number":1,"account":1,"version":1,"parts":[{"first":"07000000000020","last":"07000000000029","lot":{"capacity_w":2000000,"commissioned":"2020-06-15","country":"DE","device":"500000000000000012","first_day":"2025-01-01","issued_on":"2025-03-01","last_day":"2025-01-31","origin":7,"site":"North field","source":"F01010100","support":"none","tech":"T010000"}}]},"key":"k658"}"#,
+                r#"{"outcome":"repeated","reply":{"count":10}}"#,
+            ),
+            (
+                "ISSUER",
+                r#"{"command":"import","notice":{"sender":9,"addressee":7,"number":1,"account":1,"version":1,"parts":[{"first":"07000000000020","last":"07000000000028","lot":{"capacity_w":2000000,"commissioned":"2020-06-15","country":"DE","device":"500000000000000012","first_day":"2025-01-01","issued_on":"2025-03-01","last_day":"2025-01-31","origin":7,"site":"North field","source":"F01010100","support":"none","tech":"T010000"}}]},"key":"k659"}"#,
+                r#"{"code":24,"name":"NoticeConflict","outcome":"refused"}"#,
+            ),
+        ],
+        shown: "1 07000000000001 07000000001200 2025-01-01 held\n1 07000000001201 07000000001201 2025-03-01 held\n500000000000000012 1201000000 0 1201 0 0\n",
+    },
+    Case {
+        name: "the_day_after_the_last",
+        serial: 1,
+        begun: 9,
+        asked: &[
+            (
+                "ISSUER",
+                r#"{"command":"advance","day":"2026-07-31","key":"k638"}"#,
+                r#"{"outcome":"accepted","reply":{"expired":0}}"#,
+            ),
+            (
+                "ISSUER",
+                r#"{"command":"advance","day":"2026-08-01","key":"k639"}"#,
+                r#"{"outcome":"accepted","reply":{"expired":1200}}"#,
+            ),
+        ],
+        shown: "1 07000000000001 07000000001200 2025-01-01 expired\n1 07000000001201 07000000001201 2025-03-01 held\n500000000000000012 1201000000 0 1201 0 0\n",
     },
 ];

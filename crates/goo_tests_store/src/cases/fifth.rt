@@ -4,94 +4,6 @@ use crate::worked::Case;
 
 pub const FIFTH: [Case; 4] = [
     Case {
-        name: "before_the_date_moves",
-        serial: 1,
-        begun: 7,
-        asked: &[
-            (
-                "ISSUER",
-                r#"{"command":"withdraw","first":"07000000000005","last":"07000000000005","reason":"meter read twice","key":"k415"}"#,
-                r#"{"outcome":"accepted","reply":{"count":1,"withdrawal":1}}"#,
-            ),
-            (
-                "ISSUER",
-                r#"{"command":"withdraw","first":"07000000000005","last":"07000000000005","reason":"meter read twice","key":"k416"}"#,
-                r#"{"code":17,"name":"NotHeld","number":"07000000000005","outcome":"refused"}"#,
-            ),
-            (
-                "SUN",
-                r#"{"command":"withdraw","first":"07000000000006","last":"07000000000006","reason":"meter read twice","key":"k417"}"#,
-                r#"{"code":1,"name":"NotAllowed","outcome":"refused"}"#,
-            ),
-            (
-                "SUN",
-                r#"{"command":"transfer","giver":1,"taker":2,"first":"07000000000100","last":"07000000000199","key":"k418"}"#,
-                r#"{"outcome":"accepted","reply":{"count":100}}"#,
-            ),
-            (
-                "SUN",
-                r#"{"command":"transfer","giver":1,"taker":2,"first":"07000000000007","last":"07000000000007","key":"k419"}"#,
-                r#"{"outcome":"accepted","reply":{"count":1}}"#,
-            ),
-            (
-                "SUN",
-                r#"{"command":"cancel","account":1,"first":"07000000000006","last":"07000000000010","beneficiary":"X","use_first":"2025-01-01","use_last":"2025-03-31","key":"k420"}"#,
-                r#"{"code":17,"name":"NotHeld","number":"07000000000007","outcome":"refused"}"#,
-            ),
-            (
-                "ISSUER",
-                r#"{"command":"open_holder","holder":"SUN","name":"x","key":"k421"}"#,
-                r#"{"code":4,"name":"HolderExists","outcome":"refused"}"#,
-            ),
-            (
-                "ISSUER",
-                r#"{"command":"open_holder","holder":"ISSUER","name":"x","key":"k422"}"#,
-                r#"{"code":4,"name":"HolderExists","outcome":"refused"}"#,
-            ),
-            (
-                "ISSUER",
-                r#"{"command":"open_account","holder":"NOBODY","key":"k423"}"#,
-                r#"{"code":3,"name":"UnknownHolder","outcome":"refused"}"#,
-            ),
-            (
-                "ISSUER",
-                r#"{"command":"register_device","account":1,"capacity_w":2000000,"commissioned":"2020-06-15","country":"DE","device":"500000000000000012","site":"North field","source":"F01010100","support":"none","tech":"T010000","key":"k424"}"#,
-                r#"{"code":8,"name":"DeviceExists","outcome":"refused"}"#,
-            ),
-            (
-                "ISSUER",
-                r#"{"command":"declare","device":"500000000000000029","first_day":"2025-01-01","last_day":"2025-01-31","gross_wh":5,"aux_wh":0,"key":"k425"}"#,
-                r#"{"code":9,"name":"UnknownDevice","outcome":"refused"}"#,
-            ),
-            (
-                "SUN",
-                r#"{"command":"transfer","giver":1,"taker":1,"first":"07000000000001","last":"07000000000001","key":"k426"}"#,
-                r#"{"code":19,"name":"SameAccount","outcome":"refused"}"#,
-            ),
-            (
-                "SUN",
-                r#"{"command":"transfer","giver":1,"taker":3,"first":"07000000000001","last":"07000000000001","key":"k427"}"#,
-                r#"{"code":5,"name":"UnknownAccount","outcome":"refused"}"#,
-            ),
-            (
-                "SUN",
-                r#"{"command":"transfer","giver":1,"taker":2,"first":"07000000001202","last":"07000000001202","key":"k428"}"#,
-                r#"{"code":16,"name":"UnknownNumber","number":"07000000001202","outcome":"refused"}"#,
-            ),
-            (
-                "VOLT",
-                r#"{"command":"transfer","giver":1,"taker":2,"first":"07000000000001","last":"07000000000001","key":"k429"}"#,
-                r#"{"code":1,"name":"NotAllowed","outcome":"refused"}"#,
-            ),
-            (
-                "SUN",
-                r#"{"command":"cancel","account":1,"first":"07000000000001","last":"07000000000001","beneficiary":"X","use_first":"2025-03-31","use_last":"2025-01-01","key":"k430"}"#,
-                r#"{"code":29,"name":"UsePeriod","outcome":"refused"}"#,
-            ),
-        ],
-        shown: "",
-    },
-    Case {
         name: "bodies_of_carriers",
         serial: 1,
         begun: 5,
@@ -194,5 +106,68 @@ pub const FIFTH: [Case; 4] = [
             ),
         ],
         shown: "",
+    },
+    Case {
+        name: "certificates_of_two_carriers",
+        serial: 1,
+        begun: 5,
+        asked: &[
+            (
+                "ISSUER",
+                r#"{"command":"declare","device":"500000000000000012","first_day":"2025-01-01","last_day":"2025-01-31","gross_wh":5000000,"aux_wh":0,"key":"k903"}"#,
+                r#"{"outcome":"accepted","reply":{"carry":0,"count":5,"first":"07000000000001","last":"07000000000005"}}"#,
+            ),
+            (
+                "ISSUER",
+                r#"{"command":"register_device","account":1,"capacity_w":2000000,"commissioned":"2020-06-15","country":"DE","device":"500000000000000029","site":"North field","source":"F01010100","support":"none","tech":"T010000","carrier":"gas","key":"k904"}"#,
+                r#"{"outcome":"accepted","reply":{}}"#,
+            ),
+            (
+                "ISSUER",
+                r#"{"command":"declare","device":"500000000000000029","first_day":"2025-01-01","last_day":"2025-01-31","gross_wh":5400000,"aux_wh":0,"key":"k905"}"#,
+                r#"{"outcome":"accepted","reply":{"carry":400000,"count":5,"first":"07000000000006","last":"07000000000010"}}"#,
+            ),
+            (
+                "SUN",
+                r#"{"command":"transfer","giver":1,"taker":2,"first":"07000000000004","last":"07000000000007","key":"k906"}"#,
+                r#"{"outcome":"accepted","reply":{"count":4}}"#,
+            ),
+            (
+                "VOLT",
+                r#"{"command":"cancel","account":2,"first":"07000000000005","last":"07000000000006","beneficiary":"Bakery","use_first":"2025-01-01","use_last":"2025-01-31","key":"k907"}"#,
+                r#"{"outcome":"accepted","reply":{"cancellation":1,"count":2}}"#,
+            ),
+            (
+                "VOLT",
+                r#"{"command":"transfer","giver":2,"taker":1,"first":"07000000000007","last":"07000000000007","key":"k908"}"#,
+                r#"{"outcome":"accepted","reply":{"count":1}}"#,
+            ),
+            (
+                "ISSUER",
+                r#"{"command":"correct","device":"500000000000000029","first_day":"2025-01-01","less_wh":1400000,"first":"07000000000003","last":"07000000000003","reason":"meter read twice","key":"k909"}"#,
+                r#"{"code":34,"name":"OtherDevice","number":"07000000000003","outcome":"refused"}"#,
+            ),
+            (
+                "ISSUER",
+                r#"{"command":"correct","device":"500000000000000029","first_day":"2025-01-01","less_wh":1400000,"first":"07000000000008","last":"07000000000008","reason":"meter read twice","key":"k910"}"#,
+                r#"{"outcome":"accepted","reply":{"carry":0,"count":1,"withdrawal":1}}"#,
+            ),
+            (
+                "ISSUER",
+                r#"{"command":"declare","device":"500000000000000029","first_day":"2025-02-01","last_day":"2025-02-28","gross_wh":1000000,"aux_wh":0,"key":"k911"}"#,
+                r#"{"outcome":"accepted","reply":{"carry":0,"count":1,"first":"07000000000011","last":"07000000000011"}}"#,
+            ),
+            (
+                "ISSUER",
+                r#"{"command":"withdraw","first":"07000000000010","last":"07000000000011","reason":"meter read thrice","key":"k912"}"#,
+                r#"{"outcome":"accepted","reply":{"count":2,"withdrawal":2}}"#,
+            ),
+            (
+                "ISSUER",
+                r#"{"command":"advance","day":"2026-08-01","key":"k913"}"#,
+                r#"{"outcome":"accepted","reply":{"expired":6}}"#,
+            ),
+        ],
+        shown: "1 07000000000001 07000000000003 2025-01-01 expired\n1 07000000000007 07000000000007 2025-01-01 expired\n1 07000000000008 07000000000008 2025-01-01 withdrawn:1\n1 07000000000009 07000000000009 2025-01-01 expired\n1 07000000000010 07000000000010 2025-01-01 withdrawn:2\n1 07000000000011 07000000000011 2025-02-01 withdrawn:2\n2 07000000000004 07000000000004 2025-01-01 expired\n2 07000000000005 07000000000005 2025-01-01 cancelled:1\n2 07000000000006 07000000000006 2025-01-01 cancelled:1\n500000000000000012 5000000 0 5 0 0\n500000000000000029 6400000 1400000 6 1 0\n",
     },
 ];

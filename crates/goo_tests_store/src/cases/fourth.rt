@@ -2,43 +2,7 @@
 
 use crate::worked::Case;
 
-pub const FOURTH: [Case; 9] = [
-    Case {
-        name: "a_number_that_another_account_holds",
-        serial: 1,
-        begun: 9,
-        asked: &[
-            (
-                "SUN",
-                r#"{"command":"transfer","giver":1,"taker":2,"first":"07000000000007","last":"07000000000007","key":"k56"}"#,
-                r#"{"outcome":"accepted","reply":{"count":1}}"#,
-            ),
-            (
-                "SUN",
-                r#"{"command":"cancel","account":1,"first":"07000000000001","last":"07000000000010","beneficiary":"X","use_first":"2025-01-01","use_last":"2025-03-31","key":"k57"}"#,
-                r#"{"code":17,"name":"NotHeld","number":"07000000000007","outcome":"refused"}"#,
-            ),
-        ],
-        shown: "1 07000000000001 07000000000006 2025-01-01 held\n1 07000000000008 07000000001200 2025-01-01 held\n1 07000000001201 07000000001201 2025-03-01 held\n2 07000000000007 07000000000007 2025-01-01 held\n500000000000000012 1201000000 0 1201 0 0\n",
-    },
-    Case {
-        name: "a_number_that_another_account_holds_before_the_date_moves",
-        serial: 1,
-        begun: 7,
-        asked: &[
-            (
-                "SUN",
-                r#"{"command":"transfer","giver":1,"taker":2,"first":"07000000000007","last":"07000000000007","key":"k685"}"#,
-                r#"{"outcome":"accepted","reply":{"count":1}}"#,
-            ),
-            (
-                "SUN",
-                r#"{"command":"cancel","account":1,"first":"07000000000001","last":"07000000000010","beneficiary":"X","use_first":"2025-01-01","use_last":"2025-03-31","key":"k686"}"#,
-                r#"{"code":17,"name":"NotHeld","number":"07000000000007","outcome":"refused"}"#,
-            ),
-        ],
-        shown: "1 07000000000001 07000000000006 2025-01-01 held\n1 07000000000008 07000000001200 2025-01-01 held\n2 07000000000007 07000000000007 2025-01-01 held\n500000000000000012 1200999999 0 1200 0 999999\n",
-    },
+pub const FOURTH: [Case; 8] = [
     Case {
         name: "a_part_is_moved",
         serial: 1,
@@ -205,5 +169,93 @@ pub const FOURTH: [Case; 9] = [
             ),
         ],
         shown: "1 07000000000001 07000000000019 2025-01-01 held\n1 07000000000020 07000000000029 2025-01-01 exported:1\n1 07000000000030 07000000001200 2025-01-01 held\n1 07000000001201 07000000001201 2025-03-01 held\n500000000000000012 1201000000 0 1201 0 0\n",
+    },
+    Case {
+        name: "before_the_date_moves",
+        serial: 1,
+        begun: 7,
+        asked: &[
+            (
+                "ISSUER",
+                r#"{"command":"withdraw","first":"07000000000005","last":"07000000000005","reason":"meter read twice","key":"k415"}"#,
+                r#"{"outcome":"accepted","reply":{"count":1,"withdrawal":1}}"#,
+            ),
+            (
+                "ISSUER",
+                r#"{"command":"withdraw","first":"07000000000005","last":"07000000000005","reason":"meter read twice","key":"k416"}"#,
+                r#"{"code":17,"name":"NotHeld","number":"07000000000005","outcome":"refused"}"#,
+            ),
+            (
+                "SUN",
+                r#"{"command":"withdraw","first":"07000000000006","last":"07000000000006","reason":"meter read twice","key":"k417"}"#,
+                r#"{"code":1,"name":"NotAllowed","outcome":"refused"}"#,
+            ),
+            (
+                "SUN",
+                r#"{"command":"transfer","giver":1,"taker":2,"first":"07000000000100","last":"07000000000199","key":"k418"}"#,
+                r#"{"outcome":"accepted","reply":{"count":100}}"#,
+            ),
+            (
+                "SUN",
+                r#"{"command":"transfer","giver":1,"taker":2,"first":"07000000000007","last":"07000000000007","key":"k419"}"#,
+                r#"{"outcome":"accepted","reply":{"count":1}}"#,
+            ),
+            (
+                "SUN",
+                r#"{"command":"cancel","account":1,"first":"07000000000006","last":"07000000000010","beneficiary":"X","use_first":"2025-01-01","use_last":"2025-03-31","key":"k420"}"#,
+                r#"{"code":17,"name":"NotHeld","number":"07000000000007","outcome":"refused"}"#,
+            ),
+            (
+                "ISSUER",
+                r#"{"command":"open_holder","holder":"SUN","name":"x","key":"k421"}"#,
+                r#"{"code":4,"name":"HolderExists","outcome":"refused"}"#,
+            ),
+            (
+                "ISSUER",
+                r#"{"command":"open_holder","holder":"ISSUER","name":"x","key":"k422"}"#,
+                r#"{"code":4,"name":"HolderExists","outcome":"refused"}"#,
+            ),
+            (
+                "ISSUER",
+                r#"{"command":"open_account","holder":"NOBODY","key":"k423"}"#,
+                r#"{"code":3,"name":"UnknownHolder","outcome":"refused"}"#,
+            ),
+            (
+                "ISSUER",
+                r#"{"command":"register_device","account":1,"capacity_w":2000000,"commissioned":"2020-06-15","country":"DE","device":"500000000000000012","site":"North field","source":"F01010100","support":"none","tech":"T010000","key":"k424"}"#,
+                r#"{"code":8,"name":"DeviceExists","outcome":"refused"}"#,
+            ),
+            (
+                "ISSUER",
+                r#"{"command":"declare","device":"500000000000000029","first_day":"2025-01-01","last_day":"2025-01-31","gross_wh":5,"aux_wh":0,"key":"k425"}"#,
+                r#"{"code":9,"name":"UnknownDevice","outcome":"refused"}"#,
+            ),
+            (
+                "SUN",
+                r#"{"command":"transfer","giver":1,"taker":1,"first":"07000000000001","last":"07000000000001","key":"k426"}"#,
+                r#"{"code":19,"name":"SameAccount","outcome":"refused"}"#,
+            ),
+            (
+                "SUN",
+                r#"{"command":"transfer","giver":1,"taker":3,"first":"07000000000001","last":"07000000000001","key":"k427"}"#,
+                r#"{"code":5,"name":"UnknownAccount","outcome":"refused"}"#,
+            ),
+            (
+                "SUN",
+                r#"{"command":"transfer","giver":1,"taker":2,"first":"07000000001202","last":"07000000001202","key":"k428"}"#,
+                r#"{"code":16,"name":"UnknownNumber","number":"07000000001202","outcome":"refused"}"#,
+            ),
+            (
+                "VOLT",
+                r#"{"command":"transfer","giver":1,"taker":2,"first":"07000000000001","last":"07000000000001","key":"k429"}"#,
+                r#"{"code":1,"name":"NotAllowed","outcome":"refused"}"#,
+            ),
+            (
+                "SUN",
+                r#"{"command":"cancel","account":1,"first":"07000000000001","last":"07000000000001","beneficiary":"X","use_first":"2025-03-31","use_last":"2025-01-01","key":"k430"}"#,
+                r#"{"code":29,"name":"UsePeriod","outcome":"refused"}"#,
+            ),
+        ],
+        shown: "",
     },
 ];

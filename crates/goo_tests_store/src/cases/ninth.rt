@@ -2,53 +2,7 @@
 
 use crate::worked::Case;
 
-pub const NINTH: [Case; 9] = [
-    Case {
-        name: "ten_certificates_come_back_once",
-        serial: 1,
-        begun: 10,
-        asked: &[
-            (
-                "SUN",
-                r#"{"command":"export","giver":1,"peer":9,"account":5,"first":"07000000000020","last":"07000000000029","key":"k656"}"#,
-                r#"{"outcome":"accepted","reply":{"count":10,"notice":1}}"#,
-            ),
-            (
-                "ISSUER",
-                r#"{"command":"import","notice":{"sender":9,"addressee":7,"number":1,"account":1,"version":1,"parts":[{"first":"07000000000020","last":"07000000000029","lot":{"capacity_w":2000000,"commissioned":"2020-06-15","country":"DE","device":"500000000000000012","first_day":"2025-01-01","issued_on":"2025-03-01","last_day":"2025-01-31","origin":7,"site":"North field","source":"F01010100","support":"none","tech":"T010000"}}]},"key":"k657"}"#,
-                r#"{"outcome":"accepted","reply":{"count":10}}"#,
-            ),
-            (
-                "ISSUER",
-                r#"{"command":"import","notice":{"sender":9,"addressee":7,"number":1,"account":1,"version":1,"parts":[{"first":"07000000000020","last":"07000000000029","lot":{"capacity_w":2000000,"commissioned":"2020-06-15","country":"DE","device":"500000000000000012","first_day":"2025-01-01","issued_on":"2025-03-01","last_day":"2025-01-31","origin":7,"site":"North field","source":"F01010100","support":"none","tech":"T010000"}}]},"key":"k658"}"#,
-                r#"{"outcome":"repeated","reply":{"count":10}}"#,
-            ),
-            (
-                "ISSUER",
-                r#"{"command":"import","notice":{"sender":9,"addressee":7,"number":1,"account":1,"version":1,"parts":[{"first":"07000000000020","last":"07000000000028","lot":{"capacity_w":2000000,"commissioned":"2020-06-15","country":"DE","device":"500000000000000012","first_day":"2025-01-01","issued_on":"2025-03-01","last_day":"2025-01-31","origin":7,"site":"North field","source":"F01010100","support":"none","tech":"T010000"}}]},"key":"k659"}"#,
-                r#"{"code":24,"name":"NoticeConflict","outcome":"refused"}"#,
-            ),
-        ],
-        shown: "1 07000000000001 07000000001200 2025-01-01 held\n1 07000000001201 07000000001201 2025-03-01 held\n500000000000000012 1201000000 0 1201 0 0\n",
-    },
-    Case {
-        name: "the_day_after_the_last",
-        serial: 1,
-        begun: 9,
-        asked: &[
-            (
-                "ISSUER",
-                r#"{"command":"advance","day":"2026-07-31","key":"k638"}"#,
-                r#"{"outcome":"accepted","reply":{"expired":0}}"#,
-            ),
-            (
-                "ISSUER",
-                r#"{"command":"advance","day":"2026-08-01","key":"k639"}"#,
-                r#"{"outcome":"accepted","reply":{"expired":1200}}"#,
-            ),
-        ],
-        shown: "1 07000000000001 07000000001200 2025-01-01 expired\n1 07000000001201 07000000001201 2025-03-01 held\n500000000000000012 1201000000 0 1201 0 0\n",
-    },
+pub const NINTH: [Case; 10] = [
     Case {
         name: "the_last_day_and_the_day_after",
         serial: 1,
@@ -196,5 +150,72 @@ pub const NINTH: [Case; 9] = [
             ),
         ],
         shown: "1 07000000000001 07000000000001 2023-10-01 cancelled:1\n500000000000000012 0 0 0 0 0\n500000000000000029 1000000 0 1 0 0\n",
+    },
+    Case {
+        name: "trade_closes",
+        serial: 1,
+        begun: 9,
+        asked: &[
+            (
+                "ISSUER",
+                r#"{"command":"advance","day":"2026-01-31","key":"k67"}"#,
+                r#"{"outcome":"accepted","reply":{"expired":0}}"#,
+            ),
+            (
+                "SUN",
+                r#"{"command":"transfer","giver":1,"taker":2,"first":"07000000000001","last":"07000000000001","key":"k68"}"#,
+                r#"{"outcome":"accepted","reply":{"count":1}}"#,
+            ),
+            (
+                "ISSUER",
+                r#"{"command":"advance","day":"2026-02-01","key":"k69"}"#,
+                r#"{"outcome":"accepted","reply":{"expired":0}}"#,
+            ),
+            (
+                "SUN",
+                r#"{"command":"transfer","giver":1,"taker":2,"first":"07000000000002","last":"07000000000002","key":"k70"}"#,
+                r#"{"code":18,"name":"TradeClosed","number":"07000000000002","outcome":"refused"}"#,
+            ),
+            (
+                "SUN",
+                r#"{"command":"cancel","account":1,"first":"07000000000002","last":"07000000000002","beneficiary":"X","use_first":"2025-01-01","use_last":"2025-03-31","key":"k71"}"#,
+                r#"{"outcome":"accepted","reply":{"cancellation":1,"count":1}}"#,
+            ),
+        ],
+        shown: "1 07000000000002 07000000000002 2025-01-01 cancelled:1\n1 07000000000003 07000000001200 2025-01-01 held\n1 07000000001201 07000000001201 2025-03-01 held\n2 07000000000001 07000000000001 2025-01-01 held\n500000000000000012 1201000000 0 1201 0 0\n",
+    },
+    Case {
+        name: "two_halves_of_a_month",
+        serial: 1,
+        begun: 5,
+        asked: &[
+            (
+                "ISSUER",
+                r#"{"command":"declare","device":"500000000000000012","first_day":"2025-01-01","last_day":"2025-01-15","gross_wh":1000000,"aux_wh":0,"key":"k405"}"#,
+                r#"{"outcome":"accepted","reply":{"carry":0,"count":1,"first":"07000000000001","last":"07000000000001"}}"#,
+            ),
+            (
+                "ISSUER",
+                r#"{"command":"declare","device":"500000000000000012","first_day":"2025-01-16","last_day":"2025-01-31","gross_wh":1000000,"aux_wh":0,"key":"k406"}"#,
+                r#"{"outcome":"accepted","reply":{"carry":0,"count":1,"first":"07000000000002","last":"07000000000002"}}"#,
+            ),
+            (
+                "SUN",
+                r#"{"command":"transfer","giver":1,"taker":2,"first":"07000000000001","last":"07000000000002","key":"k407"}"#,
+                r#"{"outcome":"accepted","reply":{"count":2}}"#,
+            ),
+        ],
+        shown: "2 07000000000001 07000000000001 2025-01-01 held\n2 07000000000002 07000000000002 2025-01-16 held\n500000000000000012 2000000 0 2 0 0\n",
+    },
+    Case {
+        name: "two_lots_in_one_range",
+        serial: 1,
+        begun: 9,
+        asked: &[(
+            "SUN",
+            r#"{"command":"transfer","giver":1,"taker":2,"first":"07000000001200","last":"07000000001201","key":"k46"}"#,
+            r#"{"outcome":"accepted","reply":{"count":2}}"#,
+        )],
+        shown: "1 07000000000001 07000000001199 2025-01-01 held\n2 07000000001200 07000000001200 2025-01-01 held\n2 07000000001201 07000000001201 2025-03-01 held\n500000000000000012 1201000000 0 1201 0 0\n",
     },
 ];

@@ -2,7 +2,7 @@
 
 use crate::worked::Case;
 
-pub const SEVENTH: [Case; 2] = [
+pub const SEVENTH: [Case; 7] = [
     Case {
         name: "declarations_that_are_refused",
         serial: 1,
@@ -98,5 +98,74 @@ pub const SEVENTH: [Case; 2] = [
             ),
         ],
         shown: "1 07000000000001 07000000000003 2025-01-01 held\n500000000000000012 3000000 0 3 0 0\n",
+    },
+    Case {
+        name: "just_the_capacity",
+        serial: 1,
+        begun: 5,
+        asked: &[(
+            "ISSUER",
+            r#"{"command":"declare","device":"500000000000000012","first_day":"2025-01-01","last_day":"2025-01-31","gross_wh":1490000000,"aux_wh":0,"key":"k135"}"#,
+            r#"{"outcome":"accepted","reply":{"carry":0,"count":1490,"first":"07000000000001","last":"07000000001490"}}"#,
+        )],
+        shown: "",
+    },
+    Case {
+        name: "more_auxiliaries_than_gross",
+        serial: 1,
+        begun: 9,
+        asked: &[
+            (
+                "ISSUER",
+                r#"{"command":"declare","device":"500000000000000012","first_day":"2025-04-01","last_day":"2025-04-03","gross_wh":500,"aux_wh":500,"key":"k24"}"#,
+                r#"{"outcome":"accepted","reply":{"carry":0,"count":0}}"#,
+            ),
+            (
+                "ISSUER",
+                r#"{"command":"declare","device":"500000000000000012","first_day":"2025-04-04","last_day":"2025-04-04","gross_wh":500,"aux_wh":501,"key":"k25"}"#,
+                r#"{"code":13,"name":"AuxExceedsGross","outcome":"refused"}"#,
+            ),
+        ],
+        shown: "1 07000000000001 07000000001200 2025-01-01 held\n1 07000000001201 07000000001201 2025-03-01 held\n500000000000000012 1201000000 0 1201 0 0\n",
+    },
+    Case {
+        name: "notices_that_are_refused",
+        serial: 1,
+        begun: 10,
+        asked: &[
+            (
+                "ISSUER",
+                r#"{"command":"import","notice":{"sender":9,"addressee":7,"number":2,"account":1,"version":1,"parts":[{"first":"07000000001202","last":"07000000001202","lot":{"capacity_w":2000000,"commissioned":"2020-06-15","country":"DE","device":"500000000000000012","first_day":"2025-01-01","issued_on":"2025-03-01","last_day":"2025-01-31","origin":7,"site":"North field","source":"F01010100","support":"none","tech":"T010000"}}]},"key":"k118"}"#,
+                r#"{"code":16,"name":"UnknownNumber","number":"07000000001202","outcome":"refused"}"#,
+            ),
+            (
+                "ISSUER",
+                r#"{"command":"import","notice":{"sender":9,"addressee":7,"number":2,"account":1,"version":1,"parts":[{"first":"07000000000001","last":"07000000000001","lot":{"capacity_w":2000000,"commissioned":"2020-06-15","country":"DE","device":"500000000000000012","first_day":"2025-01-01","issued_on":"2025-03-01","last_day":"2025-01-31","origin":7,"site":"North field","source":"F01010100","support":"none","tech":"T010000"}}]},"key":"k119"}"#,
+                r#"{"code":25,"name":"NumberTaken","number":"07000000000001","outcome":"refused"}"#,
+            ),
+        ],
+        shown: "",
+    },
+    Case {
+        name: "one_serial_too_few",
+        serial: 999_999_999_999,
+        begun: 5,
+        asked: &[(
+            "ISSUER",
+            r#"{"command":"declare","device":"500000000000000012","first_day":"2025-01-01","last_day":"2025-01-31","gross_wh":2000000,"aux_wh":0,"key":"k645"}"#,
+            r#"{"code":15,"name":"NumbersExhausted","outcome":"refused"}"#,
+        )],
+        shown: "500000000000000012 0 0 0 0 0\n",
+    },
+    Case {
+        name: "one_watt-hour_above_the_capacity",
+        serial: 1,
+        begun: 5,
+        asked: &[(
+            "ISSUER",
+            r#"{"command":"declare","device":"500000000000000012","first_day":"2025-01-01","last_day":"2025-01-31","gross_wh":1490000001,"aux_wh":0,"key":"k141"}"#,
+            r#"{"code":14,"name":"OverCapacity","outcome":"refused"}"#,
+        )],
+        shown: "",
     },
 ];

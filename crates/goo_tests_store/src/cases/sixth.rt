@@ -2,70 +2,7 @@
 
 use crate::worked::Case;
 
-pub const SIXTH: [Case; 4] = [
-    Case {
-        name: "certificates_of_two_carriers",
-        serial: 1,
-        begun: 5,
-        asked: &[
-            (
-                "ISSUER",
-                r#"{"command":"declare","device":"500000000000000012","first_day":"2025-01-01","last_day":"2025-01-31","gross_wh":5000000,"aux_wh":0,"key":"k903"}"#,
-                r#"{"outcome":"accepted","reply":{"carry":0,"count":5,"first":"07000000000001","last":"07000000000005"}}"#,
-            ),
-            (
-                "ISSUER",
-                r#"{"command":"register_device","account":1,"capacity_w":2000000,"commissioned":"2020-06-15","country":"DE","device":"500000000000000029","site":"North field","source":"F01010100","support":"none","tech":"T010000","carrier":"gas","key":"k904"}"#,
-                r#"{"outcome":"accepted","reply":{}}"#,
-            ),
-            (
-                "ISSUER",
-                r#"{"command":"declare","device":"500000000000000029","first_day":"2025-01-01","last_day":"2025-01-31","gross_wh":5400000,"aux_wh":0,"key":"k905"}"#,
-                r#"{"outcome":"accepted","reply":{"carry":400000,"count":5,"first":"07000000000006","last":"07000000000010"}}"#,
-            ),
-            (
-                "SUN",
-                r#"{"command":"transfer","giver":1,"taker":2,"first":"07000000000004","last":"07000000000007","key":"k906"}"#,
-                r#"{"outcome":"accepted","reply":{"count":4}}"#,
-            ),
-            (
-                "VOLT",
-                r#"{"command":"cancel","account":2,"first":"07000000000005","last":"07000000000006","beneficiary":"Bakery","use_first":"2025-01-01","use_last":"2025-01-31","key":"k907"}"#,
-                r#"{"outcome":"accepted","reply":{"cancellation":1,"count":2}}"#,
-            ),
-            (
-                "VOLT",
-                r#"{"command":"transfer","giver":2,"taker":1,"first":"07000000000007","last":"07000000000007","key":"k908"}"#,
-                r#"{"outcome":"accepted","reply":{"count":1}}"#,
-            ),
-            (
-                "ISSUER",
-                r#"{"command":"correct","device":"500000000000000029","first_day":"2025-01-01","less_wh":1400000,"first":"07000000000003","last":"07000000000003","reason":"meter read twice","key":"k909"}"#,
-                r#"{"code":34,"name":"OtherDevice","number":"07000000000003","outcome":"refused"}"#,
-            ),
-            (
-                "ISSUER",
-                r#"{"command":"correct","device":"500000000000000029","first_day":"2025-01-01","less_wh":1400000,"first":"07000000000008","last":"07000000000008","reason":"meter read twice","key":"k910"}"#,
-                r#"{"outcome":"accepted","reply":{"carry":0,"count":1,"withdrawal":1}}"#,
-            ),
-            (
-                "ISSUER",
-                r#"{"command":"declare","device":"500000000000000029","first_day":"2025-02-01","last_day":"2025-02-28","gross_wh":1000000,"aux_wh":0,"key":"k911"}"#,
-                r#"{"outcome":"accepted","reply":{"carry":0,"count":1,"first":"07000000000011","last":"07000000000011"}}"#,
-            ),
-            (
-                "ISSUER",
-                r#"{"command":"withdraw","first":"07000000000010","last":"07000000000011","reason":"meter read thrice","key":"k912"}"#,
-                r#"{"outcome":"accepted","reply":{"count":2,"withdrawal":2}}"#,
-            ),
-            (
-                "ISSUER",
-                r#"{"command":"advance","day":"2026-08-01","key":"k913"}"#,
-                r#"{"outcome":"accepted","reply":{"expired":6}}"#,
-            ),
-        ],
-        shown: "1 07000000000001 07000000000003 2025-01-01 expired\n1 07000000000007 07000000000007 2025-01-01 expired\n1 07000000000008 07000000000008 2025-01-01 withdrawn:1\n1 07000000000009 07000000000009 2025-01-01 expired\n1 07000000000010 07000000000010 2025-01-01 withdrawn:2\n1 07000000000011 07000000000011 2025-02-01 withdrawn:2\n2 07000000000004 07000000000004 2025-01-01 expired\n2 07000000000005 07000000000005 2025-01-01 cancelled:1\n2 07000000000006 07000000000006 2025-01-01 cancelled:1\n500000000000000012 5000000 0 5 0 0\n500000000000000029 6400000 1400000 6 1 0\n",
-    },
+pub const SIXTH: [Case; 3] = [
     Case {
         name: "closing_an_account",
         serial: 1,

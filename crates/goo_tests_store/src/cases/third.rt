@@ -2,7 +2,7 @@
 
 use crate::worked::Case;
 
-pub const THIRD: [Case; 2] = [
+pub const THIRD: [Case; 4] = [
     Case {
         name: "a_key_after_the_date_moved",
         serial: 1,
@@ -108,5 +108,41 @@ pub const THIRD: [Case; 2] = [
             ),
         ],
         shown: "1 09000000000001 09000000000008 2025-01-01 held\n1 09000000000010 09000000000010 2025-01-01 held\n1 09000000000011 09000000000011 2025-01-01 held\n1 09000000000013 09000000000015 2025-01-01 held\n1 09000000000020 09000000000020 2025-01-01 exported:2\n1 09000000000021 09000000000022 2025-02-01 exported:2\n2 09000000000009 09000000000009 2025-01-01 held\n2 09000000000012 09000000000012 2025-01-01 held\n500000000000000012 0 0 0 0 0\n",
+    },
+    Case {
+        name: "a_number_that_another_account_holds",
+        serial: 1,
+        begun: 9,
+        asked: &[
+            (
+                "SUN",
+                r#"{"command":"transfer","giver":1,"taker":2,"first":"07000000000007","last":"07000000000007","key":"k56"}"#,
+                r#"{"outcome":"accepted","reply":{"count":1}}"#,
+            ),
+            (
+                "SUN",
+                r#"{"command":"cancel","account":1,"first":"07000000000001","last":"07000000000010","beneficiary":"X","use_first":"2025-01-01","use_last":"2025-03-31","key":"k57"}"#,
+                r#"{"code":17,"name":"NotHeld","number":"07000000000007","outcome":"refused"}"#,
+            ),
+        ],
+        shown: "1 07000000000001 07000000000006 2025-01-01 held\n1 07000000000008 07000000001200 2025-01-01 held\n1 07000000001201 07000000001201 2025-03-01 held\n2 07000000000007 07000000000007 2025-01-01 held\n500000000000000012 1201000000 0 1201 0 0\n",
+    },
+    Case {
+        name: "a_number_that_another_account_holds_before_the_date_moves",
+        serial: 1,
+        begun: 7,
+        asked: &[
+            (
+                "SUN",
+                r#"{"command":"transfer","giver":1,"taker":2,"first":"07000000000007","last":"07000000000007","key":"k685"}"#,
+                r#"{"outcome":"accepted","reply":{"count":1}}"#,
+            ),
+            (
+                "SUN",
+                r#"{"command":"cancel","account":1,"first":"07000000000001","last":"07000000000010","beneficiary":"X","use_first":"2025-01-01","use_last":"2025-03-31","key":"k686"}"#,
+                r#"{"code":17,"name":"NotHeld","number":"07000000000007","outcome":"refused"}"#,
+            ),
+        ],
+        shown: "1 07000000000001 07000000000006 2025-01-01 held\n1 07000000000008 07000000001200 2025-01-01 held\n2 07000000000007 07000000000007 2025-01-01 held\n500000000000000012 1200999999 0 1200 0 999999\n",
     },
 ];
