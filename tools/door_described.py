@@ -7,9 +7,9 @@ from intruders import basic, post, raw
 from loopback import HOME, USERS, Place, Relay
 
 REGISTRY, RECORDS = (yaml.safe_load((HOME / "docs" / name).read_text(encoding="utf-8")) for name in ("openapi-outside.yaml", "records.yaml"))
-SECONDS = 60
+SECONDS = 180
 """Most that anything here may take to come."""
-FEW = (("zone=goo_rate:10m rate=20r/s", "zone=goo_rate:10m rate=5r/s"), ("zone=goo_rate burst=60", "zone=goo_rate burst=10"))
+FEW = (("zone=goo_rate:10m rate=20r/s", "zone=goo_rate:10m rate=1r/m"), ("zone=goo_rate burst=60", "zone=goo_rate burst=10"))
 IMPATIENT = (("proxy_read_timeout    300s", "proxy_read_timeout    1s"), ("proxy_read_timeout        300s", "proxy_read_timeout        1s"))
 
 
