@@ -20,6 +20,8 @@ INSIDE = ('systemd,systemd-sysv,udev,dbus,linux-image-cloud-amd64,initramfs-tool
 PATHS = {'PATH': '/usr/local/sbin:/usr/local/bin:/usr/sbin:/usr/bin:/sbin:/bin', 'HOME': '/root', 'LANG': 'C.UTF-8', 'DEBIAN_FRONTEND': 'noninteractive'}
 NAME = 'registry.example'
 """Under which a machine reaches its own front door."""
+BALANCER = '192.0.2.10'
+"""This machine's address in the network of several."""
 
 
 def here(*words, **more):
@@ -57,7 +59,7 @@ class Done:
 class Machine:
     """A machine whose files are kept from one start to the next."""
 
-    process, power_cuts = None, 2
+    process, balancer, power_cuts = None, None, 2
 
     def waits_for(self, text, patience=120):
         """Whether a command succeeds within this time."""
@@ -87,7 +89,7 @@ class Network:
     """A network of its own, with a bridge between containers. No way leads out of it."""
 
     def __enter__(self):
-        made = 'ip link set lo up && ip link add goo0 type bridge && ip link set goo0 up && echo up && exec sleep infinity'
+        made = f'ip link set lo up && ip link add goo0 type bridge && ip address add {BALANCER}/24 dev goo0 && ip link set goo0 up && echo up && exec sleep infinity'
         self.process = subprocess.Popen(['unshare', '--net', 'sh', '-c', made], stdin=subprocess.DEVNULL, stdout=subprocess.PIPE, text=True)
         if self.process.stdout.readline() != 'up\n':
             raise OSError('no network of its own can be made')
