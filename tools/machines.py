@@ -71,8 +71,10 @@ class Machine:
         return False
 
     def is_up(self):
-        """What systemd says once it has started what there is."""
-        return self.run('systemctl is-system-running --wait; true', 300).out.strip()
+        """What systemd says once it has started what there is. A check each minute may have found the registry before it was ready, and finds it well a minute later."""
+        self.run('systemctl is-system-running --wait; true', 300)
+        self.waits_for('systemctl is-system-running', 150)
+        return self.run('systemctl is-system-running; true').out.strip()
 
     def reboot(self):
         """As an operator does it; the machine ends, and is started again."""
