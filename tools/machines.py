@@ -1,12 +1,14 @@
 """Debian machines of a trial's own: a container with its own systemd, several in a network of their own, or one by qemu. For tools/machine."""
 import base64
 import contextlib
+import fcntl
 import json
 import os
 import pathlib
 import shutil
 import signal
 import socket
+import struct
 import subprocess
 import sys
 import time
@@ -20,6 +22,10 @@ INSIDE = ('systemd,systemd-sysv,udev,dbus,linux-image-cloud-amd64,initramfs-tool
 PATHS = {'PATH': '/usr/local/sbin:/usr/local/bin:/usr/sbin:/usr/bin:/sbin:/bin', 'HOME': '/root', 'LANG': 'C.UTF-8', 'DEBIAN_FRONTEND': 'noninteractive'}
 NAME = 'registry.example'
 """Under which a machine reaches its own front door."""
+BALANCER = '192.0.2.10'
+"""This machine's address in the network of several."""
+EXT4_SHUTDOWN, WITHOUT_ITS_JOURNAL = 0x8004587d, 2
+"""EXT4_IOC_SHUTDOWN, and its flag NOLOGFLUSH."""
 
 
 def here(*words, **more):
@@ -57,7 +63,7 @@ class Done:
 class Machine:
     """A machine whose files are kept from one start to the next."""
 
-    process, power_cuts = None, 2
+    process, balancer, power_cuts = None, None, 2
 
     def waits_for(self, text, patience=120):
         """Whether a command succeeds within this time."""
@@ -69,8 +75,10 @@ class Machine:
         return False
 
     def is_up(self):
-        """What systemd says once it has started what there is."""
-        return self.run('systemctl is-system-running --wait; true', 300).out.strip()
+        """What systemd says once it has started what there is. A check each minute may have found the registry before it was ready, and finds it well a minute later."""
+        self.run('systemctl is-system-running --wait; true', 300)
+        self.waits_for('systemctl is-system-running', 150)
+        return self.run('systemctl is-system-running; true').out.strip()
 
     def reboot(self):
         """As an operator does it; the machine ends, and is started again."""
@@ -87,7 +95,7 @@ class Network:
     """A network of its own, with a bridge between containers. No way leads out of it."""
 
     def __enter__(self):
-        made = 'ip link set lo up && ip link add goo0 type bridge && ip link set goo0 up && echo up && exec sleep infinity'
+        made = f'ip link set lo up && ip link add goo0 type bridge && ip address add {BALANCER}/24 dev goo0 && ip link set goo0 up && echo up && exec sleep infinity'
         self.process = subprocess.Popen(['unshare', '--net', 'sh', '-c', made], stdin=subprocess.DEVNULL, stdout=subprocess.PIPE, text=True)
         if self.process.stdout.readline() != 'up\n':
             raise OSError('no network of its own can be made')
@@ -100,34 +108,38 @@ class Network:
 
 
 class Container(Machine):
-    """systemd-nspawn over an overlay of the Debian, in a cgroup and mounts of its own, without the right to set the clock. Alone, or in a network with others."""
+    """systemd-nspawn over the Debian and a disk of its own with what it writes, in a cgroup and mounts of its own, without the right to set the clock. Alone, or in a network with others."""
 
-    answers_inside = '/answers'
+    answers_inside = '/told/answers'
 
     def __init__(self, base, goods, folder, name='registry', network=None, address=None):
         self.goods, self.folder, self.name, self.address = goods, folder, name, address
-        self.console, self.answers, self.groups = folder / 'console', folder / 'upper/answers', own_cgroups(name)
-        for part in ('upper', 'work', 'root'):
+        self.console, self.answers, self.groups = folder / 'console', folder / 'told/answers', own_cgroups(name)
+        for part in ('begun/upper', 'begun/work', 'disk', 'root', 'told'):
             (folder / part).mkdir(parents=True)
-        self.overlay = f'lowerdir={base}/root,upperdir={folder}/upper,workdir={folder}/work'
+        self.mounting = f'mount -o loop {folder}/image {folder}/disk && mount -t overlay overlay -o lowerdir={base}/root,upperdir={folder}/disk/upper,workdir={folder}/disk/work {folder}/root'
         self.entering, self.joined = (network.entering, ['--network-bridge=goo0', f'--bind={goods.parent}/carried:/carried']) if network else ([], ['--private-network'])
         if network:
             self.put('etc/systemd/network/10-host0.network', f'[Match]\nName=host0\n[Network]\nAddress={address}/24\nLinkLocalAddressing=no\n')
             self.put('etc/hostname', f'{name}\n')
-            wants = folder / 'upper/etc/systemd/system/multi-user.target.wants/systemd-networkd.service'
+            wants = folder / 'begun/upper/etc/systemd/system/multi-user.target.wants/systemd-networkd.service'
             wants.parent.mkdir(parents=True)
             wants.symlink_to('/lib/systemd/system/systemd-networkd.service')
+        here('truncate', '--size', '3G', folder / 'image')
+        here('mkfs.ext4', '-q', '-F', '-d', folder / 'begun', folder / 'image')
 
     def put(self, name, text):
-        """A file of the machine, before it is started."""
-        path = self.folder / 'upper' / name
+        """A file of the machine, before it is first started."""
+        path = self.folder / 'begun/upper' / name
         path.parent.mkdir(parents=True, exist_ok=True)
         path.write_text(text)
 
     def start(self):
         words = ['systemd-nspawn', '--quiet', '--boot', f'--directory={self.folder}/root', f'--machine={self.name}', *self.joined, '--register=no', '--keep-unit', '--console=pipe', '--link-journal=no',
-                 '--resolv-conf=off', '--timezone=off', '--drop-capability=CAP_SYS_TIME,CAP_SYS_MODULE', f'--bind-ro={self.goods}:/goods']
-        script = f'{entering(self.groups)} && mount -t overlay overlay -o {self.overlay} {self.folder}/root && exec "$@"'
+                 '--resolv-conf=off', '--timezone=off', '--drop-capability=CAP_SYS_TIME,CAP_SYS_MODULE', f'--bind-ro={self.goods}:/goods',
+                 f'--bind={self.folder}/told:/told']
+        script = f'{entering(self.groups)} && {self.mounting} && exec "$@"'
+        self.unmounted()
         with open(self.console, 'ab') as console:
             self.process = subprocess.Popen([*self.entering, 'unshare', '--mount', '--propagation', 'private', 'sh', '-c', script, 'sh', *words], stdin=subprocess.DEVNULL, stdout=console, stderr=console)
         self.first = self.first_process()
@@ -145,6 +157,14 @@ class Container(Machine):
             time.sleep(0.1)
         raise TimeoutError(self.console.read_text(errors='replace')[-800:])
 
+    def unmounted(self):
+        """The disk of an earlier start is let go once the last of its processes has gone. Two mounts of one disk would spoil it."""
+        end = time.monotonic() + 120
+        while here('losetup', '--noheadings', '--associated', self.folder / 'image'):
+            if time.monotonic() > end:
+                raise TimeoutError(f'{self.folder}/image is still mounted')
+            time.sleep(0.1)
+
     def hidden(self, process):
         seen = pathlib.Path(f'/proc/{process}/root')
         if (seen / self.folder.relative_to('/')).exists() or os.stat(seen / 'tmp').st_dev == os.stat('/tmp').st_dev or (seen / 'dev/vda').exists():
@@ -161,8 +181,9 @@ class Container(Machine):
         return Done(done.returncode, done.stdout, done.stderr)
 
     def cut_power(self):
-        """All processes are killed at once; what they had written stays."""
+        """The disk stops with what was synced or happened to be written, and all processes are killed at once."""
         if self.process.poll() is None:
+            self.stop_disk()
             with contextlib.suppress(ProcessLookupError):
                 os.kill(int(self.first), signal.SIGKILL)
             try:
@@ -170,6 +191,14 @@ class Container(Machine):
             except subprocess.TimeoutExpired:
                 self.process.kill()
                 self.process.wait()
+
+    def stop_disk(self):
+        """As in the tests of file systems: ext4 writes no more, its journal neither, and forgets what it has not written."""
+        disk = os.open(f'/proc/{self.process.pid}/root{self.folder}/disk', os.O_RDONLY)
+        try:
+            fcntl.ioctl(disk, EXT4_SHUTDOWN, struct.pack('I', WITHOUT_ITS_JOURNAL))
+        finally:
+            os.close(disk)
 
     def shut_down(self):
         """In order, as a switched-off machine leaves its disk."""
@@ -189,12 +218,12 @@ class Emulated(Machine):
 
     answers_inside, power_cuts = '/dev/ttyS1', 1
 
-    def __init__(self, base, goods, folder, overlay):
+    def __init__(self, base, goods, folder, mounting):
         self.folder, self.line, self.console, self.answers = folder, None, folder / 'console', folder / 'answers'
         for name in ('vmlinuz', 'initrd.img'):
             shutil.copy(next((base / 'root/boot').glob(f'{name}-*')), folder / name)
-        here('truncate', '--size', '4G', folder / 'disk')
-        here('unshare', '--mount', '--propagation', 'private', 'sh', '-c', f'mount -t overlay overlay -o {overlay} {folder}/root && mkfs.ext4 -q -F -d {folder}/root {folder}/disk')
+        here('truncate', '--size', '4G', folder / 'whole')
+        here('unshare', '--mount', '--propagation', 'private', 'sh', '-c', f'{mounting} && mkfs.ext4 -q -F -d {folder}/root {folder}/whole')
         here('mkfs.ext4', '-q', '-F', '-d', goods, folder / 'goods.img', '64M')
 
     def start(self):
@@ -203,7 +232,7 @@ class Emulated(Machine):
         self.process = subprocess.Popen([
             'qemu-system-x86_64', '-accel', 'tcg,thread=multi', '-cpu', 'max', '-m', '1200', '-smp', '4', '-nodefaults', '-no-user-config', '-nographic', '-no-reboot', '-nic', 'none',
             '-kernel', self.folder / 'vmlinuz', '-initrd', self.folder / 'initrd.img', '-append', 'root=/dev/vda rw console=ttyS0 panic=-1 quiet',
-            '-drive', f'file={self.folder}/disk,if=virtio,format=raw', '-drive', f'file={self.folder}/goods.img,if=virtio,format=raw,readonly=on',
+            '-drive', f'file={self.folder}/whole,if=virtio,format=raw', '-drive', f'file={self.folder}/goods.img,if=virtio,format=raw,readonly=on',
             '-serial', f'file:{self.console}', '-chardev', f'file,id=answers,path={self.answers},append=on', '-serial', 'chardev:answers',
             '-device', 'virtio-serial', '-chardev', f'socket,path={agent},server=on,wait=off,id=agent', '-device', 'virtserialport,chardev=agent,name=org.qemu.guest_agent.0'],
             stdin=subprocess.DEVNULL)
