@@ -10,6 +10,8 @@ REGISTRY, RECORDS = (yaml.safe_load((HOME / "docs" / name).read_text(encoding="u
 SECONDS = 180
 """Most that anything here may take to come."""
 FEW = (("zone=goo_rate:10m rate=20r/s", "zone=goo_rate:10m rate=1r/m"), ("zone=goo_rate burst=60", "zone=goo_rate burst=10"))
+MET = set()
+"""Statuses that were met."""
 IMPATIENT = (("proxy_read_timeout    300s", "proxy_read_timeout    1s"), ("proxy_read_timeout        300s", "proxy_read_timeout        1s"))
 
 
@@ -51,6 +53,7 @@ def fault(document, method, path, answer):
 
 def check(tally, what, document, method, path, status, answer, kind="text/html"):
     """One answer: its status, its kind, and that it is described."""
+    MET.add(answer[0])
     why = fault(document, method, path, answer) if answer[0] == status and answer[1]["Content-Type"].split(";")[0] == kind else (answer[0], answer[1]["Content-Type"], answer[2][:200])
     tally.check(f"{what}: {status} {kind}, as described", why is None, why)
 
@@ -118,6 +121,8 @@ def of_the_door(tally):
                 ("one that is refused", REGISTRY, requests, 409, "application/json", place.ask("office", *requests, add.replace("p1", "p2"))),
                 ("one of the issuing body's, by a holder", REGISTRY, requests, 403, "application/json", place.ask("anna", *requests, add)),
                 ("one that can't be read", REGISTRY, requests, 400, "application/json", place.ask("office", *requests, "{")),
+                ("an account that is not there", REGISTRY, ("GET", "/v1/accounts/9/statement"), 404, "text/plain", place.ask("office", "GET", "/v1/accounts/9/statement")),
+                ("another method", REGISTRY, statement, 405, "text/plain", place.ask("office", "POST", "/v1/accounts/1/statement", "{}")),
                 ("another's statement", REGISTRY, statement, 403, "text/plain", place.ask("bela", *statement)),
                 ("nobody signed in", REGISTRY, requests, 401, "text/html", place.ask(None, *requests, add)),
                 ("a wrong password", REGISTRY, statement, 401, "text/html", place.ask("anna", *statement, password="wrong")),
@@ -208,3 +213,5 @@ def described(tally):
     """Each answer that a client outside may get is met, and is as described."""
     for trial in (forms, of_the_door, too_often, no_answer, behind_the_log):
         trial(tally)
+    told = {int(status) for item in REGISTRY["paths"].values() for each in item.values() for status in each["responses"]}
+    tally.check(f"each of the {len(told)} statuses that openapi-outside.yaml describes was met", told <= MET, told - MET)

@@ -20,8 +20,8 @@ from rules import ISSUER
 
 ALTERNATE, TRADED = 1_000, 30_000
 """Certificates that change hands one by one: every second of a stretch, and those of two who trade by chance."""
-ASKED = 100
-"""How often each question is asked."""
+ASKED, MINUTE = 100, 60
+"""How often each question is asked, for so many seconds at most."""
 YEAR = range(1, 13)
 EACH = 2 * ALTERNATE // len(YEAR) + 1
 """Certificates of each declaration of the alternating ones."""
@@ -78,14 +78,15 @@ def measured(words):
 
 
 def times(ask):
-    """A hundred answers: the last of them; the median and the 99th slowest in milliseconds by the clock, and processor milliseconds of one."""
-    took, begun = [], time.process_time()
-    for _ in range(ASKED):
+    """A hundred answers, or as many as come in a minute: the last of them; the median and the 99th of a hundred in milliseconds by the clock, and processor milliseconds of one."""
+    took, begun, until = [], time.process_time(), time.monotonic() + MINUTE
+    while len(took) < ASKED and (not took or time.monotonic() < until):
         start = time.perf_counter()
         answer = ask()
         took.append((time.perf_counter() - start) * 1000)
     took.sort()
-    return answer, f'median {took[ASKED // 2]:,.1f} ms, 99th of {ASKED} {took[98]:,.1f} ms, processor {(time.process_time() - begun) / ASKED * 1000:,.1f} ms'
+    each = (time.process_time() - begun) / len(took) * 1000
+    return answer, f'median of {len(took)} {took[len(took) // 2]:,.1f} ms, 99 in 100 within {took[(99 * len(took) - 1) // 100]:,.1f} ms, processor {each:,.1f} ms'
 
 
 class OwnStatement:
