@@ -139,7 +139,9 @@ def acts(database, viewer, asked):
     """Acts that the viewer may see, the newest first. `before` is the id to go on from."""
     source, column, conditions = 'act', 'act.id', Conditions()
     if account := number_of(asked, 'account'):
-        source, column, conditions = 'touched CROSS JOIN act ON act.id = touched.act', 'touched.act', Conditions(('touched.account = ?', (account,)), viewer.of_acts())
+        source, column, conditions = 'touched CROSS JOIN act ON act.id = touched.act', 'touched.act', Conditions(('touched.account = ?', (account,)))
+        if not viewer.sees_all and account not in viewer.accounts(database):       # of his own account he sees each
+            conditions.add(*viewer.of_acts())
     elif not viewer.sees_all and not asked.get('key'):
         source, column, conditions = 'seen CROSS JOIN act ON act.id = seen.act', 'seen.act', Conditions(('seen.viewer = ?', (viewer.caller,)))
     else:

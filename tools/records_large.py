@@ -123,7 +123,7 @@ def statement_lines(runs, place='held'):
 
 QUESTIONS = (('acts', {}), ('acts', {'account': 1}), ('acts', {'account': 1, 'q': 't77'}), ('acts', {'key': 't77'}), ('acts/5000', {}), ('holdings', {'account': 1}), ('holdings', {'account': 1, 'by': 'run'}),
              ('holdings', {'account': 1, 'by': 'run', 'q': 'Field', 'sort': '-count'}), ('holdings', {'by': 'month'}), ('deadlines', {}), ('choice', {'account': 1, 'count': 5000}),
-             ('choice', {'account': 1, 'count': 5000, 'order': 'fewest'}), (f'certificates/{OWN + 5000}', {}), ('accounts', {}), ('devices', {}), ('declarations', {}), ('statistics', {'by': 'month,tech'}))
+             ('choice', {'account': 1, 'count': 5000, 'order': 'fewest'}), ('certificates/{held}', {}), ('accounts', {}), ('devices', {}), ('declarations', {}), ('statistics', {'by': 'month,tech'}))
 """What the holder of account 1 asks, who has some 15,000 runs and half of the acts."""
 
 
@@ -143,8 +143,9 @@ def large(tally, goo, folder, count):
 
 def answers(tally, service, goo, folder, both):
     """The time of each kind of answer, and of the registry's own statement."""
+    held = service.items(ACCOUNTS[1], 'holdings', by='run', account=1)[0]['first']
     for path, parameters in QUESTIONS:
-        (status, answer), told = times(lambda: service.ask(ACCOUNTS[1], f'/records/v1/{path}', limit=1000, **parameters))
+        (status, answer), told = times(lambda: service.ask(ACCOUNTS[1], f'/records/v1/{path.format(held=held)}', limit=1000, **parameters))
         tally.check(f'{path} {parameters or ""}: {told}', [(status, answer)] if status != 200 else [])
     with OwnStatement(goo, folder, both) as ask:
         text, told = times(ask)
