@@ -36,16 +36,17 @@ async function problemOf(answer) {
   return {...words.unread(answer.status), ...(said ? {sentence: `${said[0].toUpperCase()}${said.slice(1)}.`} : {})};
 }
 
-/** Every item of a list, page by page. `progress` is told how many there are. */
-export async function everyItem(name, parameters, progress = () => null) {
-  const items = [];
-  for (let offset = 0; offset !== null;) {
-    const answer = await asked(name, {...parameters, limit: 1000, offset});
-    items.push(...answer.items);
-    progress(items.length);
-    offset = answer.next ?? null;
-  }
-  return items;
+const PAGE = 1000;
+/** By what holdings are told, and the sum that says how many of them there are. */
+const IN_ALL = {lot: 'lots', run: 'runs'};
+
+/** Every item of a list. Where the first page tells how many there are, the others are asked for side by side, else one after another. */
+export async function everyItem(name, parameters) {
+  const pageAt = (offset) => asked(name, {...parameters, limit: PAGE, offset});
+  const pages = [await pageAt(0)], all = pages[0].sum?.[IN_ALL[parameters?.by]];
+  if (all !== undefined) pages.push(...await Promise.all(Array.from({length: Math.max(0, Math.ceil(all / PAGE) - 1)}, (_, i) => pageAt((i + 1) * PAGE))));
+  while (pages.at(-1).next) pages.push(await pageAt(pages.at(-1).next));
+  return pages.flatMap(({items}) => items);
 }
 
 // ------------------------------------------------------------------ names of codes

@@ -4,8 +4,9 @@ import {h, table, longTable, facts, number, between, count, place, result, save,
 import {bars, PLACES} from './charts.js';
 import {form, ask} from './forms.js';
 import {accounts as ownAccounts, notice} from './holdings.js';
-import {records} from './records.js';
-import {read, readAmongMany, statements} from './registry.js';
+import {t} from './language.js';
+import {everyItem, records} from './records.js';
+import {Unread, read, readAmongMany, statements} from './registry.js';
 import {session, memory} from './session.js';
 import * as texts from './texts.js';
 import {problemOf} from './words.js';
@@ -103,27 +104,34 @@ async function statement(a) {
     lines.length ? h('section', {class: 'chart'}, h('h3', {}, 'By month of production'), chart) : null,
     lines.length ? longTable(caption, columns, rows) : h('p', {class: 'quiet'}, 'This account has never held a certificate.'),
     keeping(`statement-${f.registry}-${a}-${f.date}`, text, () => texts.asCsv(RUN, lines.map((l) => ({...l, place: l.kind}))),
-      lines.some(isHeld) && holdingsButton(`holdings-${f.registry}-${a}-${f.date}.csv`, lines.filter(isHeld))),
+      lines.some(isHeld) && holdingsButton(`holdings-${f.registry}-${a}-${f.date}.csv`, a, lines.filter(isHeld))),
   ];
 }
 
 const isHeld = (line) => line.kind === 'held';
 
-/** Saves the runs that are held, each with its whole lot. The registry tells a lot with one of its certificates, so each lot is asked for once. */
-function holdingsButton(name, held) {
-  const title = 'Save holdings as CSV', lotOf = (l) => `${l.first.slice(0, 2)} ${l.device} ${l.first_day}`;
-  const lots = new Map(held.map((l) => [lotOf(l), l.first]));
+/** Saves the runs that are held, each with its whole lot. */
+function holdingsButton(name, account, held) {
+  const title = t`Save holdings as CSV`;
   return h('button', {type: 'button', onclick: async ({target: button}) => {
     button.disabled = true;
-    const known = new Map();
-    for (const [lot, first] of lots) {
-      button.textContent = `Lot ${count(known.size + 1)} of ${count(lots.size)}`;
-      const {text, problem} = await readAmongMany(`/v1/certificates/${first}`);
-      if (problem) { button.replaceWith(result(problem)); return; }
-      known.set(lot, {carrier: 'electricity', ...JSON.parse(text).lot});
-    }
-    save(name, texts.asCsv(HOLDING, held.map((l) => ({...known.get(lotOf(l)), first: l.first, last: l.last, count: l.count}))), 'text/csv');
-    button.textContent = title;
-    button.disabled = false;
+    try {
+      const rows = records.isThere ? await everyItem('holdings', {account, by: 'run'}) : await withLots(held, (text) => { button.textContent = text; });
+      save(name, texts.asCsv(HOLDING, rows), 'text/csv');
+      button.textContent = title;
+      button.disabled = false;
+    } catch (fault) { button.replaceWith(result(problemOf(fault))); }
   }}, title);
+}
+
+/** The same by the registry alone: it tells a lot with one of its certificates, so each lot is asked for once. */
+async function withLots(held, progress) {
+  const lotOf = (l) => `${l.first.slice(0, 2)} ${l.device} ${l.first_day}`, lots = new Map(held.map((l) => [lotOf(l), l.first])), known = new Map();
+  for (const [lot, first] of lots) {
+    progress(t`Lot ${count(known.size + 1)} of ${count(lots.size)}`);
+    const {text, problem} = await readAmongMany(`/v1/certificates/${first}`);
+    if (problem) throw new Unread(problem);
+    known.set(lot, {carrier: 'electricity', ...JSON.parse(text).lot});
+  }
+  return held.map((l) => ({...known.get(lotOf(l)), first: l.first, last: l.last, count: l.count}));
 }
