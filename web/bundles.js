@@ -2,12 +2,12 @@
 // bundle is kept in localStorage, each range with its key, and each answer as it comes. So a bundle that was interrupted goes
 // on where it stopped; what was sent and not answered is sent again under its key, and is not done twice.
 
-import {h, longTable, facts, number, between, count, result, csvButton} from './dom.js';
+import {h, busy, longTable, facts, number, between, count, result, csvButton} from './dom.js';
 import {chosen} from './chosen.js';
 import {COMMANDS} from './commands.js';
 import {aboutName, aboutUse} from './doubts.js';
 import {field, named, sure} from './forms.js';
-import {t} from './language.js';
+import {known, t} from './language.js';
 import {asList} from './paper.js';
 import {asked, everyItem, holderOf} from './records.js';
 import {bodyOf, newKey, pause, send} from './registry.js';
@@ -197,7 +197,7 @@ const takenTable = (runs) => longTable(t`${count(runs.length)} runs`, [[t`Certif
   [between(number(of.first), number(of.last)), count(of.count), `${of.site} ${of.device}`, between(of.first_day, of.last_day)]));
 
 function bundleForm(command, account, runs, ranges) {
-  const all = commonFields(command).map((spec) => field(spec)), shown = h('div', {'aria-live': 'polite'}), {title, act} = COMMANDS[command];
+  const all = commonFields(command).map((spec) => field(spec)), shown = h('div', {'aria-live': 'polite', tabindex: '-1'}), {title, act} = COMMANDS[command];
   const button = h('button', {type: 'submit', class: 'main'}, t(act), ' ', count(sum(ranges)));
   const onsubmit = async (event) => {
     event.preventDefault();
@@ -205,18 +205,16 @@ function bundleForm(command, account, runs, ranges) {
     if (wrong.length) { wrong[0].box.focus(); return; }
     const values = Object.fromEntries(all.map((f) => [f.name, f.value()])), given = all.map((f) => [f.label, String(f.value()), f.kind]);
     const doubts = [...all.filter((f) => f.kind === 'name').flatMap((f) => aboutName(f.label, f.value())), ...(command === 'cancel' && values.use_last >= values.use_first ? aboutUse(values, runs) : [])];
-    button.disabled = true;
-    try {
-      const asking = await named([...(GIVER[command] ? [[t`From account`, String(account), 'account']] : []), ...given, [t`Certificates`, count(sum(ranges))], [t`Requests, one a range`, count(ranges.length)]]);
-      if (await sure(t(title), t(act), {facts: asking, doubts, final: true})) {
-        const bundle = bundleOf(command, {...(GIVER[command] ? {[GIVER[command]]: account} : {}), ...values}, ranges, `${t(title)}: ${[[t`Certificates`, count(sum(ranges))], ...given].map(([n, v]) => `${n} ${v}`).join(', ')}`);
-        chosen.clear();
-        form.querySelectorAll('input, button').forEach((e) => { e.disabled = true; });
-        await carry(bundle, shown);
-        return;
-      }
-    } catch (fault) { shown.replaceChildren(result(problemOf(fault))); }
-    button.disabled = false;
+    await busy(button, () => meant(values, given, doubts).catch((fault) => shown.replaceChildren(result(problemOf(fault)))));
+  };
+  const meant = async (values, given, doubts) => {
+    const asking = await named([...(GIVER[command] ? [[t`From account`, String(account), 'account']] : []), ...given, [t`Certificates`, count(sum(ranges))], [t`Requests, one a range`, count(ranges.length)]]);
+    if (!await sure(t(title), t(act), {facts: asking, doubts, final: true})) return;
+    const bundle = bundleOf(command, {...(GIVER[command] ? {[GIVER[command]]: account} : {}), ...values}, ranges, `${t(title)}: ${[[t`Certificates`, count(sum(ranges))], ...given].map(([n, v]) => `${known(n)} ${v}`).join(', ')}`);
+    chosen.clear();
+    form.querySelectorAll('input, button').forEach((e) => { e.disabled = true; });
+    shown.focus();
+    await carry(bundle, shown);
   };
   const form = h('form', {class: `command bundle ${command}`, novalidate: true, onsubmit, 'aria-label': TITLES[command]}, h('div', {class: 'fields'}, all.map((f) => f.node)), h('div', {class: 'buttons'}, button));
   return [form, shown];

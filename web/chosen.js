@@ -1,6 +1,6 @@
 // What somebody has chosen of an account's holdings: lots or runs, over many pages of the list, with their running sum.
 
-import {h, count, result} from './dom.js';
+import {h, busy, count, result} from './dom.js';
 import {ungrouped} from './commands.js';
 import {t} from './language.js';
 import {problemOf} from './words.js';
@@ -44,14 +44,15 @@ export const chosen = {
   },
   /** Chooses all that fit the filters, on whatever page they are. */
   allButton(find) {
-    const button = h('button', {type: 'button', onclick: async () => {
-      button.disabled = true;
-      const items = await find().catch(() => []);
-      for (const of of items) this.set(of, of.lot === undefined ? 'run' : 'lot', true);
-      this.tell();
-      button.disabled = false;
-    }}, t`Choose all of these`);
-    return button;
+    const told = h('span', {'aria-live': 'polite'});
+    const button = h('button', {type: 'button', onclick: () => busy(button, async () => {
+      told.replaceChildren();
+      try {
+        for (const of of await find()) this.set(of, of.lot === undefined ? 'run' : 'lot', true);
+        this.tell();
+      } catch (fault) { told.replaceChildren(result(problemOf(fault))); }
+    })}, t`Choose all of these`);
+    return [button, told];
   },
   /** Chooses a quantity of what fits the filters, in an order. `find({count, order})` answers with ranges that add up to it. */
   quantityForm(find) {

@@ -27,9 +27,6 @@ export function t(text, ...values) {
 /** A text in the reader's language where it is one of the page's own; else as it is. */
 export const known = (text) => Object.hasOwn(words, text) ? words[text] : text;
 
-/** A country by its code, in the reader's language; English names are those of the issuing body's own list. */
-export const country = (code, name) => language === 'en' || !name ? name : new Intl.DisplayNames([language], {type: 'region'}).of(code);
-
 /** The other languages, each with what chooses it. */
 export const others = () => Object.entries(LANGUAGES).filter(([of]) => of !== language).map(([of, name]) => [name, () => {
   try { localStorage.setItem(KEPT, of); } catch { /* it is chosen for this time alone */ }

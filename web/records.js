@@ -30,6 +30,11 @@ export async function asked(name, parameters, tries = 10) {
   throw new Unread(await problemOf(answer));
 }
 
+/** Waits until the records tell of this entry of the log: they are a second behind it at most. */
+export async function followed(entry) {
+  for (let tries = 60; (await asked('status')).stands.entry < entry && tries > 0; tries--) await pause(500);
+}
+
 async function problemOf(answer) {
   const said = await answer.json().then((value) => value.error, () => null);
   if (answer.status === 503 || answer.status === 502) return {good: false, title: t`The records are not there`, sentence: t`They are being made, or do not answer. The registry itself is not touched by this. Try again in a minute.`};
@@ -61,7 +66,7 @@ async function once(key, find) {
 }
 
 /** Code and name of an account's holder, as far as the caller may know them: his own accounts, and those that he has dealt with. */
-export const holderOf = (account) => once(`account ${account}`, async () => {
+export const holderOf = (account) => once(`account/${account}`, async () => {
   const own = (await asked('accounts', {account})).items[0];
   if (own) return `${own.holder}, ${own.name}`;
   const {items} = await asked('acts', {account, kind: 'transfer', outcome: 'accepted', limit: 1});
@@ -70,10 +75,10 @@ export const holderOf = (account) => once(`account ${account}`, async () => {
 });
 
 /** The site of a device. */
-export const siteOf = (device) => once(`device ${device}`, async () => (await asked('devices', {device})).items[0]?.site ?? '');
+export const siteOf = (device) => once(`device/${device}`, async () => (await asked('devices', {device})).items[0]?.site ?? '');
 
 /** The name of a holder. */
-export const nameOf = (holder) => once(`holder ${holder}`, async () => (await everyItem('holders')).find(({code}) => code === holder)?.name ?? '');
+export const nameOf = (holder) => once(`holder/${holder}`, async () => (await everyItem('holders')).find(({code}) => code === holder)?.name ?? '');
 
 /** Forgets the names, as one may have been opened since. */
 export const forgetNames = () => names.clear();

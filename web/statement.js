@@ -14,6 +14,7 @@ import {problemOf} from './words.js';
 // The columns of what is saved as CSV: a run of a statement, an account, a run that is held with its lot.
 const RUN = ['first', 'last', 'count', 'device', 'first_day', 'last_day', 'tech', 'source', 'place', 'act'];
 const ACCOUNT = ['account', 'holder', 'status', ...PLACES];
+const TITLES = {held: 'Held', cancelled: 'Cancelled', expired: 'Expired', withdrawn: 'Withdrawn', exported: 'Exported'};
 const HOLDING = ['first', 'last', 'count', 'device', 'country', 'site', 'tech', 'source', 'capacity_w', 'commissioned', 'support', 'first_day', 'last_day', 'issued_on', 'carrier'];
 
 export async function account(chosen) {
@@ -38,14 +39,14 @@ const closing = () => h('details', {}, h('summary', {}, 'Close an account'), for
 
 /** Lists all accounts with their sums. */
 function everyAccount() {
-  const title = 'List all accounts', answer = h('div', {'aria-live': 'polite'});
+  const title = t`List all accounts`, answer = h('div', {'aria-live': 'polite'});
   const list = async () => {
     button.disabled = true;
     const rows = [];
     try {
       for await (const {facts: f} of statements()) {
         rows.push(f);
-        button.textContent = `Account ${count(rows.length + 1)}`;
+        button.textContent = t`Account ${count(rows.length + 1)}`;
       }
       answer.replaceChildren(...accountTable(rows));
     } catch (fault) { answer.replaceChildren(result(problemOf(fault))); }
@@ -58,13 +59,13 @@ function everyAccount() {
 
 function accountTable(rows) {
   if (rows.length === 0) return [h('p', {class: 'quiet'}, 'No account has been opened.')];
-  const columns = [['Account'], ['Holder', 'wide'], ['Status'], ...PLACES.map((p) => [p[0].toUpperCase() + p.slice(1), 'right'])];
+  const columns = [['Account'], ['Holder', 'wide'], ['Status'], ...PLACES.map((p) => [TITLES[p], 'right'])];
   const line = (name, holder, status, sums) => [name, holder, status, ...PLACES.map((p) => count(Number(sums[p])))];
   const all = Object.fromEntries(PLACES.map((p) => [p, rows.reduce((sum, f) => sum + Number(f[p]), 0)]));
   return [
-    table(`${count(rows.length)} account${rows.length === 1 ? '' : 's'}, certificates by place`, columns, [
-      ...rows.map((f) => line(h('a', {href: `#account/${f.account}`}, f.account), f.holder, f.status, f)),
-      Object.assign(line('All', '', '', all), {kind: 'total'})]),
+    table(rows.length === 1 ? t`1 account, certificates by place` : t`${count(rows.length)} accounts, certificates by place`, columns, [
+      ...rows.map((f) => line(h('a', {href: `#account/${f.account}`}, f.account), f.holder, t(f.status), f)),
+      Object.assign(line(t`All`, '', '', all), {kind: 'total'})]),
     h('div', {class: 'buttons'}, csvButton(`accounts-${rows[0].registry}-${rows[0].date}`, () => texts.asCsv(ACCOUNT, rows))),
   ];
 }
@@ -84,7 +85,7 @@ async function statement(a) {
     if (!months.has(month)) months.set(month, Object.fromEntries(PLACES.map((p) => [p, 0])));
     months.get(month)[line.kind] += line.count;
   }
-  const chart = bars('Certificates by month of production and by place', [...months].sort()
+  const chart = bars(t`Certificates by month of production and by place`, [...months].sort()
     .map(([name, sums]) => ({name, parts: PLACES.map((p) => [p, sums[p]])})));
 
   const columns = [['Certificates', 'range'], ['Count', 'right'], ['Device', 'wide'], ['Period', 'wide'],
@@ -94,11 +95,11 @@ async function statement(a) {
     between(l.first_day, l.last_day), l.tech, l.source,
     l.kind === 'cancelled' ? h('a', {href: `#document/${l.act}`}, place(l.kind, l.act)) : place(l.kind, l.act),
     l.kind === 'held' ? acts.filter((act) => act !== 'correct' || issued(l))
-      .map((act) => [h('a', {href: way(act, l), 'aria-label': `${act} ${l.first} to ${l.last}`}, act), ' ']) : '',
+      .map((act) => [h('a', {href: way(act, l), 'aria-label': t`${t(act)}: ${l.first} to ${l.last}`}, act), ' ']) : '',
   ], {kind: l.kind}));
-  const caption = `${count(lines.length)} run${lines.length === 1 ? '' : 's'} of certificates`;
+  const caption = lines.length === 1 ? t`1 run of certificates` : t`${count(lines.length)} runs of certificates`;
   return [
-    facts([['Account', f.account], ['Holder', f.holder], ['Status', f.status], ['Registry', f.registry], ['Date', f.date]], {class: 'head'}),
+    facts([['Account', f.account], ['Holder', f.holder], ['Status', t(f.status)], ['Registry', f.registry], ['Date', f.date]], {class: 'head'}),
     h('ul', {class: 'sums', 'aria-label': 'Certificates by place'}, PLACES.map((p) =>
       h('li', {class: f[p] === '0' ? 'none' : null}, h('b', {}, count(Number(f[p]))), place(p)))),
     lines.length ? h('section', {class: 'chart'}, h('h3', {}, 'By month of production'), chart) : null,
