@@ -13,6 +13,8 @@ export const language = [kept(), ...navigator.languages.map((of) => of.slice(0, 
 const words = language === 'en' ? {} : (await import(`./words-${language}.js`)).WORDS;
 document.documentElement.lang = language;
 if (language !== 'en') for (const e of document.querySelectorAll('.skip, .house, .top .facts, .quiet')) e.textContent = words[e.textContent] ?? e.textContent;      // what the page itself has
+if (language !== 'en') for (const e of document.querySelectorAll('[aria-label]')) e.ariaLabel = words[e.ariaLabel] ?? e.ariaLabel;
+if (language !== 'en') document.title = words[document.title] ?? document.title;
 
 /** Texts that the file of words lacks. */
 export const missing = new Set();

@@ -50,7 +50,7 @@ export async function everyItem(name, parameters) {
   const pageAt = (offset) => asked(name, {...parameters, limit: PAGE, offset});
   const pages = [await pageAt(0)], all = pages[0].sum?.[IN_ALL[parameters?.by]];
   if (all !== undefined) pages.push(...await Promise.all(Array.from({length: Math.max(0, Math.ceil(all / PAGE) - 1)}, (_, i) => pageAt((i + 1) * PAGE))));
-  while (pages.at(-1).next) pages.push(await pageAt(pages.at(-1).next));
+  else while (pages.at(-1).next) pages.push(await pageAt(pages.at(-1).next));
   return pages.flatMap(({items}) => items);
 }
 

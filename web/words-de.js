@@ -119,7 +119,8 @@ export const WORDS = {
   'This certificate was issued for another device, or by another registry.': 'Dieser Nachweis wurde für eine andere Anlage ausgestellt, oder von einem anderen Register.',
 
   // frame
-  'Pages': 'Seiten', '{}, registry of guarantees of origin': '{}, Register für Herkunftsnachweise', 'Check a cancellation, registry of guarantees of origin': 'Eine Entwertung prüfen, Register für Herkunftsnachweise',
+  'Pages': 'Seiten', 'Sign out': 'Abmelden', 'Signed out': 'Abgemeldet', 'This browser still keeps the sign-in': 'Dieser Browser hält die Anmeldung noch',
+  'Close all its windows: until then whoever sits here is signed in. What it had seen of your accounts is forgotten.': 'Schließen Sie alle seine Fenster: Bis dahin ist angemeldet, wer hier sitzt. Was er von Ihren Konten gesehen hatte, ist vergessen.', '{}, registry of guarantees of origin': '{}, Register für Herkunftsnachweise', 'Check a cancellation, registry of guarantees of origin': 'Eine Entwertung prüfen, Register für Herkunftsnachweise',
   'row {}: {}{}': 'Zeile {}: {}{}', 'Lot {} of {}': 'Posten {} von {}', ', of which the first {} are shown': ', die ersten {} davon sind gezeigt', 'Show the other {}': 'Die übrigen {} zeigen', '{} to {}': '{} bis {}',
 
   // statement
