@@ -274,7 +274,7 @@ class Seen:
         check("which stay chosen under another filter", f"{counts[1] + counts[4]:,} certificates" in b.text(".chosen"))
         self.readable(b, "holdings")
         b.picture("holdings")
-        b.picture("holdings-dark", widths=(1440,), dark=True)
+        b.picture("holdings-dark", dark=True)
         b.press("main button", "Choose all of these")
         wind = total(line for line in statement(self.place, 1)[0] if line[6] == "T020001")
         b.see(".chosen", f"{counts[1] + counts[4] + wind:,} certificates")
@@ -289,6 +289,7 @@ class Seen:
         check("with the documents", rows[2][7] == "notice 1" and rows[3][7] == "cancellation 1" and "Stadtwerke Nordheim" in rows[3][8], rows[2:4])
         self.readable(b, "history")
         b.picture("history")
+        b.picture("history-dark", dark=True)
         b.see(".filters [name=kind]").send_keys("transfer")
         b.see(".filters [name=outcome]").send_keys("accepted")
         rows = cells_once(b, lambda rows: len(rows) == 3)
@@ -493,6 +494,7 @@ class Seen:
         if again:
             return
         b.picture("issued")
+        b.picture("issued-dark", dark=True)
         self.readable(b, "what was issued")
         b.press("main .buttons button", "Save as CSV")
         path = b.downloads / "issued-january.csv"
@@ -558,6 +560,7 @@ class Seen:
         b.fill("bundle", taker="2")
         self.readable(b, "a selection")
         b.picture("selection")
+        b.picture("selection-dark", dark=True)
         b.press("form.bundle button.main", "Transfer 1,000")
         got = b.text("dialog[open]")
         check("the question tells how many, in how many requests, and both holders", all(text in got for text in ("1,000", "SUN, Sun Power GmbH", "VOLT, Volt Handel AG", "can’t be taken back")), got)
@@ -640,6 +643,7 @@ class Seen:
         check("anybody can check a document, and sees what the registry has", "They belong together" in b.text(".result") and "Stadtwerke Nordheim" in got, got)
         self.readable(b, "the public check")
         b.picture("verify")
+        b.picture("verify-dark", dark=True)
         b.see("[name=code]").send_keys("A")
         b.press("form.verify button")
         check("a wrong code is told", b.see(".result.bad", "do not belong together") and not b.d.find_elements(By.CSS_SELECTOR, ".sheet"))
