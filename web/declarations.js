@@ -78,7 +78,7 @@ function listOf(name, rows, answers, isIssued = false) {
   const some = failed.length && all.length > 400 ? failed : all;
   const caption = h('span', {}, written(name), `, ${rowsOf(rows.length)}`, some.length < all.length ? t`; ${count(some.length)} that failed` : '');
   return longTable(caption, isIssued ? [...COLUMNS, ...ISSUED] : COLUMNS, some.map(({fields: [key, device, first, last, gross, aux], number: at, answer}) => Object.assign(
-    [count(at), key, device, between(first ?? '', last ?? ''), grouped(gross), grouped(aux), answer ? answer.said : h('span', {class: 'quiet'}, t`not sent`), ...(isIssued ? issuedCells(answer?.issued) : [])],
+    [count(at), key, device, first || last ? between(first ?? '', last ?? '') : '', grouped(gross), grouped(aux), answer ? answer.said : h('span', {class: 'quiet'}, t`not sent`), ...(isIssued ? issuedCells(answer?.issued) : [])],
     {kind: answer?.word})));
 }
 
