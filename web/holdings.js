@@ -63,8 +63,8 @@ async function filters(account) {
   ];
 }
 
-const LOT = [[t`Device`, 'wide', 'site'], [t`Period`, 'wide', 'first_day'], [t`Technology`, 'wide', 'tech'], [t`Source`, 'wide', 'source'], [t`Country`, '', 'country'], [t`Carrier`, '', 'carrier'], [t`Support`, '', 'support'],
-  [t`Tradable until`, '', 'trade_until'], [t`Expires on`, '', 'expires_on']];
+const LOT = [[t`Device`, 'wide', 'site'], [t`Period`, 'wide', 'first_day'], [t`Technology`, 'wide', 'tech'], [t`Source`, 'wide', 'source'], [t`Country`, '', 'country'], [t`Carrier`, '', 'carrier'], [t`Support`, 'wide', 'support'],
+  [t`Tradable until`, 'wide', 'trade_until'], [t`Expires on`, 'wide', 'expires_on']];
 const lotCells = (of) => [[written(of.site), ' ', h('span', {class: 'code'}, of.device)], between(of.first_day, of.last_day), coded('tech', of.tech), coded('source', of.source), coded('country', of.country), t(of.carrier), t(of.support),
   day(of.trade_until), day(of.expires_on)];
 
