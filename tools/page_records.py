@@ -201,7 +201,7 @@ def english_in(b):
 
 
 COLUMNS = ("key", "device", "row")
-KEPT = re.compile(r"[A-Za-z]*_[a-z_]+|key,device[a-z_,]*|device,account[a-z_,]*|meter read twice")
+KEPT = re.compile(r"[A-Za-z]*_[a-z_]+|key,device[a-z_,]*|device,account[a-z_,]*|meter read twice|Electrolyser by the mill")
 """Columns of files, and what others wrote."""
 
 
