@@ -335,7 +335,7 @@ class Seen:
         b.press("nav button", "Deutsch")
         b.see("h1", "Ihre Konten")
         check("the switch turns the page to German, with its numbers", f"{self.held(1):,}".replace(",", ".") in b.text("table") and b.d.execute_script("return document.documentElement.lang") == "de")
-        self.german_pages({"holdings/1": "Bestand", "deadlines": "Fristen", "history": "Verlauf", "act/3": "Vorgang 3", **{f"lists/{name}": "" for name in LISTS}, "document/1": "Entwertung 1", "account/1": "Konto",
+        self.german_pages({"holdings/1": "Bestand", "deadlines": "Fristen", "history": "Verlauf", "act/1": "Vorgang 1", **{f"lists/{name}": "" for name in LISTS}, "document/1": "Entwertung 1", "account/1": "Konto",
                            "look-up/07000000000848": "Nachschlagen", "cancel": "Entwerten", "export": "Exportieren", "transfer": "Übertragen"})
         b.picture("transfer-german")
         b.go("holdings/1")
