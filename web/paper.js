@@ -48,7 +48,7 @@ export const lines = (...texts) => texts.filter(Boolean).map((text) => h('span',
 const lotRow = (lot) => [between(number(lot.first), number(lot.last)), count(lot.count), between(lot.first_day, lot.last_day),
   lines(written(lot.site), h('span', {class: 'code'}, lot.device), coded('country', lot.country)),
   lines(coded('tech', lot.tech), coded('source', lot.source), t(lot.carrier)),
-  lines(power(lot.capacity_w), t`since ${lot.commissioned}`, SUPPORT[lot.support] ?? lot.support),
+  lines(power(lot.capacity_w), h('span', {class: 'end'}, t`since ${lot.commissioned}`), SUPPORT[lot.support] ?? lot.support),
   lines(day(lot.issued_on), issuingBody(lot.origin))];
 
 /** Several cancellations that aren't for one and the same use: a row each. */
