@@ -146,6 +146,8 @@ class Browser:
             return
         self.d.execute_cdp_cmd("Emulation.setEmulatedMedia", {"media": "print" if printed else "screen",
                                "features": [{"name": "prefers-color-scheme", "value": "dark" if dark else "light"}]})
+        self.d.execute_cdp_cmd("Input.dispatchMouseEvent", {"type": "mouseMoved", "x": 0, "y": 0})        # over nothing that shows it
+        self.d.execute_script("for (const e of document.querySelectorAll('.chosen')) e.style.position = 'static'")     # it would stand in the middle of a picture of the whole page
         for width in widths:
             self.size(width, 640 if width < 600 else 900)
             wide = self.d.execute_script("return document.documentElement.scrollWidth")

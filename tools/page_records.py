@@ -1,8 +1,13 @@
 """A place with the log of requests and the records of acts beside the registry, and the trials of the page in it. For tools/page."""
-import calendar, json, http.client, os, subprocess, sys, time
+import calendar, csv, http.client, json, os, re, subprocess, sys, time
 
-from browser import By, SECONDS
+from selenium.webdriver.common.action_chains import ActionChains
+
+from browser import SECONDS, By, Keys
 from loopback import HOME, Place, free_port, wait_for
+
+sys.path.append(str(HOME / "deploy"))
+import entries, rules
 
 PLANTS = [("T010000", "F01040100", "DE", "electricity", "Solarpark Nordfeld", "none"), ("T020001", "F01050100", "AT", "electricity", "Windpark Parndorf", "investment"),
           ("T030000", "F01050200", "DE", "hydrogen", "Electrolyser by the mill", "production"), ("T050000", "F01030400", "FR", "gas", "Biogaz de la Loire", "both")]
@@ -148,6 +153,58 @@ def cells_once(b, holds):
     return rows
 
 
+FOCUSED = """const e = document.activeElement, s = getComputedStyle(e);
+return [e.matches(arguments[0]) && (e.innerText ?? '').includes(arguments[1]), e === document.body || s.outlineStyle !== 'none' && parseFloat(s.outlineWidth) >= 2, e.outerHTML.slice(0, 120)]"""
+
+
+class Hands:
+    """A person without a mouse: keys alone. `unseen` is what had the focus and no ring around it."""
+
+    def __init__(self, b):
+        self.b, self.unseen = b, []
+
+    def keys(self, *keys):
+        ActionChains(self.b.d).send_keys(*keys).perform()
+
+    def is_at(self, css, text=""):
+        return self.b.d.execute_script(FOCUSED, css, text)[0]
+
+    def tab_to(self, css, text="", back=False):
+        seen = []
+        for _ in range(200):
+            ActionChains(self.b.d).key_down(Keys.SHIFT).send_keys(Keys.TAB).key_up(Keys.SHIFT).perform() if back else self.keys(Keys.TAB)
+            is_there, has_ring, what = self.b.d.execute_script(FOCUSED, css, text)
+            seen.append(what)
+            if not has_ring:
+                self.unseen.append(what)
+            if is_there:
+                return
+        raise AssertionError(f"Tab does not reach {css} {text!r}, but {seen[:40]}")
+
+    def press(self, css, text="", key=Keys.ENTER):
+        self.tab_to(css, text)
+        self.keys(key)
+
+
+LISTS = ("devices", "declarations", "corrections", "cancellations", "withdrawals", "notices", "entered", "statistics")
+ENGLISH = re.compile(r"\b(the|and|with|this|that|these|of|from|been|not|were|are|is|by|for|has|have|to|certificates?|account|holder|registry|day|row|period|device|count|issued?|held|none|cancelled|expired|withdrawn|exported|accepted|refused)\b", re.I)
+"""Words that no German text has."""
+
+
+def english_in(b):
+    """Texts on the page that have an English word in them."""
+    texts = b.d.execute_script("""const found = [], walk = document.createTreeWalker(document.body, NodeFilter.SHOW_TEXT);
+        while (walk.nextNode()) { const e = walk.currentNode.parentElement; if (walk.currentNode.data.trim() && !e.closest('bdi, button.language, .name, script, noscript')) found.push(walk.currentNode.data.trim()); }
+        for (const e of document.querySelectorAll('[aria-label], [title], [data-name]')) found.push(...[e.ariaLabel, e.title, e.dataset.name].filter(Boolean));
+        return [...new Set(found)]""")
+    return [text for text in texts if text not in COLUMNS and ENGLISH.search(KEPT.sub("", text))]
+
+
+COLUMNS = ("key", "device", "row")
+KEPT = re.compile(r"[A-Za-z]*_[a-z_]+|key,device[a-z_,]*|device,account[a-z_,]*|meter read twice|Electrolyser by the mill")
+"""Columns of files, and what others wrote."""
+
+
 # -------------------------------------------------------------------- own accounts, holdings, history, deadlines
 
 class Seen:
@@ -217,7 +274,7 @@ class Seen:
         check("which stay chosen under another filter", f"{counts[1] + counts[4]:,} certificates" in b.text(".chosen"))
         self.readable(b, "holdings")
         b.picture("holdings")
-        b.picture("holdings-dark", widths=(1440,), dark=True)
+        b.picture("holdings-dark", dark=True)
         b.press("main button", "Choose all of these")
         wind = total(line for line in statement(self.place, 1)[0] if line[6] == "T020001")
         b.see(".chosen", f"{counts[1] + counts[4] + wind:,} certificates")
@@ -232,6 +289,7 @@ class Seen:
         check("with the documents", rows[2][7] == "notice 1" and rows[3][7] == "cancellation 1" and "Stadtwerke Nordheim" in rows[3][8], rows[2:4])
         self.readable(b, "history")
         b.picture("history")
+        b.picture("history-dark", dark=True)
         b.see(".filters [name=kind]").send_keys("transfer")
         b.see(".filters [name=outcome]").send_keys("accepted")
         rows = cells_once(b, lambda rows: len(rows) == 3)
@@ -273,18 +331,189 @@ class Seen:
     def german(self):
         """The switch, and every text of the pages in German."""
         b, check = self.b, self.check
-        b.go("", "table")
+        b.load("", "table")
         b.press("nav button", "Deutsch")
         b.see("h1", "Ihre Konten")
         check("the switch turns the page to German, with its numbers", f"{self.held(1):,}".replace(",", ".") in b.text("table") and b.d.execute_script("return document.documentElement.lang") == "de")
-        for page, title in (("holdings/1", "Bestand"), ("history", "Verlauf"), ("lists/devices", "Anlagen"), ("document/1", "Entwertung 1"), ("transfer", "Übertragen")):
-            b.go(page)
-            check(f"#{page} in German", b.see("h1", title))
+        self.german_pages({"holdings/1": "Bestand", "deadlines": "Fristen", "history": "Verlauf", "act/1": "Vorgang 1", **{f"lists/{name}": "" for name in LISTS}, "document/1": "Entwertung 1", "account/1": "Konto",
+                           "look-up/07000000000848": "Nachschlagen", "cancel": "Entwerten", "export": "Exportieren", "transfer": "Übertragen"})
         b.picture("transfer-german")
-        lacking = b.script("return [...(await import('/language.js')).missing]")
-        check("no text lacks its German", lacking == [], lacking)
-        b.press("nav button", "English")
-        b.see("h1", "Transfer")
+        b.go("holdings/1")
+        b.picture("holdings-german")
+        self.english()
+
+    def german_pages(self, pages):
+        """Each of these, by its address, has this heading, and no text that is not German."""
+        for page, title in pages.items():
+            self.b.go(page)
+            self.check(f"#{page} in German", self.b.see("h1", title))
+            self.b.d.execute_async_script("setTimeout(arguments[0], 50)")
+            wait_until(lambda: not self.b.d.find_elements(By.CSS_SELECTOR, "[aria-busy]"), "the list")
+            found = english_in(self.b)
+            self.check(f"#{page} has no English in it", not found, found)
+        lacking = self.b.script("return [...(await import('/language.js')).missing]")
+        self.check("no text lacks its German", lacking == [], lacking)
+
+    def english(self):
+        self.b.press("nav button", "English")
+        self.b.see("nav button", "Deutsch")
+
+    def german_of_issuer(self):
+        """The pages of the issuing body in German: lists, forms, a file with slips and one that is sent."""
+        b, check = self.b, self.check
+        b.load("", "h1")
+        b.press("nav button", "Deutsch")
+        b.see("nav button", "English")
+        self.german_pages({"audit": "Prüfung", "register": "Eintragen", "account": "Konten", "correct": "Berichtigen", "withdraw": "Zurückziehen", "exchange": "Austausch", "date": "Datum", "lists/holders": "Inhaber",
+                           "lists/entered": "Von der ausstellenden Stelle eingegeben", "declare": "Erzeugung melden"})
+        self.upload_file("slips-de.csv", ["s1,600000000000000012,2025-01-01,2025-01-31,1.5,0", "s2,5.00E+17,2025-13-01,,1,0", f"s3,{gsrn(1)},2025-01-01,2025-02-01,1,2"])
+        got = b.text(".result.bad")
+        check("slips of a file are told in German", "Nichts wurde gesendet: 3 Zeilen von 3 haben Fehler" in got and not english_in(b), (got, english_in(b)))
+        b.picture("slips-german")
+        self.english()
+
+    def public_in_german(self):
+        b, check = self.b, self.check
+        b.d.get(f"https://localhost:{self.place.port}/verify.html")
+        b.d.execute_script("localStorage.setItem('goo/language', 'de')")
+        self.ask_public(*Seen.paper)
+        got = b.text("article.sheet", "1.200 MWh")
+        check("the public check in German: page, title and document", "Sie gehören zusammen" in b.text(".result") and "Energie, genutzt von" in got and "Prüfung eines Entwertungsnachweises" in b.text(".top")
+              and b.d.title.startswith("Eine Entwertung prüfen") and not english_in(b), (got, b.d.title, english_in(b)))
+        b.picture("verify-german")
+        self.ask_public(Seen.paper[0], "AAAA-AAAA-AAAA-AAAA")
+        check("and a wrong code", "Sie gehören nicht zusammen" in b.text(".result.bad") and not english_in(b), english_in(b))
+        b.d.execute_script("localStorage.clear()")
+
+    def ask_public(self, numbers, code):
+        b = self.b
+        b.d.get(f"https://localhost:{self.place.port}/verify.html")
+        b.see("[name=number]").send_keys(numbers)
+        b.see("[name=code]").send_keys(code)
+        b.press("form.verify button")
+
+    # ---------------------------------------------------------------- without a mouse
+
+    def by_keyboard(self):
+        """From the first page to a transfer, a cancellation and its document by keys alone. To sign in is the browser's own question."""
+        b, check, hands = self.b, self.check, Hands(self.b)
+        b.load("", "table")
+        hands.keys(Keys.TAB)
+        check("the first Tab reaches the way to the content", hands.is_at("a.skip", "Skip to the content"))
+        hands.press("nav a", "Holdings")
+        b.see(".summed")
+        check("another page has the focus", hands.is_at("main"))
+        hands.press(".filters [name=tradable]", key=Keys.SPACE)
+        hands.tab_to(".filters [name=tech]", back=True)
+        hands.keys("Wind")
+        wind = total(line for line in statement(self.place, 1)[0] if line[6] == "T020001" and line[5] >= "2024-03-01")
+        b.see(".summed b", f"{wind:,} certificates")
+        hands.press("th.right button.head", "Count")
+        b.see("th.right button.head", "Count \u2191")
+        check("a head that sorts keeps the focus", hands.is_at("th.right button.head", "Count"))
+        hands.press("td.pick input", key=Keys.SPACE)
+        chosen = int(b.text(".chosen b").split()[0].replace(",", ""))
+        hands.press(".chosen button.main", "Transfer")
+        b.see("form.bundle")
+        self.transfer_by_keys(hands, chosen)
+        self.cancel_by_keys(hands)
+        check("and whatever has the focus is seen to have it", not hands.unseen, hands.unseen)
+
+    def transfer_by_keys(self, hands, chosen):
+        b, check, before = self.b, self.check, [self.held(account) for account in (1, 2)]
+        hands.press("form.bundle [name=taker]", key="2\n")
+        b.see("dialog[open]")
+        hands.keys(Keys.ESCAPE)
+        b.gone("dialog[open]")
+        check("a question that is left gives the focus back to the field", hands.is_at("form.bundle [name=taker]"))
+        hands.press("form.bundle button.main", "Transfer")
+        b.see("dialog[open]")
+        hands.keys(Keys.ESCAPE)
+        b.gone("dialog[open]")
+        check("or to the button", hands.is_at("form.bundle button.main"))
+        hands.keys(Keys.ENTER)
+        b.see("dialog[open]")
+        inside = []
+        for _ in range(5):
+            inside.append(hands.is_at("dialog *") or hands.is_at("body"))
+            hands.keys(Keys.TAB)
+        check("a question keeps the focus", all(inside), inside)
+        hands.press("dialog button.main")
+        b.see("main .result", "accepted")
+        check(f"{chosen} are transferred by keys", [self.held(account) for account in (1, 2)] == [before[0] - chosen, before[1] + chosen], before)
+
+    def cancel_by_keys(self, hands):
+        b, check = self.b, self.check
+        number = next(line[0] for line in statement(self.place, 1)[0] if line[4] >= "2024-10-01")
+        hands.press("nav a", "Cancel")
+        b.see("form.cancel")
+        for name, text in (("account", "1"), ("first", number), ("last", number), ("beneficiary", "Bahnhof Nordheim"), ("use_first", "10102024"), ("use_last", "12122024")):      # in whatever order the browser wants day and month
+            hands.tab_to(f"form.cancel [name={name}]")
+            hands.keys(text)
+        typed = b.d.execute_script("return [...document.querySelectorAll('form.cancel input')].map(e => e.value)")
+        check("fields are filled by keys, days as the browser has them", typed == ["1", number, number, "Bahnhof Nordheim", "2024-10-10", "2024-12-12"], typed)
+        hands.press("form.cancel button[type=submit]")
+        b.see("dialog[open]")
+        hands.keys(Keys.ENTER)
+        b.see("form.cancel .result", "1 certificate cancelled")
+        hands.press("form.cancel .result a", "Document")
+        b.see("article.sheet", "Bahnhof Nordheim")
+        b.d.execute_script("window.print = () => { window.printed = true }")
+        hands.press("main .buttons button", "Print")
+        check("a certificate is cancelled and its document printed by keys", b.d.execute_script("return window.printed === true"))
+
+    # ---------------------------------------------------------------- a file of declarations, and who entered what
+
+    def upload_file(self, name, rows):
+        file = self.place.dir / name
+        file.write_text("\n".join(["key,device,first_day,last_day,gross_wh,aux_wh", *rows, ""]))
+        self.b.go("declare")
+        self.b.see(".drop input").send_keys(str(file))
+
+    def upload(self):
+        """What each row of a file issued: count and numbers, by the registry's own statement; or why not."""
+        b, place = self.b, self.place
+        rows = [f"u1,{gsrn(1)},2025-01-01,2025-01-31,12345678,0", f"u2,{gsrn(2)},2025-01-01,2025-01-31,999,0", f"u3,{gsrn(1)},2025-02-01,2025-02-28,7000000,0", f"u4,{gsrn(3)},2025-01-01,2025-01-31,1,0",
+                f"u5,{gsrn(3)},2025-02-01,2025-02-28,9000000000000,0"]
+        for again in (False, True):
+            self.upload_file("january.csv", rows[:1] if again else rows)
+            b.press("main .buttons button.main", "Declare")
+            b.press("dialog[open] button.main")
+            b.see("main p.quiet", "certificates were issued for these rows")
+            self.uploaded(statement(place, 1)[0], again)
+
+    def uploaded(self, held, again):
+        """The table that the page shows against the statement's lines of these periods."""
+        b, check = self.b, self.check
+        lines = {(line[3], line[4]): line for line in held if line[4] >= "2025-01-01"}
+        seen = [[re.sub(r"[ ,]", "", cell) for cell in row] for row in cells(b)]
+        for row in seen:
+            line = next((line for (device, day), line in lines.items() if device in row[2] and row[3].startswith(day)), None)
+            wanted = [line[2], f"{line[0]}to{line[1]}"] if line else ["0", ""] if "accepted" in row[6] else ["", ""]
+            check(f"{row[1]}{' again' if again else ''}: what was issued by the statement, or why nothing was: {row[6][:40]}", row[7:] == wanted and (wanted[0] != "" or "OverCapacity" in row[6]), (row, wanted))
+        if again:
+            return
+        b.picture("issued")
+        b.picture("issued-dark", dark=True)
+        self.readable(b, "what was issued")
+        b.press("main .buttons button", "Save as CSV")
+        path = b.downloads / "issued-january.csv"
+        wait_until(path.exists, path.name)
+        saved = list(csv.DictReader(open(path, newline="", encoding="utf-8")))
+        check("and it is saved as CSV, row by row", [[of["row"], of["outcome"], of["count"], of["first"]] for of in saved] == [[row[0], re.match("[a-z]+", row[6])[0], row[7], row[8][:14]] for row in seen]
+              and "OverCapacity" in saved[-1]["reason"], saved)
+
+    def entered(self):
+        """All that the issuing body entered, by user."""
+        b, check = self.b, self.check
+        b.go("lists/entered", "table")
+        place_wide = self.place.asked("office", "acts?caller=ISSUER&limit=1000")["items"]
+        check("the list of what the issuing body entered has no act of a holder", {row[1] for row in cells(b)} <= {"issue", "device registered", "account opened", "holder opened", "withdrawal", "registry added"}, cells(b)[:3])
+        b.picture("lists-entered")
+        b.see(".filters [name=user]").send_keys("office", Keys.ENTER)
+        own = sum(act["user"] == "office" for act in place_wide)
+        rows = cells_once(b, lambda rows: len(rows) == min(own, 100))
+        check("filtered by user, it has the acts of this user", len(rows) == min(own, 100) and all("by office" in row[8] for row in rows), (own, len(rows)))
 
     def devices(self):
         """Many devices by CSV: nothing is sent while a row is at fault; then each is registered."""
@@ -331,6 +560,7 @@ class Seen:
         b.fill("bundle", taker="2")
         self.readable(b, "a selection")
         b.picture("selection")
+        b.picture("selection-dark", dark=True)
         b.press("form.bundle button.main", "Transfer 1,000")
         got = b.text("dialog[open]")
         check("the question tells how many, in how many requests, and both holders", all(text in got for text in ("1,000", "SUN, Sun Power GmbH", "VOLT, Volt Handel AG", "can’t be taken back")), got)
@@ -413,6 +643,7 @@ class Seen:
         check("anybody can check a document, and sees what the registry has", "They belong together" in b.text(".result") and "Stadtwerke Nordheim" in got, got)
         self.readable(b, "the public check")
         b.picture("verify")
+        b.picture("verify-dark", dark=True)
         b.see("[name=code]").send_keys("A")
         b.press("form.verify button")
         check("a wrong code is told", b.see(".result.bad", "do not belong together") and not b.d.find_elements(By.CSS_SELECTOR, ".sheet"))
@@ -442,39 +673,87 @@ def spread(numbers):
     return [number for first, _, last in ends for number in range(int(first), int(last or first) + 1)]
 
 
-def many_lots(place):
-    """Ten thousand lots of a megawatt-hour each for the holder BIG."""
-    devices, days = 40, 250
-    for i in range(devices):
-        place.request("ISSUER", "register_device", device=gsrn(500 + i), account=4, country="DE", site=f"Roof {i}", tech="T010000", source="F01040100", capacity_w=2000000, commissioned="2020-06-15", support="none")
-    table = [f"b{i}-{m}-{d},{gsrn(500 + i)},2024-{m:02}-{d:02},2024-{m:02}-{d:02},1000000,0" for i in range(devices) for n in range(days) for m, d in [(n // 25 + 3, n % 25 + 1)]]
-    for at in range(0, len(table), 2000):
-        rows = "\n".join(["key,device,first_day,last_day,gross_wh,aux_wh", *table[at:at + 2000], ""])
-        while not (told := place.post("ISSUER", rows)).startswith(("1 accepted", "1 repeated")):     # a log under load answers 503, and carries it out all the same
-            print(f"     ten thousand lots: {told[:80]!r}, sent again", flush=True)
-            time.sleep(2)
-    place.followed()
-    return devices * days
+LOT_DEVICES, LOT_DAYS = 40, 250
+LOTS = LOT_DEVICES * LOT_DAYS
+
+
+class OfManyLots(WithRecords):
+    """The same with a book of ten thousand lots of a megawatt-hour each, every one a run of its own, in account 1 of BIG. The log was written here and rules.py gave its answers:
+    the registry behind this door, which would take minutes, is empty."""
+
+    def begin_log(self):
+        archive, model = entries.Archive(self.dir / "replica/archive"), rules.Registry(self.code, self.day, 1)
+        self.written = ["0" * 64, entries.NO_CHAIN, 0]
+        plants = [{"command": "register_device", "device": gsrn(500 + i), "account": 1, "country": "DE", "site": f"Roof {i}", "tech": "T010000", "source": "F01040100", "capacity_w": 2000000,
+                   "commissioned": "2020-06-15", "support": "none"} for i in range(LOT_DEVICES)]
+        for command in [{"command": "open_holder", "holder": "BIG", "name": "Viele Läufe"}, {"command": "open_account", "holder": "BIG"}, *plants]:
+            model.apply("ISSUER", command)
+            self.write(archive, "/v1/requests", json.dumps({**command, "key": f"k{self.written[2]}"}), '{"outcome":"accepted","reply":{}}')
+        days = [f"2024-{n // 25 + 3:02}-{n % 25 + 1:02}" for n in range(LOT_DAYS)]
+        for plant in plants:
+            rows = "".join(f"{plant['device']}-{day},{plant['device']},{day},{day},1000000,0\n" for day in days)
+            self.write(archive, "/v1/declarations", f"key,device,first_day,last_day,gross_wh,aux_wh\n{rows}", "".join(f"{row} accepted\n" for row in range(1, LOT_DAYS + 1)))
+        archive.sync()
+
+    def write(self, archive, route, body, answer):
+        """An entry with its outcome, as a replica archives them."""
+        before, chain, n = self.written
+        entry = entries.Entry(n=n + 1, prev=before, time="2025-03-01T09:00:00.000000Z", host="h", user="office", address="", role="full", caller="ISSUER", method="POST", route=route, version="trial",
+                              id=f"{n + 1:x}", body=body.encode())
+        line, outcome = entries.written(entry, b"a key of the trial of a page"), entries.decided(route, 200, answer.encode(), chain)
+        archive.add(line, entry, outcome)
+        self.written = [entries.hash_of(line), outcome.chain, n + 1]
 
 
 PUBLIC = "nemo"
 """Whose browser stands for anybody's: he signs in nowhere here."""
-STEPS = {"office": ["devices"], "anna": ["accounts", "holdings", "history", "names", "lists", "german", "quantity", "lost_in_the_middle", "cancel_many", "export_many"], "bela": ["of_other"], PUBLIC: ["public"]}
-IN_QUICK = {"anna": ["accounts", "lost_in_the_middle", "cancel_many"], PUBLIC: ["public"]}
+STEPS = [("anna", ["accounts", "holdings", "history", "names", "lists", "quantity", "lost_in_the_middle", "cancel_many", "export_many", "by_keyboard", "german"]), ("bela", ["of_other"]),
+         ("office", ["devices", "upload", "entered", "german_of_issuer"]), (PUBLIC, ["public", "public_in_german"])]
+IN_QUICK = [("anna", ["accounts", "lost_in_the_middle", "cancel_many", "by_keyboard"]), ("office", ["upload", "german_of_issuer"]), (PUBLIC, ["public"])]
+
+
+class Costs:
+    """What something that is done costs the page, by no clock: requests to the records, layouts, and rows that are there in the end."""
+
+    def __init__(self, b, check):
+        self.b, self.check = b, check
+        b.d.execute_cdp_cmd("Performance.enable", {})
+
+    def layouts(self):
+        return next(of["value"] for of in self.b.d.execute_cdp_cmd("Performance.getMetrics", {})["metrics"] if of["name"] == "LayoutCount")
+
+    def of(self, what, do, requests, rows):
+        heads, layouts, begun = len(self.b.place.records.heads), self.layouts(), time.monotonic()
+        do()
+        took, drawn = time.monotonic() - begun, self.b.d.execute_script("return document.querySelectorAll('tbody tr').length")
+        asked, laid = len(self.b.place.records.heads) - heads, self.layouts() - layouts
+        self.check(f"of {LOTS:,} lots, {what}: {asked} requests of at most {requests}, {drawn} rows of at most {rows}, {laid} layouts of at most {LAYOUTS}; it took {took:.1f} s",
+                   asked <= requests and drawn <= rows and laid <= LAYOUTS, (asked, drawn, laid))
+
+
+LAYOUTS = 60
+"""Most of one deed: those of its waiting among them, and far below one for each row."""
+PAGE, MANY_ROWS = 100, 400
+"""Rows of a list that are drawn at once, and of a long table."""
 
 
 def ten_thousand(b, check):
-    """The first page of ten thousand lots is there within seconds, and the sum is of all."""
-    lots = many_lots(b.place)
-    begun = time.monotonic()
-    b.go("holdings/4", ".summed")
-    took = time.monotonic() - begun
-    check(f"of {lots:,} lots a hundred are drawn, in {took:.1f} s, and the sum is of all", len(cells(b)) == 100 and f"{lots:,} certificates" in b.text(".summed") and took < 15, took)
-    b.press("main .buttons button", "Next page")
-    b.see("main .buttons button", "Page before")
-    b.press("main button", "Choose all of these")
-    b.see(".chosen", f"{lots:,} certificates")
-    check("all are chosen, over all pages", True)
+    """Whoever has ten thousand lots waits for a few requests and a hundred rows."""
+    b.sign_in()
+    costs, all_pages = Costs(b, check), -(-LOTS // 1000)
+    choose = lambda: (b.press("main button", "Choose all of these"), b.see(".chosen", f"{LOTS:,} certificates"))
+    costs.of("the first page", lambda: b.go("holdings/1", ".summed"), 6, PAGE)
+    check("and the sum is of all", f"{LOTS:,} certificates in {LOTS:,} lots" in b.text(".summed"), b.text(".summed"))
+    costs.of("the next page", lambda: (b.press("main .buttons button", "Next page"), b.see("main .buttons button", "Page before")), 1, PAGE)
+    costs.of("sorted by count", lambda: (b.press("th.right button.head", "Count"), b.see("th.right button.head", "Count \u2191")), 1, PAGE)
+    costs.of("filtered", lambda: (b.see(".filters [name=q]").send_keys("Roof 7\n"), b.see(".summed b", f"{LOT_DAYS:,} certificates")), 2, PAGE)
+    costs.of("all again", lambda: b.go("holdings/1", ".summed"), 6, PAGE)
+    costs.of("all chosen", choose, all_pages, PAGE)
+    costs.of("the way to withdraw them", lambda: (b.press(".chosen button", "Withdraw"), b.see("form.bundle")), all_pages + 4, MANY_ROWS)
+    check("ranges that follow one another are one, of up to a hundred lots", f"{LOTS // 100:,}" in b.text("dl.head", "Ranges"), b.text("dl.head"))
+    costs.of("run by run", lambda: b.go("holdings/1/by=run", ".summed"), 6, PAGE)
+    costs.of("a quantity", lambda: (b.see("#quantity").send_keys("4,567"), b.press(".quantity button", "Choose"), b.see(".chosen", "4,567 certificates")), 1, PAGE)
+    costs.of("the history of the account", lambda: b.go("history/1", "table"), 1, PAGE)
 
 
 def trials(browsers, check, readable, quick):
@@ -482,8 +761,10 @@ def trials(browsers, check, readable, quick):
     try:
         with WithRecords(rate=200, cost=4) as place:
             world(place)
-            for user, steps in (IN_QUICK if quick else STEPS).items():
+            for user, steps in IN_QUICK if quick else STEPS:
                 tried(Seen(browsers.of(user, place), check, readable), steps)
+        with OfManyLots(rate=200, cost=4) as place:
+            ten_thousand(browsers.of("office", place), check)
     except Exception as e:
         check("the records to the end", False, f"{type(e).__name__}: {e}")
 

@@ -5,13 +5,14 @@ import {excess} from './audit.js';
 import {manyDevices} from './devices.js';
 import {noticeAsk, noticeButton} from './documents.js';
 import {drop, field, form} from './forms.js';
+import {t} from './language.js';
 import {bodyOf, newKey, submit} from './registry.js';
 import {session, memory, today} from './session.js';
 import * as words from './words.js';
 
 const own = () => Object.entries(memory.get().accounts).find(([, holder]) => holder === session.caller)?.[0];
 const range = (a, first, last) => ({giver: a ?? own(), account: a ?? own(), first, last});
-const see = (a) => h('p', {}, h('a', {href: `#account/${a}`}, `Statement of account ${a}`));
+const see = (a) => h('p', {}, h('a', {href: `#account/${a}`}, t`Statement of account ${a}`));
 
 export const transfer = (...p) => [h('h1', {}, 'Transfer'),
   form('transfer', {filled: range(...p), after: (o, v) => o.good && see(v.giver)})];
@@ -19,7 +20,7 @@ export const transfer = (...p) => [h('h1', {}, 'Transfer'),
 export const cancel = (...p) => [h('h1', {}, 'Cancel'),
   h('p', {class: 'lead'}, 'Cancelling uses certificates up: it discloses the origin of energy that somebody has used.'),
   form('cancel', {filled: range(...p), after: (o) => o.good &&
-    h('p', {}, h('a', {href: `#document/${o.reply.cancellation}`}, `Document of cancellation ${o.reply.cancellation}, for printing`))})];
+    h('p', {}, h('a', {href: `#document/${o.reply.cancellation}`}, t`Document of cancellation ${o.reply.cancellation}, for printing`))})];
 
 export const exporting = (...p) => [h('h1', {}, 'Export'),
   form('export', {filled: {...range(...p), account: undefined}, after: (o) => o.good && noticeButton(o.reply.notice)}), noticeAsk()];
@@ -39,12 +40,12 @@ export function correct(a, first, last, device, day) {
     if (by.device.empty() || by.less_wh.empty() || by.device.error() || by.less_wh.error()) return '';
     const n = await excess(by.device.value(), BigInt(by.less_wh.value())).catch(() => null);       // it is only advice
     if (n == null) return '';
-    if (n === 0n) return 'No certificate is in excess: leave both numbers empty.';
+    if (n === 0n) return t`No certificate is in excess: leave both numbers empty.`;
     const isFree = [filled, ''].includes(by.last.box.value) && document.activeElement !== by.last.box;   // nobody types there
     if (!by.first.empty() && !by.first.error() && isFree) {
       by.last.box.value = filled = String(BigInt(by.first.value()) + n - 1n).padStart(14, '0');
     }
-    return `${count(n)} certificate${n === 1n ? ' is' : 's are'} in excess: name as many of this device’s that are held.`;
+    return n === 1n ? t`1 certificate is in excess: name one of this device’s that is held.` : t`${count(n)} certificates are in excess: name as many of this device’s that are held.`;
   };
   return [h('h1', {}, 'Correct'),
     h('p', {class: 'lead'}, 'Lowers what a device declared for a period. Certificates that are then in excess are withdrawn: any of the device’s own, from whatever period, that are still held.'),
@@ -60,12 +61,12 @@ export function date() {
     again.node.remove();
     day.node.after(again.node);
     if (again.box.value) again.say('The two days differ.');
-    day.say(`${day.value()} is after today, ${today()}, by the server’s clock. The date never moves back: type the day once more if it is meant.`);
+    day.say(t`${day.value()} is after today, ${today()}, by the server’s clock. The date never moves back: type the day once more if it is meant.`);
     again.box.focus();
     return true;
   };
   return [h('h1', {}, 'Date'),
-    h('p', {class: 'lead'}, memory.get().date ? `Last seen: ${memory.get().date}. ` : '', 'The registry keeps its own date. It is moved automatically each night; move it by hand only if that failed.'),
+    h('p', {class: 'lead'}, memory.get().date ? t`Last seen: ${memory.get().date}. ` : '', 'The registry keeps its own date. It is moved automatically each night; move it by hand only if that failed.'),
     form('advance', {stops, after: (o, v) => { if (o.good) memory.put((s) => { s.date = v.day; }); return null; }})];
 }
 
@@ -78,12 +79,12 @@ export function exchange() {
     try { n = JSON.parse(text); } catch { shown.replaceChildren(result(words.fault('NotJson'))); return; }
     if (!Array.isArray(n?.parts) || n.parts.some((p) => p === null || typeof p !== 'object')) { shown.replaceChildren(result(words.fault('Shape'))); return; }
     const size = n.parts.reduce((s, p) => s + Number(p.last) - Number(p.first) + 1, 0);
-    const carriers = [...new Set(n.parts.map((p) => String(p.lot?.carrier ?? 'electricity')))].join(', ');
+    const carriers = [...new Set(n.parts.map((p) => t(String(p.lot?.carrier ?? 'electricity'))))].join(', ');
     const button = h('button', {type: 'button', class: 'main', onclick: async () => {
       button.disabled = true;
       const key = newKey();
       const outcome = await submit(session.caller, {key, command: 'import', path: '/v1/requests', body: bodyOf('import', key, {}, text),
-        told: `Import of notice ${n.number} of registry ${n.sender}`});
+        told: t`Import of notice ${n.number} of registry ${n.sender}`});
       shown.replaceChildren(result(outcome, outcome.good && see(n.account)));
       document.dispatchEvent(new CustomEvent('answered'));
     }}, 'Import');

@@ -2,12 +2,12 @@
 // bundle is kept in localStorage, each range with its key, and each answer as it comes. So a bundle that was interrupted goes
 // on where it stopped; what was sent and not answered is sent again under its key, and is not done twice.
 
-import {h, longTable, facts, number, between, count, result, csvButton} from './dom.js';
+import {h, busy, longTable, facts, number, between, count, result, csvButton} from './dom.js';
 import {chosen} from './chosen.js';
 import {COMMANDS} from './commands.js';
 import {aboutName, aboutUse} from './doubts.js';
 import {field, named, sure} from './forms.js';
-import {t} from './language.js';
+import {known, t} from './language.js';
 import {asList} from './paper.js';
 import {asked, everyItem, holderOf} from './records.js';
 import {bodyOf, newKey, pause, send} from './registry.js';
@@ -16,7 +16,9 @@ import * as texts from './texts.js';
 import {problemOf} from './words.js';
 
 const MOST_LOTS = 100;                         // of one request: an export takes no more
+const BLOCK = 100;                             // answers that are kept together
 const prefix = () => `goo/bundle/${session.caller}/`;
+const block = (bundle, from) => `goo/bundle-answers/${session.caller}/${bundle.id}/${from}`;
 const underway = new Set();
 /** The commands that take a selection; the field of the account that it is taken from; its way on the toolbar. */
 const GIVER = {transfer: 'giver', cancel: 'account', export: 'giver', withdraw: null};
@@ -50,12 +52,34 @@ const sum = (of) => of.reduce((n, one) => n + one.count, 0);
 
 // ------------------------------------------------------------------ sending
 
-/** The bundles of this caller that are not answered to their end. */
-export const openBundles = () => Object.keys(localStorage).filter((name) => name.startsWith(prefix())).map((name) => {
+const stored = (name) => {
   try { return JSON.parse(localStorage.getItem(name)); } catch { return null; }
-}).filter((bundle) => Array.isArray(bundle?.ranges) && !underway.has(bundle.id));
+};
+
+/** The bundles of this caller that are not answered to their end. */
+export const openBundles = () => Object.keys(localStorage).filter((name) => name.startsWith(prefix())).map(stored)
+  .filter((bundle) => Array.isArray(bundle?.ranges) && !underway.has(bundle.id)).map(answered);
+
+/** A bundle with the answers that are kept beside it. */
+function answered(bundle) {
+  for (const from of blocksOf(bundle)) stored(block(bundle, from))?.forEach((answer, i) => { if (answer) bundle.ranges[from + i].answer = answer; });
+  return bundle;
+}
+
+const blocksOf = (bundle) => Array.from({length: Math.ceil(bundle.ranges.length / BLOCK)}, (_, i) => i * BLOCK);
 
 const keep = (bundle) => localStorage.setItem(prefix() + bundle.id, JSON.stringify(bundle));
+
+/** Keeps an answer in its block, so that of ten thousand each is written in little time. Without room it isn't kept: sent again, it is only repeated. */
+function keepAnswer(bundle, at) {
+  const from = at - at % BLOCK;
+  try { localStorage.setItem(block(bundle, from), JSON.stringify(bundle.ranges.slice(from, from + BLOCK).map((of) => of.answer ?? null))); } catch { /* no room */ }
+}
+
+function forget(bundle) {
+  localStorage.removeItem(prefix() + bundle.id);
+  for (const from of blocksOf(bundle)) localStorage.removeItem(block(bundle, from));
+}
 
 /** A bundle of requests: fields that all have, and those that each has of its own. */
 export function bundleOf(command, fields, ranges, told) {
@@ -67,15 +91,16 @@ export function bundleOf(command, fields, ranges, told) {
 async function sent(bundle, progress) {
   underway.add(bundle.id);
   try {
-    for (const range of bundle.ranges.filter((of) => !of.answer)) {
-      progress(bundle);
+    for (const [at, range] of bundle.ranges.entries()) {
+      if (range.answer) continue;
+      progress(at);
       const outcome = await one(bundle, range);
       if (outcome.kept) return outcome;
       range.answer = outcome.good ? {reply: outcome.reply} : {title: outcome.title, sentence: outcome.sentence, number: outcome.number};
-      keep(bundle);
+      keepAnswer(bundle, at);
       await pause(55);                            // below what the front door takes in a second
     }
-    localStorage.removeItem(prefix() + bundle.id);
+    forget(bundle);
     return null;
   } finally { underway.delete(bundle.id); }
 }
@@ -129,8 +154,8 @@ export async function carry(bundle, shown) {
 async function carried(bundle, shown) {
   const bar = h('progress', {max: bundle.ranges.length, value: 0, 'aria-label': t`Requests answered`}), told = h('p', {class: 'quiet'});
   shown.replaceChildren(bar, told);
-  const problem = await sent(bundle, () => {
-    bar.value = bundle.ranges.length - open(bundle).length;
+  const problem = await sent(bundle, (at) => {
+    bar.value = at;                               // they are sent in order
     told.textContent = t`Request ${count(bar.value + 1)} of ${count(bundle.ranges.length)}`;
   });
   shown.replaceChildren(h('div', {role: 'status'}, outcomeOf(bundle, problem)));
@@ -145,7 +170,7 @@ export const bundlesLeft = () => openBundles().map((bundle) => {
   const goOn = h('button', {type: 'button', class: 'main', onclick: async () => { for (const b of [goOn, leave]) b.disabled = true; await carried(bundle, shown); redraw(shown); }}, t`Go on`);
   const leave = h('button', {type: 'button', onclick: async () => {
     if (!await sure(t`Leave the rest`, t`Leave it`, {facts: [[t`Requests without an answer`, count(open(bundle).length)]], doubts: [t`The first of them may have been carried out: look at the history.`]})) return;
-    localStorage.removeItem(prefix() + bundle.id);
+    forget(bundle);
     redraw();
   }}, t`Leave the rest`);
   return h('li', {class: 'bundle'}, h('p', {}, h('b', {}, bundle.told), h('br'), t`${count(bundle.ranges.length - open(bundle).length)} of ${count(bundle.ranges.length)} requests are answered.`), goOn, leave, shown);
@@ -172,7 +197,7 @@ const takenTable = (runs) => longTable(t`${count(runs.length)} runs`, [[t`Certif
   [between(number(of.first), number(of.last)), count(of.count), `${of.site} ${of.device}`, between(of.first_day, of.last_day)]));
 
 function bundleForm(command, account, runs, ranges) {
-  const all = commonFields(command).map((spec) => field(spec)), shown = h('div', {'aria-live': 'polite'}), {title, act} = COMMANDS[command];
+  const all = commonFields(command).map((spec) => field(spec)), shown = h('div', {'aria-live': 'polite', tabindex: '-1'}), {title, act} = COMMANDS[command];
   const button = h('button', {type: 'submit', class: 'main'}, t(act), ' ', count(sum(ranges)));
   const onsubmit = async (event) => {
     event.preventDefault();
@@ -180,18 +205,16 @@ function bundleForm(command, account, runs, ranges) {
     if (wrong.length) { wrong[0].box.focus(); return; }
     const values = Object.fromEntries(all.map((f) => [f.name, f.value()])), given = all.map((f) => [f.label, String(f.value()), f.kind]);
     const doubts = [...all.filter((f) => f.kind === 'name').flatMap((f) => aboutName(f.label, f.value())), ...(command === 'cancel' && values.use_last >= values.use_first ? aboutUse(values, runs) : [])];
-    button.disabled = true;
-    try {
-      const asking = await named([...(GIVER[command] ? [[t`From account`, String(account), 'account']] : []), ...given, [t`Certificates`, count(sum(ranges))], [t`Requests, one a range`, count(ranges.length)]]);
-      if (await sure(t(title), t(act), {facts: asking, doubts, final: true})) {
-        const bundle = bundleOf(command, {...(GIVER[command] ? {[GIVER[command]]: account} : {}), ...values}, ranges, `${t(title)}: ${[[t`Certificates`, count(sum(ranges))], ...given].map(([n, v]) => `${n} ${v}`).join(', ')}`);
-        chosen.clear();
-        form.querySelectorAll('input, button').forEach((e) => { e.disabled = true; });
-        await carry(bundle, shown);
-        return;
-      }
-    } catch (fault) { shown.replaceChildren(result(problemOf(fault))); }
-    button.disabled = false;
+    await busy(button, () => meant(values, given, doubts).catch((fault) => shown.replaceChildren(result(problemOf(fault)))));
+  };
+  const meant = async (values, given, doubts) => {
+    const asking = await named([...(GIVER[command] ? [[t`From account`, String(account), 'account']] : []), ...given, [t`Certificates`, count(sum(ranges))], [t`Requests, one a range`, count(ranges.length)]]);
+    if (!await sure(t(title), t(act), {facts: asking, doubts, final: true})) return;
+    const bundle = bundleOf(command, {...(GIVER[command] ? {[GIVER[command]]: account} : {}), ...values}, ranges, `${t(title)}: ${[[t`Certificates`, count(sum(ranges))], ...given].map(([n, v]) => `${known(n)} ${v}`).join(', ')}`);
+    chosen.clear();
+    form.querySelectorAll('input, button').forEach((e) => { e.disabled = true; });
+    shown.focus();
+    await carry(bundle, shown);
   };
   const form = h('form', {class: `command bundle ${command}`, novalidate: true, onsubmit, 'aria-label': TITLES[command]}, h('div', {class: 'fields'}, all.map((f) => f.node)), h('div', {class: 'buttons'}, button));
   return [form, shown];

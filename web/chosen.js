@@ -1,6 +1,6 @@
 // What somebody has chosen of an account's holdings: lots or runs, over many pages of the list, with their running sum.
 
-import {h, count, result} from './dom.js';
+import {h, busy, count, result} from './dom.js';
 import {ungrouped} from './commands.js';
 import {t} from './language.js';
 import {problemOf} from './words.js';
@@ -8,14 +8,16 @@ import {problemOf} from './words.js';
 /** A row by what it is: a lot by its registry, device and first day, a run by its first number. */
 const keyOf = (of, by) => by === 'run' ? of.first : `${of.origin} ${of.device} ${of.first_day}`;
 
+/** The row that a box chooses, and by what. */
+const rowOf = new WeakMap();
+
 export const chosen = {
-  account: undefined, by: 'lot', rows: new Map(), listeners: new Set(),
+  account: undefined, by: 'lot', rows: new Map(), told: () => null,
 
   /** Another account begins with nothing chosen. */
   begin(account) {
     if (account !== this.account) this.rows.clear();
     this.account = account;
-    this.listeners.clear();
   },
   /** Lots and runs aren't mixed, so that nothing is chosen twice. */
   set(of, by, isChosen) {
@@ -24,7 +26,11 @@ export const chosen = {
   },
   has(of, by) { return by === this.by && this.rows.has(keyOf(of, by)); },
   get count() { return [...this.rows.values()].reduce((sum, of) => sum + of.count, 0); },
-  tell() { for (const listener of this.listeners) listener(); },
+  /** Has the boxes on the screen and the bar show what is chosen now. */
+  tell() {
+    for (const box of document.querySelectorAll('td.pick input')) box.checked = this.has(...rowOf.get(box));
+    this.told();
+  },
   clear() { this.rows.clear(); this.tell(); },
 
   /** The box of a row. */
@@ -33,19 +39,20 @@ export const chosen = {
       this.set(of, by, box.checked);
       this.tell();
     }});
-    this.listeners.add(() => { box.checked = this.has(of, by); });
+    rowOf.set(box, [of, by]);
     return box;
   },
   /** Chooses all that fit the filters, on whatever page they are. */
   allButton(find) {
-    const button = h('button', {type: 'button', onclick: async () => {
-      button.disabled = true;
-      const items = await find().catch(() => []);
-      for (const of of items) this.set(of, of.lot === undefined ? 'run' : 'lot', true);
-      this.tell();
-      button.disabled = false;
-    }}, t`Choose all of these`);
-    return button;
+    const told = h('span', {'aria-live': 'polite'});
+    const button = h('button', {type: 'button', onclick: () => busy(button, async () => {
+      told.replaceChildren();
+      try {
+        for (const of of await find()) this.set(of, of.lot === undefined ? 'run' : 'lot', true);
+        this.tell();
+      } catch (fault) { told.replaceChildren(result(problemOf(fault))); }
+    })}, t`Choose all of these`);
+    return [button, told];
   },
   /** Chooses a quantity of what fits the filters, in an order. `find({count, order})` answers with ranges that add up to it. */
   quantityForm(find) {
@@ -77,7 +84,7 @@ export function toolbar(...acts) {
     bar.hidden = chosen.rows.size === 0;
     told.replaceChildren(h('b', {}, t`${count(chosen.count)} certificates`), ' ', chosen.by === 'run' ? t`chosen in ${count(chosen.rows.size)} runs` : t`chosen in ${count(chosen.rows.size)} lots`);
   };
-  chosen.listeners.add(show);
+  chosen.told = show;
   show();
   return bar;
 }

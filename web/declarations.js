@@ -1,74 +1,99 @@
 // Declarations: a file of them, read before anything is sent, and one by hand.
 
-import {h, longTable, written, between, count, result} from './dom.js';
+import {h, busy, csvButton, longTable, number, written, between, count, result} from './dom.js';
 import {aboutPeriod} from './doubts.js';
 import {drop, form, sure} from './forms.js';
+import {t} from './language.js';
 import {HEADER, readDeclarations} from './reading.js';
+import {asked, followed, records} from './records.js';
 import {newKey, submitAmongMany} from './registry.js';
 import {session} from './session.js';
 import * as texts from './texts.js';
 import * as words from './words.js';
 
 const MOST_BYTES = 1048576;
-const plural = (n, what) => `${count(n)} ${what}${n === 1 ? '' : 's'}`;
+/** Devices whose earlier declarations are looked up for rows that are only repeated. */
+const MOST_DEVICES = 100;
+const rowsOf = (n) => n === 1 ? t`1 row` : t`${count(n)} rows`;
 const grouped = (digits) => /^\d{1,16}$/.test(digits ?? '') ? count(BigInt(digits)) : digits;
-const COLUMNS = [['Row', 'right'], ['Key'], ['Device', 'wide'], ['Period', 'wide'], ['Gross Wh', 'right wide'], ['Aux. Wh', 'right wide'], ['Answer', 'answer']];
+const COLUMNS = [[t`Row`, 'right'], [t`Key`], [t`Device`, 'wide'], [t`Period`, 'wide'], [t`Gross Wh`, 'right wide'], [t`Aux. Wh`, 'right wide'], [t`Answer`, 'answer']];
+const ISSUED = [[t`Issued`, 'right'], [t`Certificates`, 'range']];
 const FAILED = ['fault', 'refused', 'unreadable', 'held-back', 'unanswered'];
+/** What is saved of a file that was sent: its rows with what came of each. */
+const SAVED = ['row', 'key', 'device', 'first_day', 'last_day', 'gross_wh', 'aux_wh', 'outcome', 'reason', 'count', 'first', 'last'];
 
 export function declare() {
   const shown = h('div', {'aria-live': 'polite'});
   const take = async (file) => shown.replaceChildren(...(await taken(file, shown)).flat(Infinity).filter(Boolean));
-  return [h('h1', {}, 'Declare production'),
-    drop('Drop a CSV here, or choose one', `Its first line: ${HEADER}. The whole file is read before anything is sent.`, '.csv,text/csv', take),
+  return [h('h1', {}, t`Declare production`),
+    drop(t`Drop a CSV here, or choose one`, t`Its first line: ${HEADER}. The whole file is read before anything is sent.`, '.csv,text/csv', take),
     shown, form('declare')];
 }
 
 /** What a file comes to before it is sent: what is at fault in it, or the button that sends it. */
 async function taken(file, shown) {
-  if (file.size > MOST_BYTES) return [result(words.status(413), h('p', {}, 'Split the file; each part begins with the header line.'))];
+  if (file.size > MOST_BYTES) return [result(words.status(413), h('p', {}, t`Split the file; each part begins with the header line.`))];
   const {rows, faults} = readDeclarations(new TextDecoder('utf-8', {ignoreBOM: true}).decode(await file.arrayBuffer()));
   const whole = faults.find(({row}) => row === 0);
-  if (whole) return [result({good: false, title: `Nothing was sent: ${whole.field}`, sentence: whole.reason})];
-  const list = (answers) => listOf(file.name, rows, answers);
-  if (faults.length) {
-    const at = new Map(rows.map((_, i) => [i, faults.filter(({row}) => row === i + 1)]).filter(([, found]) => found.length));
-    return [result({good: false, title: `Nothing was sent: ${plural(at.size, 'row')} of ${count(rows.length)} ${at.size === 1 ? 'is' : 'are'} at fault`,
-      sentence: 'Correct the file and choose it again. A later period of a device would shut out an earlier one for good, so nothing is sent while a row is at fault.'}),
-    list(rows.map((_, i) => at.has(i) && {word: 'fault', said: at.get(i).map(({field, reason}) => h('p', {}, h('b', {class: 'word refused'}, field), ' ', reason))}))];
-  }
-  const button = h('button', {type: 'button', class: 'main', onclick: async () => {
-    button.disabled = true;
-    if (await isMeant(file.name, rows)) {
-      const {answers, outcome} = await sendInOrder(file.name, rows, (n) => { button.textContent = `${count(n)} of ${count(rows.length)} answered`; });
-      shown.replaceChildren(...[summary(answers, outcome), list(answers)].flat());
-      document.dispatchEvent(new CustomEvent('answered'));
-    }
-    button.disabled = false;
-  }}, `Declare ${plural(rows.length, 'row')}`);
-  return [list([]), h('div', {class: 'buttons'}, button)];
+  if (whole) return [result({good: false, title: t`Nothing was sent: ${whole.field}`, sentence: whole.reason})];
+  if (faults.length) return atFault(file.name, rows, faults);
+  const button = h('button', {type: 'button', class: 'main', onclick: () => busy(button, async () => {
+    if (!await isMeant(file.name, rows)) return;
+    const {answers, outcome, rounds} = await sendInOrder(file.name, rows, (n) => { button.textContent = t`${count(n)} of ${count(rows.length)} answered`; });
+    shown.replaceChildren(...sentFile(file.name, rows, answers, outcome, rounds));
+    document.dispatchEvent(new CustomEvent('answered'));
+  })}, t`Declare ${rowsOf(rows.length)}`);
+  return [listOf(file.name, rows, []), h('div', {class: 'buttons'}, button)];
 }
 
+/** A file with rows at fault: nothing of it is sent. */
+function atFault(name, rows, faults) {
+  const at = new Map(rows.map((_, i) => [i, faults.filter(({row}) => row === i + 1)]).filter(([, found]) => found.length));
+  return [result({good: false, title: at.size === 1 ? t`Nothing was sent: 1 row of ${count(rows.length)} is at fault` : t`Nothing was sent: ${count(at.size)} rows of ${count(rows.length)} are at fault`,
+    sentence: t`Correct the file and choose it again. A later period of a device would shut out an earlier one for good, so nothing is sent while a row is at fault.`}),
+  listOf(name, rows, rows.map((_, i) => at.has(i) && {word: 'fault', said: at.get(i).map(({field, reason}) => h('p', {}, h('b', {class: 'word refused'}, field), ' ', reason))}))];
+}
+
+/** A file that was sent: what came of it, row by row, with the certificates of each row once the records tell of them. */
+function sentFile(name, rows, answers, outcome, rounds) {
+  const list = h('div', {}, listOf(name, rows, answers)), told = h('p', {class: 'quiet', role: 'status'});
+  if (records.isThere && answers.some((answer) => ['accepted', 'repeated'].includes(answer?.word))) {
+    told.textContent = t`Looking up what was issued.`;
+    issuedBy(rounds, rows, answers).then(() => {
+      list.replaceChildren(...listOf(name, rows, answers, true));
+      const all = answers.reduce((sum, answer) => sum + (answer?.issued?.count ?? 0), 0);
+      told.textContent = t`${count(all)} certificates were issued for these rows.`;
+    }, (fault) => told.replaceWith(result(words.problemOf(fault))));
+  }
+  return [...summary(answers, outcome), told, list, h('div', {class: 'buttons'}, csvButton(`issued-${name.replace(/\.csv$/i, '')}`, () => texts.asCsv(SAVED, rows.map((fields, i) => savedRow(fields, i, answers[i])))))];
+}
+
+const savedRow = ([key, device, first_day, last_day, gross_wh, aux_wh], i, answer) => ({row: i + 1, key, device, first_day, last_day, gross_wh, aux_wh, outcome: answer?.word ?? 'not sent', reason: answer?.reason ?? '',
+  ...(answer?.issued ? {count: answer.issued.count, first: answer.issued.first, last: answer.issued.last} : {})});
+
 /** The rows with what was said of them: those that failed alone, where there are any and many rows. */
-function listOf(name, rows, answers) {
+function listOf(name, rows, answers, isIssued = false) {
   const all = rows.map((fields, i) => ({fields, number: i + 1, answer: answers[i]}));
   const failed = all.filter(({answer}) => answer && FAILED.includes(answer.word));
   const some = failed.length && all.length > 400 ? failed : all;
-  const caption = h('span', {}, written(name), `, ${plural(rows.length, 'row')}${some.length < all.length ? `; ${count(some.length)} that failed` : ''}`);
-  return longTable(caption, COLUMNS, some.map(({fields: [key, device, first, last, gross, aux], number, answer}) => Object.assign(
-    [count(number), key, device, between(first ?? '', last ?? ''), grouped(gross), grouped(aux), answer ? answer.said : h('span', {class: 'quiet'}, 'not sent')],
+  const caption = h('span', {}, written(name), `, ${rowsOf(rows.length)}`, some.length < all.length ? t`; ${count(some.length)} that failed` : '');
+  return longTable(caption, isIssued ? [...COLUMNS, ...ISSUED] : COLUMNS, some.map(({fields: [key, device, first, last, gross, aux], number: at, answer}) => Object.assign(
+    [count(at), key, device, first || last ? between(first ?? '', last ?? '') : '', grouped(gross), grouped(aux), answer ? answer.said : h('span', {class: 'quiet'}, t`not sent`), ...(isIssued ? issuedCells(answer?.issued) : [])],
     {kind: answer?.word})));
 }
+
+const issuedCells = (issued) => issued ? [count(issued.count), issued.count ? between(number(issued.first), number(issued.last)) : ''] : ['', ''];
 
 /** Asks before a file is sent, with its sums and what is odd about its periods. */
 function isMeant(name, rows) {
   const sum = rows.reduce((total, [, , , , gross, aux]) => total + BigInt(gross) - BigInt(aux), 0n);
   const days = rows.flatMap(([, , first, last]) => [first, last]).sort();
   const odd = rows.filter(([, , first, last]) => aboutPeriod(first, last).length);
-  return sure('Declare production', `Declare ${plural(rows.length, 'row')}`, {final: true,
-    facts: [['File', name], ['Rows', count(rows.length)], ['Devices', count(new Set(rows.map(([, device]) => device)).size)], ['Periods', between(days[0], days.at(-1))],
-      ['Net production', `${count(sum / 1000000n)} MWh and ${count(sum % 1000000n)} Wh`]],
-    doubts: odd.slice(0, 5).map(([key, , first, last]) => `Row with the key ${key}: ${aboutPeriod(first, last)[0]}`)
-      .concat(odd.length > 5 ? `${count(odd.length - 5)} more rows are like these.` : [])});
+  return sure(t`Declare production`, t`Declare ${rowsOf(rows.length)}`, {final: true,
+    facts: [[t`File`, name], [t`Rows`, count(rows.length)], [t`Devices`, count(new Set(rows.map(([, device]) => device)).size)], [t`Periods`, between(days[0], days.at(-1))],
+      [t`Net production`, t`${count(sum / 1000000n)} MWh and ${count(sum % 1000000n)} Wh`]],
+    doubts: odd.slice(0, 5).map(([key, , first, last]) => t`Row with the key ${key}: ${aboutPeriod(first, last)[0]}`)
+      .concat(odd.length > 5 ? t`${count(odd.length - 5)} more rows are like these.` : [])});
 }
 
 /**
@@ -76,7 +101,7 @@ function isMeant(name, rows) {
  * accepted, the later ones of its device are held back: accepted, they would shut its period out for good.
  */
 async function sendInOrder(name, rows, progress) {
-  const answers = [], waiting = new Map();
+  const answers = [], rounds = [], waiting = new Map();
   rows.forEach(([, device], i) => {
     if (!waiting.has(device)) waiting.set(device, []);
     waiting.get(device).push(i);
@@ -85,9 +110,10 @@ async function sendInOrder(name, rows, progress) {
     const round = [...waiting.values()].map((queue) => queue.shift()).sort((a, b) => a - b);
     const outcome = await sendRound(name, rows, round);
     if (!outcome.report) {
-      round.forEach((i) => { answers[i] = {word: 'unanswered', said: 'no answer'}; });
-      return {answers, outcome};
+      round.forEach((i) => { answers[i] = {word: 'unanswered', reason: 'no answer', said: t`no answer`}; });
+      return {answers, rounds, outcome};
     }
+    rounds.push({entry: outcome.entry, round});
     texts.report(outcome.report).forEach(({word, code}, at) => { answers[round[at]] = answerOf(word, code); });
     for (const i of round) {
       const queue = waiting.get(rows[i][1]);
@@ -96,25 +122,48 @@ async function sendInOrder(name, rows, progress) {
     }
     progress(answers.filter(Boolean).length);
   }
-  return {answers};
+  return {answers, rounds};
 }
 
 const sendRound = (name, rows, round) => submitAmongMany(session.caller, {key: newKey(), command: 'declarations', path: '/v1/declarations', rows: round.map((i) => i + 1),
   body: [HEADER, ...round.map((i) => rows[i].join())].join('\n') + '\n',
-  told: `Declarations: ${name}, ${plural(round.length, 'row')} of ${count(rows.length)}. Once they are answered, choose the file again and send it whole.`});
+  told: t`Declarations: ${name}, ${rowsOf(round.length)} of ${count(rows.length)}. Once they are answered, choose the file again and send it whole.`});
 
-const heldBack = (row) => ({word: 'held-back', said: [h('b', {class: 'word kept'}, 'held back'), ` Not sent, as row ${count(row)} of this device was refused.`]});
+/** Gives each row that is declared what was issued for it: count, first and last number. */
+async function issuedBy(rounds, rows, answers) {
+  await followed(Math.max(0, ...rounds.map(({entry}) => entry)));
+  for (const {entry, round} of rounds.filter((of) => of.entry)) {
+    for (let before; before !== null;) {
+      const page = await asked('acts', {entry, limit: 1000, before});
+      for (const act of page.items) {
+        const answer = answers[round[act.line - 1]];
+        if (answer && act.outcome === 'accepted') answer.issued = {count: act.count, first: act.ranges[0]?.first, last: act.ranges.at(-1)?.last};
+      }
+      before = page.next;
+    }
+  }
+  const lacking = rows.map((fields, i) => ({fields, answer: answers[i]})).filter(({answer}) => answer?.word === 'repeated' && !answer.issued);
+  for (const device of [...new Set(lacking.map(({fields}) => fields[1]))].slice(0, MOST_DEVICES)) {
+    const {items} = await asked('declarations', {device, limit: 1000}), known = new Map(items.map((of) => [of.first_day, of]));
+    for (const {fields, answer} of lacking.filter((of) => of.fields[1] === device)) {
+      const of = known.get(fields[2]);
+      if (of) answer.issued = {count: of.first ? Number(of.last) - Number(of.first) + 1 : 0, first: of.first, last: of.last};
+    }
+  }
+}
+
+const heldBack = (row) => ({word: 'held-back', reason: t`row ${row} of this device was refused`, said: [h('b', {class: 'word kept'}, t`held back`), t` Not sent, as row ${count(row)} of this device was refused.`]});
 
 function answerOf(word, code) {
   const {title, sentence} = words.row(word, code);
-  return {word, said: [h('b', {class: `word ${word}`}, word), ' ', title && `${title}. `, word === 'accepted' ? '' : sentence]};
+  return {word, reason: title, said: [h('b', {class: `word ${word}`}, t(word)), ' ', title && `${title}. `, word === 'accepted' ? '' : t(sentence)]};
 }
 
 /** What became of a file, above the list of its rows. */
 function summary(answers, outcome) {
   const n = (word) => answers.filter((answer) => answer?.word === word).length;
   const failed = FAILED.some((word) => n(word));
-  const parts = [`${count(n('accepted'))} accepted`, `${count(n('repeated'))} declared before`, `${count(n('refused') + n('unreadable'))} refused`, `${count(n('held-back'))} held back`];
-  const again = 'Correct the refused rows and send the whole file again: rows that are declared are only repeated. Rows held back were not sent, so the refused period can still be declared.';
-  return [outcome && result(outcome), result({good: !failed, kept: failed, title: parts.join(', '), sentence: failed && !outcome ? again : ''})].filter(Boolean);
+  const again = t`Correct the refused rows and send the whole file again: rows that are declared are only repeated. Rows held back were not sent, so the refused period can still be declared.`;
+  return [outcome && result(outcome), result({good: !failed, kept: failed, title: t`${count(n('accepted'))} accepted, ${count(n('repeated'))} declared before, ${count(n('refused') + n('unreadable'))} refused, ${count(n('held-back'))} held back`,
+    sentence: failed && !outcome ? again : ''})].filter(Boolean);
 }

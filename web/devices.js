@@ -55,7 +55,7 @@ export function manyDevices() {
       return;
     }
     const send = h('button', {type: 'button', class: 'main', onclick: async () => {
-      if (!await sure(t`Register devices`, t`Register`, {facts: [[t`Devices`, count(devices.length)], [t`Accounts`, [...new Set(devices.map((of) => of.account))].join(', ')]], doubts: doubtsOf(devices)})) return;
+      if (!await sure(t`Register devices`, t`Register`, {final: COMMANDS.register_device.final, facts: [[t`Devices`, count(devices.length)], [t`Accounts`, [...new Set(devices.map((of) => of.account))].join(', ')]], doubts: doubtsOf(devices)})) return;
       await carry(bundleOf('register_device', {}, devices.map((own) => ({own, count: 1})), t`Register devices: ${plural(devices.length)} of ${file.name}`), shown);
     }}, t`Register ${plural(devices.length)}`);
     shown.replaceChildren(...longTable(t`${file.name}: ${plural(devices.length)}`, FIELDS.map(([, kind, label]) => [t(label), kind === 'watts' ? 'right' : kind === 'name' || kind === 'gsrn' ? 'wide' : '']), devices.map((of) =>

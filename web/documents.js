@@ -4,7 +4,7 @@ import {h, table, facts, written, number, between, count, place, result, save, s
 import {ask} from './forms.js';
 import {life} from './history.js';
 import {t} from './language.js';
-import {sheet} from './paper.js';
+import {LISTS, coded, sheet} from './paper.js';
 import {asked, records} from './records.js';
 import {read} from './registry.js';
 import * as texts from './texts.js';
@@ -26,25 +26,25 @@ export async function paper(k) {
   if (records.isThere && MANY.test(k)) {
     try { return await wholePaper(k); } catch (fault) { if (!MANY.test(k) || k.includes(',') || k.includes('-')) throw fault; }      // one by itself the registry has too
   }
-  if (!/^[0-9]{1,9}$/.test(k)) return [h('h1', {}, 'Cancellation'), result({good: false, title: 'No such document', sentence: 'A cancellation’s number has 1 to 9 digits.'})];
+  if (!/^[0-9]{1,9}$/.test(k)) return [h('h1', {}, t`Cancellation`), result({good: false, title: 'No such document', sentence: 'A cancellation’s number has 1 to 9 digits.'})];
   const {text, problem} = await read(`/v1/cancellations/${k}`);
-  if (problem) return [h('h1', {}, `Cancellation ${k}`), result(problem)];
+  if (problem) return [h('h1', {}, t`Cancellation ${k}`), result(problem)];
   const {facts: f, lines} = texts.document(text);
   const own = f.head.split(' ')[1], [used, until] = f.period.split(' ');
   return [
     h('div', {class: 'buttons'}, printButton({class: 'main'}), textButton(`cancellation-${f.registry}-${own}`, text),
       h('a', {href: `#account/${f.account}`}, 'Back to the account')),
     h('article', {class: 'sheet'},
-      h('p', {class: 'house'}, 'Registry of guarantees of origin ', f.registry),
-      h('h1', {}, `Cancellation ${own}`),
+      h('p', {class: 'house'}, t`Registry of guarantees of origin`, ' ', f.registry),
+      h('h1', {}, t`Cancellation ${own}`),
       h('p', {class: 'claim'}, h('b', {}, `${count(Number(f.certificates))} MWh`), ' of energy, used from ', between(used, until), ' by ', h('b', {}, written(f.beneficiary))),
-      facts([['Registry', f.registry], ['Cancellation', own], ['Day of cancellation', f.date], ['Holder', `${f.holder}, account ${f.account}`],
-        ['Beneficiary', f.beneficiary], ['Period of use', between(used, until)], ['Certificates', `${count(Number(f.certificates))} of 1 MWh each`]]),
-      special(f.beneficiary).length ? h('p', {class: 'foot'}, `The beneficiary’s name has characters that cannot be seen, or that change the order of its letters. Their codes stand in its place: ${special(f.beneficiary).join(', ')}.`) : null,
+      facts([['Registry', f.registry], ['Cancellation', own], ['Day of cancellation', f.date], ['Holder', [f.holder, t`, account ${f.account}`]],
+        ['Beneficiary', f.beneficiary], ['Period of use', between(used, until)], ['Certificates', t`${count(Number(f.certificates))} of 1 MWh each`]]),
+      special(f.beneficiary).length ? h('p', {class: 'foot'}, t`The beneficiary’s name has characters that cannot be seen, or that change the order of its letters. Their codes stand in its place: ${special(f.beneficiary).join(', ')}.`) : null,
       table('Certificates cancelled', [['Certificates', 'range'], ['Count', 'right'], ['Device', 'wide'], ['Period', 'wide'], ['Tech.'], ['Source']],
         lines.map((l) => [between(number(l.first), number(l.last)), count(l.count), l.device,
           between(l.first_day, l.last_day), l.tech, l.source])),
-      h('p', {class: 'foot'}, 'Guarantees of origin under Directive (EU) 2018/2001, Article 19. These certificates are used up: they cannot be transferred or cancelled again. The registry keeps this cancellation under the number above.')),
+      h('p', {class: 'foot'}, 'Guarantees of origin under Directive (EU) 2018/2001, Article 19. These certificates are used up: they cannot be transferred or cancelled again. The registry keeps each cancellation under its number.')),
   ];
 }
 
@@ -57,8 +57,8 @@ async function certificate(n) {
   if (problem) return result(problem);
   const c = JSON.parse(text), lot = {carrier: 'electricity', ...c.lot};     // a lot of electricity doesn't say so
   return [h('div', {class: 'certificate'},
-    h('p', {class: 'headline'}, number(c.number), place(c.place, String(c.act)), h('span', {class: 'quiet'}, `account ${c.account}`)),
-    facts(FIELDS.map(([key, label]) => [label, key === 'capacity_w' ? count(lot[key]) : String(lot[key])]))), records.isThere ? await life(n).catch(() => null) : null];
+    h('p', {class: 'headline'}, number(c.number), place(c.place, String(c.act)), h('span', {class: 'quiet'}, t`account ${c.account}`)),
+    facts(FIELDS.map(([key, label]) => [label, key === 'capacity_w' ? count(lot[key]) : ['carrier', 'support'].includes(key) ? t(lot[key]) : Object.hasOwn(LISTS, key) ? coded(key, lot[key]) : String(lot[key])]))), records.isThere ? await life(n).catch(() => null) : null];
 }
 
 export const lookUp = (n) => [h('h1', {}, 'Look up'),
@@ -69,12 +69,12 @@ export const lookUp = (n) => [h('h1', {}, 'Look up'),
   })];
 
 export const noticeAsk = () => ask('Save a notice that was sent', ['number', 'account', 'Notice', 'Its number'], 'Save', noticeSave);
-export const noticeButton = (k) => h('p', {}, h('button', {type: 'button', onclick: async (e) => e.target.after(await noticeSave(k))}, `Save notice ${k}`));
+export const noticeButton = (k) => h('p', {}, h('button', {type: 'button', onclick: async (e) => e.target.after(await noticeSave(k))}, t`Save notice ${k}`));
 
 async function noticeSave(k) {
   const {text, problem} = await read(`/v1/notices/${k}`);
   if (problem) return result(problem);
   const n = JSON.parse(text);
   save(`notice-${String(n.sender).padStart(2, '0')}-${k}.json`, text, 'application/json');
-  return h('p', {class: 'quiet'}, ` Notice ${k} to registry ${n.addressee}, account ${n.account}: ${n.parts.length} parts, saved.`);
+  return h('p', {class: 'quiet'}, t` Notice ${k} to registry ${n.addressee}, account ${n.account}: ${n.parts.length} parts, saved.`);
 }

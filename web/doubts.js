@@ -3,7 +3,7 @@
 
 import {count, special} from './dom.js';
 import {known, t} from './language.js';
-import {LISTS} from './lists.js';
+import {LISTS} from './paper.js';
 import {statementOf, statements} from './registry.js';
 import {today, monthsAfter} from './session.js';
 
@@ -46,7 +46,7 @@ async function ofCancel(values) {
   const statement = await statementOf(values.account);
   const lines = statement?.lines.filter((l) => l.first <= values.last && values.first <= l.last) ?? [];
   if (!lines.length) return {facts: [], doubts: []};               // the registry will say what is wrong
-  const periods = [...new Set(lines.map((l) => `${l.first_day} to ${l.last_day}`))];
+  const periods = [...new Set(lines.map((l) => t`${l.first_day} to ${l.last_day}`))];
   return {
     facts: [['Produced', periods.length < 4 ? periods.join(', ') : t`${count(periods.length)} periods, ${periods[0]} and others`]],
     doubts: values.use_last < values.use_first ? [] : aboutUse(values, lines),

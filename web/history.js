@@ -33,11 +33,14 @@ const cells = (act) => Object.assign([whenOf(act), KINDS[act.kind], act.count ? 
 
 const choices = (words) => [['', t`all`], ...Object.entries(words)];
 const FILTERS = [{name: 'account', label: t`Account`}, {name: 'kind', label: t`Act`, options: choices(KINDS)}, {name: 'outcome', label: t`Outcome`, options: choices(OUTCOMES)},
-  {name: 'from', label: t`From day`, type: 'date'}, {name: 'to', label: t`To day`, type: 'date'}, {name: 'q', label: t`Text in note, key or device`}];
+  {name: 'from', label: t`From day`, type: 'date'}, {name: 'to', label: t`To day`, type: 'date'}, {name: 'user', label: t`User`}, {name: 'q', label: t`Text in note, key or device`}];
+
+/** Acts with all that may be filtered; `fixed` is asked always. */
+export const acts = (given, fixed = {}) => listing({name: 'acts', given, fixed, filters: FILTERS, columns: () => COLUMNS, row: cells, empty: t`No act fits.`});
 
 export const history = (account, said) => [h('h1', {}, t`History`),
   h('p', {class: 'lead'}, session.isIssuer ? t`All acts of the registry, the newest first.` : t`The acts that touched your accounts, the newest first.`),
-  listing({name: 'acts', given: {account, ...Object.fromEntries(new URLSearchParams(said ?? ''))}, filters: FILTERS, columns: () => COLUMNS, row: cells, empty: t`No act fits.`})];
+  acts({account, ...Object.fromEntries(new URLSearchParams(said ?? ''))})];
 
 /** One act with all its ranges. */
 export async function act(id) {

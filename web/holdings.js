@@ -6,8 +6,7 @@ import {ways} from './bundles.js';
 import {chosen, toolbar} from './chosen.js';
 import {t} from './language.js';
 import {listing, csvLink, stands} from './listing.js';
-import {LISTS} from './lists.js';
-import {coded} from './paper.js';
+import {coded, wordFor} from './paper.js';
 import {asked, everyItem} from './records.js';
 import {session} from './session.js';
 
@@ -53,7 +52,7 @@ const FILTERS_OF = ['device', 'tech', 'source', 'country', 'carrier', 'support',
 
 /** The filters; the codes offered are those that the account has. */
 async function filters(account) {
-  const options = async (by) => [['', t`all`], ...(await asked('holdings', {account, by, limit: 1000})).items.map((of) => [of[by], CODED.includes(by) ? `${LISTS[by].codes[of[by]] ?? ''} ${of[by]}`.trim() : t(of[by])])];
+  const options = async (by) => [['', t`all`], ...(await asked('holdings', {account, by, limit: 1000})).items.map((of) => [of[by], CODED.includes(by) ? `${wordFor(by, of[by]) ?? ''} ${of[by]}`.trim() : t(of[by])])];
   const [tech, source, country, carrier] = await Promise.all(['tech', 'source', 'country', 'carrier'].map(options));
   return [
     {name: 'by', label: t`Added up by`, options: Object.entries(GROUPS)}, {name: 'q', label: t`Site or device`},
@@ -64,8 +63,8 @@ async function filters(account) {
   ];
 }
 
-const LOT = [[t`Device`, 'wide', 'site'], [t`Period`, 'wide', 'first_day'], [t`Technology`, 'wide', 'tech'], [t`Source`, 'wide', 'source'], [t`Country`, '', 'country'], [t`Carrier`, '', 'carrier'], [t`Support`, '', 'support'],
-  [t`Tradable until`, '', 'trade_until'], [t`Expires on`, '', 'expires_on']];
+const LOT = [[t`Device`, 'wide', 'site'], [t`Period`, 'wide', 'first_day'], [t`Technology`, 'wide', 'tech'], [t`Source`, 'wide', 'source'], [t`Country`, '', 'country'], [t`Carrier`, '', 'carrier'], [t`Support`, 'wide', 'support'],
+  [t`Tradable until`, 'wide', 'trade_until'], [t`Expires on`, 'wide', 'expires_on']];
 const lotCells = (of) => [[written(of.site), ' ', h('span', {class: 'code'}, of.device)], between(of.first_day, of.last_day), coded('tech', of.tech), coded('source', of.source), coded('country', of.country), t(of.carrier), t(of.support),
   day(of.trade_until), day(of.expires_on)];
 

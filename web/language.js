@@ -13,6 +13,8 @@ export const language = [kept(), ...navigator.languages.map((of) => of.slice(0, 
 const words = language === 'en' ? {} : (await import(`./words-${language}.js`)).WORDS;
 document.documentElement.lang = language;
 if (language !== 'en') for (const e of document.querySelectorAll('.skip, .house, .top .facts, .quiet')) e.textContent = words[e.textContent] ?? e.textContent;      // what the page itself has
+if (language !== 'en') for (const e of document.querySelectorAll('[aria-label]')) e.ariaLabel = words[e.ariaLabel] ?? e.ariaLabel;
+if (language !== 'en') document.title = words[document.title] ?? document.title;
 
 /** Texts that the file of words lacks. */
 export const missing = new Set();
@@ -26,9 +28,6 @@ export function t(text, ...values) {
 
 /** A text in the reader's language where it is one of the page's own; else as it is. */
 export const known = (text) => Object.hasOwn(words, text) ? words[text] : text;
-
-/** A country by its code, in the reader's language; English names are those of the issuing body's own list. */
-export const country = (code, name) => language === 'en' || !name ? name : new Intl.DisplayNames([language], {type: 'region'}).of(code);
 
 /** The other languages, each with what chooses it. */
 export const others = () => Object.entries(LANGUAGES).filter(([of]) => of !== language).map(([of, name]) => [name, () => {

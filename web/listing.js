@@ -27,7 +27,7 @@ function valuesOf(form) {
  * `changed(values)` hears of each new filter.
  */
 export function listing({name, fixed = {}, given = {}, filters = [], columns, row, summary = () => null, caption, empty = t`There is nothing here.`, csv = true, changed = () => null}) {
-  const shown = h('div', {class: 'listed', 'aria-live': 'polite'});
+  const shown = h('div', {class: 'listed', 'aria-live': 'polite', tabindex: '-1'});
   const pages = [];                            // where each page begun; the last is the one that is shown
   let sort = given.sort, turn = 0;
   const form = h('form', {class: 'filters', role: 'search', novalidate: true, 'aria-label': t`Filters`, onsubmit: (e) => { e.preventDefault(); again(); }},
@@ -43,10 +43,12 @@ export function listing({name, fixed = {}, given = {}, filters = [], columns, ro
     try { made = drawn(await asked(name, {limit: ROWS, ...fixed, ...said, ...(from === null ? {} : {[name === 'acts' ? 'before' : 'offset']: from})}), said); } catch (fault) { made = [result(problemOf(fault))]; }
     if (mine !== turn) return;
     shown.removeAttribute('aria-busy');
+    const at = shown.contains(document.activeElement) && (document.activeElement.dataset.at ?? '');
     shown.replaceChildren(...made.flat(Infinity).filter(Boolean));
+    if (at !== false) (shown.querySelector(`[data-at="${at}"]`) ?? shown).focus();        // what was pressed is there again
   };
   const heads = (said) => columns(said).map(([title, kind, by]) => [title, kind, by ? headButton(title, by) : null]);
-  const headButton = (title, by) => h('button', {type: 'button', class: 'head', 'aria-label': t`Sort by ${title}`, onclick: () => {
+  const headButton = (title, by) => h('button', {type: 'button', class: 'head', 'data-at': by, 'aria-label': t`Sort by ${title}`, onclick: () => {
     sort = sort === by ? `-${by}` : by;
     again();
   }}, title, sort === by ? ' ↑' : sort === `-${by}` ? ' ↓' : '');
@@ -54,8 +56,8 @@ export function listing({name, fixed = {}, given = {}, filters = [], columns, ro
     summary(answer, said),
     answer.items.length === 0 ? h('p', {class: 'quiet'}, empty) : table(caption?.(answer, said) ?? stands(answer), heads(said), answer.items.map((item) => row(item, said))),
     h('div', {class: 'buttons'},
-      pages.length > 1 ? h('button', {type: 'button', onclick: () => { pages.pop(); load(pages.pop()); }}, t`Page before`) : null,
-      answer.next ? h('button', {type: 'button', onclick: () => load(answer.next)}, t`Next page`) : null,
+      pages.length > 1 ? h('button', {type: 'button', 'data-at': 'before', onclick: () => { pages.pop(); load(pages.pop()); }}, t`Page before`) : null,
+      answer.next ? h('button', {type: 'button', 'data-at': 'next', onclick: () => load(answer.next)}, t`Next page`) : null,
       csv && answer.items.length ? csvLink(name, {...fixed, ...said}) : null),
   ];
   load(null);

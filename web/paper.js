@@ -2,14 +2,24 @@
 // guarantee of origin say, lot by lot. The page of the registry and the public check both show it.
 
 import {h, table, facts, written, number, between, count, day, special} from './dom.js';
-import {country, t} from './language.js';
+import {language, t} from './language.js';
 import * as own from './lists.js';
 
-const {LISTS, ISSUING_BODIES = {}} = own;      // an issuing body's own file of before has no names of issuing bodies
+export const {LISTS, ISSUING_BODIES = {}} = own;      // an issuing body's own file of before has no names of issuing bodies
+const AT = {en: 0, de: 1};
+/** A country in the reader's language; English names are those of the issuing body's own list. */
+const country = (code, name) => language === 'en' ? name : new Intl.DisplayNames([language], {type: 'region'}).of(code);
+
+/** The word of a code, undefined where no list has it. A list has one name for all languages, or one in English and one in German. */
+export function wordFor(field, code) {
+  const names = Object.hasOwn(LISTS[field].codes, code) ? [LISTS[field].codes[code]].flat() : [];
+  return field === 'country' && names.length === 1 ? country(code, names[0]) : names[AT[language]] ?? names[0];
+}
+
 const SUPPORT = {none: t`no support`, investment: t`investment support`, production: t`production support`, both: t`investment and production support`};
 /** A code with its word. */
 export function coded(field, code) {
-  const listed = LISTS[field].codes[code], word = field === 'country' ? country(code, listed) : listed;
+  const word = wordFor(field, code);
   return word ? h('span', {class: 'coded'}, word, ' ', h('span', {class: 'code'}, code)) : code;
 }
 
@@ -38,20 +48,20 @@ export const lines = (...texts) => texts.filter(Boolean).map((text) => h('span',
 const lotRow = (lot) => [between(number(lot.first), number(lot.last)), count(lot.count), between(lot.first_day, lot.last_day),
   lines(written(lot.site), h('span', {class: 'code'}, lot.device), coded('country', lot.country)),
   lines(coded('tech', lot.tech), coded('source', lot.source), t(lot.carrier)),
-  lines(power(lot.capacity_w), t`since ${lot.commissioned}`, SUPPORT[lot.support] ?? lot.support),
+  lines(power(lot.capacity_w), h('span', {class: 'end'}, t`since ${lot.commissioned}`), SUPPORT[lot.support] ?? lot.support),
   lines(day(lot.issued_on), issuingBody(lot.origin))];
 
 /** Several cancellations that aren't for one and the same use: a row each. */
 const differing = (items) => table(t`Cancellations`, [[t`Cancellation`], [t`Day`], [t`Beneficiary`, 'wide'], [t`Period of use`, 'wide'], [t`Count`, 'right']], items.map((of) =>
   [String(of.number), day(of.day), written(of.beneficiary), between(of.use_first, of.use_last), count(of.count)]));
 
-/** The sheet. `items` are the cancellations with their lots, `code` the check code of all of them. */
-export function sheet(items, code) {
+/** The sheet. `items` are the cancellations with their lots, `code` the check code of all of them, `head` the kind of its heading. */
+export function sheet(items, code, head = 'h1') {
   const [first] = items, numbers = asList(items.map((of) => of.number)), all = items.reduce((sum, of) => sum + of.count, 0), days = [...new Set(items.map((of) => of.day))].sort();
   const marks = [...new Set(items.flatMap((of) => special(of.beneficiary)))];
   return h('article', {class: 'sheet'},
     h('p', {class: 'house'}, t`Registry of guarantees of origin`, ' ', two(first.registry)),
-    h('h1', {}, items.length === 1 ? t`Cancellation ${numbers}` : t`Cancellations ${numbers.replaceAll(',', ', ')}`),
+    h(head, {}, items.length === 1 ? t`Cancellation ${numbers}` : t`Cancellations ${numbers.replaceAll(',', ', ')}`),
     isOne(items) ? h('p', {class: 'claim'}, h('b', {}, `${count(all)} MWh`), t` of energy, used from `, between(first.use_first, first.use_last), t` by `, h('b', {}, written(first.beneficiary))) : h('p', {class: 'claim'}, h('b', {}, `${count(all)} MWh`), t` of energy`),
     facts([[t`Issuing body`, issuingBody(first.registry)], [t`Day of cancellation`, days.length > 1 ? between(days[0], days.at(-1)) : days[0]], same(items, 'holder') ? [t`Holder`, [h('b', {}, first.holder), ' ', written(first.name), t`, account ${[...new Set(items.map((of) => of.account))].join(', ')}`]] : null,
       ...(isOne(items) ? [[t`Beneficiary`, first.beneficiary], [t`Period of use`, between(first.use_first, first.use_last)]] : []), [t`Certificates`, t`${count(all)} of 1 MWh each`]].filter(Boolean)),

@@ -30,22 +30,28 @@ export async function asked(name, parameters, tries = 10) {
   throw new Unread(await problemOf(answer));
 }
 
+/** Waits until the records tell of this entry of the log: they are a second behind it at most. */
+export async function followed(entry) {
+  for (let tries = 60; (await asked('status')).stands.entry < entry && tries > 0; tries--) await pause(500);
+}
+
 async function problemOf(answer) {
   const said = await answer.json().then((value) => value.error, () => null);
   if (answer.status === 503 || answer.status === 502) return {good: false, title: t`The records are not there`, sentence: t`They are being made, or do not answer. The registry itself is not touched by this. Try again in a minute.`};
   return {...words.unread(answer.status), ...(said ? {sentence: `${said[0].toUpperCase()}${said.slice(1)}.`} : {})};
 }
 
-/** Every item of a list, page by page. `progress` is told how many there are. */
-export async function everyItem(name, parameters, progress = () => null) {
-  const items = [];
-  for (let offset = 0; offset !== null;) {
-    const answer = await asked(name, {...parameters, limit: 1000, offset});
-    items.push(...answer.items);
-    progress(items.length);
-    offset = answer.next ?? null;
-  }
-  return items;
+const PAGE = 1000;
+/** By what holdings are told, and the sum that says how many of them there are. */
+const IN_ALL = {lot: 'lots', run: 'runs'};
+
+/** Every item of a list. Where the first page tells how many there are, the others are asked for side by side, else one after another. */
+export async function everyItem(name, parameters) {
+  const pageAt = (offset) => asked(name, {...parameters, limit: PAGE, offset});
+  const pages = [await pageAt(0)], all = pages[0].sum?.[IN_ALL[parameters?.by]];
+  if (all !== undefined) pages.push(...await Promise.all(Array.from({length: Math.max(0, Math.ceil(all / PAGE) - 1)}, (_, i) => pageAt((i + 1) * PAGE))));
+  else while (pages.at(-1).next) pages.push(await pageAt(pages.at(-1).next));
+  return pages.flatMap(({items}) => items);
 }
 
 // ------------------------------------------------------------------ names of codes
@@ -60,7 +66,7 @@ async function once(key, find) {
 }
 
 /** Code and name of an account's holder, as far as the caller may know them: his own accounts, and those that he has dealt with. */
-export const holderOf = (account) => once(`account ${account}`, async () => {
+export const holderOf = (account) => once(`account/${account}`, async () => {
   const own = (await asked('accounts', {account})).items[0];
   if (own) return `${own.holder}, ${own.name}`;
   const {items} = await asked('acts', {account, kind: 'transfer', outcome: 'accepted', limit: 1});
@@ -69,10 +75,10 @@ export const holderOf = (account) => once(`account ${account}`, async () => {
 });
 
 /** The site of a device. */
-export const siteOf = (device) => once(`device ${device}`, async () => (await asked('devices', {device})).items[0]?.site ?? '');
+export const siteOf = (device) => once(`device/${device}`, async () => (await asked('devices', {device})).items[0]?.site ?? '');
 
 /** The name of a holder. */
-export const nameOf = (holder) => once(`holder ${holder}`, async () => (await everyItem('holders')).find(({code}) => code === holder)?.name ?? '');
+export const nameOf = (holder) => once(`holder/${holder}`, async () => (await everyItem('holders')).find(({code}) => code === holder)?.name ?? '');
 
 /** Forgets the names, as one may have been opened since. */
 export const forgetNames = () => names.clear();

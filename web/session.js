@@ -12,6 +12,17 @@ export async function signIn() {
   return caller !== '';
 }
 
+/**
+ * Forgets what this browser has seen of the caller's accounts, and asks the browser to forget his certificate or password, which some can. Resolves to
+ * whether nobody is signed in any more. Requests without an answer stay: they are the only way to learn what became of them.
+ */
+export async function signOut() {
+  localStorage.removeItem(`goo/seen/${session.caller}`);
+  globalThis.crypto.logout?.();
+  document.execCommand?.('ClearAuthenticationCache');
+  return (await whoAmI().catch(() => ({caller: ''}))).caller === '';
+}
+
 /** The day by the server's clock, in the time zone of this browser. */
 export function today() {
   const at = new Date(Date.now() + session.ahead), two = (n) => String(n).padStart(2, '0');

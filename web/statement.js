@@ -4,8 +4,9 @@ import {h, table, longTable, facts, number, between, count, place, result, save,
 import {bars, PLACES} from './charts.js';
 import {form, ask} from './forms.js';
 import {accounts as ownAccounts, notice} from './holdings.js';
-import {records} from './records.js';
-import {read, readAmongMany, statements} from './registry.js';
+import {t} from './language.js';
+import {everyItem, records} from './records.js';
+import {Unread, read, readAmongMany, statements} from './registry.js';
 import {session, memory} from './session.js';
 import * as texts from './texts.js';
 import {problemOf} from './words.js';
@@ -13,6 +14,7 @@ import {problemOf} from './words.js';
 // The columns of what is saved as CSV: a run of a statement, an account, a run that is held with its lot.
 const RUN = ['first', 'last', 'count', 'device', 'first_day', 'last_day', 'tech', 'source', 'place', 'act'];
 const ACCOUNT = ['account', 'holder', 'status', ...PLACES];
+const TITLES = {held: 'Held', cancelled: 'Cancelled', expired: 'Expired', withdrawn: 'Withdrawn', exported: 'Exported'};
 const HOLDING = ['first', 'last', 'count', 'device', 'country', 'site', 'tech', 'source', 'capacity_w', 'commissioned', 'support', 'first_day', 'last_day', 'issued_on', 'carrier'];
 
 export async function account(chosen) {
@@ -37,14 +39,14 @@ const closing = () => h('details', {}, h('summary', {}, 'Close an account'), for
 
 /** Lists all accounts with their sums. */
 function everyAccount() {
-  const title = 'List all accounts', answer = h('div', {'aria-live': 'polite'});
+  const title = t`List all accounts`, answer = h('div', {'aria-live': 'polite'});
   const list = async () => {
     button.disabled = true;
     const rows = [];
     try {
       for await (const {facts: f} of statements()) {
         rows.push(f);
-        button.textContent = `Account ${count(rows.length + 1)}`;
+        button.textContent = t`Account ${count(rows.length + 1)}`;
       }
       answer.replaceChildren(...accountTable(rows));
     } catch (fault) { answer.replaceChildren(result(problemOf(fault))); }
@@ -57,13 +59,13 @@ function everyAccount() {
 
 function accountTable(rows) {
   if (rows.length === 0) return [h('p', {class: 'quiet'}, 'No account has been opened.')];
-  const columns = [['Account'], ['Holder', 'wide'], ['Status'], ...PLACES.map((p) => [p[0].toUpperCase() + p.slice(1), 'right'])];
+  const columns = [['Account'], ['Holder', 'wide'], ['Status'], ...PLACES.map((p) => [TITLES[p], 'right'])];
   const line = (name, holder, status, sums) => [name, holder, status, ...PLACES.map((p) => count(Number(sums[p])))];
   const all = Object.fromEntries(PLACES.map((p) => [p, rows.reduce((sum, f) => sum + Number(f[p]), 0)]));
   return [
-    table(`${count(rows.length)} account${rows.length === 1 ? '' : 's'}, certificates by place`, columns, [
-      ...rows.map((f) => line(h('a', {href: `#account/${f.account}`}, f.account), f.holder, f.status, f)),
-      Object.assign(line('All', '', '', all), {kind: 'total'})]),
+    table(rows.length === 1 ? t`1 account, certificates by place` : t`${count(rows.length)} accounts, certificates by place`, columns, [
+      ...rows.map((f) => line(h('a', {href: `#account/${f.account}`}, f.account), f.holder, t(f.status), f)),
+      Object.assign(line(t`All`, '', '', all), {kind: 'total'})]),
     h('div', {class: 'buttons'}, csvButton(`accounts-${rows[0].registry}-${rows[0].date}`, () => texts.asCsv(ACCOUNT, rows))),
   ];
 }
@@ -83,7 +85,7 @@ async function statement(a) {
     if (!months.has(month)) months.set(month, Object.fromEntries(PLACES.map((p) => [p, 0])));
     months.get(month)[line.kind] += line.count;
   }
-  const chart = bars('Certificates by month of production and by place', [...months].sort()
+  const chart = bars(t`Certificates by month of production and by place`, [...months].sort()
     .map(([name, sums]) => ({name, parts: PLACES.map((p) => [p, sums[p]])})));
 
   const columns = [['Certificates', 'range'], ['Count', 'right'], ['Device', 'wide'], ['Period', 'wide'],
@@ -93,37 +95,44 @@ async function statement(a) {
     between(l.first_day, l.last_day), l.tech, l.source,
     l.kind === 'cancelled' ? h('a', {href: `#document/${l.act}`}, place(l.kind, l.act)) : place(l.kind, l.act),
     l.kind === 'held' ? acts.filter((act) => act !== 'correct' || issued(l))
-      .map((act) => [h('a', {href: way(act, l), 'aria-label': `${act} ${l.first} to ${l.last}`}, act), ' ']) : '',
+      .map((act) => [h('a', {href: way(act, l), 'aria-label': t`${t(act)}: ${l.first} to ${l.last}`}, act), ' ']) : '',
   ], {kind: l.kind}));
-  const caption = `${count(lines.length)} run${lines.length === 1 ? '' : 's'} of certificates`;
+  const caption = lines.length === 1 ? t`1 run of certificates` : t`${count(lines.length)} runs of certificates`;
   return [
-    facts([['Account', f.account], ['Holder', f.holder], ['Status', f.status], ['Registry', f.registry], ['Date', f.date]], {class: 'head'}),
+    facts([['Account', f.account], ['Holder', f.holder], ['Status', t(f.status)], ['Registry', f.registry], ['Date', f.date]], {class: 'head'}),
     h('ul', {class: 'sums', 'aria-label': 'Certificates by place'}, PLACES.map((p) =>
       h('li', {class: f[p] === '0' ? 'none' : null}, h('b', {}, count(Number(f[p]))), place(p)))),
     lines.length ? h('section', {class: 'chart'}, h('h3', {}, 'By month of production'), chart) : null,
     lines.length ? longTable(caption, columns, rows) : h('p', {class: 'quiet'}, 'This account has never held a certificate.'),
     keeping(`statement-${f.registry}-${a}-${f.date}`, text, () => texts.asCsv(RUN, lines.map((l) => ({...l, place: l.kind}))),
-      lines.some(isHeld) && holdingsButton(`holdings-${f.registry}-${a}-${f.date}.csv`, lines.filter(isHeld))),
+      lines.some(isHeld) && holdingsButton(`holdings-${f.registry}-${a}-${f.date}.csv`, a, lines.filter(isHeld))),
   ];
 }
 
 const isHeld = (line) => line.kind === 'held';
 
-/** Saves the runs that are held, each with its whole lot. The registry tells a lot with one of its certificates, so each lot is asked for once. */
-function holdingsButton(name, held) {
-  const title = 'Save holdings as CSV', lotOf = (l) => `${l.first.slice(0, 2)} ${l.device} ${l.first_day}`;
-  const lots = new Map(held.map((l) => [lotOf(l), l.first]));
+/** Saves the runs that are held, each with its whole lot. */
+function holdingsButton(name, account, held) {
+  const title = t`Save holdings as CSV`;
   return h('button', {type: 'button', onclick: async ({target: button}) => {
     button.disabled = true;
-    const known = new Map();
-    for (const [lot, first] of lots) {
-      button.textContent = `Lot ${count(known.size + 1)} of ${count(lots.size)}`;
-      const {text, problem} = await readAmongMany(`/v1/certificates/${first}`);
-      if (problem) { button.replaceWith(result(problem)); return; }
-      known.set(lot, {carrier: 'electricity', ...JSON.parse(text).lot});
-    }
-    save(name, texts.asCsv(HOLDING, held.map((l) => ({...known.get(lotOf(l)), first: l.first, last: l.last, count: l.count}))), 'text/csv');
-    button.textContent = title;
-    button.disabled = false;
+    try {
+      const rows = records.isThere ? await everyItem('holdings', {account, by: 'run'}) : await withLots(held, (text) => { button.textContent = text; });
+      save(name, texts.asCsv(HOLDING, rows), 'text/csv');
+      button.textContent = title;
+      button.disabled = false;
+    } catch (fault) { button.replaceWith(result(problemOf(fault))); }
   }}, title);
+}
+
+/** The same by the registry alone: it tells a lot with one of its certificates, so each lot is asked for once. */
+async function withLots(held, progress) {
+  const lotOf = (l) => `${l.first.slice(0, 2)} ${l.device} ${l.first_day}`, lots = new Map(held.map((l) => [lotOf(l), l.first])), known = new Map();
+  for (const [lot, first] of lots) {
+    progress(t`Lot ${count(known.size + 1)} of ${count(lots.size)}`);
+    const {text, problem} = await readAmongMany(`/v1/certificates/${first}`);
+    if (problem) throw new Unread(problem);
+    known.set(lot, {carrier: 'electricity', ...JSON.parse(text).lot});
+  }
+  return held.map((l) => ({...known.get(lotOf(l)), first: l.first, last: l.last, count: l.count}));
 }

@@ -2,6 +2,7 @@
 // the statistics. Each as the records of acts have it, with what may be filtered, and as CSV.
 
 import {h, number, between, count, day, written} from './dom.js';
+import {acts} from './history.js';
 import {t} from './language.js';
 import {listing} from './listing.js';
 import {coded, lines} from './paper.js';
@@ -40,9 +41,10 @@ const statistics = () => listing({name: 'statistics', given: {by: 'month'}, filt
 
 /** The way between the lists, and the one that is open. */
 export function lists(name = 'devices', said) {
-  const own = Object.entries(LISTS).filter(([, {ofIssuer}]) => session.isIssuer || !ofIssuer), titles = [...own.map(([of, {title}]) => [of, title]), ['statistics', t`Statistics`]];
+  const given = Object.fromEntries(new URLSearchParams(said ?? ''));
+  const own = Object.entries(LISTS).filter(([, {ofIssuer}]) => session.isIssuer || !ofIssuer), titles = [...own.map(([of, {title}]) => [of, title]), ['entered', session.isIssuer ? t`Entered by the issuing body` : t`Entered by you`], ['statistics', t`Statistics`]];
   const open = titles.some(([of]) => of === name) ? name : 'devices';
   return [h('h1', {}, titles.find(([of]) => of === open)[1]),
     h('p', {class: 'known', role: 'navigation', 'aria-label': t`Lists`}, titles.map(([of, title]) => [h('a', {href: `#lists/${of}`, 'aria-current': of === open ? 'true' : null}, title), ' '])),
-    open === 'statistics' ? statistics() : listing({name: open, given: Object.fromEntries(new URLSearchParams(said ?? '')), filters: LISTS[open].filters, columns: () => LISTS[open].columns, row: LISTS[open].row})];
+    open === 'statistics' ? statistics() : open === 'entered' ? acts(given, {caller: session.caller}) : listing({name: open, given, filters: LISTS[open].filters, columns: () => LISTS[open].columns, row: LISTS[open].row})];
 }

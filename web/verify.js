@@ -26,7 +26,7 @@ async function check(event) {
     return;
   }
   const {documents} = await answer.json();
-  shown.replaceChildren(result({good: true, title: t`They belong together`, sentence: t`This is what the registry has under this number. Compare it with the document.`}), sheet(documents));
+  shown.replaceChildren(result({good: true, title: t`They belong together`, sentence: t`This is what the registry has under this number. Compare it with the document.`}), sheet(documents, null, 'h2'));
 }
 
 document.getElementById('view').replaceChildren(h('h1', {}, t`Check a cancellation document`),
