@@ -3,7 +3,7 @@ use Rattle.std.proofs.Common.{◌≡◌, ◌≢◌, ℕ, ◌+◌, ◌<◌, ◌�
 use Rattle.std.specs.Prelude.{◌⊎◌, ◌==◌}
 use Rattle.std.specs.FinMap.{get}
 use Rattle.std.proofs.lemmas.Bool.{true≢false, and_parts, leb-true, ltb-true, ltb-false, eqb-true, eq-eqb}
-use Rattle.goo_types.specs.Number.{code_of, serial_of}
+use Rattle.goo_types.specs.Number.{code_of}
 use Rattle.goo_types.specs.Place.{account_of}
 use Rattle.goo_types.specs.Range.{Numbers}
 use Rattle.goo_types.specs.declared.lot_fields.LotFields.{LotFields}
@@ -48,13 +48,13 @@ moved_by Row new true None row = inl refl
 moved_by Row new true (Some known) row = inr (row known.0 known.1 refl refl)
 
 -- a certificate of a range that is moved
-moved : (Row : Known → Known → Type 0) (range : Numbers) (new : LotFields → Place → Place) (n : ℕ) (o : Known)
+pub moved : (Row : Known → Known → Type 0) (range : Numbers) (new : LotFields → Place → Place) (n : ℕ) (o : Known)
     → ((lot : LotFields) (place : Place) → is_within range n ≡ true → o ≡ Some (lot, place) → Row o (Some (lot, new lot place))) → StaysOr Row o (moved_one range new n o)
 moved Row range new n o row = moved_by Row new (is_within range n) o row
 
 -- ---- places
 
-held_there : (account : ℕ) (place : Place) → is_held_by account place ≡ true → place ≡ Held account
+pub held_there : (account : ℕ) (place : Place) → is_held_by account place ≡ true → place ≡ Held account
 held_there account (Held a) h = ap Held (eqb-true a account h)
 held_there account (Cancelled a k) h = absurd (true≢false (sym h))
 held_there account (Expired a) h = absurd (true≢false (sym h))
@@ -68,7 +68,7 @@ held_somewhere (Expired a) h = absurd (true≢false (sym h))
 held_somewhere (Withdrawn a k) h = absurd (true≢false (sym h))
 held_somewhere (Exported a k) h = absurd (true≢false (sym h))
 
-in_place : (o : Known) (lot : LotFields) (old new : Place) → o ≡ Some (lot, old) → old ≡ new → o ≡ Some (lot, new)
+pub in_place : (o : Known) (lot : LotFields) (old new : Place) → o ≡ Some (lot, old) → old ≡ new → o ≡ Some (lot, new)
 in_place o lot old new is same = is ∙ ap (λ p. Some (lot, p)) same
 
 passed : (b : Bool) → not b ≡ true → b ≡ false
@@ -86,34 +86,34 @@ module _ (s : State) (caller : List ℕ) (n : ℕ) where
   given_row x none =
       let met = none_fail (transfer_checks s caller x) none in
       moved (IsGiven s caller x n) x.range (λ lot place. Held x.taker) n (get s.at n) (λ lot place within is.
-          let one : is_one_of (each x.range) n ≡ true = one_within x.range n ∙ within in
-          let held = held_there x.giver place (all_pass (λ l p. is_held_by x.giver p) NotHeld s.at (each x.range) n lot place met.1.1.1.1.0 one is) in
-          record {
-            right = holds _ _ met.0;
-            named = within;
-            lot = lot;
-            was = in_place (get s.at n) lot place (Held x.giver) is held;
-            now = refl;
-            other = apart x.giver x.taker (passes _ _ met.1.0);
-            open_trade = passed (is_closed lot s.today) (all_pass (λ l p. not (is_closed l s.today)) TradeClosed s.at (each x.range) n lot place met.1.1.1.1.1.0 one is);
-          })
+      let one : is_one_of (each x.range) n ≡ true = one_within x.range n ∙ within in
+      let held = held_there x.giver place (all_pass (λ l p. is_held_by x.giver p) NotHeld s.at (each x.range) n lot place met.1.1.1.1.0 one is) in
+      record {
+        right = holds _ _ met.0;
+        named = within;
+        lot = lot;
+        was = in_place (get s.at n) lot place (Held x.giver) is held;
+        now = refl;
+        other = apart x.giver x.taker (passes _ _ met.1.0);
+        open_trade = passed (is_closed lot s.today) (all_pass (λ l p. not (is_closed l s.today)) TradeClosed s.at (each x.range) n lot place met.1.1.1.1.1.0 one is);
+      })
 
   pub cancelled_row : (x : Cancel) → cancel_refusal s caller x ≡ None → IsSound s → StaysOr (IsCancelled s caller x n) (get s.at n) (moved_one x.range (λ lot place. Cancelled x.account s.next_cancellation) n (get s.at n))
   unfolding cancel_refusal
   cancelled_row x none sound =
       let met = none_fail (cancel_checks s caller x) none in
       moved (IsCancelled s caller x n) x.range (λ lot place. Cancelled x.account s.next_cancellation) n (get s.at n) (λ lot place within is.
-          let one : is_one_of (each x.range) n ≡ true = one_within x.range n ∙ within in
-          let held = held_there x.account place (all_pass (λ l p. is_held_by x.account p) NotHeld s.at (each x.range) n lot place met.1.1.1.0 one is) in
-          let was = in_place (get s.at n) lot place (Held x.account) is held in
-          record {
-            right = holds _ _ met.0;
-            named = within;
-            lot = lot;
-            was = was;
-            now = refl;
-            valid = sound.times.current n lot (Held x.account) was refl;
-          })
+      let one : is_one_of (each x.range) n ≡ true = one_within x.range n ∙ within in
+      let held = held_there x.account place (all_pass (λ l p. is_held_by x.account p) NotHeld s.at (each x.range) n lot place met.1.1.1.0 one is) in
+      let was = in_place (get s.at n) lot place (Held x.account) is held in
+      record {
+        right = holds _ _ met.0;
+        named = within;
+        lot = lot;
+        was = was;
+        now = refl;
+        valid = sound.times.current n lot (Held x.account) was refl;
+      })
 
   pub withdrawn_row : (x : Withdraw) → withdraw_refusal s caller x ≡ None
       → StaysOr (IsTakenBack s caller x.range n) (get s.at n) (moved_one x.range (λ lot place. Withdrawn (account_of place) s.next_withdrawal) n (get s.at n))
@@ -121,16 +121,16 @@ module _ (s : State) (caller : List ℕ) (n : ℕ) where
   withdrawn_row x none =
       let met = none_fail (withdraw_checks s caller x) none in
       moved (IsTakenBack s caller x.range n) x.range (λ lot place. Withdrawn (account_of place) s.next_withdrawal) n (get s.at n) (λ lot place within is.
-          let one : is_one_of (each x.range) n ≡ true = one_within x.range n ∙ within in
-          let held = held_somewhere place (all_pass (λ l p. is_held p) NotHeld s.at (each x.range) n lot place met.1.1.0 one is) in
-          record {
-            right = holds _ _ met.0;
-            named = within;
-            lot = lot;
-            account = account_of place;
-            was = in_place (get s.at n) lot place (Held (account_of place)) is held;
-            now = refl;
-          })
+      let one : is_one_of (each x.range) n ≡ true = one_within x.range n ∙ within in
+      let held = held_somewhere place (all_pass (λ l p. is_held p) NotHeld s.at (each x.range) n lot place met.1.1.0 one is) in
+      record {
+        right = holds _ _ met.0;
+        named = within;
+        lot = lot;
+        account = account_of place;
+        was = in_place (get s.at n) lot place (Held (account_of place)) is held;
+        now = refl;
+      })
 
   corrected_by : (x : Correct) → correct_refusal s caller x ≡ None → (o : Option Numbers) → x.range ≡ o → StaysOr (IsCorrected s caller x n) (get s.at n) (corrected_one s o n (get s.at n))
   unfolding correct_refusal
@@ -138,21 +138,21 @@ module _ (s : State) (caller : List ℕ) (n : ℕ) where
   corrected_by x none (Some range) is_range =
       let met = none_fail (correct_checks s caller x) none in
       moved (IsCorrected s caller x n) range (λ lot place. Withdrawn (account_of place) s.next_withdrawal) n (get s.at n) (λ lot place within is.
-          let one : is_one_of (numbers_in x.range) n ≡ true = ap (λ o. is_one_of (numbers_in o) n) is_range ∙ one_within range n ∙ within in
-          let held = held_somewhere place (all_pass (λ l p. is_held p) NotHeld s.at (numbers_in x.range) n lot place met.1.1.1.1.1.1.0 one is) in
-          record {
-            range = range;
-            given = is_range;
-            back = record {
-              right = holds _ _ met.0;
-              named = within;
-              lot = lot;
-              account = account_of place;
-              was = in_place (get s.at n) lot place (Held (account_of place)) is held;
-              now = refl;
-            };
-            own = all_pass (λ l p. is_lot_of s.own x.device l) OtherDevice s.at (numbers_in x.range) n lot place met.1.1.1.1.1.0 one is;
-          })
+      let one : is_one_of (numbers_in x.range) n ≡ true = ap (λ o. is_one_of (numbers_in o) n) is_range ∙ one_within range n ∙ within in
+      let held = held_somewhere place (all_pass (λ l p. is_held p) NotHeld s.at (numbers_in x.range) n lot place met.1.1.1.1.1.1.0 one is) in
+      record {
+        range = range;
+        given = is_range;
+        back = record {
+          right = holds _ _ met.0;
+          named = within;
+          lot = lot;
+          account = account_of place;
+          was = in_place (get s.at n) lot place (Held (account_of place)) is held;
+          now = refl;
+        };
+        own = all_pass (λ l p. is_lot_of s.own x.device l) OtherDevice s.at (numbers_in x.range) n lot place met.1.1.1.1.1.0 one is;
+      })
 
   pub corrected_row : (x : Correct) → correct_refusal s caller x ≡ None → StaysOr (IsCorrected s caller x n) (get s.at n) (corrected_one s x.range n (get s.at n))
   corrected_row x none = corrected_by x none x.range refl
@@ -162,16 +162,16 @@ module _ (s : State) (caller : List ℕ) (n : ℕ) where
   exported_row x none =
       let met = none_fail (export_checks s caller x) none in
       moved (IsExported s caller x n) x.range (λ lot place. Exported x.giver s.next_notice) n (get s.at n) (λ lot place within is.
-          let one : is_one_of (each x.range) n ≡ true = one_within x.range n ∙ within in
-          let held = held_there x.giver place (all_pass (λ l p. is_held_by x.giver p) NotHeld s.at (each x.range) n lot place met.1.1.1.0 one is) in
-          record {
-            right = holds _ _ met.0;
-            named = within;
-            lot = lot;
-            was = in_place (get s.at n) lot place (Held x.giver) is held;
-            now = refl;
-            open_trade = passed (is_closed lot s.today) (all_pass (λ l p. not (is_closed l s.today)) TradeClosed s.at (each x.range) n lot place met.1.1.1.1.0 one is);
-          })
+      let one : is_one_of (each x.range) n ≡ true = one_within x.range n ∙ within in
+      let held = held_there x.giver place (all_pass (λ l p. is_held_by x.giver p) NotHeld s.at (each x.range) n lot place met.1.1.1.0 one is) in
+      record {
+        right = holds _ _ met.0;
+        named = within;
+        lot = lot;
+        was = in_place (get s.at n) lot place (Held x.giver) is held;
+        now = refl;
+        open_trade = passed (is_closed lot s.today) (all_pass (λ l p. not (is_closed l s.today)) TradeClosed s.at (each x.range) n lot place met.1.1.1.1.0 one is);
+      })
 
   expired_held : (x : Advance) → advance_refusal s caller x ≡ None → IsSound s → (lot : LotFields) (a : ℕ) (b : Bool) → get s.at n ≡ Some (lot, Held a) → is_over lot x.day ≡ b
       → StaysOr (IsExpired s caller x) (Some (lot, Held a)) (Some (lot, cond b (Expired a) (Held a)))

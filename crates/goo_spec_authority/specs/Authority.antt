@@ -1,5 +1,5 @@
 -- Who moved what in a list of requests.
-use Rattle.std.specs.Prelude.{◌≡◌, ◌⊎◌, ℕ, true, List, [], ◌∷◌, Option, Some}
+use Rattle.std.specs.Prelude.{◌≡◌, ◌⊎◌, ℕ, true, false, List, [], ◌∷◌, Some}
 use Rattle.std.specs.FinMap.{get}
 use Rattle.goo_types.specs.declared.lot_fields.LotFields.{LotFields}
 use Rattle.goo_types.specs.declared.place.Place.TheVariants.{Held}
@@ -10,7 +10,7 @@ use Rattle.goo_spec.specs.Run.{final}
 use Rattle.goo_spec.specs.Known.{is_accepted}
 use Rattle.goo_spec.specs.Sound.{IsSound}
 use Rattle.goo_spec.specs.Obeys.{AllObey}
-use Rattle.goo_spec_authority.specs.Rights.{IsByRight, MovesByRight, TakesOut, BringsIn}
+use Rattle.goo_spec_authority.specs.Rights.{IsByRight, MovesByRight, is_held_in, TakesOut, BringsIn}
 
 -- it is so of each request of a list, in the state in which it comes
 abbrev pub OfEach : (State → Request → Type 0) → State → List Request → Type 0
@@ -22,13 +22,15 @@ abbrev pub OfOne : (State → Request → Type 0) → State → List Request →
 OfOne P s [] = ⊥
 OfOne P s (q ∷ qs) = P s q ⊎ OfOne P (next s q) qs
 
--- one of the requests was accepted and took the certificate out of what the account holds
+-- one of the requests took the certificate out of what the account held, and might
 abbrev pub WasTakenOut : ℕ → ℕ → State → List Request → Type 0
-WasTakenOut n account = OfOne (λ s q. (is_accepted (outcome s q) ≡ true) × TakesOut n account s q.caller q.command)
+WasTakenOut n account = OfOne (λ s q. (is_accepted (outcome s q) ≡ true)
+    × (is_held_in account (get s.at n) ≡ true) × (is_held_in account (get (next s q).at n) ≡ false) × TakesOut n account s q.caller q.command)
 
 -- or brought it in
 abbrev pub WasBroughtIn : ℕ → ℕ → State → List Request → Type 0
-WasBroughtIn n account = OfOne (λ s q. (is_accepted (outcome s q) ≡ true) × BringsIn n account s q.caller q.command)
+WasBroughtIn n account = OfOne (λ s q. (is_accepted (outcome s q) ≡ true)
+    × (is_held_in account (get s.at n) ≡ false) × (is_held_in account (get (next s q).at n) ≡ true) × BringsIn n account s q.caller q.command)
 
 -- or moved the certificate by right
 abbrev pub WasMoved : ℕ → State → List Request → Type 0

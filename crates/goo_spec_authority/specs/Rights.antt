@@ -8,6 +8,7 @@ use Rattle.goo_types.specs.declared.command.Command.{Command}
 use Rattle.goo_types.specs.declared.command.Command.TheVariants.{Declare, Correct, Transfer, Cancel, Withdraw, Advance, Export, Import}
 use Rattle.goo_types.specs.declared.request.Request.{Request}
 use Rattle.goo_spec.specs.Days.{is_over}
+use Rattle.goo_spec.specs.Lots.{is_held_by}
 use Rattle.goo_spec.specs.Maps.{is_within}
 use Rattle.goo_spec.specs.State.{State, Device}
 use Rattle.goo_spec.specs.Checks.{is_issuer, is_holder}
@@ -36,12 +37,17 @@ MovesByRight s q = (n : ℕ) → (get (next s q).at n ≡ get s.at n)
 
 -- ---- one account
 
+-- whether the account holds a certificate
+abbrev pub is_held_in : ℕ → Known → Bool
+is_held_in account None = false
+is_held_in account (Some known) = is_held_by account known.1
+
 -- whether a range has the number, if there is a range
 abbrev pub is_in : Option Numbers → ℕ → Bool
 is_in None n = false
 is_in (Some range) n = is_within range n
 
--- the command takes the certificate out of what the account holds: its holder gives it away, cancels or exports it, the issuing body takes it back, or it is over
+-- the command may take the certificate out of what the account holds: its holder gives it away, cancels or exports it, the issuing body takes it back, or it is over
 abbrev pub TakesOut : ℕ → ℕ → State → List ℕ → Command → Type 0
 TakesOut n account s caller (Transfer x) = (x.giver ≡ account) × (is_within x.range n ≡ true) × (is_holder caller (get s.accounts account) ≡ true)
 TakesOut n account s caller (Cancel x) = (x.account ≡ account) × (is_within x.range n ≡ true) × (is_holder caller (get s.accounts account) ≡ true)
@@ -51,7 +57,7 @@ TakesOut n account s caller (Correct x) = (is_in x.range n ≡ true) × (is_issu
 TakesOut n account s caller (Advance x) = (lot : LotFields) × (get s.at n ≡ Some (lot, Held account)) × (is_over lot x.day ≡ true)
 TakesOut n account s caller _ = ⊥
 
--- the command brings the certificate into what the account holds: it is issued for a device of the account, given by the holder of the account that holds it, or
+-- the command may bring the certificate into what the account holds: it is issued for a device of the account, given by the holder of the account that holds it, or
 -- imported by a notice to the account
 abbrev pub BringsIn : ℕ → ℕ → State → List ℕ → Command → Type 0
 BringsIn n account s caller (Declare x) = (device : Device) × (get s.devices x.device ≡ Some device) × (device.account ≡ account) × (is_new s x n ≡ true)

@@ -1,5 +1,5 @@
 -- The ways of one certificate: who may ask for each, and its lot and place before and after.
-use Rattle.std.specs.Prelude.{◌≡◌, ◌≢◌, ℕ, Bool, true, false, List, Option, Some, None}
+use Rattle.std.specs.Prelude.{◌≡◌, ◌≢◌, ℕ, true, false, List, Option, Some, None}
 use Rattle.std.specs.FinMap.{get, contains_key}
 use Rattle.goo_types.specs.Number.{code_of}
 use Rattle.goo_types.specs.Range.{Numbers}
@@ -10,7 +10,6 @@ use Rattle.goo_types.specs.declared.command.Declare.{Declare}
 use Rattle.goo_types.specs.declared.command.Correct.{Correct}
 use Rattle.goo_types.specs.declared.command.Transfer.{Transfer}
 use Rattle.goo_types.specs.declared.command.Cancel.{Cancel}
-use Rattle.goo_types.specs.declared.command.Withdraw.{Withdraw}
 use Rattle.goo_types.specs.declared.command.Advance.{Advance}
 use Rattle.goo_types.specs.declared.command.Export.{Export}
 use Rattle.goo_types.specs.declared.command.Import.{Import}

@@ -1,7 +1,5 @@
 -- The dates of lots are kept by any list of requests.
-use Rattle.std.proofs.Common.{◌≡◌, ℕ, false, List, Some, refl, sym, subst}
-use Rattle.std.specs.FinMap.{get}
-use Rattle.goo_types.specs.declared.lot_fields.LotFields.{LotFields}
+use Rattle.std.proofs.Common.{◌≡◌, List, refl, sym, subst}
 use Rattle.goo_types.specs.declared.place.Place.TheVariants.{Held}
 use Rattle.goo_types.specs.declared.request.Request.{Request}
 use Rattle.goo_spec.specs.State.{State}

@@ -1,5 +1,5 @@
 -- What the dates of a lot rule, in a list of requests.
-use Rattle.std.specs.Prelude.{◌≡◌, ◌⊎◌, ℕ, true, false, List, Option, Some, None}
+use Rattle.std.specs.Prelude.{◌≡◌, ◌⊎◌, ℕ, true, false, List, Some, None}
 use Rattle.std.specs.FinMap.{get}
 use Rattle.goo_types.specs.Place.{account_of}
 use Rattle.goo_types.specs.declared.lot_fields.LotFields.{LotFields}

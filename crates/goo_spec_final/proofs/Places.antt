@@ -1,5 +1,5 @@
 -- Places that are final, exported certificates and lots, through a list of requests.
-use Rattle.std.proofs.Common.{◌≡◌, ℕ, Bool, true, false, List, [], ◌∷◌, Option, Some, None, refl, sym, ap, ◌∙◌, subst, inl, inr, ⊎_elim}
+use Rattle.std.proofs.Common.{◌≡◌, ℕ, Bool, true, false, List, [], ◌∷◌, Some, None, refl, sym, ap, ◌∙◌, subst, inl, inr, ⊎_elim}
 use Rattle.std.specs.Prelude.{◌⊎◌}
 use Rattle.std.specs.FinMap.{get}
 use Rattle.std.proofs.lemmas.Bool.{true≢false}
@@ -117,9 +117,9 @@ module _ (n : ℕ) (lot : LotFields) (place : Place) where
   exported_place s [] moves is out = inl is
   exported_place s (q ∷ qs) moves is out = ⊎_elim
       (λ (same : get (next s q).at n ≡ get s.at n). ⊎_elim
-          (λ (still : get (final (next s q) qs).at n ≡ Some (lot, place)). inl still)
-          (λ (later : WasImported n (next s q) qs). inr (inr later))
-          (exported_place (next s q) qs moves.1 (same ∙ is) out))
+      (λ (still : get (final (next s q) qs).at n ≡ Some (lot, place)). inl still)
+      (λ (later : WasImported n (next s q) qs). inr (inr later))
+      (exported_place (next s q) qs moves.1 (same ∙ is) out))
       (λ (went : Went s q n). inr (inl (went.0, by_import s q.caller n lot place is q.command (get (next s q).at n) out went.1)))
       (moves.0 n)
 

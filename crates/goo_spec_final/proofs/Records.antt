@@ -1,5 +1,5 @@
 -- Records of acts, and notices, through a list of requests.
-use Rattle.std.proofs.Common.{◌≡◌, ◌≢◌, ℕ, ◌+◌, ◌<◌, ◌++◌, Bool, true, false, List, [], ◌∷◌, append_assoc, append-nil, Option, Some, None, refl, sym, ap, ◌∙◌, arith}
+use Rattle.std.proofs.Common.{◌≡◌, ℕ, ◌++◌, Bool, true, false, List, [], ◌∷◌, append_assoc, append-nil, Option, Some, None, refl, sym, ap, ◌∙◌, arith}
 use Rattle.std.specs.Prelude.{is_some}
 use Rattle.std.specs.Ordering.{nat_cmp}
 use Rattle.std.specs.Cmp.{nat_cmp_total}
@@ -15,7 +15,6 @@ use Rattle.goo_types.specs.declared.command.Command.{Command}
 use Rattle.goo_types.specs.declared.command.Command.TheVariants.{OpenHolder, OpenAccount, CloseAccount, RegisterDevice, Declare, Correct, Transfer, Cancel, Withdraw, Advance, AddPeer, Export, Import}
 use Rattle.goo_types.specs.declared.request.Request.{Request}
 use Rattle.goo_types.specs.declared.refusal.Refusal.{Refusal}
-use Rattle.goo_types.specs.declared.refusal.Refusal.TheVariants.{KeyReused}
 use Rattle.goo_types.specs.declared.reply.Reply.{Reply}
 use Rattle.goo_types.specs.declared.outcome.Outcome.{Outcome}
 use Rattle.goo_types.specs.declared.outcome.Outcome.TheVariants.{Accepted, Repeated, Refused}

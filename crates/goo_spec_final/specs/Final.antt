@@ -6,16 +6,15 @@ use Rattle.goo_types.specs.Notice.{NoticeContents}
 use Rattle.goo_types.specs.declared.lot_fields.LotFields.{LotFields}
 use Rattle.goo_types.specs.declared.place.Place.{Place}
 use Rattle.goo_types.specs.declared.place.Place.TheVariants.{Held, Cancelled, Expired, Withdrawn, Exported}
-use Rattle.goo_types.specs.declared.command.Declare.{Declare}
 use Rattle.goo_types.specs.declared.command.Command.{Command}
 use Rattle.goo_types.specs.declared.command.Command.TheVariants.{Import}
 use Rattle.goo_types.specs.declared.reply.Reply.{Reply}
 use Rattle.goo_types.specs.declared.request.Request.{Request}
 use Rattle.goo_types.specs.declared.outcome.Outcome.{Outcome}
 use Rattle.goo_spec.specs.Lots.{lot_in, is_exported}
-use Rattle.goo_spec.specs.State.{State, Correction, Cancellation, Withdrawal, Sent}
+use Rattle.goo_spec.specs.State.{State, Cancellation, Withdrawal, Sent}
 use Rattle.goo_spec.specs.Import.{names}
-use Rattle.goo_spec.specs.Step.{outcome, next}
+use Rattle.goo_spec.specs.Step.{outcome}
 use Rattle.goo_spec.specs.Run.{outcomes, final}
 use Rattle.goo_spec.specs.Known.{is_accepted, is_in_issue}
 use Rattle.goo_spec.specs.Sound.{IsSound}
