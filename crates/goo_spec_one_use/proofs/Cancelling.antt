@@ -1,9 +1,8 @@
 -- What an accepted cancellation names was held, and is cancelled then.
-use Rattle.std.proofs.Common.{◌≡◌, ℕ, ◌+◌, Bool, true, false, cond, List, Option, Some, None, refl, sym, ap, ◌∙◌, subst}
+use Rattle.std.proofs.Common.{◌≡◌, ℕ, true, cond, List, Some, None, refl, sym, ap, ◌∙◌}
 use Rattle.std.specs.FinMap.{get}
 use Rattle.std.proofs.lemmas.Bool.{true≢false}
 use Rattle.goo_types.specs.declared.lot_fields.LotFields.{LotFields}
-use Rattle.goo_types.specs.declared.place.Place.{Place}
 use Rattle.goo_types.specs.declared.place.Place.TheVariants as place
 use Rattle.goo_types.specs.declared.command.Cancel as cancel
 use Rattle.goo_types.specs.declared.command.Command.{Command}
@@ -18,7 +17,7 @@ use Rattle.goo_spec.specs.Maps.{each, is_within, replaced, least_absent}
 use Rattle.goo_spec.specs.State.{State}
 use Rattle.goo_spec.specs.Cancel.{cancel_checks, cancel_refusal}
 use Rattle.goo_spec.specs.Fate.{fate}
-use Rattle.goo_spec.specs.Step.{refusal, accept, outcome, after, next}
+use Rattle.goo_spec.specs.Step.{refusal, outcome, after, next}
 use Rattle.goo_spec.proofs.Checking.{none_fail, unfound, all_pass}
 use Rattle.goo_spec.proofs.Fating.{fate_accept}
 use Rattle.goo_spec.proofs.Numbers.{one_within}
@@ -26,7 +25,7 @@ use Rattle.goo_spec.proofs.Placing.{is_one_of, passed_over}
 use Rattle.goo_spec.proofs.Stepping.{accepted_passes}
 use Rattle.goo_spec_authority.specs.Ways.{Known}
 use Rattle.goo_spec_authority.proofs.Rows.{held_there, in_place}
-use Rattle.goo_spec_one_use.specs.Used.{is_cancelled, cancels}
+use Rattle.goo_spec_one_use.specs.Used.{cancels}
 
 -- held before, and cancelled after
 pub record IsUsed (before after : Known) : Type 0 where

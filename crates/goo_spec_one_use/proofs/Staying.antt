@@ -1,12 +1,10 @@
 -- A cancelled certificate stays cancelled in its registry.
-use Rattle.std.proofs.Common.{◌≡◌, ℕ, ◌+◌, ◌<◌, ◌≤◌, Bool, true, false, cond, leb, ltb, List, Option, Some, None, refl, sym, ap, ◌∙◌, subst, arith, inl, inr, ⊎_elim}
-use Rattle.std.specs.Prelude.{◌⊎◌, is_some}
+use Rattle.std.proofs.Common.{◌≡◌, ℕ, ◌+◌, ◌≤◌, Bool, true, false, cond, leb, ltb, List, Option, Some, None, refl, sym, ap, ◌∙◌, subst, arith, inl, inr}
+use Rattle.std.specs.Prelude.{is_some}
 use Rattle.std.specs.FinMap.{get, contains_key}
 use Rattle.std.proofs.lemmas.Bool.{true≢false, and_parts, leb-true, ltb-true, false_from_ne_true}
 use Rattle.goo_types.specs.Number.{code_of, serial_of}
-use Rattle.goo_types.specs.Range.{Numbers}
 use Rattle.goo_types.specs.declared.lot_fields.LotFields.{LotFields}
-use Rattle.goo_types.specs.declared.place.Place.{Place}
 use Rattle.goo_types.specs.declared.place.Place.TheVariants as place
 use Rattle.goo_types.specs.declared.command.Declare as declare
 use Rattle.goo_types.specs.declared.command.Cancel as cancel
@@ -17,17 +15,16 @@ use Rattle.goo_types.specs.declared.request.Request.{Request}
 use Rattle.goo_types.specs.declared.outcome.Outcome.{Outcome}
 use Rattle.goo_types.specs.declared.outcome.Outcome.TheVariants.{Accepted, Repeated, Refused}
 use Rattle.goo_spec.specs.Lots.{is_held_by}
-use Rattle.goo_spec.specs.Maps.{each, is_within, replaced}
+use Rattle.goo_spec.specs.Maps.{each, replaced}
 use Rattle.goo_spec.specs.State.{State, Device, serials}
 use Rattle.goo_spec.specs.Advance.{aged}
 use Rattle.goo_spec.specs.Cancel.{cancel_checks, cancel_refusal}
 use Rattle.goo_spec.specs.Declare.{next_number, earned, lot_of, declare_refusal}
 use Rattle.goo_spec.specs.Fate.{is_new, issued_one, moved_one, fate}
-use Rattle.goo_spec.specs.Step.{refusal, accept, outcome, after, next}
+use Rattle.goo_spec.specs.Step.{refusal, outcome, after, next}
 use Rattle.goo_spec.proofs.Allowed.{serials_left}
 use Rattle.goo_spec.proofs.Checking.{none_fail, all_pass}
 use Rattle.goo_spec.proofs.Fating.{fate_accept}
-use Rattle.goo_spec.proofs.Mapping.{inside}
 use Rattle.goo_spec.proofs.Numbers.{one_within}
 use Rattle.goo_spec.proofs.Placing.{is_one_of}
 use Rattle.goo_spec.proofs.Stepping.{accepted_passes}

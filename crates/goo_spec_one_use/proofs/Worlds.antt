@@ -1,12 +1,10 @@
 -- Cancelled once, after any list of events.
-use Rattle.std.proofs.Common.{◌≡◌, ◌≢◌, ℕ, zero, suc, ◌+◌, ◌≤◌, ◌==◌, ◌&&◌, ◌||◌, Bool, true, false, cond, List, [], ◌∷◌, Option, Some, None, refl, sym, ap, ◌∙◌, subst, arith, inl, inr, ⊎_elim}
+use Rattle.std.proofs.Common.{◌≡◌, ◌≢◌, ℕ, ◌+◌, ◌≤◌, ◌==◌, ◌&&◌, Bool, true, false, cond, List, [], ◌∷◌, Option, Some, None, refl, sym, ap, ◌∙◌, arith, ⊎_elim}
 use Rattle.std.specs.FinMap.{get, contains_key}
-use Rattle.std.proofs.lemmas.Bool.{true≢false, and_parts, eqb-true, eq-eqb, or_cases, false_from_ne_true}
-use Rattle.goo_types.specs.Day.{CalendarDay}
-use Rattle.goo_types.specs.Number.{code_of, serial_of}
+use Rattle.std.proofs.lemmas.Bool.{true≢false, and_parts, eqb-true, or_cases, false_from_ne_true}
+use Rattle.goo_types.specs.Number.{code_of}
 use Rattle.goo_types.specs.Notice.{NoticeContents}
 use Rattle.goo_types.specs.declared.lot_fields.LotFields.{LotFields}
-use Rattle.goo_types.specs.declared.place.Place.{Place}
 use Rattle.goo_types.specs.declared.place.Place.TheVariants as place
 use Rattle.goo_types.specs.declared.command.Command.{Command}
 use Rattle.goo_types.specs.declared.command.Command.TheVariants.{OpenHolder, OpenAccount, CloseAccount, RegisterDevice, Declare, Correct, Transfer, Cancel, Withdraw, Advance, AddPeer, Export, Import}
@@ -16,11 +14,11 @@ use Rattle.goo_types.specs.declared.outcome.Outcome.TheVariants.{Accepted, Repea
 use Rattle.goo_spec.specs.State.{State}
 use Rattle.goo_spec.specs.Step.{outcome, next}
 use Rattle.goo_spec_authority.specs.Ways.{Known}
-use Rattle.goo_spec_one_home.specs.World.{World, Event, Asks, Delivers, where_at, contains, put, nth, stepped, is_import, import_of, delivered, happens_at, happens, run, AreDistinct, start, one, count, is_home, homes, roads}
+use Rattle.goo_spec_one_home.specs.World.{World, Event, Asks, Delivers, where_at, contains, nth, stepped, is_import, import_of, delivered, happens_at, happens, run, start, one, count, is_home, roads}
 use Rattle.goo_spec_one_home.proofs.Counts.{put-has, put-here}
 use Rattle.goo_spec_one_home.proofs.Keeps.{Keeps}
 use Rattle.goo_spec_one_use.proofs.Keeping.{happens_keeps, run_keeps, start_keeps}
-use Rattle.goo_spec_one_use.specs.Used.{is_cancelled, cancels, cancels_at, is_cancelling, times_cancelled, CancelledOnce, CancelledForGood}
+use Rattle.goo_spec_one_use.specs.Used.{is_cancelled, cancels, is_cancelling, times_cancelled, CancelledOnce, CancelledForGood}
 use Rattle.goo_spec_one_use.proofs.Staying.{IsUnused, cancelled_stays}
 use Rattle.goo_spec_one_use.proofs.Cancelling.{used}
 
