@@ -4,6 +4,10 @@ ghost use Rattle.std.specs.Prelude.{◌≡◌, Some, IfOk, IfSome, OnErr};
 ghost use Rattle.goo_ranges_rows.specs.Rows.{AreRowsOf, rows-prop};
 ghost use Rattle.goo_spec.specs.Balanced.{IsBalanced};
 ghost use Rattle.goo_spec.specs.Promise.{HaveTheirPlace, AreThoseBrought};
+ghost use Rattle.goo_spec_authority.specs.Authority.{IsMovedByRight};
+ghost use Rattle.goo_spec_classes.specs.Classes.{AddsUp};
+ghost use Rattle.goo_spec_deadlines.specs.Deadlines.{IsInTime};
+ghost use Rattle.goo_spec_final.specs.Final.{IsForGood};
 ghost use Rattle.goo_spec_idle.specs.Idle.{OthersMakeNoDifference};
 ghost use Rattle.goo_spec.specs.Sound.{IsSound};
 ghost use Rattle.goo_registry.specs.Applying.{Applies};
@@ -112,7 +116,14 @@ impl<S: Shelf> Registry<S> {
     ///   those that corrections withdrew, plus a carry below 1,000,000;
     /// - `one_place`: each certificate known before, and each ever issued or imported, is in one place: the one that the
     ///   accepted requests, each once, give it when they are applied certificate by certificate (`known`: there are no others);
-    /// - `others_idle`: refused and repeated requests change nothing: the others alone leave the same state, and have the same outcomes.
+    /// - `others_idle`: refused and repeated requests change nothing: the others alone leave the same state, and have the same outcomes;
+    /// - `moved_by_right`: a certificate leaves an account only by an accepted request of the account's holder or of the issuing body, or by
+    ///   the date, and comes into one only as it is issued, given by its holder, or imported;
+    /// - `for_good`: a cancelled, expired or withdrawn certificate stays so, and an exported one until an import names it; no number is
+    ///   issued twice; lots, receipts, notices and the records of acts never change;
+    /// - `in_time`: once trade is closed a certificate leaves its account no more, and none is cancelled or held past its last day;
+    /// - `adds_up`: the own certificates of any class are as many as there were and as were issued, and each is held, cancelled, expired,
+    ///   withdrawn or exported.
     ///
     /// # Errors
     ///
@@ -137,6 +148,10 @@ impl<S: Shelf> Registry<S> {
         ensures one_place { (S.seen self.new.shelf).doubts ≡ 0 → HaveTheirPlace (S.seen self.old.shelf).state (answered requests.now result) (S.seen self.new.shelf).state }
         ensures known { (S.seen self.new.shelf).doubts ≡ 0 → AreThoseBrought (S.seen self.old.shelf).state (answered requests.now result) (S.seen self.new.shelf).state }
         ensures others_idle { (S.seen self.new.shelf).doubts ≡ 0 → OthersMakeNoDifference (S.seen self.old.shelf).state (answered requests.now result) (answers result) (S.seen self.new.shelf).state }
+        ensures moved_by_right { (S.seen self.new.shelf).doubts ≡ 0 → IsMovedByRight (S.seen self.old.shelf).state (answered requests.now result) (S.seen self.new.shelf).state }
+        ensures for_good { (S.seen self.new.shelf).doubts ≡ 0 → IsForGood (S.seen self.old.shelf).state (answered requests.now result) (answers result) (S.seen self.new.shelf).state }
+        ensures in_time { (S.seen self.new.shelf).doubts ≡ 0 → IsInTime (S.seen self.old.shelf).state (answered requests.now result) (S.seen self.new.shelf).state }
+        ensures adds_up { (S.seen self.new.shelf).doubts ≡ 0 → AddsUp (S.seen self.old.shelf).state (answered requests.now result) (answers result) (S.seen self.new.shelf).state }
     {
         run_all(alloc, &mut self.shelf, requests)
     }

@@ -1,0 +1,4 @@
+pub mod Rows
+pub mod Taking
+pub mod Rights
+pub mod Lists

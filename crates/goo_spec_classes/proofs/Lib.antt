@@ -1,0 +1,3 @@
+pub mod Parting
+pub mod Importing
+pub mod Growing

@@ -1,0 +1,4 @@
+pub mod Dates
+pub mod Closing
+pub mod Ending
+pub mod Keeping

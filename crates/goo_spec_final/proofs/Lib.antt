@@ -1,0 +1,4 @@
+pub mod Places
+pub mod Issued
+pub mod Records
+pub mod Lasting

@@ -1,0 +1,11 @@
+//! What never changes again: places that are final, serials, lots, receipts and the records of acts.
+//!
+//! `specs/Final.antt` says it of a list of requests that was answered. It is a clause of `Registry::run`.
+#![tactic(auto)]
+
+ghost use Rattle.goo_spec_final.specs.Final.{NeverAgain};
+
+/// The law, over every list of requests within their limits, from every sound state.
+pub fn never_again()
+    ensures { NeverAgain }
+{}

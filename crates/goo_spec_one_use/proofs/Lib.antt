@@ -1,0 +1,4 @@
+pub mod Keeping
+pub mod Staying
+pub mod Cancelling
+pub mod Worlds
