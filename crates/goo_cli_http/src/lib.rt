@@ -3,4 +3,5 @@
 
 mod serving;
 
+pub use goo_desk_server::Visits;
 pub use serving::serve_registry;
