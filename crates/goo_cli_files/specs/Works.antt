@@ -36,14 +36,6 @@ asked_for (job.InFile file done) = asked_in file.now done
 asked_for (job.RunInMemory opening) = Run (InMemory opening)
 asked_for (job.ServeInMemory opening serving) = Serve (InMemory opening) serving
 
--- how many connections are to be accepted
-abbrev pub connections_of : Work → ℕ
-connections_of work.Run = 0
-connections_of work.Declare = 0
-connections_of (work.Statement account) = 0
-connections_of work.Audit = 0
-connections_of (work.Serve serving) = serving.count
-
 module _ {D : Type 0} {g : Ghosts D} (s : State) (read had has : Option (List ℕ)) (told : Ending) (rest : Left D g) where
   -- the lines of an input were answered from this state on: all were accepted, or some were not; their outcomes are written, and where the log
   -- was copied, the file holds what they come to. After a fault the same is so of the first lines. What is promised holds of those that were

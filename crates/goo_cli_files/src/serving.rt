@@ -1,5 +1,5 @@
 //! The command `serve`.
-ghost use Rattle.std.specs.Prelude.{◌≡◌, ◌+◌, false, IsTrue};
+ghost use Rattle.std.specs.Prelude.{◌≡◌, false, IsTrue};
 ghost use Rattle.std.specs.Io.Buffered.{writer_contents};
 ghost use Rattle.std.specs.Io.KnownBytes.{Appends};
 ghost use Rattle.sqlite.specs.Files.{image_of, HoldsDatabase};
@@ -15,7 +15,7 @@ ghost use Rattle.goo_cli_registry.specs.Closings.{HasSpareLog, HoldsSome, IfRefu
 
 use goo_cli::{Opening, Serving};
 use goo_cli_ending::Ending;
-use goo_cli_http::{Visits, serve_registry};
+use goo_cli_http::serve_registry;
 use goo_cli_registry::closing::{Left, close_registry};
 use goo_cli_registry::in_memory::open_in_memory;
 use goo_cli_registry::opening::{begin, failure_of, open_registry};
@@ -32,18 +32,16 @@ fn serve_new<S: Alter, W: Write + Drop>(
     conn: Connection<S>,
     opening: Opening,
     serving: Serving,
-    visits: &mut Visits,
     writer: &mut BufWriter<W>,
 ) -> (Ending, Connection<S>)
     requires outside { conn.in_transaction ≡ false }
     requires ordered { HasCleanDisk (view S.Store conn) → IsInKeyOrder (view S.Store conn).now }
     ensures announced { status_of result.0 ≡ 0 → Appends (writer_contents W.contents writer.old) (writer_contents W.contents writer.new) (listening_text serving.port) }
-    ensures counted { status_of result.0 ≡ 0 → visits.new ≡ visits.old + serving.count }
 {
     match begin(rt.alloc(), conn, Start::New(opening)) {
         Ok(shelf) => {
             let mut registry = Registry::new(shelf);
-            let ending = serve_registry(rt, &mut registry, serving, visits, writer);
+            let ending = serve_registry(rt, &mut registry, serving, writer);
             (ending, registry.into_shelf().into_connection())
         }
         Err((conn, fault)) => (Ending::Failed(failure_of(fault)), conn),
@@ -53,29 +51,26 @@ fn serve_new<S: Alter, W: Write + Drop>(
 /// Serves so many connections by a new registry whose records are tables in memory, and are gone when the program ends.
 ///
 /// - `announced`: status 0 only where the line is written that tells at which port.
-/// - `counted`: status 0 only where as many connections were accepted as asked for, which `visits` counts.
 pub fn serve_in_memory<W: Write + Drop>(
     rt: &HostRuntime,
     opening: Opening,
     serving: Serving,
-    visits: &mut Visits,
     writer: &mut BufWriter<W>,
 ) -> Ending
     ensures announced { status_of result ≡ 0 → Appends (writer_contents W.contents writer.old) (writer_contents W.contents writer.new) (listening_text serving.port) }
-    ensures counted { status_of result ≡ 0 → visits.new ≡ visits.old + serving.count }
 {
     let conn = match open_in_memory(rt.alloc()) {
         Ok(conn) => conn,
         Err(failure) => return Ending::Failed(failure),
     };
-    let (ending, _conn) = serve_new(rt, conn, opening, serving, visits, writer);
+    let (ending, _conn) = serve_new(rt, conn, opening, serving, writer);
     ending
 }
 
 /// Serves so many connections by the registry that files hold, and closes it; `line` tells if it is of version 1. What is said holds so long as the
 /// files returned what was written, and `db` is the database that they held.
 ///
-/// - `announced`, `counted`: as for [`serve_in_memory`].
+/// - `announced`: as for [`serve_in_memory`].
 /// - `promised`: what a registry promises after any list of requests holds of what the files held, the requests that the connections left
 ///   applied, and what the file alone holds then, where the log could be copied.
 /// - `unharmed`: where there is no registry, no harm came to what the files held, after a crash too: but for a registry of version 1, the same
@@ -86,14 +81,12 @@ pub fn serve_in_files<D: Disk + Drop, W: Write + Drop, E: Write>(
     files: Files<D>,
     seed: u64,
     serving: Serving,
-    visits: &mut Visits,
     writer: &mut BufWriter<W>,
     line: &mut RenewalLine<'_, E>,
 ) -> (Ending, Left<D>)
     requires log { IsTrue (D.Disk.is_usable files.log) }
     requires db { IsTrue (D.Disk.is_usable files.db) }
     ensures announced { status_of result.0 ≡ 0 → Appends (writer_contents W.contents writer.old) (writer_contents W.contents writer.new) (listening_text serving.port) }
-    ensures counted { status_of result.0 ≡ 0 → visits.new ≡ visits.old + serving.count }
     ensures promised { IsClean result.1 → (db : Trees) → HoldsDatabase (image_of D.Disk files) db → HoldsSome result.1 (KeepsPromise serving.count (state_held db)) }
     ensures unharmed { IsClean result.1 → IfRefused result.1 (LeavesRegistry files) }
     ensures copied { HasSpareLog result.1 }
@@ -101,7 +94,7 @@ pub fn serve_in_files<D: Disk + Drop, W: Write + Drop, E: Write>(
     match open_registry(rt.alloc(), files, seed, line) {
         Ok(shelf) => {
             let mut registry = Registry::new(shelf);
-            let ending = serve_registry(rt, &mut registry, serving, visits, writer);
+            let ending = serve_registry(rt, &mut registry, serving, writer);
             (ending, close_registry(registry.into_shelf()))
         }
         Err((failure, left)) => (Ending::Failed(failure), Left::Refused(left)),

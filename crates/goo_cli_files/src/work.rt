@@ -1,19 +1,17 @@
 //! What is done with a registry, by the task that the command line names.
-ghost use Rattle.std.specs.Prelude.{◌≡◌, ◌+◌, IsTrue};
+ghost use Rattle.std.specs.Prelude.{◌≡◌, IsTrue};
 ghost use Rattle.std.specs.Io.Buffered.{writer_contents};
 ghost use Rattle.sqlite.specs.Files.{image_of, HoldsDatabase};
 ghost use Rattle.sqlite.specs.Tree.{Trees};
 ghost use Rattle.goo_store.specs.Versions.{state_held};
 ghost use Rattle.goo_cli.specs.Asked.{asked_by};
 ghost use Rattle.goo_cli_registry.specs.Closings.{HasSpareLog, IfRefused, IsClean, LeavesRegistry};
-ghost use Rattle.goo_cli_ending.specs.Endings.{status_of};
-ghost use Rattle.goo_cli_files.specs.Works.{asked_for, connections_of, IsWorked};
+ghost use Rattle.goo_cli_files.specs.Works.{asked_for, IsWorked};
 
 use crate::in_files::{audit_in_files, declare_in_files, statement_in_files};
 use crate::serving::serve_in_files;
 use goo_cli::{Opening, Records, Serving, Task};
 use goo_cli_ending::Ending;
-use goo_cli_http::Visits;
 use goo_cli_registry::closing::Left;
 use goo_cli_registry::renewal_line::RenewalLine;
 use goo_cli_registry::running::run_in_files;
@@ -85,7 +83,6 @@ pub fn job_of<'a>(task: &Task<'a>) -> Job<'a>
 ///
 /// - `worked`: what is done is what was asked for: for a statement the account's, for an audit the audit's text, for lines and for rows
 ///   what they come to, for connections what is promised of their requests. A statement and an audit leave the registry as it was.
-/// - `counted`: status 0 only where as many connections were accepted as asked for, which `visits` counts.
 /// - `unharmed`: where there is no registry, no harm came to what the files held, after a crash too: but for a registry of version 1, the same
 ///   registry in version 2 may be found then.
 /// - `copied`: a log that is said to be copied into the database file is.
@@ -94,7 +91,6 @@ pub fn work_in_files<D: Disk + Drop, R: Read, W: Write + Drop, T: Write, E: Writ
     files: Files<D>,
     seed: u64,
     work: &Work,
-    visits: &mut Visits,
     reader: &mut R,
     writer: &mut BufWriter<W>,
     progress: &mut ProgressLine<T>,
@@ -103,7 +99,6 @@ pub fn work_in_files<D: Disk + Drop, R: Read, W: Write + Drop, T: Write, E: Writ
     requires log { IsTrue (D.Disk.is_usable files.log) }
     requires db { IsTrue (D.Disk.is_usable files.db) }
     ensures worked { IsClean result.1 → (db : Trees) → HoldsDatabase (image_of D.Disk files) db → IsWorked (state_held db) (R.remaining reader.old) (writer_contents W.contents writer.old) (writer_contents W.contents writer.new) result.0 result.1 work.now }
-    ensures counted { status_of result.0 ≡ 0 → visits.new ≡ visits.old + connections_of work.now }
     ensures unharmed { IsClean result.1 → IfRefused result.1 (LeavesRegistry files) }
     ensures copied { HasSpareLog result.1 }
 {
@@ -113,8 +108,6 @@ pub fn work_in_files<D: Disk + Drop, R: Read, W: Write + Drop, T: Write, E: Writ
         Work::Declare => declare_in_files(alloc, files, seed, reader, writer, progress, line),
         Work::Statement(account) => statement_in_files(alloc, files, seed, *account, writer, line),
         Work::Audit => audit_in_files(alloc, files, seed, writer, line),
-        Work::Serve(serving) => {
-            serve_in_files(rt, files, seed, *serving, visits, writer, line)
-        }
+        Work::Serve(serving) => serve_in_files(rt, files, seed, *serving, writer, line),
     }
 }

@@ -3,5 +3,4 @@
 
 mod serving;
 
-pub use goo_desk_server::Visits;
 pub use serving::serve_registry;

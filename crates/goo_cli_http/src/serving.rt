@@ -1,5 +1,5 @@
 //! A registry served over HTTP on 127.0.0.1.
-ghost use Rattle.std.specs.Prelude.{◌≡◌, ◌≢◌, ◌+◌};
+ghost use Rattle.std.specs.Prelude.{◌≡◌, ◌≢◌};
 ghost use Rattle.std.specs.Io.Buffered.{writer_contents};
 ghost use Rattle.std.specs.Io.KnownBytes.{Appends};
 ghost use Rattle.goo_cli_ending.specs.Endings.{status_of};
@@ -10,7 +10,7 @@ ghost use Rattle.goo_cli_http.specs.Endings.{ending_of_server, listening_text};
 use goo_cli::Serving;
 use goo_cli_ending::{Ending, Failure};
 use goo_core_shelf::shelf::Shelf;
-use goo_desk_server::{ServerFault, Visits, serve};
+use goo_desk_server::{ServerFault, serve};
 use goo_registry::Registry;
 use std::io::{BufWriter, Write};
 use std::net::TcpListener;
@@ -32,19 +32,16 @@ fn ending_of(served: Result<(), ServerFault>) -> Ending
 /// Serves so many connections by a registry, one after another. Where the port can't be had, that is a fault of what is read.
 ///
 /// - `announced`: status 0 only where the line is written that tells at which port.
-/// - `counted`: status 0 only where as many connections were accepted as asked for, which `visits` counts.
 /// - `promised`: what a registry promises after any list of requests holds of those that the connections left applied.
 /// - `lied`: what keeps the records returned what was written before, where it did so to the end.
 pub fn serve_registry<S: Shelf, W: Write + Drop>(
     rt: &HostRuntime,
     registry: &mut Registry<S>,
     serving: Serving,
-    visits: &mut Visits,
     writer: &mut BufWriter<W>,
 ) -> Ending
     ensures words { status_of result ≢ 2 }
     ensures announced { status_of result ≡ 0 → Appends (writer_contents W.contents writer.old) (writer_contents W.contents writer.new) (listening_text serving.port) }
-    ensures counted { status_of result ≡ 0 → visits.new ≡ visits.old + serving.count }
     ensures promised { IsSound (S.seen registry.old.shelf).state → (S.seen registry.new.shelf).lies ≡ 0 → (S.seen registry.new.shelf).doubts ≡ 0 → KeepsPromise serving.count (S.seen registry.old.shelf).state (S.seen registry.new.shelf).state }
     ensures lied { (S.seen registry.new.shelf).lies ≡ 0 → (S.seen registry.old.shelf).lies ≡ 0 }
 {
@@ -58,7 +55,6 @@ pub fn serve_registry<S: Shelf, W: Write + Drop>(
         &listener,
         serving.port,
         serving.count,
-        visits,
         writer,
     );
     ending_of(served)

@@ -1,5 +1,5 @@
 -- The promise, by how an import ended.
-use Rattle.std.proofs.Common.{inl, inr, refl, ap, subst, ◌≡◌, ◌⊎◌, ℕ, List, [], Option, Some, None, IfSome}
+use Rattle.std.proofs.Common.{inl, inr, refl, ap, subst, ◌≡◌, ℕ, List, [], Option, Some, None, IfSome}
 use Rattle.goo_spec.specs.Checks.{issuer}
 use Rattle.goo_spec.specs.Promise.{IsPromised}
 use Rattle.goo_spec.specs.Sound.{IsSound}

@@ -52,15 +52,6 @@ one_more count old mid new bytes so (qs, are, obey, is) =
       obey = subst AllObey (sym more) (All-append (λ q. Obeys q.command) (requests_of before) qs so.obey obey);
     }
 
--- no connection at all
-pub none_promised : (most : ℕ) (s : State) → IsSound s → KeepsPromise most s s
-none_promised most s sound = record {
-  connections = [];
-  few = let e : 0 ≤ most = omega arith in e;
-  brought = All-nil (λ (c : Connection). AreLeft c.0 c.1);
-  promised = promised s s [] (All-nil (λ q. Obeys q.command)) sound refl;
-}
-
 module _ (shows : Showing) (imports : Importing) (begins : Beginning) (runs : ImportsAreRuns imports begins) where
   steps_run : (count : ℕ) (old new : Seen) → Steps shows imports begins count old new → new.lies ≡ 0 → new.doubts ≡ 0 → Run count old.state new.state
   steps_run zero old new is honest sure = no_run old.state new.state (ap (λ (m : Seen). m.state) is)

@@ -7,9 +7,7 @@ mod receiver;
 mod sender;
 mod server;
 mod server_fault;
-mod visits;
 
 pub use connection::serve_stream;
 pub use server::serve;
 pub use server_fault::ServerFault;
-pub use visits::Visits;

@@ -1,5 +1,5 @@
 //! A listener's connections, one after another.
-ghost use Rattle.std.specs.Prelude.{◌≡◌, ◌+◌, ◌++◌, codes, decimal, OnOk};
+ghost use Rattle.std.specs.Prelude.{◌≡◌, ◌++◌, codes, decimal, OnOk};
 ghost use Rattle.std.specs.Io.KnownBytes.{Appends};
 ghost use Rattle.goo_desk_connection.specs.Serving.{Connects};
 ghost use Rattle.goo_spec.specs.Sound.{IsSound};
@@ -9,7 +9,6 @@ ghost use Rattle.goo_desk_server.specs.Serving.{IsToldIn, StepsUpTo};
 
 use crate::connection::serve_stream;
 use crate::server_fault::ServerFault;
-use crate::visits::Visits;
 use arrayvec::ArrayString;
 use goo_desk_connection::ServeFault;
 use goo_desk_counter::Counter;
@@ -51,14 +50,12 @@ fn serve_next<D: Counter, C: Clock>(
     clock: &C,
     desk: &mut D,
     listener: &TcpListener,
-    visits: &mut Visits,
 ) -> Result<(), ServerFault>
-    ensures counted { OnOk result (visits.new ≡ visits.old + 1) }
     ensures connects { Connects D.shows D.imports D.begins (D.seen desk.old) (D.seen desk.new) }
     ensures lied { (D.seen desk.new).lies ≡ 0 → (D.seen desk.old).lies ≡ 0 }
     ensures told { (D.seen desk.old).refusals ≡ 0 → IsToldIn result (D.seen desk.new).refusals }
 {
-    let Some(stream) = visits.accept(listener) else {
+    let Ok((stream, _)) = listener.accept() else {
         return Err(ServerFault::Accept);
     };
     match serve_stream(alloc, routes, clock, desk, &stream) {
@@ -75,15 +72,13 @@ fn serve_all<D: Counter, C: Clock>(
     desk: &mut D,
     listener: &TcpListener,
     count: u32,
-    visits: &mut Visits,
 ) -> Result<(), ServerFault>
-    ensures counted { OnOk result (visits.new ≡ visits.old + count) }
     ensures steps { StepsUpTo D.shows D.imports D.begins count (D.seen desk.old) (D.seen desk.new) }
     ensures lied { (D.seen desk.new).lies ≡ 0 → (D.seen desk.old).lies ≡ 0 }
     ensures told { (D.seen desk.old).refusals ≡ 0 → IsToldIn result (D.seen desk.new).refusals }
 {
     for _ in 0..count {
-        serve_next(alloc, routes, clock, desk, listener, visits)?;
+        serve_next(alloc, routes, clock, desk, listener)?;
     }
     Ok(())
 }
@@ -97,24 +92,22 @@ fn serve_by_routes<D: Counter, C: Clock, W: Write>(
     listener: &TcpListener,
     port: u16,
     count: u32,
-    visits: &mut Visits,
     writer: &mut W,
 ) -> Result<(), ServerFault>
     ensures announced { OnOk result (Appends (W.contents writer.old) (W.contents writer.new) (codes "listening 127.0.0.1:" ++ (decimal port ++ codes "\n"))) }
-    ensures counted { OnOk result (visits.new ≡ visits.old + count) }
     ensures steps { StepsUpTo D.shows D.imports D.begins count (D.seen desk.old) (D.seen desk.new) }
     ensures lied { (D.seen desk.new).lies ≡ 0 → (D.seen desk.old).lies ≡ 0 }
     ensures told { (D.seen desk.old).refusals ≡ 0 → IsToldIn result (D.seen desk.new).refusals }
 {
     match announce(port, writer) {
-        Ok(()) => serve_all(alloc, routes, clock, desk, listener, count, visits),
+        Ok(()) => serve_all(alloc, routes, clock, desk, listener, count),
         Err(_) => Err(ServerFault::Write),
     }
 }
 
 /// Tells on `writer` at which port of 127.0.0.1 it listens, and flushes that; then serves `count` connections, one after another.
 /// A connection that fails, or that a deadline cuts off, ends alone. Each connection leaves the registry as answering some request
-/// leaves it, or as it was. `counted`: it ends well only once as many were accepted, which `visits` counts.
+/// leaves it, or as it was.
 ///
 /// # Errors
 ///
@@ -126,11 +119,9 @@ pub fn serve<D: Counter, C: Clock, W: Write>(
     listener: &TcpListener,
     port: u16,
     count: u32,
-    visits: &mut Visits,
     writer: &mut W,
 ) -> Result<(), ServerFault>
     ensures announced { OnOk result (Appends (W.contents writer.old) (W.contents writer.new) (codes "listening 127.0.0.1:" ++ (decimal port ++ codes "\n"))) }
-    ensures counted { OnOk result (visits.new ≡ visits.old + count) }
     ensures steps { StepsUpTo D.shows D.imports D.begins count (D.seen desk.old) (D.seen desk.new) }
     ensures lied { (D.seen desk.new).lies ≡ 0 → (D.seen desk.old).lies ≡ 0 }
     ensures told { (D.seen desk.old).refusals ≡ 0 → IsToldIn result (D.seen desk.new).refusals }
@@ -139,7 +130,5 @@ pub fn serve<D: Counter, C: Clock, W: Write>(
     let Ok(routes) = Routes::new(alloc) else {
         return Err(ServerFault::Memory);
     };
-    serve_by_routes(
-        alloc, &routes, clock, desk, listener, port, count, visits, writer,
-    )
+    serve_by_routes(alloc, &routes, clock, desk, listener, port, count, writer)
 }

@@ -7,7 +7,7 @@ use goo_core_list::list_shelf::ListShelf;
 use goo_desk_connection::{ServeFault, serve_one};
 use goo_desk_counter::Counter;
 use goo_desk_responses::Status;
-use goo_desk_server::{Visits, serve};
+use goo_desk_server::serve;
 use goo_registry::Registry;
 use goo_types::fault::Fault;
 use std::alloc::Global;
@@ -89,17 +89,7 @@ fn asked<D: Counter>(rt: &HostRuntime, desk: &mut D) -> io::Result<(Vec<u8>, Str
     client.write_all(AUDIT.as_bytes())?;
     client.shutdown(Shutdown::Write)?;
     let mut told = Vec::new(rt.alloc());
-    let mut visits = Visits::none();
-    match serve(
-        rt.alloc(),
-        rt,
-        desk,
-        &listener,
-        8347,
-        2,
-        &mut visits,
-        &mut told,
-    ) {
+    match serve(rt.alloc(), rt, desk, &listener, 8347, 2, &mut told) {
         Ok(()) => Ok((told, io::read_to_string(rt.alloc(), client)?)),
         Err(_) => Err(io::Error::from(ErrorKind::Other)),
     }

@@ -8,5 +8,5 @@ returns-in-Ok-clause-promised g c sound honest sure =
 
 pub returns-in-Err-clause-promised : goal.returns-in-Err-clause-promised
 returns-in-Err-clause-promised g c sound honest sure =
-    part_promised c.finish.result _ c.issuer.ensures (g.R.Read.remaining c.args.reader.now) (seen_of (g.S.Shelf.seen c.args.registry.now.shelf)) _ c.in-Err.fault.cause _ _ _
-    c.finish.ensures.finished sound c.in-Err.ensures.before (c.in-Err.ensures.part honest) sure
+    part_promised c.finish-in-Err.result _ c.issuer.ensures (g.R.Read.remaining c.args.reader.now) (seen_of (g.S.Shelf.seen c.args.registry.now.shelf)) _ c.in-Err.fault.cause _ _ _
+    c.finish-in-Err.ensures.finished sound c.in-Err.ensures.before (c.in-Err.ensures.part honest) sure
