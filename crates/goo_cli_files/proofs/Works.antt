@@ -16,7 +16,7 @@ use Rattle.goo_cli_registry.specs.Stopped.{HoldsStopped, IfOpened}
 use Rattle.goo_cli_registry.specs.declared.closing.Left.{Left}
 use Rattle.goo_cli_registry.specs.declared.closing.Left.TheVariants.{Parts, Refused, Whole}
 use Rattle.goo_cli_texts.specs.Declaring.{IsDeclared}
-use Rattle.goo_cli_texts.specs.Promised as import
+use Rattle.goo_cli_texts.specs.Promised as rows
 use Rattle.goo_cli_ending.specs.Promised as answer
 use Rattle.goo_cli_http.specs.Endings.{listening_text}
 use Rattle.goo_desk_server.specs.Runs as serving
@@ -52,11 +52,11 @@ pub unopened : (read : Option (List ℕ)) → IfSome read (λ input. Unit {0})
 unopened None = tt
 unopened (Some input) = tt
 
-pub rows_promised : {D : Type 0} {g : Ghosts D} (rest : Left D g) (read : Option (List ℕ)) (told : Ending) (seen begun new : State) (doubts : ℕ) → seen ≡ begun → (doubts ≡ 0 → IfSome read (λ input. import.KeepsPromise told input seen new))
-    → IfWhole rest (λ files. HoldState g files new) → IfWhole rest (λ files. AreClean g files.log files.db → doubts ≡ 0) → IfSome read (λ input. HoldsSome rest (import.KeepsPromise told input begun))
+pub rows_promised : {D : Type 0} {g : Ghosts D} (rest : Left D g) (read : Option (List ℕ)) (told : Ending) (seen begun new : State) (doubts : ℕ) → seen ≡ begun → (doubts ≡ 0 → IfSome read (λ input. rows.KeepsPromise told input seen new))
+    → IfWhole rest (λ files. HoldState g files new) → IfWhole rest (λ files. AreClean g files.log files.db → doubts ≡ 0) → IfSome read (λ input. HoldsSome rest (rows.KeepsPromise told input begun))
 rows_promised rest None told seen begun new doubts same keeps held sure = tt
 rows_promised rest (Some input) told seen begun new doubts same keeps held sure =
-    holds_some rest new doubts (import.KeepsPromise told input begun) (λ none. subst (λ (s : State). import.KeepsPromise told input s new) same (keeps none)) held sure
+    holds_some rest new doubts (rows.KeepsPromise told input begun) (λ none. subst (λ (s : State). rows.KeepsPromise told input s new) same (keeps none)) held sure
 
 pub served_promised : {D : Type 0} {g : Ghosts D} (rest : Left D g) (count : ℕ) (seen begun new : State) (doubts : ℕ) → seen ≡ begun → (doubts ≡ 0 → serving.KeepsPromise count seen new) → IfWhole rest (λ files. HoldState g files new)
     → IfWhole rest (λ files. AreClean g files.log files.db → doubts ≡ 0) → HoldsSome rest (serving.KeepsPromise count begun)
@@ -64,7 +64,7 @@ served_promised rest count seen begun new doubts same keeps held sure =
     holds_some rest new doubts (serving.KeepsPromise count begun) (λ none. subst (λ (s : State). serving.KeepsPromise count s new) same (keeps none)) held sure
 
 pub declared_begun : {D : Type 0} {g : Ghosts D} (rest : Left D g) (read : Option (List ℕ)) (had has : Option (List ℕ)) (told : Ending) (seen begun new : State) → seen ≡ begun → IfSome read (λ input. IsDeclared input seen new had has told) → IfWhole rest (λ files. HoldState g files new)
-    → IfSome read (λ input. HoldsSome rest (import.KeepsPromise told input begun)) → IfSome read (λ input. DeclaredIn begun input had has told rest)
+    → IfSome read (λ input. HoldsSome rest (rows.KeepsPromise told input begun)) → IfSome read (λ input. DeclaredIn begun input had has told rest)
 declared_begun rest None had has told seen begun new same declared held keeps = tt
 declared_begun rest (Some input) had has told seen begun new same declared held keeps = record { new = new; declared = subst (λ (s : State). IsDeclared input s new had has told) same declared; held = held; promised = keeps }
 
