@@ -68,7 +68,6 @@ module _ (old new : Moment) (before mid : Option (List ℕ)) (caller : List ℕ)
   unknown (Err text.Store) out writes clean status = absurd (omega (arith, status))
   unknown (Err text.Memory) out writes clean status = absurd (omega (arith, status))
 
-
 -- what a flush leaves holds with status 0
 pub flushed : {T E : Type 0} (Holds : Type 0) (result : Result (Unit {0}) TextFault) (out : Bool) (flush : Result T E) → out ≡ is_ok flush → OnOk flush Holds → status_of (ending_of_text result out) ≡ 0 → Holds
 flushed Holds result out (Ok x) same told status = told
