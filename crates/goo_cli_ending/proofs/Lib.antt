@@ -1,2 +1,3 @@
 mod EndingLemmas
 mod StoppedLemmas
+pub mod PromiseFacts

@@ -1,3 +1,4 @@
 pub mod Settings
 pub mod Endings
 pub mod Stopped
+pub mod Promised

@@ -5,6 +5,8 @@ ghost use Rattle.std.specs.Io.Buffered.{writer_buffer, writer_contents};
 ghost use Rattle.goo_desk_lines.specs.Fold.{lines};
 ghost use Rattle.goo_cli_ending.specs.Endings.{status_of, IsOfLines, IsAfterInput, IsToldOf};
 ghost use Rattle.goo_cli_ending.specs.Stopped.{IsStopped};
+ghost use Rattle.goo_cli_ending.specs.Promised.{KeepsPromise};
+ghost use Rattle.goo_spec.specs.Sound.{IsSound};
 
 use crate::ending::Ending;
 use goo_desk_lines::run_lines;
@@ -24,6 +26,8 @@ use std::io::{BufWriter, Read, Write};
 /// - `kept`: with status 0 and 1 the desk knows what the lines come to.
 /// - `stopped`: after a fault of the records, and where memory was refused, the first lines stand and just their outcomes are written;
 ///   after one of the output the first lines stand; after one of the input nothing has changed.
+/// - `promised`: what a registry promises after any list of requests holds of the requests of the lines that were answered, with status 0 and 1
+///   of all lines, and their outcomes are what was written.
 /// - `lied`: what lies below the desk returned what was written before, where it did so to the end.
 pub fn answer_input<D: Desk, R: Read, W: Write + Drop>(
     alloc: Global,
@@ -40,6 +44,7 @@ pub fn answer_input<D: Desk, R: Read, W: Write + Drop>(
     ensures words { IsOfLines result }
     ensures read { IsAfterInput result → IsAtEnd (R.remaining reader.new) }
     ensures told { (D.seen desk.old).refusals ≡ 0 → IsToldOf result (D.seen desk.new).refusals }
+    ensures promised { IsSound (D.seen desk.old).state → (D.seen desk.new).lies ≡ 0 → IfSome (R.remaining reader.old) (λ input. KeepsPromise result input (D.seen desk.old).state (writer_contents W.contents writer.old) (writer_contents W.contents writer.new) (λ t. (D.seen desk.new).doubts ≡ 0 → (D.seen desk.new).state ≡ t)) }
     ensures lied { (D.seen desk.new).lies ≡ 0 → (D.seen desk.old).lies ≡ 0 }
 {
     let answered = run_lines(alloc, desk, reader, writer);

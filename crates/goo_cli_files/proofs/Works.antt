@@ -1,39 +1,95 @@
 -- What is done with a registry, said of the state that it began with.
-use Rattle.std.proofs.Common.{◌≡◌, ◌≢◌, ◌<◌, subst, List, ℕ, Option, Some, None, IfSome}
-use Rattle.std.specs.Io.KnownBytes.{Appends}
+use Rattle.std.proofs.Common.{◌≡◌, ◌≢◌, ◌<◌, ◌∙◌, subst, List, ℕ, Option, Some, None, IfSome}
+use Rattle.std.specs.FinMap.{get}
+use Rattle.std.specs.Io.KnownBytes.{Appends, Keeps}
 use Rattle.sqlite_disk.specs.declared.Disk.{Ghosts}
 use Rattle.goo_spec.specs.State.{State}
+use Rattle.goo_files.specs.Texts.{IsAuditText, IsStatement}
 use Rattle.goo_files.specs.Writes.{Wrote}
+use Rattle.sqlite_wal.specs.Reads.{AreClean}
 use Rattle.sqlite.specs.declared.file.Leftover.{Leftover}
 use Rattle.goo_cli_ending.specs.declared.ending.Ending.{Ending}
 use Rattle.goo_cli_ending.specs.declared.ending.Ending.TheVariants.{Failed}
 use Rattle.goo_cli_ending.specs.declared.ending.Failure.{Failure}
-use Rattle.goo_cli_registry.specs.Closings.{HoldState, IfWhole}
+use Rattle.goo_cli_registry.specs.Closings.{HoldRegistry, HoldState, HoldsSome, IfRefused, IfWhole}
 use Rattle.goo_cli_registry.specs.Stopped.{HoldsStopped, IfOpened}
 use Rattle.goo_cli_registry.specs.declared.closing.Left.{Left}
-use Rattle.goo_cli_registry.specs.declared.closing.Left.TheVariants.{Refused}
+use Rattle.goo_cli_registry.specs.declared.closing.Left.TheVariants.{Parts, Refused, Whole}
 use Rattle.goo_cli_texts.specs.Declaring.{IsDeclared}
+use Rattle.goo_cli_texts.specs.Promised as rows
+use Rattle.goo_cli_ending.specs.Promised as answer
+use Rattle.goo_cli_http.specs.Endings.{listening_text}
+use Rattle.goo_desk_server.specs.Runs as serving
 use Rattle.goo_desk_lines.specs.Fold.{lines}
 use Rattle.goo_cli_ending.specs.Endings.{status_of}
 use Rattle.goo_cli_files.specs.Imports.{DeclaredIn}
-use Rattle.goo_cli_files.specs.Works.{AreAnswered}
+use Rattle.goo_cli_files.specs.Works.{AreAnswered, IsAudited, IsServed, IsStated}
 
 pub wrote_begun : (right : State → List ℕ → Type 0) (had has : Option (List ℕ)) (seen begun : State) → seen ≡ begun → Wrote had has (right seen) → Wrote had has (right begun)
 wrote_begun right had has seen begun same told = subst (λ (s : State). Wrote had has (right s)) same told
 
-pub declared_begun : {D : Type 0} {g : Ghosts D} (rest : Left D g) (read : Option (List ℕ)) (had has : Option (List ℕ)) (told : Ending) (seen begun new : State) → seen ≡ begun → IfSome read (λ input. IsDeclared input seen new had has told) → IfWhole rest (λ files. HoldState g files new) → IfSome read (λ input. DeclaredIn begun input had has told rest)
-declared_begun rest None had has told seen begun new same declared held = tt
-declared_begun rest (Some input) had has told seen begun new same declared held = record { new = new; declared = subst (λ (s : State). IsDeclared input s new had has told) same declared; held = held }
+-- what so holds of the state that was known is so of what the file holds, where the log was copied
+pub holds_some : {D : Type 0} {g : Ghosts D} (rest : Left D g) (new : State) (doubts : ℕ) (right : State → Type 0) → (doubts ≡ 0 → right new) → IfWhole rest (λ files. HoldState g files new)
+    → IfWhole rest (λ files. AreClean g files.log files.db → doubts ≡ 0) → HoldsSome rest right
+holds_some (Whole files) new doubts right keeps held sure = λ clean. (new, keeps (sure clean), held clean)
+holds_some (Refused rest) new doubts right keeps held sure = tt
+holds_some (Parts rest) new doubts right keeps held sure = tt
+
+-- a registry that stayed as it was
+pub held_as : {D : Type 0} {g : Ghosts D} (rest : Left D g) (new old begun : State) (doubts : ℕ) → (doubts ≡ 0 → new ≡ old) → old ≡ begun → IfWhole rest (λ files. HoldState g files new)
+    → IfWhole rest (λ files. AreClean g files.log files.db → doubts ≡ 0) → IfWhole rest (λ files. HoldState g files begun)
+held_as {D} {g} (Whole files) new old begun doubts rests same held sure = λ clean. subst (HoldRegistry g files) (rests (sure clean) ∙ same) (held clean)
+held_as (Refused rest) new old begun doubts rests same held sure = tt
+held_as (Parts rest) new old begun doubts rests same held sure = tt
+
+-- of a registry that was opened nothing is said that is said of others
+pub not_refused : {D : Type 0} {g : Ghosts D} (rest : Left D g) (Holds : Leftover D g → Type 0) → IfRefused rest (λ it. ⊥) → IfRefused rest Holds
+not_refused (Whole files) Holds other = tt
+not_refused (Refused rest) Holds other = absurd other
+not_refused (Parts rest) Holds other = tt
+
+pub unopened : (read : Option (List ℕ)) → IfSome read (λ input. Unit {0})
+unopened None = tt
+unopened (Some input) = tt
+
+pub rows_promised : {D : Type 0} {g : Ghosts D} (rest : Left D g) (read : Option (List ℕ)) (told : Ending) (seen begun new : State) (doubts : ℕ) → seen ≡ begun → (doubts ≡ 0 → IfSome read (λ input. rows.KeepsPromise told input seen new))
+    → IfWhole rest (λ files. HoldState g files new) → IfWhole rest (λ files. AreClean g files.log files.db → doubts ≡ 0) → IfSome read (λ input. HoldsSome rest (rows.KeepsPromise told input begun))
+rows_promised rest None told seen begun new doubts same keeps held sure = tt
+rows_promised rest (Some input) told seen begun new doubts same keeps held sure =
+    holds_some rest new doubts (rows.KeepsPromise told input begun) (λ none. subst (λ (s : State). rows.KeepsPromise told input s new) same (keeps none)) held sure
+
+pub served_promised : {D : Type 0} {g : Ghosts D} (rest : Left D g) (count : ℕ) (seen begun new : State) (doubts : ℕ) → seen ≡ begun → (doubts ≡ 0 → serving.KeepsPromise count seen new) → IfWhole rest (λ files. HoldState g files new)
+    → IfWhole rest (λ files. AreClean g files.log files.db → doubts ≡ 0) → HoldsSome rest (serving.KeepsPromise count begun)
+served_promised rest count seen begun new doubts same keeps held sure =
+    holds_some rest new doubts (serving.KeepsPromise count begun) (λ none. subst (λ (s : State). serving.KeepsPromise count s new) same (keeps none)) held sure
+
+pub declared_begun : {D : Type 0} {g : Ghosts D} (rest : Left D g) (read : Option (List ℕ)) (had has : Option (List ℕ)) (told : Ending) (seen begun new : State) → seen ≡ begun → IfSome read (λ input. IsDeclared input seen new had has told) → IfWhole rest (λ files. HoldState g files new)
+    → IfSome read (λ input. HoldsSome rest (rows.KeepsPromise told input begun)) → IfSome read (λ input. DeclaredIn begun input had has told rest)
+declared_begun rest None had has told seen begun new same declared held keeps = tt
+declared_begun rest (Some input) had has told seen begun new same declared held keeps = record { new = new; declared = subst (λ (s : State). IsDeclared input s new had has told) same declared; held = held; promised = keeps }
 
 -- the lines of an input, by what a run of them says
 pub answered : {D : Type 0} {g : Ghosts D} (s : State) (read had has : Option (List ℕ)) (told : Ending) (rest : Left D g)
     → (status_of told ≡ 0 → IfSome read (λ input. (lines s input).bad ≡ 0)) → (status_of told ≡ 1 → IfSome read (λ input. (lines s input).bad ≢ 0))
     → (status_of told < 2 → IfSome read (λ input. Appends had has (lines s input).text)) → (status_of told < 2 → IfSome read (λ input. IfWhole rest (λ files. HoldState g files (lines s input).state)))
-    → IfSome read (λ input. IfOpened rest (HoldsStopped rest input s told had has)) → IfSome read (AreAnswered s read had has told rest)
-answered s None had has told rest all_done not_all_done written kept stopped = tt
-answered s (Some input) had has told rest all_done not_all_done written kept stopped = record { all_done = all_done; not_all_done = not_all_done; written = written; kept = kept; stopped = stopped }
+    → IfSome read (λ input. IfOpened rest (HoldsStopped rest input s told had has)) → IfSome read (λ input. IfOpened rest (answer.KeepsPromise told input s had has (λ t. IfWhole rest (λ files. HoldState g files t))))
+    → IfSome read (AreAnswered s read had has told rest)
+answered s None had has told rest all_done not_all_done written kept stopped promised = tt
+answered s (Some input) had has told rest all_done not_all_done written kept stopped promised = record { all_done = all_done; not_all_done = not_all_done; written = written; kept = kept; stopped = stopped; promised = promised }
+
+pub stated : {D : Type 0} {g : Ghosts D} (s : State) (read had has : Option (List ℕ)) (told : Ending) (rest : Left D g) (account : ℕ) → (status_of told ≡ 0 → Wrote had has (IsStatement s account)) → (status_of told ≡ 1 → get s.accounts account ≡ None)
+    → (status_of told ≡ 1 → Keeps had has) → IfWhole rest (λ files. HoldState g files s) → IsStated s read had has told rest account
+stated s read had has told rest account shown unknown silent kept = record { shown = shown; unknown = unknown; silent = silent; kept = kept }
+
+pub audited : {D : Type 0} {g : Ghosts D} (s : State) (read had has : Option (List ℕ)) (told : Ending) (rest : Left D g) → (status_of told ≡ 0 → Wrote had has (IsAuditText s)) → (status_of told ≡ 1 → Keeps had has)
+    → IfWhole rest (λ files. HoldState g files s) → IsAudited s read had has told rest
+audited s read had has told rest shown silent kept = record { shown = shown; silent = silent; kept = kept }
+
+pub served : {D : Type 0} {g : Ghosts D} (s : State) (read had has : Option (List ℕ)) (told : Ending) (rest : Left D g) (port count : ℕ) → (status_of told ≡ 0 → Appends had has (listening_text port)) → HoldsSome rest (serving.KeepsPromise count s)
+    → IsServed s read had has told rest port count
+served s read had has told rest port count announced promised = record { announced = announced; promised = promised }
 
 -- a registry that was not opened
 pub undeclared : {D : Type 0} {g : Ghosts D} (rest : Leftover D g) (read : Option (List ℕ)) (had has : Option (List ℕ)) (why : Failure) (begun : State) → IfSome read (λ input. DeclaredIn {g = g} begun input had has (Failed why) (Refused rest))
 undeclared rest None had has why begun = tt
-undeclared rest (Some input) had has why begun = record { new = begun; declared = tt; held = tt }
+undeclared rest (Some input) had has why begun = record { new = begun; declared = tt; held = tt; promised = tt }

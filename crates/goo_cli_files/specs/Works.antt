@@ -5,13 +5,15 @@ use Rattle.std.specs.Io.KnownBytes.{Appends, Keeps}
 use Rattle.sqlite_disk.specs.declared.Disk.{Ghosts}
 use Rattle.goo_spec.specs.State.{State}
 use Rattle.goo_desk_lines.specs.Fold.{lines}
+use Rattle.goo_desk_server.specs.Runs as served
 use Rattle.goo_files.specs.Texts.{IsStatement, IsAuditText}
 use Rattle.goo_files.specs.Writes.{Wrote}
 use Rattle.goo_cli.specs.Asked.{Asked, InFile, InMemory, Init, Run, Declare, Statement, Audit, Serve}
 use Rattle.goo_cli_ending.specs.declared.ending.Ending.{Ending}
 use Rattle.goo_cli_ending.specs.Endings.{status_of}
+use Rattle.goo_cli_ending.specs.Promised as answered
 use Rattle.goo_cli_registry.specs.declared.closing.Left.{Left}
-use Rattle.goo_cli_registry.specs.Closings.{HoldState, IfWhole}
+use Rattle.goo_cli_registry.specs.Closings.{HoldState, HoldsSome, IfWhole}
 use Rattle.goo_cli_registry.specs.Stopped.{HoldsStopped, IfOpened}
 use Rattle.goo_cli_http.specs.Endings.{listening_text}
 use Rattle.goo_cli_files.specs.Imports.{DeclaredIn}
@@ -36,24 +38,38 @@ asked_for (job.ServeInMemory opening serving) = Serve (InMemory opening) serving
 
 module _ {D : Type 0} {g : Ghosts D} (s : State) (read had has : Option (List ℕ)) (told : Ending) (rest : Left D g) where
   -- the lines of an input were answered from this state on: all were accepted, or some were not; their outcomes are written, and where the log
-  -- was copied, the file holds what they come to. After a fault the same is so of the first lines.
+  -- was copied, the file holds what they come to. After a fault the same is so of the first lines. What is promised holds of those that were
+  -- answered.
   pub record AreAnswered (input : List ℕ) : Type 0 where
     pub all_done : status_of told ≡ 0 → (lines s input).bad ≡ 0
     pub not_all_done : status_of told ≡ 1 → (lines s input).bad ≢ 0
     pub written : status_of told < 2 → Appends had has (lines s input).text
     pub kept : status_of told < 2 → IfWhole rest (λ files. HoldState g files (lines s input).state)
     pub stopped : IfOpened rest (HoldsStopped rest input s told had has)
+    pub promised : IfOpened rest (answered.KeepsPromise told input s had has (λ t. IfWhole rest (λ files. HoldState g files t)))
 
-  -- the statement of an account is shown, or there is no such account and nothing is written
+  -- the statement of an account is shown, or there is no such account and nothing is written; the registry stays as it was
   pub record IsStated (account : ℕ) : Type 0 where
     pub shown : status_of told ≡ 0 → Wrote had has (IsStatement s account)
     pub unknown : status_of told ≡ 1 → get s.accounts account ≡ None
     pub silent : status_of told ≡ 1 → Keeps had has
+    pub kept : IfWhole rest (λ files. HoldState g files s)
+
+  -- the audit is shown, and the registry stays as it was
+  pub record IsAudited : Type 0 where
+    pub shown : status_of told ≡ 0 → Wrote had has (IsAuditText s)
+    pub silent : status_of told ≡ 1 → Keeps had has
+    pub kept : IfWhole rest (λ files. HoldState g files s)
+
+  -- it was told at which port, and what is promised holds of the requests that so many connections at most left applied
+  pub record IsServed (port count : ℕ) : Type 0 where
+    pub announced : status_of told ≡ 0 → Appends had has (listening_text port)
+    pub promised : HoldsSome rest (served.KeepsPromise count s)
 
   -- what this work comes to, from the state that the files held
   abbrev pub IsWorked : Work → Type 0
   IsWorked work.Run = IfSome read AreAnswered
   IsWorked work.Declare = IfSome read (λ input. DeclaredIn s input had has told rest)
   IsWorked (work.Statement account) = IsStated account
-  IsWorked work.Audit = status_of told ≡ 0 → Wrote had has (IsAuditText s)
-  IsWorked (work.Serve serving) = status_of told ≡ 0 → Appends had has (listening_text serving.port)
+  IsWorked work.Audit = IsAudited
+  IsWorked (work.Serve serving) = IsServed serving.port serving.count

@@ -9,7 +9,8 @@ ghost use Rattle.goo_store.specs.Versions.{state_held};
 ghost use Rattle.goo_files.specs.Texts.{IsStatement, IsAuditText};
 ghost use Rattle.goo_files.specs.Writes.{Wrote};
 ghost use Rattle.goo_cli_ending.specs.Endings.{status_of};
-ghost use Rattle.goo_cli_registry.specs.Closings.{HasSpareLog, IsClean};
+ghost use Rattle.goo_cli_registry.specs.Closings.{HasSpareLog, HoldState, HoldsSome, IfRefused, IfWhole, IsClean, LeavesRegistry};
+ghost use Rattle.goo_cli_texts.specs.Promised.{KeepsPromise};
 ghost use Rattle.goo_cli_files.specs.Imports.{DeclaredIn};
 
 use goo_cli_ending::Ending;
@@ -29,6 +30,10 @@ use std::io::{BufWriter, Read, Write};
 ///
 /// - `done`: status 0 only where each row was imported and its declaration stands, and status 1 only where one doesn't, but for a
 ///   file without its header; the whole report is written then, and the database file alone holds what the rows come to.
+/// - `promised`: what a registry promises after any list of requests holds of what the files held, the requests of the rows that were applied, after
+///   a fault of the first ones, and what the file alone holds then, where the log could be copied.
+/// - `unharmed`: where there is no registry, no harm came to what the files held, after a crash too: but for a registry of version 1, the same
+///   registry in version 2 may be found then.
 /// - `copied`: a log that is said to be copied into the database file is.
 pub fn declare_in_files<D: Disk + Drop, R: Read, W: Write + Drop, T: Write, E: Write>(
     alloc: Global,
@@ -43,6 +48,8 @@ pub fn declare_in_files<D: Disk + Drop, R: Read, W: Write + Drop, T: Write, E: W
     requires db { IsTrue (D.Disk.is_usable files.db) }
     ensures done { IsClean result.1 → (db : Trees) → HoldsDatabase (image_of D.Disk files) db → IfSome (R.remaining reader.old) (λ input. DeclaredIn (state_held db) input (writer_contents W.contents writer.old) (writer_contents W.contents writer.new) result.0 result.1) }
     ensures flushed { status_of result.0 ≡ 0 → writer_buffer writer.new ≡ [] }
+    ensures promised { IsClean result.1 → (db : Trees) → HoldsDatabase (image_of D.Disk files) db → IfSome (R.remaining reader.old) (λ input. HoldsSome result.1 (KeepsPromise result.0 input (state_held db))) }
+    ensures unharmed { IsClean result.1 → IfRefused result.1 (LeavesRegistry files) }
     ensures copied { HasSpareLog result.1 }
 {
     match open_registry(alloc, files, seed, line) {
@@ -60,6 +67,8 @@ pub fn declare_in_files<D: Disk + Drop, R: Read, W: Write + Drop, T: Write, E: W
 ///
 /// - `shown`, `flushed`: status 0 only where the whole statement is written, and nothing is left in the writer's buffer.
 /// - `unknown`, `silent`: status 1 only where there is no such account, and nothing is written then.
+/// - `kept`: whatever the status, the registry stays as it was: where the log could be copied, the file alone holds what both held.
+/// - `unharmed`: as for [`declare_in_files`].
 /// - `copied`: a log that is said to be copied into the database file is.
 pub fn statement_in_files<D: Disk + Drop, W: Write + Drop, E: Write>(
     alloc: Global,
@@ -75,6 +84,8 @@ pub fn statement_in_files<D: Disk + Drop, W: Write + Drop, E: Write>(
     ensures unknown { IsClean result.1 → (db : Trees) → HoldsDatabase (image_of D.Disk files) db → status_of result.0 ≡ 1 → get (state_held db).accounts account ≡ None }
     ensures silent { IsClean result.1 → status_of result.0 ≡ 1 → Keeps (writer_contents W.contents writer.old) (writer_contents W.contents writer.new) }
     ensures flushed { status_of result.0 ≡ 0 → writer_buffer writer.new ≡ [] }
+    ensures kept { IsClean result.1 → (db : Trees) → HoldsDatabase (image_of D.Disk files) db → IfWhole result.1 (λ files. HoldState D.Disk files (state_held db)) }
+    ensures unharmed { IsClean result.1 → IfRefused result.1 (LeavesRegistry files) }
     ensures copied { HasSpareLog result.1 }
 {
     match open_registry(alloc, files, seed, line) {
@@ -98,7 +109,10 @@ pub fn audit_in_files<D: Disk + Drop, W: Write + Drop, E: Write>(
     requires log { IsTrue (D.Disk.is_usable files.log) }
     requires db { IsTrue (D.Disk.is_usable files.db) }
     ensures shown { IsClean result.1 → (db : Trees) → HoldsDatabase (image_of D.Disk files) db → status_of result.0 ≡ 0 → Wrote (writer_contents W.contents writer.old) (writer_contents W.contents writer.new) (IsAuditText (state_held db)) }
+    ensures silent { IsClean result.1 → status_of result.0 ≡ 1 → Keeps (writer_contents W.contents writer.old) (writer_contents W.contents writer.new) }
     ensures flushed { status_of result.0 ≡ 0 → writer_buffer writer.new ≡ [] }
+    ensures kept { IsClean result.1 → (db : Trees) → HoldsDatabase (image_of D.Disk files) db → IfWhole result.1 (λ files. HoldState D.Disk files (state_held db)) }
+    ensures unharmed { IsClean result.1 → IfRefused result.1 (LeavesRegistry files) }
     ensures copied { HasSpareLog result.1 }
 {
     match open_registry(alloc, files, seed, line) {

@@ -2,12 +2,16 @@
 ghost use Rattle.std.specs.Prelude.{◌≡◌, false, IsTrue};
 ghost use Rattle.std.specs.Io.Buffered.{writer_contents};
 ghost use Rattle.std.specs.Io.KnownBytes.{Appends};
+ghost use Rattle.sqlite.specs.Files.{image_of, HoldsDatabase};
 ghost use Rattle.sqlite.specs.Held.{state as view};
 ghost use Rattle.sqlite.specs.State.{HasCleanDisk};
+ghost use Rattle.sqlite.specs.Tree.{Trees};
 ghost use Rattle.goo_tables_rows.specs.Met.{IsInKeyOrder};
+ghost use Rattle.goo_store.specs.Versions.{state_held};
+ghost use Rattle.goo_desk_server.specs.Runs.{KeepsPromise};
 ghost use Rattle.goo_cli_ending.specs.Endings.{status_of};
 ghost use Rattle.goo_cli_http.specs.Endings.{listening_text};
-ghost use Rattle.goo_cli_registry.specs.Closings.{HasSpareLog};
+ghost use Rattle.goo_cli_registry.specs.Closings.{HasSpareLog, HoldsSome, IfRefused, IsClean, LeavesRegistry};
 
 use goo_cli::{Opening, Serving};
 use goo_cli_ending::Ending;
@@ -44,8 +48,9 @@ fn serve_new<S: Alter, W: Write + Drop>(
     }
 }
 
-/// Serves so many connections by a new registry whose records are tables in memory, and are gone when the program ends. `announced`:
-/// status 0 only where the line is written that tells at which port.
+/// Serves so many connections by a new registry whose records are tables in memory, and are gone when the program ends.
+///
+/// - `announced`: status 0 only where the line is written that tells at which port.
 pub fn serve_in_memory<W: Write + Drop>(
     rt: &HostRuntime,
     opening: Opening,
@@ -62,8 +67,15 @@ pub fn serve_in_memory<W: Write + Drop>(
     ending
 }
 
-/// Serves so many connections by the registry that files hold, and closes it; `line` tells if it is of version 1. `announced`: as for
-/// [`serve_in_memory`]; `copied`: a log that is said to be copied into the database file is.
+/// Serves so many connections by the registry that files hold, and closes it; `line` tells if it is of version 1. What is said holds so long as the
+/// files returned what was written, and `db` is the database that they held.
+///
+/// - `announced`: as for [`serve_in_memory`].
+/// - `promised`: what a registry promises after any list of requests holds of what the files held, the requests that the connections left
+///   applied, and what the file alone holds then, where the log could be copied.
+/// - `unharmed`: where there is no registry, no harm came to what the files held, after a crash too: but for a registry of version 1, the same
+///   registry in version 2 may be found then.
+/// - `copied`: a log that is said to be copied into the database file is.
 pub fn serve_in_files<D: Disk + Drop, W: Write + Drop, E: Write>(
     rt: &HostRuntime,
     files: Files<D>,
@@ -75,6 +87,8 @@ pub fn serve_in_files<D: Disk + Drop, W: Write + Drop, E: Write>(
     requires log { IsTrue (D.Disk.is_usable files.log) }
     requires db { IsTrue (D.Disk.is_usable files.db) }
     ensures announced { status_of result.0 ≡ 0 → Appends (writer_contents W.contents writer.old) (writer_contents W.contents writer.new) (listening_text serving.port) }
+    ensures promised { IsClean result.1 → (db : Trees) → HoldsDatabase (image_of D.Disk files) db → HoldsSome result.1 (KeepsPromise serving.count (state_held db)) }
+    ensures unharmed { IsClean result.1 → IfRefused result.1 (LeavesRegistry files) }
     ensures copied { HasSpareLog result.1 }
 {
     match open_registry(rt.alloc(), files, seed, line) {

@@ -5,7 +5,7 @@ ghost use Rattle.sqlite.specs.Files.{image_of, HoldsDatabase};
 ghost use Rattle.sqlite.specs.Tree.{Trees};
 ghost use Rattle.goo_store.specs.Versions.{state_held};
 ghost use Rattle.goo_cli.specs.Asked.{asked_by};
-ghost use Rattle.goo_cli_registry.specs.Closings.{HasSpareLog, IsClean};
+ghost use Rattle.goo_cli_registry.specs.Closings.{HasSpareLog, IfRefused, IsClean, LeavesRegistry};
 ghost use Rattle.goo_cli_files.specs.Works.{asked_for, IsWorked};
 
 use crate::in_files::{audit_in_files, declare_in_files, statement_in_files};
@@ -82,7 +82,9 @@ pub fn job_of<'a>(task: &Task<'a>) -> Job<'a>
 /// version 1. What is said holds so long as the files returned what was written, and `db` is the database that they held.
 ///
 /// - `worked`: what is done is what was asked for: for a statement the account's, for an audit the audit's text, for lines and for rows
-///   what they come to.
+///   what they come to, for connections what is promised of their requests. A statement and an audit leave the registry as it was.
+/// - `unharmed`: where there is no registry, no harm came to what the files held, after a crash too: but for a registry of version 1, the same
+///   registry in version 2 may be found then.
 /// - `copied`: a log that is said to be copied into the database file is.
 pub fn work_in_files<D: Disk + Drop, R: Read, W: Write + Drop, T: Write, E: Write>(
     rt: &HostRuntime,
@@ -97,6 +99,7 @@ pub fn work_in_files<D: Disk + Drop, R: Read, W: Write + Drop, T: Write, E: Writ
     requires log { IsTrue (D.Disk.is_usable files.log) }
     requires db { IsTrue (D.Disk.is_usable files.db) }
     ensures worked { IsClean result.1 → (db : Trees) → HoldsDatabase (image_of D.Disk files) db → IsWorked (state_held db) (R.remaining reader.old) (writer_contents W.contents writer.old) (writer_contents W.contents writer.new) result.0 result.1 work.now }
+    ensures unharmed { IsClean result.1 → IfRefused result.1 (LeavesRegistry files) }
     ensures copied { HasSpareLog result.1 }
 {
     let alloc = rt.alloc();

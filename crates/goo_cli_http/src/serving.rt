@@ -3,6 +3,8 @@ ghost use Rattle.std.specs.Prelude.{◌≡◌, ◌≢◌};
 ghost use Rattle.std.specs.Io.Buffered.{writer_contents};
 ghost use Rattle.std.specs.Io.KnownBytes.{Appends};
 ghost use Rattle.goo_cli_ending.specs.Endings.{status_of};
+ghost use Rattle.goo_spec.specs.Sound.{IsSound};
+ghost use Rattle.goo_desk_server.specs.Runs.{KeepsPromise};
 ghost use Rattle.goo_cli_http.specs.Endings.{ending_of_server, listening_text};
 
 use goo_cli::Serving;
@@ -28,7 +30,10 @@ fn ending_of(served: Result<(), ServerFault>) -> Ending
 }
 
 /// Serves so many connections by a registry, one after another. Where the port can't be had, that is a fault of what is read.
-/// `announced`: status 0 only where the line is written that tells at which port.
+///
+/// - `announced`: status 0 only where the line is written that tells at which port.
+/// - `promised`: what a registry promises after any list of requests holds of those that the connections left applied.
+/// - `lied`: what keeps the records returned what was written before, where it did so to the end.
 pub fn serve_registry<S: Shelf, W: Write + Drop>(
     rt: &HostRuntime,
     registry: &mut Registry<S>,
@@ -37,6 +42,8 @@ pub fn serve_registry<S: Shelf, W: Write + Drop>(
 ) -> Ending
     ensures words { status_of result ≢ 2 }
     ensures announced { status_of result ≡ 0 → Appends (writer_contents W.contents writer.old) (writer_contents W.contents writer.new) (listening_text serving.port) }
+    ensures promised { IsSound (S.seen registry.old.shelf).state → (S.seen registry.new.shelf).lies ≡ 0 → (S.seen registry.new.shelf).doubts ≡ 0 → KeepsPromise serving.count (S.seen registry.old.shelf).state (S.seen registry.new.shelf).state }
+    ensures lied { (S.seen registry.new.shelf).lies ≡ 0 → (S.seen registry.old.shelf).lies ≡ 0 }
 {
     let Ok(listener) = TcpListener::bind(rt, ("127.0.0.1", serving.port)) else {
         return Ending::Failed(Failure::Read);

@@ -7,7 +7,9 @@ use Rattle.goo_desk_lines.specs.Fold.{answering}
 use Rattle.goo_cli_ending.specs.declared.ending.Ending.{Ending}
 use Rattle.goo_cli_ending.specs.declared.ending.Ending.TheVariants as ending
 use Rattle.goo_cli_ending.specs.declared.ending.Failure.TheVariants as failure
+use Rattle.goo_cli_ending.specs.Promised.{KeepsPromise}
 use Rattle.goo_cli_ending.specs.Stopped.{FirstAnswered, FirstStand, IsStopped}
+use Rattle.goo_cli_ending.proofs.PromiseFacts.{promised_as}
 use Rattle.goo_cli_registry.specs.Closings.{HoldRegistry, HoldState, IfWhole}
 use Rattle.goo_cli_registry.specs.Stopped.{HoldsAnswered, HoldsFirst, HoldsStopped, IfOpened}
 use Rattle.goo_cli_registry.specs.declared.closing.Left.{Left}
@@ -55,3 +57,11 @@ stopped_begun rest told (Some input) seen begun new doubts had has same it holds
 pub unopened : (read : Option (List ℕ)) → IfSome read (λ input. Unit {0})
 unopened None = tt
 unopened (Some input) = tt
+
+-- what is promised of the lines that were answered is so of what the file holds
+pub promised_in : {D : Type 0} {g : Ghosts D} (rest : Left D g) (told : Ending) (read : Option (List ℕ)) (seen begun new : State) (doubts : ℕ) (had has : Option (List ℕ)) → seen ≡ begun
+    → IfSome read (λ input. KeepsPromise told input seen had has (λ t. doubts ≡ 0 → new ≡ t)) → IfWhole rest (λ files. HoldState g files new) → IfWhole rest (λ files. AreClean g files.log files.db → doubts ≡ 0)
+    → IfSome read (λ input. IfOpened rest (KeepsPromise told input begun had has (λ t. IfWhole rest (λ files. HoldState g files t))))
+promised_in rest told None seen begun new doubts had has same it holds sure = tt
+promised_in {D} {g} rest told (Some input) seen begun new doubts had has same it holds sure =
+    opened rest _ (promised_as told (Some input) seen begun had has (λ t. doubts ≡ 0 → new ≡ t) (λ t. IfWhole rest (λ files. HoldState g files t)) same (λ t known. held_as rest new doubts t known holds sure) it)

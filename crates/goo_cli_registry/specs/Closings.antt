@@ -56,6 +56,10 @@ module _ {D : Type 0} {g : Ghosts D} where
   IfWhole (left.Refused rest) holds = Unit {0}
   IfWhole (left.Parts rest) holds = Unit {0}
 
+  -- where the log was copied, the database file holds a state of which this is so
+  abbrev pub HoldsSome : Left D g → (State → Type 0) → Type 0
+  HoldsSome rest right = IfWhole rest (λ files. AreClean g files.log files.db → (s : State) × right s × HoldRegistry g files s)
+
   -- a log that is said to be copied into the database file is
   abbrev pub HasSpareLog : Left D g → Type 0
   HasSpareLog rest = IfWhole rest (λ files. AreClean g files.log files.db → NeedNoLog g files)

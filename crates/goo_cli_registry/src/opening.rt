@@ -44,7 +44,8 @@ pub(crate) fn file_options(seed: u64) -> Options
 
 /// The word for what kept files from being opened.
 fn word_for(error: Error) -> Fault
-    ensures { error ≡ Error.SqliteFailure ErrorCode.OutOfMemory → result ≡ Fault.Memory }
+    ensures memory { error ≡ Error.SqliteFailure ErrorCode.OutOfMemory → result ≡ Fault.Memory }
+    ensures other { error ≢ Error.SqliteFailure ErrorCode.OutOfMemory → result ≡ Fault.Store }
 {
     match error {
         Error::SqliteFailure(ErrorCode::OutOfMemory) => Fault::Memory,

@@ -1,5 +1,5 @@
 //! The command `run`.
-ghost use Rattle.std.specs.Prelude.{◌≡◌, ◌≢◌, ◌<◌, [], false, IfSome, IsTrue};
+ghost use Rattle.std.specs.Prelude.{◌≡◌, ◌≢◌, ◌<◌, [], false, IfSome, IsTrue, ⊤};
 ghost use Rattle.std.specs.Io.Buffered.{writer_buffer, writer_contents};
 ghost use Rattle.std.specs.Io.KnownBytes.{Appends};
 ghost use Rattle.sqlite.specs.Files.{image_of, HoldsDatabase};
@@ -11,8 +11,10 @@ ghost use Rattle.goo_tables_rows.specs.Met.{IsInKeyOrder};
 ghost use Rattle.goo_store.specs.Versions.{state_held};
 ghost use Rattle.goo_store_lookups.specs.Moments.{IsWell};
 ghost use Rattle.goo_spec.specs.Created.{created};
+ghost use Rattle.goo_spec.specs.Sound.{IsSound};
 ghost use Rattle.goo_desk_lines.specs.Fold.{lines};
 ghost use Rattle.goo_cli_ending.specs.Endings.{status_of, IsToldOf};
+ghost use Rattle.goo_cli_ending.specs.Promised.{KeepsPromise};
 ghost use Rattle.goo_cli_ending.specs.Stopped.{IsStopped};
 ghost use Rattle.goo_cli_registry.specs.Stopped.{HoldsStopped, IfOpened};
 ghost use Rattle.goo_store_open.specs.Foreign.{LacksMeta};
@@ -49,6 +51,7 @@ pub fn answer_by<S: Shelf, R: Read, W: Write + Drop>(
     ensures flushed { status_of result.0 < 2 → writer_buffer writer.new ≡ [] }
     ensures no_words { status_of result.0 ≢ 2 }
     ensures told { (S.seen registry.shelf).refusals ≡ 0 → IsToldOf result.0 (S.seen result.1).refusals }
+    ensures promised { IsSound (S.seen registry.shelf).state → (S.seen result.1).lies ≡ 0 → IfSome (R.remaining reader.old) (λ input. KeepsPromise result.0 input (S.seen registry.shelf).state (writer_contents W.contents writer.old) (writer_contents W.contents writer.new) (λ t. (S.seen result.1).doubts ≡ 0 → (S.seen result.1).state ≡ t)) }
     ensures lied { (S.seen result.1).lies ≡ 0 → (S.seen registry.shelf).lies ≡ 0 }
 {
     let mut registry = registry;
@@ -71,6 +74,7 @@ pub fn answer_by_tables<S: Alter, R: Read, W: Write + Drop>(
     ensures written { doubt (view S.Store result.1).is_clean ≡ 0 → status_of result.0 < 2 → IfSome (R.remaining reader.old) (λ input. Appends (writer_contents W.contents writer.old) (writer_contents W.contents writer.new) (lines (begun start (view S.Store conn)) input).text) }
     ensures flushed { status_of result.0 < 2 → writer_buffer writer.new ≡ [] }
     ensures no_words { status_of result.0 ≢ 2 }
+    ensures promised { IsSound (begun start (view S.Store conn)) → doubt (view S.Store result.1).is_clean ≡ 0 → IfSome (R.remaining reader.old) (λ input. KeepsPromise result.0 input (begun start (view S.Store conn)) (writer_contents W.contents writer.old) (writer_contents W.contents writer.new) (λ t. ⊤)) }
     ensures lacking { start ≡ Start.Kept → LacksMeta (view S.Store conn).now.schema → result ≡ (Ending.Failed Failure.NotARegistry, conn) }
     ensures run { IsRun result.0 → IsWell (view S.Store result.1) }
 {
@@ -90,6 +94,8 @@ pub fn answer_by_tables<S: Alter, R: Read, W: Write + Drop>(
 /// - `written`, `flushed`: with status 0 and 1, all outcomes of the lines are written after what the writer had, and none is
 ///   left in its buffer.
 /// - `no_words`: it never says that the command line was at fault.
+/// - `promised`: what a registry promises after any list of requests holds of the requests of the lines that were answered, with status 0 and 1
+///   of all lines, and their outcomes are what was written, but for a fault of the output. The registry is gone then.
 pub fn run_in_memory<R: Read, W: Write + Drop>(
     alloc: Global,
     opening: Opening,
@@ -101,7 +107,10 @@ pub fn run_in_memory<R: Read, W: Write + Drop>(
     ensures written { status_of result < 2 → IfSome (R.remaining reader.old) (λ input. Appends (writer_contents W.contents writer.old) (writer_contents W.contents writer.new) (lines (created opening.code opening.today opening.next_serial) input).text) }
     ensures flushed { status_of result < 2 → writer_buffer writer.new ≡ [] }
     ensures no_words { status_of result ≢ 2 }
+    ensures promised { IfSome (R.remaining reader.old) (λ input. KeepsPromise result input (created opening.code opening.today opening.next_serial) (writer_contents W.contents writer.old) (writer_contents W.contents writer.new) (λ t. ⊤)) }
 {
+    let _code = opening.code.get();
+    let _serial = opening.next_serial.get();
     let conn = match open_in_memory(alloc) {
         Ok(conn) => conn,
         Err(failure) => return Ending::Failed(failure),
@@ -118,6 +127,9 @@ pub fn run_in_memory<R: Read, W: Write + Drop>(
 ///   log could be copied into it.
 /// - `stopped`: after a fault of the records, and where memory was refused, the first lines stand and just their outcomes are written; after one
 ///   of the output the first lines stand. Where the log could be copied, the file alone holds what they come to, after a crash too.
+/// - `promised`: what a registry promises after any list of requests holds of what the files held, the requests of the lines that were answered,
+///   with status 0 and 1 of all lines, and what the file alone holds then, where the log could be copied. Their outcomes are what was written, but
+///   for a fault of the output.
 /// - `unharmed`: where there is no registry to run, no harm came to what the files held, after a crash too: but for a registry of version 1,
 ///   the same registry in version 2 may be found then.
 /// - `copied`: a log that is said to be copied into the database file is.
@@ -140,6 +152,7 @@ pub fn run_in_files<D: Disk + Drop, R: Read, W: Write + Drop, T: Write>(
     ensures stopped { IsClean result.1 → (db : Trees) → HoldsDatabase (image_of D.Disk files) db → IfSome (R.remaining reader.old) (λ input. IfOpened result.1 (HoldsStopped result.1 input (state_held db) result.0 (writer_contents W.contents writer.old) (writer_contents W.contents writer.new))) }
     ensures flushed { status_of result.0 < 2 → writer_buffer writer.new ≡ [] }
     ensures no_words { status_of result.0 ≢ 2 }
+    ensures promised { IsClean result.1 → (db : Trees) → HoldsDatabase (image_of D.Disk files) db → IfSome (R.remaining reader.old) (λ input. IfOpened result.1 (KeepsPromise result.0 input (state_held db) (writer_contents W.contents writer.old) (writer_contents W.contents writer.new) (λ t. IfWhole result.1 (λ files. HoldState D.Disk files t)))) }
     ensures unharmed { IsClean result.1 → IfRefused result.1 (LeavesRegistry files) }
     ensures copied { HasSpareLog result.1 }
 {

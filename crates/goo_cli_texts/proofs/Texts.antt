@@ -27,6 +27,12 @@ kept (Some xs) None has text appended same = absurd appended
 kept (Some xs) (Some ys) None text appended same = absurd same
 kept (Some xs) (Some ys) (Some zs) text appended same = rw same appended
 
+keeps_on : (had between has : Option (List ℕ)) → Keeps had between → Keeps between has → Keeps had has
+keeps_on None between has a b = tt
+keeps_on (Some xs) None has a b = absurd a
+keeps_on (Some xs) (Some ys) None a b = absurd b
+keeps_on (Some xs) (Some ys) (Some zs) a b = b ∙ a
+
 module _ (old new : Moment) (before mid after : Option (List ℕ)) (denial : Option Denial) (right : List ℕ → Type 0) where
   pub shown : (result : Result (Unit {0}) TextFault) (out : Bool) → Writes old new before mid result denial (λ u given. right given) → Keeps mid after → new.lies ≡ 0 → status_of (ending_of_text result out) ≡ 0 → Wrote before after right
   shown (Ok done) true writes keeps clean status =
@@ -39,11 +45,14 @@ module _ (old new : Moment) (before mid after : Option (List ℕ)) (denial : Opt
   shown (Err text.Store) out writes keeps clean status = absurd (omega (arith, status))
   shown (Err text.Memory) out writes keeps clean status = absurd (omega (arith, status))
 
-keeps_on : (had between has : Option (List ℕ)) → Keeps had between → Keeps between has → Keeps had has
-keeps_on None between has a b = tt
-keeps_on (Some xs) None has a b = absurd a
-keeps_on (Some xs) (Some ys) None a b = absurd b
-keeps_on (Some xs) (Some ys) (Some zs) a b = b ∙ a
+  pub silent : (result : Result (Unit {0}) TextFault) (out : Bool) → Writes old new before mid result denial (λ u given. right given) → Keeps mid after → new.lies ≡ 0 → status_of (ending_of_text result out) ≡ 1 → Keeps before after
+  silent (Ok done) true writes keeps clean status = absurd (omega (arith, status))
+  silent (Ok done) false writes keeps clean status = absurd (omega (arith, status))
+  silent (Err text.NotAllowed) out writes keeps clean status = keeps_on before mid after (writes.silent (writes.looks.works clean) tt) keeps
+  silent (Err text.Unknown) out writes keeps clean status = keeps_on before mid after (writes.silent (writes.looks.works clean) tt) keeps
+  silent (Err text.Write) out writes keeps clean status = absurd (omega (arith, status))
+  silent (Err text.Store) out writes keeps clean status = absurd (omega (arith, status))
+  silent (Err text.Memory) out writes keeps clean status = absurd (omega (arith, status))
 
 absent : (caller : List ℕ) → caller ≡ issuer → (row : Option Account) (why : Denial) → account_denial caller row ≡ Some why → row ≡ None
 absent caller same None why e = refl
@@ -58,15 +67,6 @@ module _ (old new : Moment) (before mid : Option (List ℕ)) (caller : List ℕ)
   unknown (Err text.Write) out writes clean status = absurd (omega (arith, status))
   unknown (Err text.Store) out writes clean status = absurd (omega (arith, status))
   unknown (Err text.Memory) out writes clean status = absurd (omega (arith, status))
-
-  pub silent : (after : Option (List ℕ)) (result : Result (Unit {0}) TextFault) (out : Bool) → Writes old new before mid result (account_denial caller row) (λ u given. right given) → Keeps mid after → new.lies ≡ 0 → status_of (ending_of_text result out) ≡ 1 → Keeps before after
-  silent after (Ok done) true writes keeps clean status = absurd (omega (arith, status))
-  silent after (Ok done) false writes keeps clean status = absurd (omega (arith, status))
-  silent after (Err text.NotAllowed) out writes keeps clean status = keeps_on before mid after (writes.silent (writes.looks.works clean) tt) keeps
-  silent after (Err text.Unknown) out writes keeps clean status = keeps_on before mid after (writes.silent (writes.looks.works clean) tt) keeps
-  silent after (Err text.Write) out writes keeps clean status = absurd (omega (arith, status))
-  silent after (Err text.Store) out writes keeps clean status = absurd (omega (arith, status))
-  silent after (Err text.Memory) out writes keeps clean status = absurd (omega (arith, status))
 
 -- what a flush leaves holds with status 0
 pub flushed : {T E : Type 0} (Holds : Type 0) (result : Result (Unit {0}) TextFault) (out : Bool) (flush : Result T E) → out ≡ is_ok flush → OnOk flush Holds → status_of (ending_of_text result out) ≡ 0 → Holds

@@ -1,3 +1,4 @@
 pub mod Endings
 pub mod Declaring
 pub mod Progress
+pub mod Promised

@@ -6,6 +6,8 @@ ghost use Rattle.goo_files_import.specs.Report.{report_text};
 ghost use Rattle.goo_cli_ending.specs.Endings.{status_of};
 ghost use Rattle.goo_cli_texts.specs.Endings.{all_stand, ending_of_import, stands};
 ghost use Rattle.goo_cli_texts.specs.Declaring.{Finishes, IsDeclared};
+ghost use Rattle.goo_cli_texts.specs.Promised.{KeepsPromise};
+ghost use Rattle.goo_spec.specs.Sound.{IsSound};
 
 use crate::issuer::issuer;
 use crate::progress_line::ProgressLine;
@@ -74,6 +76,8 @@ fn finish<W: Write + Drop>(
 ///
 /// - `done`: with status 0 each row was imported and its declaration stands; with status 1 too, but for a file without its header,
 ///   and some declaration doesn't stand. The whole report is written.
+/// - `promised`: what a registry promises after any list of requests holds of the requests of the rows that were applied, after a fault of the
+///   first ones.
 /// - `lied`: what keeps the records returned what was written before, where it did so to the end.
 pub fn declare<S: Shelf, R: Read, W: Write + Drop, T: Write>(
     alloc: Global,
@@ -83,6 +87,7 @@ pub fn declare<S: Shelf, R: Read, W: Write + Drop, T: Write>(
     line: &mut ProgressLine<T>,
 ) -> Ending
     ensures done { (S.seen registry.new.shelf).lies ≡ 0 → IfSome (R.remaining reader.old) (λ input. IsDeclared input (S.seen registry.old.shelf).state (S.seen registry.new.shelf).state (writer_contents W.contents writer.old) (writer_contents W.contents writer.new) result) }
+    ensures promised { IsSound (S.seen registry.old.shelf).state → (S.seen registry.new.shelf).lies ≡ 0 → (S.seen registry.new.shelf).doubts ≡ 0 → IfSome (R.remaining reader.old) (λ input. KeepsPromise result input (S.seen registry.old.shelf).state (S.seen registry.new.shelf).state) }
     ensures lied { (S.seen registry.new.shelf).lies ≡ 0 → (S.seen registry.old.shelf).lies ≡ 0 }
     ensures flushed { status_of result ≡ 0 → writer_buffer writer.new ≡ [] }
 {

@@ -57,6 +57,7 @@ pub fn show_statement<S: Shelf, W: Write + Drop>(
 /// Writes the audit of all devices, and tells how that ends. The output is flushed.
 ///
 /// - `shown`, `flushed`: status 0 only where the whole audit is written after what the writer had, and nothing is left in its buffer.
+/// - `silent`: with status 1 nothing is written.
 /// - `rests`: the registry stays as it is.
 /// - `lied`: what keeps the records returned what was written before, where it did so to the end.
 pub fn show_audit<S: Shelf, W: Write + Drop>(
@@ -65,6 +66,7 @@ pub fn show_audit<S: Shelf, W: Write + Drop>(
     writer: &mut BufWriter<W>,
 ) -> Ending
     ensures shown { (S.seen registry.new.shelf).lies ≡ 0 → status_of result ≡ 0 → Wrote (writer_contents W.contents writer.old) (writer_contents W.contents writer.new) (IsAuditText (S.seen registry.old.shelf).state) }
+    ensures silent { (S.seen registry.new.shelf).lies ≡ 0 → status_of result ≡ 1 → Keeps (writer_contents W.contents writer.old) (writer_contents W.contents writer.new) }
     ensures flushed { status_of result ≡ 0 → writer_buffer writer.new ≡ [] }
     ensures rests { (S.seen registry.new.shelf).doubts ≡ 0 → (S.seen registry.new.shelf).state ≡ (S.seen registry.old.shelf).state }
     ensures lied { (S.seen registry.new.shelf).lies ≡ 0 → (S.seen registry.old.shelf).lies ≡ 0 }

@@ -1,4 +1,5 @@
 use Rattle.goo_cli_ending.proofs.EndingLemmas.{all_done_from, not_all_done_from, written_from, kept_from, flushed_from, of_lines, after_input, told_from}
+use Rattle.goo_cli_ending.proofs.PromiseFacts.{promised_from}
 use Rattle.goo_cli_ending.proofs.StoppedLemmas.{stopped_from}
 use Rattle.goo_cli_ending.proofs.answering.answer_input.Goals as goal
 
@@ -30,3 +31,9 @@ pub returns-clause-stopped : goal.returns-clause-stopped
 returns-clause-stopped g c sure =
     rw c.of_run.ensures (stopped_from c.run_lines-answered.result c.is_ok-flushed.result (g.R.Read.remaining c.args.reader.now) _ _ _ _ _
     (c.run_lines-answered.ensures.state sure) (c.run_lines-answered.ensures.whole sure) (c.run_lines-answered.ensures.part sure) c.run_lines-answered.ensures.unread c.flush.ensures.bytes)
+
+pub returns-clause-promised : goal.returns-clause-promised
+returns-clause-promised g c sound sure =
+    rw c.of_run.ensures (promised_from c.run_lines-answered.result c.is_ok-flushed.result (g.R.Read.remaining c.args.reader.now) (g.D.Desk.seen c.args.desk.now) _ _ _ _ sound
+    (c.run_lines-answered.ensures.state sure) (c.run_lines-answered.ensures.text sure) (c.run_lines-answered.ensures.whole sure) (c.run_lines-answered.ensures.part sure)
+    c.run_lines-answered.ensures.unread c.run_lines-answered.ensures.silent c.flush.ensures.bytes)

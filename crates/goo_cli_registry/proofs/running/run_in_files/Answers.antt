@@ -5,7 +5,8 @@ use Rattle.goo_store.specs.Versions.{state_held}
 use Rattle.goo_store_lookups.specs.Moments.{moment}
 use Rattle.goo_cli_registry.proofs.Files.{kept_begun, not_refused}
 use Rattle.goo_cli_registry.proofs.RunLemmas.{all_done_begun, not_all_done_begun, written_begun}
-use Rattle.goo_cli_registry.proofs.StoppedLemmas.{stopped_begun, unopened}
+use Rattle.goo_spec.specs.Sound.{IsSound}
+use Rattle.goo_cli_registry.proofs.StoppedLemmas.{promised_in, stopped_begun, unopened}
 use Rattle.goo_cli_registry.proofs.running.run_in_files.Goals as goal
 
 -- files that returned what was written to the end did so when the registry was opened
@@ -54,3 +55,16 @@ returns-in-Err-clause-stopped g c = λ clean db holds. unopened (g.R.Read.remain
 
 pub returns-in-Ok-clause-unharmed : goal.returns-in-Ok-clause-unharmed
 returns-in-Ok-clause-unharmed g c clean = not_refused c.close_registry.result _ c.close_registry.ensures.opened
+
+pub returns-in-Ok-clause-promised : goal.returns-in-Ok-clause-promised
+returns-in-Ok-clause-promised g c = λ clean db holds.
+    let low = c.close_registry.ensures.clean clean in
+    let before = subst (λ shelf. doubt (file_state shelf.conn).is_clean ≡ 0) c.new.ensures (c.answer_by-ending.ensures.lied low) in
+    let none = c.in-Ok.ensures.ready.works before in
+    promised_in c.close_registry.result _ (g.R.Read.remaining c.args.reader.now) _ _ _ _ _ _
+    (subst (λ shelf. (moment (file_state shelf.conn) shelf.refused).state ≡ state_held db) (sym c.new.ensures) (c.in-Ok.ensures.state db holds none))
+    (c.answer_by-ending.ensures.promised (subst (λ shelf. IsSound (moment (file_state shelf.conn) shelf.refused).state) (sym c.new.ensures) (c.in-Ok.ensures.sound none)) low)
+    c.close_registry.ensures.whole c.close_registry.ensures.sure
+
+pub returns-in-Err-clause-promised : goal.returns-in-Err-clause-promised
+returns-in-Err-clause-promised g c = λ clean db holds. unopened (g.R.Read.remaining c.args.reader.now)

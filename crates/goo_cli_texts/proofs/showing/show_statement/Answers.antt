@@ -15,7 +15,7 @@ returns-clause-unknown g c clean status =
 
 pub returns-clause-silent : goal.returns-clause-silent
 returns-clause-silent g c clean status =
-    silent _ _ _ _ _ c.issuer.ensures _ _ _ c.write_statement-written.result c.is_ok-flushed.result c.write_statement-written.ensures c.flush.ensures.bytes clean
+    silent _ _ _ _ _ _ _ c.write_statement-written.result c.is_ok-flushed.result c.write_statement-written.ensures c.flush.ensures.bytes clean
     (subst (λ e. status_of e ≡ 1) c.ending_of.ensures status)
 
 pub returns-clause-flushed : goal.returns-clause-flushed

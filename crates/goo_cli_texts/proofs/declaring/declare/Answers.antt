@@ -1,0 +1,12 @@
+use Rattle.goo_registry.specs.Desks.{seen_of}
+use Rattle.goo_cli_texts.proofs.PromiseFacts.{part_promised, whole_promised}
+use Rattle.goo_cli_texts.proofs.declaring.declare.Goals as goal
+
+pub returns-in-Ok-clause-promised : goal.returns-in-Ok-clause-promised
+returns-in-Ok-clause-promised g c sound honest sure =
+    whole_promised c.finish.result _ c.issuer.ensures (g.R.Read.remaining c.args.reader.now) _ _ _ sound (c.in-Ok.ensures.whole honest)
+
+pub returns-in-Err-clause-promised : goal.returns-in-Err-clause-promised
+returns-in-Err-clause-promised g c sound honest sure =
+    part_promised c.finish-in-Err.result _ c.issuer.ensures (g.R.Read.remaining c.args.reader.now) (seen_of (g.S.Shelf.seen c.args.registry.now.shelf)) _ c.in-Err.fault.cause _ _ _
+    c.finish-in-Err.ensures.finished sound c.in-Err.ensures.before (c.in-Err.ensures.part honest) sure
