@@ -552,7 +552,7 @@ class Seen:
         b.see(".quantity .result", "999,999 were asked for")
         check("more than there is can't be chosen, and the page says how many there are", f"{self.held(1):,} certificates" in b.text(".quantity .result"))
         self.choose_quantity("holdings/1/tradable=1", "1,000", "the fewest")
-        got = b.text(".chosen", "certificates").replace("\n", " ")
+        got = b.text(".chosen", "1,000 certificates").replace("\n", " ")
         check("a quantity is chosen", got.startswith("1,000 certificates chosen in"), got)
         before = [self.held(account) for account in (1, 2)]
         b.press(".chosen button", "Transfer")
