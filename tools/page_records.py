@@ -552,7 +552,7 @@ class Seen:
         b.see(".quantity .result", "999,999 were asked for")
         check("more than there is can't be chosen, and the page says how many there are", f"{self.held(1):,} certificates" in b.text(".quantity .result"))
         self.choose_quantity("holdings/1/tradable=1", "1,000", "the fewest")
-        got = b.text(".chosen", "certificates").replace("\n", " ")
+        got = b.text(".chosen", "1,000 certificates").replace("\n", " ")
         check("a quantity is chosen", got.startswith("1,000 certificates chosen in"), got)
         before = [self.held(account) for account in (1, 2)]
         b.press(".chosen button", "Transfer")
@@ -687,8 +687,8 @@ class OfManyLots(WithRecords):
         plants = [{"command": "register_device", "device": gsrn(500 + i), "account": 1, "country": "DE", "site": f"Roof {i}", "tech": "T010000", "source": "F01040100", "capacity_w": 2000000,
                    "commissioned": "2020-06-15", "support": "none"} for i in range(LOT_DEVICES)]
         for command in [{"command": "open_holder", "holder": "BIG", "name": "Viele Läufe"}, {"command": "open_account", "holder": "BIG"}, *plants]:
-            model.apply("ISSUER", command)
-            self.write(archive, "/v1/requests", json.dumps({**command, "key": f"k{self.written[2]}"}), '{"outcome":"accepted","reply":{}}')
+            answer = {"outcome": "accepted", "reply": rules.reply(*model.apply("ISSUER", command))}
+            self.write(archive, "/v1/requests", json.dumps({**command, "key": f"k{self.written[2]}"}), json.dumps(answer))
         days = [f"2024-{n // 25 + 3:02}-{n % 25 + 1:02}" for n in range(LOT_DAYS)]
         for plant in plants:
             rows = "".join(f"{plant['device']}-{day},{plant['device']},{day},{day},1000000,0\n" for day in days)
