@@ -6,6 +6,7 @@ import hashlib
 import hmac
 from dataclasses import dataclass
 
+from records_book import searched, without_nul
 from rules import CANCELLED, EXPIRED, EXPORTED, HELD, ISSUER, PLACES, WITHDRAWN
 
 MOST, USUAL, MOST_IN_FILE = 1000, 100, 100_000
@@ -21,10 +22,12 @@ KEYS = {'lot': 'lot.id', 'run': 'run.first', 'month': 'substr(lot.first_day, 1, 
 ORDERS = {'oldest': 'lot.first_day, run.first', 'expiring': 'lot.expires_on IS NULL, lot.expires_on, run.first', 'fewest': 'run.last - run.first DESC, run.first'}
 LOT_FILTERS = {'tech': 'lot.tech = ?', 'source': 'lot.source = ?', 'country': 'lot.country = ?', 'carrier': 'lot.carrier = ?', 'device': 'lot.device = ?', 'origin': 'lot.origin = ?',
                'from': 'lot.first_day >= ?', 'to': 'lot.last_day <= ?', 'expires_before': 'lot.expires_on <= ?', 'support': 'lot.support = ?'}
-ACT_FILTERS = {name: f'act.{name} = ?' for name in ('kind', 'outcome', 'refusal', 'caller', 'user', 'device', 'peer', 'number')}
-OWN_ALONE = ('user', 'key')
+ACT_FILTERS = {name: f'act.{name} = ?' for name in ('kind', 'outcome', 'refusal', 'caller', 'user', 'role', 'device', 'peer', 'number')}
+OWN_ALONE = ('user', 'role', 'key')
 """Members of an act that its own side and the issuing body see. Nobody else finds it by them."""
 
+FEW = 20_000
+"""Acts that are read one by one where a text is looked for. Of more the index of texts tells those that can have it."""
 DAYS = ('from', 'to', 'expires_before')
 """Parameters that are days."""
 
@@ -137,8 +140,13 @@ def standing(database):
 
 def acts(database, viewer, asked):
     """Acts that the viewer may see, the newest first. `before` is the id to go on from."""
-    source, column, conditions = 'act', 'act.id', Conditions()
-    if account := number_of(asked, 'account'):
+    source, column, conditions, ids = 'act', 'act.id', Conditions(), ids_asked(database, asked)
+    account, letters = number_of(asked, 'account'), letters_of(asked.get('q') or '')
+    if letters and not are_few(database, viewer, asked, ids):
+        source, column, conditions = 'word CROSS JOIN act ON act.id = word.rowid', 'word.rowid', Conditions(('word MATCH ?', (letters,)), viewer.of_acts())
+        if account:
+            conditions.add('EXISTS (SELECT 1 FROM touched WHERE touched.account = ? AND touched.act = act.id)', (account,))
+    elif account:
         source, column, conditions = 'touched CROSS JOIN act ON act.id = touched.act', 'touched.act', Conditions(('touched.account = ?', (account,)))
         if not viewer.sees_all and account not in viewer.accounts(database):       # of his own account he sees each
             conditions.add(*viewer.of_acts())
@@ -146,7 +154,7 @@ def acts(database, viewer, asked):
         source, column, conditions = 'seen CROSS JOIN act ON act.id = seen.act', 'seen.act', Conditions(('seen.viewer = ?', (viewer.caller,)))
     else:
         conditions.add(*viewer.of_acts())
-    conditions.add(f'{column} BETWEEN ? AND ?', ids_asked(database, asked))
+    conditions.add(f'{column} BETWEEN ? AND ?', ids)
     conditions.add_given(ACT_FILTERS, asked)
     add_words(conditions, viewer, asked)
     limit, _ = page(asked)
@@ -179,7 +187,22 @@ def add_words(conditions, viewer, asked):
         conditions.add('act.key = ?', (key,))
     if text := asked.get('q'):
         own_key, whose = ('act.key', ()) if viewer.sees_all else ('CASE WHEN act.caller = ? THEN act.key END', (viewer.caller,))
-        conditions.add(f"instr(lower(coalesce(act.note, '') || ' ' || coalesce({own_key}, '') || ' ' || coalesce(act.device, '') || ' ' || coalesce(act.holder, '')), lower(?))", (*whose, text))
+        conditions.add(f'instr(lower({searched(own_key)}), lower(?))', (*whose, text))
+
+
+def letters_of(text):
+    """What the index of texts is asked for this one: three letters at a time, all of which an act has that has the text; nothing for a text that is shorter."""
+    text = without_nul(text)
+    starts = sorted({*range(0, len(text) - 2, 3), len(text) - 3}) if len(text) > 2 else ()
+    return ' '.join('"{}"'.format(text[at:at + 3].replace('"', '""')) for at in starts)
+
+
+def are_few(database, viewer, asked, ids):
+    """Whether no more than FEW acts fit what was asked besides the text, so that each of them is read."""
+    known = (('touched WHERE account = ?', number_of(asked, 'account')), ('seen WHERE viewer = ?', None if viewer.sees_all else viewer.caller),
+             *((f'act WHERE {name} = ?', asked.get(name)) for name in ('kind', 'device', 'key')))
+    counts = (database.execute(f'SELECT count(*) FROM (SELECT 1 FROM {text} LIMIT {FEW})', (value,)).fetchone()[0] for text, value in known if value)
+    return min((ids[1] - ids[0], *counts)) < FEW
 
 
 def act(database, viewer, number):
@@ -194,7 +217,7 @@ def act(database, viewer, number):
 def told(database, viewer, row, most):
     """An act as the viewer may see it: his own ranges, the user on his own side alone, names beside accounts."""
     if not viewer.sees_all and row['caller'] != viewer.caller:
-        row = {**row, 'user': None, 'key': None}
+        row = {**row, **dict.fromkeys(OWN_ALONE)}
     own_from, own_to = viewer.of_accounts('moved.from_account'), viewer.of_accounts('moved.account')
     ranges = rows(database, f'''SELECT moved.first, moved.last, moved.last - moved.first + 1 AS count, moved.lot, moved.account, moved.from_account, PLACE(moved.kind) AS place FROM moved
                                 WHERE moved.act = ? AND ({own_from[0]} OR {own_to[0]}) ORDER BY moved.first''', (row['id'], *own_from[1], *own_to[1]))
