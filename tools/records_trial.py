@@ -178,6 +178,6 @@ class Service:
             more = {'before' if name == 'acts' else 'offset': answer['next']}
 
 
-def follow(archive, into, *more, begun=(str(CODE), TODAY, '1')):
+def follow(archive, into, *more, begun=(str(CODE), TODAY, '1'), program=TOP / 'deploy/records'):
     """A book that is made of an archive."""
-    return subprocess.run([TOP / 'deploy/records', 'follow', '--begun', *begun, '--archive', archive, '--into', into, *more], capture_output=True, text=True, timeout=1800)
+    return subprocess.run([program, 'follow', '--begun', *begun, '--archive', archive, '--into', into, *more], capture_output=True, text=True, timeout=1800)
