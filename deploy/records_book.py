@@ -50,6 +50,7 @@ CREATE INDEX act_by_device ON act (device, id) WHERE device IS NOT NULL;
 CREATE INDEX moved_by_act ON moved (act, first);
 CREATE INDEX run_by_account ON run (account, kind, first);
 CREATE VIRTUAL TABLE word USING fts5 (text, content = '', detail = none, columnsize = 0, tokenize = 'trigram');
+CREATE VIRTUAL TABLE letters USING fts5vocab (word, row);
 """
 """What only readers need. It is made at the end, from whole tables, which is quicker."""
 
@@ -59,8 +60,9 @@ def searched(key):
     return f"coalesce(act.note, '') || ' ' || coalesce({key}, '') || ' ' || coalesce(act.device, '') || ' ' || coalesce(act.holder, '')"
 
 
-INDEXED = f"INSERT INTO word (rowid, text) SELECT id, WITHOUT_NUL({searched('act.key')} || char(10) || {searched('NULL')}) FROM act WHERE id > ? ORDER BY id"
-"""Adds the later acts to the index of texts: which acts have which three letters in a row, in the text with the key or in the one without."""
+INDEXED = f"INSERT INTO word (rowid, text) SELECT id, WITHOUT_NUL({searched('act.key')} || char(10) || {searched('NULL')} || '  ') FROM act WHERE id > ? ORDER BY id"
+"""Adds the later acts to the index of texts: which acts have which three letters in a row, in the text with the key or in the one without. The blanks at the end
+have each letter begin a three."""
 CACHE = 65_536
 """KiB of the file that the writer keeps in memory."""
 NO_ACT = {'id': 0, 'entry': 0, 'line': 0, **dict.fromkeys(('time', 'user', 'role', 'caller', 'day', 'kind', 'outcome', 'refusal', 'key', 'holder', 'giver', 'taker', 'device', 'peer', 'number', 'wh', 'note'))}
