@@ -2,13 +2,14 @@
 import base64, os, pathlib, shutil, subprocess, sys, tempfile, time
 
 from loopback import USERS, need
+from tally import ended
 
 need(chromium="chromium", chromedriver="chromium-driver")
 try:
     from selenium import webdriver
 except ImportError:
-    print("this machine lacks selenium for /usr/bin/python3 (python3-selenium)\n0 passed, 1 failed")
-    sys.exit(1)
+    print("this machine lacks selenium for /usr/bin/python3 (python3-selenium)")
+    sys.exit(ended(0, 1))
 from selenium.common.exceptions import JavascriptException, StaleElementReferenceException
 from selenium.webdriver.common.by import By
 from selenium.webdriver.common.keys import Keys

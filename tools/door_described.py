@@ -3,7 +3,8 @@ import concurrent.futures, json, re, signal, subprocess, sys, time
 
 import jsonschema, yaml
 
-from intruders import basic, post, raw
+from client import basic
+from intruders import post, raw
 from loopback import HOME, USERS, Place, Relay
 
 REGISTRY, RECORDS = (yaml.safe_load((HOME / "docs" / name).read_text(encoding="utf-8")) for name in ("openapi-outside.yaml", "records.yaml"))

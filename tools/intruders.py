@@ -1,27 +1,18 @@
 """Who gets in, and who keeps others out: trials of the front door for tools/front-door. Each was seen failing on a door without its guard."""
-import base64, concurrent.futures, grp, json, os, pathlib, pwd, re, resource, shutil, signal, socket, ssl, subprocess, sys, time
+import concurrent.futures, grp, json, os, pathlib, pwd, re, resource, shutil, signal, ssl, subprocess, sys, time
 
-from loopback import CONNECTIONS, HOME, Place, comes, is_open, wait_for
+from client import ask, basic, connected, is_open, read_most
+from loopback import CONNECTIONS, HOME, Place, comes, wait_for
 
 HEAD = "GET /v1/audit HTTP/1.1\r\nHost: localhost\r\n"
 DEVICE = "500000000000000012"
 
 
-def basic(user, password):
-    return base64.b64encode(f"{user}:{password}".encode()).decode()
-
-
 def raw(place, text, wait=120):
     """Bytes as they are, through TLS; all that comes back."""
-    with socket.create_connection(("127.0.0.1", place.port), timeout=wait) as s, place.tls().wrap_socket(s, server_hostname="localhost") as t:
-        t.sendall(text)
-        got = b""
-        try:
-            while part := t.recv(65536):
-                got += part
-        except OSError:
-            pass
-        return got.decode()
+    with connected(place.port, wait, place.tls()) as stream:
+        stream.sendall(text)
+        return read_most(stream)[0].decode()
 
 
 def post(place, user, **body):
@@ -224,16 +215,14 @@ def shakes(place, version, ciphers=None, name="localhost"):
     if ciphers:
         context.set_ciphers(ciphers)
     try:
-        with socket.create_connection(("127.0.0.1", place.port), timeout=120) as s, context.wrap_socket(s, server_hostname=name) as t:
-            return t.cipher()[0]
+        with connected(place.port, tls=context, name=name) as stream:
+            return stream.cipher()[0]
     except (ssl.SSLError, ConnectionError):
         return ""
 
 
 def plainly(place, text):
-    with socket.create_connection(("127.0.0.1", place.plain), timeout=120) as s:
-        s.sendall(text.encode())
-        return s.recv(4000).decode()
+    return ask(place.plain, text.encode()).decode()
 
 
 def names(tally):
@@ -283,12 +272,9 @@ def half_sent(port, count, begin):
     """Connections that have sent the beginning of something each."""
     held = []
     for _ in range(count):
-        s = socket.socket()
-        s.settimeout(60)
-        held.append(s)
         try:
-            s.connect(("127.0.0.1", port))
-            s.sendall(begin)
+            held.append(connected(port, 60))
+            held[-1].sendall(begin)
         except OSError:
             break
     return held
@@ -354,8 +340,8 @@ def long_account(place, count):
 
 def leaves(place, user, path):
     """Asks, and leaves after a second."""
-    with socket.create_connection(("127.0.0.1", place.port), timeout=120) as s, place.tls().wrap_socket(s, server_hostname="localhost") as t:
-        t.sendall(f"GET {path} HTTP/1.1\r\nHost: localhost\r\nAuthorization: Basic {basic(user, f'pw-{user}')}\r\n\r\n".encode())
+    with connected(place.port, tls=place.tls()) as stream:
+        stream.sendall(f"GET {path} HTTP/1.1\r\nHost: localhost\r\nAuthorization: Basic {basic(user, f'pw-{user}')}\r\n\r\n".encode())
         time.sleep(0.9)
 
 
@@ -521,7 +507,7 @@ def settings(tally):
 
 # ------------------------------------------------------------------------------------------ the registry's port
 
-# In a network of its own: a stand-in for the registry, and the way to it. Ends with its standard input.
+# In a network of its own: a stand-in for the registry, and the way to it. Ends with its standard input. This and the next are run by users who may not read tools/client.py.
 INSIDE = """
 import fcntl, json, os, socket, struct, subprocess, sys
 port, path, group, mode, owner = json.loads(sys.argv[1])

@@ -8,6 +8,7 @@ from pathlib import Path
 
 TOP = Path(__file__).resolve().parent.parent
 sys.path[:0] = [str(TOP / 'deploy')]
+import tally
 from mutations import lot, part
 from rules import ISSUER, Registry, Wrong, months_after
 
@@ -28,17 +29,13 @@ def gsrn(number):
 DEVICES = [gsrn(number) for number in range(1, 13)]
 
 
-class Tally:
-    def __init__(self):
-        self.passed = self.failed = 0
+class Tally(tally.Tally):
+    """A tally of trials that each tell their faults."""
 
     def check(self, what, faults):
         """One trial; the first faults are shown."""
         faults = list(faults)
-        self.passed, self.failed = self.passed + (not faults), self.failed + bool(faults)
-        print(f'{"FAILED " if faults else ""}{what}', flush=True)
-        for fault in faults[:5]:
-            print('    ', str(fault)[:600])
+        return super().check(what, not faults, ''.join(f'\n     {str(fault)[:600]}' for fault in faults[:5]))
 
 
 class Requests:

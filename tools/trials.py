@@ -19,11 +19,12 @@ from contextlib import contextmanager
 from pathlib import Path
 
 from client import PATIENCE
+from tally import Tally, is_left_out
 
 TOP = Path(__file__).resolve().parent.parent
 NEW = ['--code', '7', '--today', '2025-03-01']
-COUNTS = re.compile(r'(\d+) passed, (\d+) failed(?:, (\d+) skipped)?')
-"""The last line of a tool."""
+
+
 class Differs(Exception):
     """Something else came than was wanted."""
 
@@ -38,7 +39,7 @@ class Missing(Exception):
     @property
     def is_left_out(self):
         """Whether it is left out on purpose."""
-        return self.name in os.environ.get('GOO_WITHOUT', '').split()
+        return is_left_out(self.name)
 
 
 def expect(what, given, wanted):
@@ -235,16 +236,10 @@ def again(chosen, name):
     return shlex.join([sys.argv[0], chosen.program.path, '--cases', str(chosen.cases_folder), '--only', name])
 
 
-def ended(passed, failed, skipped=0):
-    """Prints the counts, the last line of a tool, and gives its exit status. Where nothing was tried, that is a failure."""
-    print(f'{passed} passed, {failed} failed' + (f', {skipped} skipped' if skipped else ''), flush=True)
-    return int(failed > 0 or passed == 0)
-
-
 def run_all(chosen, table, slow=()):
     """Runs the table of trials, tells each that isn't passed with the command that repeats it, and ends with the counts. `--quick` is without those that are slow."""
     signal.signal(signal.SIGTERM, lambda *_: sys.exit(143))  # so that a tool that is ended ends what it has started
-    counts = dict.fromkeys(('passed', 'FAILED', 'skipped'), 0)
+    tally = Tally()
     for name, trial in table:
         if chosen.only and not has_one_of(name, chosen.only) or chosen.quick and has_one_of(name, slow):
             continue
@@ -252,9 +247,12 @@ def run_all(chosen, table, slow=()):
             print(name)
             continue
         word, text = ('skipped', '') if has_one_of(name, chosen.without) else verdict(trial)
-        counts[word] += 1
+        if word == 'skipped':
+            tally.skipped += 1
+        else:
+            tally.count(word == 'passed')
         if text:
             print(f'{word} {name}: {text}', flush=True)
         if word == 'FAILED':
             print('    again: ' + again(chosen, name), flush=True)
-    return 0 if chosen.list else ended(counts['passed'], counts['FAILED'], counts['skipped'])
+    return 0 if chosen.list else tally.ended()
