@@ -3,30 +3,34 @@
 usage: from archives import make_archive
        make_archive(goo, folder, [("office", "ISSUER", "/v1/requests", b'{"command":..}'), ..])
 """
-import datetime, pathlib, secrets, subprocess, sys
+import datetime
+import pathlib
+import secrets
+import subprocess
+import sys
 
-sys.path.insert(0, str(pathlib.Path(__file__).resolve().parent.parent / "deploy"))
+sys.path.insert(0, str(pathlib.Path(__file__).resolve().parent.parent / 'deploy'))
 sys.dont_write_bytecode = True
 import entries
 from client import answered, listening, post
 
-KEY = b"the key of a trial"
+KEY = b'the key of a trial'
 
 
-def make_archive(goo, folder, requests, code=7, today="2025-03-01", begin="2025-02-28T23:59:55", step=1.0, key=KEY, then=None):
+def make_archive(goo, folder, requests, code=7, today='2025-03-01', begin='2025-02-28T23:59:55', step=1.0, key=KEY, then=None):
     """Sends each (user, caller, route, body) to a registry in memory and archives it. Entry k has the time `begin` + k * `step`.
 
     `then` is called with the port of the registry before it ends.
     """
-    words = [goo, "serve", "--memory", "--code", str(code), "--today", today, "--count", "1000000", "--port"]
+    words = [goo, 'serve', '--memory', '--code', str(code), '--today', today, '--count', '1000000', '--port']
     port, registry, _ = listening(lambda port: subprocess.Popen([*words, str(port)], stdout=subprocess.PIPE))
     try:
         archive, origin = entries.Archive(folder), secrets.token_hex(32)
         for count, (user, caller, route, body) in enumerate(requests):
             took = datetime.datetime.fromisoformat(begin) + datetime.timedelta(seconds=count * step)
             before, chain = (archive.last.hash, archive.last.outcome.chain) if archive.last else (origin, entries.NO_CHAIN)
-            entry = entries.Entry(n=count + 1, prev=before, time=took.strftime("%Y-%m-%dT%H:%M:%S.%fZ"), host="h1", user=user, address="127.0.0.1" if user else "",
-                                  role="full", caller=caller, method="POST", route=route, version="trial", id=secrets.token_hex(8), body=body)
+            entry = entries.Entry(n=count + 1, prev=before, time=took.strftime('%Y-%m-%dT%H:%M:%S.%fZ'), host='h1', user=user, address='127.0.0.1' if user else '',
+                                  role='full', caller=caller, method='POST', route=route, version='trial', id=secrets.token_hex(8), body=body)
             status, _, answer = answered(port, post(body, caller, route))
             archive.add(entries.written(entry, key), entry, entries.decided(route, status, answer, chain))
         archive.sync()
