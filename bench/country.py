@@ -145,8 +145,8 @@ class File:
         other = PRODUCERS + 1 if account[0] != PRODUCERS + 1 else PRODUCERS + 2
         with self.served() as port:
             reads = [milliseconds(port, 'GET', f'/v1/certificates/{serial:014d}') for _ in range(ASKED)]
-            writes = [milliseconds(port, 'POST', '/v1/requests', f'H{giver}', {'command': 'transfer', 'key': f'w{serial}.{number}', 'giver': giver, 'taker': taker,
-                                                                                 'first': f'{serial:014d}', 'last': f'{serial:014d}'})
+            span = {'first': f'{serial:014d}', 'last': f'{serial:014d}'}
+            writes = [milliseconds(port, 'POST', '/v1/requests', f'H{giver}', {'command': 'transfer', 'key': f'w{serial}.{number}', 'giver': giver, 'taker': taker, **span})
                       for number, (giver, taker) in zip(range(ASKED), itertools.cycle([(account[0], other), (other, account[0])]))]
         return [(statistics.median(times), sorted(times)[-1 - len(times) // 100]) for times in (reads, writes)]
 

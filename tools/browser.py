@@ -24,7 +24,8 @@ from selenium.webdriver.chrome.service import Service
 
 # What is wider than the box it stands in.
 OVER = """return [...document.querySelectorAll('main *')].filter(e => e.checkVisibility() && e.parentElement &&
-  e.getBoundingClientRect().right > e.parentElement.getBoundingClientRect().right + 1 && !e.closest('svg, thead')).concat(document.documentElement.scrollWidth > innerWidth ? [document.body] : []).map(e => `${e.tagName}.${e.className} ${e.textContent.slice(0, 40)}`)"""
+  e.getBoundingClientRect().right > e.parentElement.getBoundingClientRect().right + 1 && !e.closest('svg, thead'))
+  .concat(document.documentElement.scrollWidth > innerWidth ? [document.body] : []).map(e => `${e.tagName}.${e.className} ${e.textContent.slice(0, 40)}`)"""
 
 
 CLOCK = """const get = Headers.prototype.get; Headers.prototype.get = function (name) { return name === 'Date' ? '%s' : get.call(this, name); };"""
@@ -183,7 +184,7 @@ class Browser:
 
     def errors(self):
         """Judges what the browser has logged since it was last asked."""
-        errors = [l['message'] for l in self.d.get_log('browser') if l['level'] == 'SEVERE' and 'status of' not in l['message']]
+        errors = [entry['message'] for entry in self.d.get_log('browser') if entry['level'] == 'SEVERE' and 'status of' not in entry['message']]
         self.check(f'{self.user}: no error of script or of the security policy', not errors, errors)
 
     def quit(self):

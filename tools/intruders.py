@@ -152,7 +152,8 @@ def public(tally):
 
 def page_files(tally):
     """The page's files: their own limit, and the issuing body's own lists in place of those that come with the page."""
-    rates = ('zone=goo_files:10m rate=10r/s', 'zone=goo_files:10m rate=1r/m'), ('zone=goo_files burst=300', 'zone=goo_files burst=30'), ('zone=goo_rate:10m rate=20r/s', 'zone=goo_rate:10m rate=1r/m'), ('zone=goo_rate burst=60', 'zone=goo_rate burst=5')
+    rates = ('zone=goo_files:10m rate=10r/s', 'zone=goo_files:10m rate=1r/m'), ('zone=goo_files burst=300', 'zone=goo_files burst=30'), *(
+        ('zone=goo_rate:10m rate=20r/s', 'zone=goo_rate:10m rate=1r/m'), ('zone=goo_rate burst=60', 'zone=goo_rate burst=5'))
     with Place(changes=rates) as place:
         got = [place.ask('anna', 'GET', '/v1/certificates/1')[0] for _ in range(8)]
         tally.check('six requests of an address, and then 429', got == [404] * 6 + [429] * 2, got)
@@ -468,7 +469,7 @@ def logs(tally):
         tally.check("the registry's entry, where the answer has one", [line['entry'] for line in got] == ['17', '', '', '', '', ''], got)
         tally.check('address and time', got and all(line['address'] == '127.0.0.1' and re.match(r'\d{4}-\d\d-\d\dT\d\d:\d\d:\d\d', line['time']) for line in got), got)
         every = ''.join(file.read_text() for file in place.dir.glob('*.log'))
-        tally.check('no log has a password, nor what was typed in place of a name', 'S3cret' not in every and 'pw-' not in every, [l for l in every.splitlines() if 'S3cret' in l])
+        tally.check('no log has a password, nor what was typed in place of a name', 'S3cret' not in every and 'pw-' not in every, [line for line in every.splitlines() if 'S3cret' in line])
         rotates(tally, place)
 
 
@@ -483,6 +484,7 @@ def rotates(tally, place):
     conf.write_text(text)
     conf.chmod(0o644)
     out = subprocess.run(['logrotate', '-f', '-s', place.dir / 'logrotate.state', conf], capture_output=True, text=True)
+
     def is_new():                                           # nginx opens the new file a moment after it was told to
         place.ask('bela', 'GET', '/v1/audit')
         return (place.dir / 'front-door.log').exists() and lines_of_log(place, 0)
@@ -562,6 +564,12 @@ except OSError as fault:
 """
 
 
+def asks(user, groups, *words):
+    """What a user of these groups gets by a way."""
+    group = pwd.getpwnam(user).pw_gid
+    return subprocess.run([sys.executable, '-c', ASK, *words], user=user, group=group, extra_groups=groups, capture_output=True, text=True, timeout=120).stdout.strip()
+
+
 def unit(name):
     """The settings of a unit, the last one of each name."""
     return dict(line.split('=', 1) for line in (HOME / 'deploy/systemd' / name).read_text().splitlines() if '=' in line and not line.startswith('#'))
@@ -584,8 +592,6 @@ def one_way(tally):
         network = ['unshare', '-n'] if registry.get('PrivateNetwork') == 'yes' else []
         with subprocess.Popen([*network, sys.executable, '-c', INSIDE, words], stdin=subprocess.PIPE, stdout=subprocess.PIPE, text=True) as inside:
             inside.stdout.readline()
-            def asks(user, groups, *words):
-                return subprocess.run([sys.executable, '-c', ASK, *words], user=user, group=pwd.getpwnam(user).pw_gid, extra_groups=groups, capture_output=True, text=True, timeout=120).stdout.strip()
             got = [asks(user, [group], 'socket', path) for user in ('www-data', 'bin')]
             tally.check('the front door and the agent reach the registry by their group', got == ['here', 'here'], got)
             got = [asks(user, [], 'socket', path) for user in ('nobody', 'man', 'www-data')]
