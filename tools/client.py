@@ -54,6 +54,16 @@ def connected(at, patience=PATIENCE, tls=None, name='localhost', room=None):
         raise
 
 
+def comes(test, seconds=PATIENCE, pause=0.05):
+    """Waits until a test holds, for as long as a busy machine may take; whether it came to hold."""
+    until = time.monotonic() + seconds
+    while not test():
+        if time.monotonic() > until:
+            return False
+        time.sleep(pause)
+    return True
+
+
 def is_open(at):
     """Whether somebody listens there."""
     try:

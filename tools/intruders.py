@@ -14,8 +14,8 @@ import subprocess
 import sys
 import time
 
-from client import ask, basic, connected, is_open, read_most
-from loopback import CONNECTIONS, HOME, Place, comes, wait_for
+from client import ask, basic, comes, connected, is_open, read_most
+from loopback import CONNECTIONS, HOME, Place, wait_for
 
 HEAD = 'GET /v1/audit HTTP/1.1\r\nHost: localhost\r\n'
 DEVICE = '500000000000000012'

@@ -4,8 +4,9 @@ import calendar, csv, json, os, re, subprocess, sys, time
 from selenium.webdriver.common.action_chains import ActionChains
 
 from browser import SECONDS, By, Keys
-from client import CLOSE, answered, free_port, post
+from client import CLOSE, answered, comes, free_port, post
 from loopback import HOME, Place, wait_for
+from readings import with_check_digit
 
 sys.path.append(str(HOME / "deploy"))
 import entries, rules
@@ -93,17 +94,13 @@ class WithRecords(Place):
 
 
 def wait_until(holds, what):
-    end = time.monotonic() + SECONDS
-    while not holds():
-        if time.monotonic() > end:
-            raise RuntimeError(f"{what} does not come")
-        time.sleep(0.05)
+    if not comes(holds, SECONDS):
+        raise RuntimeError(f"{what} does not come")
 
 
 def gsrn(serial):
     """The GSRN of this number: 17 digits and the check digit."""
-    digits = f"6{serial:016}"
-    return digits + str(-sum(int(d) * (1 if i % 2 else 3) for i, d in enumerate(digits)) % 10)
+    return with_check_digit(f"6{serial:016}")
 
 
 def world(place):

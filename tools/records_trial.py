@@ -9,7 +9,7 @@ from pathlib import Path
 TOP = Path(__file__).resolve().parent.parent
 sys.path[:0] = [str(TOP / 'deploy')]
 import tally
-from mutations import lot, part
+from mutations import gsrn, lot, part
 from rules import ISSUER, Registry, Wrong, months_after
 
 HOLDERS = ('SUN', 'VOLT', 'WIND', 'RHEIN', 'NORD')
@@ -17,13 +17,6 @@ ACCOUNTS = {number: HOLDERS[(number - 1) % len(HOLDERS)] for number in range(1, 
 TODAY, CODE = '2026-01-15', 7
 OWN = CODE * 10 ** 12
 PLANTS = [('T010000', 'F01010100', None, 'DE'), ('T020001', 'F01010500', None, 'FR'), ('T030000', 'F01020100', 'gas', 'DE'), ('T010000', 'F01010100', None, 'AT')]
-
-
-def gsrn(number):
-    """A device's number with its check digit."""
-    digits = f'50000000{number:09}'
-    total = sum(int(digit) * (3 if at % 2 == 0 else 1) for at, digit in enumerate(reversed(digits)))
-    return f'{digits}{-total % 10}'
 
 
 DEVICES = [gsrn(number) for number in range(1, 13)]

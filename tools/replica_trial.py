@@ -12,6 +12,7 @@ import client
 import entries
 import loopback
 import replica_roles
+from mutations import gsrn
 from tally import Tally
 
 GOO = loopback.program()
@@ -339,11 +340,6 @@ def ask(host, method, target, caller, body, patience, **more):
 
 
 # ------------------------------------------------------------------ clients
-
-def gsrn(n):
-    body = f"50{n:015}"
-    return body + str(-sum(int(c) * (3, 1)[i % 2] for i, c in enumerate(reversed(body))) % 10)
-
 
 def day(n):
     return time.strftime("%Y-%m-%d", time.gmtime(1735689600 + 86400 * n))          # 2025-01-01 and on
