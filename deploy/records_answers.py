@@ -6,6 +6,7 @@ import hashlib
 import hmac
 from dataclasses import dataclass
 
+from records_book import searched, without_nul
 from rules import CANCELLED, EXPIRED, EXPORTED, HELD, ISSUER, PLACES, WITHDRAWN
 
 MOST, USUAL, MOST_IN_FILE = 1000, 100, 100_000
@@ -21,10 +22,12 @@ KEYS = {'lot': 'lot.id', 'run': 'run.first', 'month': 'substr(lot.first_day, 1, 
 ORDERS = {'oldest': 'lot.first_day, run.first', 'expiring': 'lot.expires_on IS NULL, lot.expires_on, run.first', 'fewest': 'run.last - run.first DESC, run.first'}
 LOT_FILTERS = {'tech': 'lot.tech = ?', 'source': 'lot.source = ?', 'country': 'lot.country = ?', 'carrier': 'lot.carrier = ?', 'device': 'lot.device = ?', 'origin': 'lot.origin = ?',
                'from': 'lot.first_day >= ?', 'to': 'lot.last_day <= ?', 'expires_before': 'lot.expires_on <= ?', 'support': 'lot.support = ?'}
-ACT_FILTERS = {name: f'act.{name} = ?' for name in ('kind', 'outcome', 'refusal', 'caller', 'user', 'device', 'peer', 'number')}
-OWN_ALONE = ('user', 'key')
+ACT_FILTERS = {name: f'act.{name} = ?' for name in ('kind', 'outcome', 'refusal', 'caller', 'user', 'role', 'device', 'peer', 'number')}
+OWN_ALONE = ('user', 'role', 'key')
 """Members of an act that its own side and the issuing body see. Nobody else finds it by them."""
 
+FEW, MOST_THREES = 20_000, 60
+"""Acts that are read one by one where a text is looked for: of more the index of texts tells those that can have it. And how many threes of letters it is asked for at once."""
 DAYS = ('from', 'to', 'expires_before')
 """Parameters that are days."""
 
@@ -137,22 +140,47 @@ def standing(database):
 
 def acts(database, viewer, asked):
     """Acts that the viewer may see, the newest first. `before` is the id to go on from."""
-    source, column, conditions = 'act', 'act.id', Conditions()
-    if account := number_of(asked, 'account'):
-        source, column, conditions = 'touched CROSS JOIN act ON act.id = touched.act', 'touched.act', Conditions(('touched.account = ?', (account,)))
-        if not viewer.sees_all and account not in viewer.accounts(database):       # of his own account he sees each
-            conditions.add(*viewer.of_acts())
-    elif not viewer.sees_all and not asked.get('key'):
-        source, column, conditions = 'seen CROSS JOIN act ON act.id = seen.act', 'seen.act', Conditions(('seen.viewer = ?', (viewer.caller,)))
-    else:
-        conditions.add(*viewer.of_acts())
-    conditions.add(f'{column} BETWEEN ? AND ?', ids_asked(database, asked))
+    ids = ids_asked(database, asked)
+    start, conditions = started(database, viewer, asked, ids)
+    tables, column = STARTS[start]
+    conditions.add(f'{column} BETWEEN ? AND ?', ids)
     conditions.add_given(ACT_FILTERS, asked)
     add_words(conditions, viewer, asked)
     limit, _ = page(asked)
-    found = rows(database, f'SELECT act.* FROM {source} WHERE {conditions.where} ORDER BY {column} DESC LIMIT ?', (*conditions.values, limit))
+    found = rows(database, f'SELECT act.* FROM {tables} WHERE {conditions.where} ORDER BY {column} DESC LIMIT ?', (*conditions.values, limit))
     shown = [told(database, viewer, act, RANGES) for act in found]
     return {'items': shown, 'next': found[-1]['id'] if len(found) == limit else None}
+
+
+STARTS = {'word': ('word CROSS JOIN act ON act.id = word.rowid', 'word.rowid'), 'touched': ('touched CROSS JOIN act ON act.id = touched.act', 'touched.act'),
+          'seen': ('seen CROSS JOIN act ON act.id = seen.act', 'seen.act'), 'act': ('act', 'act.id')}
+"""Where the reading of acts begins: with those that can have a text, that touched an account, that a viewer sees, or with all; and the column with their ids."""
+
+
+def started(database, viewer, asked, ids):
+    """The table that leads to the fewest acts, and what is asked of account, viewer and text."""
+    account, text = number_of(asked, 'account'), asked.get('q')
+    touched = counted(database, 'touched', 'account', account) if account else FEW
+    seen = FEW if viewer.sees_all else counted(database, 'seen', 'viewer', viewer.caller)
+    others = [counted(database, 'act', name, asked[name]) for name in ('kind', 'device', 'key') if text and asked.get(name)]
+    if text and min((ids[1] - ids[0], touched, seen, *others)) >= FEW and (letters := letters_of(database, text)):
+        return 'word', Conditions(('word MATCH ?', (letters,)), viewer.of_acts(), *of_account(account))
+    is_own = account and not viewer.sees_all and account in viewer.accounts(database)      # of his own account he sees each act
+    if account and (is_own or touched <= seen):
+        return 'touched', Conditions(('touched.account = ?', (account,)), *([] if is_own else [viewer.of_acts()]))
+    if viewer.sees_all or asked.get('key'):
+        return 'act', Conditions(viewer.of_acts(), *of_account(account))
+    return 'seen', Conditions(('seen.viewer = ?', (viewer.caller,)), *of_account(account))
+
+
+def counted(database, table, column, value):
+    """How many rows have this value, or FEW where they are more."""
+    return database.execute(f'SELECT count(*) FROM (SELECT 1 FROM {table} WHERE {column} = ? LIMIT {FEW})', (value,)).fetchone()[0]
+
+
+def of_account(account):
+    """A condition, where an account was asked for: the act touched it."""
+    return [('EXISTS (SELECT 1 FROM touched WHERE touched.account = ? AND touched.act = act.id)', (account,))] if account else []
 
 
 def ids_asked(database, asked):
@@ -179,7 +207,30 @@ def add_words(conditions, viewer, asked):
         conditions.add('act.key = ?', (key,))
     if text := asked.get('q'):
         own_key, whose = ('act.key', ()) if viewer.sees_all else ('CASE WHEN act.caller = ? THEN act.key END', (viewer.caller,))
-        conditions.add(f"instr(lower(coalesce(act.note, '') || ' ' || coalesce({own_key}, '') || ' ' || coalesce(act.device, '') || ' ' || coalesce(act.holder, '')), lower(?))", (*whose, text))
+        conditions.add(f'instr(lower({searched(own_key)}), lower(?))', (*whose, text))
+
+
+def letters_of(database, text):
+    """What the index of texts is asked for this one: three letters at a time, all of which an act has that has the text. Nothing where the index is no help."""
+    text = without_nul(text)
+    if len(text) > 2:
+        return ' '.join(quoted(text[at:at + 3]) for at in sorted({*range(0, len(text) - 2, 3), len(text) - 3}))
+    return threes_of(database, text.lower()) if text.isascii() else ''         # of other letters FTS5 has small ones of its own
+
+
+def threes_of(database, begin):
+    """The threes of letters that begin so: an act with this text has one of them. Nothing where they are many, as then the acts with the text are many."""
+    threes = [three for three, in database.execute('SELECT term FROM letters WHERE term BETWEEN ? AND ? LIMIT ?', (begin, f'{begin}\U0010ffff', MOST_THREES))]
+    return '' if len(threes) == MOST_THREES else ' OR '.join(map(quoted, threes)) or NO_THREE
+
+
+NO_THREE = '""'
+"""What no act has, as FTS5 is asked for it."""
+
+
+def quoted(three):
+    """Three letters as FTS5 is asked for them, whatever they are."""
+    return '"{}"'.format(three.replace('"', '""'))
 
 
 def act(database, viewer, number):
@@ -194,7 +245,7 @@ def act(database, viewer, number):
 def told(database, viewer, row, most):
     """An act as the viewer may see it: his own ranges, the user on his own side alone, names beside accounts."""
     if not viewer.sees_all and row['caller'] != viewer.caller:
-        row = {**row, 'user': None, 'key': None}
+        row = {**row, **dict.fromkeys(OWN_ALONE)}
     own_from, own_to = viewer.of_accounts('moved.from_account'), viewer.of_accounts('moved.account')
     ranges = rows(database, f'''SELECT moved.first, moved.last, moved.last - moved.first + 1 AS count, moved.lot, moved.account, moved.from_account, PLACE(moved.kind) AS place FROM moved
                                 WHERE moved.act = ? AND ({own_from[0]} OR {own_to[0]}) ORDER BY moved.first''', (row['id'], *own_from[1], *own_to[1]))

@@ -1,23 +1,25 @@
 """The book of acts: an SQLite file that is made from the log of requests, for people who search and choose. The registry never reads it.
 
 Each accepted request is carried out once more by rules.py, in memory, and what it changed is written here: the act, the ranges of certificates that it moved,
-and the rows that it left. Refused and unreadable requests are acts that changed nothing. The file can be made anew at any time.
+and the rows that it left. Refused and unreadable requests are acts that changed nothing; so are writes that a user's role did not allow. The file can be made anew at any time.
 """
 import bisect
 import collections
 import csv
 import io
 import json
+import re
 import sqlite3
 
+import replica_roles
 import rules
 from rules import EXPORTED, ISSUER, LOT, PLANT, Again, Certificates, Registry, months_after
 
-FORM = 2
+FORM = 3
 """Of this file. A file of another form is made anew, and nothing is read from it until then."""
 TABLES = f'''
 CREATE TABLE meta (id INTEGER PRIMARY KEY CHECK (id = 1), form INTEGER, code INTEGER, today TEXT, entry INTEGER, hash TEXT, time TEXT) STRICT;
-CREATE TABLE act (id INTEGER PRIMARY KEY, entry INTEGER NOT NULL, line INTEGER NOT NULL, time TEXT, user TEXT, caller TEXT NOT NULL, day TEXT NOT NULL, kind TEXT NOT NULL,
+CREATE TABLE act (id INTEGER PRIMARY KEY, entry INTEGER NOT NULL, line INTEGER NOT NULL, time TEXT, user TEXT, role TEXT, caller TEXT NOT NULL, day TEXT NOT NULL, kind TEXT NOT NULL,
                   outcome TEXT NOT NULL, refusal TEXT, key TEXT, holder TEXT, giver INTEGER, taker INTEGER, device TEXT, peer INTEGER, number INTEGER, wh INTEGER, note TEXT) STRICT;
 CREATE INDEX act_by_key ON act (key);
 CREATE TABLE seen (viewer TEXT, act INTEGER, PRIMARY KEY (viewer, act)) STRICT, WITHOUT ROWID;
@@ -47,15 +49,29 @@ CREATE INDEX act_by_kind ON act (kind, id);
 CREATE INDEX act_by_device ON act (device, id) WHERE device IS NOT NULL;
 CREATE INDEX moved_by_act ON moved (act, first);
 CREATE INDEX run_by_account ON run (account, kind, first);
+CREATE VIRTUAL TABLE word USING fts5 (text, content = '', detail = none, columnsize = 0, tokenize = 'trigram');
+CREATE VIRTUAL TABLE letters USING fts5vocab (word, row);
 """
 """What only readers need. It is made at the end, from whole tables, which is quicker."""
+
+
+def searched(key):
+    """The text in which an act is looked for, as SQL, with this as its key: who may not see the key does not find the act by it."""
+    return f"coalesce(act.note, '') || ' ' || coalesce({key}, '') || ' ' || coalesce(act.device, '') || ' ' || coalesce(act.holder, '')"
+
+
+INDEXED = f"INSERT INTO word (rowid, text) SELECT id, WITHOUT_NUL({searched('act.key')} || char(10) || {searched('NULL')} || '  ') FROM act WHERE id > ? ORDER BY id"
+"""Adds the later acts to the index of texts: which acts have which three letters in a row, in the text with the key or in the one without. The blanks at the end
+have each letter begin a three."""
 CACHE = 65_536
 """KiB of the file that the writer keeps in memory."""
-NO_ACT = {'id': 0, 'entry': 0, 'line': 0, **dict.fromkeys(('time', 'user', 'caller', 'day', 'kind', 'outcome', 'refusal', 'key', 'holder', 'giver', 'taker', 'device', 'peer', 'number', 'wh', 'note'))}
+NO_ACT = {'id': 0, 'entry': 0, 'line': 0, **dict.fromkeys(('time', 'user', 'role', 'caller', 'day', 'kind', 'outcome', 'refusal', 'key', 'holder', 'giver', 'taker', 'device', 'peer', 'number', 'wh', 'note'))}
 """The columns of an act, in the order of its table."""
 KINDS = {'declare': 'issue', 'correct': 'correction', 'transfer': 'transfer', 'cancel': 'cancellation', 'withdraw': 'withdrawal', 'export': 'export', 'import': 'import',
          'open_holder': 'holder', 'open_account': 'account', 'close_account': 'closing', 'register_device': 'device', 'advance': 'date', 'add_peer': 'peer'}
 """The kind of act by the word of its command. `expiry` has no command: a new date makes it. `unreadable` is what no command could be read from."""
+ROLE = 'Role'
+"""Why a write was refused that the role of its user does not allow. It never reached the registry, whose own refusals have other names."""
 TABLE_ROUTE, REQUEST_ROUTE = '/v1/declarations', '/v1/requests'
 COLUMNS = ('key', 'device', 'first_day', 'last_day', 'gross_wh', 'aux_wh')
 
@@ -128,10 +144,16 @@ class WatchedRegistry(Registry):
         self.certificates = Watched()
 
 
+def without_nul(text):
+    """A text for FTS5, which reads to the first NUL."""
+    return text.replace('\0', '\ufffd')
+
+
 def connected(path, read_only=False):
     """A connection to a book."""
     database = sqlite3.connect(f'{path.resolve().as_uri()}{"?mode=ro" if read_only else ""}', uri=True, isolation_level=None, timeout=30)
     database.row_factory = sqlite3.Row
+    database.create_function('WITHOUT_NUL', 1, without_nul, deterministic=True)
     return database
 
 
@@ -149,8 +171,8 @@ def opened(path):
 class Book:
     """Writes a book. What entries change waits in memory until `commit` writes all of it."""
 
-    def __init__(self, database, registry):
-        self.database, self.registry = database, registry
+    def __init__(self, path, registry):
+        self.path, self.database, self.registry, self.indexed = path, connected(path), registry, None
         self.inserts, self.updates = collections.defaultdict(list), collections.defaultdict(list)
         self.accepted, self.seen, self.touched = set(), set(), set()
         self.lots, self.begins = {}, {}
@@ -160,14 +182,24 @@ class Book:
     def make(path, registry):
         """A new book of a registry in which nothing has happened yet. Nobody reads it before `open`, and it is made anew after a crash, so nothing is synchronized until then."""
         path.unlink(missing_ok=True)
-        database = connected(path)
-        database.executescript(f'PRAGMA journal_mode = OFF; PRAGMA synchronous = OFF; PRAGMA cache_size = -{CACHE}; BEGIN; {TABLES} COMMIT;')
-        database.execute('INSERT INTO meta VALUES (1, ?, ?, ?, 0, NULL, NULL)', (FORM, registry.code, registry.today))
-        return Book(database, registry)
+        book = Book(path, registry)
+        book.database.executescript(f'PRAGMA journal_mode = OFF; PRAGMA synchronous = OFF; PRAGMA cache_size = -{CACHE}; BEGIN; {TABLES} COMMIT;')
+        book.database.execute('INSERT INTO meta VALUES (1, ?, ?, ?, 0, NULL, NULL)', (FORM, registry.code, registry.today))
+        return book
 
-    def open(self):
-        """Makes the book ready for readers beside the writer."""
-        self.database.executescript(f'{INDEXES} PRAGMA journal_mode = WAL; PRAGMA synchronous = NORMAL;')
+    def open(self, path):
+        """Writes the book to its place, ready for readers beside the writer. The same rows give the same bytes there: in what order pages were filled no longer shows."""
+        self.database.executescript(INDEXES)
+        self.database.execute(INDEXED, (0,))
+        self.database.execute('VACUUM INTO ?', (str(path),))
+        self.close()
+        self.path, self.database, self.indexed = path, connected(path), self.acts
+        self.database.executescript('PRAGMA journal_mode = WAL; PRAGMA synchronous = NORMAL;')
+
+    def close(self):
+        """Gives up the file in which the book was made."""
+        self.database.close()
+        self.path.unlink()
 
     def insert(self, table, *values):
         self.inserts[f'INSERT INTO {table} VALUES ({", ".join("?" * len(values))})'].append(values)
@@ -184,6 +216,9 @@ class Book:
             for statement, rows in statements.items():
                 self.database.executemany(statement, rows)
         self.write_runs()
+        if self.indexed is not None:
+            self.database.execute(INDEXED, (self.indexed,))
+            self.indexed = self.acts
         self.database.execute('UPDATE meta SET today = ?, entry = ?, hash = ?, time = ?', (self.registry.today, entry, digest, time))
         self.database.execute('COMMIT')
         for waited in (self.inserts, self.updates, self.accepted, self.seen, self.touched):
@@ -205,8 +240,10 @@ class Book:
     def take(self, record):
         """Writes what an entry of the archive did."""
         entry, outcome = record.entry, record.outcome
-        at = {'entry': entry.n, 'time': entry.time, 'user': entry.user, 'caller': entry.caller}
-        if entry.route == REQUEST_ROUTE:
+        at = {'entry': entry.n, 'time': entry.time, 'user': entry.user, 'role': entry.role, 'caller': entry.caller}
+        if entry.method == 'POST' and not replica_roles.allows(entry.role, entry.method, entry.route, entry.body):
+            self.take_beyond_role(at, entry, outcome)
+        elif entry.route == REQUEST_ROUTE:
             self.take_request(at, entry.body, outcome)
         elif entry.route == TABLE_ROUTE and outcome.status == 200:
             for line, fields, word in rows_of_table(entry.body, outcome.body.decode()):
@@ -214,12 +251,20 @@ class Book:
         elif entry.route == TABLE_ROUTE:
             self.add_act({**at, 'kind': 'issue', 'outcome': 'unreadable', 'refusal': f'status {outcome.status}'})
 
+    def take_beyond_role(self, at, entry, outcome):
+        """Writes who tried what his role does not allow. The registry has not heard of it."""
+        if outcome.status != 403:
+            raise Mismatch(f'entry {entry.n}: the role {entry.role} does not allow it, and the log has status {outcome.status}')
+        command = {'command': 'declare'} if entry.route == TABLE_ROUTE else kept(command_of(entry.body))
+        self.take_answer(at, command, 'refused', ROLE)
+
     def take_request(self, at, body, outcome):
         try:
             answer = json.loads(outcome.body)
         except ValueError:
             answer = {'outcome': 'set aside' if outcome.status == 500 else 'unreadable', 'fault': f'status {outcome.status}'}
         command = command_of(body) if answer['outcome'] != 'unreadable' else {}
+        command = kept(command) if answer['outcome'] == 'set aside' else command
         self.take_answer(at, command, answer['outcome'], answer.get('name') or answer.get('fault'), answer.get('reply'))
 
     def take_answer(self, at, command, outcome, why, reply=None):
@@ -397,6 +442,15 @@ def command_of(body):
     except (ValueError, RecursionError):
         return {}
     return command if isinstance(command, dict) else {}
+
+
+def kept(command):
+    """The texts and numbers of a command that the registry has not read, as far as a book can keep them."""
+    return {name: value for name, value in command.items() if type(value) is int and abs(value) < 2 ** 63 or isinstance(value, str) and not LONE.search(value)}
+
+
+LONE = re.compile('[\ud800-\udfff]')
+"""Half of a letter of two, which JSON can write and no UTF-8 has."""
 
 
 def rows_of_table(body, answer):

@@ -11,7 +11,7 @@ import time
 from loopback import USERS, need
 from tally import ended
 
-need(chromium='chromium', chromedriver='chromium-driver')
+need(chromium='chromium', chromedriver='chromium-driver', certutil='libnss3-tools')
 try:
     from selenium import webdriver
 except ImportError:
@@ -48,13 +48,26 @@ SECONDS = 90
 """Most that anything may take to come: far more than it takes, so that a machine with much else to do fails nothing."""
 
 
+def home_with(certificate, home):
+    """A home whose store of certificates has the one of these two files, NAME.pem and NAME.key."""
+    store, packed = home / '.pki/nssdb', home / 'certificate.p12'
+    if not store.exists():
+        store.mkdir(parents=True)
+        for words in (['certutil', '-N', '-d', f'sql:{store}', '--empty-password'],
+                      ['openssl', 'pkcs12', '-export', '-in', f'{certificate}.pem', '-inkey', f'{certificate}.key', '-out', packed, '-passout', 'pass:'],
+                      ['pk12util', '-i', packed, '-d', f'sql:{store}', '-W', '']):
+            subprocess.run(words, check=True, capture_output=True)
+    return home
+
+
 class Browser:
     """A Chromium for one user. `check` judges what is seen; pictures go to a folder, and none are made without one.
 
-    `clock` is what the front door's `Date` says, where that isn't left to the host, so that the registry's day is today. What it keeps is in `folder`.
+    `clock` is what the front door's `Date` says, where that isn't left to the host, so that the registry's day is today. What it keeps is in `folder`. With
+    `certificate` it has the user's certificate, and takes it for this place without a question.
     """
 
-    def __init__(self, place, user, check, pictures=None, clock=None, folder=None):
+    def __init__(self, place, user, check, pictures=None, clock=None, folder=None, certificate=False):
         self.place, self.user, self.check, self.pictures = place, user, check, pictures
         folder = folder or place.dir
         self.downloads = folder / f'downloads-{user}'
@@ -64,8 +77,12 @@ class Browser:
                      f'--user-data-dir={folder}/chromium-{user}', '--host-resolver-rules=MAP * ~NOTFOUND, EXCLUDE localhost'):
             o.add_argument(flag)
         o.set_capability('goog:loggingPrefs', {'browser': 'ALL'})
-        o.add_experimental_option('prefs', {'download.default_directory': str(self.downloads), 'download.prompt_for_download': False})
-        self.d = webdriver.Chrome(service=Service('/usr/bin/chromedriver', env={**os.environ, 'LANGUAGE': 'en_GB'}), options=o)
+        prefs, env = {'download.default_directory': str(self.downloads), 'download.prompt_for_download': False}, {**os.environ, 'LANGUAGE': 'en_GB'}
+        if certificate:
+            env['HOME'] = str(home_with(place.dir / user, folder / f'home-{user}'))
+            prefs['profile.content_settings.exceptions.auto_select_certificate'] = {f'https://localhost:{place.port},*': {'setting': {'filters': [{}]}}}
+        o.add_experimental_option('prefs', prefs)
+        self.d = webdriver.Chrome(service=Service('/usr/bin/chromedriver', env=env), options=o)
         self.d.set_page_load_timeout(SECONDS)
         self.d.set_script_timeout(SECONDS)
         self.clock = clock and self.d.execute_cdp_cmd('Page.addScriptToEvaluateOnNewDocument', {'source': CLOCK % clock})['identifier']

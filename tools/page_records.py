@@ -17,9 +17,10 @@ MONTHS = [(2023, 9), (2024, 3), (2024, 9), (2024, 10), (2024, 11), (2024, 12)]
 """Of production. On 2025-03-01 the first expires within 60 days, and the trade of the second closes."""
 
 
-def request_of(caller, body):
-    """The bytes of a request, or of a table of declarations."""
-    return post(json.dumps(body), caller, more=[CLOSE]) if isinstance(body, dict) else post(body, caller, "/v1/declarations", more=[CLOSE])
+def request_of(caller, body, **more):
+    """The bytes of a request, or of a table of declarations, with further fields."""
+    target, text = ("/v1/requests", json.dumps(body)) if isinstance(body, dict) else ("/v1/declarations", body)
+    return post(text, caller, target, more=[CLOSE, *(f"{name.replace('_', '-')}: {value}" for name, value in more.items())])
 
 
 class WithRecords(Place):
@@ -62,9 +63,9 @@ class WithRecords(Place):
         with open(self.dir / f"{name}.log", "ab") as log:
             self.beside.append(subprocess.Popen([str(word) for word in words], stdin=subprocess.DEVNULL, stdout=log, stderr=log, env={**os.environ, "PYTHONDONTWRITEBYTECODE": "1", **more}))
 
-    def post(self, caller, body):
-        """A request, or a table of declarations, into the log as if it came from the door."""
-        return answered(self.log_port, request_of(caller, body), patience=60).body.decode()
+    def post(self, caller, body, **more):
+        """A request, or a table of declarations, into the log as if it came from the door. `more` are further fields that the door sets."""
+        return answered(self.log_port, request_of(caller, body, **more), patience=60).body.decode()
 
     def request(self, caller, command, **fields):
         """An accepted request's reply."""
@@ -124,6 +125,7 @@ def world(place):
     place.request("SUN", "export", giver=1, peer=9, account=5, first="07000000000953", last="07000000000957")
     place.post("SUN", {"command": "transfer", "key": "refused", "giver": 1, "taker": 77, "first": "07000000000733", "last": "07000000000733"})
     place.request("ISSUER", "withdraw", first="07000000001033", last="07000000001038", reason="meter read twice")
+    place.post("ISSUER", {"command": "withdraw", "key": "tried", "first": "07000000000733", "last": "07000000000733", "reason": "meter read twice"}, GOO_User="paula", GOO_Role="reads")
     place.followed()
 
 
@@ -364,8 +366,11 @@ class Seen:
         b.load("", "h1")
         b.press("nav button", "Deutsch")
         b.see("nav button", "English")
-        self.german_pages({"audit": "Prüfung", "register": "Eintragen", "account": "Konten", "correct": "Berichtigen", "withdraw": "Zurückziehen", "exchange": "Austausch", "date": "Datum", "lists/holders": "Inhaber",
+        self.german_pages({"audit": "Prüfung", "register": "Eintragen", "account": "Konten", "correct": "Berichtigen", "withdraw": "Zurückziehen", "exchange": "Austausch", "date": "Datum", "lists/holders": "Inhaber", "history//outcome=refused": "Verlauf",
                            "lists/entered": "Von der ausstellenden Stelle eingegeben", "declare": "Erzeugung melden"})
+        self.b.go("history//outcome=refused", "table")
+        check("a refusal for a role in German", any(row[6] == "abgelehnt: Rolle „nur lesen“" and row[8].endswith("von paula") for row in cells(b)), cells(b)[:3])
+        check("the foot of the page in German", b.text("footer") == "Für Programme, beschrieben durch OpenAPI: das Register, die Vorgänge", b.text("footer"))
         self.upload_file("slips-de.csv", ["s1,600000000000000012,2025-01-01,2025-01-31,1.5,0", "s2,5.00E+17,2025-13-01,,1,0", f"s3,{gsrn(1)},2025-01-01,2025-02-01,1,2"])
         got = b.text(".result.bad")
         check("slips of a file are told in German", "Nichts wurde gesendet: 3 Zeilen von 3 haben Fehler" in got and not english_in(b), (got, english_in(b)))
@@ -514,6 +519,28 @@ class Seen:
         own = sum(act["user"] == "office" for act in place_wide)
         rows = cells_once(b, lambda rows: len(rows) == min(own, 100))
         check("filtered by user, it has the acts of this user", len(rows) == min(own, 100) and all("by office" in row[8] for row in rows), (own, len(rows)))
+
+    def beyond_role(self):
+        """What a role does not allow is told as that, with who tried it, in the history and by itself."""
+        b, check = self.b, self.check
+        b.go("history//outcome=refused", "table")
+        rows = [row[1:2] + row[6:7] + row[8:] for row in cells(b) if "role" in row[6]]
+        check("what a role does not allow is refused for the role, and who tried it is told", rows == [["withdrawal", "refused: role “reads alone”", "meter read twice by paula"]], cells(b)[:3])
+        b.picture("history-role")
+        b.press("tr:has(.refused) td a", "20")
+        got = b.text("main dl", "reads alone").split("\n")
+        facts = dict(zip(got[::2], got[1::2]))
+        check("and so is the act by itself", (facts["Outcome"], facts["Role"], facts["User"], facts["Caller"], facts["Key"]) == ("refused: role “reads alone”", "reads alone", "paula", "ISSUER", "tried"), facts)
+
+    def foot(self):
+        """The descriptions of both services for programs, from the page's foot."""
+        b, check = self.b, self.check
+        b.go("", "table")
+        for text, name, docs in (("the registry", "registry-openapi.yaml", "openapi-outside.yaml"), ("the records of acts", "records-openapi.yaml", "records.yaml")):
+            b.press("footer a", text)
+            path = b.downloads / name
+            wait_until(path.exists, name)
+            check(f"the foot of the page has the description of {text} for programs", path.read_text() == (HOME / "docs" / docs).read_text(), path.read_text()[:80])
 
     def devices(self):
         """Many devices by CSV: nothing is sent while a row is at fault; then each is registered."""
@@ -707,9 +734,9 @@ class OfManyLots(WithRecords):
 
 PUBLIC = "nemo"
 """Whose browser stands for anybody's: he signs in nowhere here."""
-STEPS = [("anna", ["accounts", "holdings", "history", "names", "lists", "quantity", "lost_in_the_middle", "cancel_many", "export_many", "by_keyboard", "german"]), ("bela", ["of_other"]),
-         ("office", ["devices", "upload", "entered", "german_of_issuer"]), (PUBLIC, ["public", "public_in_german"])]
-IN_QUICK = [("anna", ["accounts", "lost_in_the_middle", "cancel_many", "by_keyboard"]), ("office", ["upload", "german_of_issuer"]), (PUBLIC, ["public"])]
+STEPS = [("anna", ["accounts", "foot", "holdings", "history", "names", "lists", "quantity", "lost_in_the_middle", "cancel_many", "export_many", "by_keyboard", "german"]), ("bela", ["of_other"]),
+         ("office", ["beyond_role", "devices", "upload", "entered", "german_of_issuer"]), (PUBLIC, ["public", "public_in_german"])]
+IN_QUICK = [("anna", ["accounts", "foot", "lost_in_the_middle", "cancel_many", "by_keyboard"]), ("office", ["beyond_role", "upload", "german_of_issuer"]), (PUBLIC, ["public"])]
 
 
 class Costs:

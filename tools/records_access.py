@@ -11,7 +11,7 @@ from rules import ISSUER
 
 Holder = collections.namedtuple('Holder', 'code accounts')
 VIEWERS = [Holder(code, {account for account, of in ACCOUNTS.items() if of == code}) for code in (*HOLDERS, 'STRANGER')]
-HIDDEN = {'user', 'key', 'count', 'ranges', 'ranges_in_all'}
+HIDDEN = {'user', 'role', 'key', 'count', 'ranges', 'ranges_in_all'}
 """Members of an act that some see and others don't, or not all of them."""
 SOME = 25
 """Numbers that each viewer asks for, of his own and of others."""
@@ -74,7 +74,7 @@ def listed(service, name, rows):
         seen = service.items(viewer.code, name, **asked)
         if [plain(row) for row in seen] != [plain(row) for row in rows if is_his(row, viewer)]:
             yield viewer.code, len(seen), sum(is_his(row, viewer) for row in rows)
-        yield from ((viewer.code, row) for row in seen if row.get('caller', viewer.code) != viewer.code and (row.get('user') or row.get('key')))
+        yield from ((viewer.code, row) for row in seen if row.get('caller', viewer.code) != viewer.code and any(row.get(name) for name in ('user', 'role', 'key')))
         yield from ((viewer.code, row) for row in seen for span in row.get('ranges', ()) if not {span['account'], span['from_account']} & viewer.accounts)
         file = service.text(viewer.code, name, format='csv', limit=SOME, **asked)
         if file.count('\r\n') != (len(seen) if name == 'deadlines' else min(len(seen), SOME)) + 1:

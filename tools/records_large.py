@@ -116,7 +116,8 @@ def statement_lines(runs, place='held'):
     return [f'{run["first"]} {run["last"]} {run["count"]:12} {run["device"]} {run["first_day"]} {run["last_day"]} {run["tech"]} {run["source"]} {place}' for run in runs]
 
 
-QUESTIONS = (('acts', {}), ('acts', {'account': 1}), ('acts', {'account': 1, 'q': 't77'}), ('acts', {'key': 't77'}), ('acts/5000', {}), ('holdings', {'account': 1}), ('holdings', {'account': 1, 'by': 'run'}),
+QUESTIONS = (('acts', {}), ('acts', {'account': 1}), ('acts', {'account': 1, 'q': 't77'}), ('acts', {'q': 't4321'}), ('acts', {'q': 'nowhere at all'}), ('acts', {'q': 'zz'}),
+             ('acts', {'q': 'T-9', 'kind': 'transfer'}), ('acts', {'key': 't77'}), ('acts/5000', {}), ('holdings', {'account': 1}), ('holdings', {'account': 1, 'by': 'run'}),
              ('holdings', {'account': 1, 'by': 'run', 'q': 'Field', 'sort': '-count'}), ('holdings', {'by': 'month'}), ('deadlines', {}), ('choice', {'account': 1, 'count': 5000}),
              ('choice', {'account': 1, 'count': 5000, 'order': 'fewest'}), ('certificates/{held}', {}), ('accounts', {}), ('devices', {}), ('declarations', {}), ('statistics', {'by': 'month,tech'}))
 """What the holder of account 1 asks, who has some 15,000 runs and half of the acts."""

@@ -22,6 +22,22 @@ PLANTS = [('T010000', 'F01010100', None, 'DE'), ('T020001', 'F01010500', None, '
 DEVICES = [gsrn(number) for number in range(1, 13)]
 
 
+SPAN = f'"first":"{OWN + 1:014}","last":"{OWN + 5:014}"'.encode()
+BEYOND = (
+    ('auditor', ISSUER, '/v1/requests', b'{"command":"withdraw","key":"beyond-1","reason":"a text that nobody else writes",' + SPAN + b'}', 'reads', 'withdrawal'),
+    ('auditor', ISSUER, '/v1/declarations', f'key,device,first_day,last_day,gross_wh,aux_wh\nb1,{DEVICES[0]},2026-01-01,2026-01-31,5000000,0\n'.encode(), 'reads', 'issue'),
+    ('meters', ISSUER, '/v1/requests', b'{"command":"advance","key":"beyond-2","day":"2030-01-01"}', 'declares', 'date'),
+    ('trainee', 'SUN', '/v1/requests', b'{"command":"transfer","key":"beyond-3","giver":1,"taker":2,' + SPAN + b'}', 'reads', 'transfer'),
+    ('guest', 'NORD', '/v1/requests', b'{"command":"close_account","key":"beyond-4","account":5}', 'looks', 'closing'),
+    ('trainee', 'SUN', '/v1/requests', b'{"command":["cancel"],"key":{"a":1},"account":1e99,"giver":' + b'9' * 40 + b'}', 'reads', 'unreadable'),
+    ('auditor', ISSUER, '/v1/requests', b'{"command":"correct","key":"\\ud800","device":"x\\u0000y","less_wh":' + b'9' * 40 + b',"reason":"before\\u0000after it"}', 'reads', 'correction'),
+    ('auditor', ISSUER, '/v1/requests', b'{"command":"import","key":"beyond-5","notice":{"account":true,"sender":' + b'9' * 40 + b'}}', 'reads', 'import'),
+    ('auditor', ISSUER, '/v1/requests', b'[' * 2000, 'reads', 'unreadable'),
+    ('meters', ISSUER, '/v1/requests', b'\xff\xfe', 'declares', 'unreadable'),
+)
+"""Writes that the role of their user does not allow, and the kind of act that each is."""
+
+
 class Tally(tally.Tally):
     """A tally of trials that each tell their faults."""
 
@@ -107,6 +123,7 @@ class Requests:
             lambda: self.made(holder, command='export', giver=account, peer=self.chance.choice([9, 9, 10]), account=5, **span),
             lambda: self.made(ISSUER, command='withdraw', **span, reason='meter read twice'),
             self.correction,
+            lambda: self.chance.choice(BEYOND)[:5],
             lambda: ('user-nord', 'NORD', '/v1/requests', self.chance.choice([b'{"nonsense', b'[]', b'{"command":"cancel","key":"x"}', b'\xff\xfe'])),
         ])()
 
@@ -117,6 +134,7 @@ class Requests:
             if last >= self.model.today:
                 yield self.made(ISSUER, command='advance', day=(datetime.date.fromisoformat(last) + datetime.timedelta(days=self.chance.randint(2, 9))).isoformat())
             yield self.table(first, last)
+            yield from (tried[:5] for tried in BEYOND if first == '2025-01-01')
             for _ in range(count // 24):
                 yield self.one()
 
@@ -150,6 +168,6 @@ class Service:
             more = {'before' if name == 'acts' else 'offset': answer['next']}
 
 
-def follow(archive, into, *more, begun=(str(CODE), TODAY, '1')):
+def follow(archive, into, *more, begun=(str(CODE), TODAY, '1'), program=TOP / 'deploy/records'):
     """A book that is made of an archive."""
-    return subprocess.run([TOP / 'deploy/records', 'follow', '--begun', *begun, '--archive', archive, '--into', into, *more], capture_output=True, text=True, timeout=1800)
+    return subprocess.run([program, 'follow', '--begun', *begun, '--archive', archive, '--into', into, *more], capture_output=True, text=True, timeout=1800)

@@ -14,7 +14,12 @@ const OUTCOMES = {accepted: t`accepted`, refused: t`refused`, unreadable: t`unre
 export const party = (p) => p ? h('span', {class: 'party'}, String(p.account), p.holder ? [' ', h('b', {}, p.holder), ' ', written(p.name)] : null) : '';
 
 const whenOf = (act) => h('a', {href: `#act/${act.id}`}, act.time ? `${act.time.slice(0, 10)} ${act.time.slice(11, 16)}` : act.day);
-const outcome = (act) => act.outcome === 'accepted' ? OUTCOMES.accepted : h('b', {class: 'word refused'}, act.refusal ? `${OUTCOMES[act.outcome]}: ${act.refusal}` : OUTCOMES[act.outcome]);
+/** The roles of users, by their words in the list of callers. */
+const ROLES = {full: t`full`, reads: t`reads alone`, declares: t`declares alone`};
+const roleOf = (act) => ROLES[act.role] ?? act.role;
+/** Why an act came to nothing: the registry's refusal or fault, or the role of the user, whose request never came to the registry. */
+const reason = (act) => act.refusal === 'Role' ? t`role “${roleOf(act)}”` : act.refusal;
+const outcome = (act) => act.outcome === 'accepted' ? OUTCOMES.accepted : h('b', {class: 'word refused'}, act.refusal ? `${OUTCOMES[act.outcome]}: ${reason(act)}` : OUTCOMES[act.outcome]);
 
 /** The document that an act made. */
 function paperOf(act) {
@@ -46,7 +51,7 @@ export const history = (account, said) => [h('h1', {}, t`History`),
 export async function act(id) {
   const of = await asked(`acts/${encodeURIComponent(id)}`);
   const known = [[t`When, UTC`, of.time?.slice(0, 19).replace('T', ' ')], [t`Registry’s date`, of.day], [t`Outcome`, outcome(of)], [t`Document`, paperOf(of)], [t`From`, party(of.giver)], [t`To`, party(of.taker)], [t`Registry`, far(of)],
-    [t`Device`, of.device], [t`Holder`, of.holder], ['Wh', of.wh === null ? null : count(of.wh)], [t`Note`, of.note], [t`User`, of.user], [t`Caller`, of.caller], [t`Key`, of.key], [t`Entry of the log`, of.entry ? count(of.entry) : null],
+    [t`Device`, of.device], [t`Holder`, of.holder], ['Wh', of.wh === null ? null : count(of.wh)], [t`Note`, of.note], [t`User`, of.user], [t`Role`, roleOf(of)], [t`Caller`, of.caller], [t`Key`, of.key], [t`Entry of the log`, of.entry ? count(of.entry) : null],
     [t`Certificates`, of.count ? count(of.count) : null]].filter(([, value]) => value);
   return [h('h1', {}, t`Act ${of.id}: ${KINDS[of.kind]}`), h('div', {class: 'certificate'}, facts(known)),
     of.ranges.length ? table(t`${count(of.ranges.length)} ranges`, [[t`Certificates`, 'range'], [t`Count`, 'right'], [t`From account`], [t`Account`], [t`Place`]], of.ranges.map((r) =>

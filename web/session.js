@@ -12,15 +12,29 @@ export async function signIn() {
   return caller !== '';
 }
 
+const SIGNED_OUT = 'goo_signed_out', HERE = 'path=/; secure; samesite=strict';
+
 /**
- * Forgets what this browser has seen of the caller's accounts, and asks the browser to forget his certificate or password, which some can. Resolves to
- * whether nobody is signed in any more. Requests without an answer stay: they are the only way to learn what became of them.
+ * Forgets what this browser has seen of the caller's accounts, and has it forget his password. Resolves to what it still has of him: '' or 'password'; or
+ * 'certificate', which no browser forgets, and with which nobody is signed in here from now on. Requests without an answer stay: they are the only way to
+ * learn what became of them.
  */
 export async function signOut() {
   localStorage.removeItem(`goo/seen/${session.caller}`);
-  globalThis.crypto.logout?.();
-  document.execCommand?.('ClearAuthenticationCache');
-  return (await whoAmI().catch(() => ({caller: ''}))).caller === '';
+  const kept = async () => (await fetch('/sign-out', {method: 'POST', cache: 'no-store'})).headers.get('GOO-Kept') ?? '';
+  await kept();                                 // the password goes with this answer; the next request no longer has it
+  const still = await kept();
+  if (still === 'certificate') document.cookie = `${SIGNED_OUT}=yes; ${HERE}`;
+  return still;
+}
+
+/** Whether somebody has signed out in this browser, with a certificate. */
+export const isSignedOut = () => document.cookie.includes(SIGNED_OUT);
+
+/** Signs in again: the browser asks for a password, or sends its certificate. */
+export function signInAgain() {
+  document.cookie = `${SIGNED_OUT}=; max-age=0; ${HERE}`;
+  location.assign('./');
 }
 
 /** The day by the server's clock, in the time zone of this browser. */

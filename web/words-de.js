@@ -46,7 +46,7 @@ export const WORDS = {
   'Outcome': 'Ergebnis', 'Note': 'Vermerk', 'From day': 'Ab Tag', 'To day': 'Bis Tag', 'Text in note, key or device': 'Text in Vermerk, Schlüssel oder Anlage', 'issue': 'Ausstellung', 'cancellation': 'Entwertung', 'withdrawal': 'Zurückziehung', 'correction': 'Berichtigung', 'export': 'Export', 'import': 'Import',
   'expiry': 'Verfall', 'holder opened': 'Inhaber angelegt', 'account opened': 'Konto eröffnet', 'account closed': 'Konto geschlossen', 'device registered': 'Anlage eingetragen', 'date moved': 'Datum weitergestellt', 'registry added': 'Register hinzugefügt', 'unreadable': 'unlesbar', 'accepted': 'angenommen',
   'refused': 'abgelehnt', 'set aside': 'beiseitegelegt', 'cancellation {}': 'Entwertung {}', 'withdrawal {}': 'Zurückziehung {}', 'notice {}': 'Mitteilung {}', 'account {}': 'Konto {}', 'registry {}': 'Register {}', ' and {} more': ' und {} weitere', ' by {}': ' von {}', 'Registry’s date': 'Datum des Registers',
-  'Registry': 'Register', 'User': 'Benutzer', 'Caller': 'Auftraggeber', 'Key': 'Schlüssel', 'Entry of the log': 'Eintrag im Protokoll', 'Act {}: {}': 'Vorgang {}: {}', '{} ranges': '{} Bereiche', 'Its life': 'Lebenslauf des Nachweises',
+  'Registry': 'Register', 'User': 'Benutzer', 'Caller': 'Auftraggeber', 'Key': 'Schlüssel', 'Role': 'Rolle', 'role “{}”': 'Rolle „{}“', 'full': 'voll', 'reads alone': 'nur lesen', 'declares alone': 'nur melden', 'Entry of the log': 'Eintrag im Protokoll', 'Act {}: {}': 'Vorgang {}: {}', '{} ranges': '{} Bereiche', 'Its life': 'Lebenslauf des Nachweises',
 
   // lists
   'Declarations': 'Meldungen', 'Corrections': 'Berichtigungen', 'Cancellations': 'Entwertungen', 'Withdrawals': 'Zurückziehungen', 'Notices': 'Mitteilungen', 'Holders': 'Inhaber', 'Statistics': 'Statistik', 'Device (GSRN)': 'Anlage (GSRN)', 'Technology and source': 'Technologie und Energieträger',
@@ -119,7 +119,11 @@ export const WORDS = {
   'This certificate was issued for another device, or by another registry.': 'Dieser Nachweis wurde für eine andere Anlage ausgestellt, oder von einem anderen Register.',
 
   // frame
-  'Pages': 'Seiten', 'Sign out': 'Abmelden', 'Signed out': 'Abgemeldet', 'This browser still keeps the sign-in': 'Dieser Browser hält die Anmeldung noch',
+  'For programs, described by OpenAPI: ': 'Für Programme, beschrieben durch OpenAPI: ', 'the registry': 'das Register', 'the records of acts': 'die Vorgänge',
+  'Pages': 'Seiten', 'Sign out': 'Abmelden', 'Sign in': 'Anmelden', 'Signed out': 'Abgemeldet', 'This browser has forgotten your password, and what it had seen of your accounts.': 'Dieser Browser hat Ihr Passwort vergessen, und was er von Ihren Konten gesehen hatte.',
+  'Nothing is done with your certificate until somebody presses “Sign in”, or opens this browser anew. No page can take the certificate away: lock the computer, or take your card out, before others use it.':
+    'Mit Ihrem Zertifikat geschieht nichts mehr, bis jemand auf „Anmelden“ drückt oder diesen Browser neu öffnet. Keine Seite kann das Zertifikat entfernen: Sperren Sie den Rechner, oder ziehen Sie Ihre Karte ab, bevor andere ihn benutzen.',
+  'This browser still keeps the sign-in': 'Dieser Browser hält die Anmeldung noch',
   'Close all its windows: until then whoever sits here is signed in. What it had seen of your accounts is forgotten.': 'Schließen Sie alle seine Fenster: Bis dahin ist angemeldet, wer hier sitzt. Was er von Ihren Konten gesehen hatte, ist vergessen.', '{}, registry of guarantees of origin': '{}, Register für Herkunftsnachweise', 'Check a cancellation, registry of guarantees of origin': 'Eine Entwertung prüfen, Register für Herkunftsnachweise',
   'row {}: {}{}': 'Zeile {}: {}{}', 'Lot {} of {}': 'Posten {} von {}', ', of which the first {} are shown': ', die ersten {} davon sind gezeigt', 'Show the other {}': 'Die übrigen {} zeigen', '{} to {}': '{} bis {}',
 
