@@ -201,6 +201,8 @@ def roles(tally):
         post(place, 'office', command='open_account', key='a2', holder='SUN')
         got = [place.ask('auditor', 'GET', path)[0] for path in ('/v1/audit', '/v1/accounts/1/statement', '/')]
         tally.check('an auditor reads', got == [200, 200, 200], got)
+        got = [place.ask(user, 'HEAD', '/', password=password)[1]['GOO-Signed-In-Role'] for user, password in (('auditor', None), ('meters', None), ('office', None), ('nemo', None), ('auditor', 'wrong'))]
+        tally.check('and the page is told his role, behind the sign-in alone', got == ['reads', 'declares', 'full', None, None], got)
         before = len(place.relay.heads)
         s, h, t = post(place, 'auditor', command='open_holder', key='b1', holder='X', name='X')
         tally.check('and sends nothing: NotAllowed, unheard by the registry', s == 403 and '"NotAllowed"' in t and len(place.relay.heads) == before, (s, t))

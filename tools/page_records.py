@@ -227,7 +227,7 @@ class Seen:
         held = [line for account in (1, 3) for line in statement(self.place, account)[0]]
         expire, close = total(line for line in held if line[5] == "2023-09-30"), total(line for line in held if line[5] == "2024-03-31")
         got = b.text("main .result")
-        self.check("and what expires or closes within 60 days", f"trade closes for {close:,}, {expire:,} expire" in got, (got, close, expire))
+        self.check("and what expires or closes within 60 days", f"trade closes for {close:,} and {expire:,} expire" in got, (got, close, expire))
         self.readable(b, "own accounts")
         b.picture("accounts-own")
         b.press("main .result a", "Which")
@@ -532,6 +532,32 @@ class Seen:
         facts = dict(zip(got[::2], got[1::2]))
         check("and so is the act by itself", (facts["Outcome"], facts["Role"], facts["User"], facts["Caller"], facts["Key"]) == ("refused: role “reads alone”", "reads alone", "paula", "ISSUER", "tried"), facts)
 
+    def auditor(self):
+        """Whoever may only read is offered nothing that the front door would refuse."""
+        b, check = self.b, self.check
+        check("an auditor is told his role, and has the pages that read", b.text(".top .who") == "Issuing body, reads alone" and pages(b) == ["Audit", "Holdings", "Deadlines", "History", "Lists", "Accounts", "Look up"], pages(b))
+        b.go("account/1", "table")
+        check("no row offers an act", not b.d.find_elements(By.CSS_SELECTOR, "td.acts a"))
+        b.picture("auditor")
+        b.go("holdings/1", ".summed")
+        check("and nothing is chosen for one", cells(b) and not b.d.find_elements(By.CSS_SELECTOR, "td.pick, .quantity, .chosen:not([hidden])"), cells(b)[:1])
+        self.readable(b, "an auditor's holdings")
+        b.go("withdraw")
+        check("nor by its address", not b.d.find_elements(By.CSS_SELECTOR, "form.withdraw") and b.text("h1") == "Audit", b.text("h1"))
+        b.go("history", "table")
+        check("he sees what others see of the issuing body", "role “reads alone”" in b.text("main"))
+        got = b.script("return (await fetch('/v1/requests', {method: 'POST', body: '{}'})).status")
+        check("and the front door refuses what the page leaves out", got == 403, got)
+
+    def meters(self):
+        """Whoever may only declare has the page for files, and no other."""
+        b, check = self.b, self.check
+        check("meter data has the page for files alone", b.text(".top .who") == "Issuing body, declares alone" and pages(b) == ["Declare"] and not b.d.find_elements(By.CSS_SELECTOR, "form.declare"), pages(b))
+        self.upload_file("meter.csv", [f"meter-1,{gsrn(2)},2025-02-01,2025-02-28,3000000,0"])
+        b.press("main .buttons button.main", "Declare")
+        b.press("dialog[open] button.main")
+        check("and declares by it", "1 accepted" in b.text(".result", "accepted"), b.text("main"))
+
     def foot(self):
         """The descriptions of both services for programs, from the page's foot."""
         b, check = self.b, self.check
@@ -735,8 +761,14 @@ class OfManyLots(WithRecords):
 PUBLIC = "nemo"
 """Whose browser stands for anybody's: he signs in nowhere here."""
 STEPS = [("anna", ["accounts", "foot", "holdings", "history", "names", "lists", "quantity", "lost_in_the_middle", "cancel_many", "export_many", "by_keyboard", "german"]), ("bela", ["of_other"]),
-         ("office", ["beyond_role", "devices", "upload", "entered", "german_of_issuer"]), (PUBLIC, ["public", "public_in_german"])]
-IN_QUICK = [("anna", ["accounts", "foot", "lost_in_the_middle", "cancel_many", "by_keyboard"]), ("office", ["beyond_role", "upload", "german_of_issuer"]), (PUBLIC, ["public"])]
+         ("office", ["beyond_role", "devices", "upload", "entered", "german_of_issuer"]), ("paula", ["auditor"]), ("meters", ["meters"]), (PUBLIC, ["public", "public_in_german"])]
+IN_QUICK = [("anna", ["accounts", "foot", "lost_in_the_middle", "cancel_many", "by_keyboard"]), ("office", ["beyond_role", "upload", "german_of_issuer"]), ("paula", ["auditor"]), ("meters", ["meters"]), (PUBLIC, ["public"])]
+ROLES = ("paula ISSUER reads", "meters ISSUER declares")
+
+
+def pages(b):
+    """The pages that the page offers."""
+    return [link.text for link in b.d.find_elements(By.CSS_SELECTOR, "nav a")]
 
 
 class Costs:
@@ -786,7 +818,7 @@ def ten_thousand(b, check):
 def trials(browsers, check, readable, quick):
     """The trials of the page over the records."""
     try:
-        with WithRecords(rate=200, cost=4) as place:
+        with WithRecords(rate=200, cost=4, more=ROLES) as place:
             world(place)
             for user, steps in IN_QUICK if quick else STEPS:
                 tried(Seen(browsers.of(user, place), check, readable), steps)

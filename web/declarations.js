@@ -27,7 +27,7 @@ export function declare() {
   const take = async (file) => shown.replaceChildren(...(await taken(file, shown)).flat(Infinity).filter(Boolean));
   return [h('h1', {}, t`Declare production`),
     drop(t`Drop a CSV here, or choose one`, t`Its first line: ${HEADER}. The whole file is read before anything is sent.`, '.csv,text/csv', take),
-    shown, form('declare')];
+    shown, session.role === 'declares' ? null : form('declare')];
 }
 
 /** What a file comes to before it is sent: what is at fault in it, or the button that sends it. */

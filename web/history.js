@@ -5,6 +5,7 @@ import {t} from './language.js';
 import {listing, stands} from './listing.js';
 import {asked} from './records.js';
 import {session} from './session.js';
+import {REFUSALS} from './words.js';
 
 export const KINDS = {issue: t`issue`, transfer: t`transfer`, cancellation: t`cancellation`, withdrawal: t`withdrawal`, correction: t`correction`, export: t`export`, import: t`import`,
   expiry: t`expiry`, holder: t`holder opened`, account: t`account opened`, closing: t`account closed`, device: t`device registered`, date: t`date moved`, peer: t`registry added`, unreadable: t`unreadable`};
@@ -16,9 +17,11 @@ export const party = (p) => p ? h('span', {class: 'party'}, String(p.account), p
 const whenOf = (act) => h('a', {href: `#act/${act.id}`}, act.time ? `${act.time.slice(0, 10)} ${act.time.slice(11, 16)}` : act.day);
 /** The roles of users, by their words in the list of callers. */
 const ROLES = {full: t`full`, reads: t`reads alone`, declares: t`declares alone`};
-const roleOf = (act) => ROLES[act.role] ?? act.role;
+export const roleName = (role) => ROLES[role] ?? role;
 /** Why an act came to nothing: the registry's refusal or fault, or the role of the user, whose request never came to the registry. */
-const reason = (act) => act.refusal === 'Role' ? t`role “${roleOf(act)}”` : act.refusal;
+const reason = (act) => act.refusal === 'Role' ? t`role “${roleName(act.role)}”` : nameOf(act.refusal);
+/** A refusal by its name; a row of a table has it by its code. */
+const nameOf = (refusal) => REFUSALS[/^refusal (\d+)$/.exec(refusal)?.[1]]?.[0] ?? refusal;
 const outcome = (act) => act.outcome === 'accepted' ? OUTCOMES.accepted : h('b', {class: 'word refused'}, act.refusal ? `${OUTCOMES[act.outcome]}: ${reason(act)}` : OUTCOMES[act.outcome]);
 
 /** The document that an act made. */
@@ -31,14 +34,14 @@ function paperOf(act) {
 /** The first of an act's ranges, and how many more there are. */
 const rangesOf = (act) => act.ranges.length === 0 ? '' : [between(number(act.ranges[0].first), number(act.ranges[0].last)), act.ranges_in_all > 1 ? t` and ${count(act.ranges_in_all - 1)} more` : ''];
 
-const COLUMNS = [[t`When, UTC`, 'wide'], [t`Act`], [t`Count`, 'right'], [t`From`, 'wide'], [t`To`, 'wide'], [t`Certificates`, 'range'], [t`Outcome`], [t`Document`, 'wide'], [t`Note`, 'wide']];
+const COLUMNS = [[t`When, UTC`, 'wide'], [t`Act`, 'wide'], [t`Count`, 'right'], [t`From`, 'wide'], [t`To`, 'wide'], [t`Certificates`, 'range'], [t`Outcome`, 'wide'], [t`Document`, 'wide'], [t`Note`, 'wide']];
 const far = (act) => act.kind === 'export' || act.kind === 'import' ? t`registry ${act.peer}` : '';
 const cells = (act) => Object.assign([whenOf(act), KINDS[act.kind], act.count ? count(act.count) : '', act.kind === 'import' ? far(act) : party(act.giver), act.kind === 'export' ? far(act) : party(act.taker), rangesOf(act),
   outcome(act), paperOf(act), [act.device ?? '', act.device && act.note ? ', ' : '', act.note ? written(act.note) : '', act.user ? t` by ${act.user}` : '']], {kind: act.outcome === 'accepted' ? 'accepted' : 'refused'});
 
 const choices = (words) => [['', t`all`], ...Object.entries(words)];
 const FILTERS = [{name: 'account', label: t`Account`}, {name: 'kind', label: t`Act`, options: choices(KINDS)}, {name: 'outcome', label: t`Outcome`, options: choices(OUTCOMES)},
-  {name: 'from', label: t`From day`, type: 'date'}, {name: 'to', label: t`To day`, type: 'date'}, {name: 'user', label: t`User`}, {name: 'q', label: t`Text in note, key or device`}];
+  {name: 'from', label: t`From day`, type: 'date'}, {name: 'to', label: t`To day`, type: 'date'}, {name: 'user', label: t`User`}, {name: 'q', label: t`Text in note, key, device or holder`}];
 
 /** Acts with all that may be filtered; `fixed` is asked always. */
 export const acts = (given, fixed = {}) => listing({name: 'acts', given, fixed, filters: FILTERS, columns: () => COLUMNS, row: cells, empty: t`No act fits.`});
@@ -51,7 +54,7 @@ export const history = (account, said) => [h('h1', {}, t`History`),
 export async function act(id) {
   const of = await asked(`acts/${encodeURIComponent(id)}`);
   const known = [[t`When, UTC`, of.time?.slice(0, 19).replace('T', ' ')], [t`Registry’s date`, of.day], [t`Outcome`, outcome(of)], [t`Document`, paperOf(of)], [t`From`, party(of.giver)], [t`To`, party(of.taker)], [t`Registry`, far(of)],
-    [t`Device`, of.device], [t`Holder`, of.holder], ['Wh', of.wh === null ? null : count(of.wh)], [t`Note`, of.note], [t`User`, of.user], [t`Role`, roleOf(of)], [t`Caller`, of.caller], [t`Key`, of.key], [t`Entry of the log`, of.entry ? count(of.entry) : null],
+    [t`Device`, of.device], [t`Holder`, of.holder], ['Wh', of.wh === null ? null : count(of.wh)], [t`Note`, of.note], [t`User`, of.user], [t`Role`, roleName(of.role)], [t`Caller`, of.caller], [t`Key`, of.key], [t`Entry of the log`, of.entry ? count(of.entry) : null],
     [t`Certificates`, of.count ? count(of.count) : null]].filter(([, value]) => value);
   return [h('h1', {}, t`Act ${of.id}: ${KINDS[of.kind]}`), h('div', {class: 'certificate'}, facts(known)),
     of.ranges.length ? table(t`${count(of.ranges.length)} ranges`, [[t`Certificates`, 'range'], [t`Count`, 'right'], [t`From account`], [t`Account`], [t`Place`]], of.ranges.map((r) =>

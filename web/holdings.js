@@ -28,7 +28,7 @@ export async function notice() {
   const {items} = await asked('deadlines', {days: DAYS}).catch(() => ({items: []}));
   const sum = (next) => items.filter((of) => of.next === next).reduce((n, of) => n + of.count, 0);
   const told = [sum('trade') ? t`trade closes for ${count(sum('trade'))}` : '', sum('expiry') ? t`${count(sum('expiry'))} expire` : ''].filter(Boolean);
-  return items.length ? h('p', {class: 'result kept', role: 'note'}, t`Within ${DAYS} days, of the certificates held: ${told.join(', ')}. `, h('a', {href: '#deadlines'}, t`Which`)) : null;
+  return items.length ? h('p', {class: 'result kept', role: 'note'}, t`Within ${DAYS} days, of the certificates held: ${told.join(t` and `)}. `, h('a', {href: '#deadlines'}, t`Which ones`)) : null;
 }
 
 /** Lots of which something is held and whose trade closes, or that expire, soon. */
@@ -76,7 +76,9 @@ function narrowed(by, value) {
   return by === 'expires_on' || by === 'trade_until' ? {} : {[by]: value};
 }
 
-const isChosenBy = (by) => by === 'lot' || by === 'run';
+const isOfLots = (by) => by === 'lot' || by === 'run';
+/** Whoever may only read has nothing to choose for. */
+const isChosenBy = (by) => session.isFull && isOfLots(by);
 
 /** The holdings of an account. `said` are filters, as the address has them. */
 export async function holdings(account, said) {
@@ -85,9 +87,9 @@ export async function holdings(account, said) {
   if (!session.isIssuer && !own.length) return [h('h1', {}, t`Holdings`), h('p', {class: 'quiet'}, t`You have no account yet.`)];
   chosen.begin(at);
   const changed = (values) => globalThis.history.replaceState(null, '', `#holdings/${at ?? ''}/${new URLSearchParams(values)}`);
-  const columns = ({by}) => isChosenBy(by) ? [['', 'pick'], ...(by === 'run' ? [[t`Certificates`, 'range', 'first']] : []), ...LOT, [t`Count`, 'right', 'count'], ...(by === 'lot' ? [[t`Runs`, 'right', 'runs']] : [])]
+  const columns = ({by}) => isOfLots(by) ? [...(isChosenBy(by) ? [['', 'pick']] : []), ...(by === 'run' ? [[t`Certificates`, 'range', 'first']] : []), ...LOT, [t`Count`, 'right', 'count'], ...(by === 'lot' ? [[t`Runs`, 'right', 'runs']] : [])]
     : [[GROUPS[by][0].toUpperCase() + GROUPS[by].slice(1), 'wide', by], [t`Count`, 'right', 'count'], [t`Runs`, 'right', 'runs']];
-  const row = (of, {by, ...rest}) => isChosenBy(by) ? [chosen.box(of, by), ...(by === 'run' ? [between(number(of.first), number(of.last))] : []), ...lotCells(of), count(of.count), ...(by === 'lot' ? [count(of.runs)] : [])]
+  const row = (of, {by, ...rest}) => isOfLots(by) ? [...(isChosenBy(by) ? [chosen.box(of, by)] : []), ...(by === 'run' ? [between(number(of.first), number(of.last))] : []), ...lotCells(of), count(of.count), ...(by === 'lot' ? [count(of.runs)] : [])]
     : groupCells(of, by, at, rest);
   const summary = ({sum}, values) => h('div', {class: 'summed'}, h('p', {}, h('b', {}, t`${count(sum.count)} certificates`), ' ', t`in ${count(sum.lots)} lots and ${count(sum.runs)} runs`),
     isChosenBy(values.by) && sum.count && at ? [chosen.allButton(() => everyItem('holdings', {...only(values), account: at, by: values.by})), chosen.quantityForm((asking) => asked('choice', {...only(values), account: at, ...asking}))] : null);

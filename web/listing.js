@@ -13,7 +13,7 @@ function filterField({name, label, type = 'text', options}, value, onchange) {
   const id = `l${++serial}`;
   const box = options ? h('select', {id, name, onchange}, options.map(([of, text]) => h('option', {value: of, selected: of === (value ?? '')}, text)))
     : h('input', {id, name, type, value: type === 'checkbox' ? '1' : value ?? '', checked: type === 'checkbox' && value === '1', autocomplete: 'off', onchange});
-  return h('div', {class: type === 'checkbox' ? 'tick' : null}, type === 'checkbox' ? [box, h('label', {for: id}, label)] : [h('label', {for: id}, label), box]);
+  return h('div', {class: type === 'checkbox' ? 'tick' : name === 'q' ? 'text' : null}, type === 'checkbox' ? [box, h('label', {for: id}, label)] : [h('label', {for: id}, label), box]);
 }
 
 /** What a filter's fields say, by name. */

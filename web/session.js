@@ -3,12 +3,13 @@
 import {t} from './language.js';
 import {whoAmI} from './registry.js';
 
-export const session = {caller: '', isIssuer: false, ahead: 0};
+/** `reads` and `declares` are roles that allow less than `full`; the page leaves out what the front door would refuse. */
+export const session = {caller: '', isIssuer: false, role: 'full', ahead: 0, get isFull() { return this.role === 'full'; }};
 
 /** Asks the front door who is signed in; false where that is nobody whom the registry knows. */
 export async function signIn() {
-  const {caller, time} = await whoAmI();
-  Object.assign(session, {caller, isIssuer: caller === 'ISSUER', ahead: time ? time - Date.now() : 0});
+  const {caller, role, time} = await whoAmI();
+  Object.assign(session, {caller, role, isIssuer: caller === 'ISSUER', ahead: time ? time - Date.now() : 0});
   return caller !== '';
 }
 

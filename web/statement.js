@@ -35,7 +35,7 @@ export async function account(chosen) {
 
 const statementAsk = (start) => ask('Statement', ['account', 'account', 'Number of the account'], 'Show statement', statement, start);
 
-const closing = () => h('details', {}, h('summary', {}, 'Close an account'), form('close_account'));
+const closing = () => session.isFull && h('details', {}, h('summary', {}, 'Close an account'), form('close_account'));
 
 /** Lists all accounts with their sums. */
 function everyAccount() {
@@ -76,7 +76,7 @@ async function statement(a) {
   const {facts: f, lines} = texts.document(text);
   memory.put((seen) => { seen.accounts[a] = f.holder; seen.registry = f.registry; seen.date = f.date; });
   const issued = (l) => l.first.startsWith(f.registry);
-  const acts = session.isIssuer ? ['withdraw', 'correct'] : f.holder === session.caller ? ['transfer', 'cancel'] : [];
+  const acts = !session.isFull ? [] : session.isIssuer ? ['withdraw', 'correct'] : f.holder === session.caller ? ['transfer', 'cancel'] : [];
   const way = (act, l) => `#${act}/${a}/${l.first}/${l.last}${act === 'correct' ? `/${l.device}/${l.first_day}` : ''}`;
 
   const months = new Map();

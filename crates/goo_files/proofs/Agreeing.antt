@@ -3,17 +3,21 @@ use Rattle.std.proofs.Common.{◌≡◌, ◌∙◌, ℕ, List, Some, ap, sym, su
 use Rattle.std.specs.FinMap.{get}
 use Rattle.goo_types.specs.declared.piece.Piece.{Piece}
 use Rattle.goo_spec.specs.Runs.{AreRunsOf}
+use Rattle.goo_spec.specs.Run.{final}
 use Rattle.goo_spec.specs.State.{State, Cancellation}
 use Rattle.goo_spec.proofs.Unique.{one_list_of_runs}
+use Rattle.goo_spec_independent.specs.Independent.{on_day}
+use Rattle.goo_spec_independent.proofs.Lists.{independent}
 use Rattle.goo_core_answers.specs.Reads.{kept_where, names}
 use Rattle.goo_files_csv.specs.Holdings.{holdings_text}
 use Rattle.goo_registry.specs.Reads.{is_cancelled_by}
+use Rattle.goo_registry.proofs.Alike.{agree_named, same_cancellation, same_row, took_alike}
 use Rattle.goo_files_documents.specs.Cancellation.{cancellation_text}
 use Rattle.goo_files_documents.specs.Statement.{statement_text}
-use Rattle.goo_files.specs.Laws.{AgreeOn, OneStatement, OneHoldingsCsv, OneDocument}
+use Rattle.goo_files.specs.Laws.{AgreeOnNamed, OneStatement, OneHoldingsCsv, OneDocument, EqualTexts, OthersLeaveTexts}
 use Rattle.goo_files.specs.Texts.{IsDocument, AreRunsNaming, held_runs}
 
-same_runs : (s t : State) (account : ℕ) (ps qs : List Piece) → AgreeOn s t account → AreRunsNaming s account ps → AreRunsNaming t account qs → ps ≡ qs
+same_runs : (s t : State) (account : ℕ) (ps qs : List Piece) → AgreeOnNamed s t account → AreRunsNaming s account ps → AreRunsNaming t account qs → ps ≡ qs
 same_runs s t account ps qs agree one other =
     one_list_of_runs (kept_where (names account) (get t.at)) ps qs (record { rising = one.rising; maximal = one.maximal; same = λ n. one.same n ∙ agree n }) other
 
@@ -57,3 +61,18 @@ one_document s t act x one other own kept kept_too row agree a b =
       use_first = (both i).use_first;
       use_last = (both i).use_last;
     }) (runs i)) ∙ sym b.is
+
+pub equal_texts : EqualTexts
+equal_texts account s t agree = record {
+  statement = λ one other day a b. one_statement s t account one other (sym agree.code) (sym day) (sym agree.row) (agree_named account s t agree) a b;
+  holdings = λ one other a b. one_holdings_csv s t account one other (agree_named account s t agree) a b;
+  document = λ act x one other is its a b.
+      one_document s t act x one other (sym agree.code) is (same_cancellation account s t agree act x is its) (sym (same_row account s t agree x its)) (took_alike account s t agree act x its) a b;
+}
+
+pub others_leave_texts : OthersLeaveTexts
+others_leave_texts s qs account obey sound there others =
+    let left = independent s qs obey sound in (
+      equal_texts account (on_day s (final s qs).today) (final s qs) (left.dated account there others),
+      λ day. equal_texts account s (final s qs) (left.same account there others day),
+    )

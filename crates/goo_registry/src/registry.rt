@@ -9,6 +9,7 @@ ghost use Rattle.goo_spec_classes.specs.Classes.{AddsUp};
 ghost use Rattle.goo_spec_deadlines.specs.Deadlines.{IsInTime};
 ghost use Rattle.goo_spec_final.specs.Final.{IsForGood};
 ghost use Rattle.goo_spec_idle.specs.Idle.{OthersMakeNoDifference};
+ghost use Rattle.goo_spec_independent.specs.Independent.{IsIndependent};
 ghost use Rattle.goo_spec.specs.Sound.{IsSound};
 ghost use Rattle.goo_registry.specs.Applying.{Applies};
 ghost use Rattle.goo_registry.specs.Running.{Runs, RunsAsOne, answered, answers};
@@ -123,7 +124,10 @@ impl<S: Shelf> Registry<S> {
     ///   issued twice; lots, receipts, notices and the records of acts never change;
     /// - `in_time`: once trade is closed a certificate leaves its account no more, and none is cancelled or held past its last day;
     /// - `adds_up`: the own certificates of any class are as many as there were and as were issued, and each is held, cancelled, expired,
-    ///   withdrawn or exported.
+    ///   withdrawn or exported, in the statement of one account;
+    /// - `independent`: an account of which no accepted request names anything (not itself, no device of it, no certificate whose place names
+    ///   it) is as the date alone makes it, and where the date is the same, as it was; so all that is read of it is the same
+    ///   ([`equal_reads`](crate::equal_reads)).
     ///
     /// # Errors
     ///
@@ -152,6 +156,7 @@ impl<S: Shelf> Registry<S> {
         ensures for_good { (S.seen self.new.shelf).doubts ≡ 0 → IsForGood (S.seen self.old.shelf).state (answered requests.now result) (answers result) (S.seen self.new.shelf).state }
         ensures in_time { (S.seen self.new.shelf).doubts ≡ 0 → IsInTime (S.seen self.old.shelf).state (answered requests.now result) (S.seen self.new.shelf).state }
         ensures adds_up { (S.seen self.new.shelf).doubts ≡ 0 → AddsUp (S.seen self.old.shelf).state (answered requests.now result) (answers result) (S.seen self.new.shelf).state }
+        ensures independent { (S.seen self.new.shelf).doubts ≡ 0 → IsIndependent (S.seen self.old.shelf).state (answered requests.now result) (S.seen self.new.shelf).state }
     {
         run_all(alloc, &mut self.shelf, requests)
     }

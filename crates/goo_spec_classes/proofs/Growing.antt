@@ -1,10 +1,10 @@
 -- The own certificates of a class are those that there were, and those issued.
-use Rattle.std.proofs.Common.{◌≡◌, ℕ, zero, suc, ◌+◌, ◌-◌, ◌*◌, ◌<◌, ◌≤◌, ◌==◌, ◌&&◌, Bool, true, false, cond, List, [], ◌∷◌, Option, Some, None, refl, sym, ap, ◌∙◌, subst, subst₂, arith}
+use Rattle.std.proofs.Common.{◌≡◌, ℕ, zero, suc, ◌+◌, ◌-◌, ◌*◌, ◌<◌, ◌≤◌, ◌==◌, ◌&&◌, Bool, true, false, cond, List, [], ◌∷◌, Option, Some, None, refl, sym, ap, ◌∙◌, subst₂, arith}
 use Rattle.std.specs.Prelude.{count_by}
 use Rattle.std.specs.FinMap.{get, keys, entries}
-use Rattle.std.proofs.lemmas.Bool.{eq-eqb, ltb-false, ne_eqb}
+use Rattle.std.proofs.lemmas.Bool.{eq-eqb, ne_eqb}
 use Rattle.std.proofs.lemmas.List.Elements.{All-head, All-tail}
-use Rattle.goo_types.specs.Number.{code_of, serial_of}
+use Rattle.goo_types.specs.Number.{code_of}
 use Rattle.goo_types.specs.Place.{account_of}
 use Rattle.goo_types.specs.Range.{Numbers, range_of}
 use Rattle.goo_types.specs.declared.lot_fields.LotFields.{LotFields}
@@ -19,13 +19,13 @@ use Rattle.goo_types.specs.declared.request.Request.{Request}
 use Rattle.goo_types.specs.declared.reply.Reply.{Reply}
 use Rattle.goo_types.specs.declared.outcome.Outcome.{Outcome}
 use Rattle.goo_types.specs.declared.outcome.Outcome.TheVariants.{Accepted, Repeated, Refused}
-use Rattle.goo_spec.specs.Maps.{numbers_from, each, give_each, place_each}
+use Rattle.goo_spec.specs.Maps.{each, place_each}
 use Rattle.goo_spec.specs.State.{State, Device, serials}
 use Rattle.goo_spec.specs.OpenHolder.{open_holder_reply, with_holder}
 use Rattle.goo_spec.specs.OpenAccount.{open_account_reply, with_account}
 use Rattle.goo_spec.specs.CloseAccount.{close_account_reply, with_closed}
 use Rattle.goo_spec.specs.RegisterDevice.{register_device_reply, with_device}
-use Rattle.goo_spec.specs.Declare.{next_number, earned, lot_of, with_declaration, declare_refusal, declare_reply, issued_for, with_issue}
+use Rattle.goo_spec.specs.Declare.{next_number, earned, lot_of, with_declaration, declare_reply, issued_for, with_issue}
 use Rattle.goo_spec.specs.Correct.{count_in, correct_reply, taken_out, with_correction}
 use Rattle.goo_spec.specs.Transfer.{transfer_reply, with_transfer}
 use Rattle.goo_spec.specs.Cancel.{cancel_reply, with_cancellation}
@@ -44,9 +44,10 @@ use Rattle.goo_spec.proofs.Counting.{one, one_at}
 use Rattle.goo_spec.proofs.Giving.{count-give_each}
 use Rattle.goo_spec.proofs.Importable.{parts_fit}
 use Rattle.goo_spec.proofs.Moving.{count-place_each}
-use Rattle.goo_spec.proofs.Stepping.{accepted_passes, sound_next}
+use Rattle.goo_spec.proofs.Stepping.{accepted_passes, sound_next, sound_final}
 use Rattle.goo_spec_classes.specs.Classes.{Class, is_of, all_of, count_if, issues_of, issued_of, AddsUp, AlwaysAddUp}
 use Rattle.goo_spec_classes.proofs.Parting.{five_places}
+use Rattle.goo_spec_classes.proofs.Stating.{by_account}
 use Rattle.goo_spec_classes.proofs.Importing.{same_after}
 
 none_more : (k : ℕ) → k ≡ k + 0
@@ -143,7 +144,11 @@ grows_final class s (q ∷ qs) obey sound =
     omega (arith, first, rest)
 
 pub always_add_up : AlwaysAddUp
-always_add_up s qs obey sound = record { grown = λ class. grows_final class s qs obey sound; parted = λ class. five_places class (final s qs) }
+always_add_up s qs obey sound = record {
+  grown = λ class. grows_final class s qs obey sound;
+  parted = λ class. five_places class (final s qs);
+  stated = λ class there. by_account (final s qs) (sound_final s qs obey sound) class there;
+}
 
 -- of a run that answered by the definitions
 pub add_up : (s t : State) (qs : List Request) (given : List Outcome) → AllObey qs → IsSound s → given ≡ outcomes s qs → t ≡ final s qs → AddsUp s qs given t

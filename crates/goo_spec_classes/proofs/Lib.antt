@@ -1,3 +1,4 @@
 pub mod Parting
+pub mod Stating
 pub mod Importing
 pub mod Growing

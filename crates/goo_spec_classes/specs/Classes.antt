@@ -1,7 +1,8 @@
 -- Certificates counted by class.
-use Rattle.std.specs.Prelude.{◌≡◌, ℕ, ◌+◌, ◌==◌, ◌&&◌, Bool, true, false, cond, List, [], ◌∷◌, Option, Some, None, count_by}
+use Rattle.std.specs.Prelude.{◌≡◌, ℕ, zero, suc, ◌+◌, ◌==◌, ◌&&◌, Bool, true, false, cond, List, [], ◌∷◌, Option, Some, None, count_by}
 use Rattle.std.specs.FinMap.{get, entries}
 use Rattle.goo_types.specs.Number.{code_of}
+use Rattle.goo_types.specs.Place.{account_of}
 use Rattle.goo_types.specs.declared.lot_fields.LotFields.{LotFields}
 use Rattle.goo_types.specs.declared.place.Place.{Place}
 use Rattle.goo_types.specs.declared.place.Place.TheVariants.{Cancelled}
@@ -16,7 +17,7 @@ use Rattle.goo_spec.specs.Lots.{is_held, is_expired, is_withdrawn, is_exported}
 use Rattle.goo_spec.specs.State.{State, Device}
 use Rattle.goo_spec.specs.Declare.{lot_of}
 use Rattle.goo_spec.specs.Correct.{count_in}
-use Rattle.goo_spec.specs.Step.{outcome, next}
+use Rattle.goo_spec.specs.Step.{next}
 use Rattle.goo_spec.specs.Run.{outcomes, final}
 use Rattle.goo_spec.specs.Sound.{IsSound}
 use Rattle.goo_spec.specs.Obeys.{AllObey}
@@ -41,6 +42,15 @@ abbrev pub is_cancelled : Place → Bool
 is_cancelled (Cancelled account act) = true
 is_cancelled _ = false
 
+-- how many of those the statement of an account has: their place names the account
+abbrev pub stated_in : ℕ → (Place → Bool) → Class → State → ℕ
+stated_in account there = those_in (λ place. there place && (account_of place == account))
+
+-- the sum over all accounts below a number
+abbrev pub over_accounts : ℕ → (ℕ → ℕ) → ℕ
+over_accounts zero counts = 0
+over_accounts (suc account) counts = over_accounts account counts + counts account
+
 -- so many certificates of a declaration's lot, if the lot is of the class
 abbrev pub count_if : Class → State → declare.Declare → Option Device → ℕ → ℕ
 count_if class s x None count = 0
@@ -64,6 +74,8 @@ pub record AddsUp (s : State) (qs : List Request) (given : List Outcome) (t : St
   -- each of them is held, cancelled, expired, withdrawn or exported
   pub parted : (class : Class)
       → all_of class t ≡ those_in is_held class t + (those_in is_cancelled class t + (those_in is_expired class t + (those_in is_withdrawn class t + those_in is_exported class t)))
+  -- those of a kind of place are the sum of what the statements of all accounts have of it
+  pub stated : (class : Class) (there : Place → Bool) → those_in there class t ≡ over_accounts t.next_account (λ account. stated_in account there class t)
 
 -- so it is of every list of requests, from every sound state
 abbrev pub AlwaysAddUp : Type 0

@@ -1,5 +1,5 @@
--- The registry's date moves on alone, so what is closed stays closed.
-use Rattle.std.proofs.Common.{◌≡◌, true, List, Option, Some, None, refl, sym, ap, ◌∙◌, arith, inl, inr}
+-- The registry's date moves on alone, so what is closed stays closed, and what is over stays over.
+use Rattle.std.proofs.Common.{◌≡◌, true, List, [], ◌∷◌, Option, Some, None, refl, sym, ap, ◌∙◌, arith, inl, inr}
 use Rattle.std.specs.Prelude.{◌⊎◌}
 use Rattle.std.specs.FinMap.{get}
 use Rattle.std.proofs.lemmas.Bool.{ltb-true, lt-ltb, true≢false}
@@ -14,7 +14,7 @@ use Rattle.goo_types.specs.declared.command.Command.TheVariants.{OpenHolder, Ope
 use Rattle.goo_types.specs.declared.request.Request.{Request}
 use Rattle.goo_types.specs.declared.outcome.Outcome.{Outcome}
 use Rattle.goo_types.specs.declared.outcome.Outcome.TheVariants.{Accepted, Repeated, Refused}
-use Rattle.goo_spec.specs.Days.{is_before, is_past, is_closed, trade_by}
+use Rattle.goo_spec.specs.Days.{is_before, is_past, is_closed, is_over, trade_by, expires_on}
 use Rattle.goo_spec.specs.State.{State, Device}
 use Rattle.goo_spec.specs.OpenHolder.{with_holder}
 use Rattle.goo_spec.specs.OpenAccount.{with_account}
@@ -30,6 +30,7 @@ use Rattle.goo_spec.specs.AddPeer.{with_peer}
 use Rattle.goo_spec.specs.Export.{with_export}
 use Rattle.goo_spec.specs.Import.{with_import}
 use Rattle.goo_spec.specs.Step.{refusal, changed, accept, outcome, after, next}
+use Rattle.goo_spec.specs.Run.{final}
 use Rattle.goo_spec.proofs.Checking.{none_fail, holds}
 use Rattle.goo_spec.proofs.Stepping.{accepted_passes}
 
@@ -77,17 +78,26 @@ next_day : (s : State) (q : Request) → IsNoEarlier s.today (next s q).today
 unfolding next
 next_day s q = after_day s q (outcome s q) refl
 
-closed_later : (lot : LotFields) (a b : CalendarDay) → is_before a b ≡ true → is_closed lot a ≡ true → is_closed lot b ≡ true
-unfolding is_closed
-closed_later lot a b later closed =
-    elim (trade_by lot.last_day) as (λ o. is_past o a ≡ true → is_past o b ≡ true) [
-      | None ↦ λ h. absurd (true≢false (sym h))
-      | Some day ↦ λ h. let l = ltb-true (day_number day) (day_number a) h in let m = ltb-true (day_number a) (day_number b) later in lt-ltb (day_number day) (day_number b) (omega (arith, l, m))
-    ] closed
+past_later : (o : Option CalendarDay) (a b : CalendarDay) → is_before a b ≡ true → is_past o a ≡ true → is_past o b ≡ true
+past_later None a b later past = absurd (true≢false (sym past))
+past_later (Some day) a b later past =
+    let l = ltb-true (day_number day) (day_number a) past in
+    let m = ltb-true (day_number a) (day_number b) later in
+    lt-ltb (day_number day) (day_number b) (omega (arith, l, m))
 
-closed_by : (lot : LotFields) (a b : CalendarDay) → IsNoEarlier a b → is_closed lot a ≡ true → is_closed lot b ≡ true
-closed_by lot a b (inl same) closed = ap (is_closed lot) same ∙ closed
-closed_by lot a b (inr later) closed = closed_later lot a b later closed
+past_by : (o : Option CalendarDay) (a b : CalendarDay) → IsNoEarlier a b → is_past o a ≡ true → is_past o b ≡ true
+past_by o a b (inl same) past = ap (is_past o) same ∙ past
+past_by o a b (inr later) past = past_later o a b later past
 
 pub closed_next : (s : State) (q : Request) (lot : LotFields) → is_closed lot s.today ≡ true → is_closed lot (next s q).today ≡ true
-closed_next s q lot closed = closed_by lot s.today (next s q).today (next_day s q) closed
+unfolding is_closed
+closed_next s q lot closed = past_by (trade_by lot.last_day) s.today (next s q).today (next_day s q) closed
+
+over_next : (s : State) (q : Request) (lot : LotFields) → is_over lot s.today ≡ true → is_over lot (next s q).today ≡ true
+unfolding is_over
+over_next s q lot over = past_by (expires_on lot.last_day) s.today (next s q).today (next_day s q) over
+
+-- what is over stays over
+pub over_final : (lot : LotFields) (s : State) (qs : List Request) → is_over lot s.today ≡ true → is_over lot (final s qs).today ≡ true
+over_final lot s [] over = over
+over_final lot s (q ∷ qs) over = over_final lot (next s q) qs (over_next s q lot over)

@@ -67,7 +67,7 @@ happens_by : (w : World) (e : Event) (b : Bool) → contains (where_at e) w.code
 happens_by w e true is h = event_goes w e h is
 happens_by w e false is h = nothing w (λ n. false) (λ n. refl) h
 
-happens_goes : (w : World) (e : Event) → Keeps w → Goes w (happens w e) (issues w e)
+pub happens_goes : (w : World) (e : Event) → Keeps w → Goes w (happens w e) (issues w e)
 happens_goes w e h = happens_by w e _ refl h
 
 -- ---- all events
@@ -78,7 +78,7 @@ swapped true false c = refl
 swapped false true c = refl
 swapped false false c = refl
 
-run_goes : (es : List Event) (w : World) → Keeps w → Goes w (run es w) (is_ever_issued es w)
+pub run_goes : (es : List Event) (w : World) → Keeps w → Goes w (run es w) (is_ever_issued es w)
 run_goes [] w h = nothing w (λ n. false) (λ n. refl) h
 run_goes (e ∷ es) w h =
     let first = happens_goes w e h in
@@ -115,7 +115,7 @@ none_home (c ∷ cs) days serials n =
 none_known : (codes : List ℕ) (days : ℕ → CalendarDay) (serials : ℕ → ℕ) (n : ℕ) → is_known (start codes days serials) n ≡ false
 none_known codes days serials n = and_right (contains (code_of n) codes) _ (ap is_some (at_start (code_of n) (serials (code_of n)) n (days (code_of n))))
 
-start_keeps : (codes : List ℕ) (days : ℕ → CalendarDay) (serials : ℕ → ℕ) → AreDistinct codes → Keeps (start codes days serials)
+pub start_keeps : (codes : List ℕ) (days : ℕ → CalendarDay) (serials : ℕ → ℕ) → AreDistinct codes → Keeps (start codes days serials)
 start_keeps codes days serials distinct = record {
   distinct = distinct;
   own = λ c. own_start c (serials c) (days c);

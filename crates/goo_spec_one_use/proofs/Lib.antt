@@ -1,4 +1,3 @@
-pub mod Keeping
 pub mod Staying
 pub mod Cancelling
 pub mod Worlds

@@ -17,7 +17,7 @@ use Rattle.goo_spec_authority.specs.Ways.{Known}
 use Rattle.goo_spec_one_home.specs.World.{World, Event, Asks, Delivers, where_at, contains, nth, stepped, is_import, import_of, delivered, happens_at, happens, run, start, one, count, is_home, roads}
 use Rattle.goo_spec_one_home.proofs.Counts.{put-has, put-here}
 use Rattle.goo_spec_one_home.proofs.Keeps.{Keeps}
-use Rattle.goo_spec_one_use.proofs.Keeping.{happens_keeps, run_keeps, start_keeps}
+use Rattle.goo_spec_one_home.proofs.Runs.{happens_goes, run_goes, start_keeps}
 use Rattle.goo_spec_one_use.specs.Used.{is_cancelled, cancels, is_cancelling, times_cancelled, CancelledOnce, CancelledForGood}
 use Rattle.goo_spec_one_use.proofs.Staying.{IsUnused, cancelled_stays}
 use Rattle.goo_spec_one_use.proofs.Cancelling.{used}
@@ -209,25 +209,25 @@ module _ (n : ℕ) where
   none_later [] w h c here cancelled = refl
   none_later (e ∷ es) w h c here cancelled =
       let none : one (is_cancelling w e n) ≡ 0 = ap one (false_from_ne_true (is_cancelling w e n) (none_cancels w h n c here cancelled e)) in
-      let rest = none_later es (happens w e) (happens_keeps w e h) c (ap (contains c) (happens_codes w e) ∙ here) (ap is_cancelled (happens_stays w h n e c cancelled) ∙ cancelled) in
+      let rest = none_later es (happens w e) (happens_goes w e h).keeps c (ap (contains c) (happens_codes w e) ∙ here) (ap is_cancelled (happens_stays w h n e c cancelled) ∙ cancelled) in
       omega (arith, none, rest)
 
   once_by : (e : Event) (es : List Event) (w : World) (b : Bool) → is_cancelling w e n ≡ b → Keeps w → times_cancelled es (happens w e) n ≤ 1 → one b + times_cancelled es (happens w e) n ≤ 1
   once_by e es w true is h few =
       let found = cancels_in w n e is in
-      let rest = none_later es (happens w e) (happens_keeps w e h) found.code (ap (contains found.code) (happens_codes w e) ∙ found.here) found.cancelled in
+      let rest = none_later es (happens w e) (happens_goes w e h).keeps found.code (ap (contains found.code) (happens_codes w e) ∙ found.here) found.cancelled in
       omega (arith, rest)
   once_by e es w false is h few = omega (arith, few)
 
   once_from : (es : List Event) (w : World) → Keeps w → times_cancelled es w n ≤ 1
   once_from [] w h = omega arith
-  once_from (e ∷ es) w h = once_by e es w (is_cancelling w e n) refl h (once_from es (happens w e) (happens_keeps w e h))
+  once_from (e ∷ es) w h = once_by e es w (is_cancelling w e n) refl h (once_from es (happens w e) (happens_goes w e h).keeps)
 
   stays_in : (es : List Event) (w : World) → Keeps w → (c : ℕ) → is_cancelled (get (w.state c).at n) ≡ true → get ((run es w).state c).at n ≡ get (w.state c).at n
   stays_in [] w h c cancelled = refl
   stays_in (e ∷ es) w h c cancelled =
       let same = happens_stays w h n e c cancelled in
-      stays_in es (happens w e) (happens_keeps w e h) c (ap is_cancelled same ∙ cancelled) ∙ same
+      stays_in es (happens w e) (happens_goes w e h).keeps c (ap is_cancelled same ∙ cancelled) ∙ same
 
 pub cancelled_once : CancelledOnce
 cancelled_once codes days serials events n distinct = once_from n events (start codes days serials) (start_keeps codes days serials distinct)
@@ -236,8 +236,8 @@ pub cancelled_for_good : CancelledForGood
 cancelled_for_good codes days serials events later c n distinct here cancelled =
     let w = run events (start codes days serials) in
     let v = run later w in
-    let keeps_w = run_keeps events (start codes days serials) (start_keeps codes days serials distinct) in
-    let keeps_v = run_keeps later w keeps_w in
+    let keeps_w = (run_goes events (start codes days serials) (start_keeps codes days serials distinct)).keeps in
+    let keeps_v = (run_goes later w keeps_w).keeps in
     let same_codes : v.codes ≡ codes = run_codes later w ∙ run_codes events (start codes days serials) in
     let same = stays_in n later w keeps_w c cancelled in
     let home : is_home (get (v.state c).at n) ≡ true = ap is_home same ∙ home_cancelled (get (w.state c).at n) cancelled in

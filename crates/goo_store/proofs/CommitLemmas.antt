@@ -100,13 +100,13 @@ module _ (old new : State) (it : IsWell old) (changes : List TableChange) (plan 
       go (Err e) tables same left = no_basis (tables_in new) known left
 
   -- what is kept over it is so after it
-  pub lasts_after : (first last : Lasting) → Lasts old first → last.answered ≡ is_ok r → OnOk r ((t : Tables) → IsLasting first (state_of t) → IsLasting last (state_of (made_all t changes))) → OnErr r ((s : registry.State) → IsLasting last s) → Lasts new last
+  pub lasts_after : (first last : Lasting) → Lasts old first → last.answered ≡ is_ok r → OnOk r ((t : Tables) → IsLasting first t → IsLasting last (made_all t changes)) → OnErr r ((t : Tables) → IsLasting last t) → Lasts new last
   lasts_after first last lasts same on left = record { so = λ none. go r (tables_made r made) on left none; is_open = opened new r last.answered same works }
     where
-      go : (q : Result (Unit {0}) Error) → OnOk q (doubts new ≡ 0 → tables_in new ≡ made_all (tables_in old) changes) → OnOk q ((t : Tables) → IsLasting first (state_of t) → IsLasting last (state_of (made_all t changes))) → OnErr q ((s : registry.State) → IsLasting last s)
-          → doubts new ≡ 0 → IsLasting last (state_of (tables_in new))
-      go (Ok x) tables on left none = subst (λ t. IsLasting last (state_of t)) (sym (tables none)) (on (tables_in old) (lasts.so (before none)))
-      go (Err e) tables on left none = left (state_of (tables_in new))
+      go : (q : Result (Unit {0}) Error) → OnOk q (doubts new ≡ 0 → tables_in new ≡ made_all (tables_in old) changes) → OnOk q ((t : Tables) → IsLasting first t → IsLasting last (made_all t changes)) → OnErr q ((t : Tables) → IsLasting last t)
+          → doubts new ≡ 0 → IsLasting last (tables_in new)
+      go (Ok x) tables on left none = subst (IsLasting last) (sym (tables none)) (on (tables_in old) (lasts.so (before none)))
+      go (Err e) tables on left none = left (tables_in new)
 
   found : LeavesCommit old → HasCleanDisk new → doubts old ≡ 0 → (b : Bool) → IsEither (moment new b) (state_of (tables_in old)) (accept (state_of (tables_in old)) plan.request)
   found law late none b o left =

@@ -128,6 +128,9 @@ all_beside lots (p ∷ ps) = go (get_by lot_key lots (pos p.lot)) refl (all_besi
     go None is rest = rest
     go (Some l) is rest = All-cons (IsBeside lots) (p, l) (beside lots ps) is rest
 
+pub pieces_beside_lots : (t : Tables) → All (IsBeside t.lots) (pieces_beside t)
+pieces_beside_lots t = all_beside t.lots t.pieces
+
 -- the row beside it states the lot of a piece
 pub beside_states : (lots : List Lot) (row : JoinedRow) (piece : Piece) → piece ≡ piece_of (joined_in row) → All (λ r. IsBeside lots (joined_in r)) (row ∷ []) → IsStated lots row.piece.lot piece.lot
 beside_states lots row piece is each = ap (option_map lot_of) (All-head (λ r. IsBeside lots (joined_in r)) row [] each) ∙ ap (λ (p : Piece). Some p.lot) (sym is)

@@ -20,3 +20,4 @@ pub mod FirstTables
 pub mod HeldLemmas
 pub mod Edges
 pub mod NewNumbers
+pub mod Pages

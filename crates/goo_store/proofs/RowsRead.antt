@@ -69,7 +69,7 @@ pieces_read t can =
     (unmapped (lot_readable 0) lot_columns t.lots can.lots) t.pieces (unmapped piece_readable piece_columns t.pieces can.pieces))
 
 -- some of the rows rise as all do
-rising_left : {A : Type 0} (f : A → Piece) (test : A → Bool) (low : ℕ) (xs : List A) → IsRisingFrom low (map f xs) → IsRisingFrom low (map f (filter test xs))
+pub rising_left : {A : Type 0} (f : A → Piece) (test : A → Bool) (low : ℕ) (xs : List A) → IsRisingFrom low (map f xs) → IsRisingFrom low (map f (filter test xs))
 rising_left f test low [] rising = tt
 rising_left f test low (x ∷ xs) rising = go (test x) (rising_left f test ((f x).last + 1) xs rising.2)
   where

@@ -1,4 +1,5 @@
 pub mod Found
+pub mod Ahead
 pub mod Outlasting
 pub mod Reading
 pub mod Summing

@@ -5,9 +5,14 @@ use Rattle.std.proofs.Props.{props}
 use Rattle.sqlite.specs.State.{HasCleanDisk}
 use Rattle.sqlite.specs.State as database
 use Rattle.goo_spec.specs.State.{State, Account}
+use Rattle.goo_types.specs.declared.piece.Piece.{Piece}
+use Rattle.goo_spec_tables.specs.Places.{rows_of}
 use Rattle.goo_spec_tables.specs.States.{state_of}
+use Rattle.goo_tables_rows.specs.Rows.{Tables}
 use Rattle.goo_tables_rows.specs.Stands.{doubts}
 use Rattle.goo_store_lookups.specs.Moments.{tables_in}
+use Rattle.goo_store.specs.Ahead.{AreAhead}
+use Rattle.goo_store.specs.declared.ahead.RowAhead.{RowAhead}
 use Rattle.goo_store.specs.declared.lasting.Lasting.{Lasting}
 use Rattle.goo_store.specs.declared.lasting.NumberedAccount.{NumberedAccount}
 
@@ -15,13 +20,14 @@ use Rattle.goo_store.specs.declared.lasting.NumberedAccount.{NumberedAccount}
 abbrev pub AreAccountsOf : State → List NumberedAccount → Type 0
 AreAccountsOf s xs = All (λ x. get s.accounts x.number ≡ Some x.account) xs
 
--- all that is kept is so in the registry's state
-abbrev pub IsLasting : Lasting → State → Type 0
-IsLasting lasting s = AreAccountsOf s lasting.accounts.items
+-- all that is kept is so in the tables
+pub record IsLasting (lasting : Lasting) (t : Tables) : Type 0 where
+  pub accounts : AreAccountsOf (state_of t) lasting.accounts.items
+  pub ahead : AreAhead (rows_of t) lasting.ahead.items
 
 -- it is so while nothing is in doubt, and the database is open where the last statement was answered
 pub record Lasts (s : database.State) (lasting : Lasting) : Type 0 where
-  pub so : doubts s ≡ 0 → IsLasting lasting (state_of (tables_in s))
+  pub so : doubts s ≡ 0 → IsLasting lasting (tables_in s)
   pub is_open : IsTrue lasting.answered → HasCleanDisk s → IsTrue s.is_open
 
 -- one state has the accounts of another
@@ -36,11 +42,20 @@ account-prop a b = Prim.hlevel props
 accounts-prop : (s : State) (xs : List NumberedAccount) → IsProp (AreAccountsOf s xs)
 accounts-prop s xs a b = λ i k d low. account-prop _ _ (a k d low) (b k d low) i
 
+row-prop : (a b : Option Piece) → IsProp (a ≡ b)
+row-prop a b = Prim.hlevel props
+
+ahead-prop : (rows : List Piece) (xs : List RowAhead) → IsProp (AreAhead rows xs)
+ahead-prop rows xs a b = λ i k d low. row-prop _ _ (a k d low) (b k d low) i
+
 same-prop : (a b : Bool) → IsProp (a ≡ b)
 same-prop a b = Prim.hlevel props
 
 pub Lasts-prop : (s : database.State) (lasting : Lasting) → IsProp (Lasts s lasting)
 Lasts-prop s lasting a b = λ i. record {
-  so = λ none. accounts-prop (state_of (tables_in s)) lasting.accounts.items (a.so none) (b.so none) i;
+  so = λ none. record {
+    accounts = accounts-prop (state_of (tables_in s)) lasting.accounts.items (a.so none).accounts (b.so none).accounts i;
+    ahead = ahead-prop (rows_of (tables_in s)) lasting.ahead.items (a.so none).ahead (b.so none).ahead i;
+  };
   is_open = λ is clean. same-prop s.is_open true (a.is_open is clean) (b.is_open is clean) i;
 }

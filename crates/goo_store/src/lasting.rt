@@ -2,16 +2,22 @@
 
 ghost use Rattle.std.specs.Prelude.{◌≡◌, false, is_ok, IfOk, IfSome, IsTrue, OnErr, OnOk, Some};
 ghost use Rattle.std.specs.FinMap.{get};
+ghost use Rattle.goo_core_shelf.specs.Rows.{EndsFrom, next_row};
 ghost use Rattle.goo_spec.specs.State.{State};
+ghost use Rattle.goo_spec_tables.specs.Places.{rows_of};
+ghost use Rattle.goo_spec_runs.specs.NextRun.{from_of};
 ghost use Rattle.goo_spec_tables.specs.States.{state_of};
 ghost use Rattle.goo_tables_rows.specs.Rows.{Tables};
 ghost use Rattle.goo_store_changes.specs.Changes.{made, made_all};
 ghost use Rattle.goo_store.specs.Outlasting.{AreAccountsOf, AreLeft, IsLasting};
 
+use crate::ahead::{RowAhead, ahead_among};
 use goo_core_shelf::account::Account;
 use goo_store_changes::change::TableChange;
 use goo_types::account_no::AccountNo;
 use goo_types::fault::Fault;
+use goo_types::number::Number;
+use goo_types::piece::Piece;
 use sqlite::Error;
 use std::alloc::Global;
 
@@ -36,6 +42,8 @@ pub struct Lasting {
     pub answered: bool,
     /// Some accounts that were found.
     pub accounts: Vec<NumberedAccount>,
+    /// Rows of an account that were read ahead, until the next commit.
+    pub ahead: Vec<RowAhead>,
 }
 
 /// The account that is kept under a number, if one is.
@@ -101,18 +109,19 @@ impl Lasting {
     /// Nothing is kept.
     pub fn none(alloc: Global) -> Lasting
         ensures answered { result.answered ≡ false }
-        ensures lasting { (s : State) → IsLasting result s }
+        ensures lasting { (t : Tables) → IsLasting result t }
     {
         Lasting {
             answered: false,
             accounts: Vec::new(alloc),
+            ahead: Vec::new(alloc),
         }
     }
 
     /// The account under a number, where it is kept and may be told.
     pub fn kept_account(&self, number: AccountNo) -> Option<Account>
         ensures answered { IfSome result (λ account. IsTrue self.now.answered) }
-        ensures kept { IfSome result (λ account. (s : State) → IsLasting self.now s → get s.accounts number ≡ Some account) }
+        ensures kept { IfSome result (λ account. (t : Tables) → IsLasting self.now t → get (state_of t).accounts number ≡ Some account) }
     {
         if self.answered {
             account_among(&self.accounts, number)
@@ -121,13 +130,30 @@ impl Lasting {
         }
     }
 
+    /// The next row of an account after a number, where it was read ahead and may be told.
+    pub fn row_ahead(&self, account: AccountNo, after: &Option<Number>) -> Option<Option<Piece>>
+        ensures answered { IfSome result (λ row. IsTrue self.now.answered) }
+        ensures kept { IfSome result (λ row. (t : Tables) → IsLasting self.now t → row ≡ next_row account after.now (rows_of t)) }
+        ensures ahead { IfSome result (λ row. IfSome row (EndsFrom (from_of after.now))) }
+    {
+        let Some(after) = after else {
+            return None;
+        };
+        if self.answered {
+            ahead_among(&self.ahead, account, after.get())
+        } else {
+            None
+        }
+    }
+
     /// Keeps what is so still once changes were made, or nothing where the commit failed.
     pub fn outlast(&mut self, made: &Result<(), Error>, changes: &[TableChange])
         ensures answered { self.new.answered ≡ is_ok made.now }
-        ensures made { OnOk made.now ((t : Tables) → IsLasting self.old (state_of t) → IsLasting self.new (state_of (made_all t changes.now))) }
-        ensures failed { OnErr made.now ((s : State) → IsLasting self.new s) }
+        ensures made { OnOk made.now ((t : Tables) → IsLasting self.old t → IsLasting self.new (made_all t changes.now)) }
+        ensures failed { OnErr made.now ((t : Tables) → IsLasting self.new t) }
     {
         self.answered = made.is_ok();
+        self.ahead.clear();
         if self.answered && all_leave(changes) {
             return;
         }

@@ -2,6 +2,7 @@
 #![tactic(auto)]
 
 mod accounts;
+mod ahead;
 mod cancellations;
 mod commits;
 mod correctable;

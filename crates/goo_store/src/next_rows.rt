@@ -1,6 +1,7 @@
 //! Rows that are looked up one at a time: the next one of an account, and the next one that expires.
 
-ghost use Rattle.std.specs.Prelude.{◌≡◌, ◌↔◌, ◌⊎◌, ◌+◌, ◌<◌, ◌^◌, All, false, find, map, option_map, IfSome, IsOkAnd, IsSomeAnd, IsTrue, Some};
+ghost use Rattle.std.specs.Prelude.{◌≡◌, ◌↔◌, ◌⊎◌, ◌+◌, ◌<◌, ◌^◌, All, false, find, map, option_map, IfSome, IsOkAnd, IsSomeAnd, IsTrue, Some, take};
+ghost use Rattle.std.specs.List.{filter};
 ghost use Rattle.sqlite.specs.Held.{state as view};
 ghost use Rattle.goo_types.specs.Piece.{IsForward};
 ghost use Rattle.goo_core_shelf.specs.Rows.{EndsFrom};
@@ -9,14 +10,16 @@ ghost use Rattle.goo_tables_rows.specs.Beside.{joined_columns, joined_in, pieces
 ghost use Rattle.goo_tables_rows.specs.Readable.{joined_readable};
 ghost use Rattle.goo_tables_rows.specs.Refused.{FailsOnlyByFault};
 ghost use Rattle.goo_tables_rows.specs.Stands.{Looks};
+ghost use Rattle.goo_core_shelf.specs.declared.sought.Sought.TheVariants.{Naming};
 ghost use Rattle.goo_store.specs.NextRows.{begins_beyond, IsDated, reaching_beyond};
 
 use crate::pieces::is_beyond;
 use goo_core_shelf::sought::{Sought, is_sought};
 use goo_store_plans::findings::Edges;
 use goo_store_values::trouble::Trouble;
-use goo_tables_holdings::joined::{next_expiring, next_of_account};
+use goo_tables_holdings::joined::{next_expiring, next_of_account, page_of_account};
 use goo_tables_rows::joined::JoinedRow;
+use goo_types::account_no::AccountNo;
 use goo_types::piece::Piece;
 use sqlite::{Alter, Connection, Error};
 use std::alloc::Global;
@@ -61,6 +64,13 @@ pub fn is_clear(edges: &Edges, number: u64) -> bool
     is_edge(edges.last, number) || is_edge(edges.asked, number)
 }
 
+/// Whether a row is known to end where this one does, so that none reaches above its end from below.
+pub fn ends_clear(edges: &Edges, row: &Piece) -> bool
+    ensures { IsTrue result → (edges.now.last ≡ Some row.now.last) ⊎ (edges.now.asked ≡ Some row.now.last) }
+{
+    is_clear(edges, row.last.get())
+}
+
 /// The number that was asked about, where a row is known to end there, or the one before it.
 fn asked_edge(edges: &Edges, after: u64) -> Option<u64>
     ensures { (result ≡ edges.now.last) ⊎ (result ≡ edges.now.asked) }
@@ -102,4 +112,18 @@ pub fn ask_next<S: Alter>(
             next_expiring(alloc, conn, text.as_str(), after)
         }
     }
+}
+
+/// The first rows that name an account and begin above the end of one of its rows, beside their lots.
+pub fn ask_page<S: Alter>(
+    alloc: Global,
+    conn: &mut Connection<S>,
+    account: AccountNo,
+    row: &Piece,
+) -> Result<Vec<JoinedRow>, Error>
+    ensures looks { Looks (view S.Store conn.old) (view S.Store conn.new) result (λ t found. map joined_in found.items ≡ take 64 (filter (begins_beyond (Naming account) row.now.last) (pieces_beside t))) }
+    ensures readable { FailsOnlyByFault (view S.Store conn.old) (view S.Store conn.new) result (λ t. All joined_readable (map joined_columns (pieces_beside t))) }
+    ensures outside { conn.old.in_transaction ≡ false → conn.new.in_transaction ≡ false }
+{
+    page_of_account(alloc, conn, account.get(), row.last.get())
 }

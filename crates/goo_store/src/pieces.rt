@@ -89,7 +89,7 @@ pub fn is_beyond(piece: &Piece, after: u64) -> bool
 }
 
 /// Whether the piece, if there is one, is a range that ends above a number.
-fn is_none_or_beyond(piece: &Option<Piece>, after: u64) -> bool
+pub fn is_none_or_beyond(piece: &Option<Piece>, after: u64) -> bool
     ensures { IsTrue result ↔ IfSome piece.now (EndsFrom (after + 1)) }
 {
     match piece {

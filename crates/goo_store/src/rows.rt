@@ -1,19 +1,23 @@
 //! The rows of a registry's certificates, as they are found.
 
-ghost use Rattle.std.specs.Prelude.{◌≡◌, ◌+◌, ◌<◌, ◌^◌, ◌&&◌, IfOk, IfSome, find, reverse, nat_le, nat_lt};
+ghost use Rattle.std.specs.Prelude.{◌≡◌, ◌+◌, ◌<◌, ◌^◌, ◌&&◌, IfOk, IfSome, Some, find, reverse, nat_le, nat_lt};
 ghost use Rattle.std.specs.List.{filter};
 ghost use Rattle.sqlite.specs.Held.{state as view};
 ghost use Rattle.goo_types.specs.Piece.{IsRising};
 ghost use Rattle.goo_ranges_rows.specs.Rows.{meeting as near};
 ghost use Rattle.goo_spec_runs.specs.NextRun.{ending_from, first_of, from_of};
-ghost use Rattle.goo_core_shelf.specs.Rows.{naming_account, EndsFrom};
+ghost use Rattle.goo_core_shelf.specs.Rows.{naming_account, next_row as next_of, EndsFrom};
 ghost use Rattle.goo_core_shelf.specs.Shelf.{Looks};
 ghost use Rattle.goo_core_shelf.specs.Sought.{is_sought};
-ghost use Rattle.goo_store_lookups.specs.Moments.{moment};
+ghost use Rattle.goo_spec_tables.specs.Places.{rows_of};
+ghost use Rattle.goo_store_lookups.specs.Moments.{moment, tables_in};
 ghost use Rattle.goo_store_lookups.specs.StoreFaults.{BlamesStore};
+ghost use Rattle.goo_store_plans.specs.Found.{IsEdge};
+ghost use Rattle.goo_tables_rows.specs.Stands.{doubts};
 
+use crate::ahead::read_page;
 use crate::issuing::is_issued_next;
-use crate::next_rows::{ask_next, edges_after, is_clear, reaching_row};
+use crate::next_rows::{ask_next, ask_page, edges_after, ends_clear, is_clear, reaching_row};
 use crate::pieces::{alone, ending_behind, join_near, read_beyond, read_maybe, read_rising};
 use crate::sql_shelf::SqlShelf;
 use goo_core_shelf::sought::Sought;
@@ -162,5 +166,67 @@ impl<S: Alter> SqlShelf<S> {
             Some(row) => Ok(Some(row)),
             None => self.first_beyond(sought, after),
         }
+    }
+
+    /// A row of an account that was found, once the rows that follow it were read ahead and kept.
+    fn follow(&mut self, account: AccountNo, row: Piece) -> Result<Option<Piece>, Fault>
+        requires { doubts (view S.Store self.now.conn) ≡ 0 → IsEdge (Some row.last) (rows_of (tables_in (view S.Store self.now.conn))) }
+        ensures looks { Looks (moment (view S.Store self.old.conn) self.old.refused) (moment (view S.Store self.new.conn) self.new.refused) result (λ found. found ≡ Some row) }
+        ensures store { BlamesStore (view S.Store self.old.conn) (view S.Store self.new.conn) self.old.refused result }
+        ensures row { IfOk result (λ found. found ≡ Some row) }
+    {
+        if self.refused {
+            return Err(Fault::Store);
+        }
+        let found = ask_page(self.alloc, &mut self.conn, account, &row);
+        self.lasting.answered = found.is_ok();
+        let shown = read_page(
+            self.alloc,
+            found,
+            account,
+            row,
+            &mut self.findings.lots,
+            &mut self.lasting.ahead,
+        );
+        told(shown, &mut self.refused)
+    }
+
+    /// The first row that names an account and ends after a number, as the tables have it. The rows that follow it are read
+    /// ahead, where it is known that none reaches above its end.
+    fn next_in_tables(
+        &mut self,
+        account: AccountNo,
+        after: Option<Number>,
+    ) -> Result<Option<Piece>, Fault>
+        ensures looks { Looks (moment (view S.Store self.old.conn) self.old.refused) (moment (view S.Store self.new.conn) self.new.refused) result (λ found. found ≡ next_of account after (moment (view S.Store self.old.conn) self.old.refused).rows) }
+        ensures store { BlamesStore (view S.Store self.old.conn) (view S.Store self.new.conn) self.old.refused result }
+        ensures ahead { IfOk result (λ found. IfSome found (EndsFrom (from_of after))) }
+    {
+        let found = self.next_row(&Sought::Naming(account), after)?;
+        match found {
+            Some(row) if ends_clear(&self.findings.edges, &row) => self.follow(account, row),
+            _ => Ok(found),
+        }
+    }
+
+    /// The first row that names an account and ends after a number, or the first of all such rows.
+    ///
+    /// In a walk it was read ahead: one statement shows 64 rows.
+    pub(crate) fn next_naming(
+        &mut self,
+        account: AccountNo,
+        after: Option<Number>,
+    ) -> Result<Option<Piece>, Fault>
+        ensures looks { Looks (moment (view S.Store self.old.conn) self.old.refused) (moment (view S.Store self.new.conn) self.new.refused) result (λ found. found ≡ next_of account after (moment (view S.Store self.old.conn) self.old.refused).rows) }
+        ensures store { BlamesStore (view S.Store self.old.conn) (view S.Store self.new.conn) self.old.refused result }
+        ensures ahead { IfOk result (λ found. IfSome found (EndsFrom (from_of after))) }
+    {
+        if self.refused {
+            return Err(Fault::Store);
+        }
+        if let Some(kept) = self.lasting.row_ahead(account, &after) {
+            return Ok(kept);
+        }
+        self.next_in_tables(account, after)
     }
 }

@@ -207,7 +207,7 @@ impl<S: Alter> Shelf for SqlShelf<S> {
         ensures store { BlamesStore (view S.Store self.old.conn) (view S.Store self.new.conn) self.old.refused result }
         ensures ahead { IfOk result (λ found. IfSome found (EndsFrom (from_of after))) }
     {
-        self.next_row(&Sought::Naming(account), after)
+        self.next_naming(account, after)
     }
 
     fn next_expiring(&mut self, day: Day, after: Option<Number>) -> Result<Option<Piece>, Fault>

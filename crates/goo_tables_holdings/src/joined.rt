@@ -1,6 +1,6 @@
 //! The statements on `piece` joined with `lot`, and with the lot's carrier.
 
-ghost use Rattle.std.specs.Prelude.{◌≡◌, All, ◌&&◌, ◌<◌, ◌^◌, Some, false, pos, map, filter, find, reverse, nat_le, nat_lt, option_map};
+ghost use Rattle.std.specs.Prelude.{◌≡◌, All, ◌&&◌, ◌<◌, ◌^◌, Some, false, pos, map, filter, find, reverse, take, nat_le, nat_lt, option_map};
 ghost use Rattle.std.specs.Ordering.{int_eq};
 ghost use Rattle.sqlite.specs.Held.{state};
 ghost use Rattle.sqlite_typed.specs.Tests.{bytes_lt, both_and};
@@ -121,6 +121,33 @@ pub fn next_of_account<S: Alter>(
         alloc,
         conn,
         "SELECT p.first, p.last, p.lot, p.kind, p.account, p.act, l.id, l.origin, l.device, l.country, l.site, l.tech, l.source, l.capacity_w, l.commissioned, l.support, l.first_day, l.last_day, l.expires_on, l.issued_on, c.carrier FROM piece AS p JOIN lot AS l ON l.id = p.lot LEFT JOIN lot_carrier AS c ON c.lot = l.id WHERE p.account = ?1 AND p.first > ?2 ORDER BY p.first LIMIT 1",
+        &[small(account), number(after)],
+    )
+}
+
+/// The first 64 pieces that name the account and begin above `after`, or all of them where there are fewer, each beside its lot.
+///
+/// # Errors
+///
+/// On the tables of a registry: `SqliteFailure` where memory was refused, the disk failed or an earlier failure
+/// shut the connection, and an error of reading where a row can't be read. The database stays as it was.
+pub fn page_of_account<S: Alter>(
+    alloc: Global,
+    conn: &mut Connection<S>,
+    account: u32,
+    after: u64,
+) -> Result<Vec<JoinedRow>, Error>
+    requires { after < 2 ^ 63 }
+    ensures looks { Looks (state S.Store conn.old) (state S.Store conn.new) result
+        (λ t found. map joined_in found.items ≡ take 64 (filter (λ a. int_eq (pos a.0.account) (pos account) && nat_lt after a.0.first) (pieces_beside t))) }
+    ensures readable { FailsOnlyByFault (state S.Store conn.old) (state S.Store conn.new) result (λ t. All joined_readable (map joined_columns (pieces_beside t))) }
+    ensures refused { FailsByFault (state S.Store conn.old) (state S.Store conn.new) result }
+    ensures outside { conn.old.in_transaction ≡ false → conn.new.in_transaction ≡ false }
+{
+    ask_all(
+        alloc,
+        conn,
+        "SELECT p.first, p.last, p.lot, p.kind, p.account, p.act, l.id, l.origin, l.device, l.country, l.site, l.tech, l.source, l.capacity_w, l.commissioned, l.support, l.first_day, l.last_day, l.expires_on, l.issued_on, c.carrier FROM piece AS p JOIN lot AS l ON l.id = p.lot LEFT JOIN lot_carrier AS c ON c.lot = l.id WHERE p.account = ?1 AND p.first > ?2 ORDER BY p.first LIMIT 64",
         &[small(account), number(after)],
     )
 }

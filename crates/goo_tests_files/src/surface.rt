@@ -37,7 +37,8 @@ mod statements {
     pub use goo_tables::device_carrier::all_device_carriers;
     pub use goo_tables::holder::{all_holders, find_holder, insert_holder};
     pub use goo_tables::joined::{
-        next_expiring, next_of_account, piece_before, pieces_beginning, pieces_of_account,
+        next_expiring, next_of_account, page_of_account, piece_before, pieces_beginning,
+        pieces_of_account,
     };
     pub use goo_tables::lot::{all_lots, find_lot, find_lot_by_id, insert_lot, last_lot};
     pub use goo_tables::lot_carrier::all_lot_carriers;

@@ -51,7 +51,7 @@ invariant_of-self g c =
       lasts =
           lasts_after mid (view g.S.Store c.commit_changes-made.new.conn) shelf.well c.deref.result.now plan planned c.commit_changes-made.result it.clean it.was_open it.works it.done it.kept it.crash
           shelf.lasting c.outlast.new.self shelf.lasts c.outlast.ensures.answered
-          (subst (λ xs. OnOk c.commit_changes-made.result ((t : Tables) → IsLasting shelf.lasting (state_of t) → IsLasting c.outlast.new.self (state_of (made_all t xs)))) (c.deref-3.ensures.value ∙ sym c.deref.ensures.value) c.outlast.ensures.made)
+          (subst (λ xs. OnOk c.commit_changes-made.result ((t : Tables) → IsLasting shelf.lasting t → IsLasting c.outlast.new.self (made_all t xs))) (c.deref-3.ensures.value ∙ sym c.deref.ensures.value) c.outlast.ensures.made)
           c.outlast.ensures.failed;
     }
 

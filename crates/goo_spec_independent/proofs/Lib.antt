@@ -1,0 +1,4 @@
+pub mod Certificates
+pub mod Records
+pub mod Lists
+pub mod Example
