@@ -14,11 +14,9 @@ import shutil
 import subprocess
 import sys
 from contextlib import contextmanager
-from pathlib import Path
 
-sys.path.append(str(Path(__file__).resolve().parent.parent / 'tools'))
-from client import answered, free_port, post
 from measured import NEW, PROGRAM, goo, head, machine, peak, ratio, room, row, rust, say, usable
+from client import CLOSE, answered, free_port, post
 
 HEAD = ['Connections', 'Where', 'goo: a second', 'Processor seconds per 1,000', 'Peak MB', 'Rust: a second', 'Ratio', 'Rust, connections that go on', 'Ratio']
 WORKS = [('look', 'memory'), ('request', 'memory'), ('request', 'tmpfs'), ('request', 'disk')]
@@ -48,7 +46,7 @@ end
 def begin(port):
     """Asks for what a registry begins with."""
     for body in BEGINNING:
-        status, answer = answered(port, post(json.dumps(body), more=['Connection: close']))
+        status, _, answer = answered(port, post(json.dumps(body), more=[CLOSE]))
         if (status, b'"outcome":"accepted"' in answer) != (200, True):
             sys.exit(f'{body} was answered {status} {answer!r}')
 

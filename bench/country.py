@@ -9,7 +9,6 @@ At the end `deploy/recount` carries out all requests once more. It prints one ta
 """
 import argparse
 import calendar
-import http.client
 import itertools
 import json
 import math
@@ -24,7 +23,7 @@ from contextlib import closing, contextmanager
 from pathlib import Path
 
 import measured
-from connections import free_port
+from client import ask, free_port, read_answer, request
 from measured import HERE, PROGRAM, Run, goo, head, machine, ratio, room, row, say
 from workloads import ISSUING_BODY, certificate, device_number, line
 
@@ -145,9 +144,9 @@ class File:
         (serial,) = next(self.rows('SELECT first FROM piece WHERE account = ? AND kind = 1 ORDER BY first DESC LIMIT 1', account))
         other = PRODUCERS + 1 if account[0] != PRODUCERS + 1 else PRODUCERS + 2
         with self.served() as port:
-            reads = [answered(port, 'GET', f'/v1/certificates/{serial:014d}') for _ in range(ASKED)]
-            writes = [answered(port, 'POST', '/v1/requests', f'H{giver}', {'command': 'transfer', 'key': f'w{serial}.{number}', 'giver': giver, 'taker': taker,
-                                                                             'first': f'{serial:014d}', 'last': f'{serial:014d}'})
+            reads = [milliseconds(port, 'GET', f'/v1/certificates/{serial:014d}') for _ in range(ASKED)]
+            span = {'first': f'{serial:014d}', 'last': f'{serial:014d}'}
+            writes = [milliseconds(port, 'POST', '/v1/requests', f'H{giver}', {'command': 'transfer', 'key': f'w{serial}.{number}', 'giver': giver, 'taker': taker, **span})
                       for number, (giver, taker) in zip(range(ASKED), itertools.cycle([(account[0], other), (other, account[0])]))]
         return [(statistics.median(times), sorted(times)[-1 - len(times) // 100]) for times in (reads, writes)]
 
@@ -156,16 +155,15 @@ class File:
             yield from database.execute(text, of).fetchall()
 
 
-def answered(port, method, path, caller=ISSUING_BODY, body=None):
+def milliseconds(port, method, path, caller=ISSUING_BODY, body=None):
     """The milliseconds of one connection with one request that is accepted."""
-    begun = time.monotonic()
-    with closing(http.client.HTTPConnection('127.0.0.1', port, timeout=measured.SECONDS)) as connection:
-        connection.request(method, path, body and json.dumps(body), {'GOO-Caller': caller})
-        response = connection.getresponse()
-        text = response.read()
-    if response.status != 200 or body and b'"accepted"' not in text:
-        sys.exit(f'{method} {path}: {response.status} {text[:200]}')
-    return 1000 * (time.monotonic() - begun)
+    sent, begun = request(method, path, caller, body=json.dumps(body).encode() if body else b''), time.monotonic()
+    came = ask(port, sent, patience=measured.SECONDS)
+    took = 1000 * (time.monotonic() - begun)
+    status, _, text = read_answer(came)
+    if status != 200 or body and b'"accepted"' not in text:
+        sys.exit(f'{method} {path}: {status} {text[:200]}')
+    return took
 
 
 def look(file):

@@ -8,7 +8,7 @@ import os
 MOST = 10000                    # notices a run and a direction
 LARGEST = 1048576               # bytes of an answer; no notice comes near
 
-Part = collections.namedtuple("Part", "first last origin")
+Part = collections.namedtuple('Part', 'first last origin')
 
 
 class Again(Exception):
@@ -19,7 +19,7 @@ class Refused(Exception):
     """A notice that was not imported, by the name of the refusal."""
 
 
-class Notice(collections.namedtuple("Notice", "text sender addressee number account parts")):
+class Notice(collections.namedtuple('Notice', 'text sender addressee number account parts')):
     """A notice as far as the exchange has to know it."""
 
     @property
@@ -31,25 +31,25 @@ def read_notice(text):
     """The notice of this text. Refused where it is none."""
     try:
         of = json.loads(text)
-        parts = [Part(int(part["first"]), int(part["last"]), part["lot"]["origin"]) for part in of["parts"]]
-        notice = Notice(text, of["sender"], of["addressee"], of["number"], of["account"], parts)
+        parts = [Part(int(part['first']), int(part['last']), part['lot']['origin']) for part in of['parts']]
+        notice = Notice(text, of['sender'], of['addressee'], of['number'], of['account'], parts)
     except (ValueError, TypeError, KeyError, RecursionError) as fault:
-        raise Refused("NotANotice") from fault
+        raise Refused('NotANotice') from fault
     if not parts or not all(type(number) is int for number in (*notice[1:5], *(part.origin for part in parts))):
-        raise Refused("NotANotice")
+        raise Refused('NotANotice')
     return notice
 
 
 def say(text):
     """A line for the journal, whole also where several threads write."""
-    print(f"{text}\n", end="", flush=True)
+    print(f'{text}\n', end='', flush=True)
 
 
 def write(path, text):
     """The file is there whole or not at all, and stays there."""
     path.parent.mkdir(parents=True, exist_ok=True)
-    part = path.parent / f".{path.name}.part"
-    with open(part, "wb") as file:
+    part = path.parent / f'.{path.name}.part'
+    with open(part, 'wb') as file:
         file.write(text.encode())
         file.flush()
         os.fsync(file.fileno())
@@ -66,7 +66,7 @@ def read(path):
     except FileNotFoundError:
         return None
     except (OSError, UnicodeDecodeError) as fault:
-        raise Again(f"{path} cannot be read: {fault}") from fault
+        raise Again(f'{path} cannot be read: {fault}') from fault
 
 
 def read_object(path):
@@ -77,15 +77,15 @@ def read_object(path):
     try:
         value = json.loads(text)
     except (ValueError, RecursionError) as fault:
-        raise Again(f"{path} is damaged: {fault}") from fault
+        raise Again(f'{path} is damaged: {fault}') from fault
     if not isinstance(value, dict):
-        raise Again(f"{path} is damaged: not an object")
+        raise Again(f'{path} is damaged: not an object')
     return value
 
 
 def compact(value):
     """One JSON text for one value."""
-    return json.dumps(value, sort_keys=True, separators=(",", ":"))
+    return json.dumps(value, sort_keys=True, separators=(',', ':'))
 
 
 def chained(chain, text):
@@ -94,4 +94,4 @@ def chained(chain, text):
 
 
 def chain_of(texts):
-    return functools.reduce(chained, texts, "")
+    return functools.reduce(chained, texts, '')

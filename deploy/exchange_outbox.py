@@ -29,7 +29,7 @@ class Outbox:
 
     def __init__(self, folder, code, key):
         self.folder, self.code, self.key = folder, code, key
-        self.notices = {int(peer.name): self.load(peer) for peer in sorted(folder.glob("[0-9][0-9]"))} if folder.is_dir() else {}
+        self.notices = {int(peer.name): self.load(peer) for peer in sorted(folder.glob('[0-9][0-9]'))} if folder.is_dir() else {}
         self.sort()
 
     def sort(self):
@@ -37,18 +37,18 @@ class Outbox:
         self.sent = sorted((notice for notices in self.notices.values() for notice in notices if notice), key=lambda notice: notice.number)
 
     def place(self, peer, name):
-        return self.folder / f"{peer:02}" / str(name)
+        return self.folder / f'{peer:02}' / str(name)
 
     def load(self, folder):
-        there = {int(file.name) for file in folder.iterdir() if re.fullmatch("[1-9][0-9]{0,8}", file.name)}
+        there = {int(file.name) for file in folder.iterdir() if re.fullmatch('[1-9][0-9]{0,8}', file.name)}
         return [self.readable(folder / str(position)) for position in range(1, max(there, default=0) + 1)]
 
     def readable(self, file):
         try:
-            notice = read_notice(read(file) or "")
+            notice = read_notice(read(file) or '')
         except (Refused, Again):
             return None
-        return notice if (notice.sender, notice.addressee) == (self.code, int(file.parent.name)) and file.with_name(f"{file.name}.sig").exists() else None
+        return notice if (notice.sender, notice.addressee) == (self.code, int(file.parent.name)) and file.with_name(f'{file.name}.sig').exists() else None
 
     def of(self, peer):
         return self.notices.get(peer, [])
@@ -67,7 +67,7 @@ class Outbox:
 
     def show(self, peer, name, text):
         """A file for a peer, with its signature: the signature first, since a reader asks for it second."""
-        write(self.place(peer, f"{name}.sig"), self.key.sign(text))
+        write(self.place(peer, f'{name}.sig'), self.key.sign(text))
         write(self.place(peer, name), text)
 
     def highest(self, peer):
@@ -87,7 +87,7 @@ class Outbox:
             notice = read_notice(text)
             counts[notice.addressee] = counts.get(notice.addressee, 0) + 1
             if self.put(notice, counts[notice.addressee]):
-                yield f"published notice {number} for registry {notice.addressee}"
+                yield f'published notice {number} for registry {notice.addressee}'
 
     def put(self, notice, position):
         """Has a notice stand at its position; whether it did not before."""
@@ -96,7 +96,7 @@ class Outbox:
             notices.append(None)
         known = notices[position - 1]
         if known and known.text != notice.text:
-            raise Again(f"notice {notice.number} is not the one that was published at {self.place(notice.addressee, position)}: is the database an older copy?")
+            raise Again(f'notice {notice.number} is not the one that was published at {self.place(notice.addressee, position)}: is the database an older copy?')
         if known:
             return False
         self.show(notice.addressee, position, notice.text)
@@ -109,10 +109,10 @@ class Outbox:
         notices = self.of(peer)
         first = next((position for position, notice in enumerate(notices, 1) if notice is None or not wanted(notice)), None)
         for position in range(first, len(notices) + 1) if first else ():
-            for file in (self.place(peer, position), self.place(peer, f"{position}.sig")):
+            for file in (self.place(peer, position), self.place(peer, f'{position}.sig')):
                 if file.exists():
                     aside.mkdir(parents=True, exist_ok=True)
-                    file.rename(aside / f"{peer:02}-{file.name}")
+                    file.rename(aside / f'{peer:02}-{file.name}')
         del notices[first - 1 if first else len(notices):]
         self.sort()
 
@@ -128,9 +128,9 @@ def doubt(notice, sender, code, sent):
             for own in ours.parts:
                 common, left = overlaps(left, own)
                 if common and ours.addressee != sender:
-                    return f"certificate {common[0][0]:014} was last sent to registry {ours.addressee}"
+                    return f'certificate {common[0][0]:014} was last sent to registry {ours.addressee}'
             if not left:
                 break
         if left and part.origin not in (sender, code):
-            return f"certificate {left[0][0]:014} of registry {part.origin} was never sent to registry {sender} by us"
-    return ""
+            return f'certificate {left[0][0]:014} of registry {part.origin} was never sent to registry {sender} by us'
+    return ''

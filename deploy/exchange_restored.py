@@ -16,20 +16,20 @@ class Generation:
     """The two files."""
 
     def __init__(self, folder):
-        self.file, self.restored = folder / "generation.json", folder / "restored.json"
+        self.file, self.restored = folder / 'generation.json', folder / 'restored.json'
         self.known = self.number_in(self.file)
         self.to_be = self.number_in(self.restored)
-        if self.to_be is not None and read_object(self.restored).get("done"):
+        if self.to_be is not None and read_object(self.restored).get('done'):
             self.finish()
 
     def number_in(self, file):
         try:
             of = read_object(file)
         except Again as why:
-            raise Again(f"{why}; remove it and say exchange --generation N, one more than the last that our peers know") from why
-        number = of.get("generation") if of else None
+            raise Again(f'{why}; remove it and say exchange --generation N, one more than the last that our peers know') from why
+        number = of.get('generation') if of else None
         if of is not None and (type(number) is not int or not 0 < number < 10 ** 9):
-            raise Again(f"{file} is damaged: it has no generation; remove it and say exchange --generation N, one more than the last that our peers know")
+            raise Again(f'{file} is damaged: it has no generation; remove it and say exchange --generation N, one more than the last that our peers know')
         return number
 
     @property
@@ -39,38 +39,38 @@ class Generation:
     def begin(self, number):
         """By the operator's word: this registry went back to a copy, and is of this generation now."""
         if number <= (self.known or 0):
-            raise ValueError(f"our registry is of generation {self.known} already")
-        write(self.restored, compact({"generation": number, "copy": None, "time": now()}) + "\n")
+            raise ValueError(f'our registry is of generation {self.known} already')
+        write(self.restored, compact({'generation': number, 'copy': None, 'time': now()}) + '\n')
         self.to_be = number
 
     def is_new(self):
         """There was no other before."""
         if self.number is not None:
-            raise ValueError(f"our registry is of generation {self.number} already")
-        write(self.file, compact({"generation": 1}) + "\n")
+            raise ValueError(f'our registry is of generation {self.number} already')
+        write(self.file, compact({'generation': 1}) + '\n')
         self.known = 1
 
     def without(self, peer=None):
         """The peers that nothing is waited for, by the operator's word; one more, where it is told."""
         if self.to_be is None:
-            raise ValueError("our registry did not go back to a copy, or is whole again: nothing is waited for")
+            raise ValueError('our registry did not go back to a copy, or is whole again: nothing is waited for')
         of = read_object(self.restored)
         if peer:
-            of["without"] = sorted({*of.get("without", []), peer})
-            write(self.restored, compact(of) + "\n")
-        return of.get("without", [])
+            of['without'] = sorted({*of.get('without', []), peer})
+            write(self.restored, compact(of) + '\n')
+        return of.get('without', [])
 
     def is_shown(self):
         """Whether the peers could see this generation before this run."""
-        return bool(read_object(self.restored).get("shown"))
+        return bool(read_object(self.restored).get('shown'))
 
     def show(self):
-        write(self.restored, compact({**read_object(self.restored), "shown": True}) + "\n")
+        write(self.restored, compact({**read_object(self.restored), 'shown': True}) + '\n')
 
     def finish(self):
         """Whole again. The first line makes sure that it stays so where this is cut off."""
-        write(self.restored, compact({"generation": self.number, "done": True}) + "\n")
-        write(self.file, compact({"generation": self.number}) + "\n")
+        write(self.restored, compact({'generation': self.number, 'done': True}) + '\n')
+        write(self.file, compact({'generation': self.number}) + '\n')
         self.restored.unlink()
         self.known, self.to_be = self.number, None
 
@@ -92,10 +92,10 @@ class Restoring:
         if visit.code in self.without or visit.inbox is None:
             return
         told = visit.inbox.told
-        if told.get("generation") != self.ours.generation:
-            raise Again(f"it has not told yet which notices of ours it has, since we went back to a copy and are of generation {self.ours.generation}")
-        kept = self.ours.outbox.chain(visit.code, told["highest"]) == told["chain"]
-        texts = [notice.text for notice in self.ours.outbox.of(visit.code)[:told["highest"]]] if kept else self.fetched(visit, told)
+        if told.get('generation') != self.ours.generation:
+            raise Again(f'it has not told yet which notices of ours it has, since we went back to a copy and are of generation {self.ours.generation}')
+        kept = self.ours.outbox.chain(visit.code, told['highest']) == told['chain']
+        texts = [notice.text for notice in self.ours.outbox.of(visit.code)[:told['highest']]] if kept else self.fetched(visit, told)
         for text in texts:
             notice = read_notice(text)
             self.wanted[notice.number] = notice
@@ -103,15 +103,15 @@ class Restoring:
 
     def fetched(self, visit, told):
         """What a peer has of ours, read from there: each text was signed by us, and the chain over them is the one that it told."""
-        folder, texts = self.ours.folder / "lost" / f"{visit.code:02}", []
+        folder, texts = self.ours.folder / 'lost' / f'{visit.code:02}', []
         visit.peer.begin()
-        for position in range(1, told["highest"] + 1):
+        for position in range(1, told['highest'] + 1):
             text = read(folder / str(position)) or visit.peer.taken(position, self.ours.key.public)
             write(folder / str(position), text)
             texts.append(text)
-        if chain_of(texts) != told["chain"]:
+        if chain_of(texts) != told['chain']:
             shutil.rmtree(folder)
-            raise Again("the notices of ours that it shows are not those that it told")
+            raise Again('the notices of ours that it shows are not those that it told')
         return texts
 
     def want_published(self):
@@ -129,7 +129,7 @@ class Restoring:
             if text is None:
                 lacking.append(number)
             elif number in self.wanted and text != self.wanted[number].text:
-                self.leave(f"notice {number} of our registry is not the one that registry {self.wanted[number].addressee} has: go back to the copy once more, and send that export first")
+                self.leave(f'notice {number} of our registry is not the one that registry {self.wanted[number].addressee} has: go back to the copy once more, and send that export first')
         return lacking
 
     def bring(self, visit, lacking):
@@ -140,7 +140,7 @@ class Restoring:
         if not spans or visit.state is None or visit.inbox is None:
             return
         visit.peer.begin()
-        for position in range(1, visit.state["outbox"]["highest"] + 1):
+        for position in range(1, visit.state['outbox']['highest'] + 1):
             notice = read_notice(visit.inbox.taken(position) or visit.peer.notice(position)[0])
             needed = [bool(overlaps(spans, part)[0]) for part in notice.parts]
             if any(needed) and all(of or part.origin == visit.code for of, part in zip(needed, notice.parts)):
@@ -148,10 +148,10 @@ class Restoring:
 
     def take(self, visit, notice):
         try:
-            if self.ours.registry.take(notice) == "accepted":
-                visit.tell(f"notice {notice.number}: accepted, {notice.count} certificates, which a lost export needs")
+            if self.ours.registry.take(notice) == 'accepted':
+                visit.tell(f'notice {notice.number}: accepted, {notice.count} certificates, which a lost export needs')
         except Refused as refusal:
-            visit.tell(f"notice {notice.number}: refused, {refusal}, and a lost export needs it")
+            visit.tell(f'notice {notice.number}: refused, {refusal}, and a lost export needs it')
 
     def tell(self, lacking):
         """Which exports have to be sent again, with the very requests."""
@@ -159,17 +159,17 @@ class Restoring:
         for number in lacking:
             notice = self.wanted.get(number) or published.get(number)
             if notice:
-                self.leave(f"notice {number} to registry {notice.addressee} is not in our registry, and has to be sent again: {self.request(notice)}")
+                self.leave(f'notice {number} to registry {notice.addressee} is not in our registry, and has to be sent again: {self.request(notice)}')
             else:
-                self.leave(f"notice {number} is not in our registry, and nobody has it: another export has to take this number")
+                self.leave(f'notice {number} is not in our registry, and nobody has it: another export has to take this number')
 
     def request(self, notice):
         first, last, registry = notice.parts[0].first, notice.parts[-1].last, self.ours.registry
         held = registry.holder_of(first)
         if held is None:
-            return f"certificates {first:014} to {last:014}, which nobody holds here yet; another request comes first"
-        body = compact({"command": "export", "key": f"restored-{self.ours.generation}-{notice.number}", "giver": held[0], "peer": notice.addressee,
-                        "account": notice.account, "first": f"{first:014}", "last": f"{last:014}"})
+            return f'certificates {first:014} to {last:014}, which nobody holds here yet; another request comes first'
+        body = compact({'command': 'export', 'key': f'restored-{self.ours.generation}-{notice.number}', 'giver': held[0], 'peer': notice.addressee,
+                        'account': notice.account, 'first': f'{first:014}', 'last': f'{last:014}'})
         return f"curl -sS {registry.curl_words()} -H 'GOO-Caller: {held[1]}' -d '{body}'"
 
     def is_whole(self):
@@ -180,11 +180,11 @@ class Restoring:
         """All is there again: what was published and is not in our registry goes aside, and all that has come is delivered anew."""
         outbox, registry = self.ours.outbox, self.ours.registry
         for peer in outbox.notices:
-            outbox.keep(peer, lambda notice: registry.notice(notice.number) == notice.text, self.ours.folder / f"before-{generation.number}")
+            outbox.keep(peer, lambda notice: registry.notice(notice.number) == notice.text, self.ours.folder / f'before-{generation.number}')
         for visit in self.visits:
             if visit.inbox:
-                visit.inbox.put(cursor=0, proved="")
-        shutil.rmtree(self.ours.folder / "lost", ignore_errors=True)
+                visit.inbox.put(cursor=0, proved='')
+        shutil.rmtree(self.ours.folder / 'lost', ignore_errors=True)
         generation.finish()
         say(f"our registry has all notices that the others have of it, and is of generation {generation.number}. The exchange goes on; each peer's operator releases it there: "
-            f"exchange --accept-generation {self.ours.code} {generation.number}")
+            f'exchange --accept-generation {self.ours.code} {generation.number}')

@@ -10,9 +10,9 @@ from exchange_common import Again
 
 def openssl(*words):
     try:
-        return subprocess.run(["openssl", *words], capture_output=True, timeout=30)
+        return subprocess.run(['openssl', *words], capture_output=True, timeout=30)
     except (OSError, subprocess.TimeoutExpired) as fault:
-        raise Again(f"openssl cannot be run: {fault}") from fault
+        raise Again(f'openssl cannot be run: {fault}') from fault
 
 
 class Key:
@@ -20,19 +20,19 @@ class Key:
 
     def __init__(self, path):
         self.path = str(path)
-        shown = openssl("pkey", "-in", self.path, "-pubout", "-outform", "DER")
+        shown = openssl('pkey', '-in', self.path, '-pubout', '-outform', 'DER')
         if shown.returncode:
-            raise ValueError(f"key {path} cannot be read; make one: openssl genpkey -algorithm ed25519 -out {path}")
+            raise ValueError(f'key {path} cannot be read; make one: openssl genpkey -algorithm ed25519 -out {path}')
         self.public = base64.b64encode(shown.stdout).decode()
 
     def sign(self, text):
         with tempfile.NamedTemporaryFile() as file:
             file.write(text.encode())
             file.flush()
-            signed = openssl("pkeyutl", "-sign", "-rawin", "-inkey", self.path, "-in", file.name)
+            signed = openssl('pkeyutl', '-sign', '-rawin', '-inkey', self.path, '-in', file.name)
         if signed.returncode:
             raise Again(f"openssl cannot sign by {self.path}: {signed.stderr.decode(errors='replace').strip()[:200]}")
-        return base64.b64encode(signed.stdout).decode() + "\n"
+        return base64.b64encode(signed.stdout).decode() + '\n'
 
 
 def is_signed(text, signature, public):
@@ -42,9 +42,9 @@ def is_signed(text, signature, public):
     except (ValueError, binascii.Error):
         return False
     with tempfile.TemporaryDirectory() as folder:
-        files = {name: str(pathlib.Path(folder, name)) for name in ("key", "text", "signature")}
-        pathlib.Path(files["key"]).write_text(f"-----BEGIN PUBLIC KEY-----\n{public}\n-----END PUBLIC KEY-----\n")
-        pathlib.Path(files["text"]).write_bytes(text.encode())
-        pathlib.Path(files["signature"]).write_bytes(raw)
-        judged = openssl("pkeyutl", "-verify", "-rawin", "-pubin", "-inkey", files["key"], "-in", files["text"], "-sigfile", files["signature"])
+        files = {name: str(pathlib.Path(folder, name)) for name in ('key', 'text', 'signature')}
+        pathlib.Path(files['key']).write_text(f'-----BEGIN PUBLIC KEY-----\n{public}\n-----END PUBLIC KEY-----\n')
+        pathlib.Path(files['text']).write_bytes(text.encode())
+        pathlib.Path(files['signature']).write_bytes(raw)
+        judged = openssl('pkeyutl', '-verify', '-rawin', '-pubin', '-inkey', files['key'], '-in', files['text'], '-sigfile', files['signature'])
     return judged.returncode == 0

@@ -3,36 +3,41 @@
 usage: from archives import make_archive
        make_archive(goo, folder, [("office", "ISSUER", "/v1/requests", b'{"command":..}'), ..])
 """
-import datetime, pathlib, secrets, subprocess, sys
+import datetime
+import pathlib
+import secrets
+import subprocess
+import sys
 
-sys.path.insert(0, str(pathlib.Path(__file__).resolve().parent.parent / "deploy"))
+sys.path.insert(0, str(pathlib.Path(__file__).resolve().parent.parent / 'deploy'))
 sys.dont_write_bytecode = True
-import entries, replica_roles
-from client import answered, listening, post
+import entries
+import replica_roles
+from client import Answer, answered, listening, post
 
-KEY = b"the key of a trial"
-FORBIDDEN = 403, b"Forbidden\n"
+KEY = b'the key of a trial'
+FORBIDDEN = Answer(403, None, b'Forbidden\n')
 """What a replica answers to a write that its user's role does not allow."""
 
 
-def make_archive(goo, folder, requests, code=7, today="2025-03-01", begin="2025-02-28T23:59:55", step=1.0, key=KEY, then=None):
+def make_archive(goo, folder, requests, code=7, today='2025-03-01', begin='2025-02-28T23:59:55', step=1.0, key=KEY, then=None):
     """Sends each (user, caller, route, body) to a registry in memory and archives it. A fifth member is the user's role: what it does not allow is archived as 403, and not sent.
 
     Entry k has the time `begin` + k * `step`.
 
     `then` is called with the port of the registry before it ends.
     """
-    words = [goo, "serve", "--memory", "--code", str(code), "--today", today, "--count", "1000000", "--port"]
+    words = [goo, 'serve', '--memory', '--code', str(code), '--today', today, '--count', '1000000', '--port']
     port, registry, _ = listening(lambda port: subprocess.Popen([*words, str(port)], stdout=subprocess.PIPE))
     try:
         archive, origin = entries.Archive(folder), secrets.token_hex(32)
         for count, (user, caller, route, body, *roles) in enumerate(requests):
-            role = roles[0] if roles else "full"
+            role = roles[0] if roles else 'full'
             took = datetime.datetime.fromisoformat(begin) + datetime.timedelta(seconds=count * step)
             before, chain = (archive.last.hash, archive.last.outcome.chain) if archive.last else (origin, entries.NO_CHAIN)
-            entry = entries.Entry(n=count + 1, prev=before, time=took.strftime("%Y-%m-%dT%H:%M:%S.%fZ"), host="h1", user=user, address="127.0.0.1" if user else "",
-                                  role=role, caller=caller, method="POST", route=route, version="trial", id=secrets.token_hex(8), body=body)
-            status, answer = answered(port, post(body, caller, route)) if replica_roles.allows(role, "POST", route, body) else FORBIDDEN
+            entry = entries.Entry(n=count + 1, prev=before, time=took.strftime('%Y-%m-%dT%H:%M:%S.%fZ'), host='h1', user=user, address='127.0.0.1' if user else '',
+                                  role=role, caller=caller, method='POST', route=route, version='trial', id=secrets.token_hex(8), body=body)
+            status, _, answer = answered(port, post(body, caller, route)) if replica_roles.allows(role, 'POST', route, body) else FORBIDDEN
             archive.add(entries.written(entry, key), entry, entries.decided(route, status, answer, chain))
         archive.sync()
         if then:

@@ -1,6 +1,11 @@
-"""The bytes of requests and responses over HTTP, and a server and connections on loopback: for the tools that ask a server byte for byte."""
+"""HTTP for the tools: connections on this machine, the bytes of requests and responses, and answers that are read."""
+import base64
+import http.client
+import io
 import select
 import socket
+import time
+from collections import namedtuple
 from contextlib import closing
 
 PHRASES = {200: 'OK', 400: 'Bad Request', 403: 'Forbidden', 404: 'Not Found', 405: 'Method Not Allowed', 409: 'Conflict', 413: 'Content Too Large',
@@ -9,7 +14,12 @@ PATIENCE = 120
 """Seconds that a server may take for anything, on a machine that does much else."""
 TRIES = 5
 """Ports that a server is begun at, where each was taken by somebody else."""
+CLOSE = 'Connection: close'
+"""For a server that would keep the connection: an answer is read to its end."""
+Answer = namedtuple('Answer', 'status fields body')
 
+
+# Servers and connections
 
 def free_port():
     """A port of 127.0.0.1 that nothing listens on."""
@@ -30,32 +40,78 @@ def listening(start, patience=PATIENCE):
     return port, process, line
 
 
-def ask(port, sent, ends=False, patience=PATIENCE):
-    """Sends the bytes of a request and reads the answer to its end; `ends` where the stream ends after them."""
-    with closing(socket.create_connection(('127.0.0.1', port), timeout=patience)) as stream:
+def connected(at, patience=PATIENCE, tls=None, name='localhost', room=None):
+    """A connection to a port of 127.0.0.1, or to the Unix socket at a path; through TLS, to this name, where a context is given. `room` bytes are received ahead at most."""
+    stream = socket.socket(socket.AF_INET if isinstance(at, int) else socket.AF_UNIX)
+    try:
+        stream.settimeout(patience)
+        if room:
+            stream.setsockopt(socket.SOL_SOCKET, socket.SO_RCVBUF, room)
+        stream.connect(('127.0.0.1', at) if isinstance(at, int) else str(at))
+        return tls.wrap_socket(stream, server_hostname=name) if tls else stream
+    except BaseException:
+        stream.close()
+        raise
+
+
+def comes(test, seconds=PATIENCE, pause=0.05):
+    """Waits until a test holds, for as long as a busy machine may take; whether it came to hold."""
+    until = time.monotonic() + seconds
+    while not test():
+        if time.monotonic() > until:
+            return False
+        time.sleep(pause)
+    return True
+
+
+def is_open(at):
+    """Whether somebody listens there."""
+    try:
+        connected(at).close()
+    except OSError:
+        return False
+    return True
+
+
+# Bytes
+
+def ask(at, sent, ends=False, patience=PATIENCE, whole=None, **more):
+    """Sends the bytes of a request and reads the answer to its end; `ends` where the stream ends after them. All of it takes `whole` seconds at most."""
+    until = whole and time.monotonic() + whole
+    with closing(connected(at, patience, **more)) as stream:
         if sent:
             stream.sendall(sent)
         if ends:
             stream.shutdown(socket.SHUT_WR)
-        return read_all(stream)
+        return read_all(stream, until)
 
 
-def answered(port, sent):
-    """The status and the body of the answer to a request."""
-    head, _, body = ask(port, sent).partition(b'\r\n\r\n')
-    return int(head.split(b' ')[1]), body
-
-
-def read_all(stream):
+def read_all(stream, until=None):
     """What a stream gives until it ends; the registry may close it before it has read what comes behind a decided request."""
+    came, fault = read_most(stream, until)
+    if fault and not (came and isinstance(fault, ConnectionResetError)):
+        raise fault
+    return came
+
+
+def read_most(stream, until=None):
+    """What a stream gives until it ends or breaks, and what broke it, if anything."""
     parts = []
     try:
-        while part := stream.recv(65536):
+        while True:
+            if until:
+                stream.settimeout(max(0.01, until - time.monotonic()))
+            part = stream.recv(65536)
+            if not part:
+                return b''.join(parts), None
             parts.append(part)
-    except ConnectionResetError:
-        if not parts:
-            raise
-    return b''.join(parts)
+    except OSError as fault:
+        return b''.join(parts), fault
+
+
+def basic(user, password):
+    """What a field `Authorization: Basic` says."""
+    return base64.b64encode(f'{user}:{password}'.encode()).decode()
 
 
 def request(method='GET', target='/v1/audit', caller='ISSUER', more=(), host='x', body=b'', version='1.1'):
@@ -85,3 +141,34 @@ def response(status, body=None, is_json=False, allow=None, is_head=False):
     lines = [f'HTTP/1.1 {status} {PHRASES[status]}', f'Content-Type: {kind}', *([f'Allow: {allow}'] if allow else []),
              f'Content-Length: {len(text)}', 'Connection: close', '', '']
     return '\r\n'.join(lines).encode() + (b'' if is_head else text)
+
+
+# Answers that are read
+
+class Came(io.BytesIO):
+    """Bytes that came, as http.client wants them of a socket. It closes them where the answer ends; what stands behind it is read all the same."""
+
+    def makefile(self, _):
+        return self
+
+    def close(self):
+        pass
+
+
+def answered(at, sent, **more):
+    """The answer to a request: status, fields and body. One that was cut off, or more than one, is an OSError."""
+    return read_answer(ask(at, sent, **more), sent.partition(b' ')[0].decode())
+
+
+def read_answer(came, method='GET'):
+    """The bytes of an answer to such a request as status, fields and body. One that was cut off, or more than one, is an OSError."""
+    stream = Came(came)
+    answer = http.client.HTTPResponse(stream, method=method)
+    try:
+        answer.begin()
+        body = answer.read()
+    except http.client.HTTPException as fault:
+        raise OSError(f'cut off, or no answer: {fault!r}') from fault
+    if rest := stream.read():
+        raise OSError(f'{len(rest)} bytes came behind an answer: {rest[:100]!r}')
+    return Answer(answer.status, answer.headers, body)

@@ -7,15 +7,15 @@ import json
 import re
 from datetime import date, timedelta
 
+from readings import with_check_digit
+
 CODE, TODAY = 7, '2025-03-01'
 OWN = CODE * 10 ** 12
 
 
 def gsrn(number):
     """The device number of seventeen digits that end in this one, with its check digit."""
-    digits = f'5{number:016}'
-    total = sum(int(digit) * (3, 1)[place % 2] for place, digit in enumerate(reversed(digits)))
-    return digits + str(-total % 10)
+    return with_check_digit(f'5{number:016}')
 
 
 DEVICES = [gsrn(1), gsrn(2), gsrn(3)]

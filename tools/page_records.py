@@ -1,10 +1,12 @@
 """A place with the log of requests and the records of acts beside the registry, and the trials of the page in it. For tools/page."""
-import calendar, csv, http.client, json, os, re, subprocess, sys, time
+import calendar, csv, json, os, re, subprocess, sys, time
 
 from selenium.webdriver.common.action_chains import ActionChains
 
 from browser import SECONDS, By, Keys
-from loopback import HOME, Place, free_port, wait_for
+from client import CLOSE, answered, comes, free_port, post
+from loopback import HOME, Place, wait_for
+from readings import with_check_digit
 
 sys.path.append(str(HOME / "deploy"))
 import entries, rules
@@ -13,6 +15,12 @@ PLANTS = [("T010000", "F01040100", "DE", "electricity", "Solarpark Nordfeld", "n
           ("T030000", "F01050200", "DE", "hydrogen", "Electrolyser by the mill", "production"), ("T050000", "F01030400", "FR", "gas", "Biogaz de la Loire", "both")]
 MONTHS = [(2023, 9), (2024, 3), (2024, 9), (2024, 10), (2024, 11), (2024, 12)]
 """Of production. On 2025-03-01 the first expires within 60 days, and the trade of the second closes."""
+
+
+def request_of(caller, body, **more):
+    """The bytes of a request, or of a table of declarations, with further fields."""
+    target, text = ("/v1/requests", json.dumps(body)) if isinstance(body, dict) else ("/v1/declarations", body)
+    return post(text, caller, target, more=[CLOSE, *(f"{name.replace('_', '-')}: {value}" for name, value in more.items())])
 
 
 class WithRecords(Place):
@@ -57,10 +65,7 @@ class WithRecords(Place):
 
     def post(self, caller, body, **more):
         """A request, or a table of declarations, into the log as if it came from the door. `more` are further fields that the door sets."""
-        connection = http.client.HTTPConnection("127.0.0.1", self.log_port, timeout=60)
-        path, text = ("/v1/requests", json.dumps(body)) if isinstance(body, dict) else ("/v1/declarations", body)
-        connection.request("POST", path, text.encode(), {"GOO-Caller": caller, **{name.replace("_", "-"): value for name, value in more.items()}})
-        return connection.getresponse().read().decode()
+        return answered(self.log_port, request_of(caller, body, **more), patience=60).body.decode()
 
     def request(self, caller, command, **fields):
         """An accepted request's reply."""
@@ -90,17 +95,13 @@ class WithRecords(Place):
 
 
 def wait_until(holds, what):
-    end = time.monotonic() + SECONDS
-    while not holds():
-        if time.monotonic() > end:
-            raise RuntimeError(f"{what} does not come")
-        time.sleep(0.05)
+    if not comes(holds, SECONDS):
+        raise RuntimeError(f"{what} does not come")
 
 
 def gsrn(serial):
     """The GSRN of this number: 17 digits and the check digit."""
-    digits = f"6{serial:016}"
-    return digits + str(-sum(int(d) * (1 if i % 2 else 3) for i, d in enumerate(digits)) % 10)
+    return with_check_digit(f"6{serial:016}")
 
 
 def world(place):

@@ -42,6 +42,11 @@ def is_name(text):
     return 1 <= size <= 64 and not bad and text[0] != ' ' and text[-1] != ' '
 
 
+def with_check_digit(digits):
+    """The device number of these seventeen digits."""
+    return f'{digits}{-sum(int(digit) * (3, 1)[place % 2] for place, digit in enumerate(reversed(digits))) % 10}'
+
+
 def is_gsrn(text):
     """Eighteen digits, the last one GS1's check digit."""
     if not re.fullmatch('[0-9]{18}', text):

@@ -3,7 +3,6 @@
 Two holders trade single certificates by chance, until the acts are so many as were asked for; the archive says that each was accepted, and the book fails where the rules say otherwise.
 Two others hold every second certificate of a stretch in turn. The registry gets the requests of these two, so that its statement of their account is the same as in the book.
 """
-import http.client
 import itertools
 import json
 import os
@@ -14,7 +13,7 @@ import time
 
 import entries
 from archives import KEY
-from client import free_port
+from client import answered, free_port, request
 from records_trial import ACCOUNTS, CODE, DEVICES, OWN, TODAY, TOP, Requests, Service
 from rules import ISSUER
 
@@ -109,11 +108,7 @@ class OwnStatement:
         self.process.stdout.close()
 
     def ask(self, account=3):
-        connection = http.client.HTTPConnection('127.0.0.1', self.port, timeout=600)
-        connection.request('GET', f'/v1/accounts/{account}/statement', headers={'GOO-Caller': ISSUER})
-        text = connection.getresponse().read().decode()
-        connection.close()
-        return text
+        return answered(self.port, request(target=f'/v1/accounts/{account}/statement'), patience=600).body.decode()
 
 
 def statement_lines(runs, place='held'):
@@ -121,7 +116,8 @@ def statement_lines(runs, place='held'):
     return [f'{run["first"]} {run["last"]} {run["count"]:12} {run["device"]} {run["first_day"]} {run["last_day"]} {run["tech"]} {run["source"]} {place}' for run in runs]
 
 
-QUESTIONS = (('acts', {}), ('acts', {'account': 1}), ('acts', {'account': 1, 'q': 't77'}), ('acts', {'q': 't4321'}), ('acts', {'q': 'nowhere at all'}), ('acts', {'q': 'zz'}), ('acts', {'q': 'T-9', 'kind': 'transfer'}), ('acts', {'key': 't77'}), ('acts/5000', {}), ('holdings', {'account': 1}), ('holdings', {'account': 1, 'by': 'run'}),
+QUESTIONS = (('acts', {}), ('acts', {'account': 1}), ('acts', {'account': 1, 'q': 't77'}), ('acts', {'q': 't4321'}), ('acts', {'q': 'nowhere at all'}), ('acts', {'q': 'zz'}),
+             ('acts', {'q': 'T-9', 'kind': 'transfer'}), ('acts', {'key': 't77'}), ('acts/5000', {}), ('holdings', {'account': 1}), ('holdings', {'account': 1, 'by': 'run'}),
              ('holdings', {'account': 1, 'by': 'run', 'q': 'Field', 'sort': '-count'}), ('holdings', {'by': 'month'}), ('deadlines', {}), ('choice', {'account': 1, 'count': 5000}),
              ('choice', {'account': 1, 'count': 5000, 'order': 'fewest'}), ('certificates/{held}', {}), ('accounts', {}), ('devices', {}), ('declarations', {}), ('statistics', {'by': 'month,tech'}))
 """What the holder of account 1 asks, who has some 15,000 runs and half of the acts."""

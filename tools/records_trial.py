@@ -8,7 +8,8 @@ from pathlib import Path
 
 TOP = Path(__file__).resolve().parent.parent
 sys.path[:0] = [str(TOP / 'deploy')]
-from mutations import lot, part
+import tally
+from mutations import gsrn, lot, part
 from rules import ISSUER, Registry, Wrong, months_after
 
 HOLDERS = ('SUN', 'VOLT', 'WIND', 'RHEIN', 'NORD')
@@ -16,13 +17,6 @@ ACCOUNTS = {number: HOLDERS[(number - 1) % len(HOLDERS)] for number in range(1, 
 TODAY, CODE = '2026-01-15', 7
 OWN = CODE * 10 ** 12
 PLANTS = [('T010000', 'F01010100', None, 'DE'), ('T020001', 'F01010500', None, 'FR'), ('T030000', 'F01020100', 'gas', 'DE'), ('T010000', 'F01010100', None, 'AT')]
-
-
-def gsrn(number):
-    """A device's number with its check digit."""
-    digits = f'50000000{number:09}'
-    total = sum(int(digit) * (3 if at % 2 == 0 else 1) for at, digit in enumerate(reversed(digits)))
-    return f'{digits}{-total % 10}'
 
 
 DEVICES = [gsrn(number) for number in range(1, 13)]
@@ -44,17 +38,13 @@ BEYOND = (
 """Writes that the role of their user does not allow, and the kind of act that each is."""
 
 
-class Tally:
-    def __init__(self):
-        self.passed = self.failed = 0
+class Tally(tally.Tally):
+    """A tally of trials that each tell their faults."""
 
     def check(self, what, faults):
         """One trial; the first faults are shown."""
         faults = list(faults)
-        self.passed, self.failed = self.passed + (not faults), self.failed + bool(faults)
-        print(f'{"FAILED " if faults else ""}{what}', flush=True)
-        for fault in faults[:5]:
-            print('    ', str(fault)[:600])
+        return super().check(what, not faults, ''.join(f'\n     {str(fault)[:600]}' for fault in faults[:5]))
 
 
 class Requests:

@@ -15,8 +15,8 @@ import struct
 import subprocess
 import threading
 import time
-from replica_trial import (Bare, GOO, REPLICA, VERSION, Weak, ask, carried_out, check, day, dump, gsrn, must, run, until)
-import loopback
+from replica_trial import (Bare, GOO, REPLICA, VERSION, Weak, ask, carried_out, check, day, dump, gsrn, must, run, tally, until)
+import client
 import entries
 
 
@@ -196,7 +196,7 @@ def without_numbers(report):
 
 def reports(rows, cut):
     """The report of a table in a fresh registry, and its audit; with a cut, after its first rows were applied."""
-    port = loopback.free_port()
+    port = client.free_port()
     registry = subprocess.Popen([GOO, "serve", "--memory", "--code", "7", "--today", "2025-06-01", "--port", str(port), "--count", "100"], stdout=subprocess.PIPE)
     registry.stdout.readline()
     bare = type("Registry", (), {"fd": None, "port": port})()
@@ -268,7 +268,7 @@ def full_disk(cluster, work):
     """Either the log is full first, and reads go on, or the registry's own file is, and it ends until there is room."""
     host, ballast = cluster.hosts[0], cluster.hosts[0].disk / "ballast"
     if not cluster.memory:
-        return check.lacks("a full disk", "mounts in memory")
+        return tally.skip("a full disk", "mounts in memory")
     with contextlib.suppress(OSError):
         with open(ballast, "wb", buffering=0) as file:
             while True:
@@ -486,14 +486,14 @@ def old_place(cluster, work):
 
 def twice(cluster, work):
     host = cluster.hosts[0]
-    second = run(*host.inside(*[str(loopback.free_port()).join(("127.0.0.1:", "")) if word == f"127.0.0.1:{host.port}" else word for word in host.command("replica")]), timeout=20)
+    second = run(*host.inside(*[str(client.free_port()).join(("127.0.0.1:", "")) if word == f"127.0.0.1:{host.port}" else word for word in host.command("replica")]), timeout=20)
     check(f"a second replica at one place does not start: {second.stderr.strip()[:120]}", second.returncode == 1 and "another program" in second.stderr, second)
 
 
 def shipped(cluster, work):
     """The log goes to another folder as it grows, and a registry begun from it has all acknowledged requests."""
     if not shutil.which("rsync"):
-        return check.lacks("shipping", "rsync")
+        return tally.skip("shipping", "rsync")
     host, target = cluster.hosts[0], cluster.folder / "elsewhere"
     target.mkdir()
     sent = host.op("ship", target, "--once")
@@ -511,7 +511,7 @@ def shipped(cluster, work):
 def by_ssh(cluster, work):
     """The log goes to another host by ssh: sshd and ssh as Debian has them, with keys of the trial, in a network of their own."""
     if lacking := [name for name in ("rsync", "ssh", "sshd", "ip") if not shutil.which(name)] + ["root"] * (os.geteuid() != 0):
-        return check.lacks("shipping by ssh", " ".join(lacking))
+        return tally.skip("shipping by ssh", " ".join(lacking))
     folder, ns = cluster.folder / "ssh", f"gr{os.getpid()}-ssh"
     (folder / "there").mkdir(parents=True)
     for name in ("host", "user"):
@@ -548,7 +548,7 @@ def shipped_there(cluster, work, folder, inside):
 def follower(cluster, work):
     """A second registry, begun from a copy, follows the shipped log and answers reads; writes are 503."""
     if not shutil.which("rsync"):
-        return check.lacks("a follower", "rsync")
+        return tally.skip("a follower", "rsync")
     host, folder, target = cluster.hosts[0], cluster.folder / "follower", cluster.folder / "shipped"
     folder.mkdir(), target.mkdir()
     host.op("copy")
@@ -558,7 +558,7 @@ def follower(cluster, work):
     (folder / "state").mkdir()
     run(REPLICA.parent / "replica-log", "place", copy, "--state", folder / "state", "--key", cluster.folder / "mac.key")
     host.op("ship", target, "--once")
-    port, inner = loopback.free_port(), loopback.free_port()
+    port, inner = client.free_port(), client.free_port()
     registry = subprocess.Popen([GOO, "serve", "--db", folder / "registry.db", "--port", str(inner), "--count", "1000000"], stdout=subprocess.DEVNULL)
     replica = subprocess.Popen([REPLICA, "--reads-only", "--store", target / "log", "--listen", f"127.0.0.1:{port}", "--registry", f"127.0.0.1:{inner}", "--state", folder / "state",
                                 "--key", cluster.folder / "mac.key", "--version", VERSION, "--name", "reader"], stderr=open(folder / "log", "w"))
@@ -591,7 +591,7 @@ def large(cluster, work):
     op = work.do("ISSUER", "/v1/declarations", body, 0, patience=120)
     junk = work.do("ISSUER", "/v1/requests", random.Random(1).randbytes(1048576), 0, patience=120)
     check(f"a table of {len(body)} bytes: {op['status']} after {time.monotonic() - began:.2f} s; as many bytes of no text: {junk['status']}", (op["status"], junk["status"]) == (200, 400), (op["status"], junk["status"]))
-    with socket.create_connection(("127.0.0.1", cluster.hosts[0].port)) as s:
+    with client.connected(cluster.hosts[0].port) as s:
         s.sendall(b"POST /v1/declarations HTTP/1.1\r\nHost: goo\r\nGOO-Caller: ISSUER\r\nContent-Length: 1048577\r\n\r\n")
         check("one byte more is 413", s.recv(65536).startswith(b"HTTP/1.1 413"))
     cluster.even(60)

@@ -7,12 +7,12 @@ import random
 import re
 import shutil
 import signal
-import socket
 import subprocess
 import sys
 import threading
 import time
-from replica_trial import (CODE, GATE, GOO, HOME, REPLICA, VERSION, Weak, ask, check, day, gsrn, must, run, until)
+from replica_trial import (CODE, GATE, GOO, HOME, REPLICA, VERSION, Weak, ask, check, day, gsrn, must, run, tally, until)
+import client
 import entries
 
 
@@ -116,7 +116,7 @@ def large(cluster, work):
     began = time.monotonic()
     op = work.do("ISSUER", "/v1/declarations", body, 1, patience=120)
     check(f"a table of {len(body)} bytes: {op['status']} after {time.monotonic() - began:.2f} s, {op['tries']} try", op["status"] == 200 and op["tries"] == 1, op["status"])
-    with socket.create_connection(("127.0.0.1", 8470)) as s:            # this thread is in a host's network
+    with client.connected(8470) as s:            # this thread is in a host's network
         s.sendall(b"POST /v1/declarations HTTP/1.1\r\nHost: goo\r\nGOO-Caller: ISSUER\r\nContent-Length: 1048577\r\n\r\n")
         check("one byte more is 413", s.recv(65536).startswith(b"HTTP/1.1 413"))
     threads = [threading.Thread(target=work.do, args=("ISSUER", "/v1/declarations", body, k), kwargs={"patience": 120}) for k in range(6)]
@@ -507,7 +507,7 @@ def torn_tables(cluster, work):
 def doors(cluster, work):
     """haproxy in front of three hosts, by deploy/haproxy, with nginx on each, by deploy/nginx/health.conf: a host whose replica takes nothing gets nothing."""
     if lacking := next((name for name in ("nginx", "haproxy") if not shutil.which(name)), None):
-        return check.lacks("the balancer in front of three hosts", lacking)
+        return tally.skip("the balancer in front of three hosts", lacking)
     started, folder = [], cluster.folder / "doors"
     folder.mkdir()
     balancer = (HOME / "deploy/haproxy/haproxy.cfg").read_text()

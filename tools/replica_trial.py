@@ -2,15 +2,18 @@
 
 For tools/replicas. On three hosts each is a network namespace, which asks for root; one host needs none.
 """
-import base64, bisect, collections, concurrent.futures, contextlib, ctypes, http.client, itertools, json, os, pathlib, random, re, shutil, signal, socket, ssl, subprocess, sys, threading, time
+import base64, bisect, collections, concurrent.futures, contextlib, ctypes, itertools, json, os, pathlib, random, re, shutil, signal, socket, ssl, subprocess, sys, threading, time
 
 HOME = pathlib.Path(__file__).resolve().parent.parent
 REPLICA = pathlib.Path(os.environ.get("REPLICA", HOME / "deploy/replica"))
 sys.path.insert(0, str(REPLICA.parent))
 sys.dont_write_bytecode = True
+import client
 import entries
 import loopback
 import replica_roles
+from mutations import gsrn
+from tally import Tally
 
 GOO = loopback.program()
 LIBC = ctypes.CDLL(None, use_errno=True)
@@ -20,28 +23,8 @@ Gate = collections.namedtuple("Gate", "fd port address")
 PATIENCE = 20                       # of a client; longer than a replica takes to give a request up
 
 
-class Tally:
-    passed = failed = skipped = 0
-
-    def __call__(self, what, good, seen=""):
-        self.passed, self.failed = self.passed + bool(good), self.failed + (not good)
-        print(f"{'ok  ' if good else 'FAIL'} {what}{'' if good else f': {str(seen)[:900]}'}", flush=True)
-
-    def lacks(self, what, lack):
-        """What this machine lacks fails, unless the variable GOO_WITHOUT names it."""
-        if set(re.findall(r"[\w-]+", lack)) & set(os.environ.get("GOO_WITHOUT", "").split()):
-            self.skipped += 1
-            print(f"skip {what}: this machine lacks {lack}", flush=True)
-        else:
-            self(what, False, f"this machine lacks {lack}")
-
-    def end(self):
-        """Prints the counts and ends with the status."""
-        print(f"{self.passed} passed, {self.failed} failed" + (f", {self.skipped} skipped" if self.skipped else ""))
-        sys.exit(1 if self.failed or not self.passed else 0)
-
-
-check = Tally()
+tally = Tally()
+check = tally.check
 
 
 def run(*words, **more):
@@ -67,7 +50,7 @@ class Host:
         self.state = self.disk / "replica"
         self.alone = cluster.count == 1
         self.ns, self.address = (None, "127.0.0.1") if self.alone else (f"gr{os.getpid()}-{i}", f"10.99.0.{i}")
-        self.port, self.inner = (loopback.free_port(), loopback.free_port()) if self.alone else (8470, 8471)
+        self.port, self.inner = (client.free_port(), client.free_port()) if self.alone else (8470, 8471)
         self.names = ("goo", "replica") if self.alone else ("etcd", "goo", "replica")
         self.processes, self.held, self.again_at, self.env, self.words = {}, set(), {}, {}, []
         self.starts = collections.Counter()
@@ -346,20 +329,9 @@ def enter(host):
 def ask(host, method, target, caller, body, patience, **more):
     """Status, entry, whether stale, and text."""
     enter(host)
-    end = time.monotonic() + patience
-    fields = "".join(f"GOO-{name.title()}: {value}\r\n" for name, value in {"caller": caller, "user": f"u-{caller}", "address": "192.0.2.7", **more}.items())
-    with socket.socket() as s:
-        s.settimeout(patience)
-        s.connect(("127.0.0.1", host.port))
-        s.sendall(f"{method} {target} HTTP/1.1\r\nHost: goo\r\nConnection: close\r\n{fields}Content-Length: {len(body)}\r\n\r\n".encode() + body)
-        parts = []
-        while True:
-            s.settimeout(max(0.01, end - time.monotonic()))
-            part = s.recv(65536)
-            if not part:
-                break
-            parts.append(part)
-    head, _, text = b"".join(parts).partition(b"\r\n\r\n")
+    fields = [f"GOO-{name.title()}: {value}" for name, value in {"user": f"u-{caller}", "address": "192.0.2.7", **more}.items()]
+    came = client.ask(host.port, client.request(method, target, caller, [client.CLOSE, *fields], "goo", body), patience=patience, whole=patience)
+    head, _, text = came.partition(b"\r\n\r\n")          # read here and not by http.client, whose time would be part of the figures
     length = re.search(rb"(?i)content-length: *(\d+)", head)
     if not length or int(length[1]) != len(text):
         raise OSError("cut off")
@@ -368,11 +340,6 @@ def ask(host, method, target, caller, body, patience, **more):
 
 
 # ------------------------------------------------------------------ clients
-
-def gsrn(n):
-    body = f"50{n:015}"
-    return body + str(-sum(int(c) * (3, 1)[i % 2] for i, c in enumerate(reversed(body))) % 10)
-
 
 def day(n):
     return time.strftime("%Y-%m-%d", time.gmtime(1735689600 + 86400 * n))          # 2025-01-01 and on
@@ -644,7 +611,7 @@ class Weak(threading.Thread):
     def __init__(self, host, seed, poison=None):
         """With `poison`, a request that has it in its body is always answered 503, and all others pass."""
         super().__init__(daemon=True)
-        self.host, self.port, self.chance, self.count, self.poison = host, loopback.free_port() if host.alone else next(self.ports), random.Random(seed), collections.Counter(), poison
+        self.host, self.port, self.chance, self.count, self.poison = host, client.free_port() if host.alone else next(self.ports), random.Random(seed), collections.Counter(), poison
         self.start()
 
     def run(self):
@@ -697,10 +664,9 @@ def whole_log(cluster):
     enter(host)
     found, at = [], f"/goo/{CODE:02}/log/"
     while True:
-        c = http.client.HTTPSConnection("127.0.0.1", 2379, timeout=30, context=cluster.context()) if cluster.tls else http.client.HTTPConnection("127.0.0.1", 2379, timeout=30)
-        c.request("POST", "/v3/kv/range", json.dumps({"key": base64.b64encode(at.encode()).decode(), "range_end": base64.b64encode(f"/goo/{CODE:02}/log0".encode()).decode(), "limit": 500}))
-        kvs = json.loads(c.getresponse().read()).get("kvs", [])
-        c.close()
+        range_of = {"key": base64.b64encode(at.encode()).decode(), "range_end": base64.b64encode(f"/goo/{CODE:02}/log0".encode()).decode(), "limit": 500}
+        asked = client.request("POST", "/v3/kv/range", None, [client.CLOSE], "etcd", json.dumps(range_of).encode())
+        kvs = json.loads(client.answered(2379, asked, patience=30, tls=cluster.context() if cluster.tls else None, name="127.0.0.1").body).get("kvs", [])
         if not kvs:
             return found
         found += [entries.read_entry(base64.b64decode(kv["value"])) for kv in kvs]
@@ -720,7 +686,7 @@ class Bare:
 
     def __init__(self, cluster, db):
         host = cluster.hosts[0]
-        self.fd, self.port = host.fd, loopback.free_port() if host.alone else 8499
+        self.fd, self.port = host.fd, client.free_port() if host.alone else 8499
         self.process = subprocess.Popen(host.inside(GOO, "serve", "--db", db, "--port", self.port, "--count", "1000000000"), stdout=subprocess.PIPE, text=True)
         self.process.stdout.readline()
 

@@ -11,19 +11,20 @@ import re
 import shlex
 import shutil
 import signal
+import sqlite3
 import subprocess
 import sys
 import tempfile
-import time
-from contextlib import contextmanager
+from contextlib import closing, contextmanager
 from pathlib import Path
 
-from client import PATIENCE
+from client import PATIENCE, comes
+from tally import Tally, is_left_out
 
 TOP = Path(__file__).resolve().parent.parent
 NEW = ['--code', '7', '--today', '2025-03-01']
-COUNTS = re.compile(r'(\d+) passed, (\d+) failed(?:, (\d+) skipped)?')
-"""The last line of a tool."""
+
+
 class Differs(Exception):
     """Something else came than was wanted."""
 
@@ -38,7 +39,7 @@ class Missing(Exception):
     @property
     def is_left_out(self):
         """Whether it is left out on purpose."""
-        return self.name in os.environ.get('GOO_WITHOUT', '').split()
+        return is_left_out(self.name)
 
 
 def expect(what, given, wanted):
@@ -94,6 +95,23 @@ def named(cases, name):
     return next(case for case in cases if case.name == name)
 
 
+STATEMENT = '''STATEMENT
+registry 07
+date 2025-04-05
+account 1
+holder SUN
+status open
+07000000000001 07000000001200         1200 500000000000000012 2025-01-01 2025-01-31 T010000 F01010100 held
+07000000001201 07000000001201            1 500000000000000012 2025-03-01 2025-03-31 T010000 F01010100 held
+held 1201
+cancelled 0
+expired 0
+withdrawn 0
+exported 0
+END
+'''
+
+
 # The program
 
 class Program:
@@ -112,6 +130,12 @@ class Program:
         return subprocess.Popen([self.path, *map(str, words)], stdout=subprocess.PIPE, stderr=subprocess.PIPE, **options)
 
 
+def rows(file, query):
+    """What a query of the file gives."""
+    with closing(sqlite3.connect(file)) as database:
+        return database.execute(query).fetchall()
+
+
 @contextmanager
 def folder():
     """A folder of its own for one trial."""
@@ -121,11 +145,8 @@ def folder():
 
 def wait_for(what, test, seconds=PATIENCE):
     """Waits until the test holds."""
-    until = time.monotonic() + seconds
-    while not test():
-        if time.monotonic() > until:
-            raise Differs(f'{what}: not within {seconds} seconds')
-        time.sleep(0.01)
+    if not comes(test, seconds, 0.01):
+        raise Differs(f'{what}: not within {seconds} seconds')
 
 
 FILE_FAULT = rb'goo: store fault\ngoo: .+\n'
@@ -189,11 +210,22 @@ def loaded_ahead(place, text):
 
 # The table of trials
 
+def add_program(parser):
+    """The word that names the program."""
+    parser.add_argument('program', nargs='?', default=os.environ.get('GOO', str(TOP / 'crates/goo/out/goo')), help='the built program (else the variable GOO, else crates/goo/out/goo)')
+
+
+def program_in(parser, chosen):
+    """The program that was named, if it is one."""
+    if not os.access(chosen.program, os.X_OK):
+        parser.error(f'{chosen.program} is no program; ./goo --help builds crates/goo/out/goo')
+    return Program(str(Path(chosen.program).resolve()))
+
+
 def arguments(text, more=()):
     """The command line that both tools have."""
     parser = argparse.ArgumentParser(description=text, formatter_class=argparse.RawDescriptionHelpFormatter)
-    parser.add_argument('program', nargs='?', default=os.environ.get('GOO', str(TOP / 'crates/goo/out/goo')),
-                        help='the built program (else the variable GOO, else crates/goo/out/goo)')
+    add_program(parser)
     parser.add_argument('--cases', type=Path, default=TOP / 'cases', help='the folder of the worked cases (cases/)')
     parser.add_argument('--only', action='append', default=[], metavar='TEXT', help='only trials whose name has this text')
     parser.add_argument('--without', action='append', default=[], metavar='TEXT', help='no trial whose name has this text')
@@ -206,9 +238,7 @@ def arguments(text, more=()):
     chosen.cases = [Case(path) for path in sorted(chosen.cases.glob('*.requests'))]
     if not chosen.cases:
         parser.error('no worked cases there')
-    if not chosen.list and not os.access(chosen.program, os.X_OK):
-        parser.error(f'{chosen.program} is no program; ./goo --help builds crates/goo/out/goo')
-    chosen.program = Program(str(Path(chosen.program).resolve()))
+    chosen.program = Program(chosen.program) if chosen.list else program_in(parser, chosen)
     return chosen
 
 
@@ -235,16 +265,10 @@ def again(chosen, name):
     return shlex.join([sys.argv[0], chosen.program.path, '--cases', str(chosen.cases_folder), '--only', name])
 
 
-def ended(passed, failed, skipped=0):
-    """Prints the counts, the last line of a tool, and gives its exit status. Where nothing was tried, that is a failure."""
-    print(f'{passed} passed, {failed} failed' + (f', {skipped} skipped' if skipped else ''), flush=True)
-    return int(failed > 0 or passed == 0)
-
-
 def run_all(chosen, table, slow=()):
     """Runs the table of trials, tells each that isn't passed with the command that repeats it, and ends with the counts. `--quick` is without those that are slow."""
     signal.signal(signal.SIGTERM, lambda *_: sys.exit(143))  # so that a tool that is ended ends what it has started
-    counts = dict.fromkeys(('passed', 'FAILED', 'skipped'), 0)
+    tally = Tally()
     for name, trial in table:
         if chosen.only and not has_one_of(name, chosen.only) or chosen.quick and has_one_of(name, slow):
             continue
@@ -252,9 +276,12 @@ def run_all(chosen, table, slow=()):
             print(name)
             continue
         word, text = ('skipped', '') if has_one_of(name, chosen.without) else verdict(trial)
-        counts[word] += 1
+        if word == 'skipped':
+            tally.skipped += 1
+        else:
+            tally.count(word == 'passed')
         if text:
             print(f'{word} {name}: {text}', flush=True)
         if word == 'FAILED':
             print('    again: ' + again(chosen, name), flush=True)
-    return 0 if chosen.list else ended(counts['passed'], counts['FAILED'], counts['skipped'])
+    return 0 if chosen.list else tally.ended()

@@ -336,7 +336,7 @@ def whole_request(stream):
 
 
 def relayed(stream, port, kind, function):
-    """Hands a connection on to the program, with what is wrong."""
+    """Hands a connection on to the program, with what is wrong. By sockets of its own: a stand-in begins hundreds of times, and loads no module that it can do without."""
     import socket
     try:
         with stream, socket.create_connection(('127.0.0.1', port)) as inner:
