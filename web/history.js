@@ -15,7 +15,7 @@ export const party = (p) => p ? h('span', {class: 'party'}, String(p.account), p
 
 const whenOf = (act) => h('a', {href: `#act/${act.id}`}, act.time ? `${act.time.slice(0, 10)} ${act.time.slice(11, 16)}` : act.day);
 /** The roles of users, by their words in the list of callers. */
-const ROLES = {full: t`full`, reads: t`reads alone`, declares: t`declares alone`};
+const ROLES = {full: t`full`, reads: t`read only`, declares: t`declarations only`};
 export const roleName = (role) => ROLES[role] ?? role;
 /** Why an act came to nothing: the registry's refusal or fault, or the role of the user, whose request never came to the registry. */
 const reason = (act) => act.refusal === 'Role' ? t`role “${roleName(act.role)}”` : act.refusal;
