@@ -6,7 +6,7 @@ entry before. Its own hash is the SHA-256 of that line without the line end. `ma
 
 Every line is in one form: members in the order written here, no spaces, UTF-8. So the same entry has one text and one hash.
 """
-import base64, datetime, gzip, hashlib, hmac, json, os, pathlib, re, time, typing
+import base64, datetime, functools, gzip, hashlib, hmac, json, os, pathlib, re, time, typing
 
 MONTH = re.compile(r"\d{4}-\d{2}\.jsonl(\.gz)?")
 NO_CHAIN = "-"                          # the chain of outcomes before entry 1
@@ -83,14 +83,13 @@ def body_member(body):
     return f'"body64":"{base64.b64encode(body).decode()}"'
 
 
-def body_of(members):
-    if "body" in members:
-        return members.pop("body").encode()
-    return base64.b64decode(members.pop("body64"), validate=True)
+def body_of(name, said):
+    """The body in a member of either name."""
+    return base64.b64decode(said, validate=True) if name == "body64" else said.encode()
 
 
 FIELDS = list(Entry._fields)
-FORM = '{"n":%d,' + ",".join(f'"{name}":%s' for name in FIELDS[1:-1]) + ",%s}"
+FORM = '{"n":%d,' + ",".join([f'"{name}":%s' for name in FIELDS[1:-1]]) + ",%s}"
 
 
 def written(entry, key):
@@ -99,8 +98,15 @@ def written(entry, key):
     return b'{"entry":' + text + b',"mac":"' + mac(text, key).encode() + b'"}'
 
 
+@functools.lru_cache(4)
+def begun_with(key):
+    return hmac.new(key, digestmod="sha256")
+
+
 def mac(text, key):
-    return hmac.digest(key, text, "sha256").hex()
+    made = begun_with(key).copy()
+    made.update(text)
+    return made.hexdigest()
 
 
 def hash_of(line):
@@ -129,14 +135,14 @@ def read_entry(line, key=None):
 
 def entry_in(text, said, key):
     try:
-        members = json.loads(text)
+        members = json.loads(text.decode())
         if key is not None and not hmac.compare_digest(mac(text, key), said):
             raise Broken(f"entry {members['n']}: its keyed hash is wrong: no replica with this key wrote it")
-        names = [name.replace("body64", "body") for name in members]
-        entry = Entry(body=body_of(members), **members)
-        if names != FIELDS or type(entry.n) is not int:
-            raise Broken(f"entry {entry.n}: its members are {names}")
-        return entry
+        *names, last = members
+        if [*names, last.removesuffix("64")] != FIELDS or type(members["n"]) is not int:
+            raise Broken(f"entry {members['n']}: its members are {[*names, last]}")
+        *values, body = members.values()
+        return Entry(*values, body_of(last, body))
     except (KeyError, TypeError, ValueError, AttributeError, RecursionError) as fault:
         raise Broken(f"a line that is no entry: {text[:80]!r}") from fault
 
@@ -179,7 +185,8 @@ def read_record(line, key=None):
         members = json.loads(rest[len(OUTCOME):-1])
         if compact(members) != rest[len(OUTCOME):-1] or compact(json.loads(text)) != text:
             raise Broken(f"entry {entry.n}: its line is not in the form of the archive")
-        outcome = Outcome(members["status"], body_of(members), members["chain"])
+        name = "body" if "body" in members else "body64"
+        outcome = Outcome(members["status"], body_of(name, members[name]), members["chain"])
     except (KeyError, TypeError, ValueError, AttributeError, RecursionError) as fault:
         raise Broken(f"entry {entry.n}: its line lacks members") from fault
     return Record(entry, outcome, hash_of(line[:-len(rest)] + b'"}'))

@@ -162,14 +162,16 @@ def started(database, viewer, asked, ids):
     account, text = number_of(asked, 'account'), asked.get('q')
     touched = counted(database, 'touched', 'account', account) if account else FEW
     seen = FEW if viewer.sees_all else counted(database, 'seen', 'viewer', viewer.caller)
-    others = [counted(database, 'act', name, asked[name]) for name in ('kind', 'device', 'key') if text and asked.get(name)]
-    if text and min((ids[1] - ids[0], touched, seen, *others)) >= FEW and (letters := letters_of(database, text)):
+    others = min((counted(database, 'act', name, asked[name]) for name in ('kind', 'device', 'key') if asked.get(name)), default=FEW)
+    if text and min(ids[1] - ids[0], touched, seen, others) >= FEW and (letters := letters_of(database, text)):
         return 'word', Conditions(('word MATCH ?', (letters,)), viewer.of_acts(), *of_account(account))
+    if others < min(touched, seen):
+        return 'act', Conditions(viewer.of_acts(), *of_account(account))
     is_own = account and not viewer.sees_all and account in viewer.accounts(database)      # of his own account he sees each act
     if account and (is_own or touched <= seen):
         return 'touched', Conditions(('touched.account = ?', (account,)), *([] if is_own else [viewer.of_acts()]))
-    if viewer.sees_all or asked.get('key'):
-        return 'act', Conditions(viewer.of_acts(), *of_account(account))
+    if viewer.sees_all:
+        return 'act', Conditions()
     return 'seen', Conditions(('seen.viewer = ?', (viewer.caller,)), *of_account(account))
 
 

@@ -463,8 +463,8 @@ def rows_of_table(body, answer):
 
 
 def told_of_row(words):
-    """The outcome of a row, and the code of its refusal."""
-    return words[0], f'refusal {words[1]}' if len(words) > 1 else None
+    """The outcome of a row, and the name of its refusal, which the answer to a table tells by its code."""
+    return words[0], rules.REFUSALS[int(words[1]) - 1] if len(words) > 1 else None
 
 
 def command_of_row(fields):

@@ -3,7 +3,7 @@
 The rules for what is answered by a status alone are the registry's (docs/HTTP.md). Of a request's head nothing goes on but the
 method, the path and four fields that the front door sets: GOO-Caller, GOO-User, GOO-Address and GOO-Role.
 """
-import asyncio, dataclasses, os, re, socket
+import asyncio, dataclasses, functools, math, os, re, socket, time
 
 from replica_registry import Answer, address_of
 
@@ -38,8 +38,9 @@ def plain(status, why=""):
     return Answer(status, TEXT, (why or PHRASES[status]).encode() + b"\n")
 
 
+@functools.lru_cache(256)
 def head_of(text):
-    """The call in a request's head, without its body, and the body's length."""
+    """Method, target, caller, user, address and role in a request's head, and the body's length. Most heads have come before."""
     head = WHOLE.fullmatch(text.decode("latin-1"))
     if not head or head[4].count("\r\n") > FIELDS:
         raise Refusal(400)
@@ -56,7 +57,7 @@ def head_of(text):
     if any(len(named.get(name, ())) > 1 for name in OURS):
         named.pop("goo-caller", None)           # two of one: nobody knows which the front door set, so there is no caller
     caller, user, address, role = (named.get(name, [""])[0] for name in OURS)
-    return Call(head[1], head[2], caller if CALLER.fullmatch(caller) else "", words(user), words(address), role), length
+    return (head[1], head[2], caller if CALLER.fullmatch(caller) else "", words(user), words(address), role), length
 
 
 def length_of(said):
@@ -72,22 +73,22 @@ def words(field):
 
 
 class Connection(asyncio.Protocol):
-    """One request, and its answer by `serve`."""
+    """One request, and its answer."""
 
-    def __init__(self, serve):
-        self.serve, self.came, self.call, self.begin, self.answered, self.task = serve, bytearray(), None, 0, False, None
+    def __init__(self, door):
+        self.door, self.came, self.call, self.begin, self.end, self.whole, self.answered = door, bytearray(), None, 0, 0, False, False
 
     def connection_made(self, transport):
-        self.transport = transport
-        self.timer = asyncio.get_running_loop().call_later(SEND, self.transport.abort)
+        self.transport, self.until = transport, time.monotonic() + SEND
+        self.door.open.add(self)
 
     def data_received(self, data):
-        if self.task is None and not self.answered:
+        if not self.whole and not self.answered:
             self.came += data
             try:
                 self.look()
             except Refusal as status:
-                self.send(plain(status.args[0]), {})
+                self.answer(plain(status.args[0]), {})
 
     def look(self):
         if self.call is None:
@@ -96,50 +97,62 @@ class Connection(asyncio.Protocol):
                 if len(self.came) >= HEAD:
                     raise Refusal(400)
                 return
-            self.call, length = head_of(bytes(self.came[:end]))
-            self.begin, self.end = end + 4, end + 4 + length
+            fields, length = head_of(bytes(self.came[:end]))
+            self.call, self.begin, self.end = Call(*fields), end + 4, end + 4 + length
         if len(self.came) >= self.end:
-            self.timer.cancel()
             self.call.body = bytes(self.came[self.begin:self.end])
-            self.came = b""
-            self.task = asyncio.get_running_loop().create_task(self.carry())
+            self.came, self.whole, self.until = b"", True, math.inf
+            self.door.serve(self.call, self.answer)
 
     def eof_received(self):
         if self.call:
             self.call.gone = True
-        if self.task is None and not self.answered:
-            self.send(plain(400), {})
+        if not self.whole and not self.answered:
+            self.answer(plain(400), {})
         return True
 
     def connection_lost(self, fault):
-        self.timer.cancel()
+        self.door.open.discard(self)
         if self.call:
             self.call.gone = True
 
-    async def carry(self):
-        self.send(*await self.serve(self.call))
-
-    def send(self, answer, fields):
-        self.answered = True
-        self.timer.cancel()
+    def answer(self, answer, fields):
+        """Sends the answer with further fields, and closes once all of it is sent."""
+        self.answered, self.until = True, time.monotonic() + SEND
+        if self.transport.is_closing():
+            return                              # the client has gone
         if answer.allow:
             fields["Allow"] = answer.allow
-        more = "".join(f"{name}: {value}\r\n" for name, value in fields.items())
+        more = "".join([f"{name}: {value}\r\n" for name, value in fields.items()])
         head = f"HTTP/1.1 {answer.status} {PHRASES.get(answer.status, 'Other')}\r\nContent-Type: {answer.kind}\r\n{more}Content-Length: {len(answer.body)}\r\nConnection: close\r\n\r\n"
         self.transport.write(head.encode("latin-1") + (b"" if self.call and self.call.method == "HEAD" else answer.body))
-        if not self.transport.is_closing():
-            self.timer = asyncio.get_running_loop().call_later(SEND, self.transport.abort)
-            self.transport.close()              # once all of it is sent
+        self.transport.close()
 
 
-async def open_door(listen, serve):
-    """A server at a path, at HOST:PORT, or at the socket that systemd has opened for us."""
-    loop = asyncio.get_running_loop()
-    if os.environ.get("LISTEN_FDS") == "1" and os.environ.get("LISTEN_PID") == str(os.getpid()):
-        given = socket.socket(fileno=3)
-        begin = loop.create_unix_server if given.family == socket.AF_UNIX else loop.create_server
-        return await begin(lambda: Connection(serve), sock=given, backlog=512)
-    family, address = address_of(listen)
-    if family == socket.AF_UNIX:
-        return await loop.create_unix_server(lambda: Connection(serve), address, backlog=512)
-    return await loop.create_server(lambda: Connection(serve), *address, backlog=512)
+class Door:
+    """Takes in connections. `serve(call, answer)` is told of each request that came whole, and calls `answer` once with the answer and further fields."""
+
+    def __init__(self, serve):
+        self.serve, self.open = serve, set()
+
+    def connection(self):
+        return Connection(self)
+
+    async def sweep(self):
+        """Cuts off who takes too long to send a request, or to take the answer."""
+        while True:
+            await asyncio.sleep(1)
+            for one in [one for one in self.open if one.until < time.monotonic()]:
+                one.transport.abort()
+
+    async def listen(self, listen):
+        """A server at a path, at HOST:PORT, or at the socket that systemd has opened for us."""
+        loop = asyncio.get_running_loop()
+        if os.environ.get("LISTEN_FDS") == "1" and os.environ.get("LISTEN_PID") == str(os.getpid()):
+            given = socket.socket(fileno=3)
+            begin = loop.create_unix_server if given.family == socket.AF_UNIX else loop.create_server
+            return await begin(self.connection, sock=given, backlog=512)
+        family, address = address_of(listen)
+        if family == socket.AF_UNIX:
+            return await loop.create_unix_server(self.connection, address, backlog=512)
+        return await loop.create_server(self.connection, *address, backlog=512)

@@ -28,7 +28,7 @@ class Place:
 
     def slot_at(self, slot):
         words = os.pread(self.file, 512, SLOT * slot).decode("latin-1").split()
-        return (int(words[0]), *words[1:3]) if len(words) == 4 and words[3] == checksum(words[:3]) else None
+        return (int(words[0]), *words[1:3]) if len(words) == 4 and words[3] == checksum(" ".join(words[:3])) else None
 
     def record(self, n, h, chain):
         os.pwrite(self.file, slot_text(n, h, chain), SLOT * self.slot)
@@ -44,12 +44,13 @@ class Place:
         os.close(self.file)
 
 
-def checksum(words):
-    return hashlib.sha256(" ".join(map(str, words)).encode()).hexdigest()
+def checksum(text):
+    return hashlib.sha256(text.encode()).hexdigest()
 
 
 def slot_text(*words):
-    return " ".join(map(str, (*words, checksum(words)))).ljust(511).encode() + b"\n"
+    text = " ".join(map(str, words))
+    return f"{text} {checksum(text)}".ljust(511).encode() + b"\n"
 
 
 def begin(path, n, h, chain=entries.NO_CHAIN):

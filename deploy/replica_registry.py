@@ -1,9 +1,9 @@
 """What a replica asks of the registry beside it: one HTTP request for each connection, and the whole answer."""
-import asyncio, collections, socket
+import asyncio, collections, errno, functools, select, socket
 
 BROKEN = (OSError, TimeoutError, EOFError, ValueError, LookupError)
-CONNECT, SOON = 0.5, 0.001                  # seconds
-PART = 1 << 18                              # bytes taken at once
+SOON = 1                                    # milliseconds
+PART = 1 << 16                              # bytes taken at once
 Answer = collections.namedtuple("Answer", "status kind body allow", defaults=("",))
 
 
@@ -22,8 +22,14 @@ class Registry:
         """The registry's answer, which came whole. Anything else raises one of BROKEN."""
         head = f"{method} {target} HTTP/1.1\r\nHost: goo\r\n{f'GOO-Caller: {caller}' if caller else 'Accept: */*'}\r\nContent-Length: {len(body)}\r\n\r\n"
         with self.taken() as s:
+            talk = Talk(s, method)
+            rest = talk.say(head.encode("latin-1") + body)
+            self.ahead()
+            await asyncio.sleep(0)              # all others have a turn while the registry is at it
+            if answer := talk.soon():
+                return answer
             async with asyncio.timeout(patience):
-                return await Talk(s, method).about(head.encode("latin-1") + body, self.ahead)
+                return await talk.to_the_end(rest)
 
     def taken(self):
         s, self.next = self.next, None
@@ -33,15 +39,13 @@ class Registry:
         return s or self.connected()
 
     def connected(self):
-        s = socket.socket(self.family, socket.SOCK_STREAM)
-        try:
-            s.settimeout(CONNECT)               # on this host it connects at once or not at all
-            s.connect(self.address)
-            s.setblocking(False)
-            return s
-        except OSError:
+        """On this host a connection is there at once or not at all. A port of this host says so a moment later, so what is sent first tells."""
+        s = socket.socket(self.family, socket.SOCK_STREAM | socket.SOCK_NONBLOCK)
+        fault = s.connect_ex(self.address)
+        if fault not in (0, errno.EINPROGRESS):
             s.close()
-            raise
+            raise OSError(fault, "no connection")
+        return s
 
     def ahead(self):
         try:
@@ -67,35 +71,38 @@ class Talk:
         self.s, self.method = s, method
         self.came, self.head, self.begin, self.end = bytearray(), None, 0, 0
 
-    async def about(self, request, sent):
+    def say(self, request):
+        """Sends what goes out at once; what is left of the request."""
+        try:
+            return request[self.s.send(request):]
+        except BlockingIOError:
+            return request
+
+    def soon(self):
+        """Most answers are there by now, or within a millisecond: to turn to others once more would take longer than to wait."""
+        try:
+            return self.take(self.s.recv(PART))
+        except BlockingIOError:
+            ready = select.poll()
+            ready.register(self.s, select.POLLIN)
+            return self.take(self.s.recv(PART)) if ready.poll(SOON) else None
+
+    async def to_the_end(self, rest):
         loop = asyncio.get_running_loop()
-        if rest := request[self.s.send(request):]:
+        if rest:
             await loop.sock_sendall(self.s, rest)
-        sent()
-        if answer := self.soon():
-            return answer
         while not (answer := self.take(await loop.sock_recv(self.s, PART))):
             pass
         return answer
-
-    def soon(self):
-        """Most answers are there within a millisecond: to turn to others meanwhile would take longer than to wait."""
-        self.s.settimeout(SOON)
-        try:
-            return self.take(self.s.recv(PART))
-        except TimeoutError:
-            return None
-        finally:
-            self.s.setblocking(False)
 
     def take(self, part):
         """The answer, once all of it came."""
         self.came += part
         if self.head is None and (end := self.came.find(b"\r\n\r\n")) >= 0:
-            self.head, length = head_of(self.came[:end].decode("latin-1"))
+            self.head, length = head_of(bytes(self.came[:end]))
             self.begin, self.end = end + 4, end + 4 + (0 if self.method == "HEAD" else length)
         if self.head and len(self.came) >= self.end:
-            return self.head._replace(body=bytes(self.came[self.begin:self.end]))
+            return Answer(self.head.status, self.head.kind, bytes(self.came[self.begin:self.end]), self.head.allow)
         if not part:
             raise EOFError("cut off")
         return None
@@ -109,8 +116,9 @@ def address_of(text):
     return socket.AF_INET, (host or "127.0.0.1", int(port))
 
 
+@functools.lru_cache(256)
 def head_of(text):
     """The answer of which this is the head, without its body, and the body's length."""
-    first, *lines = text.split("\r\n")
+    first, *lines = text.decode("latin-1").split("\r\n")
     fields = {name.lower(): value.strip() for name, _, value in (line.partition(":") for line in lines)}
     return Answer(int(first.split()[1]), fields.get("content-type", ""), b"", fields.get("allow", "")), int(fields["content-length"])

@@ -166,6 +166,12 @@ def absent(runs, first, last):
         yield first
 
 
+REFUSALS = '''NotAllowed KeyReused UnknownHolder HolderExists UnknownAccount AccountClosed AccountNotEmpty DeviceExists UnknownDevice BeforeCommissioning PeriodOrder
+PeriodSpan AuxExceedsGross OverCapacity NumbersExhausted UnknownNumber NotHeld TradeClosed SameAccount DateBackwards UnknownPeer PeerExists WrongRegistry
+NoticeConflict NumberTaken LotDiffers Stale FuturePeriod UsePeriod TooManyParts UnknownDeclaration OverCorrected WrongCount OtherDevice'''.split()
+"""The refusals by their codes, the first of which is 1 (docs/REGISTRY.md)."""
+
+
 COMMANDS = {'import': 'take_in', **{name: name for name in ('open_holder', 'open_account', 'close_account', 'register_device', 'declare', 'correct', 'transfer', 'cancel',
                                                             'withdraw', 'advance', 'add_peer', 'export')}}
 

@@ -525,17 +525,17 @@ class Seen:
         b, check = self.b, self.check
         b.go("history//outcome=refused", "table")
         rows = [row[1:2] + row[6:7] + row[8:] for row in cells(b) if "role" in row[6]]
-        check("what a role does not allow is refused for the role, and who tried it is told", rows == [["withdrawal", "refused: role “reads alone”", "meter read twice by paula"]], cells(b)[:3])
+        check("what a role does not allow is refused for the role, and who tried it is told", rows == [["withdrawal", "refused: role “read only”", "meter read twice by paula"]], cells(b)[:3])
         b.picture("history-role")
         b.press("tr:has(.refused) td a", "20")
-        got = b.text("main dl", "reads alone").split("\n")
+        got = b.text("main dl", "read only").split("\n")
         facts = dict(zip(got[::2], got[1::2]))
-        check("and so is the act by itself", (facts["Outcome"], facts["Role"], facts["User"], facts["Caller"], facts["Key"]) == ("refused: role “reads alone”", "reads alone", "paula", "ISSUER", "tried"), facts)
+        check("and so is the act by itself", (facts["Outcome"], facts["Role"], facts["User"], facts["Caller"], facts["Key"]) == ("refused: role “read only”", "read only", "paula", "ISSUER", "tried"), facts)
 
     def auditor(self):
         """Whoever may only read is offered nothing that the front door would refuse."""
         b, check = self.b, self.check
-        check("an auditor is told his role, and has the pages that read", b.text(".top .who") == "Issuing body, reads alone" and pages(b) == ["Audit", "Holdings", "Deadlines", "History", "Lists", "Accounts", "Look up"], pages(b))
+        check("an auditor is told his role, and has the pages that read", b.text(".top .who") == "Issuing body, read only" and pages(b) == ["Audit", "Holdings", "Deadlines", "History", "Lists", "Accounts", "Look up"], pages(b))
         b.go("account/1", "table")
         check("no row offers an act", not b.d.find_elements(By.CSS_SELECTOR, "td.acts a"))
         b.picture("auditor")
@@ -545,14 +545,14 @@ class Seen:
         b.go("withdraw")
         check("nor by its address", not b.d.find_elements(By.CSS_SELECTOR, "form.withdraw") and b.text("h1") == "Audit", b.text("h1"))
         b.go("history", "table")
-        check("he sees what others see of the issuing body", "role “reads alone”" in b.text("main"))
+        check("he sees what others see of the issuing body", "role “read only”" in b.text("main"))
         got = b.script("return (await fetch('/v1/requests', {method: 'POST', body: '{}'})).status")
         check("and the front door refuses what the page leaves out", got == 403, got)
 
     def meters(self):
         """Whoever may only declare has the page for files, and no other."""
         b, check = self.b, self.check
-        check("meter data has the page for files alone", b.text(".top .who") == "Issuing body, declares alone" and pages(b) == ["Declare"] and not b.d.find_elements(By.CSS_SELECTOR, "form.declare"), pages(b))
+        check("meter data has the page for files alone", b.text(".top .who") == "Issuing body, declarations only" and pages(b) == ["Declare"] and not b.d.find_elements(By.CSS_SELECTOR, "form.declare"), pages(b))
         self.upload_file("meter.csv", [f"meter-1,{gsrn(2)},2025-02-01,2025-02-28,3000000,0"])
         b.press("main .buttons button.main", "Declare")
         b.press("dialog[open] button.main")

@@ -5,10 +5,13 @@ import collections
 import contextlib
 import json
 import os
+import pathlib
 import random
 import re
 import shutil
 import signal
+import socket
+import struct
 import subprocess
 import threading
 import time
@@ -222,6 +225,43 @@ def weak(cluster, work):
     restart(host)
     check(f"a goo that answers 503, loses answers or requests ({dict(relay.count)}): all {answered} answered", answered == 60 and min(relay.count.values()) > 5, relay.count)
     same_as_replay(cluster, "after the weak goo")
+
+
+def gone(cluster, work):
+    """Clients that break off before they are answered, some with their entry in the log: the replica goes on and has nothing to say of it."""
+    host = cluster.hosts[0]
+    before, at = host.health()["entry"], len(host.log("replica"))
+    host.send("goo", signal.SIGSTOP)
+    for n in range(40):
+        body = b'{"command":"open_account","key":"gone-%d","holder":"C1"}' % n
+        with socket.create_connection(("127.0.0.1", host.port)) as s:
+            s.sendall(b"POST /v1/requests HTTP/1.1\r\nHost: goo\r\nGOO-Caller: ISSUER\r\nContent-Length: %d\r\n\r\n" % len(body) + body[:len(body) - n % 3 // 2])
+            s.setsockopt(socket.SOL_SOCKET, socket.SO_LINGER, struct.pack("ii", n % 2, 0))
+            time.sleep(0.05)
+    host.send("goo", signal.SIGCONT)
+    left = until(lambda: "goo_replica_waiting 0\n" in ask(host, "GET", "/metrics", "", b"", 20)[3])
+    done = work.request("ISSUER", 0, "open_account", "gone-after", holder="C1")
+    said = host.log("replica")[at:]
+    check(f"40 clients that go before they are answered, {done['entry'] - before - 1} with an entry: none is left, the next one is answered, and nothing is said of them",
+          left and done["status"] == 200 and done["entry"] > before + 1 and not said, (left, done, said))
+    same_as_replay(cluster, "after the clients that went")
+
+
+def plain_loop(cluster, work):
+    """Without uvloop, which a host may lack, the replica is slower and otherwise the same."""
+    host, folder = cluster.hosts[0], cluster.folder / "lacks"
+    folder.mkdir()
+    (folder / "uvloop.py").write_text("raise ImportError")
+    loops = []
+    for host.env in ({}, {"PYTHONPATH": str(folder)}):
+        restart(host)
+        cluster.even(60)
+        answered = some(work, 30, f"loop-{len(loops)}")
+        loops.append((answered, "uvloop" in pathlib.Path(f"/proc/{host.processes['replica'].pid}/maps").read_text()))
+    host.env = {}
+    restart(host)
+    check("with uvloop and without it 30 requests of each kind are answered", loops == [(30, True), (30, False)], loops)
+    same_as_replay(cluster, "after the plain loop")
 
 
 def full_disk(cluster, work):
@@ -583,4 +623,4 @@ def slots(cluster, work):
     check("300 files of a place, the slot in hand lost at a power failure: the last synced place stands", not bad, bad[:3])
 
 
-PIECES = [entry_form, slots, roles, as_before, twice, no_registry, crashes, torn_tables, table_cuts, weak, full_disk, set_aside, version, copies, tampered, forged, restored, old_place, shipped, by_ssh, follower, large]
+PIECES = [entry_form, slots, roles, as_before, twice, no_registry, crashes, torn_tables, table_cuts, weak, gone, plain_loop, full_disk, set_aside, version, copies, tampered, forged, restored, old_place, shipped, by_ssh, follower, large]

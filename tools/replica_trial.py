@@ -61,7 +61,7 @@ class Host:
         (self.folder / "etcd").mkdir(parents=True)
         self.disk.mkdir()
         if self.cluster.memory:
-            must("mount", "-t", "tmpfs", "-o", "size=64m", "none", self.disk)
+            must("mount", "-t", "tmpfs", "-o", f"size={self.cluster.room}", "none", self.disk)
         (self.disk / "goo").mkdir()
         self.state.mkdir()
         if self.ns:
@@ -167,8 +167,8 @@ def until(holds, patience=90):
 class Cluster:
     """One host, or three with etcd. What ended is started again, as systemd does it."""
 
-    def __init__(self, folder, count, tls=False, memory=True, begun=None):
-        self.begun = begun                      # a registry that is there already
+    def __init__(self, folder, count, tls=False, memory=True, begun=None, room="64m"):
+        self.begun, self.room = begun, room     # a registry that is there already; the size of a disk in memory
         self.folder, self.count, self.tls, self.memory = folder, count, tls, memory and os.geteuid() == 0
         self.switch, self.ended, self.delay = f"gr{os.getpid()}-s", False, (0.2, 1.5)
         self.etcd_state, self.quota, self.gate = "new", 8 << 30, None
@@ -348,8 +348,9 @@ def day(n):
 class Run:
     """What clients did, and what came of it."""
 
-    def __init__(self, cluster, clients, seed):
+    def __init__(self, cluster, clients, seed, certificates=4000):
         self.cluster, self.count, self.seed, self.ended = cluster, clients, seed, False
+        self.certificates, self.pause = certificates, 0         # of each client at the beginning; mean seconds between two of its operations
         self.ops, self.lock, self.next_day, self.errors = [], threading.Lock(), collections.Counter(), []
         self.tries = collections.Counter()
 
@@ -388,7 +389,7 @@ class Run:
         for k in range(self.count):
             self.request("ISSUER", k, "register_device", f"d{k}", account=k + 1, capacity_w=2000000000, commissioned="2020-06-15", country="DE", device=gsrn(k + 1),
                          site="North", source="F01010100", support="none", tech="T010000")
-            done = self.request("ISSUER", k, "declare", f"m{k}", device=gsrn(k + 1), first_day=day(0), last_day=day(0), gross_wh=4000400000 + k, aux_wh=0)
+            done = self.request("ISSUER", k, "declare", f"m{k}", device=gsrn(k + 1), first_day=day(0), last_day=day(0), gross_wh=self.certificates * 10**6 + 400000 + k, aux_wh=0)
             self.first[k] = int(done["reply"]["reply"]["first"])
             self.next_day[k] = 1
 
@@ -403,6 +404,7 @@ class Run:
         n, cursor, mine, refused = 0, self.first[k] + 50, [], []
         while not self.ended:
             n += 1
+            time.sleep(self.pause * random.uniform(0.5, 1.5))
             key, home, holder = f"c{k}-{n}", chance.randrange(3) if chance.random() < 0.2 else k, f"C{k}"
             what = chance.choices(("give", "hot", "cancel", "declare", "csv", "refused", "repeat", "reuse", "retry", "advance", "read", "withdraw", "account"),
                                   (20, 22, 5, 6, 4, 5, 6, 3, 4, 0.3, 18, 1, 2))[0]

@@ -5,7 +5,6 @@ import {t} from './language.js';
 import {listing, stands} from './listing.js';
 import {asked} from './records.js';
 import {session} from './session.js';
-import {REFUSALS} from './words.js';
 
 export const KINDS = {issue: t`issue`, transfer: t`transfer`, cancellation: t`cancellation`, withdrawal: t`withdrawal`, correction: t`correction`, export: t`export`, import: t`import`,
   expiry: t`expiry`, holder: t`holder opened`, account: t`account opened`, closing: t`account closed`, device: t`device registered`, date: t`date moved`, peer: t`registry added`, unreadable: t`unreadable`};
@@ -16,12 +15,10 @@ export const party = (p) => p ? h('span', {class: 'party'}, String(p.account), p
 
 const whenOf = (act) => h('a', {href: `#act/${act.id}`}, act.time ? `${act.time.slice(0, 10)} ${act.time.slice(11, 16)}` : act.day);
 /** The roles of users, by their words in the list of callers. */
-const ROLES = {full: t`full`, reads: t`reads alone`, declares: t`declares alone`};
+const ROLES = {full: t`full`, reads: t`read only`, declares: t`declarations only`};
 export const roleName = (role) => ROLES[role] ?? role;
 /** Why an act came to nothing: the registry's refusal or fault, or the role of the user, whose request never came to the registry. */
-const reason = (act) => act.refusal === 'Role' ? t`role “${roleName(act.role)}”` : nameOf(act.refusal);
-/** A refusal by its name; a row of a table has it by its code. */
-const nameOf = (refusal) => REFUSALS[/^refusal (\d+)$/.exec(refusal)?.[1]]?.[0] ?? refusal;
+const reason = (act) => act.refusal === 'Role' ? t`role “${roleName(act.role)}”` : act.refusal;
 const outcome = (act) => act.outcome === 'accepted' ? OUTCOMES.accepted : h('b', {class: 'word refused'}, act.refusal ? `${OUTCOMES[act.outcome]}: ${reason(act)}` : OUTCOMES[act.outcome]);
 
 /** The document that an act made. */

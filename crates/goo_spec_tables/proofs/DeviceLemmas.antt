@@ -1,10 +1,9 @@
 -- Devices under their numbers, in the order of the numbers.
-use Rattle.std.proofs.Common.{◌≡◌, ◌<◌, ◌+◌, ℕ, List, [], ◌∷◌, ◌++◌, map, take, length, get_or, None, Some, refl, sym, ap, ◌∙◌}
+use Rattle.std.proofs.Common.{◌≡◌, ◌+◌, ℕ, List, [], ◌∷◌, ◌++◌, map, None, Some, refl, sym, ap, ◌∙◌}
 use Rattle.std.specs.BTreeMap as tree
 use Rattle.std.specs.BTreeMap.{BTreeMap}
 use Rattle.std.specs.Cmp.Lexicographic.{nat_list_cmp_total}
 use Rattle.std.specs.FinMap.{get, insert, keys, from_entries, from_entries_push, get-from_entries, nat_cmp-IsAntisymmetric, slice_cmp-IsAntisymmetric}
-use Rattle.std.proofs.lemmas.List.{take_more, map-append}
 use Rattle.goo_spec.specs.State.{text_cmp, Device}
 use Rattle.goo_tables_rows.specs.Rows as row
 use Rattle.goo_tables_rows.specs.Rows.{Kept}
@@ -29,13 +28,6 @@ noted m n k v put none es is =
 pub noted_row : (m n : BTreeMap (List ℕ) Device) (k : List ℕ) (v : Device) (d : row.Device) → k ≡ d.gsrn → v ≡ device_of d → tree.Updates text_cmp m n k (Some v) → tree.get text_cmp m k ≡ None
     → (es : List (List ℕ × Device)) → map_of text_cmp m ≡ from_entries es → map_of text_cmp n ≡ from_entries (es ++ device_entry d ∷ [])
 noted_row m n k v d key value put none es is = noted m n k v put none es is ∙ (λ i. from_entries (es ++ (key i, value i) ∷ []))
-
--- one row more
-pub more_noted : {X : Type 0} (f : X → row.Device) (xs : List X) (i : ℕ) (x : X) → i < length xs → x ≡ get_or xs i x
-    → map device_entry (map f (take (i + 1) xs)) ≡ map device_entry (map f (take i xs)) ++ device_entry (f x) ∷ []
-more_noted f xs i x low at =
-    ap (λ ys. map device_entry (map f ys)) (take_more xs i x low ∙ ap (λ y. take i xs ++ y ∷ []) (sym at))
-    ∙ ap (map device_entry) (map-append f (take i xs) (x ∷ [])) ∙ map-append device_entry (map f (take i xs)) (f x ∷ [])
 
 -- the keys of a tree are those of its map
 pub keys_same : (m : BTreeMap (List ℕ) Device) → tree.IsOrdered text_cmp m → tree.keys m ≡ keys (map_of text_cmp m)

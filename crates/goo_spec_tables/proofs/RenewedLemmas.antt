@@ -1,8 +1,7 @@
--- Tables of version 1, renewed: the same state, under the rules of version 2, whose rows are the maximal runs of the state's certificates.
+-- Tables of version 1, renewed: the same state, under the rules of version 2.
 use Rattle.std.proofs.Common.{◌≡◌, ◌∙◌, refl, ap, sym, subst}
-use Rattle.std.specs.FinMap.{get}
 use Rattle.goo_types.specs.Piece.{IsRising}
-use Rattle.goo_spec.specs.Runs.{IsApart, AreRunsOf}
+use Rattle.goo_spec.specs.Runs.{IsApart}
 use Rattle.goo_spec.specs.Sound.{IsSound}
 use Rattle.goo_core_shelf.specs.Shelf.{progress_of}
 use Rattle.goo_ranges_pieces.specs.Joining.{IsJoining}
@@ -14,11 +13,6 @@ use Rattle.goo_spec_tables.specs.Places.{rows_of}
 use Rattle.goo_spec_tables.specs.Renewed.{joined_pieces, renewed, HaveOwnFields}
 use Rattle.goo_spec_tables.specs.States.{state_of}
 use Rattle.goo_spec_tables.proofs.Renewing.{AreJoined, all_joined, joined_apart}
-
--- in version 2 the rows are the maximal runs of the state's certificates
-pub kept_runs : (t : Tables) → AreKeptIn 2 t → AreRunsOf (get (state_of t).at) (rows_of t)
-unfolding state_of
-kept_runs t kept = record { rising = kept.rising; maximal = kept.apart refl; same = (certificates-rows (rows_of t) kept.rising).same }
 
 module _ (t : Tables) (kept : AreKeptIn 1 t) where
   all : AreJoined t.lots t.pieces (joined_pieces t.pieces)

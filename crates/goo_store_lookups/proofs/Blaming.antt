@@ -108,7 +108,3 @@ module _ (old mid new : State) (a0 a b : Bool) {T : Type 0} (x : T) (first : T �
 -- an error that is handed on
 pub blamed_err : {U V : Type 0} (old new : State) (a : Bool) (e : Fault) (result : Result V Fault) → result ≡ Err e → BlamesStore {T = U} old new a (Err e) → BlamesStore old new a result
 blamed_err {V = V} old new a e result is it = subst (λ (z : Result V Fault). BlamesStore old new a z) (sym is) (record { limit = it.limit; counts = it.counts; store = it.store })
-
--- an answer that is made of what was found
-pub blamed_made : {T U : Type 0} (old new : State) (a : Bool) (x : T) (y : U) → BlamesStore old new a (Ok x) → BlamesStore old new a (Ok y)
-blamed_made old new a x y it = record { limit = it.limit; counts = it.counts; store = λ _ _ _ _. tt }

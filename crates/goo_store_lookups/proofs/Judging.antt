@@ -19,7 +19,7 @@ use Rattle.goo_store_open.specs.Found.{AreOf, Finds, IsWord, ShowsTables, HasSto
 use Rattle.goo_store_open.specs.Layout.{number_of, seen_by, HasTables}
 use Rattle.goo_store_open.specs.Reading.{IsMet}
 use Rattle.goo_store_open.specs.declared.fault.OpenFault.{OpenFault}
-use Rattle.goo_store_open.specs.declared.fault.OpenFault.TheVariants.{Damaged, Memory, Store}
+use Rattle.goo_store_open.specs.declared.fault.OpenFault.TheVariants.{Damaged, Store}
 use Rattle.goo_store_open.specs.declared.finding.Found.{Found}
 use Rattle.goo_store_open.specs.declared.layout.Layout.{Layout}
 use Rattle.goo_store_open.specs.declared.layout.Layout.TheVariants.{First, Ours}
@@ -124,10 +124,6 @@ module _ (rules : RulesAreThose) (layout : Layout) (old new : State) where
       crash = finds.crash;
       blames = λ _. unblamed old new Damaged (λ same. absurd cc);
     }
-
-    -- memory was refused
-    pub judged_short : Judges layout old new (Err Memory) Tells
-    judged_short = record { clean = finds.clean; outside = finds.outside; rests = finds.rests; works = tt; kept = λ _ _. tt; right = λ _ _ _ _ _ _. inr refl; words = λ _ _ _ _ _. inl (inr refl); crash = finds.crash; blames = λ _. unblamed old new Memory (λ same. absurd cc) }
 
   -- the tables weren't found
   pub not_judged : {T : Type 0} (Tells : Tables → T → Type 0) (f : OpenFault) → Finds {T = Found} layout old new (Err f) (ShowsTables layout) → Judges layout old new (Err f) Tells

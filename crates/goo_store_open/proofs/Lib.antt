@@ -3,5 +3,4 @@ pub mod Carrying
 pub mod Chaining
 pub mod Earning
 pub mod OnFiles
-pub mod Ours
 pub mod Selecting

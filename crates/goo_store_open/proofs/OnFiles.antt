@@ -1,5 +1,5 @@
 -- That a database which an open found in files keeps its tables in the order of their keys.
-use Rattle.std.proofs.Common.{◌≡◌, inl, inr, Result, Ok, Err, IfOk, List, [], ◌∷◌, filter, sym, ap, subst, ◌∙◌}
+use Rattle.std.proofs.Common.{inl, inr, Result, Ok, Err, IfOk, List, [], ◌∷◌, filter, sym, ap, subst, ◌∙◌}
 use Rattle.std.specs.List.{AllByRecursion, AllZip}
 use Rattle.std.proofs.Math.Logic.{∥∥₁_elim}
 use Rattle.sqlite_trees.specs.declared.store.Shape.TheVariants as shape
@@ -14,7 +14,6 @@ use Rattle.sqlite_store.specs.Listing.{all_shapes, all_reals}
 use Rattle.sqlite_store.specs.Listed.{catalog_rows, is_listed}
 use Rattle.sqlite_store.proofs.ListingLemmas.{all_ordered}
 use Rattle.sqlite_wal.specs.Recovery.{Image}
-use Rattle.sqlite.specs.Effect.{Database}
 use Rattle.sqlite.specs.State.{State, IsLive, Opens}
 use Rattle.sqlite.specs.Files.{AreFoundIn}
 use Rattle.goo_tables_rows.specs.Met.{IsInKeyOrder}
@@ -37,9 +36,6 @@ found_in_order db schema (inr none) sound =
 pub opened_in_order : {image : Image} (s : State) → Opens s → IsLive s → AreFoundIn image s.committed.trees → IsInKeyOrder s.now
 opened_in_order s opens live found =
     subst IsInKeyOrder (sym opens.clean) (found_in_order s.committed.trees s.committed.schema found (live opens.is_open).1)
-
-pub empty_in_order : (db : Database) → db.schema.tables ≡ [] → IsInKeyOrder db
-empty_in_order db none = subst (AllByRecursion (λ (t : Table). IsShaped shape.Table (db.trees t.tree))) (sym none) tt
 
 pub if_both : {X E : Type 0} {P Q R : X → Type 0} (r : Result X E) → ((x : X) → P x → Q x → R x) → IfOk r P → IfOk r Q → IfOk r R
 if_both (Ok x) both p q = both x p q

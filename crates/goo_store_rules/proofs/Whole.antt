@@ -60,13 +60,3 @@ sound_by_name_of t sound = record {
 
 pub kept_by_name_of : (t : Tables) → AreKeptIn t.meta.version t → AreKeptByName t
 kept_by_name_of t kept = record { readable = kept.readable; lots = kept.lots; devices = kept.devices; limits = kept.sound.limits; sound = sound_by_name_of t kept.sound }
-
-pub sound_otherwise_of : (t : Tables) → IsSound (state_of t) → IsSoundOtherwise t
-sound_otherwise_of t sound = record {
-  known = sound.known;
-  places = sound.places;
-  times = sound.times;
-  periods = sound.declarations.rising;
-  covered = sound.corrections.net;
-  issued_when_due = sound.issued_when_due;
-}

@@ -1,13 +1,11 @@
 -- A row that is refused though memory is there can't be read.
-use Rattle.std.proofs.Common.{◌≡◌, ◌≤◌, arith, true, ◌&&◌, nat_le, Ok, Err, Some, Option, Result, IsErrAnd, IsOk, sym, subst, ◌∙◌, true≢false}
+use Rattle.std.proofs.Common.{◌≡◌, true, ◌&&◌, Ok, Err, Some, Option, Result, IsErrAnd, IsOk, sym, subst, ◌∙◌, true≢false}
 use Rattle.std.specs.Result.{IsOkUnless}
-use Rattle.std.proofs.lemmas.Bool.{and_parts, leb-true, le-leb}
 use Rattle.sqlite.specs.declared.error.Error.{Error}
 use Rattle.sqlite_keyed.proofs.RuleLemmas.{second_of_both}
 use Rattle.goo_types.specs.Codes.{holder_reading, key_reading}
-use Rattle.goo_types.specs.Gsrn.{gsrn_reading}
-use Rattle.goo_tables_rows.specs.Rows.{Kept, Device, Receipt}
-use Rattle.goo_spec_tables.specs.Readable.{reads, is_act, is_wh, is_plant, is_maybe_day, is_maybe_other, is_device, is_receipt, is_reply}
+use Rattle.goo_tables_rows.specs.Rows.{Kept, Receipt}
+use Rattle.goo_spec_tables.specs.Readable.{reads, is_receipt, is_reply}
 use Rattle.goo_store_values.specs.Passing.{Accepts}
 use Rattle.goo_store_values.specs.declared.trouble.Trouble.{Trouble}
 use Rattle.goo_store_values.specs.declared.trouble.Trouble.TheVariants.{Memory}
@@ -27,17 +25,6 @@ is_read {X} found row read IsReadable is can = subst (λ (f : Result (Option X) 
 pub same_trouble : {U : Type 0} (read : Result U Trouble) (e : Trouble) → IsErrAnd read (λ f. f ≡ e) → e ≡ Memory → IsOkUnless read Memory
 same_trouble (Ok x) e is memory = tt
 same_trouble (Err f) e is memory = is ∙ memory
-
-carry_low : (k : Kept Device) → is_device k ≡ true → k.1.carry ≤ 999999
-carry_low k h =
-    let account = and_parts (reads (gsrn_reading k.1.gsrn)) _ h in
-    let plant = and_parts (is_act k.1.account) _ account.1 in
-    let last_day = and_parts (is_plant k.1.plant) _ plant.1 in
-    let carry = and_parts (is_maybe_day k.1.last_day) _ last_day.1 in
-    leb-true k.1.carry 999999 (and_parts (nat_le k.1.carry 999999) (is_maybe_other k.1.carrier) carry.1).0
-
-pub carry_of_device : (k : Kept Device) → is_device k ≡ true → is_wh k.1.carry ≡ true
-carry_of_device k h = let low = carry_low k h in le-leb k.1.carry 1000000000000000 (omega (arith, low))
 
 pub reply_of_receipt : (k : Kept Receipt) → is_receipt k ≡ true → is_reply k.1.kind k.1.n1 k.1.n2 k.1.n3 ≡ true
 reply_of_receipt k h =
