@@ -7,7 +7,7 @@ import traceback
 COUNTS = re.compile(r'(\d+) passed, (\d+) failed(?:, (\d+) skipped)?')
 """The last line of a tool."""
 SHOWN = 30
-"""Failures that are shown where all are written to a file."""
+"""Failures that are shown where there may be many."""
 
 
 def counts(passed, failed, skipped=0):
