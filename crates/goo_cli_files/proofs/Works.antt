@@ -4,7 +4,6 @@ use Rattle.std.specs.FinMap.{get}
 use Rattle.std.specs.Io.KnownBytes.{Appends, Keeps}
 use Rattle.sqlite_disk.specs.declared.Disk.{Ghosts}
 use Rattle.goo_spec.specs.State.{State}
-use Rattle.goo_registry_desk.specs.Desk.{Seen}
 use Rattle.goo_files.specs.Texts.{IsAuditText, IsStatement}
 use Rattle.goo_files.specs.Writes.{Wrote}
 use Rattle.sqlite_wal.specs.Reads.{AreClean}
@@ -16,14 +15,14 @@ use Rattle.goo_cli_registry.specs.Closings.{HoldRegistry, HoldState, HoldsSome, 
 use Rattle.goo_cli_registry.specs.Stopped.{HoldsStopped, IfOpened}
 use Rattle.goo_cli_registry.specs.declared.closing.Left.{Left}
 use Rattle.goo_cli_registry.specs.declared.closing.Left.TheVariants.{Parts, Refused, Whole}
-use Rattle.goo_cli_texts.specs.Declaring.{IsDeclared, IsLeft}
+use Rattle.goo_cli_texts.specs.Declaring.{IsDeclared}
 use Rattle.goo_cli_texts.specs.Promised as rows
 use Rattle.goo_cli_ending.specs.Promised as answer
 use Rattle.goo_cli_http.specs.Endings.{IsCounted, listening_text}
 use Rattle.goo_desk_server.specs.Runs as serving
 use Rattle.goo_desk_lines.specs.Fold.{lines}
 use Rattle.goo_cli_ending.specs.Endings.{status_of}
-use Rattle.goo_cli_files.specs.Imports.{DeclaredIn, LeftIn}
+use Rattle.goo_cli_files.specs.Imports.{DeclaredIn}
 use Rattle.goo_cli_files.specs.Works.{AreAnswered, IsAudited, IsServed, IsStated}
 
 pub wrote_begun : (right : State → List ℕ → Type 0) (had has : Option (List ℕ)) (seen begun : State) → seen ≡ begun → Wrote had has (right seen) → Wrote had has (right begun)
@@ -64,23 +63,10 @@ pub served_promised : {D : Type 0} {g : Ghosts D} (rest : Left D g) (sends : ℕ
 served_promised rest sends was now seen begun new doubts same keeps held sure =
     holds_some rest new doubts (serving.KeepsPromise sends was now begun) (λ none. subst (λ (s : State). serving.KeepsPromise sends was now s new) same (keeps none)) held sure
 
--- what an import left is what the file holds, where the log was copied
-pub left_in : {D : Type 0} {g : Ghosts D} (rest : Left D g) (read : Option (List ℕ)) (had has : Option (List ℕ)) (told : Ending) (seen begun : State) (new : Seen) → seen ≡ begun → IfSome read (λ input. IsLeft told input seen new had has)
-    → IfWhole rest (λ files. HoldState g files new.state) → IfWhole rest (λ files. AreClean g files.log files.db → new.doubts ≡ 0) → IfSome read (λ input. IfOpened rest (LeftIn begun input had has told rest))
-left_in rest None had has told seen begun new same left held sure = tt
-left_in (Refused rest) (Some input) had has told seen begun new same left held sure = tt
-left_in (Parts rest) (Some input) had has told seen begun new same left held sure =
-    let it = subst (λ (s : State). IsLeft told input s new had has) same left in
-    record { rows = it.rows; applied = it.applied; begun = it.begun; held = tt }
-left_in {D} {g} (Whole files) (Some input) had has told seen begun new same left held sure =
-    let it = subst (λ (s : State). IsLeft told input s new had has) same left in
-    record { rows = it.rows; applied = it.applied; begun = it.begun; held = λ clean. subst (HoldRegistry g files) (it.state (sure clean)) (held clean) }
-
 pub declared_begun : {D : Type 0} {g : Ghosts D} (rest : Left D g) (read : Option (List ℕ)) (had has : Option (List ℕ)) (told : Ending) (seen begun new : State) → seen ≡ begun → IfSome read (λ input. IsDeclared input seen new had has told) → IfWhole rest (λ files. HoldState g files new)
-    → IfSome read (λ input. HoldsSome rest (rows.KeepsPromise told input begun)) → IfSome read (λ input. IfOpened rest (LeftIn begun input had has told rest)) → IfSome read (λ input. DeclaredIn begun input had has told rest)
-declared_begun rest None had has told seen begun new same declared held keeps left = tt
-declared_begun rest (Some input) had has told seen begun new same declared held keeps left =
-    record { new = new; declared = subst (λ (s : State). IsDeclared input s new had has told) same declared; held = held; promised = keeps; left = left }
+    → IfSome read (λ input. HoldsSome rest (rows.KeepsPromise told input begun)) → IfSome read (λ input. DeclaredIn begun input had has told rest)
+declared_begun rest None had has told seen begun new same declared held keeps = tt
+declared_begun rest (Some input) had has told seen begun new same declared held keeps = record { new = new; declared = subst (λ (s : State). IsDeclared input s new had has told) same declared; held = held; promised = keeps }
 
 -- the lines of an input, by what a run of them says
 pub answered : {D : Type 0} {g : Ghosts D} (s : State) (read had has : Option (List ℕ)) (told : Ending) (rest : Left D g)
@@ -106,4 +92,4 @@ served s read had has told rest sends was now port count announced counted promi
 -- a registry that was not opened
 pub undeclared : {D : Type 0} {g : Ghosts D} (rest : Leftover D g) (read : Option (List ℕ)) (had has : Option (List ℕ)) (why : Failure) (begun : State) → IfSome read (λ input. DeclaredIn {g = g} begun input had has (Failed why) (Refused rest))
 undeclared rest None had has why begun = tt
-undeclared rest (Some input) had has why begun = record { new = begun; declared = tt; held = tt; promised = tt; left = tt }
+undeclared rest (Some input) had has why begun = record { new = begun; declared = tt; held = tt; promised = tt }

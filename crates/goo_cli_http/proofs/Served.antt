@@ -1,5 +1,5 @@
 -- A server that ended well.
-use Rattle.std.proofs.Common.{◌≡◌, ◌≢◌, ◌+◌, ℕ, arith, refl, sym, subst, List, Option, Result, Ok, Err, OnOk}
+use Rattle.std.proofs.Common.{◌≡◌, ℕ, arith, refl, sym, subst, List, Option, Result, Ok, Err, OnOk}
 use Rattle.goo_spec.specs.State.{State}
 use Rattle.goo_cli_ending.specs.Endings.{status_of}
 use Rattle.goo_cli_ending.specs.declared.ending.Ending.{Ending}

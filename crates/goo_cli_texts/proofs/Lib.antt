@@ -1,4 +1,3 @@
 mod Texts
 mod Callers
 mod PromiseFacts
-mod Leaving

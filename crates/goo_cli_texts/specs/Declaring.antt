@@ -1,20 +1,15 @@
 -- What `declare` does.
-use Rattle.std.specs.Prelude.{◌≡◌, Bool, true, false, ℕ, List, [], Option, None}
+use Rattle.std.specs.Prelude.{◌≡◌, Bool, true, false, ℕ, List, Option, None}
 use Rattle.std.specs.Io.KnownBytes.{Appends}
 use Rattle.goo_spec.specs.State.{State}
 use Rattle.goo_spec.specs.Checks.{issuer}
-use Rattle.goo_files_import.specs.Import.{importing}
 use Rattle.goo_files_import.specs.Stands.{IsImported}
-use Rattle.goo_files_import.specs.Table.{AreFirstRows, AreRows, LacksHeader}
-use Rattle.goo_files_streams.specs.Streams.{AppendsPrefix}
-use Rattle.goo_registry_desk.specs.Desk.{Seen}
 use Rattle.goo_files_import.specs.Report.{report_text}
 use Rattle.goo_files_import.specs.declared.cause.Cause.{Cause}
 use Rattle.goo_files_import.specs.declared.row_result.RowResult.{RowResult}
 use Rattle.goo_cli_ending.specs.declared.ending.Ending.{Ending}
 use Rattle.goo_cli_ending.specs.declared.ending.Ending.TheVariants as ending
-use Rattle.goo_cli_ending.specs.declared.ending.Failure.TheVariants as failure
-use Rattle.goo_cli_texts.specs.Endings.{all_stand, ending_of_import}
+use Rattle.goo_cli_texts.specs.Endings.{all_stand}
 
 -- each row was imported as the issuing body's declaration, the whole report was written, and this is whether all stand
 pub record IsReported (input : List ℕ) (old new : State) (had has : Option (List ℕ)) (all : Bool) : Type 0 where
@@ -39,26 +34,3 @@ abbrev pub Finishes : Option Cause → List RowResult → Option (List ℕ) → 
 Finishes cause rows had has ending.Done = IsSent cause rows had has true
 Finishes cause rows had has ending.PartlyDone = IsSent cause rows had has false
 Finishes cause rows had has _ = Unit {0}
-
--- Which rows were applied, by how an import ended: all of a table, after a fault of the records or of memory its first ones, and none where the input
--- could not be read or lacks its header.
-abbrev pub WereApplied : Ending → List ℕ → List (List (List ℕ)) → Type 0
-WereApplied ending.Done input rows = AreRows input rows
-WereApplied ending.PartlyDone input rows = AreRows input rows
-WereApplied (ending.Failed failure.Write) input rows = AreRows input rows
-WereApplied (ending.Failed failure.Store) input rows = AreFirstRows input rows
-WereApplied (ending.Failed failure.Memory) input rows = AreFirstRows input rows
-WereApplied (ending.Failed failure.Read) input rows = rows ≡ []
-WereApplied (ending.Denied denial) input rows = (rows ≡ []) × LacksHeader input
-WereApplied _ input rows = ⊥
-
--- what an import leaves, however it ended: the state after the rows that were applied, and a beginning of their report
-pub record IsLeft (told : Ending) (input : List ℕ) (old : State) (new : Seen) (had has : Option (List ℕ)) : Type 0 where
-  pub rows : List (List (List ℕ))
-  pub applied : WereApplied told input rows
-  pub state : new.doubts ≡ 0 → new.state ≡ (importing old issuer rows).state
-  pub begun : AppendsPrefix had has (report_text (importing old issuer rows).lines)
-
--- it ends as this cause, or none, lets it end
-abbrev pub EndsBy : Option Cause → Ending → Type 0
-EndsBy cause told = (all : Bool) × (out : Bool) × (told ≡ ending_of_import cause all out)

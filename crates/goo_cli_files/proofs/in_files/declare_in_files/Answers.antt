@@ -6,7 +6,7 @@ use Rattle.goo_spec.specs.Sound.{IsSound}
 use Rattle.goo_store.specs.Versions.{state_held}
 use Rattle.goo_store_lookups.specs.Moments.{moment}
 use Rattle.goo_cli_registry.specs.Closings.{HoldState, IfWhole}
-use Rattle.goo_cli_files.proofs.Works.{declared_begun, left_in, not_refused, rows_promised, undeclared, unopened}
+use Rattle.goo_cli_files.proofs.Works.{declared_begun, not_refused, rows_promised, undeclared, unopened}
 use Rattle.goo_cli_files.proofs.in_files.declare_in_files.Goals as goal
 
 keeps : goal.returns-in-Ok-clause-promised
@@ -31,11 +31,6 @@ returns-in-Ok-clause-done g c = λ clean db holds.
     (c.declare-ending.ensures.done low)
     (subst (λ shelf. IfWhole c.close_registry.result (λ files. HoldState g.D.Disk files (moment (file_state shelf.conn) shelf.refused).state)) c.into_shelf.ensures c.close_registry.ensures.whole)
     (keeps g c clean db holds)
-    (left_in c.close_registry.result (g.R.Read.remaining c.args.reader.now) _ _ _ _ _ _
-    (subst (λ shelf. (moment (file_state shelf.conn) shelf.refused).state ≡ state_held db) (sym c.new-registry.ensures) (c.in-Ok.ensures.state db holds (c.in-Ok.ensures.ready.works before)))
-    (c.declare-ending.ensures.left low)
-    (subst (λ shelf. IfWhole c.close_registry.result (λ files. HoldState g.D.Disk files (moment (file_state shelf.conn) shelf.refused).state)) c.into_shelf.ensures c.close_registry.ensures.whole)
-    (subst (λ shelf. IfWhole c.close_registry.result (λ files. AreClean g.D.Disk files.log files.db → (moment (file_state shelf.conn) shelf.refused).doubts ≡ 0)) c.into_shelf.ensures c.close_registry.ensures.sure))
 
 pub returns-in-Err-clause-done : goal.returns-in-Err-clause-done
 returns-in-Err-clause-done g c = λ clean db holds. undeclared c.in-Err.left (g.R.Read.remaining c.args.reader.now) _ _ c.in-Err.failure (state_held db)
