@@ -90,6 +90,7 @@ class Requests:
                 self.model.apply(ISSUER, {'command': 'declare', 'device': device, 'first_day': first, 'last_day': last, 'gross_wh': gross, 'aux_wh': aux})
             except Wrong:
                 pass
+        rows += [(f'again-{first}', DEVICES[0], first, last, 0, 0), (f'unknown-{first}', gsrn(999), first, last, 0, 0)]        # refused, by two names
         text = 'key,device,first_day,last_day,gross_wh,aux_wh\n' + ''.join(','.join(map(str, row)) + '\n' for row in rows) + 'bad,1,2,3,4,5\n'
         return 'meters', ISSUER, '/v1/declarations', text.encode()
 
