@@ -115,7 +115,7 @@ def as_before(cluster, work):
 
 
 def some(work, count, tag):
-    """Requests one after another: accepted, refused, unreadable, tables; how many were answered."""
+    """Requests one after another: accepted, refused, unreadable, tables; how many were answered, up to one that was not."""
     chance, ops = random.Random(tag), []
     for i in range(count):
         key = f"{tag}-{i}"
@@ -128,6 +128,8 @@ def some(work, count, tag):
             ops.append(work.request(f"C{giver}", 0, "transfer", key, giver=giver + 1, taker=chance.randint(1, 3), first=f"{first:014}", last=f"{first + 1:014}"))
         else:
             ops.append(work.request("ISSUER", 0, "open_account", key, holder="C1"))
+        if not ops[-1]["status"]:
+            break
     return sum(1 for op in ops if op["status"])
 
 

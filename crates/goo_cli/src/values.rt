@@ -12,6 +12,7 @@ use goo_types::registry_code::RegistryCode;
 use goo_types::serial::Serial;
 
 /// Whether a text is decimal digits, one at least. A sign is none.
+/// Rust's reader of numbers takes a sign, so the digits are looked at first.
 fn is_number(text: &str) -> bool
     ensures { result ≡ is_number text.now }
 {

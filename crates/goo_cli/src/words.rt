@@ -1,4 +1,7 @@
 //! The words, by `clap`.
+//!
+//! `clap` gets plain commands without a rule of one option on another, so that its matches are a function of the words. This
+//! crate reads the options.
 ghost use Rattle.std.specs.Prelude.{◌≡◌, Some, None, false, codes, map, IfOk, IfErr};
 ghost use Rattle.clap.specs.Words.{app_of, subcommand_rows_of, with_rule, with_subcommand};
 ghost use Rattle.clap.specs.declared.builder.command.Command.TheViews.{out-Command as fields_of};

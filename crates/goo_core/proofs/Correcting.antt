@@ -1,7 +1,7 @@
 -- Corrections: what their entry comes to, and what they come to on the rows of their range.
 use Rattle.std.proofs.Common.{◌≡◌, ◌∙◌, ℕ, ◌+◌, ◌-◌, ◌*◌, ◌/◌, ◌%◌, ◌≤◌, ◌==◌, List, [], ◌∷◌, Bool, true, false, not, ◌&&◌, if◌then◌else◌, Option, Some, None, Result, Ok, Err, refl, ap, sym, subst, arith}
 use Rattle.std.specs.Prelude.{is_some, nat_lt}
-use Rattle.std.specs.Option.{option_map}
+use Rattle.std.specs.Option.{option_map, option_to_list}
 use Rattle.std.specs.FinMap.{get}
 use Rattle.std.proofs.lemmas.Bool.{ltb-false}
 use Rattle.goo_types.specs.Piece.{Label, at_of}
@@ -85,7 +85,7 @@ module _ (s : State) (caller : List ℕ) (x : Correct) (issuer : is_issuer calle
         subst (IsEntry s caller x) (sym (same ∙ ap (λ (k : ℕ). entry_by k left x) carried)) (by_left left (sym is))
 
 pub ruled_refused : (s : State) (rows : List Piece) (caller : List ℕ) (x : Correct) (r : Refusal) → first_refusal (entry_checks s caller x) ≡ Some r
-    → IsRuling (plain_meaning (correct_refusal s caller x) (correct_reply s x) (with_correction s x).at (λ rows. runs_in (get s.at) x.range)) rows (Refused r)
+    → IsRuling (plain_meaning (correct_refusal s caller x) (correct_reply s x) (with_correction s x).at (λ rows. runs_in (get s.at) x.range) (option_to_list x.range)) rows (Refused r)
 unfolding correct_refusal
 ruled_refused s rows caller x r fails = (
   refl,
@@ -120,9 +120,9 @@ module _ (s : State) (rows : List Piece) (caller : List ℕ) (x : Correct) (kept
   after_by o is = ap (λ r. (taken_out s x r).at) is
 
   pub ruled_unranged : (change : Change) (c : ℕ) → x.range ≡ None → c ≡ (remaining s x.device - x.less) % certificate → change.reply ≡ reply.Corrected c 0 None → change.edits.items ≡ [] → change.notice ≡ None
-      → IsRuling (plain_meaning (correct_refusal s caller x) (correct_reply s x) (with_correction s x).at (λ rows. runs_in (get s.at) x.range)) rows (Passed change)
+      → IsRuling (plain_meaning (correct_refusal s caller x) (correct_reply s x) (with_correction s x).at (λ rows. runs_in (get s.at) x.range) (option_to_list x.range)) rows (Passed change)
   ruled_unranged change c is carried answered edits sent =
-      let none = unturned s.at rows kept in
+      let none = unturned [] s.at rows kept in
       record {
         fresh = refl;
         allowed = refused_by None is;
@@ -131,11 +131,12 @@ module _ (s : State) (rows : List Piece) (caller : List ℕ) (x : Correct) (kept
         rising = rw edits none.rising;
         turned = rw (edits, after_by None is) none.turned;
         few = rw edits (omega arith);
+        small = rw edits tt;
       }
 
   pub ruled_ranged : (met : List Piece) (range : Numbers) (own next c : ℕ) (ruling : Ruling) → x.range ≡ Some range → own ≡ s.own → next ≡ s.next_withdrawal → c ≡ (remaining s x.device - x.less) % certificate → met ≡ meeting range rows
       → IsChangeRuling (first_refusal (range_checks (at_of met) own next x.device range)) (reply.Corrected c (count_of range) (Some next)) None range (withdrawn range next) (account_runs (at_of met) range) met ruling
-      → IsRuling (plain_meaning (correct_refusal s caller x) (correct_reply s x) (with_correction s x).at (λ rows. runs_in (get s.at) x.range)) rows ruling
+      → IsRuling (plain_meaning (correct_refusal s caller x) (correct_reply s x) (with_correction s x).at (λ rows. runs_in (get s.at) x.range) (option_to_list x.range)) rows ruling
   unfolding with_withdrawal
   ruled_ranged met range own next c ruling is code number carried near ruled =
       let act = s.next_withdrawal in
@@ -146,9 +147,10 @@ module _ (s : State) (rows : List Piece) (caller : List ℕ) (x : Correct) (kept
       = subst (λ r. IsChangeRuling (first_refusal (range_checks (at_of met) s.own act x.device range)) r None range (withdrawn range act) (account_runs (at_of met) range) met ruling) (replied (Some range) is c carried) moved in
       let alike : first_refusal (tail (Some range)) ≡ first_refusal (range_checks (at_of met) s.own act x.device range) =
       rw (near, ← absent-alike s.at rows range kept, ← failing-alike (λ lot place. is_lot_of s.own x.device lot) s.at rows range kept, ← failing-alike (λ lot place. is_held place) s.at rows range kept) refl in
-      ruled_change (plain_meaning (correct_refusal s caller x) (correct_reply s x) (with_correction s x).at (λ rows. runs_in (get s.at) x.range)) s.at rows met (first_refusal (range_checks (at_of met) s.own act x.device range)) range (withdrawn range act) (account_runs (at_of met) range) ruling kept near refl
+      ruled_change (plain_meaning (correct_refusal s caller x) (correct_reply s x) (with_correction s x).at (λ rows. runs_in (get s.at) x.range) (option_to_list x.range)) s.at rows met (first_refusal (range_checks (at_of met) s.own act x.device range)) range (withdrawn range act) (account_runs (at_of met) range) ruling kept near refl
       (refused_by (Some range) is ∙ alike)
       (λ n o out. ap (λ (b : Bool). if b then option_map (λ (label : Label). (label.0, Withdrawn (account_of label.1) act)) o else o) out)
       (λ up n. ap (λ (m : Certificates). get m n) (after_by (Some range) is) ∙ get-place_each-range (λ lot place. Withdrawn (account_of place) act) (λ lot place. refl) range s.at n up ∙ same_withdrawn act (inside range.first range.last n) (get s.at n))
       (λ up. let same = met_runs s.at rows met range kept near in let runs : runs_in (get s.at) x.range ≡ account_runs (get s.at) range = ap (runs_in (get s.at)) is in omega (arith, same, runs))
+      (ap option_to_list is)
       here

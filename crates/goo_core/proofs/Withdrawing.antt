@@ -1,5 +1,5 @@
 -- Certificates that are withdrawn run by run.
-use Rattle.std.proofs.Common.{◌≡◌, ◌∙◌, ℕ, ◌+◌, ◌<◌, ◌≤◌, List, [], ◌∷◌, ◌++◌, Bool, true, false, cond, ◌&&◌, if◌then◌else◌, Option, Some, None, refl, ap, sym, subst, arith}
+use Rattle.std.proofs.Common.{◌≡◌, ◌∙◌, ℕ, ◌+◌, ◌<◌, ◌≤◌, List, [], ◌∷◌, ◌++◌, Bool, true, false, cond, ◌&&◌, if◌then◌else◌, Option, Some, None, refl, ap, sym, subst, arith, inr}
 use Rattle.std.specs.Prelude.{not, length, count_by, Vec, Result, Ok, Err, IfOk}
 use Rattle.std.specs.Global.{Global}
 use Rattle.goo_types.specs.declared.fault.Fault.{Fault}
@@ -36,8 +36,11 @@ use Rattle.goo_core.specs.Moves.{IsChangeRuling}
 use Rattle.goo_core.specs.Ruling.{IsRuling, plain_meaning}
 use Rattle.goo_core_checks.specs.declared.ruling.Ruling.{Ruling}
 use Rattle.goo_core.proofs.Rulings.{ruled_change}
-use Rattle.goo_core_checks.specs.Changes.{AreEditsFor}
+use Rattle.goo_core_checks.specs.Changes.{AreEditsFor, AreSmall, IsSmallFor}
 use Rattle.goo_core.specs.Changes.{AreMade}
+use Rattle.goo_ranges.specs.Sparing.{IsSmall}
+use Rattle.goo_ranges.proofs.Sparing.{small-for_more}
+use Rattle.goo_core_checks.proofs.Changing.{small-push}
 use Rattle.goo_core.specs.Withdraw.{withdrawn, run_withdrawn, runs_withdrawn, range_checks, AreCommon}
 use Rattle.goo_core.specs.AccountRuns.{account_in, account_runs}
 use Rattle.goo_core.proofs.AccountRuns.{few_runs, met_runs}
@@ -56,6 +59,7 @@ pub none_made : (range : Numbers) (met : List Piece) (change : ℕ → Option La
 none_made range met change book edits run act apart made = record {
   within = made.within;
   book_is = made.book_is;
+  small = made.small;
   changes = λ n. made.changes n ∙ sym (ap (λ (b : Bool). if b then option_map (λ (label : Label). (label.0, Withdrawn (account_of run.place) act)) (change n (at_of met n)) else change n (at_of met n)) (common_none run range n apart));
 }
 
@@ -76,16 +80,20 @@ module _ (range part : Numbers) (run : Piece) (act : ℕ) (common : AreCommon ru
 
   -- the part of the run that lies in the range, withdrawn by one edit
   pub part_made : (met : List Piece) (change : ℕ → Option Label → Option Label) (old new : List Piece) (es edits : List Edit) (edit : Edit) → edits ≡ es ++ edit ∷ []
-      → IsExact old new edit → IsRising old → IsRising new → (IsApart old → IsApart new) → ((n : ℕ) → at_of new n ≡ moved part.first part.last place n (at_of old n))
+      → IsExact old new edit → IsRising old → IsRising new → (IsApart old → IsApart new) → ((n : ℕ) → at_of new n ≡ moved part.first part.last place n (at_of old n)) → IsSmall part.first part.last old edit
       → AreMade range met change old es → AreMade range met (λ n o. run_withdrawn range act run n (change n o)) new edits
-  part_made met change old new es edits edit are exact was now apart map made =
+  part_made met change old new es edits edit are exact was now apart map small made =
       let one : IsEditWithin range (edited_all es met) edit = subst (λ b. IsEditWithin range b edit) made.book_is (within-of_book range old new edit (moved part.first part.last place) exact was now apart beyond map) in
+      let begins : range.first ≤ part.first = let first = common.0 in omega (arith, first) in
+      let ends : part.last ≤ range.last = let last = common.1 in omega (arith, last) in
+      let few : IsSmallFor (range ∷ []) (edited_all es met) edit = (range, (0, omega arith, refl), small-for_more part.first part.last range.first range.last (edited_all es met) edit begins ends (subst (λ b. IsSmall part.first part.last b edit) made.book_is small)) in
       record {
         within = subst (AreEditsWithin range met) (sym are) (within-push range met es edit made.within one);
         book_is = sym (edited-exact old new edit exact was now) ∙ ap (edited edit) made.book_is ∙ sym (edited_all-push met es edit) ∙ ap (λ l. edited_all l met) (sym are);
         changes = λ n. map n
             ∙ ap (λ (b : Bool). if b then option_map (λ (label : Label). (label.0, place)) (at_of old n) else at_of old n) (common_inside run range part n common)
             ∙ ap (run_withdrawn range act run n) (made.changes n);
+        small = subst (AreSmall (range ∷ []) met) (sym are) (small-push (range ∷ []) met es edit made.small (inr few));
       }
 
 -- one run more
@@ -133,6 +141,7 @@ all_withdrawn range act low (p ∷ ps) n o r same =
 pub withdrawn_edits : (range : Numbers) (act : ℕ) (runs book new : List Piece) (edits : List Edit) → AreAccountRuns book runs → AreMade range book (runs_withdrawn range act runs) new edits → AreEditsFor range book (withdrawn range act) edits
 withdrawn_edits range act runs book new edits are made = record {
   within = made.within;
+  small = made.small;
   changes = λ n. ap (λ l. at_of l n) (sym made.book_is) ∙ made.changes n ∙ all_withdrawn range act 0 runs n (at_of book n) (runs-rise book runs are) (accounts-alike book runs are n);
 }
 
@@ -145,7 +154,7 @@ same_withdrawn act false o = refl
 pub ruled_withdraw : (s : State) (rows met : List Piece) (caller : List ℕ) (x : Withdraw) (next : ℕ) (ruling : Ruling) → AreRowsOf s.at rows
     → is_issuer caller ≡ true → next ≡ s.next_withdrawal → met ≡ meeting x.range rows
     → IsChangeRuling (first_refusal (range_checks (at_of met) next x)) (reply.Withdrawn next (count_of x.range)) None x.range (withdrawn x.range next) (account_runs (at_of met) x.range) met ruling
-    → IsRuling (plain_meaning (withdraw_refusal s caller x) (withdraw_reply s x) (with_withdrawal s x).at (λ rows. account_runs (get s.at) x.range)) rows ruling
+    → IsRuling (plain_meaning (withdraw_refusal s caller x) (withdraw_reply s x) (with_withdrawal s x).at (λ rows. account_runs (get s.at) x.range) (x.range ∷ [])) rows ruling
 unfolding withdraw_refusal withdraw_reply with_withdrawal
 ruled_withdraw s rows met caller x next ruling kept issuer number is ruled =
     let act = s.next_withdrawal in
@@ -155,12 +164,12 @@ ruled_withdraw s rows met caller x next ruling kept issuer number is ruled =
     rw (is, ← absent-alike s.at rows x.range kept, ← failing-alike (λ lot place. is_held place) s.at rows x.range kept) refl in
     let issued : first_refusal (when (not (is_issuer caller)) NotAllowed ∷ range_checks (get s.at) act x) ≡ first_refusal (range_checks (get s.at) act x) =
     ap (λ b. first_refusal (when (not b) NotAllowed ∷ range_checks (get s.at) act x)) issuer in
-    ruled_change (plain_meaning (withdraw_refusal s caller x) (withdraw_reply s x) (with_withdrawal s x).at (λ rows. account_runs (get s.at) x.range)) s.at rows met (first_refusal (range_checks (at_of met) act x)) x.range (withdrawn x.range act) (account_runs (at_of met) x.range) ruling kept is refl
+    ruled_change (plain_meaning (withdraw_refusal s caller x) (withdraw_reply s x) (with_withdrawal s x).at (λ rows. account_runs (get s.at) x.range) (x.range ∷ [])) s.at rows met (first_refusal (range_checks (at_of met) act x)) x.range (withdrawn x.range act) (account_runs (at_of met) x.range) ruling kept is refl
     (issued ∙ alike)
     (λ n o out. ap (λ (b : Bool). if b then option_map (λ (label : Label). (label.0, Withdrawn (account_of label.1) act)) o else o) out)
     (λ up n. get-place_each-range (λ lot place. Withdrawn (account_of place) act) (λ lot place. refl) x.range s.at n up ∙ same_withdrawn act (inside x.range.first x.range.last n) (get s.at n))
     (λ up. let same = met_runs s.at rows met x.range kept is in omega (arith, same))
-    here
+    refl here
 
 pub withdrawn_edits_if : (range : Numbers) (act : ℕ) (runs book new : List Piece) (result : Result (Vec Edit Global) Fault) → range.first ≤ range.last → AreAccountRuns book runs
     → IfOk result (λ edits. AreMade range book (runs_withdrawn range act runs) new edits.items)

@@ -1,5 +1,6 @@
 //! Corrections: their checks, and the certificates that they take back.
 ghost use Rattle.std.specs.Prelude.{◌≡◌, None, Some, [], IfOk, IfErr};
+ghost use Rattle.std.specs.Option.{option_to_list};
 ghost use Rattle.std.specs.FinMap.{get};
 ghost use Rattle.goo_types.specs.Piece.{at_of, IsRising};
 ghost use Rattle.goo_types.specs.declared.fault.Fault.TheVariants.{Memory};
@@ -175,7 +176,7 @@ pub fn judge_correct<S: Shelf>(
     requires ready { IsReady (S.seen shelf.old) }
     requires sound { (S.seen shelf.old).doubts ≡ 0 → IsSound (S.seen shelf.old).state }
     requires rows { (S.seen shelf.old).doubts ≡ 0 → AreRowsOf (S.seen shelf.old).state.at (S.seen shelf.old).rows }
-    ensures { Looks (S.seen shelf.old) (S.seen shelf.new) result (IsRuling (plain_meaning (correct_refusal (S.seen shelf.old).state caller.now correct.now) (correct_reply (S.seen shelf.old).state correct.now) (with_correction (S.seen shelf.old).state correct.now).at (λ rows. runs_in (get (S.seen shelf.old).state.at) correct.now.range)) (S.seen shelf.old).rows) }
+    ensures { Looks (S.seen shelf.old) (S.seen shelf.new) result (IsRuling (plain_meaning (correct_refusal (S.seen shelf.old).state caller.now correct.now) (correct_reply (S.seen shelf.old).state correct.now) (with_correction (S.seen shelf.old).state correct.now).at (λ rows. runs_in (get (S.seen shelf.old).state.at) correct.now.range) (option_to_list correct.now.range)) (S.seen shelf.old).rows) }
 {
     let carry = match enter(shelf, caller, correct)? {
         Ok(carry) => carry,

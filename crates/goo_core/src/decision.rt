@@ -92,7 +92,8 @@ fn decide_fresh<S: Shelf>(
 
 /// Decides on a request. It changes nothing: an accepted request is carried out by committing its plan. A key that is
 /// kept answers first, then the command's checks in their order. A plan edits the rows once at most, but once for each
-/// run of one account that is withdrawn, for each part that is imported, and for each row that expires.
+/// run of one account that is withdrawn, for each part that is imported, and for each row that expires. An edit of a
+/// range deletes and inserts at most two rows more than meet it.
 ///
 /// # Errors
 ///

@@ -1,12 +1,13 @@
 //! Declarations: their checks, and the certificates that they earn (Directive (EU) 2018/2001, Article 19(2)).
 ghost use Rattle.std.specs.Prelude.{◌≡◌, ◌+◌, ◌-◌, ◌≤◌, ◌*◌, ◌/◌, ◌%◌, ◌||◌, true, false, nat_lt};
+ghost use Rattle.std.specs.Option.{option_to_list};
 ghost use Rattle.goo_types.specs.declared.refusal.Refusal.TheVariants.{NumbersExhausted};
 ghost use Rattle.goo_types.specs.declared.command.Declare.{Declare};
 ghost use Rattle.goo_spec.specs.Checks.{is_shut as shut_test};
 ghost use Rattle.goo_spec.specs.Checks.{first_refusal, when};
 ghost use Rattle.goo_spec.specs.Days.{is_before as before_test, are_in_one_month as one_month_test};
 ghost use Rattle.goo_spec.specs.State.{State, serials};
-ghost use Rattle.goo_spec.specs.Declare.{device_checks, earned, lot_of as lot_def, begins_too_early as early_test, most_energy as most};
+ghost use Rattle.goo_spec.specs.Declare.{device_checks, earned, next_number, range_of, lot_of as lot_def, begins_too_early as early_test, most_energy as most};
 ghost use Rattle.goo_spec.specs.Declare.{declare_refusal, declare_reply, with_issue};
 ghost use Rattle.goo_spec.specs.Energy.{lowered, total};
 ghost use Rattle.goo_spec.specs.Sound.{IsSound};
@@ -218,7 +219,7 @@ pub fn judge_declare<S: Shelf>(
     requires ready { IsReady (S.seen shelf.old) }
     requires sound { (S.seen shelf.old).doubts ≡ 0 → IsSound (S.seen shelf.old).state }
     requires rows { (S.seen shelf.old).doubts ≡ 0 → AreRowsOf (S.seen shelf.old).state.at (S.seen shelf.old).rows }
-    ensures { Looks (S.seen shelf.old) (S.seen shelf.new) result (IsRuling (plain_meaning (declare_refusal (S.seen shelf.old).state caller.now declaration.now) (declare_reply (S.seen shelf.old).state declaration.now) (with_issue (S.seen shelf.old).state declaration.now).at (λ rows. 1)) (S.seen shelf.old).rows) }
+    ensures { Looks (S.seen shelf.old) (S.seen shelf.new) result (IsRuling (plain_meaning (declare_refusal (S.seen shelf.old).state caller.now declaration.now) (declare_reply (S.seen shelf.old).state declaration.now) (with_issue (S.seen shelf.old).state declaration.now).at (λ rows. 1) (option_to_list (range_of (next_number (S.seen shelf.old).state) (earned (S.seen shelf.old).state declaration.now)))) (S.seen shelf.old).rows) }
 {
     match appraise(shelf, caller, declaration)? {
         Appraisal::Fails(refusal) => Ok(Ruling::Refused(refusal)),

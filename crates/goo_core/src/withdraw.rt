@@ -1,5 +1,5 @@
 //! Withdrawals: their checks, and the certificates that they take back.
-ghost use Rattle.std.specs.Prelude.{◌≡◌, ℕ, ◌+◌, ◌≤◌, None, List, length, count_by, Option, IfOk, IfErr, OnOk};
+ghost use Rattle.std.specs.Prelude.{◌≡◌, ℕ, ◌+◌, ◌≤◌, None, List, [], ◌∷◌, length, count_by, Option, IfOk, IfErr, OnOk};
 ghost use Rattle.std.specs.FinMap.{get};
 ghost use Rattle.goo_types.specs.Piece.{Label, at_of, IsForward, IsRising};
 ghost use Rattle.goo_types.specs.declared.fault.Fault.TheVariants.{Memory};
@@ -154,7 +154,7 @@ pub fn judge_withdraw<S: Shelf>(
 ) -> Result<Ruling, Fault>
     requires ready { IsReady (S.seen shelf.old) }
     requires rows { (S.seen shelf.old).doubts ≡ 0 → AreRowsOf (S.seen shelf.old).state.at (S.seen shelf.old).rows }
-    ensures { Looks (S.seen shelf.old) (S.seen shelf.new) result (IsRuling (plain_meaning (withdraw_refusal (S.seen shelf.old).state caller.now withdraw.now) (withdraw_reply (S.seen shelf.old).state withdraw.now) (with_withdrawal (S.seen shelf.old).state withdraw.now).at (λ rows. account_runs (get (S.seen shelf.old).state.at) withdraw.now.range)) (S.seen shelf.old).rows) }
+    ensures { Looks (S.seen shelf.old) (S.seen shelf.new) result (IsRuling (plain_meaning (withdraw_refusal (S.seen shelf.old).state caller.now withdraw.now) (withdraw_reply (S.seen shelf.old).state withdraw.now) (with_withdrawal (S.seen shelf.old).state withdraw.now).at (λ rows. account_runs (get (S.seen shelf.old).state.at) withdraw.now.range) (withdraw.now.range ∷ [])) (S.seen shelf.old).rows) }
 {
     if !is_issuer(caller) {
         return Ok(Ruling::Refused(Refusal::NotAllowed));

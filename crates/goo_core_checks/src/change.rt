@@ -4,7 +4,7 @@ ghost use Rattle.std.specs.Prelude.{◌≡◌, ◌≤◌, [], ◌∷◌, length,
 ghost use Rattle.goo_types.specs.Piece.{IsRising};
 ghost use Rattle.goo_types.specs.declared.fault.Fault.TheVariants.{Memory};
 ghost use Rattle.goo_ranges.specs.Change.{moved};
-ghost use Rattle.goo_core_checks.specs.Changes.{AreEditsFor};
+ghost use Rattle.goo_core_checks.specs.Changes.{AreEditsFor, AreSmall};
 
 use goo_ranges::{Book, Edit};
 use goo_types::fault::Fault;
@@ -38,6 +38,7 @@ pub fn move_met(
 ) -> Result<Vec<Edit>, Fault>
     requires { IsRising book }
     ensures edits { IfOk result (λ edits. (range.first ≤ range.last) × AreEditsFor range book (moved range.first range.last place) edits.items × (length edits.items ≤ 1)) }
+    ensures small { IfOk result (λ edits. AreSmall (range ∷ []) book edits.items) }
     ensures memory { IfErr result (λ fault. fault ≡ Memory) }
 {
     let _first = range.first();

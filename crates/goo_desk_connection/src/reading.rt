@@ -10,6 +10,8 @@ use std::io::Read;
 /// Reads until what was read is decided, whatever the reader still has, or to its end. What was read comes to the same as all
 /// that the reader has.
 ///
+/// A body that is short is waited for, also where the target is unknown or the caller has no code.
+///
 /// # Errors
 ///
 /// `Read` where a read fails, `Memory` where there is no room. What was read up to then is lost.

@@ -38,6 +38,8 @@ fn field_value<'b>(buf: &'b [u8], headers: &[HeaderSpan], wanted: &str) -> Occur
 }
 
 /// The value of a field that occurs just once.
+///
+/// Two fields are none: a front door that adds its own caller must not be outvoted by another.
 pub(crate) fn sole_value<'b>(
     buf: &'b [u8],
     headers: &[HeaderSpan],

@@ -127,6 +127,7 @@ pub fn serve<D: Counter, C: Clock, W: Write>(
     ensures told { (D.seen desk.old).refusals ≡ 0 → IsToldIn result (D.seen desk.new).refusals }
     ensures promised { ImportsAreRuns D.imports D.begins → IsSound (D.seen desk.old).state → (D.seen desk.new).lies ≡ 0 → (D.seen desk.new).doubts ≡ 0 → KeepsPromise count (D.seen desk.old).state (D.seen desk.new).state }
 {
+    // Before it tells that it listens: want of memory ends it here, and no connection waits.
     let Ok(routes) = Routes::new(alloc) else {
         return Err(ServerFault::Memory);
     };

@@ -2,6 +2,7 @@
 //!
 //! A stream that a signal interrupts is asked again, a thousand times in a row at most, so each of these calls
 //! ends whatever the stream answers.
+//! The loops of std ask such a stream 2^64 times, and say nothing of what was written before a fault.
 #![tactic(auto)]
 
 ghost use Rattle.std.specs.Prelude.{◌≡◌, ◌≤◌, ◌<◌, ℕ, List, length, take, IfOk, OnOk, OnErr, vec_len};

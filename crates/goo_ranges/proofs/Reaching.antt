@@ -14,7 +14,7 @@ use Rattle.goo_ranges_pieces.proofs.Rest.{drop-piece}
 use Rattle.goo_ranges_pieces.proofs.Rising.{rising-back}
 
 -- the last of some pieces is the one at the index before
-last-taken : (ps front : List Piece) (q : Piece) (i : ℕ) → i ≤ length ps → take i ps ≡ front ++ q ∷ [] → (1 ≤ i) × (q ≡ get_or ps (i - 1) q)
+pub last-taken : (ps front : List Piece) (q : Piece) (i : ℕ) → i ≤ length ps → take i ps ≡ front ++ q ∷ [] → (1 ≤ i) × (q ≡ get_or ps (i - 1) q)
 last-taken ps [] q zero le e = cc
 last-taken ps (x ∷ front) q zero le e = cc
 last-taken [] front q (suc i) le e = absurd (omega arith)
@@ -42,7 +42,7 @@ last-taken (p ∷ ps) (x ∷ front) q (suc (suc i)) le e =
     tail [] = []
     tail (y ∷ ys) = ys
 
-first-dropped : (ps back : List Piece) (q : Piece) (i : ℕ) → drop i ps ≡ q ∷ back → (i < length ps) × (q ≡ get_or ps i q)
+pub first-dropped : (ps back : List Piece) (q : Piece) (i : ℕ) → drop i ps ≡ q ∷ back → (i < length ps) × (q ≡ get_or ps i q)
 first-dropped [] back q zero e = cc
 first-dropped [] back q (suc i) e = cc
 first-dropped (p ∷ ps) back q zero e = (omega arith, cc)
@@ -63,7 +63,7 @@ at-index ps i p n r lt is from to =
     let e : ps ≡ take i ps ++ p ∷ drop (i + 1) ps = sym (take-append-drop i ps) ∙ ap (λ l. take i ps ++ l) (drop-piece ps i p lt is) in
     ap (λ l. at_of l n) e ∙ at-own 0 (take i ps) p (drop (i + 1) ps) n (subst IsRising e r) from to
 
-piece-in : (ps : List Piece) (i : ℕ) (p : Piece) → IsRising ps → i < length ps → p ≡ get_or ps i p → (end_of 0 (take i ps) ≤ p.first) × IsForward p × IsRisingFrom (p.last + 1) (drop (i + 1) ps)
+pub piece-in : (ps : List Piece) (i : ℕ) (p : Piece) → IsRising ps → i < length ps → p ≡ get_or ps i p → (end_of 0 (take i ps) ≤ p.first) × IsForward p × IsRisingFrom (p.last + 1) (drop (i + 1) ps)
 piece-in ps i p r lt is =
     let e : ps ≡ take i ps ++ p ∷ drop (i + 1) ps = sym (take-append-drop i ps) ∙ ap (λ l. take i ps ++ l) (drop-piece ps i p lt is) in
     rising-back 0 (take i ps) (p ∷ drop (i + 1) ps) (subst IsRising e r)

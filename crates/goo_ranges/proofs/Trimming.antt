@@ -7,11 +7,11 @@ use Rattle.goo_ranges_pieces.specs.Touching.{IsTrimmed}
 use Rattle.goo_ranges_pieces.proofs.Joining.{take-piece}
 use Rattle.goo_ranges_pieces.proofs.Rest.{drop-piece}
 
-head-is : (xs : List Piece) (x : Piece) → 0 < length xs → x ≡ get_or xs 0 x → xs ≡ x ∷ remove xs 0
+pub head-is : (xs : List Piece) (x : Piece) → 0 < length xs → x ≡ get_or xs 0 x → xs ≡ x ∷ remove xs 0
 head-is [] x some is = absurd (omega arith)
 head-is (y ∷ xs) x some is = ap (λ p. p ∷ xs) (sym is)
 
-last-is : (xs : List Piece) (x : Piece) → 0 < length xs → x ≡ get_or xs (length xs - 1) x → xs ≡ take (length xs - 1) xs ++ x ∷ []
+pub last-is : (xs : List Piece) (x : Piece) → 0 < length xs → x ≡ get_or xs (length xs - 1) x → xs ≡ take (length xs - 1) xs ++ x ∷ []
 last-is xs x some is =
     let e : length xs - 1 + 1 ≡ length xs = omega arith in
     let whole : take (length xs) xs ≡ xs = all xs in

@@ -4,3 +4,4 @@ pub mod Change
 pub mod Edit
 pub mod Kept
 pub mod Paging
+pub mod Sparing

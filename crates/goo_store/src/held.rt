@@ -28,6 +28,9 @@ fn is_there(found: Result<Option<PieceRow>, Error>) -> Result<bool, Trouble>
 
 impl<S: Alter> SqlShelf<S> {
     /// Whether an account holds a certificate: one statement, which shows one row that it holds.
+    ///
+    /// The statement goes through the index of the account's rows. An index by account and kind would be another version of the
+    /// tables.
     pub(crate) fn look_up_holding(&mut self, account: AccountNo) -> Result<bool, Fault>
         ensures looks { Looks (moment (view S.Store self.old.conn) self.old.refused) (moment (view S.Store self.new.conn) self.new.refused) result (λ holds. holds ≡ list_any (λ p. is_held_by account p.place) (moment (view S.Store self.old.conn) self.old.refused).rows) }
         ensures store { BlamesStore (view S.Store self.old.conn) (view S.Store self.new.conn) self.old.refused result }

@@ -1,4 +1,7 @@
 //! What each device declared, what was taken off it, and what it was issued, in one pass over each of what tells of it.
+//!
+//! Sums of energy have 128 bits: with corrections the certificates no longer bound what was declared, and 73,000 periods of
+//! 10^15 Wh pass 64 bits.
 
 ghost use Rattle.std.specs.Prelude.{◌≡◌, ℕ, ◌+◌, ◌-◌, ◌^◌, ◌%◌, ◌==◌, ◌&&◌, nat_lt, List, cond, map, sum_by, is_ok, IfOk, IsOkUnless};
 ghost use Rattle.goo_types.specs.Number.{code_of};

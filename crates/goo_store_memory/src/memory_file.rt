@@ -110,6 +110,8 @@ impl Disk for MemoryFile {
 }
 
 /// Counts a call that failed for want of memory.
+///
+/// A database over this file tells want of memory as a fault of the store: it knows no other word for a disk.
 fn count(outcome: Result<(), AllocError>, faults: &mut u64) -> io::Result<()>
     ensures variant { is_ok result ≡ is_ok outcome }
     ensures kind { finds_no_room result ≡ false }

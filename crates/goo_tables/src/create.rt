@@ -14,6 +14,10 @@ use goo_tables_rows::put::put;
 use sqlite::{Alter, Error, Transaction};
 
 /// The statements that `create_tables` runs, in turn; `add_tables` runs the last three.
+///
+/// No table ends in a column that may be NULL: a stored row may lack its last columns, and no query tells this from NULL. For
+/// the same reason a peer's code is INT, a key of its own, and not the rowid. The tables of version 2 stand behind the others,
+/// so that all that version 1 had keeps its place.
 fn statement(at: u32) -> &'static str
     requires { at < 18 }
     ensures { result.now ≡ get_or create_texts at [] }

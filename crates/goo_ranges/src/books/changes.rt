@@ -5,6 +5,7 @@ ghost use Rattle.goo_ranges_pieces.specs.Change.{moved, meets, set_to};
 ghost use Rattle.goo_types.specs.Number.{code_of};
 ghost use Rattle.goo_types.specs.Piece.{at_of, IsRising};
 ghost use Rattle.goo_ranges.specs.Edit.{IsExact};
+ghost use Rattle.goo_ranges.specs.Sparing.{IsSparing};
 ghost use Rattle.goo_spec.specs.Runs.{IsApart};
 
 use super::{Book, Kept};
@@ -62,6 +63,7 @@ impl Book {
         ensures exact { IfOk result (IsExact self.old self.new) }
         ensures maximal { OnOk result (IsApart self.old → IsApart self.new) }
         ensures few { IfOk result (λ edit. let most = count_by (meets range.first range.last) self.old + 2 in (length edit.delete.items ≤ most) × (length edit.insert.items ≤ most)) }
+        ensures spares { IfOk result (IsSparing range.first range.last self.old) }
         ensures err { OnErr result (self.new ≡ self.old) }
         ensures memory { IfErr result (λ fault. fault ≡ Fault.Memory) }
     {
@@ -78,6 +80,7 @@ impl Book {
         ensures exact { IfOk result (IsExact self.old self.new) }
         ensures maximal { OnOk result (IsApart self.old → IsApart self.new) }
         ensures few { IfOk result (λ edit. let most = count_by (meets first last) self.old + 2 in (length edit.delete.items ≤ most) × (length edit.insert.items ≤ most)) }
+        ensures spares { IfOk result (IsSparing first last self.old) }
         ensures err { OnErr result (self.new ≡ self.old) }
         ensures memory { IfErr result (λ fault. fault ≡ Fault.Memory) }
     {
@@ -99,6 +102,7 @@ impl Book {
         ensures exact { IfOk result (IsExact self.old self.new) }
         ensures maximal { OnOk result (IsApart self.old → IsApart self.new) }
         ensures few { IfOk result (λ edit. let most = count_by (meets range.first range.last) self.old + 2 in (length edit.delete.items ≤ most) × (length edit.insert.items ≤ most)) }
+        ensures spares { IfOk result (IsSparing range.first range.last self.old) }
         ensures err { OnErr result (self.new ≡ self.old) }
         ensures memory { IfErr result (λ fault. fault ≡ Fault.Memory) }
     {
@@ -121,6 +125,7 @@ impl Book {
         ensures exact { IfOk result (IsExact self.old self.new) }
         ensures maximal { OnOk result (IsApart self.old → IsApart self.new) }
         ensures few { IfOk result (λ edit. let most = count_by (meets first last) self.old + 2 in (length edit.delete.items ≤ most) × (length edit.insert.items ≤ most)) }
+        ensures spares { IfOk result (IsSparing first last self.old) }
         ensures err { OnErr result (self.new ≡ self.old) }
         ensures memory { IfErr result (λ fault. fault ≡ Fault.Memory) }
     {

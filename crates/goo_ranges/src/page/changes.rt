@@ -5,6 +5,7 @@ ghost use Rattle.goo_ranges_pieces.specs.Change.{IsChanged, IsSet, moved, cuts, 
 ghost use Rattle.goo_types.specs.Number.{IsNumber, code_of};
 ghost use Rattle.goo_types.specs.Piece.{label_of, at_of, IsRising};
 ghost use Rattle.goo_ranges.specs.Edit.{IsExact};
+ghost use Rattle.goo_ranges.specs.Sparing.{IsFirstLeftOut, IsLastLeftOut, IsSparing};
 ghost use Rattle.goo_ranges_pieces.specs.Touching.{IsTouched, IsMeeting, IsBegin, IsEnd, IsWidened, IsTrimmed};
 ghost use Rattle.goo_spec.specs.Runs.{IsApart};
 
@@ -55,7 +56,8 @@ impl Page {
     fn trim_first(&self, from: usize, to: usize, insert: &mut Vec<Piece>) -> usize
         requires order { from ≤ to }
         requires bound { to ≤ length self.now }
-        ensures { IsTrimmed self.now from to insert.old.items result to insert.new.items }
+        ensures trimmed { IsTrimmed self.now from to insert.old.items result to insert.new.items }
+        ensures left { IsFirstLeftOut (take (to - from) (drop from self.now)) insert.old.items (take (to - result) (drop result self.now)) insert.new.items }
     {
         if from < to && !insert.is_empty() && is_same(&insert[0], &self.pieces[from]) {
             insert.remove(0);
@@ -69,7 +71,8 @@ impl Page {
     fn trim_last(&self, from: usize, to: usize, insert: &mut Vec<Piece>) -> usize
         requires order { from ≤ to }
         requires bound { to ≤ length self.now }
-        ensures { IsTrimmed self.now from to insert.old.items from result insert.new.items }
+        ensures trimmed { IsTrimmed self.now from to insert.old.items from result insert.new.items }
+        ensures left { IsLastLeftOut (take (to - from) (drop from self.now)) insert.old.items (take (result - from) (drop from self.now)) insert.new.items }
     {
         let count = insert.len();
         if from < to && count > 0 && is_same(&insert[count - 1], &self.pieces[to - 1]) {
@@ -119,6 +122,7 @@ impl Page {
         ensures exact { IfOk result (IsExact self.old self.new) }
         ensures maximal { OnOk result (IsApart self.old → IsApart self.new) }
         ensures few { IfOk result (λ edit. let most = count_by (meets first last) self.old + 2 in (length edit.delete.items ≤ most) × (length edit.insert.items ≤ most)) }
+        ensures spares { IfOk result (IsSparing first last self.old) }
         ensures err { OnErr result (self.new ≡ self.old) }
         ensures memory { IfErr result (λ fault. fault ≡ Fault.Memory) }
     {
@@ -218,6 +222,7 @@ impl Page {
         ensures exact { IfOk result (IsExact self.old self.new) }
         ensures maximal { OnOk result (IsApart self.old → IsApart self.new) }
         ensures few { IfOk result (λ edit. let most = count_by (meets first last) self.old + 2 in (length edit.delete.items ≤ most) × (length edit.insert.items ≤ most)) }
+        ensures spares { IfOk result (IsSparing first last self.old) }
         ensures err { OnErr result (self.new ≡ self.old) }
         ensures memory { IfErr result (λ fault. fault ≡ Fault.Memory) }
     {

@@ -5,6 +5,7 @@ ghost use Rattle.goo_ranges_pieces.specs.Change.{moved, meets, set_to};
 ghost use Rattle.goo_types.specs.Number.{code_of};
 ghost use Rattle.goo_types.specs.Piece.{at_of, IsRising};
 ghost use Rattle.goo_ranges.specs.Edit.{IsExact};
+ghost use Rattle.goo_ranges.specs.Sparing.{IsSparing};
 ghost use Rattle.goo_ranges.specs.Paging.{joined, between, AreFilled, IsWindow};
 ghost use Rattle.goo_spec.specs.Runs.{IsApart};
 
@@ -146,6 +147,7 @@ pub fn reassign_in(
     ensures exact { IfOk result (IsExact (joined pages.old.items) (joined pages.new.items)) }
     ensures maximal { OnOk result (IsApart (joined pages.old.items) → IsApart (joined pages.new.items)) }
     ensures few { IfOk result (λ edit. let most = count_by (meets first last) (joined pages.old.items) + 2 in (length edit.delete.items ≤ most) × (length edit.insert.items ≤ most)) }
+    ensures spares { IfOk result (IsSparing first last (joined pages.old.items)) }
     ensures err { OnErr result (joined pages.new.items ≡ joined pages.old.items) }
     ensures memory { IfErr result (λ fault. fault ≡ Fault.Memory) }
     ensures rising { IsRising (joined pages.new.items) }
@@ -178,6 +180,7 @@ pub fn add_in(
     ensures exact { IfOk result (IsExact (joined pages.old.items) (joined pages.new.items)) }
     ensures maximal { OnOk result (IsApart (joined pages.old.items) → IsApart (joined pages.new.items)) }
     ensures few { IfOk result (λ edit. let most = count_by (meets first last) (joined pages.old.items) + 2 in (length edit.delete.items ≤ most) × (length edit.insert.items ≤ most)) }
+    ensures spares { IfOk result (IsSparing first last (joined pages.old.items)) }
     ensures err { OnErr result (joined pages.new.items ≡ joined pages.old.items) }
     ensures memory { IfErr result (λ fault. fault ≡ Fault.Memory) }
     ensures rising { IsRising (joined pages.new.items) }

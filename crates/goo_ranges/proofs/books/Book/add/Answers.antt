@@ -2,3 +2,6 @@ use Rattle.goo_ranges.proofs.books.Book.add.Goals as goal
 
 pub returns-clause-few : goal.returns-clause-few
 returns-clause-few c = rw (c.first.ensures.value, c.last.ensures.value, c.make_pages.ensures) at c.add_between.ensures.few
+
+pub returns-clause-spares : goal.returns-clause-spares
+returns-clause-spares c = rw (c.first.ensures.value, c.last.ensures.value, c.make_pages.ensures) at c.add_between.ensures.spares

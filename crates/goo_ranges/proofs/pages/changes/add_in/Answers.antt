@@ -5,6 +5,7 @@ use Rattle.goo_ranges_pieces.specs.Change.{set_to}
 use Rattle.goo_ranges.specs.Paging.{joined, between}
 use Rattle.goo_ranges.proofs.Maximal.{apart-front, apart-back}
 use Rattle.goo_ranges.proofs.Paging.{joined-three}
+use Rattle.goo_ranges.proofs.Sparing.{sparing-within}
 use Rattle.goo_ranges.proofs.Windows.{window-rising, window-apart, window-exact, window-few, set-out, window-set}
 use Rattle.goo_ranges.proofs.pages.changes.add_in.Goals as goal
 use Rattle.goo_ranges.proofs.pages.changes.add_in.Goals.{In_ok-put_pieces}
@@ -58,6 +59,11 @@ pub returns-clause-few : goal.returns-clause-few
 returns-clause-few c =
     let k = (goal.at.returns-clause-few c).In_ok-put_pieces in
     rw (← was k) (window-few (front k) (old k) (after k) c.args.first c.args.last c.in_ok-edit.edit (rw c.in_ok-page.ensures at c.in_ok-edit.ensures.few))
+
+pub returns-clause-spares : goal.returns-clause-spares
+returns-clause-spares c =
+    let k = (goal.at.returns-clause-spares c).In_ok-put_pieces in
+    rw (← was k) (sparing-within (front k) (old k) (after k) c.args.first c.args.last c.in_ok-edit.edit (rw c.in_ok-page.ensures at c.in_ok-edit.ensures.spares))
 
 pub returns-clause-rising : goal.returns-clause-rising
 returns-clause-rising c =
