@@ -381,15 +381,23 @@ class Run:
         op["reply"] = json.loads(op["text"]) if op["status"] else {}
         return op
 
+    def begin(self, *words, **fields):
+        """A request without which nothing can be tried."""
+        done = self.request(*words, **fields)
+        if not done["status"]:
+            check("what a trial begins with is answered", False, done)
+            tally.end()
+        return done
+
     def set_up(self):
         for k in range(self.count):
-            self.request("ISSUER", k, "open_holder", f"h{k}", holder=f"C{k}", name=f"Client {k}")
-            self.request("ISSUER", k, "open_account", f"a{k}", holder=f"C{k}")
+            self.begin("ISSUER", k, "open_holder", f"h{k}", holder=f"C{k}", name=f"Client {k}")
+            self.begin("ISSUER", k, "open_account", f"a{k}", holder=f"C{k}")
         self.first = {}
         for k in range(self.count):
-            self.request("ISSUER", k, "register_device", f"d{k}", account=k + 1, capacity_w=2000000000, commissioned="2020-06-15", country="DE", device=gsrn(k + 1),
+            self.begin("ISSUER", k, "register_device", f"d{k}", account=k + 1, capacity_w=2000000000, commissioned="2020-06-15", country="DE", device=gsrn(k + 1),
                          site="North", source="F01010100", support="none", tech="T010000")
-            done = self.request("ISSUER", k, "declare", f"m{k}", device=gsrn(k + 1), first_day=day(0), last_day=day(0), gross_wh=self.certificates * 10**6 + 400000 + k, aux_wh=0)
+            done = self.begin("ISSUER", k, "declare", f"m{k}", device=gsrn(k + 1), first_day=day(0), last_day=day(0), gross_wh=self.certificates * 10**6 + 400000 + k, aux_wh=0)
             self.first[k] = int(done["reply"]["reply"]["first"])
             self.next_day[k] = 1
 
