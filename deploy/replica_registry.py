@@ -3,7 +3,7 @@ import asyncio, collections, errno, functools, select, socket
 
 BROKEN = (OSError, TimeoutError, EOFError, ValueError, LookupError)
 SOON = 1                                    # milliseconds
-TURN = 4                                    # questions after which all others have a turn
+TURN = 16                                   # questions after which all others have a turn
 PART = 1 << 16                              # bytes taken at once
 Answer = collections.namedtuple("Answer", "status kind body allow", defaults=("",))
 

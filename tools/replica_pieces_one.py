@@ -249,6 +249,23 @@ def gone(cluster, work):
     same_as_replay(cluster, "after the clients that went")
 
 
+def slow_senders(cluster, work):
+    """Who has not sent a whole request within ten seconds is cut off, and keeps nobody waiting meanwhile."""
+    host, began, ends, said = cluster.hosts[0], time.monotonic(), [], []
+    halves = [b"", b"POST /v1/req", b"POST /v1/requests HTTP/1.1\r\nHost: goo\r\nGOO-Caller: ISSUER\r\nContent-Length: 50\r\n\r\n{"]
+    with contextlib.ExitStack() as stack:
+        sockets = [stack.enter_context(socket.create_connection(("127.0.0.1", host.port), 30)) for _ in halves]
+        for s, half in zip(sockets, halves):
+            s.sendall(half)
+        done = work.request("ISSUER", 0, "open_account", "beside-slow-senders", holder="C1")
+        for s in sockets:
+            with contextlib.suppress(ConnectionResetError, TimeoutError):
+                said.append(s.recv(100))
+            ends.append(round(time.monotonic() - began, 1))
+    check(f"clients that send half a request are cut off after {ends} s, and another one is answered after {done['answered'] - began:.2f} s",
+          all(9 < end < 15 for end in ends) and not any(said) and done["status"] == 200 and done["answered"] - began < 5, (ends, done))
+
+
 def plain_loop(cluster, work):
     """Without uvloop, which a host may lack, the replica is slower and otherwise the same."""
     host, folder = cluster.hosts[0], cluster.folder / "lacks"
@@ -625,4 +642,4 @@ def slots(cluster, work):
     check("300 files of a place, the slot in hand lost at a power failure: the last synced place stands", not bad, bad[:3])
 
 
-PIECES = [entry_form, slots, roles, as_before, twice, no_registry, crashes, torn_tables, table_cuts, weak, gone, plain_loop, full_disk, set_aside, version, copies, tampered, forged, restored, old_place, shipped, by_ssh, follower, large]
+PIECES = [entry_form, slots, roles, as_before, twice, no_registry, crashes, torn_tables, table_cuts, weak, gone, slow_senders, plain_loop, full_disk, set_aside, version, copies, tampered, forged, restored, old_place, shipped, by_ssh, follower, large]
