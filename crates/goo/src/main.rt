@@ -9,7 +9,7 @@ use crate::files::{Opened, let_go, open_kept, open_new};
 use crate::reason::{Reason, Refusal};
 use goo_cli::{Opening, read_task};
 use goo_cli_ending::{Ending, Failure};
-use goo_cli_files::{Job, Work, copy_of, job_of, serve_in_memory, work_in_files};
+use goo_cli_files::{Job, LocalListener, Work, copy_of, job_of, serve_in_memory, work_in_files};
 use goo_cli_registry::creating::init_in_files;
 use goo_cli_registry::renewal_line::RenewalLine;
 use goo_cli_registry::running::run_in_memory;
@@ -92,7 +92,9 @@ fn perform_job<W: Write + Drop>(
             (ending, None)
         }
         Job::ServeInMemory(opening, serving) => {
-            let ending = serve_in_memory(rt, copy_of(opening), *serving, writer);
+            let mut listener = LocalListener::new(rt);
+            let opening = copy_of(opening);
+            let ending = serve_in_memory(rt.alloc(), opening, *serving, &mut listener, writer);
             (ending, None)
         }
     }
@@ -133,13 +135,15 @@ fn work_at<S: Start, W: Write + Drop>(
         Ok(opened) => {
             let Opened { files, seed, log } = opened;
             let mut line = RenewalLine::new(path, rt.stderr());
+            let mut listener = LocalListener::new(rt);
             let mut reader = rt.reader();
             let mut progress = ProgressLine::new(terminal(rt));
             let (ending, left) = work_in_files(
-                rt,
+                rt.alloc(),
                 files,
                 seed,
                 work,
+                &mut listener,
                 &mut reader,
                 writer,
                 &mut progress,

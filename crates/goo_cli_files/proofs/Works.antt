@@ -18,7 +18,7 @@ use Rattle.goo_cli_registry.specs.declared.closing.Left.TheVariants.{Parts, Refu
 use Rattle.goo_cli_texts.specs.Declaring.{IsDeclared}
 use Rattle.goo_cli_texts.specs.Promised as rows
 use Rattle.goo_cli_ending.specs.Promised as answer
-use Rattle.goo_cli_http.specs.Endings.{listening_text}
+use Rattle.goo_cli_http.specs.Endings.{IsCounted, listening_text}
 use Rattle.goo_desk_server.specs.Runs as serving
 use Rattle.goo_desk_lines.specs.Fold.{lines}
 use Rattle.goo_cli_ending.specs.Endings.{status_of}
@@ -58,10 +58,10 @@ rows_promised rest None told seen begun new doubts same keeps held sure = tt
 rows_promised rest (Some input) told seen begun new doubts same keeps held sure =
     holds_some rest new doubts (rows.KeepsPromise told input begun) (λ none. subst (λ (s : State). rows.KeepsPromise told input s new) same (keeps none)) held sure
 
-pub served_promised : {D : Type 0} {g : Ghosts D} (rest : Left D g) (count : ℕ) (seen begun new : State) (doubts : ℕ) → seen ≡ begun → (doubts ≡ 0 → serving.KeepsPromise count seen new) → IfWhole rest (λ files. HoldState g files new)
-    → IfWhole rest (λ files. AreClean g files.log files.db → doubts ≡ 0) → HoldsSome rest (serving.KeepsPromise count begun)
-served_promised rest count seen begun new doubts same keeps held sure =
-    holds_some rest new doubts (serving.KeepsPromise count begun) (λ none. subst (λ (s : State). serving.KeepsPromise count s new) same (keeps none)) held sure
+pub served_promised : {D : Type 0} {g : Ghosts D} (rest : Left D g) (sends : ℕ → Option (List ℕ)) (was now : ℕ) (seen begun new : State) (doubts : ℕ) → seen ≡ begun → (doubts ≡ 0 → serving.KeepsPromise sends was now seen new)
+    → IfWhole rest (λ files. HoldState g files new) → IfWhole rest (λ files. AreClean g files.log files.db → doubts ≡ 0) → HoldsSome rest (serving.KeepsPromise sends was now begun)
+served_promised rest sends was now seen begun new doubts same keeps held sure =
+    holds_some rest new doubts (serving.KeepsPromise sends was now begun) (λ none. subst (λ (s : State). serving.KeepsPromise sends was now s new) same (keeps none)) held sure
 
 pub declared_begun : {D : Type 0} {g : Ghosts D} (rest : Left D g) (read : Option (List ℕ)) (had has : Option (List ℕ)) (told : Ending) (seen begun new : State) → seen ≡ begun → IfSome read (λ input. IsDeclared input seen new had has told) → IfWhole rest (λ files. HoldState g files new)
     → IfSome read (λ input. HoldsSome rest (rows.KeepsPromise told input begun)) → IfSome read (λ input. DeclaredIn begun input had has told rest)
@@ -85,9 +85,9 @@ pub audited : {D : Type 0} {g : Ghosts D} (s : State) (read had has : Option (Li
     → IfWhole rest (λ files. HoldState g files s) → IsAudited s read had has told rest
 audited s read had has told rest shown silent kept = record { shown = shown; silent = silent; kept = kept }
 
-pub served : {D : Type 0} {g : Ghosts D} (s : State) (read had has : Option (List ℕ)) (told : Ending) (rest : Left D g) (port count : ℕ) → (status_of told ≡ 0 → Appends had has (listening_text port)) → HoldsSome rest (serving.KeepsPromise count s)
-    → IsServed s read had has told rest port count
-served s read had has told rest port count announced promised = record { announced = announced; promised = promised }
+pub served : {D : Type 0} {g : Ghosts D} (s : State) (read had has : Option (List ℕ)) (told : Ending) (rest : Left D g) (sends : ℕ → Option (List ℕ)) (was now port count : ℕ) → (status_of told ≡ 0 → Appends had has (listening_text port))
+    → IsCounted told was now count → HoldsSome rest (serving.KeepsPromise sends was now s) → IsServed s read had has told rest sends was now port count
+served s read had has told rest sends was now port count announced counted promised = record { announced = announced; counted = counted; promised = promised }
 
 -- a registry that was not opened
 pub undeclared : {D : Type 0} {g : Ghosts D} (rest : Leftover D g) (read : Option (List ℕ)) (had has : Option (List ℕ)) (why : Failure) (begun : State) → IfSome read (λ input. DeclaredIn {g = g} begun input had has (Failed why) (Refused rest))

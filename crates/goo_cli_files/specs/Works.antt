@@ -15,7 +15,7 @@ use Rattle.goo_cli_ending.specs.Promised as answered
 use Rattle.goo_cli_registry.specs.declared.closing.Left.{Left}
 use Rattle.goo_cli_registry.specs.Closings.{HoldState, HoldsSome, IfWhole}
 use Rattle.goo_cli_registry.specs.Stopped.{HoldsStopped, IfOpened}
-use Rattle.goo_cli_http.specs.Endings.{listening_text}
+use Rattle.goo_cli_http.specs.Endings.{IsCounted, listening_text}
 use Rattle.goo_cli_files.specs.Imports.{DeclaredIn}
 use Rattle.goo_cli_files.specs.declared.work.Job.{Job}
 use Rattle.goo_cli_files.specs.declared.work.Job.TheVariants as job
@@ -61,15 +61,16 @@ module _ {D : Type 0} {g : Ghosts D} (s : State) (read had has : Option (List �
     pub silent : status_of told ≡ 1 → Keeps had has
     pub kept : IfWhole rest (λ files. HoldState g files s)
 
-  -- it was told at which port, and what is promised holds of the requests that so many connections at most left applied
-  pub record IsServed (port count : ℕ) : Type 0 where
+  -- it was told at which port, as many connections were accepted as asked for, and what is promised holds of the requests that they left applied
+  pub record IsServed (sends : ℕ → Option (List ℕ)) (was now port count : ℕ) : Type 0 where
     pub announced : status_of told ≡ 0 → Appends had has (listening_text port)
-    pub promised : HoldsSome rest (served.KeepsPromise count s)
+    pub counted : IsCounted told was now count
+    pub promised : HoldsSome rest (served.KeepsPromise sends was now s)
 
-  -- what this work comes to, from the state that the files held
-  abbrev pub IsWorked : Work → Type 0
-  IsWorked work.Run = IfSome read AreAnswered
-  IsWorked work.Declare = IfSome read (λ input. DeclaredIn s input had has told rest)
-  IsWorked (work.Statement account) = IsStated account
-  IsWorked work.Audit = IsAudited
-  IsWorked (work.Serve serving) = IsServed serving.port serving.count
+  -- what this work comes to, from the state that the files held, with the connections that were accepted meanwhile
+  abbrev pub IsWorked : (ℕ → Option (List ℕ)) → ℕ → ℕ → Work → Type 0
+  IsWorked sends was now work.Run = IfSome read AreAnswered
+  IsWorked sends was now work.Declare = IfSome read (λ input. DeclaredIn s input had has told rest)
+  IsWorked sends was now (work.Statement account) = IsStated account
+  IsWorked sends was now work.Audit = IsAudited
+  IsWorked sends was now (work.Serve serving) = IsServed sends was now serving.port serving.count

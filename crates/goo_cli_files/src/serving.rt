@@ -10,12 +10,12 @@ ghost use Rattle.goo_tables_rows.specs.Met.{IsInKeyOrder};
 ghost use Rattle.goo_store.specs.Versions.{state_held};
 ghost use Rattle.goo_desk_server.specs.Runs.{KeepsPromise};
 ghost use Rattle.goo_cli_ending.specs.Endings.{status_of};
-ghost use Rattle.goo_cli_http.specs.Endings.{listening_text};
+ghost use Rattle.goo_cli_http.specs.Endings.{IsCounted, listening_text};
 ghost use Rattle.goo_cli_registry.specs.Closings.{HasSpareLog, HoldsSome, IfRefused, IsClean, LeavesRegistry};
 
 use goo_cli::{Opening, Serving};
 use goo_cli_ending::Ending;
-use goo_cli_http::serve_registry;
+use goo_cli_http::{Listener, serve_registry};
 use goo_cli_registry::closing::{Left, close_registry};
 use goo_cli_registry::in_memory::open_in_memory;
 use goo_cli_registry::opening::{begin, failure_of, open_registry};
@@ -24,77 +24,86 @@ use goo_cli_registry::start::Start;
 use goo_registry::Registry;
 use sqlite::{Alter, Connection, Files};
 use sqlite_disk::Disk;
+use std::alloc::Global;
 use std::io::{BufWriter, Write};
 
 /// Serves so many connections by a new registry in a database that is empty, and hands the database back.
-fn serve_new<S: Alter, W: Write + Drop>(
-    rt: &HostRuntime,
+fn serve_new<S: Alter, L: Listener, W: Write + Drop>(
+    alloc: Global,
     conn: Connection<S>,
     opening: Opening,
     serving: Serving,
+    listener: &mut L,
     writer: &mut BufWriter<W>,
 ) -> (Ending, Connection<S>)
     requires outside { conn.in_transaction ≡ false }
     requires ordered { HasCleanDisk (view S.Store conn) → IsInKeyOrder (view S.Store conn).now }
     ensures announced { status_of result.0 ≡ 0 → Appends (writer_contents W.contents writer.old) (writer_contents W.contents writer.new) (listening_text serving.port) }
+    ensures counted { IsCounted result.0 (L.accepted listener.old) (L.accepted listener.new) serving.count }
 {
-    match begin(rt.alloc(), conn, Start::New(opening)) {
+    match begin(alloc, conn, Start::New(opening)) {
         Ok(shelf) => {
             let mut registry = Registry::new(shelf);
-            let ending = serve_registry(rt, &mut registry, serving, writer);
+            let ending = serve_registry(alloc, &mut registry, serving, listener, writer);
             (ending, registry.into_shelf().into_connection())
         }
         Err((conn, fault)) => (Ending::Failed(failure_of(fault)), conn),
     }
 }
 
-/// Serves so many connections by a new registry whose records are tables in memory, and are gone when the program ends.
+/// Serves so many connections of a listener by a new registry whose records are tables in memory, and are gone when the program ends.
 ///
 /// - `announced`: status 0 only where the line is written that tells at which port.
-pub fn serve_in_memory<W: Write + Drop>(
-    rt: &HostRuntime,
+/// - `counted`: status 0 just where as many connections were accepted as asked for, unless the records failed at the last one; never more are.
+pub fn serve_in_memory<L: Listener, W: Write + Drop>(
+    alloc: Global,
     opening: Opening,
     serving: Serving,
+    listener: &mut L,
     writer: &mut BufWriter<W>,
 ) -> Ending
     ensures announced { status_of result ≡ 0 → Appends (writer_contents W.contents writer.old) (writer_contents W.contents writer.new) (listening_text serving.port) }
+    ensures counted { IsCounted result (L.accepted listener.old) (L.accepted listener.new) serving.count }
 {
-    let conn = match open_in_memory(rt.alloc()) {
+    let conn = match open_in_memory(alloc) {
         Ok(conn) => conn,
         Err(failure) => return Ending::Failed(failure),
     };
-    let (ending, _conn) = serve_new(rt, conn, opening, serving, writer);
+    let (ending, _conn) = serve_new(alloc, conn, opening, serving, listener, writer);
     ending
 }
 
-/// Serves so many connections by the registry that files hold, and closes it; `line` tells if it is of version 1. What is said holds so long as the
+/// Serves so many connections of a listener by the registry that files hold, and closes it; `line` tells if it is of version 1. What is said holds so long as the
 /// files returned what was written, and `db` is the database that they held.
 ///
-/// - `announced`: as for [`serve_in_memory`].
+/// - `announced`, `counted`: as for [`serve_in_memory`].
 /// - `promised`: what a registry promises after any list of requests holds of what the files held, the requests that the connections left
-///   applied, and what the file alone holds then, where the log could be copied.
+///   applied, and what the file alone holds then, where the log could be copied. The bytes of each connection are those that its client sent, where the
+///   listener tells them.
 /// - `unharmed`: where there is no registry, no harm came to what the files held, after a crash too: but for a registry of version 1, the same
 ///   registry in version 2 may be found then.
 /// - `copied`: a log that is said to be copied into the database file is.
-pub fn serve_in_files<D: Disk + Drop, W: Write + Drop, E: Write>(
-    rt: &HostRuntime,
+pub fn serve_in_files<D: Disk + Drop, L: Listener, W: Write + Drop, E: Write>(
+    alloc: Global,
     files: Files<D>,
     seed: u64,
     serving: Serving,
+    listener: &mut L,
     writer: &mut BufWriter<W>,
     line: &mut RenewalLine<'_, E>,
 ) -> (Ending, Left<D>)
     requires log { IsTrue (D.Disk.is_usable files.log) }
     requires db { IsTrue (D.Disk.is_usable files.db) }
     ensures announced { status_of result.0 ≡ 0 → Appends (writer_contents W.contents writer.old) (writer_contents W.contents writer.new) (listening_text serving.port) }
-    ensures promised { IsClean result.1 → (db : Trees) → HoldsDatabase (image_of D.Disk files) db → HoldsSome result.1 (KeepsPromise serving.count (state_held db)) }
+    ensures counted { IsCounted result.0 (L.accepted listener.old) (L.accepted listener.new) serving.count }
+    ensures promised { IsClean result.1 → (db : Trees) → HoldsDatabase (image_of D.Disk files) db → HoldsSome result.1 (KeepsPromise (L.sends listener.old) (L.accepted listener.old) (L.accepted listener.new) (state_held db)) }
     ensures unharmed { IsClean result.1 → IfRefused result.1 (LeavesRegistry files) }
     ensures copied { HasSpareLog result.1 }
 {
-    match open_registry(rt.alloc(), files, seed, line) {
+    match open_registry(alloc, files, seed, line) {
         Ok(shelf) => {
             let mut registry = Registry::new(shelf);
-            let ending = serve_registry(rt, &mut registry, serving, writer);
+            let ending = serve_registry(alloc, &mut registry, serving, listener, writer);
             (ending, close_registry(registry.into_shelf()))
         }
         Err((failure, left)) => (Ending::Failed(failure), Left::Refused(left)),

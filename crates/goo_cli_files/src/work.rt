@@ -12,6 +12,7 @@ use crate::in_files::{audit_in_files, declare_in_files, statement_in_files};
 use crate::serving::serve_in_files;
 use goo_cli::{Opening, Records, Serving, Task};
 use goo_cli_ending::Ending;
+use goo_cli_http::Listener;
 use goo_cli_registry::closing::Left;
 use goo_cli_registry::renewal_line::RenewalLine;
 use goo_cli_registry::running::run_in_files;
@@ -19,6 +20,7 @@ use goo_cli_texts::ProgressLine;
 use goo_types::account_no::AccountNo;
 use sqlite::Files;
 use sqlite_disk::Disk;
+use std::alloc::Global;
 use std::io::{BufWriter, Read, Write};
 
 /// What is done with the registry that files hold.
@@ -82,15 +84,16 @@ pub fn job_of<'a>(task: &Task<'a>) -> Job<'a>
 /// version 1. What is said holds so long as the files returned what was written, and `db` is the database that they held.
 ///
 /// - `worked`: what is done is what was asked for: for a statement the account's, for an audit the audit's text, for lines and for rows
-///   what they come to, for connections what is promised of their requests. A statement and an audit leave the registry as it was.
+///   what they come to, for connections what is promised of their requests, and that as many were accepted as asked for. A statement and an audit leave the registry as it was.
 /// - `unharmed`: where there is no registry, no harm came to what the files held, after a crash too: but for a registry of version 1, the same
 ///   registry in version 2 may be found then.
 /// - `copied`: a log that is said to be copied into the database file is.
-pub fn work_in_files<D: Disk + Drop, R: Read, W: Write + Drop, T: Write, E: Write>(
-    rt: &HostRuntime,
+pub fn work_in_files<D: Disk + Drop, L: Listener, R: Read, W: Write + Drop, T: Write, E: Write>(
+    alloc: Global,
     files: Files<D>,
     seed: u64,
     work: &Work,
+    listener: &mut L,
     reader: &mut R,
     writer: &mut BufWriter<W>,
     progress: &mut ProgressLine<T>,
@@ -98,16 +101,17 @@ pub fn work_in_files<D: Disk + Drop, R: Read, W: Write + Drop, T: Write, E: Writ
 ) -> (Ending, Left<D>)
     requires log { IsTrue (D.Disk.is_usable files.log) }
     requires db { IsTrue (D.Disk.is_usable files.db) }
-    ensures worked { IsClean result.1 → (db : Trees) → HoldsDatabase (image_of D.Disk files) db → IsWorked (state_held db) (R.remaining reader.old) (writer_contents W.contents writer.old) (writer_contents W.contents writer.new) result.0 result.1 work.now }
+    ensures worked { IsClean result.1 → (db : Trees) → HoldsDatabase (image_of D.Disk files) db → IsWorked (state_held db) (R.remaining reader.old) (writer_contents W.contents writer.old) (writer_contents W.contents writer.new) result.0 result.1 (L.sends listener.old) (L.accepted listener.old) (L.accepted listener.new) work.now }
     ensures unharmed { IsClean result.1 → IfRefused result.1 (LeavesRegistry files) }
     ensures copied { HasSpareLog result.1 }
 {
-    let alloc = rt.alloc();
     match work {
         Work::Run => run_in_files(alloc, files, seed, reader, writer, line),
         Work::Declare => declare_in_files(alloc, files, seed, reader, writer, progress, line),
         Work::Statement(account) => statement_in_files(alloc, files, seed, *account, writer, line),
         Work::Audit => audit_in_files(alloc, files, seed, writer, line),
-        Work::Serve(serving) => serve_in_files(rt, files, seed, *serving, writer, line),
+        Work::Serve(serving) => {
+            serve_in_files(alloc, files, seed, *serving, listener, writer, line)
+        }
     }
 }

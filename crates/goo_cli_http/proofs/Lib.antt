@@ -1,1 +1,1 @@
-mod Served
+pub mod Served

@@ -1,5 +1,6 @@
 -- How a server ends.
-use Rattle.std.specs.Prelude.{ℕ, List, ◌++◌, codes, decimal, Result, Ok, Err}
+use Rattle.std.specs.Prelude.{◌≡◌, ◌≢◌, ◌≤◌, ◌<◌, ◌+◌, ℕ, List, ◌++◌, codes, decimal, Result, Ok, Err}
+use Rattle.goo_cli_ending.specs.Endings.{status_of}
 use Rattle.goo_cli_ending.specs.declared.ending.Ending.{Ending}
 use Rattle.goo_cli_ending.specs.declared.ending.Ending.TheVariants as ending
 use Rattle.goo_cli_ending.specs.declared.ending.Failure.TheVariants as failure
@@ -17,3 +18,10 @@ ending_of_server (Err server.Memory) = ending.Failed failure.Memory
 -- the line that tells at which port it listens
 abbrev pub listening_text : ℕ → List ℕ
 listening_text port = codes "listening 127.0.0.1:" ++ (decimal port ++ codes "\n")
+
+-- of the connections that were asked for all were accepted where all was done; after a fault fewer were, unless the records failed at the last one
+pub record IsCounted (told : Ending) (was now asked : ℕ) : Type 0 where
+  pub all : status_of told ≡ 0 → now ≡ was + asked
+  pub grown : was ≤ now
+  pub few : now ≤ was + asked
+  pub fewer : status_of told ≢ 0 → told ≢ ending.Failed failure.Store → 0 < asked → now < was + asked

@@ -3,4 +3,5 @@
 
 mod serving;
 
+pub use goo_desk_server::{Listener, LocalListener};
 pub use serving::serve_registry;

@@ -5,15 +5,15 @@ ghost use Rattle.std.specs.Io.KnownBytes.{Appends};
 ghost use Rattle.goo_cli_ending.specs.Endings.{status_of};
 ghost use Rattle.goo_spec.specs.Sound.{IsSound};
 ghost use Rattle.goo_desk_server.specs.Runs.{KeepsPromise};
-ghost use Rattle.goo_cli_http.specs.Endings.{ending_of_server, listening_text};
+ghost use Rattle.goo_cli_http.specs.Endings.{ending_of_server, IsCounted, listening_text};
 
 use goo_cli::Serving;
 use goo_cli_ending::{Ending, Failure};
 use goo_core_shelf::shelf::Shelf;
-use goo_desk_server::{ServerFault, serve};
+use goo_desk_server::{Listener, ServerFault, serve};
 use goo_registry::Registry;
+use std::alloc::Global;
 use std::io::{BufWriter, Write};
-use std::net::TcpListener;
 
 /// How the program ends where a server ended.
 fn ending_of(served: Result<(), ServerFault>) -> Ending
@@ -29,30 +29,33 @@ fn ending_of(served: Result<(), ServerFault>) -> Ending
     }
 }
 
-/// Serves so many connections by a registry, one after another. Where the port can't be had, that is a fault of what is read.
+/// Serves so many connections of a listener by a registry, one after another. Where the port can't be had, that is a fault of what is read.
 ///
 /// - `announced`: status 0 only where the line is written that tells at which port.
-/// - `promised`: what a registry promises after any list of requests holds of those that the connections left applied.
+/// - `counted`: status 0 just where as many connections were accepted as asked for, unless the records failed at the last one; never more are.
+/// - `promised`: what a registry promises after any list of requests holds of those that the connections left applied. The bytes of each connection are
+///   those that its client sent, where the listener tells them.
 /// - `lied`: what keeps the records returned what was written before, where it did so to the end.
-pub fn serve_registry<S: Shelf, W: Write + Drop>(
-    rt: &HostRuntime,
+pub fn serve_registry<S: Shelf, L: Listener, W: Write + Drop>(
+    alloc: Global,
     registry: &mut Registry<S>,
     serving: Serving,
+    listener: &mut L,
     writer: &mut BufWriter<W>,
 ) -> Ending
     ensures words { status_of result ≢ 2 }
     ensures announced { status_of result ≡ 0 → Appends (writer_contents W.contents writer.old) (writer_contents W.contents writer.new) (listening_text serving.port) }
-    ensures promised { IsSound (S.seen registry.old.shelf).state → (S.seen registry.new.shelf).lies ≡ 0 → (S.seen registry.new.shelf).doubts ≡ 0 → KeepsPromise serving.count (S.seen registry.old.shelf).state (S.seen registry.new.shelf).state }
+    ensures counted { IsCounted result (L.accepted listener.old) (L.accepted listener.new) serving.count }
+    ensures promised { IsSound (S.seen registry.old.shelf).state → (S.seen registry.new.shelf).lies ≡ 0 → (S.seen registry.new.shelf).doubts ≡ 0 → KeepsPromise (L.sends listener.old) (L.accepted listener.old) (L.accepted listener.new) (S.seen registry.old.shelf).state (S.seen registry.new.shelf).state }
     ensures lied { (S.seen registry.new.shelf).lies ≡ 0 → (S.seen registry.old.shelf).lies ≡ 0 }
 {
-    let Ok(listener) = TcpListener::bind(rt, ("127.0.0.1", serving.port)) else {
+    if listener.listen(serving.port).is_err() {
         return Ending::Failed(Failure::Read);
-    };
+    }
     let served = serve(
-        rt.alloc(),
-        rt,
+        alloc,
         registry,
-        &listener,
+        listener,
         serving.port,
         serving.count,
         writer,

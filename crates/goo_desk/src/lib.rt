@@ -14,5 +14,5 @@ pub use goo_desk_counter::Counter;
 pub use goo_desk_lines::{LinesFault, Tally, lines_are_a_run, run_lines};
 pub use goo_desk_responses::Status;
 pub use goo_desk_routes::Routes;
-pub use goo_desk_server::{ServerFault, serve, serve_stream};
+pub use goo_desk_server::{Listener, LocalListener, ServerFault, serve};
 pub use law::{connections_are_a_run, denied_see_nothing, one_response};

@@ -11,6 +11,7 @@ use Rattle.goo_desk_counter.specs.Counters.{Showing, Importing, Beginning}
 use Rattle.goo_desk_counter.specs.Tables.{ImportsAreRuns}
 use Rattle.goo_desk_answers.specs.Brought.{AreLeft}
 use Rattle.goo_desk_answers.proofs.BroughtFacts.{Leads, responds_lead, fails_lead}
+use Rattle.goo_files_streams.specs.Streams.{IsWholeOf}
 use Rattle.goo_desk_connection.specs.Promised.{KeepsPromise}
 use Rattle.goo_desk_connection.specs.Reading.{StandsFor}
 use Rattle.goo_desk_connection.specs.Serving.{Connects, IsServed, Leaves}
@@ -28,13 +29,19 @@ module _ (shows : Showing) (imports : Importing) (begins : Beginning) (runs : Im
   leaves_lead : (s : State) (bytes : List ℕ) (new : Seen) → new.lies ≡ 0 → new.doubts ≡ 0 → Leaves shows imports begins s bytes new → Leads (AreLeft bytes) s new.state
   leaves_lead s bytes new honest sure (status, text, served) = served_leads s bytes status text new honest sure served
 
-  by_leaving : (old new : Seen) → new.lies ≡ 0 → new.doubts ≡ 0 → (new ≡ old) ⊎ ((bytes : List ℕ) × Leaves shows imports begins old.state bytes new) → (bytes : List ℕ) × Leads (AreLeft bytes) old.state new.state
-  by_leaving old new honest sure (inl is) = ([], ([], inr (inl refl), All-nil (λ q. Obeys q.command), ap (λ (m : Seen). m.state) is))
-  by_leaving old new honest sure (inr (bytes, leaves)) = (bytes, leaves_lead old.state bytes new honest sure leaves)
+  -- nothing is applied of any bytes, those that a reader tells among them
+  nothing_leads : (known : Option (List ℕ)) (s t : State) → t ≡ s → (bytes : List ℕ) × IsWholeOf known bytes × Leads (AreLeft bytes) s t
+  nothing_leads None s t is = ([], tt, ([], inr (inl refl), All-nil (λ q. Obeys q.command), is))
+  nothing_leads (Some input) s t is = (input, refl, ([], inr (inl refl), All-nil (λ q. Obeys q.command), is))
+
+  by_leaving : (known : Option (List ℕ)) (old new : Seen) → new.lies ≡ 0 → new.doubts ≡ 0 → (new ≡ old) ⊎ ((bytes : List ℕ) × IsWholeOf known bytes × Leaves shows imports begins old.state bytes new)
+      → (bytes : List ℕ) × IsWholeOf known bytes × Leads (AreLeft bytes) old.state new.state
+  by_leaving known old new honest sure (inl is) = nothing_leads known old.state new.state (ap (λ (m : Seen). m.state) is)
+  by_leaving known old new honest sure (inr (bytes, whole, leaves)) = (bytes, whole, leaves_lead old.state bytes new honest sure leaves)
 
   -- whatever the client does
-  pub connects_lead : (old new : Seen) → new.lies ≡ 0 → new.doubts ≡ 0 → Connects shows imports begins old new → (bytes : List ℕ) × Leads (AreLeft bytes) old.state new.state
-  connects_lead old new honest sure connects = by_leaving old new honest sure connects.leaves
+  pub connects_lead : (known : Option (List ℕ)) (old new : Seen) → new.lies ≡ 0 → new.doubts ≡ 0 → Connects shows imports begins known old new → (bytes : List ℕ) × IsWholeOf known bytes × Leads (AreLeft bytes) old.state new.state
+  connects_lead known old new honest sure connects = by_leaving known old new honest sure connects.leaves
 
   -- all that the reader has is known
   pub leaves_promised : (known : Option (List ℕ)) (old new : Seen) (bytes : List ℕ) → StandsFor known bytes → Leaves shows imports begins old.state bytes new → IsSound old.state → new.lies ≡ 0 → new.doubts ≡ 0

@@ -2,7 +2,7 @@
 use Rattle.std.proofs.Common.{◌≡◌, ℕ, List, [], Option, Some, None, Result, Ok, Err, IfErr, IfOk, IfSome, OnOk, OnErr, refl, inl, inr}
 use Rattle.std.proofs.lemmas.List.{append-nil}
 use Rattle.std.specs.Io.KnownBytes.{Appends, Consumes, IsAtEnd}
-use Rattle.goo_files_streams.specs.Streams.{AppendsPrefix}
+use Rattle.goo_files_streams.specs.Streams.{AppendsPrefix, IsWholeOf}
 use Rattle.goo_files_streams.proofs.AppendsFacts.{prefix-whole}
 use Rattle.goo_spec.specs.State.{State}
 use Rattle.goo_registry_desk.specs.Desk.{Seen}
@@ -46,12 +46,6 @@ module _ (shows : Showing) (imports : Importing) (begins : Beginning) where
       → IsApology bytes text → (new.doubts ≡ 0 → Fails imports begins s bytes new.state) → Leaves shows imports begins s bytes new
   excused-leaves s bytes text new apology state = (Unavailable, text, inr (record { unavailable = refl; text_is = apology; state = state }))
 
-  pub bytes-connect : (bytes : List ℕ) (old new : Seen) → Leaves shows imports begins old.state bytes new → (new.doubts ≡ 0 → old.doubts ≡ 0) → (new.lies ≡ 0 → old.lies ≡ 0) → Connects shows imports begins old new
-  bytes-connect bytes old new leaves doubted lied = record { leaves = inr (bytes, leaves); doubted = doubted; lied = lied }
-
-  pub none-connect : (seen : Seen) → Connects shows imports begins seen seen
-  none-connect seen = record { leaves = inl refl; doubted = λ none. none; lied = λ none. none }
-
   pub part-answered : (s : State) (bytes : List ℕ) (status : Status) (text : List ℕ) (new : Seen) (had has : Option (List ℕ))
       → (new.lies ≡ 0 → Responds shows imports s bytes status text new.state) → AppendsPrefix had has text → SendsPart shows imports begins s bytes new had has
   part-answered s bytes status text new had has response prefix = (status, text, inl (record { response = response }), prefix)
@@ -76,6 +70,15 @@ module _ (shows : Showing) (imports : Importing) (begins : Beginning) where
     text_is = let (d, decides, is) = excused.text_is in (d, stands d decides, is);
     state = λ fine. let (d, decides, stops) = excused.state fine in (d, stands d decides, stops);
   })
+
+  -- what was read stands for all that the reader had
+  leaves-stands : (known : Option (List ℕ)) (s : State) (bytes : List ℕ) (new : Seen) → StandsFor known bytes → Leaves shows imports begins s bytes new → (input : List ℕ) × IsWholeOf known input × Leaves shows imports begins s input new
+  leaves-stands None s bytes new stands leaves = (bytes, tt, leaves)
+  leaves-stands (Some input) s bytes new stands (status, text, served) = (input, refl, (status, text, served-stands s bytes input status text new stands served))
+
+  pub bytes-connect : (known : Option (List ℕ)) (bytes : List ℕ) (old new : Seen) → StandsFor known bytes → Leaves shows imports begins old.state bytes new → (new.doubts ≡ 0 → old.doubts ≡ 0) → (new.lies ≡ 0 → old.lies ≡ 0)
+      → Connects shows imports begins known old new
+  bytes-connect known bytes old new stands leaves doubted lied = record { leaves = inr (leaves-stands known old.state bytes new stands leaves); doubted = doubted; lied = lied }
 
   pub sends-stands : {E : Type 0} (r : Result Served E) (known : Option (List ℕ)) (s : State) (bytes : List ℕ) (new : Seen) (had has : Option (List ℕ)) → StandsFor known bytes
       → IfOk r (λ served. Sends shows imports begins s bytes served.status new had has) → IfSome known (λ input. IfOk r (λ served. Sends shows imports begins s input served.status new had has))

@@ -1,7 +1,7 @@
 -- What a connection is sent, and the state that this leaves.
 use Rattle.std.specs.Prelude.{◌≡◌, ◌⊎◌, ℕ, Bool, List, None, Option, Result, Ok, Err}
 use Rattle.std.specs.Io.KnownBytes.{Appends}
-use Rattle.goo_files_streams.specs.Streams.{AppendsPrefix}
+use Rattle.goo_files_streams.specs.Streams.{AppendsPrefix, IsWholeOf}
 use Rattle.goo_spec.specs.State.{State}
 use Rattle.goo_registry_desk.specs.Desk.{Seen}
 use Rattle.goo_desk_heads.specs.Requests.{Decides, Parts, is_for_head}
@@ -39,9 +39,10 @@ module _ (shows : Showing) (imports : Importing) (begins : Beginning) where
   abbrev pub Leaves : State → List ℕ → Seen → Type 0
   Leaves s bytes new = (status : Status) × (text : List ℕ) × IsServed s bytes status text new
 
-  -- What a connection leaves, whatever its client does: all as it was, or what answering some bytes leaves. No doubt and no lie is forgotten.
-  pub record Connects (old new : Seen) : Type 0 where
-    pub leaves : (new ≡ old) ⊎ ((bytes : List ℕ) × Leaves old.state bytes new)
+  -- What a connection leaves, whatever its client does: all as it was, or what answering its bytes leaves, which are those that its reader had, where
+  -- it tells them. No doubt and no lie is forgotten.
+  pub record Connects (known : Option (List ℕ)) (old new : Seen) : Type 0 where
+    pub leaves : (new ≡ old) ⊎ ((bytes : List ℕ) × IsWholeOf known bytes × Leaves old.state bytes new)
     pub doubted : new.doubts ≡ 0 → old.doubts ≡ 0
     pub lied : new.lies ≡ 0 → old.lies ≡ 0
 

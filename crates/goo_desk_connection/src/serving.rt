@@ -74,7 +74,7 @@ pub fn serve_by_routes<D: Counter, R: Read, W: Write>(
     ensures served { IfSome (R.remaining reader.old) (λ input. IfOk result (λ served. Sends D.shows D.imports D.begins (D.seen desk.old).state input served.status (D.seen desk.new) (W.contents writer.old) (W.contents writer.new))) }
     ensures part { IfSome (R.remaining reader.old) (λ input. IfErr result (λ fault. fault ≡ Writing → SendsPart D.shows D.imports D.begins (D.seen desk.old).state input (D.seen desk.new) (W.contents writer.old) (W.contents writer.new))) }
     ensures excuse { IfSome (R.remaining reader.old) (λ input. IfErr result (λ fault. fault ≡ Store → SendsExcuse D.shows D.imports D.begins (D.seen desk.old).state input (D.seen desk.new) (W.contents writer.old) (W.contents writer.new))) }
-    ensures connects { Connects D.shows D.imports D.begins (D.seen desk.old) (D.seen desk.new) }
+    ensures connects { Connects D.shows D.imports D.begins (R.remaining reader.old) (D.seen desk.old) (D.seen desk.new) }
     ensures unapplied { IfErr result (λ fault. IsBeforeAnswer fault → (D.seen desk.new).state ≡ (D.seen desk.old).state) }
     ensures silent { IfErr result (λ fault. IsBeforeAnswer fault → Keeps (W.contents writer.old) (W.contents writer.new)) }
     ensures lied { (D.seen desk.new).lies ≡ 0 → (D.seen desk.old).lies ≡ 0 }
@@ -101,7 +101,7 @@ pub fn serve_one<D: Counter, R: Read, W: Write>(
     ensures served { IfSome (R.remaining reader.old) (λ input. IfOk result (λ served. Sends D.shows D.imports D.begins (D.seen desk.old).state input served.status (D.seen desk.new) (W.contents writer.old) (W.contents writer.new))) }
     ensures part { IfSome (R.remaining reader.old) (λ input. IfErr result (λ fault. fault ≡ Writing → SendsPart D.shows D.imports D.begins (D.seen desk.old).state input (D.seen desk.new) (W.contents writer.old) (W.contents writer.new))) }
     ensures excuse { IfSome (R.remaining reader.old) (λ input. IfErr result (λ fault. fault ≡ Store → SendsExcuse D.shows D.imports D.begins (D.seen desk.old).state input (D.seen desk.new) (W.contents writer.old) (W.contents writer.new))) }
-    ensures connects { Connects D.shows D.imports D.begins (D.seen desk.old) (D.seen desk.new) }
+    ensures connects { Connects D.shows D.imports D.begins (R.remaining reader.old) (D.seen desk.old) (D.seen desk.new) }
     ensures unapplied { IfErr result (λ fault. IsBeforeAnswer fault → (D.seen desk.new).state ≡ (D.seen desk.old).state) }
     ensures silent { IfErr result (λ fault. IsBeforeAnswer fault → Keeps (W.contents writer.old) (W.contents writer.new)) }
     ensures lied { (D.seen desk.new).lies ≡ 0 → (D.seen desk.old).lies ≡ 0 }

@@ -16,10 +16,22 @@ const LEAST: u64 = 1;
 /// # Errors
 ///
 /// Where the clock can't be read, or counts no further.
-pub(crate) fn deadline<C: Clock>(clock: &C) -> Result<Instant> {
+fn deadline<C: Clock>(clock: &C) -> Result<Instant> {
     match Instant::now(clock)?.checked_add(Duration::from_secs(PATIENCE)) {
         Some(until) => Ok(until),
         None => Err(Error::from(ErrorKind::TimedOut)),
+    }
+}
+
+/// The moment that was set, or else one from now on.
+///
+/// # Errors
+///
+/// Where the clock can't be read, or counts no further.
+pub(crate) fn until_when<C: Clock>(clock: &C, until: Option<Instant>) -> Result<Instant> {
+    match until {
+        Some(until) => Ok(until),
+        None => deadline(clock),
     }
 }
 

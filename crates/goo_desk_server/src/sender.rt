@@ -1,4 +1,4 @@
-use crate::deadline::{deadline, time_left};
+use crate::deadline::{time_left, until_when};
 use std::io::{Result, Write};
 use std::net::TcpStream;
 use std::time::{Clock, Instant};
@@ -6,18 +6,10 @@ use std::time::{Clock, Instant};
 /// What a client takes, until a moment that the first write sets. After that each write fails, and before each the stream is told
 /// how long it may wait.
 #[derive(Drop)]
-pub(crate) struct Sender<'a, C: Clock> {
+pub struct Sender<'a, C: Clock> {
     pub(crate) clock: &'a C,
-    pub(crate) stream: &'a TcpStream,
+    pub(crate) stream: TcpStream,
     pub(crate) until: Option<Instant>,
-}
-
-/// The moment that was set, or else one from now on.
-fn until_when<C: Clock>(clock: &C, until: Option<Instant>) -> Result<Instant> {
-    match until {
-        Some(until) => Ok(until),
-        None => deadline(clock),
-    }
 }
 
 impl<'a, C: Clock> Write for Sender<'a, C> {
@@ -26,8 +18,7 @@ impl<'a, C: Clock> Write for Sender<'a, C> {
         self.until = Some(until);
         let left = time_left(self.clock, until)?;
         self.stream.set_write_timeout(Some(left))?;
-        let mut stream = self.stream;
-        stream.write(buf)
+        self.stream.write(buf)
     }
 
     fn flush(&mut self) -> Result<()> {

@@ -1,24 +1,21 @@
 //! A listener's connections, one after another.
 ghost use Rattle.std.specs.Prelude.{◌≡◌, ◌++◌, codes, decimal, OnOk};
 ghost use Rattle.std.specs.Io.KnownBytes.{Appends};
-ghost use Rattle.goo_desk_connection.specs.Serving.{Connects};
 ghost use Rattle.goo_spec.specs.Sound.{IsSound};
 ghost use Rattle.goo_desk_counter.specs.Tables.{ImportsAreRuns};
 ghost use Rattle.goo_desk_server.specs.Runs.{KeepsPromise};
-ghost use Rattle.goo_desk_server.specs.Serving.{IsToldIn, StepsUpTo};
+ghost use Rattle.goo_desk_server.specs.Serving.{IsCounted, IsOneCounted, IsToldIn, StepsTo};
 
-use crate::connection::serve_stream;
+use crate::listener::Listener;
 use crate::server_fault::ServerFault;
 use arrayvec::ArrayString;
-use goo_desk_connection::ServeFault;
+use goo_desk_connection::{ServeFault, serve_by_routes};
 use goo_desk_counter::Counter;
 use goo_desk_routes::Routes;
 use goo_files_streams::{WriteFault, write_whole};
 use itoa::Buffer;
 use std::alloc::Global;
 use std::io::Write;
-use std::net::TcpListener;
-use std::time::Clock;
 
 /// The line that tells where a server listens.
 fn listening(port: u16) -> ArrayString<64>
@@ -44,92 +41,100 @@ fn announce<W: Write>(port: u16, writer: &mut W) -> Result<(), WriteFault>
 }
 
 /// Accepts a connection, serves it and closes it. Whatever is wrong with the client ends this connection alone.
-fn serve_next<D: Counter, C: Clock>(
+fn serve_next<D: Counter, L: Listener>(
     alloc: Global,
     routes: &Routes,
-    clock: &C,
     desk: &mut D,
-    listener: &TcpListener,
+    listener: &mut L,
 ) -> Result<(), ServerFault>
-    ensures connects { Connects D.shows D.imports D.begins (D.seen desk.old) (D.seen desk.new) }
+    ensures counted { IsOneCounted result (L.accepted listener.old) (L.accepted listener.new) }
+    ensures same { L.sends listener.new ≡ L.sends listener.old }
+    ensures steps { StepsTo D.shows D.imports D.begins (L.sends listener.old) (L.accepted listener.old) (L.accepted listener.new) (D.seen desk.old) (D.seen desk.new) }
     ensures lied { (D.seen desk.new).lies ≡ 0 → (D.seen desk.old).lies ≡ 0 }
     ensures told { (D.seen desk.old).refusals ≡ 0 → IsToldIn result (D.seen desk.new).refusals }
 {
-    let Ok((stream, _)) = listener.accept() else {
+    let Ok((mut reader, mut writer)) = listener.accept() else {
         return Err(ServerFault::Accept);
     };
-    match serve_stream(alloc, routes, clock, desk, &stream) {
+    match serve_by_routes(alloc, routes, desk, &mut reader, &mut writer) {
         Err(ServeFault::Store) => Err(ServerFault::Store),
         _ => Ok(()),
     }
 }
 
 /// Serves so many connections in turn.
-fn serve_all<D: Counter, C: Clock>(
+fn serve_all<D: Counter, L: Listener>(
     alloc: Global,
     routes: &Routes,
-    clock: &C,
     desk: &mut D,
-    listener: &TcpListener,
+    listener: &mut L,
     count: u32,
 ) -> Result<(), ServerFault>
-    ensures steps { StepsUpTo D.shows D.imports D.begins count (D.seen desk.old) (D.seen desk.new) }
+    ensures counted { IsCounted result (L.accepted listener.old) (L.accepted listener.new) count }
+    ensures same { L.sends listener.new ≡ L.sends listener.old }
+    ensures steps { StepsTo D.shows D.imports D.begins (L.sends listener.old) (L.accepted listener.old) (L.accepted listener.new) (D.seen desk.old) (D.seen desk.new) }
     ensures lied { (D.seen desk.new).lies ≡ 0 → (D.seen desk.old).lies ≡ 0 }
     ensures told { (D.seen desk.old).refusals ≡ 0 → IsToldIn result (D.seen desk.new).refusals }
 {
     for _ in 0..count {
-        serve_next(alloc, routes, clock, desk, listener)?;
+        serve_next(alloc, routes, desk, listener)?;
     }
     Ok(())
 }
 
 /// Tells where it listens, and serves so many connections in turn.
-fn serve_by_routes<D: Counter, C: Clock, W: Write>(
+fn announce_and_serve<D: Counter, L: Listener, W: Write>(
     alloc: Global,
     routes: &Routes,
-    clock: &C,
     desk: &mut D,
-    listener: &TcpListener,
+    listener: &mut L,
     port: u16,
     count: u32,
     writer: &mut W,
 ) -> Result<(), ServerFault>
     ensures announced { OnOk result (Appends (W.contents writer.old) (W.contents writer.new) (codes "listening 127.0.0.1:" ++ (decimal port ++ codes "\n"))) }
-    ensures steps { StepsUpTo D.shows D.imports D.begins count (D.seen desk.old) (D.seen desk.new) }
+    ensures counted { IsCounted result (L.accepted listener.old) (L.accepted listener.new) count }
+    ensures same { L.sends listener.new ≡ L.sends listener.old }
+    ensures steps { StepsTo D.shows D.imports D.begins (L.sends listener.old) (L.accepted listener.old) (L.accepted listener.new) (D.seen desk.old) (D.seen desk.new) }
     ensures lied { (D.seen desk.new).lies ≡ 0 → (D.seen desk.old).lies ≡ 0 }
     ensures told { (D.seen desk.old).refusals ≡ 0 → IsToldIn result (D.seen desk.new).refusals }
 {
     match announce(port, writer) {
-        Ok(()) => serve_all(alloc, routes, clock, desk, listener, count),
+        Ok(()) => serve_all(alloc, routes, desk, listener, count),
         Err(_) => Err(ServerFault::Write),
     }
 }
 
-/// Tells on `writer` at which port of 127.0.0.1 it listens, and flushes that; then serves `count` connections, one after another.
-/// A connection that fails, or that a deadline cuts off, ends alone. Each connection leaves the registry as answering some request
+/// Tells on `writer` at which port of 127.0.0.1 it listens, and flushes that; then serves `count` connections of a listener, one after
+/// another. A connection that fails, or that a deadline cuts off, ends alone. Each connection leaves the registry as answering its bytes
 /// leaves it, or as it was.
+///
+/// - `counted`: it ends well only once as many connections were accepted as asked for. After a fault fewer were, or the records failed at the last one.
+/// - `promised`: what a registry promises after any list of requests holds of those that the connections left applied. The bytes of each connection are
+///   those that its client sent, where the listener tells them.
 ///
 /// # Errors
 ///
 /// See [`ServerFault`]: after each of them no more connections are served.
-pub fn serve<D: Counter, C: Clock, W: Write>(
+pub fn serve<D: Counter, L: Listener, W: Write>(
     alloc: Global,
-    clock: &C,
     desk: &mut D,
-    listener: &TcpListener,
+    listener: &mut L,
     port: u16,
     count: u32,
     writer: &mut W,
 ) -> Result<(), ServerFault>
     ensures announced { OnOk result (Appends (W.contents writer.old) (W.contents writer.new) (codes "listening 127.0.0.1:" ++ (decimal port ++ codes "\n"))) }
-    ensures steps { StepsUpTo D.shows D.imports D.begins count (D.seen desk.old) (D.seen desk.new) }
+    ensures counted { IsCounted result (L.accepted listener.old) (L.accepted listener.new) count }
+    ensures same { L.sends listener.new ≡ L.sends listener.old }
+    ensures steps { StepsTo D.shows D.imports D.begins (L.sends listener.old) (L.accepted listener.old) (L.accepted listener.new) (D.seen desk.old) (D.seen desk.new) }
     ensures lied { (D.seen desk.new).lies ≡ 0 → (D.seen desk.old).lies ≡ 0 }
     ensures told { (D.seen desk.old).refusals ≡ 0 → IsToldIn result (D.seen desk.new).refusals }
-    ensures promised { ImportsAreRuns D.imports D.begins → IsSound (D.seen desk.old).state → (D.seen desk.new).lies ≡ 0 → (D.seen desk.new).doubts ≡ 0 → KeepsPromise count (D.seen desk.old).state (D.seen desk.new).state }
+    ensures promised { ImportsAreRuns D.imports D.begins → IsSound (D.seen desk.old).state → (D.seen desk.new).lies ≡ 0 → (D.seen desk.new).doubts ≡ 0 → KeepsPromise (L.sends listener.old) (L.accepted listener.old) (L.accepted listener.new) (D.seen desk.old).state (D.seen desk.new).state }
 {
     // Before it tells that it listens: want of memory ends it here, and no connection waits.
     let Ok(routes) = Routes::new(alloc) else {
         return Err(ServerFault::Memory);
     };
-    serve_by_routes(alloc, &routes, clock, desk, listener, port, count, writer)
+    announce_and_serve(alloc, &routes, desk, listener, port, count, writer)
 }

@@ -1,13 +1,14 @@
 //! The tests.
 use crate::asking::{answers, begins, new_registry, tries};
 use crate::cases::{CARRIED, CASES, WORKED};
+use crate::clients::Clients;
 use crate::failing::Failing;
 use crate::wire::{ACCEPTED, APOLOGY, AUDIT, AUDITED, AUDITED_NEW, OPENING, PLANT, REPEATED};
 use goo_core_list::list_shelf::ListShelf;
 use goo_desk_connection::{ServeFault, serve_one};
 use goo_desk_counter::Counter;
 use goo_desk_responses::Status;
-use goo_desk_server::serve;
+use goo_desk_server::{LocalListener, serve};
 use goo_registry::Registry;
 use goo_types::fault::Fault;
 use std::alloc::Global;
@@ -80,16 +81,17 @@ fn each_beginning_of_a_request_is_refused(rt: HostRuntime) {
 
 /// What a server over loopback tells, and what its second client gets: the first is gone in the middle of its request.
 fn asked<D: Counter>(rt: &HostRuntime, desk: &mut D) -> io::Result<(Vec<u8>, String)> {
-    let listener = TcpListener::bind(rt, ("127.0.0.1", 0))?;
-    let address = listener.local_addr()?;
+    let socket = TcpListener::bind(rt, ("127.0.0.1", 0))?;
+    let address = socket.local_addr()?;
     let mut gone = TcpStream::connect(rt, address)?;
     gone.write_all(&OPENING.as_bytes()[..OPENING.len() / 2])?;
     drop(gone);
     let mut client = TcpStream::connect(rt, address)?;
     client.write_all(AUDIT.as_bytes())?;
     client.shutdown(Shutdown::Write)?;
+    let mut listener = LocalListener::over(rt, socket);
     let mut told = Vec::new(rt.alloc());
-    match serve(rt.alloc(), rt, desk, &listener, 8347, 2, &mut told) {
+    match serve(rt.alloc(), desk, &mut listener, 8347, 2, &mut told) {
         Ok(()) => Ok((told, io::read_to_string(rt.alloc(), client)?)),
         Err(_) => Err(io::Error::from(ErrorKind::Other)),
     }
@@ -107,6 +109,22 @@ fn a_listener_on_loopback_serves_its_clients(rt: HostRuntime) {
         Err(_) => false,
     };
     assert!(rt; same, "the audit of a new registry");
+}
+
+#[test]
+fn as_many_clients_are_served_as_were_asked_for(rt: HostRuntime) {
+    let alloc = rt.alloc();
+    let mut registry = new_registry(&rt, alloc);
+    let mut clients = Clients {
+        alloc,
+        text: OPENING.as_bytes(),
+        accepted: 0,
+    };
+    let mut told = Vec::new(alloc);
+    let served = serve(alloc, &mut registry, &mut clients, 8347, 3, &mut told);
+    assert!(rt; served == Ok(()) && clients.accepted == 3, "three clients");
+    let repeated = answers(alloc, &mut registry, OPENING, REPEATED);
+    assert!(rt; repeated, "the first one opened the holder");
 }
 
 #[test]

@@ -1,10 +1,11 @@
-use Rattle.std.proofs.Common.{◌≡◌, subst, sym}
+use Rattle.std.proofs.Common.{◌≡◌, refl, subst, sym}
 use Rattle.sqlite.specs.Files.{file_state}
 use Rattle.sqlite_trees.specs.View.{doubt}
 use Rattle.sqlite_wal.specs.Reads.{AreClean}
 use Rattle.goo_spec.specs.Sound.{IsSound}
 use Rattle.goo_store.specs.Versions.{state_held}
 use Rattle.goo_store_lookups.specs.Moments.{moment}
+use Rattle.goo_cli_http.proofs.Served.{none_counted}
 use Rattle.goo_cli_registry.specs.Closings.{HoldState, IfWhole}
 use Rattle.goo_cli_files.proofs.Works.{not_refused, served_promised}
 use Rattle.goo_cli_files.proofs.serving.serve_in_files.Goals as goal
@@ -13,7 +14,7 @@ pub returns-in-Ok-clause-promised : goal.returns-in-Ok-clause-promised
 returns-in-Ok-clause-promised g c = λ clean db holds.
     let low = subst (λ shelf. doubt (file_state shelf.conn).is_clean ≡ 0) c.into_shelf.ensures (c.close_registry.ensures.clean clean) in
     let before = subst (λ shelf. doubt (file_state shelf.conn).is_clean ≡ 0) c.new-registry.ensures (c.serve_registry-ending.ensures.lied low) in
-    served_promised c.close_registry.result c.args.serving.count _ _ _ _
+    served_promised c.close_registry.result _ _ _ _ _ _ _
     (subst (λ shelf. (moment (file_state shelf.conn) shelf.refused).state ≡ state_held db) (sym c.new-registry.ensures) (c.in-Ok.ensures.state db holds (c.in-Ok.ensures.ready.works before)))
     (c.serve_registry-ending.ensures.promised (subst (λ shelf. IsSound (moment (file_state shelf.conn) shelf.refused).state) (sym c.new-registry.ensures) (c.in-Ok.ensures.sound (c.in-Ok.ensures.ready.works before))) low)
     (subst (λ shelf. IfWhole c.close_registry.result (λ files. HoldState g.D.Disk files (moment (file_state shelf.conn) shelf.refused).state)) c.into_shelf.ensures c.close_registry.ensures.whole)
@@ -21,3 +22,7 @@ returns-in-Ok-clause-promised g c = λ clean db holds.
 
 pub returns-in-Ok-clause-unharmed : goal.returns-in-Ok-clause-unharmed
 returns-in-Ok-clause-unharmed g c clean = not_refused c.close_registry.result _ c.close_registry.ensures.opened
+
+-- nothing is accepted where there is no registry
+pub returns-in-Err-clause-counted : goal.returns-in-Err-clause-counted
+returns-in-Err-clause-counted g c = none_counted _ (g.L.Listener.accepted c.args.listener.now) (g.L.Listener.accepted c.args.listener.now) c.args.serving.count refl

@@ -20,8 +20,8 @@ returns-clause-excuse g c =
 
 pub returns-clause-connects : goal.returns-clause-connects
 returns-clause-connects g c =
-    bytes-connect g.D.Counter.shows g.D.Counter.imports g.D.Counter.begins c.in_ok-bytes.bytes.items (g.D.Desk.seen c.args.desk.now) (g.D.Desk.seen c.serve_bytes.new.desk)
-    (rw c.deref.ensures.value at c.serve_bytes.ensures.leaves) c.serve_bytes.ensures.doubted c.serve_bytes.ensures.lied
+    bytes-connect g.D.Counter.shows g.D.Counter.imports g.D.Counter.begins (g.R.Read.remaining c.args.reader.now) c.in_ok-bytes.bytes.items (g.D.Desk.seen c.args.desk.now) (g.D.Desk.seen c.serve_bytes.new.desk)
+    c.in_ok-bytes.ensures (rw c.deref.ensures.value at c.serve_bytes.ensures.leaves) c.serve_bytes.ensures.doubted c.serve_bytes.ensures.lied
 
 pub returns-in_err-bytes-clause-promised : goal.returns-in_err-bytes-clause-promised
 returns-in_err-bytes-clause-promised g c runs sound honest sure = none_promised (g.R.Read.remaining c.args.reader.now) (g.D.Desk.seen c.args.desk.now).state sound

@@ -1,15 +1,21 @@
-use Rattle.goo_desk_server.proofs.Connecting.{steps-none}
+use Rattle.std.proofs.Common.{refl}
+use Rattle.goo_desk_server.proofs.Connecting.{no_steps}
 use Rattle.goo_desk_server.proofs.Running.{steps_promised}
 use Rattle.goo_desk_server.proofs.server.serve.Goals as goal
 
 pub returns-in_default-clause-steps : goal.returns-in_default-clause-steps
-returns-in_default-clause-steps g c = steps-none g.D.Counter.shows g.D.Counter.imports g.D.Counter.begins c.args.count (g.D.Desk.seen c.args.desk.now)
+returns-in_default-clause-steps g c =
+    let was = g.L.Listener.accepted c.args.listener.now in
+    no_steps g.D.Counter.shows g.D.Counter.imports g.D.Counter.begins (g.L.Listener.sends c.args.listener.now) was was (g.D.Desk.seen c.args.desk.now) refl
 
 pub returns-in_default-clause-promised : goal.returns-in_default-clause-promised
 returns-in_default-clause-promised g c runs sound honest sure =
     let seen = g.D.Desk.seen c.args.desk.now in
-    steps_promised g.D.Counter.shows g.D.Counter.imports g.D.Counter.begins runs c.args.count seen seen (steps-none g.D.Counter.shows g.D.Counter.imports g.D.Counter.begins c.args.count seen) sound honest sure
+    let was = g.L.Listener.accepted c.args.listener.now in
+    let sends = g.L.Listener.sends c.args.listener.now in
+    steps_promised g.D.Counter.shows g.D.Counter.imports g.D.Counter.begins runs sends was was seen seen (no_steps g.D.Counter.shows g.D.Counter.imports g.D.Counter.begins sends was was seen refl) sound honest sure
 
 pub returns-clause-promised : goal.returns-clause-promised
 returns-clause-promised g c runs sound honest sure =
-    steps_promised g.D.Counter.shows g.D.Counter.imports g.D.Counter.begins runs c.args.count (g.D.Desk.seen c.args.desk.now) (g.D.Desk.seen c.serve_by_routes.new.desk) c.serve_by_routes.ensures.steps sound honest sure
+    steps_promised g.D.Counter.shows g.D.Counter.imports g.D.Counter.begins runs (g.L.Listener.sends c.args.listener.now) (g.L.Listener.accepted c.args.listener.now) (g.L.Listener.accepted c.announce_and_serve.new.listener)
+    (g.D.Desk.seen c.args.desk.now) (g.D.Desk.seen c.announce_and_serve.new.desk) c.announce_and_serve.ensures.steps sound honest sure

@@ -1,19 +1,36 @@
-use Rattle.std.proofs.Common.{rules, refl}
-use Rattle.goo_desk_server.proofs.Connecting.{steps-last, steps-more}
+use Rattle.std.proofs.Common.{◌≡◌, ◌∙◌, ◌+◌, ℕ, List, Option, arith, rules, refl, subst}
+use Rattle.goo_desk_server.specs.Serving.{StepsTo}
+use Rattle.goo_desk_server.proofs.Connecting.{counted_err, no_steps, steps_on}
 use Rattle.goo_desk_server.proofs.server.serve_all.Goals as goal
 
 pub loop-init : goal.loop-init
-loop-init g c = (λ none. none, λ none. none, refl)
+loop-init g c =
+    let was = g.L.Listener.accepted c.args.listener.now in (
+      λ none. none,
+      λ none. none,
+      no_steps g.D.Counter.shows g.D.Counter.imports g.D.Counter.begins (g.L.Listener.sends c.args.listener.now) was was (g.D.Desk.seen c.args.desk.now) refl,
+      let e : was ≡ was + 0 = omega arith in e,
+      refl,
+    )
 
 pub returns-in_err-serve_next-clause-steps : goal.returns-in_err-serve_next-clause-steps
 returns-in_err-serve_next-clause-steps g c =
-    steps-last g.D.Counter.shows g.D.Counter.imports g.D.Counter.begins c.args.count c.loop.counter (g.D.Desk.seen c.args.desk.now) (g.D.Desk.seen c.loop.desk) (g.D.Desk.seen c.serve_next.new.desk)
-    (search rules) c.loop.invariant.2 c.serve_next.ensures.connects
+    steps_on g.D.Counter.shows g.D.Counter.imports g.D.Counter.begins (g.L.Listener.sends c.args.listener.now) (g.L.Listener.accepted c.args.listener.now) (g.L.Listener.accepted c.loop.listener) (g.L.Listener.accepted c.serve_next.new.listener)
+    (g.D.Desk.seen c.args.desk.now) (g.D.Desk.seen c.loop.desk) (g.D.Desk.seen c.serve_next.new.desk) c.loop.invariant.2
+    (subst (λ (f : ℕ → Option (List ℕ)). StepsTo g.D.Counter.shows g.D.Counter.imports g.D.Counter.begins f (g.L.Listener.accepted c.loop.listener) (g.L.Listener.accepted c.serve_next.new.listener) (g.D.Desk.seen c.loop.desk) (g.D.Desk.seen c.serve_next.new.desk))
+    c.loop.invariant.4 c.serve_next.ensures.steps)
+
+pub returns-in_err-serve_next-clause-counted : goal.returns-in_err-serve_next-clause-counted
+returns-in_err-serve_next-clause-counted g c = counted_err c.from_residual.result c.in_err-serve_next.field-0.0 _ _ _ _ c.loop.counter (search rules) c.loop.invariant.3 (search rules) c.in_err-serve_next.ensures.counted
 
 pub loop-preserved : goal.loop-preserved
 loop-preserved g c = (
   λ none. c.loop.invariant.0 (c.serve_next.ensures.lied none),
   λ none. c.in_ok-serve_next.ensures.told (c.loop.invariant.1 none),
-  steps-more g.D.Counter.shows g.D.Counter.imports g.D.Counter.begins c.loop.counter (g.D.Desk.seen c.args.desk.now) (g.D.Desk.seen c.loop.desk) (g.D.Desk.seen c.serve_next.new.desk)
-      c.loop.invariant.2 c.serve_next.ensures.connects,
+  steps_on g.D.Counter.shows g.D.Counter.imports g.D.Counter.begins (g.L.Listener.sends c.args.listener.now) (g.L.Listener.accepted c.args.listener.now) (g.L.Listener.accepted c.loop.listener) (g.L.Listener.accepted c.serve_next.new.listener)
+      (g.D.Desk.seen c.args.desk.now) (g.D.Desk.seen c.loop.desk) (g.D.Desk.seen c.serve_next.new.desk) c.loop.invariant.2
+      (subst (λ (f : ℕ → Option (List ℕ)). StepsTo g.D.Counter.shows g.D.Counter.imports g.D.Counter.begins f (g.L.Listener.accepted c.loop.listener) (g.L.Listener.accepted c.serve_next.new.listener) (g.D.Desk.seen c.loop.desk) (g.D.Desk.seen c.serve_next.new.desk))
+      c.loop.invariant.4 c.serve_next.ensures.steps),
+  omega (arith, c.loop.invariant.3, c.in_ok-serve_next.ensures.counted),
+  c.serve_next.ensures.same ∙ c.loop.invariant.4,
 )
