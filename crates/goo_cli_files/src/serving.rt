@@ -15,7 +15,7 @@ ghost use Rattle.goo_cli_registry.specs.Closings.{HasSpareLog, HoldsSome, IfRefu
 
 use goo_cli::{Opening, Serving};
 use goo_cli_ending::Ending;
-use goo_cli_http::{Listener, serve_registry};
+use goo_cli_http::{Listener, LocalListener, serve_registry};
 use goo_cli_registry::closing::{Left, close_registry};
 use goo_cli_registry::in_memory::open_in_memory;
 use goo_cli_registry::opening::{begin, failure_of, open_registry};
@@ -51,19 +51,19 @@ fn serve_new<S: Alter, L: Listener, W: Write + Drop>(
     }
 }
 
-/// Serves so many connections of a listener by a new registry whose records are tables in memory, and are gone when the program ends.
+/// Serves so many connections on 127.0.0.1 by a new registry whose records are tables in memory, and are gone when the program ends.
 ///
 /// - `announced`: status 0 only where the line is written that tells at which port.
 /// - `counted`: status 0 just where as many connections were accepted as asked for, unless the records failed at the last one; never more are.
-pub fn serve_in_memory<L: Listener, W: Write + Drop>(
+pub fn serve_in_memory<W: Write + Drop>(
     alloc: Global,
     opening: Opening,
     serving: Serving,
-    listener: &mut L,
+    listener: &mut LocalListener<'_>,
     writer: &mut BufWriter<W>,
 ) -> Ending
     ensures announced { status_of result ≡ 0 → Appends (writer_contents W.contents writer.old) (writer_contents W.contents writer.new) (listening_text serving.port) }
-    ensures counted { IsCounted result (L.accepted listener.old) (L.accepted listener.new) serving.count }
+    ensures counted { IsCounted result listener.old.accepted listener.new.accepted serving.count }
 {
     let conn = match open_in_memory(alloc) {
         Ok(conn) => conn,

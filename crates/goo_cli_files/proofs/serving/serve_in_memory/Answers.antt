@@ -4,4 +4,4 @@ use Rattle.goo_cli_files.proofs.serving.serve_in_memory.Goals as goal
 
 -- nothing is accepted where there is no registry
 pub returns-in-Err-clause-counted : goal.returns-in-Err-clause-counted
-returns-in-Err-clause-counted g c = none_counted _ (g.L.Listener.accepted c.args.listener.now) (g.L.Listener.accepted c.args.listener.now) c.args.serving.count refl
+returns-in-Err-clause-counted g c = none_counted _ c.args.listener.now.accepted c.args.listener.now.accepted c.args.serving.count refl
