@@ -3,6 +3,7 @@ import asyncio, collections, errno, functools, select, socket
 
 BROKEN = (OSError, TimeoutError, EOFError, ValueError, LookupError)
 SOON = 1                                    # milliseconds
+TURN = 16                                   # questions after which all others have a turn
 PART = 1 << 16                              # bytes taken at once
 Answer = collections.namedtuple("Answer", "status kind body allow", defaults=("",))
 
@@ -16,7 +17,7 @@ class Registry:
     def __init__(self, address):
         """`address` is the path of a socket, or HOST:PORT."""
         self.family, self.address = address_of(address)
-        self.next = None
+        self.next, self.asked = None, 0
 
     async def ask(self, method, target, caller, body=b"", patience=300):
         """The registry's answer, which came whole. Anything else raises one of BROKEN."""
@@ -25,7 +26,9 @@ class Registry:
             talk = Talk(s, method)
             rest = talk.say(head.encode("latin-1") + body)
             self.ahead()
-            await asyncio.sleep(0)              # all others have a turn while the registry is at it
+            self.asked += 1
+            if self.asked % TURN == 0:
+                await asyncio.sleep(0)          # all others have a turn while the registry is at this one
             if answer := talk.soon():
                 return answer
             async with asyncio.timeout(patience):

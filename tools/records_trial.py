@@ -44,7 +44,7 @@ class Tally(tally.Tally):
     def check(self, what, faults):
         """One trial; the first faults are shown."""
         faults = list(faults)
-        return super().check(what, not faults, ''.join(f'\n     {str(fault)[:600]}' for fault in faults[:5]))
+        return self.tell(what, not faults, ''.join(f'\n     {str(fault)[:600]}' for fault in faults[:5]))
 
 
 class Requests:

@@ -6,7 +6,7 @@ import time
 from replica_trial import Cluster, Run, all_holds, check, memory_of
 
 CERTIFICATES = 40000                # of each client at the beginning: some days of requests
-MORE_KB, MORE_FILES = 40 << 10, 8   # what a process may have more at the end than after the first quarter
+MORE_KB, MORE_FILES = 40 << 10, 8   # what a process may have more at the end than after the first quarter, beside a connection for each client
 
 
 def of_processes(cluster):
@@ -47,7 +47,7 @@ def hours(words, count):
         check(f"{seen} operations in {time.monotonic() - began:.0f} s: all clients ended, and all were answered", work.end() and not work.errors and all(op["status"] for op in work.ops), work.errors)
         early = told[(len(told) - 1) // 4]
         grown = {who: (kb - early[who][0], files - early[who][1]) for who, (kb, files) in told[-1].items()}
-        check(f"the replicas have no more memory or open files than after a quarter of the time: {grown}", all(kb < MORE_KB and files < MORE_FILES for who, (kb, files) in grown.items() if who.endswith("replica")), told[-1])
+        check(f"the replicas have no more memory or open files than after a quarter of the time: {grown}", all(kb < MORE_KB and files < MORE_FILES + words.clients for who, (kb, files) in grown.items() if who.endswith("replica")), told[-1])
         check("no process was started again", all(set(host.starts.values()) == {1} for host in cluster.hosts), [dict(host.starts) for host in cluster.hosts])
         check("and all replicas are even", cluster.even(60))
         all_holds(cluster, work)

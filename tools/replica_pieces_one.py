@@ -115,7 +115,7 @@ def as_before(cluster, work):
 
 
 def some(work, count, tag):
-    """Requests one after another: accepted, refused, unreadable, tables; how many were answered."""
+    """Requests one after another: accepted, refused, unreadable, tables; how many were answered, up to one that was not."""
     chance, ops = random.Random(tag), []
     for i in range(count):
         key = f"{tag}-{i}"
@@ -128,6 +128,8 @@ def some(work, count, tag):
             ops.append(work.request(f"C{giver}", 0, "transfer", key, giver=giver + 1, taker=chance.randint(1, 3), first=f"{first:014}", last=f"{first + 1:014}"))
         else:
             ops.append(work.request("ISSUER", 0, "open_account", key, holder="C1"))
+        if not ops[-1]["status"]:
+            break
     return sum(1 for op in ops if op["status"])
 
 
@@ -245,6 +247,23 @@ def gone(cluster, work):
     check(f"40 clients that go before they are answered, {done['entry'] - before - 1} with an entry: none is left, the next one is answered, and nothing is said of them",
           left and done["status"] == 200 and done["entry"] > before + 1 and not said, (left, done, said))
     same_as_replay(cluster, "after the clients that went")
+
+
+def slow_senders(cluster, work):
+    """Who has not sent a whole request within ten seconds is cut off, and keeps nobody waiting meanwhile."""
+    host, began, ends, said = cluster.hosts[0], time.monotonic(), [], []
+    halves = [b"", b"POST /v1/req", b"POST /v1/requests HTTP/1.1\r\nHost: goo\r\nGOO-Caller: ISSUER\r\nContent-Length: 50\r\n\r\n{"]
+    with contextlib.ExitStack() as stack:
+        sockets = [stack.enter_context(socket.create_connection(("127.0.0.1", host.port), 30)) for _ in halves]
+        for s, half in zip(sockets, halves):
+            s.sendall(half)
+        done = work.request("ISSUER", 0, "open_account", "beside-slow-senders", holder="C1")
+        for s in sockets:
+            with contextlib.suppress(ConnectionResetError, TimeoutError):
+                said.append(s.recv(100))
+            ends.append(round(time.monotonic() - began, 1))
+    check(f"clients that send half a request are cut off after {ends} s, and another one is answered after {done['answered'] - began:.2f} s",
+          all(9 < end < 15 for end in ends) and not any(said) and done["status"] == 200 and done["answered"] - began < 5, (ends, done))
 
 
 def plain_loop(cluster, work):
@@ -623,4 +642,4 @@ def slots(cluster, work):
     check("300 files of a place, the slot in hand lost at a power failure: the last synced place stands", not bad, bad[:3])
 
 
-PIECES = [entry_form, slots, roles, as_before, twice, no_registry, crashes, torn_tables, table_cuts, weak, gone, plain_loop, full_disk, set_aside, version, copies, tampered, forged, restored, old_place, shipped, by_ssh, follower, large]
+PIECES = [entry_form, slots, roles, as_before, twice, no_registry, crashes, torn_tables, table_cuts, weak, gone, slow_senders, plain_loop, full_disk, set_aside, version, copies, tampered, forged, restored, old_place, shipped, by_ssh, follower, large]

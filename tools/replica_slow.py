@@ -70,6 +70,17 @@ def peer_urls(cluster, url):
     cluster.even(90)
 
 
+@contextlib.contextmanager
+def by_relays_alone(cluster):
+    """Breaks the lines that go from member to member: a member that was started again may have dialled before it read where its peers are reached now."""
+    for host in cluster.hosts:
+        must(*host.inside("nft", f"table inet direct {{ chain in {{ type filter hook input priority 0; iifname eth0 ip saddr != {cluster.gate.address} tcp dport 2380 reject with tcp reset; }}; }}"))
+    cluster.even(90)
+    yield
+    for host in cluster.hosts:
+        must(*host.inside("nft", "delete table inet direct"))
+
+
 def quickest(work, tag):
     ops = [work.request("ISSUER", n % 3, "open_account", f"{tag}-{n}", holder="C1") for n in range(12)]
     return min(op["answered"] - op["sent"] for op in ops)
@@ -79,6 +90,15 @@ def slow_lines(cluster, work):
     """With a delay on the lines between hosts each write takes as long as a majority is away, and nothing else changes."""
     before, relays = quickest(work, "near"), Relays(cluster)
     peer_urls(cluster, relays.url)
+    with by_relays_alone(cluster):
+        slow(cluster, work, before)
+    peer_urls(cluster, lambda host: f"{host.scheme()}://{host.address}:2380")
+    members = must("ip", "netns", "exec", cluster.hosts[0].ns, "etcdctl", *etcdctl(cluster.hosts[0]), "member", "list")
+    check("with the lines as before, all is well", cluster.even(60) and "2390" not in members and members.count("started") == 3, members)
+
+
+def slow(cluster, work, before):
+    """Writes with the delay, with a member lost besides."""
     far, answered = quickest(work, "far"), some(work, 30, 0, "slow")
     check(f"with {DELAY * 1000:.0f} ms on each line between two hosts the quickest of 12 writes takes {far * 1000:.0f} ms, before {before * 1000:.0f} ms; {answered} of 30 more are answered", far > 2 * DELAY and answered == 30, (far, before, answered))
     cluster.hosts[0].hold("etcd", signal.SIGKILL)
@@ -86,6 +106,3 @@ def slow_lines(cluster, work):
     cluster.hosts[0].release("etcd")
     check("and with one host's etcd killed, writes go on", answered == 10)
     even_dumps(cluster, "after the slow lines")
-    peer_urls(cluster, lambda host: f"{host.scheme()}://{host.address}:2380")
-    members = must("ip", "netns", "exec", cluster.hosts[0].ns, "etcdctl", *etcdctl(cluster.hosts[0]), "member", "list")
-    check("with the lines as before, all is well", cluster.even(60) and "2390" not in members and members.count("started") == 3, members)

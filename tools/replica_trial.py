@@ -171,7 +171,7 @@ class Cluster:
         self.begun, self.room = begun, room     # a registry that is there already; the size of a disk in memory
         self.folder, self.count, self.tls, self.memory = folder, count, tls, memory and os.geteuid() == 0
         self.switch, self.ended, self.delay = f"gr{os.getpid()}-s", False, (0.2, 1.5)
-        self.etcd_state, self.quota, self.gate = "new", 8 << 30, None
+        self.etcd_state, self.quota, self.gate, self.keeper = "new", 8 << 30, None, None
         self.hosts = [Host(self, i) for i in range(1, count + 1)]
         self.chance = random.Random(1)
 
@@ -208,7 +208,8 @@ class Cluster:
             for name in host.names[:-1]:
                 host.start(name)
         self.found()
-        threading.Thread(target=self.supervise, daemon=True).start()
+        self.keeper = threading.Thread(target=self.supervise, daemon=True)
+        self.keeper.start()
         self.even(60)
 
     def found(self):
@@ -288,7 +289,13 @@ class Cluster:
             return list(pool.map(lambda host: dump(host.disk / "goo/registry.db", self.folder / f"copy-{host.name}"), self.hosts))
 
     def __exit__(self, *_):
-        self.ended = True
+        before, self.ended = signal.signal(signal.SIGTERM, signal.SIG_IGN), True        # told to end once more, it would leave the rest behind
+        if self.keeper:
+            self.keeper.join(20)
+        self.take_away()
+        signal.signal(signal.SIGTERM, before)
+
+    def take_away(self):
         for host in self.hosts:
             for name in host.names:
                 host.send(name, signal.SIGCONT), host.send(name, signal.SIGKILL)
@@ -381,15 +388,23 @@ class Run:
         op["reply"] = json.loads(op["text"]) if op["status"] else {}
         return op
 
+    def begin(self, *words, **fields):
+        """A request without which nothing can be tried."""
+        done = self.request(*words, **fields)
+        if not done["status"]:
+            check("what a trial begins with is answered", False, done)
+            tally.end()
+        return done
+
     def set_up(self):
         for k in range(self.count):
-            self.request("ISSUER", k, "open_holder", f"h{k}", holder=f"C{k}", name=f"Client {k}")
-            self.request("ISSUER", k, "open_account", f"a{k}", holder=f"C{k}")
+            self.begin("ISSUER", k, "open_holder", f"h{k}", holder=f"C{k}", name=f"Client {k}")
+            self.begin("ISSUER", k, "open_account", f"a{k}", holder=f"C{k}")
         self.first = {}
         for k in range(self.count):
-            self.request("ISSUER", k, "register_device", f"d{k}", account=k + 1, capacity_w=2000000000, commissioned="2020-06-15", country="DE", device=gsrn(k + 1),
+            self.begin("ISSUER", k, "register_device", f"d{k}", account=k + 1, capacity_w=2000000000, commissioned="2020-06-15", country="DE", device=gsrn(k + 1),
                          site="North", source="F01010100", support="none", tech="T010000")
-            done = self.request("ISSUER", k, "declare", f"m{k}", device=gsrn(k + 1), first_day=day(0), last_day=day(0), gross_wh=self.certificates * 10**6 + 400000 + k, aux_wh=0)
+            done = self.begin("ISSUER", k, "declare", f"m{k}", device=gsrn(k + 1), first_day=day(0), last_day=day(0), gross_wh=self.certificates * 10**6 + 400000 + k, aux_wh=0)
             self.first[k] = int(done["reply"]["reply"]["first"])
             self.next_day[k] = 1
 

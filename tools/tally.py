@@ -40,6 +40,10 @@ class Tally:
 
     def check(self, what, good, seen=''):
         """Counts one trial and tells it, with what was seen where it failed. Whether it is good."""
+        return self.tell(what, good, seen)
+
+    def tell(self, what, good, seen=''):
+        """The same, whatever a tool of its own kind of trials makes of `check`."""
         if not self.count(good):
             print(f'FAILED {what}' + (f': {str(seen)[:self.width]}' if seen != '' else ''), flush=True)
         elif not self.is_quiet:
@@ -52,12 +56,12 @@ class Tally:
             trial()
         except Exception as fault:
             traceback.print_exc()
-            self.check(f'{name}, to its end', False, repr(fault))
+            self.tell(f'{name}, to its end', False, repr(fault))
 
     def skip(self, what, lack):
         """What this machine lacks fails, unless it is left out on purpose."""
         if not is_left_out(lack):
-            self.check(what, False, f'this machine lacks {lack}')
+            self.tell(what, False, f'this machine lacks {lack}')
             return
         self.skipped += 1
         print(f'skip   {what}: {lack}', flush=True)

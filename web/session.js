@@ -22,11 +22,16 @@ const SIGNED_OUT = 'goo_signed_out', HERE = 'path=/; secure; samesite=strict';
  */
 export async function signOut() {
   localStorage.removeItem(`goo/seen/${session.caller}`);
-  const kept = async () => (await fetch('/sign-out', {method: 'POST', cache: 'no-store'})).headers.get('GOO-Kept') ?? '';
   await kept();                                 // the password goes with this answer; the next request no longer has it
   const still = await kept();
   if (still === 'certificate') document.cookie = `${SIGNED_OUT}=yes; ${HERE}`;
   return still;
+}
+
+/** What of the caller came with a request to sign out. A front door of before has no such route, and leaves the password. */
+async function kept() {
+  const answer = await fetch('/sign-out', {method: 'POST', cache: 'no-store'});
+  return answer.status === 204 ? answer.headers.get('GOO-Kept') ?? '' : 'password';
 }
 
 /** Whether somebody has signed out in this browser, with a certificate. */
