@@ -1,5 +1,5 @@
 -- Connections one after another.
-use Rattle.std.proofs.Common.{◌≡◌, ◌≤◌, ◌<◌, ◌+◌, ℕ, zero, suc, List, Option, Result, Ok, Err, IsErrAnd, refl, sym, arith, subst}
+use Rattle.std.proofs.Common.{◌≡◌, ◌<◌, ◌+◌, ℕ, zero, suc, List, Option, Result, Ok, Err, IsErrAnd, refl, sym, arith, subst}
 use Rattle.goo_registry_desk.specs.Desk.{Seen}
 use Rattle.goo_desk_counter.specs.Counters.{Showing, Importing, Beginning}
 use Rattle.goo_desk_connection.specs.Serving.{Connects}

@@ -5,8 +5,7 @@ use Rattle.goo_desk_server.proofs.server.serve_all.Goals as goal
 
 pub loop-init : goal.loop-init
 loop-init g c =
-    let was = g.L.Listener.accepted c.args.listener.now in
-    (
+    let was = g.L.Listener.accepted c.args.listener.now in (
       λ none. none,
       λ none. none,
       no_steps g.D.Counter.shows g.D.Counter.imports g.D.Counter.begins (g.L.Listener.sends c.args.listener.now) was was (g.D.Desk.seen c.args.desk.now) refl,
