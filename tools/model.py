@@ -220,8 +220,7 @@ def requests_in(file):
 
 def model_of(case):
     """The registry that a worked case begins with, and its lines."""
-    serial = int(case.opening[case.opening.index('--next-serial') + 1]) if '--next-serial' in case.opening else 1
-    return Model(mutations.CODE, mutations.TODAY, serial), readings.lines_in(case.requests)
+    return Model(mutations.CODE, mutations.TODAY, case.serial), readings.lines_in(case.requests)
 
 
 def model_after(lines, kept, *begun):

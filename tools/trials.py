@@ -1,11 +1,10 @@
-"""What tools/over-http and tools/on-a-file share: the program, the worked cases, and a table of trials that is run and counted.
+"""What tools with tables of trials share: the program, and a table that is run and counted, over the worked cases where it asks for them.
 
 A trial is a name and a function without arguments. It returns where all is well, and raises Differs with what was wanted and what came, or Missing with
 what this machine lacks for it. Each stands alone, so that `--only NAME` repeats it. What is missing fails the trial, unless the variable GOO_WITHOUT names it.
 """
 import argparse
 import difflib
-import json
 import os
 import re
 import shlex
@@ -18,11 +17,10 @@ import tempfile
 from contextlib import closing, contextmanager
 from pathlib import Path
 
+from cases import CASES, cases_in
 from client import PATIENCE, comes
+from program import TOP
 from tally import Tally, is_left_out
-
-TOP = Path(__file__).resolve().parent.parent
-NEW = ['--code', '7', '--today', '2025-03-01']
 
 
 class Differs(Exception):
@@ -61,39 +59,7 @@ def shown(value):
     return text if len(text) <= 900 else f'{text[:600]} .. {text[-200:]} ({len(text)} characters)'
 
 
-# The worked cases
-
-class Case:
-    """A worked case: who asks what of a new registry, what each is answered, and what is shown in the end where that is written down."""
-
-    def __init__(self, path):
-        self.name = path.stem
-        self.requests = path.read_bytes()
-        self.outcomes = path.with_suffix('.outcomes').read_bytes()
-        serial = path.with_suffix('.serial')
-        self.opening = NEW + (['--next-serial', serial.read_text(encoding='utf-8').strip()] if serial.exists() else [])
-        ending = path.with_suffix('.shown')
-        self.shown = ending.read_text(encoding='utf-8').splitlines() if ending.exists() else None
-
-    def exchanges(self):
-        """Each line with its outcome, both without the line feed; empty lines are no requests."""
-        lines = [line for line in self.requests.split(b'\n') if line]
-        return list(zip(lines, self.outcomes.splitlines(), strict=True))
-
-    def status(self):
-        """The exit status of a run of all lines."""
-        return status_of(self.outcomes.splitlines())
-
-
-def status_of(outcomes):
-    """What a run ends with that gives these outcomes: 1 where one is refused or unreadable."""
-    return int(any(json.loads(outcome)['outcome'] in ('refused', 'unreadable') for outcome in outcomes))
-
-
-def named(cases, name):
-    """The case of this name."""
-    return next(case for case in cases if case.name == name)
-
+# A text by hand
 
 STATEMENT = '''STATEMENT
 registry 07
@@ -226,7 +192,7 @@ def arguments(text, more=()):
     """The command line that both tools have."""
     parser = argparse.ArgumentParser(description=text, formatter_class=argparse.RawDescriptionHelpFormatter)
     add_program(parser)
-    parser.add_argument('--cases', type=Path, default=TOP / 'cases', help='the folder of the worked cases (cases/)')
+    parser.add_argument('--cases', type=Path, default=CASES, help='a folder with NAME.case at any depth (cases/)')
     parser.add_argument('--only', action='append', default=[], metavar='TEXT', help='only trials whose name has this text')
     parser.add_argument('--without', action='append', default=[], metavar='TEXT', help='no trial whose name has this text')
     parser.add_argument('--quick', action='store_true', help='the part that ./check tries')
@@ -235,7 +201,7 @@ def arguments(text, more=()):
         parser.add_argument(*words, **options)
     chosen = parser.parse_args()
     chosen.cases_folder = chosen.cases
-    chosen.cases = [Case(path) for path in sorted(chosen.cases.glob('*.requests'))]
+    chosen.cases = cases_in(chosen.cases)
     if not chosen.cases:
         parser.error('no worked cases there')
     chosen.program = Program(chosen.program) if chosen.list else program_in(parser, chosen)

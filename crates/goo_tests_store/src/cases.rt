@@ -1,23 +1,23 @@
-//! Worked cases, in tables that tools/cases-as-tests writes from cases/.
+//! Worked cases by topic, in tables that tools/cases-as-tests writes from cases/.
 
-mod eighth;
-mod fifth;
-mod first;
-mod fourth;
-mod ninth;
-mod second;
-mod seventh;
-mod sixth;
-mod tenth;
-mod third;
+mod carriers;
+mod correction_limits;
+mod corrections;
+mod deadlines;
+mod declarations;
+mod exchange;
+mod keys_and_bodies;
+mod moves;
+mod notices;
+mod refusals;
 
-pub use eighth::EIGHTH;
-pub use fifth::FIFTH;
-pub use first::FIRST;
-pub use fourth::FOURTH;
-pub use ninth::NINTH;
-pub use second::SECOND;
-pub use seventh::SEVENTH;
-pub use sixth::SIXTH;
-pub use tenth::TENTH;
-pub use third::THIRD;
+pub use carriers::CARRIERS;
+pub use correction_limits::CORRECTION_LIMITS;
+pub use corrections::CORRECTIONS;
+pub use deadlines::DEADLINES;
+pub use declarations::DECLARATIONS;
+pub use exchange::EXCHANGE;
+pub use keys_and_bodies::KEYS_AND_BODIES;
+pub use moves::MOVES;
+pub use notices::NOTICES;
+pub use refusals::REFUSALS;

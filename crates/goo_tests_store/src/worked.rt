@@ -2,7 +2,10 @@
 
 use crate::acts::Act;
 use crate::asking::{asks, plays};
-use crate::cases::{EIGHTH, FIFTH, FIRST, FOURTH, NINTH, SECOND, SEVENTH, SIXTH, TENTH, THIRD};
+use crate::cases::{
+    CARRIERS, CORRECTION_LIMITS, CORRECTIONS, DEADLINES, DECLARATIONS, EXCHANGE, KEYS_AND_BODIES,
+    MOVES, NOTICES, REFUSALS,
+};
 use crate::claims::holds;
 use crate::deeds::is_alike;
 use crate::script::{Line, requests};
@@ -23,7 +26,7 @@ pub type Exchange = (&'static str, &'static str, &'static str);
 /// A worked case for a new registry.
 #[derive(Clone, Copy)]
 pub struct Case {
-    /// Its name among the files of cases/.
+    /// Its name among the cases of its topic.
     pub name: &'static str,
     /// The first serial of its registry.
     pub serial: u64,
@@ -115,51 +118,51 @@ fn are_alike(rt: &impl Abort, alloc: Global, cases: &[Case]) {
 }
 
 #[test]
-fn the_first_cases(rt: HostRuntime) {
-    are_alike(&rt, rt.alloc(), &FIRST)
+fn cases_of_keys_and_bodies(rt: HostRuntime) {
+    are_alike(&rt, rt.alloc(), &KEYS_AND_BODIES)
 }
 
 #[test]
-fn the_second_cases(rt: HostRuntime) {
-    are_alike(&rt, rt.alloc(), &SECOND)
+fn cases_of_refusals(rt: HostRuntime) {
+    are_alike(&rt, rt.alloc(), &REFUSALS)
 }
 
 #[test]
-fn the_third_cases(rt: HostRuntime) {
-    are_alike(&rt, rt.alloc(), &THIRD)
+fn cases_of_declarations(rt: HostRuntime) {
+    are_alike(&rt, rt.alloc(), &DECLARATIONS)
 }
 
 #[test]
-fn the_fourth_cases(rt: HostRuntime) {
-    are_alike(&rt, rt.alloc(), &FOURTH)
+fn cases_of_corrections(rt: HostRuntime) {
+    are_alike(&rt, rt.alloc(), &CORRECTIONS)
 }
 
 #[test]
-fn the_fifth_cases(rt: HostRuntime) {
-    are_alike(&rt, rt.alloc(), &FIFTH)
+fn cases_of_correction_limits(rt: HostRuntime) {
+    are_alike(&rt, rt.alloc(), &CORRECTION_LIMITS)
 }
 
 #[test]
-fn the_sixth_cases(rt: HostRuntime) {
-    are_alike(&rt, rt.alloc(), &SIXTH)
+fn cases_of_moves(rt: HostRuntime) {
+    are_alike(&rt, rt.alloc(), &MOVES)
 }
 
 #[test]
-fn the_seventh_cases(rt: HostRuntime) {
-    are_alike(&rt, rt.alloc(), &SEVENTH)
+fn cases_of_deadlines(rt: HostRuntime) {
+    are_alike(&rt, rt.alloc(), &DEADLINES)
 }
 
 #[test]
-fn the_eighth_cases(rt: HostRuntime) {
-    are_alike(&rt, rt.alloc(), &EIGHTH)
+fn cases_of_carriers(rt: HostRuntime) {
+    are_alike(&rt, rt.alloc(), &CARRIERS)
 }
 
 #[test]
-fn the_ninth_cases(rt: HostRuntime) {
-    are_alike(&rt, rt.alloc(), &NINTH)
+fn cases_of_exchange(rt: HostRuntime) {
+    are_alike(&rt, rt.alloc(), &EXCHANGE)
 }
 
 #[test]
-fn the_tenth_cases(rt: HostRuntime) {
-    are_alike(&rt, rt.alloc(), &TENTH)
+fn cases_of_notices(rt: HostRuntime) {
+    are_alike(&rt, rt.alloc(), &NOTICES)
 }
