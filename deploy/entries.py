@@ -6,11 +6,22 @@ entry before. Its own hash is the SHA-256 of that line without the line end. `ma
 
 Every line is in one form: members in the order written here, no spaces, UTF-8. So the same entry has one text and one hash.
 """
-import base64, datetime, functools, gzip, hashlib, hmac, json, os, pathlib, re, time, typing
+import base64
+import datetime
+import functools
+import gzip
+import hashlib
+import hmac
+import json
+import os
+import pathlib
+import re
+import time
+import typing
 
-MONTH = re.compile(r"\d{4}-\d{2}\.jsonl(\.gz)?")
-NO_CHAIN = "-"                          # the chain of outcomes before entry 1
-PLAIN = ("/v1/requests", 200)           # the route and the status of a request that was accepted, or repeated
+MONTH = re.compile(r'\d{4}-\d{2}\.jsonl(\.gz)?')
+NO_CHAIN = '-'                          # the chain of outcomes before entry 1
+PLAIN = ('/v1/requests', 200)           # the route and the status of a request that was accepted, or repeated
 SHORT = 4096                            # bytes of a body that is text whatever its length in JSON
 TAIL = 8 << 20                          # bytes; no two lines of an archive are as long
 SET_ASIDE = 500                         # the status of an entry that the registry could not decide; it changed nothing
@@ -51,20 +62,20 @@ class Record(typing.NamedTuple):
 
 def now():
     """The time by this host's clock, as entries have it."""
-    return datetime.datetime.now(datetime.timezone.utc).isoformat(timespec="microseconds")[:26] + "Z"
+    return datetime.datetime.now(datetime.timezone.utc).isoformat(timespec='microseconds')[:26] + 'Z'
 
 
 def read_key(path):
     """The key of the keyed hash: the bytes of a file, without white space around them."""
     key = pathlib.Path(path).read_bytes().strip()
     if len(key) < 16:
-        raise Broken(f"{path}: a key has at least 16 bytes")
+        raise Broken(f'{path}: a key has at least 16 bytes')
     return key
 
 
 # ------------------------------------------------------------------ one entry as a line
 
-TEXT_OF = json.JSONEncoder(ensure_ascii=False, separators=(",", ":")).encode
+TEXT_OF = json.JSONEncoder(ensure_ascii=False, separators=(',', ':')).encode
 quoted = json.encoder.encode_basestring         # a text as TEXT_OF writes it
 
 
@@ -85,11 +96,11 @@ def body_member(body):
 
 def body_of(name, said):
     """The body in a member of either name."""
-    return base64.b64decode(said, validate=True) if name == "body64" else said.encode()
+    return base64.b64decode(said, validate=True) if name == 'body64' else said.encode()
 
 
 FIELDS = list(Entry._fields)
-FORM = '{"n":%d,' + ",".join([f'"{name}":%s' for name in FIELDS[1:-1]]) + ",%s}"
+FORM = '{"n":%d,' + ','.join([f'"{name}":%s' for name in FIELDS[1:-1]]) + ',%s}'
 
 
 def written(entry, key):
@@ -100,7 +111,7 @@ def written(entry, key):
 
 @functools.lru_cache(4)
 def begun_with(key):
-    return hmac.new(key, digestmod="sha256")
+    return hmac.new(key, digestmod='sha256')
 
 
 def mac(text, key):
@@ -120,16 +131,16 @@ def parts(line):
     """The text of the entry in a line, its keyed hash, and what stands after that."""
     at = line.find(MIDDLE)
     if at < 0 or not line.startswith(BEGIN):
-        raise Broken(f"a line that is no entry: {line[:80]!r}")
+        raise Broken(f'a line that is no entry: {line[:80]!r}')
     end = at + len(MIDDLE) + 64
-    return line[len(BEGIN):at + 1], line[at + len(MIDDLE):end].decode("latin-1"), line[end:]
+    return line[len(BEGIN):at + 1], line[at + len(MIDDLE):end].decode('latin-1'), line[end:]
 
 
 def read_entry(line, key=None):
     """The entry of a line of the log. With a key its keyed hash is checked."""
     text, said, rest = parts(line)
     if rest != b'"}':
-        raise Broken(f"a line that is no entry: {line[:80]!r}")
+        raise Broken(f'a line that is no entry: {line[:80]!r}')
     return entry_in(text, said, key)
 
 
@@ -139,12 +150,12 @@ def entry_in(text, said, key):
         if key is not None and not hmac.compare_digest(mac(text, key), said):
             raise Broken(f"entry {members['n']}: its keyed hash is wrong: no replica with this key wrote it")
         *names, last = members
-        if [*names, last.removesuffix("64")] != FIELDS or type(members["n"]) is not int:
+        if [*names, last.removesuffix('64')] != FIELDS or type(members['n']) is not int:
             raise Broken(f"entry {members['n']}: its members are {[*names, last]}")
         *values, body = members.values()
         return Entry(*values, body_of(last, body))
     except (KeyError, TypeError, ValueError, AttributeError, RecursionError) as fault:
-        raise Broken(f"a line that is no entry: {text[:80]!r}") from fault
+        raise Broken(f'a line that is no entry: {text[:80]!r}') from fault
 
 
 # ------------------------------------------------------------------ outcomes
@@ -154,11 +165,11 @@ def comparable(route, status, body):
 
     An entry that was applied twice is `repeated` and not `accepted`, and a refused row of a table may get another number.
     """
-    if route == "/v1/declarations":
-        body = re.sub(rb"(?m)^(\d+ )(?:(?:accepted|repeated)|(refused) \d+)$", rb"\1\2", body)
+    if route == '/v1/declarations':
+        body = re.sub(rb'(?m)^(\d+ )(?:(?:accepted|repeated)|(refused) \d+)$', rb'\1\2', body)
     else:
         body = body.replace(b'"outcome":"repeated"', b'"outcome":"accepted"')
-    return b"%d " % status + body
+    return b'%d ' % status + body
 
 
 def decided(route, status, body, chain):
@@ -178,17 +189,17 @@ OUTCOME = b'","outcome":'
 def read_record(line, key=None):
     """The record of a line of the archive, without its line end. Text in any other form than ours is refused."""
     text, said, rest = parts(line)
-    if not rest.startswith(OUTCOME) or not rest.endswith(b"}"):
-        raise Broken(f"a line that is no record: {line[:80]!r}")
+    if not rest.startswith(OUTCOME) or not rest.endswith(b'}'):
+        raise Broken(f'a line that is no record: {line[:80]!r}')
     entry = entry_in(text, said, key)
     try:
         members = json.loads(rest[len(OUTCOME):-1])
         if compact(members) != rest[len(OUTCOME):-1] or compact(json.loads(text)) != text:
-            raise Broken(f"entry {entry.n}: its line is not in the form of the archive")
-        name = "body" if "body" in members else "body64"
-        outcome = Outcome(members["status"], body_of(name, members[name]), members["chain"])
+            raise Broken(f'entry {entry.n}: its line is not in the form of the archive')
+        name = 'body' if 'body' in members else 'body64'
+        outcome = Outcome(members['status'], body_of(name, members[name]), members['chain'])
     except (KeyError, TypeError, ValueError, AttributeError, RecursionError) as fault:
-        raise Broken(f"entry {entry.n}: its line lacks members") from fault
+        raise Broken(f'entry {entry.n}: its line lacks members') from fault
     return Record(entry, outcome, hash_of(line[:-len(rest)] + b'"}'))
 
 
@@ -197,16 +208,16 @@ def read_record(line, key=None):
 def months(folder):
     """The files of an archive, the oldest first. Of a month that is there twice, the compressed one."""
     names = sorted(path.name for path in pathlib.Path(folder).iterdir() if MONTH.fullmatch(path.name))
-    return [pathlib.Path(folder) / name for name in names if not (name.endswith("jsonl") and f"{name}.gz" in names)]
+    return [pathlib.Path(folder) / name for name in names if not (name.endswith('jsonl') and f'{name}.gz' in names)]
 
 
 def lines(path, at=0):
     """The whole lines of a file from an offset on, each with the offset after it. The beginning of a line is left out."""
-    opened = gzip.open(path) if path.suffix == ".gz" else open(path, "rb")
+    opened = gzip.open(path) if path.suffix == '.gz' else open(path, 'rb')
     with opened as file:
         file.seek(at)
         for line in file:
-            if not line.endswith(b"\n"):
+            if not line.endswith(b'\n'):
                 return
             at += len(line)
             yield line[:-1], at
@@ -216,7 +227,7 @@ def number_in(line):
     """The number of a line's entry, without reading the rest of it."""
     found = re.match(rb'\{"entry":\{"n":(\d+),', line)
     if not found:
-        raise Broken(f"a line of the archive that is no entry: {line[:80]!r}")
+        raise Broken(f'a line of the archive that is no entry: {line[:80]!r}')
     return int(found[1])
 
 
@@ -260,7 +271,7 @@ def whole_lines(folder, after, path, at):
             for line, end in lines(file, begin):
                 yield file, line, end
         except FileNotFoundError:               # compressed meanwhile: the same lines stand in the other file
-            for line, end in lines(file.with_name(file.name + ".gz"), begin):
+            for line, end in lines(file.with_name(file.name + '.gz'), begin):
                 yield file, line, end
 
 
@@ -270,11 +281,11 @@ def follows(before, record):
     if before is None and entry.n > 1:
         return
     if before and entry.n != before.entry.n + 1:
-        raise Broken(f"entry {entry.n} stands after entry {before.entry.n}")
+        raise Broken(f'entry {entry.n} stands after entry {before.entry.n}')
     if before and entry.prev != before.hash:
-        raise Broken(f"entry {entry.n}: it names another entry before it than entry {before.entry.n}")
+        raise Broken(f'entry {entry.n}: it names another entry before it than entry {before.entry.n}')
     if decided(entry.route, outcome.status, outcome.body, before.outcome.chain if before else NO_CHAIN).chain != outcome.chain:
-        raise Broken(f"entry {entry.n}: its outcome is not the one that was chained")
+        raise Broken(f'entry {entry.n}: its outcome is not the one that was chained')
 
 
 # ------------------------------------------------------------------ the archive, as its replica writes it
@@ -285,14 +296,14 @@ class Archive:
     def __init__(self, folder):
         self.folder = pathlib.Path(folder)
         self.folder.mkdir(mode=0o750, parents=True, exist_ok=True)
-        self.file, self.month, self.last = None, "", None
+        self.file, self.month, self.last = None, '', None
         for path in reversed(months(self.folder)):
             self.last = mended(path)
             if self.last:
                 self.month = path.name[:7]
                 break
 
-    def add(self, line, entry, outcome, h=""):
+    def add(self, line, entry, outcome, h=''):
         """Adds an entry's line with its outcome; `h` is its hash, where it is known. Not on the disk for certain before `sync`."""
         month = max(self.month, entry.time[:7])         # a clock that goes back does not lead to an older file
         if self.file is None or month != self.month:
@@ -305,7 +316,7 @@ class Archive:
             os.fdatasync(self.file)
             os.close(self.file)
         self.month = month
-        self.file = os.open(self.folder / f"{month}.jsonl", os.O_WRONLY | os.O_APPEND | os.O_CREAT, 0o640)
+        self.file = os.open(self.folder / f'{month}.jsonl', os.O_WRONLY | os.O_APPEND | os.O_CREAT, 0o640)
         sync_folder(self.folder)
 
     def sync(self):
@@ -333,8 +344,8 @@ def sync_folder(folder):
 def mended(path, read=read_record):
     """What the last whole line of a file is, by `read`. What stands after it goes into a file beside it: a crash cut it off."""
     last, end = last_of(path, read)
-    if path.suffix != ".gz" and end < path.stat().st_size:
-        with open(path, "r+b") as file, open(f"{path}.cut", "ab") as cut:
+    if path.suffix != '.gz' and end < path.stat().st_size:
+        with open(path, 'r+b') as file, open(f'{path}.cut', 'ab') as cut:
             file.seek(end)
             cut.write(file.read())
             file.truncate(end)
@@ -344,7 +355,7 @@ def mended(path, read=read_record):
 
 def last_of(path, read):
     """What the last whole line is, and the offset after it. Of a long file only the end is read."""
-    last, begin = None, max(0, path.stat().st_size - TAIL) if path.suffix != ".gz" else 0
+    last, begin = None, max(0, path.stat().st_size - TAIL) if path.suffix != '.gz' else 0
     end = begin
     for line, at in lines(path, begin):
         try:
@@ -353,7 +364,7 @@ def last_of(path, read):
             if last or begin == 0:
                 break
     if last is None and begin:
-        raise Broken(f"{path}: no whole line in its last {TAIL} bytes")
+        raise Broken(f'{path}: no whole line in its last {TAIL} bytes')
     return last, end
 
 
@@ -361,7 +372,7 @@ def last_plain(folder):
     """The last record of an accepted request near the end of an archive; None where there is none."""
     for path in reversed(months(folder)[-2:]):
         found = None
-        begin = max(0, path.stat().st_size - TAIL) if path.suffix != ".gz" else 0
+        begin = max(0, path.stat().st_size - TAIL) if path.suffix != '.gz' else 0
         for line, at in lines(path, begin):
             try:
                 record = read_record(line)
@@ -376,15 +387,15 @@ def last_plain(folder):
 def compress(folder):
     """Compresses the files of finished months, each whole or not at all. A month is finished once there is a later one: entries of it may come late."""
     for path in months(folder)[:-1]:
-        if path.suffix == ".gz":
+        if path.suffix == '.gz':
             continue
-        part = path.with_name(f".{path.name}.part")
-        with open(path, "rb") as plain, open(part, "wb") as file, gzip.GzipFile(path.name, "wb", fileobj=file, mtime=0) as packed:
+        part = path.with_name(f'.{path.name}.part')
+        with open(path, 'rb') as plain, open(part, 'wb') as file, gzip.GzipFile(path.name, 'wb', fileobj=file, mtime=0) as packed:
             while text := plain.read(1 << 20):
                 packed.write(text)
-        with open(part, "rb") as file:
+        with open(part, 'rb') as file:
             os.fsync(file.fileno())
         os.chmod(part, 0o640)
-        os.replace(part, path.with_name(path.name + ".gz"))
+        os.replace(part, path.with_name(path.name + '.gz'))
         sync_folder(folder)
         path.unlink()

@@ -326,7 +326,7 @@ def deadlines(database, viewer, asked):
     """Lots of which something is held and whose trade closes, or that expire, within so many days of the registry's date, the soonest first."""
     days = number_of(asked, 'days', 60, 4000)
     conditions = holdings_conditions(database, viewer, {**asked, 'place': 'held'})
-    near = "date((SELECT today FROM meta), ?)"
+    near = 'date((SELECT today FROM meta), ?)'
     return {'items': rows(database, f'''SELECT run.account, lot.id AS lot, {LOT_COLUMNS}, sum(run.last - run.first + 1) AS count,
                                                CASE WHEN lot.trade_until >= (SELECT today FROM meta) THEN 'trade' ELSE 'expiry' END AS next
                                         FROM run JOIN lot ON lot.id = run.lot WHERE {conditions.where} AND (lot.trade_until BETWEEN (SELECT today FROM meta) AND {near} OR lot.expires_on <= {near})

@@ -156,6 +156,12 @@ def fates_in(path):
     return {(direction, peer['registry'], of['number']): of['became'] for peer in peers for direction, name in ((1, 'sent'), (0, 'received')) for of in peer[name] if of['number']}
 
 
+def described():
+    """The description of the routes."""
+    page = next((page for page in PAGES if page.is_file()), None)
+    return Response(page.read_bytes(), 200, HEADERS, content_type='application/yaml') if page else reply(404, {'error': 'there is no description here'})
+
+
 def application(folder=None, exchange=None):
     """The service as a WSGI application."""
     service = Service(Path(folder or os.environ.get('GOO_RECORDS', FOLDER)), Path(exchange or os.environ.get('GOO_EXCHANGE', EXCHANGE)))
@@ -176,10 +182,7 @@ def application(folder=None, exchange=None):
             return reply(404, {'error': f'there is no {name}'})
         return service.answered(lambda database, viewer: service.ones[name](database, viewer, number))
 
-    @app.get('/records/v1/openapi.yaml')
-    def described():
-        page = next((page for page in PAGES if page.is_file()), None)
-        return Response(page.read_bytes(), 200, HEADERS, content_type='application/yaml') if page else reply(404, {'error': 'there is no description here'})
+    app.get('/records/v1/openapi.yaml')(described)
 
     @app.get('/verify')
     def verify():
