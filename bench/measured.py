@@ -15,7 +15,7 @@ from contextlib import contextmanager
 from pathlib import Path
 
 HERE = Path(__file__).resolve().parent
-sys.path.append(str(HERE.parent / 'tools'))
+sys.path.append(str(HERE.parent / 'tools/lib'))
 PROGRAM = os.environ.get('GOO', str(HERE.parent / 'crates/goo/out/goo'))
 CREATE = HERE.parent / 'crates/goo_tables/src/create.rt'
 CRATES = Path('/usr/share/cargo/registry')

@@ -20,7 +20,7 @@ from pathlib import Path
 
 HERE = Path(__file__).resolve().parent
 sys.dont_write_bytecode = True
-sys.path[:0] = [str(HERE.parent / 'deploy'), str(HERE.parent / 'tools')]
+sys.path[:0] = [str(HERE.parent / 'deploy'), str(HERE.parent / 'tools/lib')]
 import entries
 import replica_door
 import replica_file

@@ -1,4 +1,4 @@
-"""What the registry has to answer and to show, by deploy/rules.py and tools/readings.py: for the tools that try the program by chance.
+"""What the registry has to answer and to show, by deploy/rules.py and tools/lib/readings.py: for the tools that try the program by chance.
 
 Both were written from docs/REGISTRY.md and docs/FORMATS.md, apart from the program. A Model reads bytes, carries out what they ask for, and gives each answer
 byte for byte: outcomes of lines, reports of tables, responses over HTTP, statements, documents and the audit, and the rows that the tables have to have.
@@ -11,7 +11,7 @@ import sys
 from contextlib import closing
 from pathlib import Path
 
-TOP = Path(__file__).resolve().parent.parent
+TOP = Path(__file__).resolve().parents[2]
 sys.path.insert(0, str(TOP / 'deploy'))
 import mutations
 import readings

@@ -4,7 +4,7 @@ For tools/replicas. On three hosts each is a network namespace, which asks for r
 """
 import base64, bisect, collections, concurrent.futures, contextlib, ctypes, itertools, json, os, pathlib, random, re, shutil, signal, socket, ssl, subprocess, sys, threading, time
 
-HOME = pathlib.Path(__file__).resolve().parent.parent
+HOME = pathlib.Path(__file__).resolve().parents[2]
 REPLICA = pathlib.Path(os.environ.get("REPLICA", HOME / "deploy/replica"))
 sys.path.insert(0, str(REPLICA.parent))
 sys.dont_write_bytecode = True

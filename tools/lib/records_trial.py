@@ -6,7 +6,7 @@ import subprocess
 import sys
 from pathlib import Path
 
-TOP = Path(__file__).resolve().parent.parent
+TOP = Path(__file__).resolve().parents[2]
 sys.path[:0] = [str(TOP / 'deploy')]
 import tally
 from mutations import gsrn, lot, part

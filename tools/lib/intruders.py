@@ -524,7 +524,7 @@ def settings(tally):
 
 # ------------------------------------------------------------------------------------------ the registry's port
 
-# In a network of its own: a stand-in for the registry, and the way to it. Ends with its standard input. This and the next are run by users who may not read tools/client.py.
+# In a network of its own: a stand-in for the registry, and the way to it. Ends with its standard input. This and the next are run by users who may not read tools/lib/client.py.
 INSIDE = """
 import fcntl, json, os, socket, struct, subprocess, sys
 port, path, group, mode, owner = json.loads(sys.argv[1])

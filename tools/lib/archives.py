@@ -9,7 +9,7 @@ import secrets
 import subprocess
 import sys
 
-sys.path.insert(0, str(pathlib.Path(__file__).resolve().parent.parent / 'deploy'))
+sys.path.insert(0, str(pathlib.Path(__file__).resolve().parents[2] / 'deploy'))
 sys.dont_write_bytecode = True
 import entries
 import replica_roles

@@ -7,7 +7,7 @@ import hashlib
 import os
 from pathlib import Path
 
-TOP = Path(__file__).resolve().parent.parent
+TOP = Path(__file__).resolve().parents[2]
 OUT = TOP / 'crates/goo/out'
 KIT = Path('/opt/rattle')
 PROVED, TRIAL = OUT / 'goo', OUT / 'trial/goo'
