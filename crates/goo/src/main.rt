@@ -3,9 +3,11 @@
 #![tactic(auto)]
 
 mod files;
+mod object;
 mod reason;
 
 use crate::files::{Opened, let_go, open_kept, open_new};
+use crate::object::Object;
 use crate::reason::{Reason, Refusal};
 use goo_cli::{Opening, read_task};
 use goo_cli_ending::{Ending, Failure};
@@ -57,25 +59,22 @@ fn perform_words(rt: &HostRuntime, words: &[String]) -> u8 {
         Ok(mut writer) => {
             let (ending, reason) = perform_job(rt, &job, &mut writer);
             let status = tell(rt, &ending);
-            if matches!(ending, Ending::Failed(Failure::Store)) {
-                tell_file(rt, &job, reason);
-            }
+            tell_object(rt, &job, &ending, reason);
             status
         }
         Err(_) => tell(rt, &Ending::Failed(Failure::Memory)),
     }
 }
 
-/// Names the file that failed, and what the system named of it.
-fn tell_file(rt: &HostRuntime, job: &Job<'_>, reason: Option<Reason>) {
-    let path = match job {
-        Job::Make(path, _) | Job::InFile(path, _) => *path,
-        Job::RunInMemory(_) | Job::ServeInMemory(_, _) => return,
-    };
-    let _ = match reason {
-        Some(reason) => eprintln!(rt; "goo: {path}: {reason}"),
-        None => eprintln!(rt; "goo: {path}"),
-    };
+/// Names what the line before speaks of: the file of a store fault always, and all else where a person reads it.
+fn tell_object(rt: &HostRuntime, job: &Job<'_>, ending: &Ending, reason: Option<Reason>) {
+    let is_always_named = matches!(ending, Ending::Failed(Failure::Store));
+    if is_always_named || rt.stderr().is_terminal() {
+        let _ = match Object::of(job, ending, reason) {
+            Some(object) => eprintln!(rt; "goo: {object}"),
+            None => Ok(()),
+        };
+    }
 }
 
 /// Does a job, and tells what the system named where its files failed. What it shows goes to the writer.

@@ -13,7 +13,7 @@ already; 2 the command line asks for nothing that can be done; 3 a fault, told o
 
 /// What `--version` prints after the name: the version of the program, and the line of the toolchain that it is proved with. Which commit
 /// it was built from, no proved source can say: the note that lies beside a package does.
-pub const VERSION: &str = "0.37.0, proved with rattle-kit-13b";
+pub const VERSION: &str = "0.37.0, proved with rattle-kit-13f";
 
 pub const INIT: &str = "Makes a new registry in a file";
 
