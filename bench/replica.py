@@ -3,8 +3,8 @@
 
 usage: python3 bench/replica.py [RUNS]
 
-The replica runs in this process, with its log and archive in /dev/shm. The registry is the program, in memory, which is asked for looks: what a question itself costs the replica is the same for
-each. 32 writes come at once, as from 32 clients. Needs python3-uvloop for figures that compare.
+Both of the replica's processes are played here, in one, with log and archive in /dev/shm. The registry is the program, in memory, which is asked for looks: what a question itself costs the replica
+is the same for each. 32 writes come at once, as from 32 clients. Needs python3-uvloop for figures that compare.
 """
 import asyncio
 import collections
@@ -12,6 +12,7 @@ import contextlib
 import importlib.machinery
 import importlib.util
 import secrets
+import socket
 import subprocess
 import sys
 import tempfile
@@ -22,6 +23,7 @@ HERE = Path(__file__).resolve().parent
 sys.dont_write_bytecode = True
 sys.path[:0] = [str(HERE.parent / 'deploy'), str(HERE.parent / 'tools/lib')]
 import entries
+import replica_apply
 import replica_door
 import replica_file
 import replica_place
@@ -35,8 +37,22 @@ SAID = Answer(200, 'application/json', b'{"outcome":"accepted","reply":{"account
 HEAD = b'POST /v1/requests HTTP/1.1\r\nHost: goo\r\nConnection: close\r\nGOO-Caller: ISSUER\r\nGOO-User: anna\r\nGOO-Role: full\r\nGOO-Address: 192.0.2.7\r\nContent-Length: %d'
 
 
+class Sent:
+    """What the first process has sent."""
+
+    def __init__(self):
+        self.text = b''
+
+    def write(self, text):
+        self.text += text
+
+    def taken(self):
+        text, self.text = self.text, b''
+        return text
+
+
 def replica_of(folder, port):
-    """A replica as a module's object, after the first entry of its log."""
+    """The two processes as objects, after the first entry of the log."""
     loader = importlib.machinery.SourceFileLoader('replica', str(HERE.parent / 'deploy/replica'))
     module = importlib.util.module_from_spec(importlib.util.spec_from_loader('replica', loader))
     loader.exec_module(module)
@@ -47,9 +63,13 @@ def replica_of(folder, port):
     replica_file.begin(folder / 'log', entries.written(first, KEY), 1)
     place.close()
     words = module.words_of().parse_args(['--state', str(folder), '--store', str(folder / 'log'), '--key', str(folder / 'key'), '--registry', f'127.0.0.1:{port}', '--version', 'v'])
-    replica = module.Replica(words)
-    replica.down, replica.version, replica.begun = False, 'v', True
-    return replica
+    near, far = socket.socketpair()
+    second = replica_apply.Applier(words, KEY, far)
+    second.version = 'v'
+    second.tell_place()
+    replica = module.Replica(words, KEY, near)
+    replica.down, replica.version, replica.begun, replica.applier.transport = False, 'v', True, Sent()
+    return replica, second, near
 
 
 class Parts:
@@ -65,35 +85,56 @@ class Parts:
         self.least[name] = min(self.least[name], (time.thread_time_ns() - began) / MANY / 1e9)
 
 
-async def one_run(replica, parts):
-    end, told = await replica.store.end(), []
-    with parts.part('heads, of which the first has not come before'):
+async def taken_in(replica, parts, told):
+    """In the first process: from the heads to the second process."""
+    end = await replica.store.end()
+    with parts.part('first process: heads, of which the first has not come before'):
         calls = [replica_door.Call(*replica_door.head_of(HEAD % (len(BODY) + secrets.randbelow(1000000) * (n == 0)))[0], BODY) for n in range(MANY)]
-    with parts.part('taken in'):
+    with parts.part('first process: taken in'):
         for call in calls:
             replica.serve(call, lambda answer, fields: told.append(answer))
-    with parts.part('entries with their hashes, into the log'):
+    with parts.part('first process: entries with their hashes, into the log'):
         await replica.append_batch(replica.batch(), end)
-    with parts.part('questions to the registry'):
+    with parts.part('first process: given to the second'):
+        await replica.hand(replica.known_from(end.n + 1))
+
+
+def applied(replica, second, parts):
+    """In the second process: from the first one to the outcomes."""
+    with parts.part('second process: taken from the first'):
+        for _, texts in second.frames.take(replica.applier.transport.taken()):
+            second.queue.extend(texts)
+    with parts.part('second process: questions to the registry'):
         for _ in range(MANY):
-            await replica.registry.ask('GET', '/v1/certificates/07000000000001', 'ISSUER')
-    applied = [replica.known.pop(n) for n in range(end.n + 1, end.n + 1 + MANY)]
-    with parts.part('outcomes with their hashes, archive and place'):
-        for line, entry, h in applied:
-            await replica.keep(line, entry, h, entries.decided(entry.route, SAID.status, SAID.body, replica.place.chain))
-    with parts.part('answers, but for sending them'):
-        for _, entry, _ in applied:
-            replica.tell(entry, SAID)
+            second.registry.ask('GET', '/v1/certificates/07000000000001', 'ISSUER', meanwhile=second.registry.ahead)
+    second.registry.leave()
+    with parts.part('second process: outcomes with their hashes, archive and place'):
+        for line, entry, h in second.queue:
+            second.finish(line, entries.Entry(*entry), h, SAID)
+    second.queue.clear()
+    with parts.part('second process: told to the first'):
+        second.tell()
+
+
+async def one_run(replica, second, near, parts):
+    told = []
+    await taken_in(replica, parts, told)
+    applied(replica, second, parts)
+    with parts.part('first process: answers, but for sending them'):
+        replica.applier.data_received(near.recv(1 << 20))
     assert told == [SAID] * MANY
 
 
 async def measured(port, runs):
     parts = Parts()
     with tempfile.TemporaryDirectory(dir='/dev/shm') as folder:
-        replica = replica_of(Path(folder), port)
-        await replica.step((await replica.store.lines_from(1))[0])
+        replica, second, near = replica_of(Path(folder), port)
+        second.step((await replica.store.lines_from(1))[0])
+        second.tell()
+        replica.handed, _ = 1, replica.sizes.append(0)
+        replica.applier.data_received(near.recv(1 << 20))
         for _ in range(runs):
-            await one_run(replica, parts)
+            await one_run(replica, second, near, parts)
     return parts.least
 
 
@@ -109,8 +150,10 @@ def main():
         registry.wait()
     row(['Part of a write', 'Processor microseconds'])
     row(['---', '---'])
-    for name, seconds in [*least.items(), ('all of these', sum(least.values()))]:
-        row([name, f'{seconds * 1e6:.1f}'])
+    for process in ('first', 'second'):
+        own = {name: seconds for name, seconds in least.items() if name.startswith(process)}
+        for name, seconds in [*own.items(), (f'{process} process: all of these', sum(own.values()))]:
+            row([name, f'{seconds * 1e6:.1f}'])
 
 
 if __name__ == '__main__':

@@ -12,13 +12,15 @@ etcd's answer is lost, the very same transaction is sent again.
 
 No more of etcd is used than its JSON gateway (/v3/kv/range, txn, compaction, /v3/watch, /v3/maintenance/status).
 """
-import asyncio, base64, collections, json, ssl, urllib.parse
+import asyncio, base64, collections, json, re, ssl, time, urllib.parse
 
 import entries
 from replica_file import NoAnswer, Point, after
 
 PATIENCE, CONNECT = 2, 0.5              # seconds for etcd's answer, and to reach a member: a host that is down is silent
 BROKEN = (OSError, TimeoutError, EOFError, ValueError, LookupError, asyncio.LimitOverrunError)
+LASTS, TURNS = 0.02, 6                  # seconds at most that a host lets another one append first, and the appends that it looks back to
+APPENDED = re.compile(rb'"time":"[^"]*","host":"([^"]*)"')       # the same in all entries of one append
 Said = collections.namedtuple("Said", "status body")
 
 
@@ -167,6 +169,8 @@ class EtcdStore:
         self.last, self.quorum, self.size, self.pruned = Point(place.n, place.h, ""), False, 0, 0
         self.asking, self.ask, self.told, self.voted = [], asyncio.Event(), None, set()
         self.tells = False                      # a watch is open, which tells each entry
+        self.newest, self.appends, self.moved = (0, b""), collections.deque([(b"", b"")], TURNS), asyncio.Event()       # the last entry that was told, and who appended
+        self.lasts = 0.005                      # seconds that an append takes
 
     def tasks(self, replica):
         self.replica = replica
@@ -213,9 +217,40 @@ class EtcdStore:
 
     # -------------------------------------------------------------- into the log
 
+    async def turn(self, end):
+        """The newest end, once it is this host's turn. Of transactions that are under way at once all but one fail, so whoever has appended
+        lets the others who append do so first, each for as long as an append takes. This decides nothing: the transaction does."""
+        most = time.monotonic() + TURNS * self.lasts
+        while (rank := self.rank()) and time.monotonic() < most:
+            self.moved.clear()
+            try:
+                async with asyncio.timeout(rank * self.lasts):
+                    await self.moved.wait()
+            except TimeoutError:
+                break
+        n, line = self.newest
+        try:
+            return after(entries.read_entry(line), line) if n > end.n else end
+        except entries.Broken:
+            return end                          # whoever applies it says so
+
+    def rank(self):
+        """How many others are to append before this host, in the order of names."""
+        own, last = self.words.name.encode(), self.appends[-1][1]
+        names = sorted({own, *(name for _, name in self.appends if name)})
+        return (names.index(own) - names.index(last) - 1) % len(names) if last else 0
+
+    def learn(self, n, line):
+        self.newest = max(self.newest, (n, line))
+        found = APPENDED.search(line)
+        if found and found[0] != self.appends[-1][0]:
+            self.appends.append((found[0], found[1]))
+            self.moved.set()
+        self.replica.learn(n, line)
+
     async def append(self, lines, end, last, wanted):
         """One transaction. Without an answer the very same one is sent again, as long as somebody waits for it."""
-        first = self.keys.log(end.n + 1)
+        first, began = self.keys.log(end.n + 1), time.monotonic()
         words = {"compare": [is_value(self.keys.end, as_text(end)), is_there(first, False)],
                  "success": [*(put(self.keys.log(n), line) for n, line in enumerate(lines, end.n + 1)), put(self.keys.end, as_text(last))],
                  "failure": [get(self.keys.end), get(first)]}
@@ -227,11 +262,13 @@ class EtcdStore:
                 await asyncio.sleep(0.05)
                 continue
             if answer.get("succeeded"):
+                self.lasts = min(LASTS, 0.8 * self.lasts + 0.2 * (time.monotonic() - began))
                 return True, last
             now, there = ranges(answer)
             if [text for _, text in pairs(there)] == lines[:1]:     # it had taken effect, and the answer was lost
                 return True, end_in(now)
             self.compare(applied, end_in(now))
+            self.newest = (0, b"")              # it was not the end
             return False, end_in(now)
         return False, None
 
@@ -253,7 +290,7 @@ class EtcdStore:
         """By `replica-log prune`, once all replicas and copies have the entries."""
 
     async def watch(self):
-        take = lambda key, line: self.replica.learn(int(key[-20:]), line)
+        take = lambda key, line: self.learn(int(key[-20:]), line)
 
         def opened():
             self.tells = True

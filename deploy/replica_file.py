@@ -31,11 +31,11 @@ def whole_line(line):
 
 
 class FileStore:
-    """The interface that both stores have: `last`, `end`, `append`, `lines_from`, `lacks`, `is_aside`, `report`, `prune`, `trouble`, `figures`, `tasks`."""
+    """The interface that both stores have: `last`, `end`, `turn`, `append`, `lines_from`, `lacks`, `is_aside`, `report`, `prune`, `trouble`, `figures`, `tasks`."""
 
     compares = False                            # there are no other replicas
     quorum = tells = True                       # it always answers, and the replica hears of each entry as it is appended
-    ahead = 2                                   # entries that wait to be applied when the next append begins
+    ahead = 16                                  # entries that wait to be applied when the next append begins
 
     def __init__(self, folder, key, applied=0):
         self.folder, self.key = pathlib.Path(folder), key
@@ -63,6 +63,10 @@ class FileStore:
     async def end(self):
         """The log's end, at or after the time of the call."""
         return self.last
+
+    async def turn(self, end):
+        """The log's end once it is this replica's turn to append."""
+        return end
 
     def tasks(self, replica):
         return []

@@ -9,23 +9,18 @@ Answer = collections.namedtuple("Answer", "status kind body allow", defaults=(""
 
 
 class Registry:
-    """The connection of the next question is opened while the registry is at this one, so that it comes to it at once.
-
-    Whoever asks next takes it: the registry answers one connection after another, and an idle one would hold up those behind it.
-    """
+    """For reads. Between two of them no connection is open: the registry answers one after another, and entries would wait behind an idle one."""
 
     def __init__(self, address):
         """`address` is the path of a socket, or HOST:PORT."""
         self.family, self.address = address_of(address)
-        self.next, self.asked = None, 0
+        self.asked = 0
 
-    async def ask(self, method, target, caller, body=b"", patience=300):
+    async def ask(self, method, target, caller, patience=300):
         """The registry's answer, which came whole. Anything else raises one of BROKEN."""
-        head = f"{method} {target} HTTP/1.1\r\nHost: goo\r\n{f'GOO-Caller: {caller}' if caller else 'Accept: */*'}\r\nContent-Length: {len(body)}\r\n\r\n"
-        with self.taken() as s:
+        with connected(self.family, self.address) as s:
             talk = Talk(s, method)
-            rest = talk.say(head.encode("latin-1") + body)
-            self.ahead()
+            rest = talk.say(request_of(method, target, caller))
             self.asked += 1
             if self.asked % TURN == 0:
                 await asyncio.sleep(0)          # all others have a turn while the registry is at this one
@@ -34,37 +29,20 @@ class Registry:
             async with asyncio.timeout(patience):
                 return await talk.to_the_end(rest)
 
-    def taken(self):
-        s, self.next = self.next, None
-        if s and not is_open(s):
-            s.close()
-            s = None
-        return s or self.connected()
 
-    def connected(self):
-        """On this host a connection is there at once or not at all. A port of this host says so a moment later, so what is sent first tells."""
-        s = socket.socket(self.family, socket.SOCK_STREAM | socket.SOCK_NONBLOCK)
-        fault = s.connect_ex(self.address)
-        if fault not in (0, errno.EINPROGRESS):
-            s.close()
-            raise OSError(fault, "no connection")
-        return s
-
-    def ahead(self):
-        try:
-            self.next = self.next or self.connected()
-        except OSError:
-            pass                                # the next question tells
+def request_of(method, target, caller, body=b""):
+    head = f"{method} {target} HTTP/1.1\r\nHost: goo\r\n{f'GOO-Caller: {caller}' if caller else 'Accept: */*'}\r\nContent-Length: {len(body)}\r\n\r\n"
+    return head.encode("latin-1") + body
 
 
-def is_open(s):
-    try:
-        s.recv(1, socket.MSG_PEEK)              # at its end, or an answer to nothing
-    except BlockingIOError:
-        return True
-    except OSError:
-        pass
-    return False
+def connected(family, address):
+    """On this host a connection is there at once or not at all. A port of this host says so a moment later, so what is sent first tells."""
+    s = socket.socket(family, socket.SOCK_STREAM | socket.SOCK_NONBLOCK)
+    fault = s.connect_ex(address)
+    if fault not in (0, errno.EINPROGRESS):
+        s.close()
+        raise OSError(fault, "no connection")
+    return s
 
 
 class Talk:

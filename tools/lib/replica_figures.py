@@ -46,8 +46,9 @@ def spent(cluster):
     total = collections.Counter()
     for host in cluster.hosts:
         for name in host.names:
-            fields = pathlib.Path(f"/proc/{host.processes[name].pid}/stat").read_text().rsplit(")", 1)[1].split()
-            total[name] += (int(fields[11]) + int(fields[12])) / os.sysconf("SC_CLK_TCK")
+            for pid in host.pids(name):
+                fields = pathlib.Path(f"/proc/{pid}/stat").read_text().rsplit(")", 1)[1].split()
+                total[name] += (int(fields[11]) + int(fields[12])) / os.sysconf("SC_CLK_TCK")
     return total
 
 

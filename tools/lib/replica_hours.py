@@ -10,9 +10,9 @@ MORE_KB, MORE_FILES = 40 << 10, 8   # what a process may have more at the end th
 
 
 def of_processes(cluster):
-    """Resident KB and open files of each process, by host and program."""
-    pids = {f"{host.name} {name}": host.processes[name].pid for host in cluster.hosts for name in host.names}
-    return {who: (memory_of(pid), len(os.listdir(f"/proc/{pid}/fd"))) for who, pid in pids.items()}
+    """Resident KB and open files of each program's processes, by host and program."""
+    pids = {f"{host.name} {name}": host.pids(name) for host in cluster.hosts for name in host.names}
+    return {who: (memory_of(each), sum(len(os.listdir(f"/proc/{pid}/fd")) for pid in each)) for who, each in pids.items()}
 
 
 def size_of(folder):

@@ -3,6 +3,7 @@ import archives
 import replica_place
 import collections
 import contextlib
+import itertools
 import json
 import os
 import pathlib
@@ -15,7 +16,7 @@ import struct
 import subprocess
 import threading
 import time
-from replica_trial import (Bare, GOO, REPLICA, VERSION, Weak, ask, carried_out, check, day, dump, gsrn, must, run, tally, until)
+from replica_trial import (Bare, GOO, REPLICA, VERSION, Weak, ask, carried_out, check, day, dump, group_of, gsrn, must, run, tally, until)
 import client
 import entries
 
@@ -146,6 +147,39 @@ def crashes(cluster, work, count=60):
     restart(host)
     check(f"a crash between the registry's commit and the record of n at {crashed} entries, {answered} answered", crashed >= count // 3 and answered == count, (crashed, answered))
     same_as_replay(cluster, "after the crashes")
+
+
+def halves(cluster, work, count=12):
+    """Of a replica's two processes one is killed, now and then while the registry is at an entry: the other ends with it."""
+    host, ended, alone = cluster.hosts[0], threading.Event(), []
+    clients = [threading.Thread(target=asking, args=(work, k, ended)) for k in range(3)]
+    for thread in clients:
+        thread.start()
+    for i in range(count):
+        pids = until(lambda: cluster.well(60) and len(found := host.pids("replica")) == 2 and found)
+        if i % 4 < 2:
+            host.send("goo", signal.SIGSTOP)
+            time.sleep(0.1)
+        os.kill(pids[i % 2], signal.SIGKILL)
+        began = time.monotonic()
+        until(lambda: not set(pids) & set(group_of(pids[0])), 10, 0.01)
+        alone.append(time.monotonic() - began)
+        for pid in group_of(pids[0]):
+            os.kill(pid, signal.SIGKILL)
+        host.send("goo", signal.SIGCONT)
+    ended.set()
+    for thread in clients:
+        thread.join(60)
+    check(f"one of the replica's two processes is killed {count} times: the other one ends after {max(alone):.2f} s at most", max(alone) < 3, alone)
+    check(f"and clients go on ({host.starts['replica']} starts)", cluster.even(60) and all(op["status"] for op in work.ops), [op for op in work.ops if not op["status"]][:2])
+    same_as_replay(cluster, "after the halves")
+
+
+def asking(work, k, ended):
+    for n in itertools.count():
+        if ended.is_set():
+            return
+        work.request("ISSUER", 0, "open_account", f"half-{k}-{n}", holder=("C1", "NONE")[n % 3 == 2])
 
 
 def torn_tables(cluster, work):
@@ -642,4 +676,4 @@ def slots(cluster, work):
     check("300 files of a place, the slot in hand lost at a power failure: the last synced place stands", not bad, bad[:3])
 
 
-PIECES = [entry_form, slots, roles, as_before, twice, no_registry, crashes, torn_tables, table_cuts, weak, gone, slow_senders, plain_loop, full_disk, set_aside, version, copies, tampered, forged, restored, old_place, shipped, by_ssh, follower, large]
+PIECES = [entry_form, slots, roles, as_before, twice, no_registry, crashes, halves, torn_tables, table_cuts, weak, gone, slow_senders, plain_loop, full_disk, set_aside, version, copies, tampered, forged, restored, old_place, shipped, by_ssh, follower, large]

@@ -113,21 +113,31 @@ class Host:
     def start(self, name):
         with open(self.folder / f"{name}.log", "ab") as log:
             self.processes[name] = subprocess.Popen(self.inside(*self.command(name)), stdin=subprocess.DEVNULL, stdout=log, stderr=log,
-                                                    env={**os.environ, **(self.env if name == "replica" else {})})
+                                                    env={**os.environ, **(self.env if name == "replica" else {})}, start_new_session=True)
         self.starts[name] += 1
 
-    def send(self, name, number):
-        process = self.processes.get(name)
-        if process and process.poll() is None:
-            process.send_signal(number)
+    def pids(self, name):
+        """The processes of a name, the first one first: a replica has two."""
+        return group_of(self.processes[name].pid) if name in self.processes else []
+
+    def send(self, name, number, which=slice(None)):
+        """To all of its processes, as systemd does it, or to some."""
+        for pid in self.pids(name)[which]:
+            with contextlib.suppress(ProcessLookupError):
+                os.kill(pid, number)
+
+    def wait(self, name, seconds=60):
+        """Until all of its processes have ended."""
+        if name in self.processes:
+            self.processes[name].wait(seconds)
+            until(lambda: not self.pids(name), seconds, 0.01)
 
     def hold(self, name, number=signal.SIGTERM):
         """Ends a process, and it stays down."""
         self.held.add(name)
         self.send(name, signal.SIGCONT)
         self.send(name, number)
-        if name in self.processes:
-            self.processes[name].wait(60)
+        self.wait(name)
 
     def release(self, name):
         self.held.discard(name)
@@ -153,14 +163,25 @@ class Host:
         return self.health()
 
 
-def until(holds, patience=90):
+def group_of(leader):
+    """The processes of a group that have not ended, its leader first."""
+    found = []
+    for path in pathlib.Path("/proc").glob("[0-9]*/stat"):
+        with contextlib.suppress(OSError):
+            state, _, group = path.read_text().rsplit(")", 1)[1].split()[:3]
+            if int(group) == leader and state not in "ZX":
+                found.append(int(path.parent.name))
+    return sorted(found, key=lambda pid: (pid != leader, pid))
+
+
+def until(holds, patience=90, pause=0.2):
     """Waits until something holds; what it was at last. A host that does not answer yet is asked again."""
     end, now = time.monotonic() + patience, None
     while time.monotonic() < end:
         with contextlib.suppress(OSError, ValueError):
             if now := holds():
                 break
-        time.sleep(0.2)
+        time.sleep(pause)
     return now
 
 
@@ -300,8 +321,8 @@ class Cluster:
             for name in host.names:
                 host.send(name, signal.SIGCONT), host.send(name, signal.SIGKILL)
         for host in self.hosts:
-            for process in host.processes.values():
-                process.wait(20)
+            for name in host.names:
+                host.wait(name, 20)
             if host.fd is not None:
                 os.close(host.fd)
                 run("ip", "netns", "del", host.ns)
@@ -525,16 +546,20 @@ class Faults:
         self.log.append((time.monotonic(), kind, host.name))
         getattr(self, kind.split()[0])(host, kind.split()[-1])
 
+    def some_of(self, name):
+        """Of the two processes of a replica both, or one of them."""
+        return self.chance.choice((slice(None), slice(0, 1), slice(1, 2))) if name == "replica" else slice(None)
+
     def kill(self, host, name):
         for one in host.names if name == "host" else (name,):
-            host.send(one, signal.SIGKILL)
+            host.send(one, signal.SIGKILL, self.some_of(name))
 
     def power(self, *_):
         for host in self.cluster.hosts:
             self.kill(host, "host")
 
     def stop(self, host, name):
-        host.send(name, signal.SIGSTOP)
+        host.send(name, signal.SIGSTOP, self.some_of(name))
         time.sleep(self.chance.choice((0.3, 1, 3, 6, 11)))
         host.send(name, signal.SIGCONT)
 
@@ -570,7 +595,7 @@ class Faults:
             host.held.add(name)
         self.kill(host, "host")
         for name in host.names:
-            host.processes[name].wait(20)
+            host.wait(name, 20)
         self.torn_bytes += tear(host, self.chance)
         for name in host.names:
             host.release(name)
@@ -842,8 +867,9 @@ def receipts(cluster, work):
     check("there is no receipt that nobody was told of", not unasked, list(unasked)[:5])
 
 
-def memory_of(pid):
-    return int(re.search(r"VmRSS:\s+(\d+)", pathlib.Path(f"/proc/{pid}/status").read_text())[1])
+def memory_of(pids):
+    """Resident KB of processes together."""
+    return sum(int(re.search(r"VmRSS:\s+(\d+)", pathlib.Path(f"/proc/{pid}/status").read_text())[1]) for pid in pids)
 
 
 def all_holds(cluster, work):
