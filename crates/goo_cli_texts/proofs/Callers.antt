@@ -1,5 +1,5 @@
 -- The issuing body's word is a caller's code.
-use Rattle.std.proofs.Common.{◌≡◌, List, ℕ, Result, Ok, Err, refl}
+use Rattle.std.proofs.Common.{◌≡◌, Ok, refl}
 use Rattle.goo_types.specs.Codes.{holder_reading}
 use Rattle.goo_types.specs.TextReading.{text_reading}
 use Rattle.goo_spec.specs.Checks.{issuer}

@@ -1,3 +1,4 @@
 mod Texts
 mod Callers
 mod PromiseFacts
+mod Stopping

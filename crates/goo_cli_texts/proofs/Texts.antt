@@ -1,5 +1,5 @@
 -- What an ending tells of a text, and of an import.
-use Rattle.std.proofs.Common.{arith, refl, ◌≡◌, ◌∙◌, ◌≢◌, ℕ, List, Bool, true, false, true≢false, Result, Ok, Err, Option, Some, None, is_ok, OnOk, IfOk, IsTrue}
+use Rattle.std.proofs.Common.{arith, refl, ◌≡◌, ◌∙◌, ℕ, List, Bool, true, false, true≢false, Result, Ok, Err, Option, Some, None, is_ok, OnOk, IsTrue}
 use Rattle.std.specs.Io.KnownBytes.{Appends, Keeps}
 use Rattle.goo_core_shelf.specs.Shelf.{Moment}
 use Rattle.goo_spec.specs.State.{State, Account}

@@ -9,7 +9,7 @@ use Rattle.goo_files_import.specs.declared.cause.Cause.{Cause}
 use Rattle.goo_files_import.specs.declared.row_result.RowResult.{RowResult}
 use Rattle.goo_cli_ending.specs.declared.ending.Ending.{Ending}
 use Rattle.goo_cli_ending.specs.declared.ending.Ending.TheVariants as ending
-use Rattle.goo_cli_texts.specs.Endings.{all_stand}
+use Rattle.goo_cli_texts.specs.Endings.{all_stand, ending_of_import}
 
 -- each row was imported as the issuing body's declaration, the whole report was written, and this is whether all stand
 pub record IsReported (input : List ℕ) (old new : State) (had has : Option (List ℕ)) (all : Bool) : Type 0 where
@@ -34,3 +34,7 @@ abbrev pub Finishes : Option Cause → List RowResult → Option (List ℕ) → 
 Finishes cause rows had has ending.Done = IsSent cause rows had has true
 Finishes cause rows had has ending.PartlyDone = IsSent cause rows had has false
 Finishes cause rows had has _ = Unit {0}
+
+-- it ends as an import does that stopped for this cause, or for none
+abbrev pub EndsBy : Option Cause → Ending → Type 0
+EndsBy cause told = (all : Bool) × (out : Bool) × (told ≡ ending_of_import cause all out)

@@ -2,3 +2,4 @@ pub mod Endings
 pub mod Declaring
 pub mod Progress
 pub mod Promised
+pub mod Stopped

@@ -3,9 +3,12 @@ ghost use Rattle.std.specs.Prelude.{◌≡◌, [], IfSome, IsTrue};
 ghost use Rattle.std.specs.Io.Buffered.{writer_buffer, writer_contents};
 ghost use Rattle.std.specs.Io.KnownBytes.{Appends};
 ghost use Rattle.goo_files_import.specs.Report.{report_text};
+ghost use Rattle.goo_files_streams.specs.Streams.{AppendsPrefix};
+ghost use Rattle.goo_registry.specs.Desks.{seen_of};
 ghost use Rattle.goo_cli_ending.specs.Endings.{status_of};
 ghost use Rattle.goo_cli_texts.specs.Endings.{all_stand, ending_of_import, stands};
-ghost use Rattle.goo_cli_texts.specs.Declaring.{Finishes, IsDeclared};
+ghost use Rattle.goo_cli_texts.specs.Declaring.{EndsBy, Finishes, IsDeclared};
+ghost use Rattle.goo_cli_texts.specs.Stopped.{IsStopped};
 ghost use Rattle.goo_cli_texts.specs.Promised.{KeepsPromise};
 ghost use Rattle.goo_spec.specs.Sound.{IsSound};
 
@@ -53,6 +56,7 @@ fn ending_of(cause: Option<Cause>, all_stand: bool, flushed: bool) -> Ending
 /// Writes a report whole, or tells that it could not.
 fn send_report<W: Write + Drop>(report: &Report, writer: &mut BufWriter<W>) -> bool
     ensures written { IsTrue result → Appends (writer_contents W.contents writer.old) (writer_contents W.contents writer.new) (report_text report.now.lines.items) }
+    ensures begun { AppendsPrefix (writer_contents W.contents writer.old) (writer_contents W.contents writer.new) (report_text report.now.lines.items) }
     ensures flushed { IsTrue result → writer_buffer writer.new ≡ [] }
 {
     write_report(report, writer).is_ok() && writer.flush().is_ok()
@@ -64,6 +68,8 @@ fn finish<W: Write + Drop>(
     cause: Option<Cause>,
     writer: &mut BufWriter<W>,
 ) -> Ending
+    ensures ends { EndsBy cause result }
+    ensures begun { AppendsPrefix (writer_contents W.contents writer.old) (writer_contents W.contents writer.new) (report_text report.now.lines.items) }
     ensures finished { Finishes cause report.now.lines.items (writer_contents W.contents writer.old) (writer_contents W.contents writer.new) result }
     ensures flushed { status_of result ≡ 0 → writer_buffer writer.new ≡ [] }
 {
@@ -76,6 +82,8 @@ fn finish<W: Write + Drop>(
 ///
 /// - `done`: with status 0 each row was imported and its declaration stands; with status 1 too, but for a file without its header,
 ///   and some declaration doesn't stand. The whole report is written.
+/// - `stopped`: after a fault of the records, and where memory was refused, the first rows stand; after one of the output all rows do. What was
+///   written is a beginning of their report. After one of the input, and where the header is missing, nothing has changed and nothing is written.
 /// - `promised`: what a registry promises after any list of requests holds of the requests of the rows that were applied, after a fault of the
 ///   first ones.
 /// - `lied`: what keeps the records returned what was written before, where it did so to the end.
@@ -87,6 +95,7 @@ pub fn declare<S: Shelf, R: Read, W: Write + Drop, T: Write>(
     line: &mut ProgressLine<T>,
 ) -> Ending
     ensures done { (S.seen registry.new.shelf).lies ≡ 0 → IfSome (R.remaining reader.old) (λ input. IsDeclared input (S.seen registry.old.shelf).state (S.seen registry.new.shelf).state (writer_contents W.contents writer.old) (writer_contents W.contents writer.new) result) }
+    ensures stopped { (S.seen registry.new.shelf).lies ≡ 0 → IfSome (R.remaining reader.old) (λ input. IsStopped result input (seen_of (S.seen registry.old.shelf)) (seen_of (S.seen registry.new.shelf)) (writer_contents W.contents writer.old) (writer_contents W.contents writer.new)) }
     ensures promised { IsSound (S.seen registry.old.shelf).state → (S.seen registry.new.shelf).lies ≡ 0 → (S.seen registry.new.shelf).doubts ≡ 0 → IfSome (R.remaining reader.old) (λ input. KeepsPromise result input (S.seen registry.old.shelf).state (S.seen registry.new.shelf).state) }
     ensures lied { (S.seen registry.new.shelf).lies ≡ 0 → (S.seen registry.old.shelf).lies ≡ 0 }
     ensures flushed { status_of result ≡ 0 → writer_buffer writer.new ≡ [] }

@@ -3,6 +3,7 @@ ghost use Rattle.std.specs.Prelude.{◌≡◌, [], None};
 ghost use Rattle.std.specs.FinMap.{get};
 ghost use Rattle.std.specs.Io.Buffered.{writer_buffer, writer_contents};
 ghost use Rattle.std.specs.Io.KnownBytes.{Keeps};
+ghost use Rattle.goo_core_shelf.specs.Shelf.{IsSafe};
 ghost use Rattle.goo_files.specs.Texts.{IsStatement, IsAuditText};
 ghost use Rattle.goo_files.specs.Writes.{Wrote};
 ghost use Rattle.goo_cli_ending.specs.Endings.{status_of};
@@ -36,6 +37,7 @@ fn ending_of(written: Result<(), TextFault>, flushed: bool) -> Ending
 /// - `shown`, `flushed`: status 0 only where the whole statement is written after what the writer had, and nothing is left in its buffer.
 /// - `unknown`: status 1 only where there is no such account, and nothing is written then.
 /// - `rests`: the registry stays as it is.
+/// - `safe`: a crash that follows finds it as it was, and finds nothing else, whatever the status.
 /// - `lied`: what keeps the records returned what was written before, where it did so to the end.
 pub fn show_statement<S: Shelf, W: Write + Drop>(
     registry: &mut Registry<S>,
@@ -47,6 +49,7 @@ pub fn show_statement<S: Shelf, W: Write + Drop>(
     ensures silent { (S.seen registry.new.shelf).lies ≡ 0 → status_of result ≡ 1 → Keeps (writer_contents W.contents writer.old) (writer_contents W.contents writer.new) }
     ensures flushed { status_of result ≡ 0 → writer_buffer writer.new ≡ [] }
     ensures rests { (S.seen registry.new.shelf).doubts ≡ 0 → (S.seen registry.new.shelf).state ≡ (S.seen registry.old.shelf).state }
+    ensures safe { (S.seen registry.new.shelf).lies ≡ 0 → (S.seen registry.old.shelf).doubts ≡ 0 → IsSafe (S.seen registry.new.shelf) (S.seen registry.old.shelf).state }
     ensures lied { (S.seen registry.new.shelf).lies ≡ 0 → (S.seen registry.old.shelf).lies ≡ 0 }
 {
     let written = write_statement(registry, &issuer(), account, writer);
@@ -59,6 +62,7 @@ pub fn show_statement<S: Shelf, W: Write + Drop>(
 /// - `shown`, `flushed`: status 0 only where the whole audit is written after what the writer had, and nothing is left in its buffer.
 /// - `silent`: with status 1 nothing is written.
 /// - `rests`: the registry stays as it is.
+/// - `safe`: a crash that follows finds it as it was, and finds nothing else, whatever the status.
 /// - `lied`: what keeps the records returned what was written before, where it did so to the end.
 pub fn show_audit<S: Shelf, W: Write + Drop>(
     alloc: Global,
@@ -69,6 +73,7 @@ pub fn show_audit<S: Shelf, W: Write + Drop>(
     ensures silent { (S.seen registry.new.shelf).lies ≡ 0 → status_of result ≡ 1 → Keeps (writer_contents W.contents writer.old) (writer_contents W.contents writer.new) }
     ensures flushed { status_of result ≡ 0 → writer_buffer writer.new ≡ [] }
     ensures rests { (S.seen registry.new.shelf).doubts ≡ 0 → (S.seen registry.new.shelf).state ≡ (S.seen registry.old.shelf).state }
+    ensures safe { (S.seen registry.new.shelf).lies ≡ 0 → (S.seen registry.old.shelf).doubts ≡ 0 → IsSafe (S.seen registry.new.shelf) (S.seen registry.old.shelf).state }
     ensures lied { (S.seen registry.new.shelf).lies ≡ 0 → (S.seen registry.old.shelf).lies ≡ 0 }
 {
     let written = write_audit(alloc, registry, &issuer(), writer);

@@ -3,7 +3,7 @@ use Rattle.std.proofs.Common.{◌≡◌, ◌<◌, ◌+◌, ℕ, zero, suc, List,
 use Rattle.goo_registry_desk.specs.Desk.{Seen}
 use Rattle.goo_desk_counter.specs.Counters.{Showing, Importing, Beginning}
 use Rattle.goo_desk_connection.specs.Serving.{Connects}
-use Rattle.goo_desk_server.specs.Serving.{IsCounted, IsOneCounted, Steps, StepsTo}
+use Rattle.goo_desk_server.specs.Serving.{IsCounted, IsOneCounted, IsServed, Steps, StepsTo}
 use Rattle.goo_desk_server.specs.declared.server_fault.ServerFault.{ServerFault}
 use Rattle.goo_desk_server.specs.declared.server_fault.ServerFault.TheVariants.{Write, Accept, Store, Memory}
 
@@ -31,6 +31,14 @@ module _ (shows : Showing) (imports : Importing) (begins : Beginning) (sends : �
   pub steps_on : (was half now : ℕ) (old mid new : Seen) → StepsTo shows imports begins sends was half old mid → StepsTo shows imports begins sends half now mid new → StepsTo shows imports begins sends was now old new
   steps_on was half now old mid new (a, is, so) (b, rest, more) =
       (a + b, let e : now ≡ was + (a + b) = omega (arith, is, rest) in e, steps_then was a b old mid new so (subst (λ n. Steps shows imports begins sends n b mid new) is more))
+
+-- one that was accepted counts, however serving it ends
+pub one_counted : (r : Result (Unit {0}) ServerFault) (was now : ℕ) → IsServed r → now ≡ was + 1 → IsOneCounted r was now
+one_counted (Ok x) was now served is = is
+one_counted (Err Store) was now served is = is
+one_counted (Err Accept) was now served is = absurd served
+one_counted (Err Write) was now served is = absurd served
+one_counted (Err Memory) was now served is = absurd served
 
 -- the last of those that were accepted, by the fault that ended all
 by_fault : (fault : ServerFault) (was mid now asked count : ℕ) → mid ≡ was + count → count < asked → IsOneCounted {T = Unit {0}} (Err fault) mid now → IsCounted {T = Unit {0}} (Err fault) was now asked

@@ -29,6 +29,14 @@ IsOneCounted (Err Store) was now = now ≡ was + 1
 IsOneCounted (Err Write) was now = ⊥
 IsOneCounted (Err Memory) was now = ⊥
 
+-- a connection that was accepted was served, whatever its client did, or the records failed
+abbrev pub IsServed : {T : Type 0} → Result T ServerFault → Type 0
+IsServed (Ok x) = Unit {0}
+IsServed (Err Accept) = ⊥
+IsServed (Err Store) = Unit {0}
+IsServed (Err Write) = ⊥
+IsServed (Err Memory) = ⊥
+
 -- as many were accepted as were asked for, and after a fault fewer, or the records failed at the last one; none before it was told where it listens
 abbrev pub IsCounted : {T : Type 0} → Result T ServerFault → ℕ → ℕ → ℕ → Type 0
 IsCounted (Ok x) was now asked = now ≡ was + asked

@@ -2,9 +2,10 @@
 ghost use Rattle.std.specs.Prelude.{◌≡◌, ◌++◌, codes, decimal, OnOk};
 ghost use Rattle.std.specs.Io.KnownBytes.{Appends};
 ghost use Rattle.goo_spec.specs.Sound.{IsSound};
+ghost use Rattle.goo_desk_connection.specs.Serving.{Connects};
 ghost use Rattle.goo_desk_counter.specs.Tables.{ImportsAreRuns};
 ghost use Rattle.goo_desk_server.specs.Runs.{KeepsPromise};
-ghost use Rattle.goo_desk_server.specs.Serving.{IsCounted, IsOneCounted, IsToldIn, StepsTo};
+ghost use Rattle.goo_desk_server.specs.Serving.{IsCounted, IsOneCounted, IsServed, IsToldIn, StepsTo};
 
 use crate::listener::Listener;
 use crate::server_fault::ServerFault;
@@ -15,7 +16,7 @@ use goo_desk_routes::Routes;
 use goo_files_streams::{WriteFault, write_whole};
 use itoa::Buffer;
 use std::alloc::Global;
-use std::io::Write;
+use std::io::{Read, Write};
 
 /// The line that tells where a server listens.
 fn listening(port: u16) -> ArrayString<64>
@@ -40,7 +41,28 @@ fn announce<W: Write>(port: u16, writer: &mut W) -> Result<(), WriteFault>
     }
 }
 
-/// Accepts a connection, serves it and closes it. Whatever is wrong with the client ends this connection alone.
+/// Serves a connection that was accepted. Whatever is wrong with the client ends this connection alone.
+///
+/// - `heard`: the registry is as it was, or as answering what the client sent leaves it, whatever the client does.
+fn serve_accepted<D: Counter, R: Read, W: Write>(
+    alloc: Global,
+    routes: &Routes,
+    desk: &mut D,
+    reader: &mut R,
+    writer: &mut W,
+) -> Result<(), ServerFault>
+    ensures heard { Connects D.shows D.imports D.begins (R.remaining reader.old) (D.seen desk.old) (D.seen desk.new) }
+    ensures ends { IsServed result }
+    ensures lied { (D.seen desk.new).lies ≡ 0 → (D.seen desk.old).lies ≡ 0 }
+    ensures told { (D.seen desk.old).refusals ≡ 0 → IsToldIn result (D.seen desk.new).refusals }
+{
+    match serve_by_routes(alloc, routes, desk, reader, writer) {
+        Err(ServeFault::Store) => Err(ServerFault::Store),
+        _ => Ok(()),
+    }
+}
+
+/// Accepts a connection, serves it and closes it.
 fn serve_next<D: Counter, L: Listener>(
     alloc: Global,
     routes: &Routes,
@@ -56,10 +78,7 @@ fn serve_next<D: Counter, L: Listener>(
     let Ok((mut reader, mut writer)) = listener.accept() else {
         return Err(ServerFault::Accept);
     };
-    match serve_by_routes(alloc, routes, desk, &mut reader, &mut writer) {
-        Err(ServeFault::Store) => Err(ServerFault::Store),
-        _ => Ok(()),
-    }
+    serve_accepted(alloc, routes, desk, &mut reader, &mut writer)
 }
 
 /// Serves so many connections in turn.

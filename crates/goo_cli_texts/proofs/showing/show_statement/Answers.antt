@@ -22,3 +22,7 @@ pub returns-clause-flushed : goal.returns-clause-flushed
 returns-clause-flushed g c status =
     flushed _ c.write_statement-written.result c.is_ok-flushed.result c.flush.result c.is_ok-flushed.ensures.value c.flush.ensures.ok
     (subst (λ e. status_of e ≡ 0) c.ending_of.ensures status)
+
+-- a crash after a look-up finds what was there
+pub returns-clause-safe : goal.returns-clause-safe
+returns-clause-safe g c clean sure = c.write_statement-written.ensures.looks.crash clean sure

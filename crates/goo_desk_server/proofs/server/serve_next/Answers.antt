@@ -1,13 +1,11 @@
-use Rattle.goo_desk_server.proofs.Connecting.{one_step}
+use Rattle.goo_desk_server.proofs.Connecting.{one_counted, one_step}
 use Rattle.goo_desk_server.proofs.server.serve_next.Goals as goal
 
 -- the connection's bytes are those of its number
-pub returns-in-Err-Store-clause-steps : goal.returns-in-Err-Store-clause-steps
-returns-in-Err-Store-clause-steps g c =
-    one_step g.D.Counter.shows g.D.Counter.imports g.D.Counter.begins (g.L.Listener.sends c.args.listener.now) _ (g.L.Listener.accepted c.args.listener.now) (g.L.Listener.accepted c.accept.new.self) (g.D.Desk.seen c.args.desk.now)
-    (g.D.Desk.seen c.serve_by_routes.new.desk) c.in-Ok.ensures.heard c.in-Ok.ensures.counted c.serve_by_routes.ensures.connects
-
 pub returns-clause-steps : goal.returns-clause-steps
 returns-clause-steps g c =
     one_step g.D.Counter.shows g.D.Counter.imports g.D.Counter.begins (g.L.Listener.sends c.args.listener.now) _ (g.L.Listener.accepted c.args.listener.now) (g.L.Listener.accepted c.accept.new.self) (g.D.Desk.seen c.args.desk.now)
-    (g.D.Desk.seen c.serve_by_routes.new.desk) c.in-Ok.ensures.heard c.in-Ok.ensures.counted c.serve_by_routes.ensures.connects
+    (g.D.Desk.seen c.serve_accepted.new.desk) c.in-Ok.ensures.heard c.in-Ok.ensures.counted c.serve_accepted.ensures.heard
+
+pub returns-clause-counted : goal.returns-clause-counted
+returns-clause-counted g c = one_counted c.serve_accepted.result (g.L.Listener.accepted c.args.listener.now) (g.L.Listener.accepted c.accept.new.self) c.serve_accepted.ensures.ends c.in-Ok.ensures.counted
