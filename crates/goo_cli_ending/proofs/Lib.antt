@@ -1,3 +1,4 @@
 mod EndingLemmas
 mod StoppedLemmas
 pub mod PromiseFacts
+pub mod DurableFacts

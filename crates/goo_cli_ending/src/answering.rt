@@ -2,6 +2,7 @@
 ghost use Rattle.std.specs.Prelude.{◌≡◌, ◌≢◌, ◌<◌, [], IfSome};
 ghost use Rattle.std.specs.Io.KnownBytes.{Appends, IsAtEnd};
 ghost use Rattle.std.specs.Io.Buffered.{writer_buffer, writer_contents};
+ghost use Rattle.goo_desk_lines.specs.Durable.{FindsAnswered};
 ghost use Rattle.goo_desk_lines.specs.Fold.{lines};
 ghost use Rattle.goo_cli_ending.specs.Endings.{status_of, IsOfLines, IsAfterInput, IsToldOf};
 ghost use Rattle.goo_cli_ending.specs.Stopped.{IsStopped};
@@ -29,6 +30,8 @@ use std::io::{BufWriter, Read, Write};
 /// - `promised`: what a registry promises after any list of requests holds of the requests of the lines that were answered, with status 0 and 1
 ///   of all lines, and their outcomes are what was written.
 /// - `lied`: what lies below the desk returned what was written before, where it did so to the end.
+/// - `found`: however it ends, all that was handed to the writer, flushed or not, are answers to first lines that a crash finds carried out,
+///   and at most one line more.
 pub fn answer_input<D: Desk, R: Read, W: Write + Drop>(
     alloc: Global,
     desk: &mut D,
@@ -46,6 +49,11 @@ pub fn answer_input<D: Desk, R: Read, W: Write + Drop>(
     ensures told { (D.seen desk.old).refusals ≡ 0 → IsToldOf result (D.seen desk.new).refusals }
     ensures promised { IsSound (D.seen desk.old).state → (D.seen desk.new).lies ≡ 0 → IfSome (R.remaining reader.old) (λ input. KeepsPromise result input (D.seen desk.old).state (writer_contents W.contents writer.old) (writer_contents W.contents writer.new) (λ t. (D.seen desk.new).doubts ≡ 0 → (D.seen desk.new).state ≡ t)) }
     ensures lied { (D.seen desk.new).lies ≡ 0 → (D.seen desk.old).lies ≡ 0 }
+    ensures found { (D.seen desk.new).lies ≡ 0 → (D.seen desk.old).doubts ≡ 0
+        → IfSome (R.remaining reader.old) (λ input.
+        FindsAnswered input (D.seen desk.old).state (D.seen desk.new)
+        (writer_contents W.contents writer.old) (writer_contents W.contents writer.new)
+        (D.leaves desk.new)) }
 {
     let answered = run_lines(alloc, desk, reader, writer);
     let flushed = writer.flush().is_ok();

@@ -178,7 +178,7 @@ told_by_reader f (Ok x) n is none = absurd is
 told_by_reader {U} reading.Read (Err e) n is none = subst (λ (g : LinesFault). IsToldIn {T = U} (Err g) n) (sym is) none
 told_by_reader {U} reading.Memory (Err e) n is none = subst (λ (g : LinesFault). IsToldIn {T = U} (Err g) n) (sym is) none
 
-keeps-same : (w : Option (List ℕ)) → Keeps w w
+pub keeps-same : (w : Option (List ℕ)) → Keeps w w
 keeps-same None = tt
 keeps-same (Some a) = refl
 

@@ -7,3 +7,4 @@ pub mod Stops
 pub mod Requests
 pub mod Laws
 pub mod Promised
+pub mod Durable

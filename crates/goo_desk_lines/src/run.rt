@@ -3,9 +3,11 @@ ghost use Rattle.std.specs.Prelude.{◌≡◌, ◌≢◌, ◌≤◌, ◌<◌, �
 ghost use Rattle.std.specs.Io.KnownBytes.{Appends, IsAtEnd, Keeps};
 ghost use Rattle.goo_files_streams.specs.Streams.{AppendsPrefix};
 ghost use Rattle.goo_desk_lines.specs.Answers.{answer_to, state_after};
+ghost use Rattle.goo_desk_lines.specs.Durable.{FindsAnswered, FindsLine};
 ghost use Rattle.goo_desk_lines.specs.Lines.{request_in};
 ghost use Rattle.goo_desk_lines.specs.Fold.{counted, with_line, lines};
 ghost use Rattle.goo_core_shelf.specs.Shelf.{IsTold};
+ghost use Rattle.goo_registry_desk.specs.Crash.{FindsOnly, FindsEither};
 ghost use Rattle.goo_spec.specs.Sound.{IsSound};
 ghost use Rattle.goo_desk_lines.specs.Promised.{KeepsPromise};
 ghost use Rattle.goo_desk_lines.specs.Stops.{AnswersLine, IsAfterReading, IsBetweenLines, IsToldIn, IsTurnedDown, StandsWhole, StandsInPart};
@@ -35,6 +37,11 @@ fn answer_line<D: Desk>(alloc: Global, desk: &mut D, line: &[u8]) -> Result<Answ
     ensures lied { (D.seen desk.new).lies ≡ 0 → (D.seen desk.old).lies ≡ 0 }
     ensures unasked { (reason : _) → request_in line.now ≡ Err reason → IfErr result (λ fault. fault ≡ Fault.Memory) }
     ensures told { (D.seen desk.old).refusals ≡ 0 → IsTold result (D.seen desk.new).refusals }
+    ensures works { (D.seen desk.new).lies ≡ 0 → (D.seen desk.old).doubts ≡ 0
+        → OnOk result ((D.seen desk.new).doubts ≡ 0) }
+    ensures crash { (D.seen desk.new).lies ≡ 0 → (D.seen desk.old).doubts ≡ 0
+        → FindsEither (D.leaves desk.new) (D.seen desk.old).state
+        (state_after (D.seen desk.old).state line.now) }
 {
     match read_line(alloc, line) {
         Ok(request) => Ok(Answer::Decided(desk.apply(alloc, &request)?)),
@@ -71,6 +78,11 @@ fn answer_next<D: Desk, W: Write>(
     ensures lied { (D.seen desk.new).lies ≡ 0 → (D.seen desk.old).lies ≡ 0 }
     ensures unasked { (reason : _) → request_in line.now ≡ Err reason → IfErr result (λ fault. fault ≢ LinesFault.Store) }
     ensures told { (D.seen desk.old).refusals ≡ 0 → IsToldIn result (D.seen desk.new).refusals }
+    ensures works { (D.seen desk.new).lies ≡ 0 → (D.seen desk.old).doubts ≡ 0
+        → OnOk result ((D.seen desk.new).doubts ≡ 0) }
+    ensures found { (D.seen desk.new).lies ≡ 0 → (D.seen desk.old).doubts ≡ 0
+        → FindsLine (D.seen desk.old).state line.now (D.seen desk.new)
+        (W.contents writer.old) (W.contents writer.new) (D.leaves desk.new) }
 {
     if line.is_empty() {
         return Ok(());
@@ -102,6 +114,9 @@ fn answer_lines<D: Desk, W: Write>(
     ensures part { IfErr result (λ fault. fault ≡ Writing → (D.seen desk.new).lies ≡ 0 → StandsInPart input.now (D.seen desk.old).state (D.seen desk.new).state (W.contents writer.old) (W.contents writer.new)) }
     ensures lied { (D.seen desk.new).lies ≡ 0 → (D.seen desk.old).lies ≡ 0 }
     ensures told { (D.seen desk.old).refusals ≡ 0 → IsToldIn result (D.seen desk.new).refusals }
+    ensures found { (D.seen desk.new).lies ≡ 0 → (D.seen desk.old).doubts ≡ 0
+        → FindsAnswered input.now (D.seen desk.old).state (D.seen desk.new)
+        (W.contents writer.old) (W.contents writer.new) (D.leaves desk.new) }
 {
     let mut tally = Tally { good: 0, bad: 0 };
     for line in Lines(Some(input)) {
@@ -122,6 +137,7 @@ fn answer_lines<D: Desk, W: Write>(
 ///
 /// `promised`: what a registry promises after any list of requests holds of the requests of the lines that were answered, all of them or
 /// the first ones ([`lines_are_a_run`](crate::lines_are_a_run) says that lines are a run of their requests).
+/// `found`: however it ends, all that is written are answers to first lines that a crash finds carried out, and at most one line more.
 ///
 /// # Example
 ///
@@ -151,6 +167,10 @@ pub fn run_lines<D: Desk, R: Read, W: Write>(
     ensures end { OnOk result (IsAtEnd (R.remaining reader.new)) }
     ensures read { IfErr result (λ fault. IsAfterReading fault → IsAtEnd (R.remaining reader.new)) }
     ensures promised { IsSound (D.seen desk.old).state → (D.seen desk.new).lies ≡ 0 → IfSome (R.remaining reader.old) (λ input. KeepsPromise input (D.seen desk.old).state (D.seen desk.new) result) }
+    ensures found { (D.seen desk.new).lies ≡ 0 → (D.seen desk.old).doubts ≡ 0
+        → IfSome (R.remaining reader.old) (λ input.
+        FindsAnswered input (D.seen desk.old).state (D.seen desk.new)
+        (W.contents writer.old) (W.contents writer.new) (D.leaves desk.new)) }
 {
     let input = read_whole(alloc, reader, MOST_INPUT)?;
     answer_lines(alloc, desk, &input, writer)

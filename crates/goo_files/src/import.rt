@@ -3,6 +3,7 @@ ghost use Rattle.std.specs.Prelude.{◌≡◌, [], IfOk, IfErr, IfSome, OnOk, On
 ghost use Rattle.std.specs.Io.KnownBytes.{Appends, IsAtEnd};
 ghost use Rattle.goo_files_streams.specs.Streams.{AppendsPrefix};
 ghost use Rattle.goo_registry.specs.Desks.{seen_of};
+ghost use Rattle.goo_files_import.specs.Durable.{FindsReported, reported};
 ghost use Rattle.goo_files_import.specs.Report.{report_text};
 ghost use Rattle.goo_files_import.specs.Table.{LacksHeader};
 ghost use Rattle.goo_files_import.specs.Stands.{IsImported, StandsInPart, IsBeforeRows, IsBetweenRows, IsToldIn};
@@ -37,6 +38,11 @@ pub fn import_declarations_watched<S: Shelf, R: Read, P: Progress>(
     ensures lied { (S.seen registry.new.shelf).lies ≡ 0 → (S.seen registry.old.shelf).lies ≡ 0 }
     ensures told { (S.seen registry.old.shelf).refusals ≡ 0 → IsToldIn result (S.seen registry.new.shelf).refusals }
     ensures end { OnOk result (IsAtEnd (R.remaining reader.new)) }
+    ensures found { (S.seen registry.new.shelf).lies ≡ 0 → (S.seen registry.old.shelf).doubts ≡ 0
+        → IfSome (R.remaining reader.old) (λ input.
+        FindsReported caller.now input (S.seen registry.old.shelf).state
+        (seen_of (S.seen registry.new.shelf)) (reported result)
+        (S.seen registry.new.shelf).leaves) }
 {
     goo_files_import::import_declarations(alloc, registry, caller, reader, progress)
 }
@@ -62,6 +68,11 @@ pub fn import_declarations<S: Shelf, R: Read>(
     ensures lied { (S.seen registry.new.shelf).lies ≡ 0 → (S.seen registry.old.shelf).lies ≡ 0 }
     ensures told { (S.seen registry.old.shelf).refusals ≡ 0 → IsToldIn result (S.seen registry.new.shelf).refusals }
     ensures end { OnOk result (IsAtEnd (R.remaining reader.new)) }
+    ensures found { (S.seen registry.new.shelf).lies ≡ 0 → (S.seen registry.old.shelf).doubts ≡ 0
+        → IfSome (R.remaining reader.old) (λ input.
+        FindsReported caller.now input (S.seen registry.old.shelf).state
+        (seen_of (S.seen registry.new.shelf)) (reported result)
+        (S.seen registry.new.shelf).leaves) }
 {
     import_declarations_watched(alloc, registry, caller, reader, &mut Unwatched)
 }

@@ -10,7 +10,7 @@ use Rattle.goo_files_import.specs.declared.row_result.RowResult.{RowResult}
 abbrev pub Fields : Type 0
 Fields = List (List ℕ)
 
-with-last : (caller : List ℕ) (a : Imported) (rows : List Fields) (row : Fields) → with_rows caller a (rows ++ row ∷ []) ≡ with_row caller (with_rows caller a rows) row
+pub with-last : (caller : List ℕ) (a : Imported) (rows : List Fields) (row : Fields) → with_rows caller a (rows ++ row ∷ []) ≡ with_row caller (with_rows caller a rows) row
 unfolding with_rows
 with-last caller a [] row = refl
 with-last caller a (first ∷ rows) row = with-last caller (with_row caller a first) rows row
@@ -41,22 +41,25 @@ pub record IsImporting (old mid : Seen) (caller : List ℕ) (done : List Fields)
   pub told : old.refusals ≡ 0 → mid.refusals ≡ 0
   pub honest : mid.lies ≡ 0 → AreImported old.state mid.state caller done lines
   pub sure : mid.doubts ≡ 0 → AreImported old.state mid.state caller done lines
+  pub works : mid.lies ≡ 0 → old.doubts ≡ 0 → mid.doubts ≡ 0
 
 pub importing_start : (m : Seen) (caller : List ℕ) → IsImporting m m caller [] []
-importing_start m caller = record { lied = λ none. none; doubted = λ none. none; told = λ none. none; honest = λ none. imported_none m.state caller; sure = λ none. imported_none m.state caller }
+importing_start m caller = record { lied = λ none. none; doubted = λ none. none; told = λ none. none; honest = λ none. imported_none m.state caller; sure = λ none. imported_none m.state caller; works = λ none sure. sure }
 
 -- one more row
 pub importing_on : (old mid new : Seen) (caller : List ℕ) (done : List Fields) (lines more : List RowResult) (row : Fields) → IsImporting old mid caller done lines
     → (new.lies ≡ 0 → mid.lies ≡ 0) → (new.doubts ≡ 0 → mid.doubts ≡ 0) → (mid.refusals ≡ 0 → new.refusals ≡ 0)
     → (new.lies ≡ 0 → more ≡ lines ++ row_result mid.state caller row ∷ []) → (new.lies ≡ 0 → new.state ≡ state_after mid.state caller row)
     → (new.doubts ≡ 0 → more ≡ lines ++ row_result mid.state caller row ∷ []) → (new.doubts ≡ 0 → new.state ≡ state_after mid.state caller row)
+    → (new.lies ≡ 0 → mid.doubts ≡ 0 → new.doubts ≡ 0)
     → IsImporting old new caller (done ++ row ∷ []) more
-importing_on old mid new caller done lines more row so lied doubted told added state sure_added sure_state = record {
+importing_on old mid new caller done lines more row so lied doubted told added state sure_added sure_state works = record {
   lied = λ none. so.lied (lied none);
   doubted = λ none. so.doubted (doubted none);
   told = λ none. told (so.told none);
   honest = λ none. imported_more old.state mid.state new.state caller done lines more row (so.honest (lied none)) (added none) (state none);
   sure = λ none. imported_more old.state mid.state new.state caller done lines more row (so.sure (doubted none)) (sure_added none) (sure_state none);
+  works = λ none sure. works none (so.works (lied none) sure);
 }
 
 -- all rows were

@@ -5,6 +5,8 @@ ghost use Rattle.csv.specs.Records.{fields_of};
 ghost use Rattle.goo_files_import.specs.Import.{row_result, state_after};
 ghost use Rattle.goo_files_import.specs.Table.{LacksHeader};
 ghost use Rattle.goo_core_shelf.specs.Shelf.{IsTold};
+ghost use Rattle.goo_registry_desk.specs.Crash.{FindsEither};
+ghost use Rattle.goo_files_import.specs.Durable.{FindsReported, reported};
 ghost use Rattle.goo_spec.specs.Sound.{IsSound};
 ghost use Rattle.goo_files_import.specs.Promised.{KeepsPromise};
 ghost use Rattle.goo_files_import.specs.Stands.{IsImported, StandsInPart, IsBeforeRows, IsBetweenRows, IsToldIn};
@@ -42,6 +44,11 @@ fn apply_row<D: Desk>(
     ensures doubted { (D.seen desk.new).doubts ≡ 0 → (D.seen desk.old).doubts ≡ 0 }
     ensures lied { (D.seen desk.new).lies ≡ 0 → (D.seen desk.old).lies ≡ 0 }
     ensures told { (D.seen desk.old).refusals ≡ 0 → IsTold result (D.seen desk.new).refusals }
+    ensures works { (D.seen desk.new).lies ≡ 0 → (D.seen desk.old).doubts ≡ 0
+        → OnOk result ((D.seen desk.new).doubts ≡ 0) }
+    ensures crash { (D.seen desk.new).lies ≡ 0 → (D.seen desk.old).doubts ≡ 0
+        → FindsEither (D.leaves desk.new) (D.seen desk.old).state
+        (state_after (D.seen desk.old).state caller.now (fields_of row.now)) }
 {
     match read_row(caller, row) {
         Some(request) => Ok(RowResult::of(desk.apply(alloc, &request)?)),
@@ -66,6 +73,11 @@ fn import_row<D: Desk>(
     ensures doubted { (D.seen desk.new).doubts ≡ 0 → (D.seen desk.old).doubts ≡ 0 }
     ensures lied { (D.seen desk.new).lies ≡ 0 → (D.seen desk.old).lies ≡ 0 }
     ensures told { (D.seen desk.old).refusals ≡ 0 → IsTold result (D.seen desk.new).refusals }
+    ensures works { (D.seen desk.new).lies ≡ 0 → (D.seen desk.old).doubts ≡ 0
+        → OnOk result ((D.seen desk.new).doubts ≡ 0) }
+    ensures crash { (D.seen desk.new).lies ≡ 0 → (D.seen desk.old).doubts ≡ 0
+        → FindsEither (D.leaves desk.new) (D.seen desk.old).state
+        (state_after (D.seen desk.old).state caller.now (fields_of row.now)) }
 {
     if lines.try_reserve(1).is_err() {
         return Err(Fault::Memory);
@@ -134,6 +146,11 @@ pub fn import_bytes<D: Desk, P: Progress>(
     ensures doubted { (D.seen desk.new).doubts ≡ 0 → (D.seen desk.old).doubts ≡ 0 }
     ensures lied { (D.seen desk.new).lies ≡ 0 → (D.seen desk.old).lies ≡ 0 }
     ensures told { (D.seen desk.old).refusals ≡ 0 → IsToldIn result (D.seen desk.new).refusals }
+    ensures works { (D.seen desk.new).lies ≡ 0 → (D.seen desk.old).doubts ≡ 0
+        → OnOk result ((D.seen desk.new).doubts ≡ 0) }
+    ensures found { (D.seen desk.new).lies ≡ 0 → (D.seen desk.old).doubts ≡ 0
+        → FindsReported caller.now input.now (D.seen desk.old).state (D.seen desk.new)
+        (reported result) (D.leaves desk.new) }
 {
     announce(alloc, input, progress);
     let reader = ReaderBuilder::new()
@@ -169,6 +186,7 @@ pub fn import_bytes<D: Desk, P: Progress>(
 ///
 /// `promised`: what a registry promises after any list of requests holds of the requests of the rows that were applied, all of them or the
 /// first ones ([`import_is_a_run`](crate::import_is_a_run) says that an import is a run of its rows' requests).
+/// `found`: however it ends, the rows of the report are first rows that a crash finds applied, and at most one row more.
 ///
 /// # Errors
 ///
@@ -190,6 +208,10 @@ pub fn import_declarations<D: Desk, R: Read, P: Progress>(
     ensures told { (D.seen desk.old).refusals ≡ 0 → IsToldIn result (D.seen desk.new).refusals }
     ensures end { OnOk result (IsAtEnd (R.remaining reader.new)) }
     ensures promised { IsSound (D.seen desk.old).state → (D.seen desk.new).lies ≡ 0 → IfSome (R.remaining reader.old) (λ input. KeepsPromise caller.now input (D.seen desk.old).state (D.seen desk.new) result) }
+    ensures found { (D.seen desk.new).lies ≡ 0 → (D.seen desk.old).doubts ≡ 0
+        → IfSome (R.remaining reader.old) (λ input.
+        FindsReported caller.now input (D.seen desk.old).state (D.seen desk.new)
+        (reported result) (D.leaves desk.new)) }
 {
     match read_whole(alloc, reader, MOST_INPUT) {
         Ok(input) => import_bytes(alloc, desk, caller, &input, progress),

@@ -24,7 +24,11 @@ pub(crate) fn apply_by<S: Shelf>(
 impl<S: Shelf> Desk for Registry<S> {
     ghost seen = { λ r. seen_of (S.seen r.shelf) };
 
+    ghost leaves = { λ r. (S.seen r.shelf).leaves };
+
     fn apply(&mut self, alloc: Global, request: &Request) -> Result<Outcome, Fault> {
         apply_by(self, alloc, request)
     }
+
+    ghost settled = { λ r none. S.settled r.shelf none };
 }

@@ -68,14 +68,18 @@ pub struct Failing {
 }
 
 impl Desk for Failing {
-    ghost use Rattle.goo_spec.specs.Created.{created};
-    ghost use Rattle.goo_tests_desk.specs.Failing.{refused_by};
+    ghost use Rattle.std.specs.Prelude.{◌≡◌, Some};
+    ghost use Rattle.goo_tests_desk.specs.Failing.{begun, refused_by};
 
-    ghost seen = { λ d. record { state = created 7 (record { year = 2025; month = 3; day = 1 }) 1; lies = 0; doubts = 0; refusals = refused_by d.fault } };
+    ghost seen = { λ d. record { state = begun; lies = 0; doubts = 0; refusals = refused_by d.fault } };
+
+    ghost leaves = { λ d o. o ≡ Some begun };
 
     fn apply(&mut self, _alloc: Global, _request: &Request) -> Result<Outcome, Fault> {
         Err(self.fault)
     }
+
+    ghost settled = { λ d none o is. is };
 }
 
 impl Counter for Failing {

@@ -1,6 +1,7 @@
 use Rattle.goo_cli_ending.proofs.EndingLemmas.{all_done_from, not_all_done_from, written_from, kept_from, flushed_from, of_lines, after_input, told_from}
 use Rattle.goo_cli_ending.proofs.PromiseFacts.{promised_from}
 use Rattle.goo_cli_ending.proofs.StoppedLemmas.{stopped_from}
+use Rattle.goo_cli_ending.proofs.DurableFacts.{found_kept}
 use Rattle.goo_cli_ending.proofs.answering.answer_input.Goals as goal
 
 pub returns-clause-all_done : goal.returns-clause-all_done
@@ -37,3 +38,7 @@ returns-clause-promised g c sound sure =
     rw c.of_run.ensures (promised_from c.run_lines-answered.result c.is_ok-flushed.result (g.R.Read.remaining c.args.reader.now) (g.D.Desk.seen c.args.desk.now) _ _ _ _ sound
     (c.run_lines-answered.ensures.state sure) (c.run_lines-answered.ensures.text sure) (c.run_lines-answered.ensures.whole sure) (c.run_lines-answered.ensures.part sure)
     c.run_lines-answered.ensures.unread c.run_lines-answered.ensures.silent c.flush.ensures.bytes)
+
+pub returns-clause-found : goal.returns-clause-found
+returns-clause-found g c lies sure =
+    found_kept (g.R.Read.remaining c.args.reader.now) _ _ _ _ _ (g.D.Desk.leaves c.run_lines-answered.new.desk) (c.run_lines-answered.ensures.found lies sure) c.flush.ensures.bytes

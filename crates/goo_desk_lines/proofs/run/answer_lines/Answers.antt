@@ -2,6 +2,7 @@ use Rattle.std.proofs.Common.{rules, refl, ◌≡◌, ◌∷◌, Bor, ℕ, List,
 use Rattle.std.proofs.lemmas.List.{map-append, length-map}
 use Rattle.goo_desk_lines.specs.Lines.{lines_left}
 use Rattle.goo_desk_lines.proofs.AnswerFacts.{lines-bound, none-stand, on-same-err, part-at, stands-next}
+use Rattle.goo_desk_lines.proofs.DurableFacts.{found_last, found_next}
 use Rattle.goo_desk_lines.proofs.run.answer_lines.Goals as goal
 
 pub loop-line-init : goal.loop-line-init
@@ -10,6 +11,7 @@ loop-line-init g c = rw c.into_iter-line-iterator.ensures.into_iter_gives (recor
   count = omega arith;
   lied = λ below. below;
   told = λ none. none;
+  works = λ below sure. sure;
   answered = λ below. none-stand (g.D.Desk.seen c.args.desk.now).state (g.W.Write.contents c.args.writer.now);
 })
 
@@ -30,6 +32,7 @@ loop-line-preserved g c =
       count = omega (arith, made.count, i.count, length-append c.loop-line.yielded (c.in-Some.line ∷ []));
       lied = λ below. i.lied (made.lied below);
       told = λ none. c.in_ok-answer_next.ensures.told (i.told none);
+      works = λ below sure. made.works below (i.works (made.lied below) sure);
       answered = λ below. stands-next (g.D.Desk.seen c.args.desk.now).state (g.D.Desk.seen c.loop-line.desk).state (g.D.Desk.seen c.answer_next.new.desk).state
           (g.W.Write.contents c.args.writer.now) (g.W.Write.contents c.loop-line.writer) (g.W.Write.contents c.answer_next.new.writer)
           done c.in-Some.line.now c.loop-line.tally c.answer_next.new.tally
@@ -47,3 +50,22 @@ returns-in_err-answer_next-clause-part g c =
     (g.W.Write.contents c.args.writer.now) (g.W.Write.contents c.loop-line.writer) (g.W.Write.contents c.answer_next.new.writer)
     c.args.input.now (map (λ (line : Bor (List ℕ)). line.now) c.loop-line.yielded) (lines_left c.next.new.self.0) c.in-Some.line.now c.loop-line.tally
     order (i.answered (stopped.lied below)) (stopped.stands is below) (stopped.prefix is below))
+
+-- the next line stopped it
+pub returns-in_err-answer_next-clause-found : goal.returns-in_err-answer_next-clause-found
+returns-in_err-answer_next-clause-found g c below sure =
+    let i = c.loop-line.invariant in
+    let order = rw c.in-Some.ensures.steps at i.order in
+    let stopped = c.in_err-answer_next.ensures in
+    found_next (g.D.Desk.seen c.args.desk.now).state (g.D.Desk.seen c.loop-line.desk).state (g.D.Desk.seen c.answer_next.new.desk)
+    (g.W.Write.contents c.args.writer.now) (g.W.Write.contents c.loop-line.writer) (g.W.Write.contents c.answer_next.new.writer)
+    c.args.input.now (map (λ (line : Bor (List ℕ)). line.now) c.loop-line.yielded) (lines_left c.next.new.self.0) c.in-Some.line.now c.loop-line.tally (g.D.Desk.leaves c.answer_next.new.desk)
+    order (i.answered (stopped.lied below)) (stopped.found below (i.works (stopped.lied below) sure))
+
+-- all were answered
+pub returns-clause-found : goal.returns-clause-found
+returns-clause-found g c below sure =
+    let i = c.loop-line.invariant in
+    found_last (g.D.Desk.seen c.args.desk.now).state (g.D.Desk.seen c.loop-line.desk) (g.W.Write.contents c.args.writer.now) (g.W.Write.contents c.loop-line.writer)
+    c.args.input.now (map (λ (line : Bor (List ℕ)). line.now) c.loop-line.yielded) (lines_left c.loop-line.line-iterator.0) c.loop-line.tally (g.D.Desk.leaves c.loop-line.desk)
+    i.order (i.answered below) (g.met.D.Desk.settled c.loop-line.desk (i.works below sure))

@@ -9,6 +9,7 @@ invariant-loop-line g l = record {
   count : l.tally.good + l.tally.bad ≤ length l.yielded;
   lied : (g.D.Desk.seen l.desk).lies ≡ 0 → (g.D.Desk.seen l.initial.desk).lies ≡ 0;
   told : (g.D.Desk.seen l.initial.desk).refusals ≡ 0 → (g.D.Desk.seen l.desk).refusals ≡ 0;
+  works : (g.D.Desk.seen l.desk).lies ≡ 0 → (g.D.Desk.seen l.initial.desk).doubts ≡ 0 → (g.D.Desk.seen l.desk).doubts ≡ 0;
   answered : (g.D.Desk.seen l.desk).lies ≡ 0
       → Stands (g.D.Desk.seen l.initial.desk).state (g.D.Desk.seen l.desk).state (g.W.Write.contents l.initial.writer) (g.W.Write.contents l.writer) (map (λ line. line.now) l.yielded) l.tally;
 }

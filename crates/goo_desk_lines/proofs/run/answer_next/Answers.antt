@@ -1,7 +1,10 @@
-use Rattle.std.proofs.Common.{rules, ◌<◌, ◌≡◌, length, IsErrAnd}
+use Rattle.std.proofs.Common.{rules, ◌<◌, ◌≡◌, ◌++◌, ◌∷◌, [], length, IsErrAnd}
+use Rattle.goo_desk_lines.specs.Answers.{answer_text}
 use Rattle.goo_desk_lines.specs.Faults.{of_desk}
 use Rattle.goo_desk_lines.specs.declared.answer.Answer.{Answer}
 use Rattle.goo_desk_lines.proofs.AnswerFacts.{answers-good, answers-bad, writes-part, on-any-err, told_by_desk}
+use Rattle.goo_files_streams.proofs.AppendsFacts.{prefix-whole}
+use Rattle.goo_desk_lines.proofs.DurableFacts.{begun_after, unanswered, untouched}
 use Rattle.goo_desk_lines.proofs.run.answer_next.Goals as goal
 
 pub returns-then-is_good-clause-answered : goal.returns-then-is_good-clause-answered
@@ -30,3 +33,41 @@ pub returns-in_err-answer-clause-told : goal.returns-in_err-answer-clause-told
 returns-in_err-answer-clause-told g c none =
     let is : IsErrAnd c.from_residual.result (λ e. e ≡ of_desk c.in_err-answer.field-0.0) = search rules in
     told_by_desk Answer c.in_err-answer.field-0.0 c.from_residual.result _ is (c.in_err-answer.ensures.told none)
+
+pub returns-then-is_empty-clause-found : goal.returns-then-is_empty-clause-found
+returns-then-is_empty-clause-found g c lies sure =
+    untouched (g.D.Desk.seen c.args.desk.now) c.args.line.now (g.W.Write.contents c.args.writer.now) (g.D.Desk.leaves c.args.desk.now) (g.met.D.Desk.settled c.args.desk.now sure)
+
+pub returns-in_err-answer-clause-found : goal.returns-in_err-answer-clause-found
+returns-in_err-answer-clause-found g c lies sure =
+    let some : 0 < length c.args.line.now = search rules in
+    unanswered (g.D.Desk.seen c.args.desk.now).state (g.D.Desk.seen c.answer_line.new.desk) c.args.line.now (g.W.Write.contents c.args.writer.now) (g.D.Desk.leaves c.answer_line.new.desk) some
+    c.in_err-answer.ensures.unchanged (c.answer_line.ensures.crash lies sure)
+
+-- a beginning of the answer was written
+pub returns-in_err-write_line-clause-found : goal.returns-in_err-write_line-clause-found
+returns-in_err-write_line-clause-found g c lies sure =
+    let some : 0 < length c.args.line.now = search rules in
+    begun_after (g.D.Desk.seen c.args.desk.now).state (g.D.Desk.seen c.answer_line.new.desk) c.args.line.now c.in_ok-answer.answer
+    (g.W.Write.contents c.args.writer.now) (g.W.Write.contents c.write_line.new.writer) (g.D.Desk.leaves c.answer_line.new.desk) some
+    (c.in_ok-answer.ensures.answer lies) (c.in_ok-answer.ensures.state lies) (search rules) (g.met.D.Desk.settled c.answer_line.new.desk (c.in_ok-answer.ensures.works lies sure))
+
+-- the whole of it was
+pub returns-then-is_good-clause-found : goal.returns-then-is_good-clause-found
+returns-then-is_good-clause-found g c lies sure =
+    let some : 0 < length c.args.line.now = search rules in
+    begun_after (g.D.Desk.seen c.args.desk.now).state (g.D.Desk.seen c.answer_line.new.desk) c.args.line.now c.in_ok-answer.answer
+    (g.W.Write.contents c.args.writer.now) (g.W.Write.contents c.write_line.new.writer) (g.D.Desk.leaves c.answer_line.new.desk) some
+    (c.in_ok-answer.ensures.answer lies) (c.in_ok-answer.ensures.state lies)
+    (prefix-whole (g.W.Write.contents c.args.writer.now) (g.W.Write.contents c.write_line.new.writer) (answer_text c.in_ok-answer.answer ++ 10 ∷ []) (search rules))
+    (g.met.D.Desk.settled c.answer_line.new.desk (c.in_ok-answer.ensures.works lies sure))
+
+-- the whole of it was
+pub returns-else-is_good-clause-found : goal.returns-else-is_good-clause-found
+returns-else-is_good-clause-found g c lies sure =
+    let some : 0 < length c.args.line.now = search rules in
+    begun_after (g.D.Desk.seen c.args.desk.now).state (g.D.Desk.seen c.answer_line.new.desk) c.args.line.now c.in_ok-answer.answer
+    (g.W.Write.contents c.args.writer.now) (g.W.Write.contents c.write_line.new.writer) (g.D.Desk.leaves c.answer_line.new.desk) some
+    (c.in_ok-answer.ensures.answer lies) (c.in_ok-answer.ensures.state lies)
+    (prefix-whole (g.W.Write.contents c.args.writer.now) (g.W.Write.contents c.write_line.new.writer) (answer_text c.in_ok-answer.answer ++ 10 ∷ []) (search rules))
+    (g.met.D.Desk.settled c.answer_line.new.desk (c.in_ok-answer.ensures.works lies sure))

@@ -3,6 +3,7 @@ use Rattle.goo_files_streams.specs.Streams.{IsWholeOf}
 use Rattle.goo_desk_lines.specs.Faults.{of_reading}
 use Rattle.goo_desk_lines.proofs.AnswerFacts.{whole-unread, told_by_reader, down-unread, within-limit}
 use Rattle.goo_desk_lines.proofs.PromiseFacts.{answered_promised, unread_promised}
+use Rattle.goo_desk_lines.proofs.DurableFacts.{read_found, unread_found}
 use Rattle.goo_desk_lines.proofs.run.run_lines.Goals as goal
 
 pub returns-in_err-input-clause-whole : goal.returns-in_err-input-clause-whole
@@ -34,3 +35,14 @@ returns-clause-promised g c sound honest =
     answered_promised (g.D.Desk.seen c.args.desk.now) (g.D.Desk.seen c.answer_lines.new.desk) (g.R.Read.remaining c.args.reader.now) c.deref.result.now
     (g.W.Write.contents c.args.writer.now) (g.W.Write.contents c.answer_lines.new.writer) c.answer_lines.result whole sound (made.state honest) made.kinds
     (search rules) (search rules)
+
+pub returns-in_err-input-clause-found : goal.returns-in_err-input-clause-found
+returns-in_err-input-clause-found g c below sure =
+    unread_found (g.R.Read.remaining c.args.reader.now) (g.D.Desk.seen c.args.desk.now) (g.W.Write.contents c.args.writer.now) (g.D.Desk.leaves c.args.desk.now)
+    (g.met.D.Desk.settled c.args.desk.now sure)
+
+pub returns-clause-found : goal.returns-clause-found
+returns-clause-found g c below sure =
+    let whole : IsWholeOf (g.R.Read.remaining c.args.reader.now) c.deref.result.now = search rules in
+    read_found (g.R.Read.remaining c.args.reader.now) c.deref.result.now (g.D.Desk.seen c.args.desk.now).state (g.D.Desk.seen c.answer_lines.new.desk)
+    (g.W.Write.contents c.args.writer.now) (g.W.Write.contents c.answer_lines.new.writer) (g.D.Desk.leaves c.answer_lines.new.desk) whole (c.answer_lines.ensures.found below sure)

@@ -1,0 +1,9 @@
+use Rattle.std.proofs.Common.{inl}
+use Rattle.goo_desk_lines.proofs.run.answer_line.Goals as goal
+
+-- where nothing was applied, a crash finds what was there
+pub returns-in-Err-Unreadable-clause-crash : goal.returns-in-Err-Unreadable-clause-crash
+returns-in-Err-Unreadable-clause-crash g c lies sure o may = inl (g.met.D.Desk.settled c.args.desk.now sure o may)
+
+pub returns-in-Err-Memory-clause-crash : goal.returns-in-Err-Memory-clause-crash
+returns-in-Err-Memory-clause-crash g c lies sure o may = inl (g.met.D.Desk.settled c.args.desk.now sure o may)

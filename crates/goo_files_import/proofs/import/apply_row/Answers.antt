@@ -1,0 +1,6 @@
+use Rattle.std.proofs.Common.{inl}
+use Rattle.goo_files_import.proofs.import.apply_row.Goals as goal
+
+-- where nothing was applied, a crash finds what was there
+pub returns-in-None-clause-crash : goal.returns-in-None-clause-crash
+returns-in-None-clause-crash g c lies sure o may = inl (g.met.D.Desk.settled c.args.desk.now sure o may)
