@@ -72,6 +72,8 @@ fn apply_body<D: Counter>(
     ensures doubted { (D.seen desk.new).doubts ≡ 0 → (D.seen desk.old).doubts ≡ 0 }
     ensures lied { (D.seen desk.new).lies ≡ 0 → (D.seen desk.old).lies ≡ 0 }
     ensures told { (D.seen desk.old).refusals ≡ 0 → IsTold result (D.seen desk.new).refusals }
+    ensures works { (D.seen desk.new).lies ≡ 0 → (D.seen desk.old).doubts ≡ 0
+        → OnOk result ((D.seen desk.new).doubts ≡ 0) }
 {
     match read_body(alloc, caller, body) {
         Ok(request) => Ok(Given::Decided(desk.apply(alloc, &request)?)),
@@ -105,6 +107,8 @@ pub(crate) fn answer_apply<D: Counter>(
     ensures doubted { (D.seen desk.new).doubts ≡ 0 → (D.seen desk.old).doubts ≡ 0 }
     ensures lied { (D.seen desk.new).lies ≡ 0 → (D.seen desk.old).lies ≡ 0 }
     ensures told { (D.seen desk.old).refusals ≡ 0 → IsTold result (D.seen desk.new).refusals }
+    ensures works { (D.seen desk.new).lies ≡ 0 → (D.seen desk.old).doubts ≡ 0
+        → OnOk result ((D.seen desk.new).doubts ≡ 0) }
 {
     let room = Vec::with_capacity(alloc, ROOM)?;
     let given = apply_body(alloc, desk, caller, body)?;

@@ -1,5 +1,5 @@
 //! An import of declarations.
-ghost use Rattle.std.specs.Prelude.{◌≡◌, IfOk, OnErr};
+ghost use Rattle.std.specs.Prelude.{◌≡◌, IfOk, OnErr, OnOk};
 ghost use Rattle.goo_desk_counter.specs.Counters.{report_of};
 ghost use Rattle.goo_core_shelf.specs.Shelf.{IsTold};
 ghost use Rattle.goo_desk_answers.specs.Responds.{Does, Stopped, IsGiven, import_response};
@@ -41,6 +41,8 @@ pub(crate) fn answer_import<D: Counter>(
     ensures doubted { (D.seen desk.new).doubts ≡ 0 → (D.seen desk.old).doubts ≡ 0 }
     ensures lied { (D.seen desk.new).lies ≡ 0 → (D.seen desk.old).lies ≡ 0 }
     ensures told { (D.seen desk.old).refusals ≡ 0 → IsTold result (D.seen desk.new).refusals }
+    ensures works { (D.seen desk.new).lies ≡ 0 → (D.seen desk.old).doubts ≡ 0
+        → OnOk result ((D.seen desk.new).doubts ≡ 0) }
 {
     let imported = desk.import(alloc, caller, body)?;
     Ok(answer_imported(alloc, &imported)?)

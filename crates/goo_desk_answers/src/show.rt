@@ -1,5 +1,5 @@
 //! What is shown.
-ghost use Rattle.std.specs.Prelude.{◌≡◌, IfOk, OnErr};
+ghost use Rattle.std.specs.Prelude.{◌≡◌, IfOk, OnErr, OnOk};
 ghost use Rattle.goo_desk_counter.specs.Counters.{text_shown};
 ghost use Rattle.goo_core_shelf.specs.Shelf.{IsTold};
 ghost use Rattle.goo_desk_answers.specs.Responds.{Does, IsGiven, content_of as content_stated, status_of_denial, show_response};
@@ -64,6 +64,8 @@ pub(crate) fn answer_show<D: Counter>(
     ensures doubted { (D.seen desk.new).doubts ≡ 0 → (D.seen desk.old).doubts ≡ 0 }
     ensures lied { (D.seen desk.new).lies ≡ 0 → (D.seen desk.old).lies ≡ 0 }
     ensures told { (D.seen desk.old).refusals ≡ 0 → IsTold result (D.seen desk.new).refusals }
+    ensures works { (D.seen desk.new).lies ≡ 0 → (D.seen desk.old).doubts ≡ 0
+        → OnOk result ((D.seen desk.new).doubts ≡ 0) }
 {
     let shown = desk.show(alloc, caller, subject)?;
     Ok(answer_shown(alloc, &subject, &shown)?)

@@ -18,23 +18,25 @@ use Rattle.goo_desk_counter.specs.declared.counter.Imported.{Imported}
 pub imports-made : (old new : Seen) (caller input : List ℕ) (lines : List RowResult) (made : Result Imported Fault)
     → IfOk made (λ imported. report_of imported ≡ Some (report_text lines)) → IfErr made (λ fault. fault ≡ Memory)
     → (new.lies ≡ 0 → IsImported caller input old.state new.state lines) → (new.doubts ≡ 0 → IsImported caller input old.state new.state lines)
-    → (new.doubts ≡ 0 → old.doubts ≡ 0) → (new.lies ≡ 0 → old.lies ≡ 0) → (old.refusals ≡ 0 → new.refusals ≡ 0)
+    → (new.doubts ≡ 0 → old.doubts ≡ 0) → (new.lies ≡ 0 → old.lies ≡ 0) → (old.refusals ≡ 0 → new.refusals ≡ 0) → (new.lies ≡ 0 → old.doubts ≡ 0 → new.doubts ≡ 0)
     → Imports imported_by begun_by old new caller input made
-imports-made old new caller input lines (Ok imported) text fault is sure doubted lied told = record {
+imports-made old new caller input lines (Ok imported) text fault is sure doubted lied told works = record {
   report = λ honest. subst (λ r. imported_by old.state caller input r new.state) (sym text) (lines, is honest, refl);
   sure = λ fine. subst (λ r. imported_by old.state caller input r new.state) (sym text) (lines, sure fine, refl);
   part = λ fine. tt;
   doubted = doubted;
   lied = lied;
   told = told;
+  works = works;
 }
-imports-made old new caller input lines (Err e) text fault is sure doubted lied told = record {
+imports-made old new caller input lines (Err e) text fault is sure doubted lied told works = record {
   report = λ honest. tt;
   sure = λ fine. tt;
   part = λ fine. let whole = sure fine in (whole.rows, inr whole.are_rows, whole.state);
   doubted = doubted;
   lied = lied;
   told = λ fresh. subst (λ f. IsTold {T = Imported} (Err f) new.refusals) (sym fault) (told fresh);
+  works = λ honest none. tt;
 }
 
 pub imports-stopped : (old new : Seen) (caller input : List ℕ) (why : Cause) (lines : List RowResult)
@@ -49,6 +51,7 @@ imports-stopped old new caller input cause.Header lines unread lacks before part
   doubted = doubted;
   lied = lied;
   told = told;
+  works = λ honest none. subst (λ (m : Seen). m.doubts ≡ 0) (sym (before tt)) none;
 }
 imports-stopped old new caller input cause.Read lines unread lacks before part doubted lied told = absurd (unread refl)
 imports-stopped old new caller input cause.Store lines unread lacks before part doubted lied told = record {
@@ -58,6 +61,7 @@ imports-stopped old new caller input cause.Store lines unread lacks before part 
   doubted = doubted;
   lied = lied;
   told = told;
+  works = λ honest none. tt;
 }
 imports-stopped old new caller input cause.Memory lines unread lacks before part doubted lied told = record {
   report = λ honest. tt;
@@ -66,4 +70,5 @@ imports-stopped old new caller input cause.Memory lines unread lacks before part
   doubted = doubted;
   lied = lied;
   told = told;
+  works = λ honest none. tt;
 }

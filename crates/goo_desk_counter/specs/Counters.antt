@@ -45,6 +45,7 @@ pub record Imports (imports : Importing) (begins : Beginning) (old new : Seen) (
   pub doubted : new.doubts ≡ 0 → old.doubts ≡ 0
   pub lied : new.lies ≡ 0 → old.lies ≡ 0
   pub told : old.refusals ≡ 0 → IsTold result new.refusals
+  pub works : new.lies ≡ 0 → old.doubts ≡ 0 → OnOk result (new.doubts ≡ 0)
 
 -- a subject is shown in one way
 abbrev pub ShowsOne : Showing → Type 0
