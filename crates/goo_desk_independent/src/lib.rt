@@ -18,10 +18,10 @@ pub fn equal_responses()
     ensures others { OthersLeaveResponses }
 {}
 
-/// To a holder, whatever it asks for.
+/// To a holder, whatever it asks to be shown.
 ///
 /// - `own`: two states of one date that agree on each account of a holder answer it alike: every statement, certificate, document and notice, and
-///   the audit, of its own accounts or of others, be they there or not. So nothing that it can ask for tells it of what others have;
+///   the audit, of its own accounts or of others, be they there or not. So nothing that it can ask to be shown tells it what others have;
 /// - `outside`: a certificate in none of its accounts is answered as one that never was.
 pub fn own_alone()
     ensures own { HoldersSeeTheirOwn }
