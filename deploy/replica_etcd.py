@@ -169,7 +169,7 @@ class EtcdStore:
         self.last, self.quorum, self.size, self.pruned = Point(place.n, place.h, ""), False, 0, 0
         self.asking, self.ask, self.told, self.voted = [], asyncio.Event(), None, set()
         self.tells = False                      # a watch is open, which tells each entry
-        self.newest, self.appends, self.moved = (0, b""), collections.deque([(b"", b"")], TURNS), asyncio.Event()       # the last entry that was told, and who appended
+        self.appends, self.moved = collections.deque([(b"", b"")], TURNS), asyncio.Event()      # of the last appends the time with the host, and the host
         self.lasts = 0.005                      # seconds that an append takes
 
     def tasks(self, replica):
@@ -218,8 +218,11 @@ class EtcdStore:
     # -------------------------------------------------------------- into the log
 
     async def turn(self, end):
-        """The newest end, once it is this host's turn. Of transactions that are under way at once all but one fail, so whoever has appended
-        lets the others who append do so first, each for as long as an append takes. This decides nothing: the transaction does."""
+        """The end once it is this host's turn. Of transactions that are under way at once all but one fail, so whoever has appended
+        lets the others who append do so first, each for as long as an append takes. This decides nothing: the transaction does.
+
+        An end that others have moved is asked for, and not taken from the entry that was told: of clients that went before it moved this
+        replica has then heard, and their requests get into no append (I4)."""
         most = time.monotonic() + TURNS * self.lasts
         while (rank := self.rank()) and time.monotonic() < most:
             self.moved.clear()
@@ -228,11 +231,7 @@ class EtcdStore:
                     await self.moved.wait()
             except TimeoutError:
                 break
-        n, line = self.newest
-        try:
-            return after(entries.read_entry(line), line) if n > end.n else end
-        except entries.Broken:
-            return end                          # whoever applies it says so
+        return await self.end() if self.replica.heard > end.n else end
 
     def rank(self):
         """How many others are to append before this host, in the order of names."""
@@ -241,7 +240,6 @@ class EtcdStore:
         return (names.index(own) - names.index(last) - 1) % len(names) if last else 0
 
     def learn(self, n, line):
-        self.newest = max(self.newest, (n, line))
         found = APPENDED.search(line)
         if found and found[0] != self.appends[-1][0]:
             self.appends.append((found[0], found[1]))
@@ -268,7 +266,6 @@ class EtcdStore:
             if [text for _, text in pairs(there)] == lines[:1]:     # it had taken effect, and the answer was lost
                 return True, end_in(now)
             self.compare(applied, end_in(now))
-            self.newest = (0, b"")              # it was not the end
             return False, end_in(now)
         return False, None
 

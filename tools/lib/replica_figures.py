@@ -39,6 +39,7 @@ def load(hosts, count, seconds, tag, method="POST"):
 
 
 Load = collections.namedtuple("Load", "rate p50 p99")
+TURNS, SECONDS = 7, 1               # how often each is measured, in turn, and for how long: the machine has other work too
 
 
 def spent(cluster):
@@ -60,16 +61,16 @@ def median(loads):
 def compared(words, cluster, db, method, count):
     """Bare, through one replica and through all, in turn and several times, since the machine has other work too."""
     runs, each = collections.defaultdict(list), collections.Counter()
-    for turn in range(3):
+    for turn in range(TURNS):
         bare = Bare(cluster, db)
-        runs["bare"].append(load([bare], count, 2, f"b{turn}-{count}-{os.getpid()}", method))
+        runs["bare"].append(load([bare], count, SECONDS, f"b{turn}-{count}-{os.getpid()}", method))
         bare.stop()
         before = spent(cluster)
-        runs["one"].append(load(cluster.hosts[:1], count, 2, f"o{turn}-{count}-{os.getpid()}", method))
+        runs["one"].append(load(cluster.hosts[:1], count, SECONDS, f"o{turn}-{count}-{os.getpid()}", method))
         for name, seconds in spent(cluster).items():
-            each[name] += (seconds - before[name]) / max(1, runs["one"][-1].rate * 2) * 1000 / 3
+            each[name] += (seconds - before[name]) / max(1, runs["one"][-1].rate * SECONDS) * 1000 / TURNS
         if cluster.count > 1:
-            runs["three"].append(load(cluster.hosts, count, 2, f"t{turn}-{count}-{os.getpid()}", method))
+            runs["three"].append(load(cluster.hosts, count, SECONDS, f"t{turn}-{count}-{os.getpid()}", method))
         cluster.even(60)
     found = {name: median(loads) for name, loads in runs.items()}
     told = "; ".join(f"{name} {r:.0f}/s p50 {a:.2f} p99 {b:.1f} ms" for name, (r, a, b) in found.items())
