@@ -1,6 +1,7 @@
 //! Serving one connection.
 ghost use Rattle.std.specs.Prelude.{◌≡◌, IfOk, IfErr, IfSome};
 ghost use Rattle.std.specs.Io.KnownBytes.{Keeps};
+ghost use Rattle.goo_desk_connection.specs.Durable.{SendsFound};
 ghost use Rattle.goo_desk_connection.specs.Serving.{Connects, Leaves, Sends, SendsPart, SendsExcuse};
 ghost use Rattle.goo_spec.specs.Sound.{IsSound};
 ghost use Rattle.goo_desk_counter.specs.Tables.{ImportsAreRuns};
@@ -36,6 +37,9 @@ fn serve_bytes<D: Counter, W: Write>(
     ensures doubted { (D.seen desk.new).doubts ≡ 0 → (D.seen desk.old).doubts ≡ 0 }
     ensures lied { (D.seen desk.new).lies ≡ 0 → (D.seen desk.old).lies ≡ 0 }
     ensures told { (D.seen desk.old).refusals ≡ 0 → IsToldIn result (D.seen desk.new).refusals }
+    ensures found { (D.seen desk.new).lies ≡ 0 → (D.seen desk.old).doubts ≡ 0
+        → SendsFound D.shows D.imports (D.seen desk.old).state bytes.now (D.seen desk.new).state
+        (W.contents writer.old) (W.contents writer.new) (D.leaves desk.new) }
 {
     match answer_by_routes(alloc, routes, desk, bytes) {
         Ok(answer) => {
@@ -59,7 +63,7 @@ fn serve_bytes<D: Counter, W: Write>(
 
 /// Reads a request until it is decided, and answers it by the routes of the registry. The caller closes the connection.
 ///
-/// Want of memory in answering is answered 503.
+/// Want of memory in answering is answered 503. `found`: an answer is sent only once a crash finds what it tells.
 ///
 /// # Errors
 ///
@@ -80,6 +84,10 @@ pub fn serve_by_routes<D: Counter, R: Read, W: Write>(
     ensures lied { (D.seen desk.new).lies ≡ 0 → (D.seen desk.old).lies ≡ 0 }
     ensures told { (D.seen desk.old).refusals ≡ 0 → IsToldIn result (D.seen desk.new).refusals }
     ensures promised { ImportsAreRuns D.imports D.begins → IsSound (D.seen desk.old).state → (D.seen desk.new).lies ≡ 0 → (D.seen desk.new).doubts ≡ 0 → IfSome (R.remaining reader.old) (λ input. KeepsPromise input (D.seen desk.old).state (D.seen desk.new).state) }
+    ensures found { (D.seen desk.new).lies ≡ 0 → (D.seen desk.old).doubts ≡ 0
+        → IfSome (R.remaining reader.old) (λ input.
+        SendsFound D.shows D.imports (D.seen desk.old).state input (D.seen desk.new).state
+        (W.contents writer.old) (W.contents writer.new) (D.leaves desk.new)) }
 {
     let bytes = read_decided(alloc, reader)?;
     serve_bytes(alloc, routes, desk, &bytes, writer)
@@ -87,7 +95,7 @@ pub fn serve_by_routes<D: Counter, R: Read, W: Write>(
 
 /// Makes the routes, reads a request until it is decided, and answers it. The caller closes the connection.
 ///
-/// Want of memory in answering is answered 503.
+/// Want of memory in answering is answered 503. `found`: an answer is sent only once a crash finds what it tells.
 ///
 /// # Errors
 ///
@@ -107,6 +115,10 @@ pub fn serve_one<D: Counter, R: Read, W: Write>(
     ensures lied { (D.seen desk.new).lies ≡ 0 → (D.seen desk.old).lies ≡ 0 }
     ensures told { (D.seen desk.old).refusals ≡ 0 → IsToldIn result (D.seen desk.new).refusals }
     ensures promised { ImportsAreRuns D.imports D.begins → IsSound (D.seen desk.old).state → (D.seen desk.new).lies ≡ 0 → (D.seen desk.new).doubts ≡ 0 → IfSome (R.remaining reader.old) (λ input. KeepsPromise input (D.seen desk.old).state (D.seen desk.new).state) }
+    ensures found { (D.seen desk.new).lies ≡ 0 → (D.seen desk.old).doubts ≡ 0
+        → IfSome (R.remaining reader.old) (λ input.
+        SendsFound D.shows D.imports (D.seen desk.old).state input (D.seen desk.new).state
+        (W.contents writer.old) (W.contents writer.new) (D.leaves desk.new)) }
 {
     let Ok(routes) = Routes::new(alloc) else {
         return Err(ServeFault::Memory);

@@ -1,6 +1,7 @@
 use Rattle.goo_desk_connection.specs.declared.serve_fault.ServeFault.TheVariants.{Write, Store}
 use Rattle.goo_desk_connection.proofs.ServeFacts.{bytes-connect, sends-stands, part-stands, excuse-stands}
 use Rattle.goo_desk_connection.proofs.PromiseFacts.{leaves_promised, none_promised}
+use Rattle.goo_desk_connection.proofs.DurableFacts.{all-found, none-sent}
 use Rattle.goo_desk_connection.proofs.serving.serve_by_routes.Goals as goal
 
 pub returns-clause-served : goal.returns-clause-served
@@ -30,3 +31,13 @@ pub returns-clause-promised : goal.returns-clause-promised
 returns-clause-promised g c runs sound honest sure =
     leaves_promised g.D.Counter.shows g.D.Counter.imports g.D.Counter.begins runs (g.R.Read.remaining c.args.reader.now) (g.D.Desk.seen c.args.desk.now) (g.D.Desk.seen c.serve_bytes.new.desk) c.in_ok-bytes.bytes.items
     c.in_ok-bytes.ensures (rw c.deref.ensures.value at c.serve_bytes.ensures.leaves) sound honest sure
+
+pub returns-in_err-bytes-clause-found : goal.returns-in_err-bytes-clause-found
+returns-in_err-bytes-clause-found g c lies sure =
+    none-sent g.D.Counter.shows g.D.Counter.imports (g.R.Read.remaining c.args.reader.now) (g.D.Desk.seen c.args.desk.now).state (g.D.Desk.seen c.args.desk.now).state (g.W.Write.contents c.args.writer.now) (g.D.Desk.leaves c.args.desk.now)
+
+pub returns-clause-found : goal.returns-clause-found
+returns-clause-found g c lies sure =
+    all-found g.D.Counter.shows g.D.Counter.imports (g.R.Read.remaining c.args.reader.now) (g.D.Desk.seen c.args.desk.now).state c.in_ok-bytes.bytes.items (g.D.Desk.seen c.serve_bytes.new.desk).state
+    (g.W.Write.contents c.args.writer.now) (g.W.Write.contents c.serve_bytes.new.writer) (g.D.Desk.leaves c.serve_bytes.new.desk)
+    c.in_ok-bytes.ensures (rw c.deref.ensures.value at (c.serve_bytes.ensures.found lies sure))

@@ -1,5 +1,10 @@
 use Rattle.goo_desk_connection.proofs.PromiseFacts.{none_promised}
+use Rattle.goo_desk_connection.proofs.DurableFacts.{none-sent}
 use Rattle.goo_desk_connection.proofs.serving.serve_one.Goals as goal
 
 pub returns-in_default-clause-promised : goal.returns-in_default-clause-promised
 returns-in_default-clause-promised g c runs sound honest sure = none_promised (g.R.Read.remaining c.args.reader.now) (g.D.Desk.seen c.args.desk.now).state sound
+
+pub returns-in_default-clause-found : goal.returns-in_default-clause-found
+returns-in_default-clause-found g c lies sure =
+    none-sent g.D.Counter.shows g.D.Counter.imports (g.R.Read.remaining c.args.reader.now) (g.D.Desk.seen c.args.desk.now).state (g.D.Desk.seen c.args.desk.now).state (g.W.Write.contents c.args.writer.now) (g.D.Desk.leaves c.args.desk.now)
