@@ -9,13 +9,14 @@ use Rattle.goo_types.specs.declared.piece.Piece.{Piece}
 use Rattle.goo_types.specs.declared.place.Place.{Place}
 use Rattle.goo_spec.specs.Sound.{IsSound}
 use Rattle.goo_spec.specs.State.{State}
+use Rattle.goo_spec.specs.Energy.{issued, corrected, is_taken_back}
 use Rattle.goo_spec.proofs.Counting.{one_at}
 use Rattle.goo_spec.proofs.Pieces.{one_code}
-use Rattle.goo_spec_classes.specs.Classes.{Class, is_of, those_in, stated_in, over_accounts}
+use Rattle.goo_spec_classes.specs.Classes.{Class, is_of, all_of, those_in, stated_in, over_accounts}
 use Rattle.goo_spec_classes.proofs.Stating.{by_account}
 use Rattle.goo_core_answers.specs.Reads.{kept_if, names}
 use Rattle.goo_files.specs.Texts.{AreRunsNaming}
-use Rattle.goo_files_classes.specs.Told.{is_run_of, told_of, StatementsAddUp}
+use Rattle.goo_files_classes.specs.Told.{is_run_of, told_of, of_device, StatementsAddUp}
 use Rattle.goo_files_classes.proofs.Summing.{sum_below, alike, beyond, by_number, above, by_run}
 
 module _ (s : State) (class : Class) (there : Place → Bool) (account : ℕ) where
@@ -72,9 +73,24 @@ anywhere : (b : Bool) → (b && true) ≡ b
 anywhere true = refl
 anywhere false = refl
 
+is_issued : (s : State) (device : List ℕ) → all_of (of_device device) s ≡ issued s device
+unfolding issued
+is_issued s device = refl
+
+is_corrected : (s : State) (device : List ℕ) → those_in (is_taken_back device s.corrections) (of_device device) s ≡ corrected s device
+unfolding corrected
+is_corrected s device = refl
+
+all_issued : (s : State) → IsSound s → (class : Class) (runs : ℕ → List Piece) → ((account : ℕ) → AreRunsNaming s account (runs account))
+    → over_accounts s.next_account (λ account. told_of s.own class (λ place. true) (runs account)) ≡ all_of class s
+all_issued s sound class runs are =
+    all_told s sound class (λ place. true) runs are ∙ (λ i. count_by (λ e. anywhere (is_of s.own class e) i) (entries s.at))
+
 pub statements_add_up : StatementsAddUp
 statements_add_up s sound = record {
   each = λ class there account runs are. told s class there account runs are;
   all = λ class there runs are. all_told s sound class there runs are;
-  issued = λ class runs are. all_told s sound class (λ place. true) runs are ∙ (λ i. count_by (λ e. anywhere (is_of s.own class e) i) (entries s.at));
+  issued = λ class runs are. all_issued s sound class runs are;
+  audited = λ device runs are. all_issued s sound (of_device device) runs are ∙ is_issued s device;
+  taken_back = λ device runs are. all_told s sound (of_device device) (is_taken_back device s.corrections) runs are ∙ is_corrected s device;
 }
