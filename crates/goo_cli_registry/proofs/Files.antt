@@ -1,6 +1,6 @@
 -- What files that were opened and closed tell of the database.
 use Rattle.std.proofs.Common.{◌≡◌, ◌⊎◌, ◌≤◌, ◌∙◌, inl, inr, refl, sym, ap, subst, cond, ℕ, List, Option, Some, None, IfSome, arith, Bool, true, false}
-use Rattle.std.specs.Prelude.{◌==◌, ◌||◌, IsTrue}
+use Rattle.std.specs.Prelude.{IsTrue}
 use Rattle.sqlite_disk.specs.declared.Disk.{Ghosts}
 use Rattle.sqlite_disk.specs.declared.Files.{Files}
 use Rattle.sqlite.specs.declared.file.Leftover.{Leftover}
@@ -23,7 +23,7 @@ use Rattle.goo_tables_rows.proofs.Committed.{holds_from}
 use Rattle.goo_tables_rows.proofs.Decoded.{decoded}
 use Rattle.goo_tables_rows.specs.Columns.{registry_schema}
 use Rattle.goo_tables_rows.specs.Rows.{Tables}
-use Rattle.goo_tables_rows.specs.Stands.{doubts, Holds}
+use Rattle.goo_tables_rows.specs.Stands.{doubts, AreOurs, Holds, HoldsOurs}
 use Rattle.goo_spec.specs.Created.{created}
 use Rattle.goo_spec_tables.specs.Kept.{AreKept}
 use Rattle.goo_store.proofs.Created.{begun_kept, begun_state}
@@ -35,8 +35,9 @@ use Rattle.goo_spec_tables.specs.Renewed.{renewed}
 use Rattle.goo_store.specs.Creating.{IsFirst, meta_of}
 use Rattle.goo_types.specs.Day.{CalendarDay}
 use Rattle.goo_spec_tables.specs.States.{state_of}
-use Rattle.goo_store_lookups.specs.Moments.{IsWell, OpensAs, tables_in}
+use Rattle.goo_store_lookups.specs.Moments.{IsWell, OpensAs, StandFor, tables_in}
 use Rattle.goo_spec.specs.State as registry
+use Rattle.goo_store_open.specs.Found.{IsOutside}
 use Rattle.goo_store_open.specs.declared.fault.OpenFault.{OpenFault}
 use Rattle.goo_store_open.specs.declared.fault.OpenFault.TheVariants as opening
 use Rattle.goo_cli_ending.specs.declared.ending.Denial.TheVariants.{AlreadyThere}
@@ -48,8 +49,8 @@ use Rattle.goo_cli_ending.specs.Endings.{failure_of_desk, status_of}
 use Rattle.goo_types.specs.declared.fault.Fault.{Fault}
 use Rattle.goo_types.specs.declared.fault.Fault.TheVariants as desk
 use Rattle.goo_desk_lines.specs.Fold.{lines}
-use Rattle.goo_cli_registry.specs.Openings.{ending_of_opening, failure_of_opening, IsBlamed, IsRun, MayBegin}
-use Rattle.goo_cli_registry.specs.Closings.{HoldRegistry, HoldState, IfRefused, IfWhole, IsClean, IsKept, IsMade, IsThere, LeavesOr, LeavesRegistry, SparesOrMakes, WasRenewed, is_whole}
+use Rattle.goo_cli_registry.specs.Openings.{ending_of_opening, failure_of_opening, IsBlamed, MayBegin}
+use Rattle.goo_cli_registry.specs.Closings.{HoldRegistry, HoldState, IfRefused, IfWhole, IsClean, IsKept, IsThere, LeavesOr, LeavesRegistry, SparesOrMakes, WasRenewed}
 use Rattle.goo_cli.specs.declared.task.Opening.{Opening}
 use Rattle.goo_cli_registry.specs.declared.start.Start.TheVariants.{New, Kept}
 use Rattle.goo_cli_registry.specs.declared.closing.Left.{Left}
@@ -67,26 +68,6 @@ blamed files left e (inr (inl refused)) other = inl refused.1
 blamed files left e (inr (inr (inl fault))) other = inr (inl fault.1)
 blamed files left e (inr (inr (inr full))) other = inr (inr full.1)
 
--- tables that are none of their version's, and tables of another version
-not_run_either : (b : Bool) (version : ℕ) → IsRun (Failed (cond b failure.Damaged (failure.Version version))) → ⊥
-not_run_either true version told = told
-not_run_either false version told = told
-
--- no fault of opening is told as an end of lines that were answered
-pub not_run : (fault : OpenFault) → IsRun (Failed (failure_of_opening fault)) → ⊥
-not_run opening.Memory told = told
-not_run opening.AlreadyThere told = told
-not_run opening.NotARegistry told = told
-not_run (opening.Version version) told = not_run_either ((version == 1) || (version == 2)) version told
-not_run opening.Damaged told = told
-not_run opening.Store told = told
-
--- what is whole and holds a new registry is one
-pub made_whole : {D : Type 0} {g : Ghosts D} (rest : Left D g) (s : registry.State) → IsTrue (is_whole rest) → IfWhole rest (λ files. HoldState g files s) → IsMade rest s
-made_whole (left.Whole files) s whole holds = holds
-made_whole (left.Refused rest) s whole holds = absurd (omega (arith, ap {B = ℕ} (λ (b : Bool). cond b 1 0) whole))
-made_whole (left.Parts rest) s whole holds = absurd (omega (arith, ap {B = ℕ} (λ (b : Bool). cond b 1 0) whole))
-
 -- what told no lie in the end told none before
 pub clean_before : (a b : Bool) → doubt a ≤ doubt b → b ≡ true → doubt a ≡ 0
 clean_before a b rises clean = omega (arith, rises, honest b clean)
@@ -98,6 +79,15 @@ not_both e = cc e
 pub word_of_desk : (fault : Fault) (told : Failure) → told ≡ failure_of_desk fault → (word : OpenFault) × (Failed told ≡ ending_of_opening word)
 word_of_desk desk.Store told e = (opening.Store, ap Failed e)
 word_of_desk desk.Memory told e = (opening.Memory, ap Failed e)
+
+-- a refusal from outside is told as one
+pub outside_failure : (fault : OpenFault) (told : Failure) → told ≡ failure_of_opening fault → IsOutside fault → (told ≡ failure.Store) ⊎ (told ≡ failure.Memory)
+outside_failure fault told is (inl store) = inl (is ∙ ap failure_of_opening store)
+outside_failure fault told is (inr memory) = inr (is ∙ ap failure_of_opening memory)
+
+pub fault_failure : (fault : Fault) (told : Failure) → told ≡ failure_of_desk fault → (told ≡ failure.Store) ⊎ (told ≡ failure.Memory)
+fault_failure desk.Store told is = inl is
+fault_failure desk.Memory told is = inr is
 
 -- a state that files hold, told otherwise
 pub whole_as : {D : Type 0} {g : Ghosts D} (rest : Left D g) (seen : State) (s t : registry.State) → (IsClean rest → HasCleanDisk seen) → (HasCleanDisk seen → s ≡ t) → IfWhole rest (λ files. HoldState g files s) → IfWhole rest (λ files. HoldState g files t)
@@ -118,13 +108,15 @@ kept_begun rest (Some input) s seen begun same told holds = kept_in rest s (line
 -- what was committed last opens as the state that is seen
 pub opens_committed : (s : State) → IsWell s → doubts s ≡ 0 → OpensAs s.committed.trees (Some (state_of (tables_in s)))
 opens_committed s well none =
-    subst (λ (d : Database). OpensAs d.trees (Some (state_of (tables_in s)))) (well.settled none) (holds_from s.now (tables_in s) (well.stands none), well.kept none, refl)
+    subst (λ (d : Database). OpensAs d.trees (Some (state_of (tables_in s)))) (well.settled none) (well.ours none, (holds_from s.now (tables_in s) (well.stands none), well.kept none, refl))
 
 -- trees that hold the tables of version 1 renewed open as the same registry
 pub opens_renewed : (old : Database) (db : Trees) → HoldsRenewed old db → OpensAs db (Some (state_held old.trees))
-opens_renewed old db it =
-    subst (λ (t : Tables). Holds t db × AreKept t × (state_held old.trees ≡ state_of t)) (sym (decoded (record { schema = registry_schema; trees = db }) (renewed it.0) it.4))
-    (it.4, it.3, ap state_of (sym (held_first old it.0 it.1 it.2)) ∙ sym (renewed_state it.0 it.2))
+opens_renewed old db it = (
+  it.5,
+  subst (λ (t : Tables). Holds t db × AreKept t × (state_held old.trees ≡ state_of t)) (sym (decoded (record { schema = registry_schema; trees = db }) (renewed it.0) it.4))
+      (it.4, it.3, ap state_of (sym (held_first old it.0 it.1 it.2)) ∙ sym (renewed_state it.0 it.2)),
+)
 
 -- what a start that failed leaves of a registry that was there
 pub kept_or_renewed : (old new : State) → (HasCleanDisk new → (db : Trees) → new.may_leave db → old.may_leave db ⊎ HoldsRenewed old.now db)
@@ -135,19 +127,24 @@ kept_or_renewed old new left clean db may = go (left clean db may)
     go (inl before) = inl before
     go (inr it) = inr (it.1.0, opens_renewed old.now db it)
 
--- trees that hold the tables of a new registry open as it
-opens_begun : (code : ℕ) (today : CalendarDay) (next_serial : ℕ) → IsFirst code today next_serial → (db : Trees) → Holds (begun (meta_of code today next_serial)) db → OpensAs db (Some (created code today next_serial))
-opens_begun code today next_serial it db holds =
+-- trees that hold the tables of a new registry stand for it
+stand_begun : (code : ℕ) (today : CalendarDay) (next_serial : ℕ) → IsFirst code today next_serial → (db : Trees) → Holds (begun (meta_of code today next_serial)) db → StandFor db (created code today next_serial)
+stand_begun code today next_serial it db holds =
     subst (λ (t : Tables). Holds t db × AreKept t × (created code today next_serial ≡ state_of t)) (sym (decoded (record { schema = registry_schema; trees = db }) (begun (meta_of code today next_serial)) holds))
     (holds, begun_kept code today next_serial it, sym (begun_state code today next_serial it))
 
-pub begun_or : (code : ℕ) (today : CalendarDay) (next_serial : ℕ) → IsFirst code today next_serial → (old new : State) → Survives old new (Holds (begun (meta_of code today next_serial)))
-    → HasCleanDisk new → (db : Trees) → new.may_leave db → old.may_leave db ⊎ OpensAs db (Some (created code today next_serial))
+pub begun_or : (code : ℕ) (today : CalendarDay) (next_serial : ℕ) → IsFirst code today next_serial → (old new : State) → Survives old new (HoldsOurs old.is_open (begun (meta_of code today next_serial)))
+    → HasCleanDisk new → (db : Trees) → new.may_leave db → old.may_leave db ⊎ (StandFor db (created code today next_serial) × (IsTrue old.is_open → AreOurs db))
 begun_or code today next_serial it old new survives clean db may = go (survives.crash clean db may)
   where
-    go : old.may_leave db ⊎ Holds (begun (meta_of code today next_serial)) db → old.may_leave db ⊎ OpensAs db (Some (created code today next_serial))
+    go : old.may_leave db ⊎ HoldsOurs old.is_open (begun (meta_of code today next_serial)) db → old.may_leave db ⊎ (StandFor db (created code today next_serial) × (IsTrue old.is_open → AreOurs db))
     go (inl before) = inl before
-    go (inr holds) = inr (opens_begun code today next_serial it db holds)
+    go (inr holds) = inr (stand_begun code today next_serial it db holds.0, holds.1)
+
+-- and open as it, where they were made by a connection that was open
+pub made_open : {A : Type 0} (s : registry.State) (db : Trees) (was : Bool) → IsTrue was → A ⊎ (StandFor db s × (IsTrue was → AreOurs db)) → A ⊎ OpensAs db (Some s)
+made_open s db was live (inl before) = inl before
+made_open s db was live (inr made) = inr (made.1 live, made.0)
 
 module _ {D : Type 0} {g : Ghosts D} (files : Files D) where
   -- what an opened connection may leave is what it found

@@ -1,8 +1,7 @@
 -- When the log of two files may go.
-use Rattle.std.proofs.Common.{◌≡◌, ◌<◌, ◌≤◌, ◌∷◌, ◌+◌, ◌∙◌, inl, inr, refl, sym, arith, ℕ, suc, zero, List, [], length, slice_index}
-use Rattle.std.specs.Prelude.{◌⊎◌}
+use Rattle.std.proofs.Common.{◌≡◌, ◌<◌, ◌∷◌, ◌∙◌, inl, inr, refl, sym, arith, ℕ, suc, zero, List, [], length, slice_index}
 use Rattle.sqlite_wal.specs.Recovery.{Image, RecoversAs, Replays, pages_after}
-use Rattle.goo_cli_registry.specs.Closings.{IsSpare, IsUnused}
+use Rattle.goo_cli_registry.specs.Closings.{IsSpare}
 
 nothing : (bytes : List ℕ) → length bytes ≡ 0 → bytes ≡ []
 nothing [] none = refl
@@ -26,9 +25,6 @@ same_alone image short size pages it = record {
   present = it.present;
   gives = sym (none_taken size image.log image.db it.frames (taken size image.log it.frames short it.replays)) ∙ it.gives;
 }
-
-pub spare_empty : (image : Image) → length image.log ≡ 0 → IsSpare image
-spare_empty image none = inl (record { same = same_alone image (omega (arith, none)); begun = inl (nothing image.log none) })
 
 pub spare_short : (image : Image) → length image.log < 56 → slice_index image.db 0 ≡ 83 → IsSpare image
 spare_short image short first = inl (record { same = same_alone image short; begun = inr first })

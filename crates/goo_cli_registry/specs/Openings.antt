@@ -1,5 +1,5 @@
 -- How a registry is begun, and why it isn't.
-use Rattle.std.specs.Prelude.{◌≡◌, ◌==◌, ◌||◌, cond, ◌⊎◌, ℕ, ◌+◌, ◌/◌, ◌%◌, List, ◌∷◌, ◌++◌, codes, Some}
+use Rattle.std.specs.Prelude.{◌≡◌, ◌==◌, ◌||◌, cond, ◌⊎◌, ℕ, ◌+◌, ◌/◌, ◌%◌, List, ◌∷◌, ◌++◌, codes, Some, IsTrue}
 use Rattle.sqlite_disk.specs.declared.Disk.{Ghosts}
 use Rattle.sqlite_disk.specs.declared.Files.{Files}
 use Rattle.sqlite_disk.specs.Disk.{MoreFaults}
@@ -10,7 +10,8 @@ use Rattle.sqlite.specs.State as sqlite
 use Rattle.goo_tables_rows.specs.Columns.{first_schema}
 use Rattle.goo_spec.specs.State.{State}
 use Rattle.goo_spec.specs.Created.{created}
-use Rattle.goo_store_lookups.specs.Moments.{OpensAs}
+use Rattle.goo_store_lookups.specs.Moments.{OpensAs, StandFor}
+use Rattle.goo_tables_rows.specs.Stands.{AreOurs}
 use Rattle.goo_store.specs.Versions.{state_held}
 use Rattle.goo_store_open.specs.declared.fault.OpenFault.{OpenFault}
 use Rattle.goo_store_open.specs.declared.fault.OpenFault.TheVariants as opening
@@ -27,9 +28,10 @@ abbrev pub begun : Start → sqlite.State → State
 begun (New opening) s = created opening.code opening.today opening.next_serial
 begun Kept s = state_held s.now.trees
 
--- what a start that failed may have committed nevertheless, where a crash follows: a new registry, or that of version 1 in version 2
+-- what a start that failed may have committed nevertheless, where a crash follows: a new registry, which opens as one where the connection was open, or that of
+-- version 1 in version 2
 abbrev pub MayBegin : Start → sqlite.State → Trees → Type 0
-MayBegin (New opening) s db = OpensAs db (Some (created opening.code opening.today opening.next_serial))
+MayBegin (New opening) s db = StandFor db (created opening.code opening.today opening.next_serial) × (IsTrue s.is_open → AreOurs db)
 MayBegin Kept s db = (s.now.schema ≡ first_schema) × OpensAs db (Some (state_held s.now.trees))
 
 -- why there is no registry to run; a new one is made in an empty database alone, and the number of a version that is read here is told of

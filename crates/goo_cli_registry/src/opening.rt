@@ -6,11 +6,12 @@ ghost use Rattle.sqlite.specs.State.{HasCleanDisk};
 ghost use Rattle.sqlite.specs.Tree.{Trees};
 ghost use Rattle.goo_tables_rows.specs.Met.{IsInKeyOrder};
 ghost use Rattle.goo_store.specs.Versions.{state_held};
-ghost use Rattle.goo_store_lookups.specs.Moments.{moment};
+ghost use Rattle.goo_store_lookups.specs.Moments.{OpensAsEither, moment};
 ghost use Rattle.goo_store_open.specs.Foreign.{LacksMeta};
 ghost use Rattle.goo_ranges_rows.specs.Rows.{AreRowsOf};
 ghost use Rattle.goo_core_shelf.specs.Shelf.{IsReady};
 ghost use Rattle.goo_spec.specs.Sound.{IsSound};
+ghost use Rattle.goo_spec.specs.State.{State};
 ghost use Rattle.goo_cli_registry.specs.Closings.{LeavesRegistry};
 ghost use Rattle.goo_cli_registry.specs.Openings.{begun, failure_of_opening, IsBlamed, MayBegin};
 
@@ -140,6 +141,9 @@ pub fn begin<S: Alter>(
 ///
 /// What is left of the files, with why there is no registry. What they held is unharmed; where a fault came in the course of a renewal, a
 /// crash that follows may find the registry renewed.
+///
+/// `again`, `never_foreign`: files that hold what a crash left of a registry are opened with the state that a shelf says a crash finds, one of two
+/// at most, or refused for a fault of the store or want of memory: never as another word on them.
 pub fn open_registry<D: Disk + Drop, T: Write>(
     alloc: Global,
     files: Files<D>,
@@ -152,6 +156,12 @@ pub fn open_registry<D: Disk + Drop, T: Write>(
     ensures sound { IfOk result (λ shelf. (moment (file_state shelf.conn) shelf.refused).doubts ≡ 0 → IsSound (moment (file_state shelf.conn) shelf.refused).state) }
     ensures rows_fit { IfOk result (λ shelf. (moment (file_state shelf.conn) shelf.refused).doubts ≡ 0 → AreRowsOf (moment (file_state shelf.conn) shelf.refused).state.at (moment (file_state shelf.conn) shelf.refused).rows) }
     ensures ready { IfOk result (λ shelf. IsReady (moment (file_state shelf.conn) shelf.refused)) }
+    ensures again { IfOk result (λ shelf. (db : Trees) → HoldsDatabase (image_of D.Disk files) db → (s t : State)
+        → OpensAsEither db s t → (moment (file_state shelf.conn) shelf.refused).doubts ≡ 0
+        → ((moment (file_state shelf.conn) shelf.refused).state ≡ s)
+        ⊎ ((moment (file_state shelf.conn) shelf.refused).state ≡ t)) }
+    ensures never_foreign { IfErr result (λ e. IsCleanLeft e.1 → (db : Trees) → HoldsDatabase (image_of D.Disk files) db
+        → (s t : State) → OpensAsEither db s t → (e.0 ≡ Failure.Store) ⊎ (e.0 ≡ Failure.Memory)) }
     ensures unharmed { IfErr result (λ e. IsCleanLeft e.1 → LeavesRegistry files e.1) }
 {
     match open_database(alloc, files, file_options(seed)) {

@@ -1,7 +1,7 @@
 -- A plan that is carried out by changes of the tables.
 use Rattle.std.proofs.Common.{◌≡◌, ◌≤◌, inl, inr, Bool, false, IsTrue, List, sym, ap, subst, ◌∙◌, arith, true≢false, Ok, Err, Result, OnOk, OnErr, Option, Some}
 use Rattle.sqlite_trees.specs.View.{doubt}
-use Rattle.sqlite.specs.State.{State, HasCleanDisk, Survives}
+use Rattle.sqlite.specs.State.{State, HasCleanDisk, IsLive, Survives}
 use Rattle.sqlite.specs.Tree.{Trees}
 use Rattle.sqlite.specs.Effect.{Database}
 use Rattle.sqlite.specs.declared.error.Error.{Error}
@@ -14,7 +14,8 @@ use Rattle.goo_core_shelf.specs.Plan.{Commits, IsEither}
 use Rattle.goo_core_shelf.specs.declared.plan.Plan.{Plan}
 use Rattle.goo_tables_rows.specs.Columns.{registry_schema}
 use Rattle.goo_tables_rows.specs.Rows.{Tables, tables_of}
-use Rattle.goo_tables_rows.specs.Stands.{Stands, Settled, Holds, doubts}
+use Rattle.goo_tables_rows.specs.Stands.{Stands, Settled, Holds, HoldsOurs, AreOurs, doubts}
+use Rattle.goo_tables_rows.proofs.Catalogued.{ours_of}
 use Rattle.goo_tables_rows.proofs.Decoded.{decoded}
 use Rattle.goo_store_changes.specs.declared.change.TableChange.{TableChange}
 use Rattle.goo_store_values.specs.declared.trouble.Trouble.{Trouble}
@@ -39,16 +40,17 @@ use Rattle.goo_store_lookups.specs.Holding.{is_sure, sure, LeavesCommit, opens_s
 held_tables : (t : Tables) (db : Trees) → Holds t db → tables_of db ≡ t
 held_tables t db holds = decoded (record { schema = registry_schema; trees = db }) t holds
 
-opens_held : (t : Tables) (db : Trees) (o : Option registry.State) → Holds t db → AreKept t → OpensAs db o → o ≡ Some (state_of t)
-opens_held t db o holds kept opens =
+opens_held : (t : Tables) (db : Trees) (o : Option registry.State) → AreOurs db → Holds t db → AreKept t → OpensAs db o → o ≡ Some (state_of t)
+opens_held t db o ours holds kept opens =
     let same = held_tables t db holds in
-    opens_so db o (subst (λ u. Holds u db) (sym same) holds) (subst AreKept (sym same) kept) opens ∙ ap (λ u. Some (state_of u)) same
+    opens_so db o ours (subst (λ u. Holds u db) (sym same) holds) (subst AreKept (sym same) kept) opens ∙ ap (λ u. Some (state_of u)) same
 
 module _ (old new : State) (it : IsWell old) (changes : List TableChange) (plan : Plan) (planned : doubts old ≡ 0 → IsPlanned (tables_in old) changes plan) (r : Result (Unit {0}) Error)
     (clean : doubt old.is_clean ≤ doubt new.is_clean) (was_open : HasCleanDisk new → IsTrue new.is_open → IsTrue old.is_open) (works : OnOk r (HasCleanDisk new → IsTrue new.is_open))
     (done : HasCleanDisk new → (t : Tables) → Stands old.now t → AreFor t changes → OnOk r (Settled new (made_all t changes)))
     (kept : HasCleanDisk new → IsTrue new.is_open → (t : Tables) → Stands old.now t → AreFor t changes → OnErr r ((new.now ≡ old.now) × (new.committed ≡ old.committed)))
-    (crash : (t : Tables) → Stands old.now t → AreFor t changes → Survives old new (Holds (made_all t changes))) where
+    (crash : (t : Tables) → Stands old.now t → AreFor t changes → Survives old new (HoldsOurs old.is_open (made_all t changes)))
+    (live : HasCleanDisk new → (t : Tables) → Stands old.now t → AreFor t changes → IsLive new) where
   before : doubts new ≡ 0 → doubts old ≡ 0
   before none = is_sure old (omega (arith, (sure new none).0, clean)) (was_open (sure new none).0 (sure new none).1)
 
@@ -63,11 +65,13 @@ module _ (old new : State) (it : IsWell old) (changes : List TableChange) (plan 
   well_so (Ok x) ok err =
       let tables = λ (none : doubts new ≡ 0). decoded new.now (made_all (tables_in old) changes) (ok none).stands in record {
         stands = λ none. subst (Stands new.now) (sym (tables none)) (ok none).stands;
+        ours = λ none. ours_of new.now (live (sure new none).0 (tables_in old) (it.stands (before none)) (planned (before none)).for (sure new none).1).0 (ok none).stands.schema;
         kept = λ none. subst AreKept (sym (tables none)) (planned (before none)).kept;
         settled = λ none. sym (ok none).committed;
       }
   well_so (Err e) ok err = record {
     stands = λ none. subst (λ (d : Database). Stands d (tables_of d.trees)) (sym (err none).0) (it.stands (before none));
+    ours = λ none. subst (λ (d : Database). AreOurs d.trees) (sym (err none).0) (it.ours (before none));
     kept = λ none. subst (λ (d : Database). AreKept (tables_of d.trees)) (sym (err none).0) (it.kept (before none));
     settled = λ none. (err none).0 ∙ it.settled (before none) ∙ sym (err none).1;
   }
@@ -112,7 +116,7 @@ module _ (old new : State) (it : IsWell old) (changes : List TableChange) (plan 
   found law late none b o left =
       elim ((crash (tables_in old) (it.stands none) (planned none).for).crash late left.0 left.1) [
         | inl early ↦ inl (left_by old it law none left.0 early o left.2)
-        | inr holds ↦ inr (opens_held (made_all (tables_in old) changes) left.0 o holds (planned none).kept left.2 ∙ ap Some (planned none).state)
+        | inr holds ↦ inr (opens_held (made_all (tables_in old) changes) left.0 o (holds.1 (sure old none).1) holds.0 (planned none).kept left.2 ∙ ap Some (planned none).state)
       ]
 
   works_so : (q : Result (Unit {0}) Error) → OnOk q (HasCleanDisk new → IsTrue new.is_open) → OnOk q (HasCleanDisk new → doubts new ≡ 0)

@@ -1,7 +1,7 @@
 -- A new registry.
 use Rattle.std.proofs.Common.{◌≡◌, ◌&&◌, ℕ, true, refl, sym, ap, subst, arith}
 use Rattle.std.proofs.lemmas.Bool.{le-leb}
-use Rattle.sqlite.specs.State.{State, HasCleanDisk}
+use Rattle.sqlite.specs.State.{State, HasCleanDisk, IsLive}
 use Rattle.goo_types.specs.Day.{CalendarDay}
 use Rattle.goo_types.proofs.DayLemmas.{day_reading-day_text}
 use Rattle.goo_spec.specs.Created.{created}
@@ -10,6 +10,7 @@ use Rattle.goo_spec.specs.Sound.{IsSound}
 use Rattle.goo_spec.proofs.Creating.{created_is_sound}
 use Rattle.goo_ranges_rows.specs.Certificates.{certificates_of}
 use Rattle.goo_tables_rows.specs.Stands.{Stands, Settled, doubts}
+use Rattle.goo_tables_rows.proofs.Catalogued.{ours_of}
 use Rattle.goo_tables_rows.proofs.Decoded.{decoded}
 use Rattle.goo_tables_holdings.specs.Changes.{begun}
 use Rattle.goo_store.specs.Creating.{meta_of, IsFirst}
@@ -49,9 +50,10 @@ module _ (code : ℕ) (today : CalendarDay) (next_serial : ℕ) (it : IsFirst co
     pub created_tables : doubts s ≡ 0 → tables_in s ≡ begun (meta_of code today next_serial)
     created_tables none = decoded s.now (begun (meta_of code today next_serial)) (done (sure s none).0).stands
 
-    pub created_well : IsWell s
-    created_well = record {
+    pub created_well : IsLive s → IsWell s
+    created_well live = record {
       stands = λ none. subst (Stands s.now) (sym (created_tables none)) (done (sure s none).0).stands;
+      ours = λ none. ours_of s.now (live (sure s none).1).0 (done (sure s none).0).stands.schema;
       kept = λ none. subst AreKept (sym (created_tables none)) begun_kept;
       settled = λ none. sym (done (sure s none).0).committed;
     }

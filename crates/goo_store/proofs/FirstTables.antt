@@ -1,15 +1,16 @@
 -- Tables of version 1 are made those of version 2, or stay.
 use Rattle.std.proofs.Common.{◌≡◌, ◌≤◌, ◌⊎◌, length, inl, inr, false, List, Ok, Err, Result, IsErr, IsTrue, refl, sym, ap, subst, ◌∙◌, arith, true≢false}
 use Rattle.sqlite_trees.specs.View.{doubt}
-use Rattle.sqlite.specs.State.{State, HasCleanDisk, Survives}
+use Rattle.sqlite.specs.State.{State, HasCleanDisk, IsLive, Survives}
 use Rattle.sqlite.specs.Tree.{Trees}
 use Rattle.sqlite.specs.Effect.{Database}
 use Rattle.sqlite.specs.Schema.{Schema}
-use Rattle.goo_tables_rows.specs.Columns.{first_schema, registry_schema, no_schema}
+use Rattle.goo_tables_rows.specs.Columns.{first_schema, registry_schema}
 use Rattle.goo_tables_rows.specs.First.{IsFirst, HasFirstTables}
 use Rattle.goo_tables_rows.specs.Rows.{Tables}
-use Rattle.goo_tables_rows.specs.Stands.{Stands, Holds, Settled, IsSettled, doubts}
+use Rattle.goo_tables_rows.specs.Stands.{Stands, HoldsOurs, Settled, IsSettled, doubts}
 use Rattle.goo_tables_rows.specs.declared.piece.PieceRow.{PieceRow}
+use Rattle.goo_tables_rows.proofs.Catalogued.{ours_of}
 use Rattle.goo_tables_rows.proofs.Decoded.{decoded}
 use Rattle.goo_tables_holdings.specs.Changes.{with_version}
 use Rattle.goo_store_changes.specs.Changes.{made_all, AreFor}
@@ -21,7 +22,6 @@ use Rattle.goo_spec_tables.specs.States.{state_of}
 use Rattle.goo_spec_tables.proofs.RenewedLemmas.{renewed_kept, renewed_state}
 use Rattle.goo_store_rules.proofs.KeptKeys.{own_fields}
 use Rattle.goo_store_open.specs.Found.{IsOutside}
-use Rattle.goo_store_open.specs.Foreign.{LacksMeta}
 use Rattle.goo_store_open.specs.Layout.{seen_by}
 use Rattle.goo_store_open.specs.Reading.{IsMet}
 use Rattle.goo_store_open.specs.declared.fault.OpenFault.{OpenFault}
@@ -51,12 +51,12 @@ not_begun s pieces e outside = record {
 module _ (old new : State) (pieces : List PieceRow) (changes : List TableChange)
     (joins : (t : Tables) → t.pieces ≡ pieces → IsFirst old.now t → JoinsPieces t changes)
     (clean : doubt old.is_clean ≤ doubt new.is_clean) (outside : new.in_transaction ≡ false)
-    (crash : (t : Tables) → IsFirst old.now t → AreFor t changes → Survives old new (Holds (with_version 2 (made_all t changes)))) where
+    (crash : (t : Tables) → IsFirst old.now t → AreFor t changes → Survives old new (HoldsOurs old.is_open (with_version 2 (made_all t changes)))) where
   made_renewed : (t : Tables) → IsFirst old.now t → t.pieces ≡ pieces → with_version 2 (made_all t changes) ≡ renewed t
   made_renewed t first same = ap (with_version 2) (joins t same first).made
 
-  left_so : HasCleanDisk new → (t : Tables) → IsFirst old.now t → t.pieces ≡ pieces → (db : Trees) → new.may_leave db → old.may_leave db ⊎ Holds (renewed t) db
-  left_so late t first same = subst (λ (u : Tables). (db : Trees) → new.may_leave db → old.may_leave db ⊎ Holds u db) (made_renewed t first same) ((crash t first (joins t same first).for).crash late)
+  left_so : HasCleanDisk new → (t : Tables) → IsFirst old.now t → t.pieces ≡ pieces → (db : Trees) → new.may_leave db → old.may_leave db ⊎ HoldsOurs old.is_open (renewed t) db
+  left_so late t first same = subst (λ (u : Tables). (db : Trees) → new.may_leave db → old.may_leave db ⊎ HoldsOurs old.is_open u db) (made_renewed t first same) ((crash t first (joins t same first).for).crash late)
 
   pub rewritten : {T E : Type 0} (x : T) → (HasCleanDisk new → IsTrue new.is_open)
       → (HasCleanDisk new → (t : Tables) → IsFirst old.now t → AreFor t changes → Settled new (with_version 2 (made_all t changes))) → Rewrites {E = E} old new pieces (Ok x)
@@ -148,7 +148,7 @@ module _ {T : Type 0} (listed : T → List PieceRow) (a b c : State) (x : T) (ju
     words = λ _ _ _ _. tt;
     crash = λ late db left. elim (writes.crash late (them (writes.clean late)).0 (first_still (writes.clean late)) (sym (given ∙ (them (writes.clean late)).3)) db left) [
       | inl early ↦ inl (judges.crash (writes.clean late) (was_met (writes.clean late)) db early)
-      | inr holds ↦ inr ((them (writes.clean late)).0, first (writes.clean late), (them (writes.clean late)).2, kept_after (writes.clean late), holds)
+      | inr holds ↦ inr ((them (writes.clean late)).0, first (writes.clean late), (them (writes.clean late)).2, kept_after (writes.clean late), holds.0, holds.1 (live (writes.clean late)))
     ];
   }
 
@@ -166,7 +166,7 @@ module _ {T : Type 0} (listed : T → List PieceRow) (a b c : State) (x : T) (ju
     words = λ _ _ _ _. inl (subst IsOutside (sym word) (outside_told trouble));
     crash = λ late db left. elim (writes.crash late (them (writes.clean late)).0 (first_still (writes.clean late)) (sym (given ∙ (them (writes.clean late)).3)) db left) [
       | inl early ↦ inl (judges.crash (writes.clean late) (was_met (writes.clean late)) db early)
-      | inr holds ↦ inr ((them (writes.clean late)).0, first (writes.clean late), (them (writes.clean late)).2, kept_after (writes.clean late), holds)
+      | inr holds ↦ inr ((them (writes.clean late)).0, first (writes.clean late), (them (writes.clean late)).2, kept_after (writes.clean late), holds.0, holds.1 (live (writes.clean late)))
     ];
   }
 
@@ -179,9 +179,10 @@ module _ {T : Type 0} (old new : State) (x : T) (renews : Renews old new (Ok x))
   tables_renewed : (none : doubts new ≡ 0) → tables_in new ≡ renewed (renews.done (sure new none).0).0
   tables_renewed none = decoded new.now (renewed (renews.done (sure new none).0).0) (renews.done (sure new none).0).4.stands
 
-  pub renewed_well : IsWell new
-  renewed_well = record {
+  pub renewed_well : IsLive new → IsWell new
+  renewed_well lives = record {
     stands = λ none. subst (Stands new.now) (sym (tables_renewed none)) (renews.done (sure new none).0).4.stands;
+    ours = λ none. ours_of new.now (lives (sure new none).1).0 (renews.done (sure new none).0).4.stands.schema;
     kept = λ none. subst AreKept (sym (tables_renewed none)) (renews.done (sure new none).0).3;
     settled = λ none. sym (renews.done (sure new none).0).4.committed;
   }
@@ -198,17 +199,9 @@ module _ {T : Type 0} (old new : State) (x : T) (renews : Renews old new (Ok x))
       let them = renews.done late in
       subst (λ (u : Tables). AreKeptIn 1 u × Settled new (renewed u)) (one_first old.now them.0 t them.1 first) (them.2, them.4)
 
--- ---- tables of version 1 are neither ours nor none, and one of them is `meta`
+-- ---- tables of version 1 are not ours
 
 pub first_not_ours : (db : Database) → db.schema ≡ first_schema → db.schema ≡ registry_schema → ⊥
 first_not_ours db is ours =
     let e : 13 ≡ 16 = ap (λ (s : Schema). length s.tables) (sym is ∙ ours) in
     absurd (omega (arith, e))
-
-pub first_not_none : (db : Database) → db.schema ≡ first_schema → db.schema ≡ no_schema → ⊥
-first_not_none db is none =
-    let e : 13 ≡ 0 = ap (λ (s : Schema). length s.tables) (sym is ∙ none) in
-    absurd (omega (arith, e))
-
-pub first_has_meta : (db : Database) → db.schema ≡ first_schema → LacksMeta db.schema → ⊥
-first_has_meta db is lacks = (subst LacksMeta is lacks).0 refl

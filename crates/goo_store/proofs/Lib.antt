@@ -21,3 +21,4 @@ pub mod HeldLemmas
 pub mod Edges
 pub mod NewNumbers
 pub mod Pages
+pub mod Reopened

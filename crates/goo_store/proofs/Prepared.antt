@@ -5,7 +5,7 @@ use Rattle.sqlite.specs.Effect.{Database}
 use Rattle.goo_types.specs.declared.fault.Fault.{Fault}
 use Rattle.goo_core_shelf.specs.Shelf as shelf
 use Rattle.goo_tables_rows.specs.Rows.{Tables, tables_of}
-use Rattle.goo_tables_rows.specs.Stands.{Stands, Rests, doubts}
+use Rattle.goo_tables_rows.specs.Stands.{Stands, Rests, doubts, AreOurs}
 use Rattle.goo_spec_tables.specs.Kept.{AreKept}
 use Rattle.goo_spec_tables.specs.Places.{rows_of}
 use Rattle.goo_spec_tables.specs.States.{state_of}
@@ -59,6 +59,7 @@ module _ {T : Type 0} (old new : State) (it : IsWell old) (r : Result T Trouble)
   pub well : IsWell new
   well = record {
     stands = λ none. subst (λ (d : Database). Stands d (tables_of d.trees)) (sym (now_same none)) (it.stands (before none));
+    ours = λ none. subst (λ (d : Database). AreOurs d.trees) (sym (now_same none)) (it.ours (before none));
     kept = λ none. subst AreKept (sym (tables_same none)) (it.kept (before none));
     settled = λ none. now_same none ∙ it.settled (before none) ∙ sym ((rests none).committed (sure new none).1);
   }

@@ -5,7 +5,7 @@ use Rattle.sqlite.specs.Tree.{Trees}
 use Rattle.sqlite.specs.Effect.{Database}
 use Rattle.goo_tables_rows.specs.First.{IsFirst}
 use Rattle.goo_tables_rows.specs.Rows.{Tables}
-use Rattle.goo_tables_rows.specs.Stands.{Holds, Rests, Settled}
+use Rattle.goo_tables_rows.specs.Stands.{Holds, HoldsOurs, AreOurs, Rests, Settled}
 use Rattle.goo_tables_rows.specs.declared.piece.PieceRow.{PieceRow}
 use Rattle.goo_spec_tables.specs.Kept.{AreKept, AreKeptIn}
 use Rattle.goo_spec_tables.specs.Renewed.{renewed}
@@ -13,18 +13,18 @@ use Rattle.goo_store_lookups.specs.Opening.{IsRefusalIn}
 use Rattle.goo_store_open.specs.declared.fault.OpenFault.{OpenFault}
 
 -- The pieces of tables of version 1 are joined, and the tables are made those of version 2, or nothing is done.
--- `crash`: what was there before, or the tables renewed.
+-- `crash`: what was there before, or the tables renewed, and listed as ours where the connection was open.
 pub record Rewrites {T E : Type 0} (old new : State) (pieces : List PieceRow) (result : Result T E) : Type 0 where
   pub clean : HasCleanDisk new → HasCleanDisk old
   pub outside : new.in_transaction ≡ false
   pub works : OnOk result (HasCleanDisk new → IsTrue new.is_open)
   pub done : HasCleanDisk new → (t : Tables) → IsFirst old.now t → t.pieces ≡ pieces → OnOk result (Settled new (renewed t))
   pub rests : HasCleanDisk new → (t : Tables) → IsFirst old.now t → t.pieces ≡ pieces → OnErr result (Rests old new)
-  pub crash : HasCleanDisk new → (t : Tables) → IsFirst old.now t → t.pieces ≡ pieces → (db : Trees) → new.may_leave db → old.may_leave db ⊎ Holds (renewed t) db
+  pub crash : HasCleanDisk new → (t : Tables) → IsFirst old.now t → t.pieces ≡ pieces → (db : Trees) → new.may_leave db → old.may_leave db ⊎ HoldsOurs old.is_open (renewed t) db
 
--- the tables of version 1 that a database held and that keep their rules, renewed
+-- the tables of version 1 that a database held and that keep their rules, renewed, and listed as ours
 abbrev pub HoldsRenewed : Database → Trees → Type 0
-HoldsRenewed old db = (t : Tables) × IsFirst old t × AreKeptIn 1 t × AreKept (renewed t) × Holds (renewed t) db
+HoldsRenewed old db = (t : Tables) × IsFirst old t × AreKeptIn 1 t × AreKept (renewed t) × Holds (renewed t) db × AreOurs db
 
 -- A database that holds tables of version 1 is made one of version 2, where they keep the rules of their version; it is left as it was where they
 -- don't, or where a call was refused or memory was. `crash`: what was there before, or the tables renewed.

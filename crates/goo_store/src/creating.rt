@@ -10,7 +10,8 @@ ghost use Rattle.goo_types.specs.Day.{IsDay};
 ghost use Rattle.goo_tables_rows.specs.Columns.{no_schema};
 ghost use Rattle.goo_tables_rows.specs.Refused.{IsFault, IsSmall};
 ghost use Rattle.goo_tables_rows.specs.Rows.{meta_in, meta_row};
-ghost use Rattle.goo_tables_rows.specs.Stands.{Sees, Settled, Holds};
+ghost use Rattle.goo_tables_rows.specs.Lives.{IsAlive};
+ghost use Rattle.goo_tables_rows.specs.Stands.{Sees, Settled, HoldsOurs};
 ghost use Rattle.goo_tables_holdings.specs.Changes.{MetaFits, begun};
 ghost use Rattle.goo_store.specs.Creating.{meta_of, IsFirst};
 
@@ -65,6 +66,8 @@ fn write_tables<S: Alter>(tx: &mut Transaction<'_, S>, meta: &MetaRow) -> Result
         → OnOk result (Sees (state S.Store tx.new.conn.now) (begun (meta_in meta.now))) }
     ensures refused { HasCleanDisk (state S.Store tx.new.conn.now) → IsLive (state S.Store tx.old.conn.now) → (state S.Store tx.old.conn.now).step_limit ≡ None → IsTrue (state S.Store tx.old.conn.now).in_transaction
         → (state S.Store tx.old.conn.now).now.schema ≡ no_schema → IsSmall (meta_row (meta_in meta.now)) → IfErr result (IsFault (state S.Store tx.old.conn.now) (state S.Store tx.new.conn.now)) }
+    ensures live { HasCleanDisk (state S.Store tx.new.conn.now) → IsLive (state S.Store tx.old.conn.now) → IsTrue (state S.Store tx.old.conn.now).in_transaction → (state S.Store tx.old.conn.now).now.schema ≡ no_schema
+        → OnOk result (IsAlive (state S.Store tx.new.conn.now)) }
     ensures uncommitted { HasCleanDisk (state S.Store tx.new.conn.now) → KeepsCommit (state S.Store tx.old.conn.now) (state S.Store tx.new.conn.now) }
     ensures survives { Survives (state S.Store tx.old.conn.now) (state S.Store tx.new.conn.now) (λ _. ⊥) }
 {
@@ -85,7 +88,7 @@ pub fn commit_tables<S: Alter>(conn: &mut Connection<S>, meta: &MetaRow) -> Resu
     ensures refused { HasCleanDisk (state S.Store conn.new) → (state S.Store conn.old).step_limit ≡ None → IsSmall (meta_row (meta_in meta.now)) → IfErr result (IsFault (state S.Store conn.old) (state S.Store conn.new)) }
     ensures kept { HasCleanDisk (state S.Store conn.new) → IsTrue (state S.Store conn.new).is_open
         → OnErr result (((state S.Store conn.new).now ≡ (state S.Store conn.old).now) × ((state S.Store conn.new).committed ≡ (state S.Store conn.old).committed)) }
-    ensures crash { Survives (state S.Store conn.old) (state S.Store conn.new) (Holds (begun (meta_in meta.now))) }
+    ensures crash { Survives (state S.Store conn.old) (state S.Store conn.new) (HoldsOurs (state S.Store conn.old).is_open (begun (meta_in meta.now))) }
 {
     let _settled = conn.is_autocommit();
     let _known = conn.schema();
@@ -118,7 +121,7 @@ pub fn begin<S: Alter>(
         → IfErr result (λ trouble. trouble ≡ Trouble.Refused → MoreFaults (state S.Store conn.old).faults (state S.Store conn.new).faults) }
     ensures kept { HasCleanDisk (state S.Store conn.new) → IsTrue (state S.Store conn.new).is_open
         → OnErr result (((state S.Store conn.new).now ≡ (state S.Store conn.old).now) × ((state S.Store conn.new).committed ≡ (state S.Store conn.old).committed)) }
-    ensures crash { Survives (state S.Store conn.old) (state S.Store conn.new) (Holds (begun (meta_of code today next_serial))) }
+    ensures crash { Survives (state S.Store conn.old) (state S.Store conn.new) (HoldsOurs (state S.Store conn.old).is_open (begun (meta_of code today next_serial))) }
 {
     let row = first_row(alloc, code, next_serial, today)?;
     commit_tables(conn, &row)?;

@@ -8,7 +8,7 @@ ghost use Rattle.goo_tables_rows.specs.Columns.{no_schema, registry_schema, firs
 ghost use Rattle.goo_tables_rows.specs.First.{IsFirst};
 ghost use Rattle.goo_tables_rows.specs.Met.{IsInKeyOrder};
 ghost use Rattle.goo_tables_rows.specs.Rows.{Tables};
-ghost use Rattle.goo_tables_rows.specs.Stands.{Stands, Rests, Settled};
+ghost use Rattle.goo_tables_rows.specs.Stands.{Stands, Rests, Settled, doubts};
 ghost use Rattle.goo_spec_tables.specs.Kept.{AreKept, AreKeptIn};
 ghost use Rattle.goo_spec_tables.specs.Renewed.{renewed};
 ghost use Rattle.goo_spec_tables.specs.States.{state_of};
@@ -17,8 +17,9 @@ ghost use Rattle.goo_store_open.specs.Foreign.{LacksMeta, TellsVersion, IsForeig
 ghost use Rattle.goo_ranges_rows.specs.Rows.{AreRowsOf};
 ghost use Rattle.goo_spec.specs.Runs.{IsApart};
 ghost use Rattle.goo_spec.specs.Sound.{IsSound};
+ghost use Rattle.goo_spec.specs.State.{State};
 ghost use Rattle.goo_core_shelf.specs.Shelf.{IsReady};
-ghost use Rattle.goo_store_lookups.specs.Moments.{moment};
+ghost use Rattle.goo_store_lookups.specs.Moments.{OpensAsEither, moment};
 ghost use Rattle.goo_store_lookups.specs.Opening.{BlamesOpening, IsRefusal, IsRefusalIn};
 ghost use Rattle.goo_store.specs.FirstTables.{HoldsRenewed};
 ghost use Rattle.goo_store.specs.Versions.{state_held};
@@ -38,6 +39,9 @@ impl<S: Alter> SqlShelf<S> {
     /// The registry that a database holds, whatever its tables are. Tables of version 1 that keep the rules of their version
     /// become those of version 2 in one transaction, with the same state; whoever stops it leaves the ones or the others.
     ///
+    /// What a crash left of a registry is opened with a state that the shelf before it said the crash may find (`again`), or
+    /// refused with `Store` or `Memory` (`never_foreign`).
+    ///
     /// # Errors
     ///
     /// The database, unchanged, with `NotARegistry`, `Version` or `Damaged` where it holds no registry whose tables are those
@@ -48,7 +52,7 @@ impl<S: Alter> SqlShelf<S> {
         conn: Connection<S>,
     ) -> Result<SqlShelf<S>, (Connection<S>, OpenFault)>
         requires outside { conn.in_transaction ≡ false }
-        requires ordered { HasCleanDisk (view S.Store conn) → IsInKeyOrder (view S.Store conn).now }
+        requires ordered { doubts (view S.Store conn) ≡ 0 → IsInKeyOrder (view S.Store conn).now }
         ensures state { IfOk result (λ shelf. (t : Tables) → Stands (view S.Store conn).now t → (moment (view S.Store shelf.conn) shelf.refused).doubts ≡ 0 → (moment (view S.Store shelf.conn) shelf.refused).state ≡ state_of t) }
         ensures sound { IfOk result (λ shelf. (moment (view S.Store shelf.conn) shelf.refused).doubts ≡ 0 → IsSound (moment (view S.Store shelf.conn) shelf.refused).state) }
         ensures rows_fit { IfOk result (λ shelf. (moment (view S.Store shelf.conn) shelf.refused).doubts ≡ 0 → AreRowsOf (moment (view S.Store shelf.conn) shelf.refused).state.at (moment (view S.Store shelf.conn) shelf.refused).rows) }
@@ -74,6 +78,13 @@ impl<S: Alter> SqlShelf<S> {
         ensures crash { ((view S.Store conn).now.schema ≡ first_schema → ⊥) → IfErr result (λ e. HasCleanDisk (view S.Store e.0) → (db : Trees) → (view S.Store e.0).may_leave db → (view S.Store conn).may_leave db) }
         ensures left { IfErr result (λ e. HasCleanDisk (view S.Store e.0) → (db : Trees) → (view S.Store e.0).may_leave db → (view S.Store conn).may_leave db ⊎ HoldsRenewed (view S.Store conn).now db) }
         ensures held { IfOk result (λ shelf. (moment (view S.Store shelf.conn) shelf.refused).doubts ≡ 0 → (moment (view S.Store shelf.conn) shelf.refused).state ≡ state_held (view S.Store conn).now.trees) }
+        ensures again { IsTrue (view S.Store conn).is_open → (s t : State) → OpensAsEither (view S.Store conn).now.trees s t
+            → IfOk result (λ shelf. (moment (view S.Store shelf.conn) shelf.refused).doubts ≡ 0
+            → ((moment (view S.Store shelf.conn) shelf.refused).state ≡ s)
+            ⊎ ((moment (view S.Store shelf.conn) shelf.refused).state ≡ t)) }
+        ensures never_foreign { IsTrue (view S.Store conn).is_open → (view S.Store conn).step_limit ≡ None → (s t : State)
+            → OpensAsEither (view S.Store conn).now.trees s t
+            → IfErr result (λ e. HasCleanDisk (view S.Store e.0) → IsOutside e.1) }
     {
         SqlShelf::open_telling(alloc, conn, &mut Untold)
     }
@@ -89,7 +100,7 @@ impl<S: Alter> SqlShelf<S> {
         told: &mut N,
     ) -> Result<SqlShelf<S>, (Connection<S>, OpenFault)>
         requires outside { conn.in_transaction ≡ false }
-        requires ordered { HasCleanDisk (view S.Store conn) → IsInKeyOrder (view S.Store conn).now }
+        requires ordered { doubts (view S.Store conn) ≡ 0 → IsInKeyOrder (view S.Store conn).now }
         ensures state { IfOk result (λ shelf. (t : Tables) → Stands (view S.Store conn).now t → (moment (view S.Store shelf.conn) shelf.refused).doubts ≡ 0 → (moment (view S.Store shelf.conn) shelf.refused).state ≡ state_of t) }
         ensures sound { IfOk result (λ shelf. (moment (view S.Store shelf.conn) shelf.refused).doubts ≡ 0 → IsSound (moment (view S.Store shelf.conn) shelf.refused).state) }
         ensures rows_fit { IfOk result (λ shelf. (moment (view S.Store shelf.conn) shelf.refused).doubts ≡ 0 → AreRowsOf (moment (view S.Store shelf.conn) shelf.refused).state.at (moment (view S.Store shelf.conn) shelf.refused).rows) }
@@ -115,9 +126,17 @@ impl<S: Alter> SqlShelf<S> {
         ensures crash { ((view S.Store conn).now.schema ≡ first_schema → ⊥) → IfErr result (λ e. HasCleanDisk (view S.Store e.0) → (db : Trees) → (view S.Store e.0).may_leave db → (view S.Store conn).may_leave db) }
         ensures left { IfErr result (λ e. HasCleanDisk (view S.Store e.0) → (db : Trees) → (view S.Store e.0).may_leave db → (view S.Store conn).may_leave db ⊎ HoldsRenewed (view S.Store conn).now db) }
         ensures held { IfOk result (λ shelf. (moment (view S.Store shelf.conn) shelf.refused).doubts ≡ 0 → (moment (view S.Store shelf.conn) shelf.refused).state ≡ state_held (view S.Store conn).now.trees) }
+        ensures again { IsTrue (view S.Store conn).is_open → (s t : State) → OpensAsEither (view S.Store conn).now.trees s t
+            → IfOk result (λ shelf. (moment (view S.Store shelf.conn) shelf.refused).doubts ≡ 0
+            → ((moment (view S.Store shelf.conn) shelf.refused).state ≡ s)
+            ⊎ ((moment (view S.Store shelf.conn) shelf.refused).state ≡ t)) }
+        ensures never_foreign { IsTrue (view S.Store conn).is_open → (view S.Store conn).step_limit ≡ None → (s t : State)
+            → OpensAsEither (view S.Store conn).now.trees s t
+            → IfErr result (λ e. HasCleanDisk (view S.Store e.0) → IsOutside e.1) }
     {
         let mut conn = conn;
         let _settled = conn.is_autocommit();
+        let _known = conn.schema();
         if has_first_schema(&conn) {
             return match renew(alloc, &mut conn, told) {
                 Ok(()) => Ok(SqlShelf::over(alloc, conn)),

@@ -1,18 +1,19 @@
 //! A shelf over the tables of a database.
 
-ghost use Rattle.std.specs.Prelude.{◌≡◌, ◌≢◌, ◌⊎◌, [], false, IsTrue, IfOk, IfErr, IsErrAnd};
+ghost use Rattle.std.specs.Prelude.{◌≡◌, ◌≢◌, ◌⊎◌, [], Some, false, IsTrue, IfOk, IfErr, IsErrAnd};
 ghost use Rattle.sqlite.specs.Held.{state as view};
-ghost use Rattle.sqlite.specs.State.{HasCleanDisk, Survives};
+ghost use Rattle.sqlite.specs.State.{HasCleanDisk, IsLive, Survives};
 ghost use Rattle.goo_ranges_rows.specs.Rows.{AreRowsOf};
 ghost use Rattle.goo_spec.specs.Created.{created};
 ghost use Rattle.goo_spec.specs.Runs.{IsApart};
 ghost use Rattle.goo_spec.specs.Sound.{IsSound};
 ghost use Rattle.goo_tables_rows.specs.Columns.{no_schema};
-ghost use Rattle.goo_tables_rows.specs.Stands.{Holds};
+ghost use Rattle.goo_tables_rows.specs.Met.{IsInKeyOrder};
+ghost use Rattle.goo_tables_rows.specs.Stands.{HoldsOurs, doubts};
 ghost use Rattle.goo_core_shelf.specs.Shelf.{IsReady};
 ghost use Rattle.goo_tables_holdings.specs.Changes.{begun};
 ghost use Rattle.goo_store.specs.Creating.{meta_of};
-ghost use Rattle.goo_store_lookups.specs.Moments.{IsWell, IsWell-prop, count, moment};
+ghost use Rattle.goo_store_lookups.specs.Moments.{IsWell, IsWell-prop, OpensAs, count, moment};
 ghost use Rattle.goo_store_lookups.specs.Opening.{BlamesOpening};
 ghost use Rattle.goo_store.specs.Found.{Knows, Knows-prop};
 ghost use Rattle.goo_store.specs.Outlasting.{Lasts, Lasts-prop};
@@ -61,10 +62,11 @@ impl<S: Alter> SqlShelf<S> {
     /// The registry that a database holds by all rules.
     pub(crate) fn over(alloc: Global, conn: Connection<S>) -> SqlShelf<S>
         requires outside { conn.in_transaction ≡ false }
-        requires well { IsWell (view S.Store conn) }
+        requires well { IsLive (view S.Store conn) → IsWell (view S.Store conn) }
         ensures conn { result.conn ≡ conn }
         ensures ready { result.refused ≡ false }
     {
+        let _known = conn.schema();
         SqlShelf {
             alloc,
             conn,
@@ -102,7 +104,7 @@ impl<S: Alter> SqlShelf<S> {
         ensures blames { (view S.Store conn).now.schema ≡ no_schema → IfErr result (λ e. BlamesOpening (view S.Store conn) (view S.Store e.0) e.1) }
         ensures kept { IfErr result (λ e. HasCleanDisk (view S.Store e.0) → IsTrue (view S.Store e.0).is_open → ((view S.Store e.0).now ≡ (view S.Store conn).now) × ((view S.Store e.0).committed ≡ (view S.Store conn).committed)) }
         ensures outside { IfErr result (λ e. e.0.in_transaction ≡ false) }
-        ensures crash { IfErr result (λ e. Survives (view S.Store conn) (view S.Store e.0) (Holds (begun (meta_of code today next_serial)))) }
+        ensures crash { IfErr result (λ e. Survives (view S.Store conn) (view S.Store e.0) (HoldsOurs (view S.Store conn).is_open (begun (meta_of code today next_serial)))) }
     {
         let mut conn = conn;
         if !is_empty(&conn) {
@@ -121,11 +123,14 @@ impl<S: Alter> SqlShelf<S> {
         if self.refused { 1 } else { 0 }
     }
 
-    /// The database, with the registry in it.
+    /// The database, with the registry in it: while nothing is in doubt, it opens again as the state that the shelf has.
     pub fn into_connection(self) -> Connection<S>
         ensures conn { result ≡ self.conn }
         ensures outside { result.in_transaction ≡ false }
         ensures well { IsWell (view S.Store result) }
+        ensures ordered { doubts (view S.Store result) ≡ 0 → IsInKeyOrder (view S.Store result).now }
+        ensures opens { doubts (view S.Store result) ≡ 0
+            → OpensAs (view S.Store result).now.trees (Some (moment (view S.Store self.conn) self.refused).state) }
     {
         let SqlShelf {
             alloc: _,

@@ -6,7 +6,7 @@ ghost use Rattle.sqlite.specs.Held.{state};
 ghost use Rattle.goo_tables_rows.specs.Rows.{Tables, piece_row};
 ghost use Rattle.goo_tables_rows.specs.Refused.{ChangeFailsBy, IsFault, IsSmall, IsTooBig, IsTooBigOrFull};
 ghost use Rattle.goo_tables_holdings.specs.Changes.{with_piece, without_piece, PieceFits};
-ghost use Rattle.goo_tables_rows.specs.Lives.{LeavesLive};
+ghost use Rattle.goo_tables_rows.specs.Lives.{IsAlive, LeavesLive, StaysAlive};
 ghost use Rattle.goo_tables_rows.specs.Stands.{Sees};
 ghost use Rattle.goo_store_changes.specs.Changes.{made, made_all, ChangeFits, IsFor, AreFor, IsFree, AreFree, HasRoom, HaveRoom};
 
@@ -114,7 +114,7 @@ fn replace_piece<S: Alter>(tx: &mut Transaction<'_, S>, row: &PieceRow) -> Resul
     ensures changed { HasCleanDisk (state S.Store tx.new.conn.now) → (t : Tables) → Sees (state S.Store tx.old.conn.now) t
         → OnOk result (Sees (state S.Store tx.new.conn.now) (with_piece (without_piece t row.now.first) row.now)) }
     ensures refused { ChangeFailsBy IsTooBig (λ _. IsSmall (piece_row row.now)) (state S.Store tx.old.conn.now) (state S.Store tx.new.conn.now) result (λ _. ⊤) }
-    ensures live { HasCleanDisk (state S.Store tx.new.conn.now) → IsLive (state S.Store tx.old.conn.now) → (t : Tables) → Sees (state S.Store tx.old.conn.now) t → OnOk result (IsLive (state S.Store tx.new.conn.now)) }
+    ensures live { HasCleanDisk (state S.Store tx.new.conn.now) → IsLive (state S.Store tx.old.conn.now) → (t : Tables) → Sees (state S.Store tx.old.conn.now) t → OnOk result (IsAlive (state S.Store tx.new.conn.now)) }
     ensures uncommitted { HasCleanDisk (state S.Store tx.new.conn.now) → KeepsCommit (state S.Store tx.old.conn.now) (state S.Store tx.new.conn.now) }
     ensures survives { Survives (state S.Store tx.old.conn.now) (state S.Store tx.new.conn.now) (λ _. ⊥) }
 {
@@ -155,7 +155,7 @@ fn make_at<S: Alter>(
     ensures refused { HasCleanDisk (state S.Store tx.new.conn.now) → IsLive (state S.Store tx.old.conn.now) → (state S.Store tx.old.conn.now).step_limit ≡ None → (t : Tables)
         → Sees (state S.Store tx.old.conn.now) (made_all t (take at changes.now)) → AreFor t changes.now × AreFree t changes.now
         → IfErr result (λ e. IsFault (state S.Store tx.old.conn.now) (state S.Store tx.new.conn.now) e ⊎ (IsTooBigOrFull e × (HaveRoom t changes.now → ⊥))) }
-    ensures live { HasCleanDisk (state S.Store tx.new.conn.now) → IsLive (state S.Store tx.old.conn.now) → (t : Tables) → Sees (state S.Store tx.old.conn.now) t → OnOk result (IsLive (state S.Store tx.new.conn.now)) }
+    ensures live { HasCleanDisk (state S.Store tx.new.conn.now) → IsLive (state S.Store tx.old.conn.now) → (t : Tables) → Sees (state S.Store tx.old.conn.now) t → OnOk result (IsAlive (state S.Store tx.new.conn.now)) }
     ensures uncommitted { HasCleanDisk (state S.Store tx.new.conn.now) → KeepsCommit (state S.Store tx.old.conn.now) (state S.Store tx.new.conn.now) }
     ensures survives { Survives (state S.Store tx.old.conn.now) (state S.Store tx.new.conn.now) (λ _. ⊥) }
 {
@@ -182,7 +182,7 @@ pub(crate) fn make_all<S: Alter>(
         → OnOk result (Sees (state S.Store tx.new.conn.now) (made_all t changes.now)) }
     ensures refused { ChangeFailsBy IsTooBigOrFull (λ t. HaveRoom t changes.now) (state S.Store tx.old.conn.now) (state S.Store tx.new.conn.now) result (λ t. AreFor t changes.now × AreFree t changes.now) }
     ensures live { HasCleanDisk (state S.Store tx.new.conn.now) → IsLive (state S.Store tx.old.conn.now) → (t : Tables) → Sees (state S.Store tx.old.conn.now) t → AreFor t changes.now
-        → OnOk result (IsLive (state S.Store tx.new.conn.now)) }
+        → OnOk result (StaysAlive (state S.Store tx.old.conn.now) (state S.Store tx.new.conn.now)) }
     ensures uncommitted { HasCleanDisk (state S.Store tx.new.conn.now) → KeepsCommit (state S.Store tx.old.conn.now) (state S.Store tx.new.conn.now) }
     ensures survives { Survives (state S.Store tx.old.conn.now) (state S.Store tx.new.conn.now) (λ _. ⊥) }
 {

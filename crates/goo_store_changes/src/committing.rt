@@ -6,7 +6,7 @@ ghost use Rattle.sqlite.specs.Held.{state};
 ghost use Rattle.sqlite_trees.specs.View.{doubt};
 ghost use Rattle.goo_tables_rows.specs.Rows.{Tables};
 ghost use Rattle.goo_tables_rows.specs.Refused.{IsFault, IsTooBigOrFull};
-ghost use Rattle.goo_tables_rows.specs.Stands.{Stands, Settled, Holds};
+ghost use Rattle.goo_tables_rows.specs.Stands.{Stands, Settled, HoldsOurs};
 ghost use Rattle.goo_store_changes.specs.Changes.{made_all, ChangeFits, AreFor, AreFree, HaveRoom};
 
 use crate::change::{TableChange, make_all};
@@ -35,7 +35,7 @@ pub fn commit_changes<S: Alter>(
     ensures kept { HasCleanDisk (state S.Store conn.new) → IsTrue (state S.Store conn.new).is_open → (t : Tables) → Stands (state S.Store conn.old).now t → AreFor t changes.now
         → OnErr result (((state S.Store conn.new).now ≡ (state S.Store conn.old).now) × ((state S.Store conn.new).committed ≡ (state S.Store conn.old).committed)) }
     ensures crash { (t : Tables) → Stands (state S.Store conn.old).now t → AreFor t changes.now
-        → Survives (state S.Store conn.old) (state S.Store conn.new) (Holds (made_all t changes.now)) }
+        → Survives (state S.Store conn.old) (state S.Store conn.new) (HoldsOurs (state S.Store conn.old).is_open (made_all t changes.now)) }
 {
     commit_together(conn, changes)
 }
@@ -56,7 +56,7 @@ fn commit_together<S: Alter>(conn: &mut Connection<S>, changes: &[TableChange]) 
     ensures kept { HasCleanDisk (state S.Store conn.new) → IsTrue (state S.Store conn.new).is_open → (t : Tables) → Stands (state S.Store conn.old).now t → AreFor t changes.now
         → OnErr result (((state S.Store conn.new).now ≡ (state S.Store conn.old).now) × ((state S.Store conn.new).committed ≡ (state S.Store conn.old).committed)) }
     ensures crash { (t : Tables) → Stands (state S.Store conn.old).now t → AreFor t changes.now
-        → Survives (state S.Store conn.old) (state S.Store conn.new) (Holds (made_all t changes.now)) }
+        → Survives (state S.Store conn.old) (state S.Store conn.new) (HoldsOurs (state S.Store conn.old).is_open (made_all t changes.now)) }
 {
     let _settled = conn.is_autocommit();
     let _known = conn.schema();

@@ -5,9 +5,10 @@ ghost use Rattle.sqlite.specs.State.{HasCleanDisk, IsLive, KeepsCommit, Survives
 ghost use Rattle.sqlite.specs.Held.{state};
 ghost use Rattle.sqlite_trees.specs.View.{doubt};
 ghost use Rattle.goo_tables_rows.specs.First.{IsFirst};
+ghost use Rattle.goo_tables_rows.specs.Lives.{IsAlive};
 ghost use Rattle.goo_tables_rows.specs.Rows.{Tables, meta_row};
 ghost use Rattle.goo_tables_rows.specs.Refused.{IsFault, IsTooBigOrFull, IsSmall};
-ghost use Rattle.goo_tables_rows.specs.Stands.{Sees, Settled, Holds};
+ghost use Rattle.goo_tables_rows.specs.Stands.{Sees, Settled, HoldsOurs};
 ghost use Rattle.goo_tables_holdings.specs.Changes.{with_version};
 ghost use Rattle.goo_store_changes.specs.Changes.{made_all, ChangeFits, AreFor, AreFree, HaveRoom};
 ghost use Rattle.goo_store_changes.specs.Migrated.{SeesFirst, HasRoomToMigrate};
@@ -41,7 +42,7 @@ pub fn commit_migration<S: Alter>(
     ensures kept { HasCleanDisk (state S.Store conn.new) → IsTrue (state S.Store conn.new).is_open → (t : Tables) → IsFirst (state S.Store conn.old).now t → AreFor t changes.now
         → OnErr result (((state S.Store conn.new).now ≡ (state S.Store conn.old).now) × ((state S.Store conn.new).committed ≡ (state S.Store conn.old).committed)) }
     ensures crash { (t : Tables) → IsFirst (state S.Store conn.old).now t → AreFor t changes.now
-        → Survives (state S.Store conn.old) (state S.Store conn.new) (Holds (with_version version (made_all t changes.now))) }
+        → Survives (state S.Store conn.old) (state S.Store conn.new) (HoldsOurs (state S.Store conn.old).is_open (with_version version (made_all t changes.now))) }
 {
     let _settled = conn.is_autocommit();
     let _known = conn.schema();
@@ -65,7 +66,7 @@ fn migrate<S: Alter>(
         → (t : Tables) → SeesFirst (state S.Store tx.old.conn.now) t → AreFor t changes.now → AreFree t changes.now
         → IfErr result (λ e. IsFault (state S.Store tx.old.conn.now) (state S.Store tx.new.conn.now) e ⊎ (IsTooBigOrFull e × (HasRoomToMigrate t changes.now version → ⊥))) }
     ensures live { HasCleanDisk (state S.Store tx.new.conn.now) → IsLive (state S.Store tx.old.conn.now) → (t : Tables) → SeesFirst (state S.Store tx.old.conn.now) t → AreFor t changes.now
-        → OnOk result (IsLive (state S.Store tx.new.conn.now)) }
+        → OnOk result (IsAlive (state S.Store tx.new.conn.now)) }
     ensures uncommitted { HasCleanDisk (state S.Store tx.new.conn.now) → KeepsCommit (state S.Store tx.old.conn.now) (state S.Store tx.new.conn.now) }
     ensures survives { Survives (state S.Store tx.old.conn.now) (state S.Store tx.new.conn.now) (λ _. ⊥) }
 {

@@ -8,7 +8,8 @@ use Rattle.sqlite.specs.Effect.{Database}
 use Rattle.goo_tables_rows.specs.Rows.{Tables, tables_of, meta_in, holder_in, account_in, device_in, declaration_in, lot_in}
 use Rattle.goo_tables_rows.specs.Met.{HasOurTables}
 use Rattle.goo_tables_rows.specs.Columns.{registry_schema}
-use Rattle.goo_tables_rows.specs.Stands.{Stands, IsSettled, doubts}
+use Rattle.goo_tables_rows.specs.Stands.{Stands, IsSettled, AreOurs, doubts}
+use Rattle.goo_tables_rows.proofs.Catalogued.{ours_of}
 use Rattle.goo_tables_rows.proofs.Decoded.{decoded}
 use Rattle.goo_ranges_rows.proofs.CertificateLemmas.{certificates-rows}
 use Rattle.goo_ranges_rows.specs.Rows.{AreRowsOf}
@@ -156,6 +157,9 @@ module _ {T : Type 0} (Tells : Tables → T → Type 0) (old new : State) (y : T
     stands = λ none.
         let them = judges.kept (sure new none).0 (before none) in
         subst (Stands new.now) (sym (its_tables none)) (subst (λ (d : Database). Stands d them.0) (sym (now_same none)) them.1);
+    ours = λ none.
+        let tables = (before none).ours ((judges.rests (sure new none).0 (before none)).was_open (sure new none).1) in
+        subst (λ (d : Database). AreOurs d.trees) (sym (now_same none)) (ours_of old.now tables.sound tables.schema);
     kept = λ none. subst AreKept (sym (its_tables none)) (judges.kept (sure new none).0 (before none)).2;
     settled = λ none.
         let rests = judges.rests (sure new none).0 (before none) in

@@ -8,7 +8,7 @@ use Rattle.goo_types.specs.declared.fault.Fault.TheVariants as fault
 use Rattle.goo_core_shelf.specs.Shelf as shelf
 use Rattle.goo_tables_rows.proofs.Results.{if_ok}
 use Rattle.goo_tables_rows.specs.Rows.{Tables, tables_of}
-use Rattle.goo_tables_rows.specs.Stands.{Stands, Rests, Looks, doubts}
+use Rattle.goo_tables_rows.specs.Stands.{Stands, Rests, Looks, AreOurs, doubts}
 use Rattle.goo_store_values.specs.declared.trouble.Trouble.{Trouble}
 use Rattle.goo_store_values.specs.declared.trouble.Trouble.TheVariants.{Memory, Refused}
 use Rattle.goo_spec_tables.specs.Kept.{AreKept}
@@ -36,6 +36,7 @@ module _ (old new : State) (it : IsWell old) {T : Type 0} (r : Result T Error) (
   pub well : IsWell new
   well = record {
     stands = λ none. subst (λ (d : Database). Stands d (tables_of d.trees)) (sym (now_same none)) (it.stands (before none));
+    ours = λ none. subst (λ (d : Database). AreOurs d.trees) (sym (now_same none)) (it.ours (before none));
     kept = λ none. subst AreKept (sym (tables_same none)) (it.kept (before none));
     settled = λ none. now_same none ∙ it.settled (before none) ∙ sym ((rests none).committed (sure new none).1);
   }

@@ -7,7 +7,7 @@ use Rattle.sqlite.specs.Effect.{Database}
 use Rattle.goo_spec.specs.State as registry
 use Rattle.goo_core_shelf.specs.Shelf.{IsSafe}
 use Rattle.goo_tables_rows.specs.Rows.{tables_of}
-use Rattle.goo_tables_rows.specs.Stands.{Holds, doubts}
+use Rattle.goo_tables_rows.specs.Stands.{Holds, AreOurs, doubts}
 use Rattle.goo_tables_rows.proofs.Committed.{holds_from}
 use Rattle.goo_spec_tables.specs.Kept.{AreKept}
 use Rattle.goo_store_lookups.specs.Moments.{tables_in, OpensAs, moment, IsWell}
@@ -37,10 +37,10 @@ sure s = both s.is_clean s.is_open
 abbrev pub LeavesCommit : State → Type 0
 LeavesCommit s = IsTrue s.is_open → (db : Trees) → s.may_leave db → db ≡ s.committed.trees
 
--- trees that hold tables which keep the rules open as their state and as nothing else
-pub opens_so : (db : Trees) (o : Option registry.State) → Holds (tables_of db) db → AreKept (tables_of db) → OpensAs db o → o ≡ Some (state_of (tables_of db))
-opens_so db None holds kept opens = absurd (opens holds kept)
-opens_so db (Some s) holds kept opens = ap Some opens.2
+-- trees that list and hold tables which keep the rules open as their state and as nothing else
+pub opens_so : (db : Trees) (o : Option registry.State) → AreOurs db → Holds (tables_of db) db → AreKept (tables_of db) → OpensAs db o → o ≡ Some (state_of (tables_of db))
+opens_so db None ours holds kept opens = absurd (opens ours holds kept)
+opens_so db (Some s) ours holds kept opens = ap Some opens.1.2
 
 module _ (s : State) (it : IsWell s) (law : LeavesCommit s) (none : doubts s ≡ 0) where
   committed_now : (db : Trees) → s.may_leave db → s.now.trees ≡ db
@@ -50,7 +50,7 @@ module _ (s : State) (it : IsWell s) (law : LeavesCommit s) (none : doubts s ≡
   pub left_by : (db : Trees) → s.may_leave db → (o : Option registry.State) → OpensAs db o → o ≡ Some (state_of (tables_in s))
   left_by db may =
       subst (λ d. (o : Option registry.State) → OpensAs d o → o ≡ Some (state_of (tables_in s))) (committed_now db may)
-      (λ o. opens_so s.now.trees o (holds_from s.now (tables_in s) (it.stands none)) (it.kept none))
+      (λ o. opens_so s.now.trees o (it.ours none) (holds_from s.now (tables_in s) (it.stands none)) (it.kept none))
 
   pub safe : (refused : Bool) → IsSafe (moment s refused) (state_of (tables_in s))
   safe refused o left = left_by left.0 left.1 o left.2

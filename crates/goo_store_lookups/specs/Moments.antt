@@ -1,5 +1,5 @@
 -- A shelf over the tables at one moment.
-use Rattle.std.specs.Prelude.{◌≡◌, ◌≤◌, ℕ, ℤ, pos, ◌<ℤ◌, List, [], ◌∷◌, filter, length, Bool, true, cond, Option, Some, None}
+use Rattle.std.specs.Prelude.{◌≡◌, ◌⊎◌, ◌≤◌, ℕ, ℤ, pos, ◌<ℤ◌, List, [], ◌∷◌, filter, length, Bool, true, cond, Option, Some, None}
 use Rattle.std.specs.List.{list_all, list_any, AllByRecursion}
 use Rattle.sqlite_typed.specs.Tests.{bytes_eq}
 use Rattle.std.specs.Coded.{Coded-set}
@@ -19,7 +19,7 @@ use Rattle.goo_ranges_rows.specs.Rows.{rising-prop}
 use Rattle.goo_types.specs.declared.piece.Piece.{Piece}
 use Rattle.goo_core_shelf.specs.Shelf.{Moment, progress_of}
 use Rattle.goo_tables_rows.specs.Rows.{Tables, Kept, Device, Lot, carrier_of_device, carrier_of_lot, tables_of, kept_key, holder_row, account_row, account_key, device_row as row_of_device, declaration_row, declaration_key, lot_row, lot_key, piece_row, piece_key, peer_row, receipt_row, cancellation_row, cancellation_key, withdrawal_row, withdrawal_key, notice_out_row, notice_out_key, notice_in_row, correction_row, correction_key, device_carrier_row, lot_carrier_row, lot_carrier_key}
-use Rattle.goo_tables_rows.specs.Stands.{Stands, Holds, Keeps, doubts}
+use Rattle.goo_tables_rows.specs.Stands.{Stands, Holds, AreOurs, Keeps, doubts}
 use Rattle.goo_spec.specs.State as registry
 use Rattle.goo_spec.specs.Runs.{IsApart}
 use Rattle.goo_spec.specs.Sound.{IsSound}
@@ -32,10 +32,18 @@ use Rattle.goo_spec_tables.specs.Kept.{AreReadable, IsKeptLot, AreKept}
 abbrev pub tables_in : State → Tables
 tables_in s = tables_of s.now.trees
 
--- what trees open as: with the state that their tables stand for, where they hold tables that keep the rules
+-- the tables that trees hold keep the rules, and stand for this state
+abbrev pub StandFor : Trees → registry.State → Type 0
+StandFor db s = Holds (tables_of db) db × AreKept (tables_of db) × (s ≡ state_of (tables_of db))
+
+-- what trees open as: with the state that their tables stand for, where they list the registry's tables and indexes, and hold tables that keep the rules
 abbrev pub OpensAs : Trees → Option registry.State → Type 0
-OpensAs db (Some s) = Holds (tables_of db) db × AreKept (tables_of db) × (s ≡ state_of (tables_of db))
-OpensAs db None = Holds (tables_of db) db → AreKept (tables_of db) → ⊥
+OpensAs db (Some s) = AreOurs db × StandFor db s
+OpensAs db None = AreOurs db → Holds (tables_of db) db → AreKept (tables_of db) → ⊥
+
+-- they open as one of two states, and as nothing else: so does what a crash finds after a call that says `IsSafe` (of one state) or `IsEither`
+abbrev pub OpensAsEither : Trees → registry.State → registry.State → Type 0
+OpensAsEither db s t = (o : Option registry.State) → OpensAs db o → (o ≡ Some s) ⊎ (o ≡ Some t)
 
 -- a crash may leave what opens so
 abbrev pub leaves_in : State → Option registry.State → Type 0
@@ -54,9 +62,10 @@ moment s refused = record {
   leaves = leaves_in s;
 }
 
--- while nothing is in doubt, the database holds tables that keep the rules, and all that it sees is committed
+-- while nothing is in doubt, the database lists and holds tables that keep the rules, and all that it sees is committed
 pub record IsWell (s : State) : Type 0 where
   pub stands : doubts s ≡ 0 → Stands s.now (tables_in s)
+  pub ours : doubts s ≡ 0 → AreOurs s.now.trees
   pub kept : doubts s ≡ 0 → AreKept (tables_in s)
   pub settled : doubts s ≡ 0 → s.now ≡ s.committed
 
@@ -165,6 +174,7 @@ kept-prop t a b = λ i. record {
 pub IsWell-prop : (s : State) → IsProp (IsWell s)
 IsWell-prop s a b = λ i. record {
   stands = λ sure. stands-prop s.now (tables_in s) (a.stands sure) (b.stands sure) i;
+  ours = λ sure. squash₁ (a.ours sure) (b.ours sure) i;
   kept = λ sure. kept-prop (tables_in s) (a.kept sure) (b.kept sure) i;
   settled = λ sure. Database-set _ _ (a.settled sure) (b.settled sure) i;
 }

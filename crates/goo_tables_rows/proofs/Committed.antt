@@ -9,7 +9,9 @@ use Rattle.sqlite.specs.State.{State, HasCleanDisk, Shows, KeepsCommit, IsRolled
 use Rattle.sqlite.proofs.StateLemmas.{survives_then}
 use Rattle.sqlite.proofs.Callers.{survives_begin}
 use Rattle.goo_tables_rows.specs.Rows.{Tables}
-use Rattle.goo_tables_rows.specs.Stands.{Stands, Sees, Settled, Holds}
+use Rattle.goo_tables_rows.specs.Lives.{IsAlive}
+use Rattle.goo_tables_rows.specs.Stands.{Stands, Sees, Settled, Holds, HoldsOurs}
+use Rattle.goo_tables_rows.proofs.Catalogued.{ours_of}
 
 -- the tables that the transaction saw are committed
 pub committed : (a b : State) (t : Tables) → Sees a t → Shows a b a.now a.now false → Settled b t
@@ -41,13 +43,18 @@ holds_from d t it = record {
   lots_carried = it.lots_carried;
 }
 
--- a change in a transaction and its commit: a crash finds what it could find before, or the tables after the change
+-- a change in a transaction and its commit: a crash finds what it could find before, or the tables after the change, listed as ours
 pub survives_commit : {S : Type 0} (g : Ghosts S) (old mid new : Held S) (t : Tables) → (HasCleanDisk (state g mid) → Sees (state g mid) t)
+    → (HasCleanDisk (state g mid) → IsTrue (state g old).is_open → IsAlive (state g mid))
     → Survives (state g (record old { in_transaction = true })) (state g mid) (λ _. ⊥) → Survives (state g mid) (state g new) (λ db. db ≡ (state g mid).now.trees)
-    → Survives (state g old) (state g new) (Holds t)
-survives_commit g old mid new t sees inside after =
-    survives_then (state g old) (state g mid) (state g new) (λ _. ⊥) (λ db. db ≡ (state g mid).now.trees) (Holds t) (λ _ db none. absurd none)
-    (λ clean db is. subst (Holds t) (sym is) (holds_from (state g mid).now t (sees (omega (arith, after.clean))).stands)) (survives_begin g old (state g mid) _ inside) after
+    → Survives (state g old) (state g new) (HoldsOurs (state g old).is_open t)
+survives_commit g old mid new t sees lives inside after =
+    survives_then (state g old) (state g mid) (state g new) (λ _. ⊥) (λ db. db ≡ (state g mid).now.trees) (HoldsOurs (state g old).is_open t) (λ _ db none. absurd none)
+    (λ clean db is.
+    let early : HasCleanDisk (state g mid) = omega (arith, after.clean) in
+    let seen = sees early in
+    subst (HoldsOurs (state g old).is_open t) (sym is) (holds_from (state g mid).now t seen.stands, λ was. (let alive = lives early was in ours_of (state g mid).now (alive.1 alive.0).0 seen.stands.schema)))
+    (survives_begin g old (state g mid) _ inside) after
 
 -- a transaction that is rolled back leaves what was there before it
 pub undone : {S : Type 0} (g : Ghosts S) (old : Held S) (mid end : State) → (IsTrue (state g old).is_open → (state g old).now ≡ (state g old).committed)

@@ -1,10 +1,10 @@
 -- When a database holds the tables, and what a call on it leaves.
-use Rattle.std.specs.Prelude.{◌≡◌, ◌≤◌, ℕ, ℤ, List, [], ◌∷◌, map, IsTrue, false, ◌&&◌, Result, IfOk, OnOk}
+use Rattle.std.specs.Prelude.{◌≡◌, ◌≤◌, ℕ, ℤ, Bool, List, [], ◌∷◌, map, IsTrue, false, ◌&&◌, Result, IfOk, OnOk}
 use Rattle.sqlite.specs.State.{State, HasCleanDisk, Survives}
 use Rattle.sqlite.specs.declared.error.Error.{Error}
 use Rattle.sqlite.specs.Tree.{Trees}
 use Rattle.sqlite.specs.Order.{Row}
-use Rattle.sqlite.specs.Effect.{Database}
+use Rattle.sqlite.specs.Effect.{Database, IsDatabase}
 use Rattle.sqlite_trees.specs.View.{doubt}
 use Rattle.sqlite_keyed.specs.Keyed.{IsKeyedBy}
 use Rattle.goo_tables_rows.specs.Columns.{registry_schema}
@@ -41,6 +41,14 @@ pub record Stands (db : Database) (t : Tables) : Type 0 where
 -- trees that hold the tables
 abbrev pub Holds : Tables → Trees → Type 0
 Holds t trees = Stands (record { schema = registry_schema; trees = trees }) t
+
+-- the trees list the registry's tables and indexes, and obey them: what is opened over them has this schema
+abbrev pub AreOurs : Trees → Type 0
+AreOurs trees = ∥ IsDatabase (record { schema = registry_schema; trees = trees }) ∥₁
+
+-- trees that hold the tables and, where the connection was open that they were committed by, list them
+abbrev pub HoldsOurs : Bool → Tables → Trees → Type 0
+HoldsOurs was_open t trees = Holds t trees × (IsTrue was_open → AreOurs trees)
 
 -- the tables as `create_tables` leaves them: each of them is there and has no row
 pub record IsBare (db : Database) : Type 0 where

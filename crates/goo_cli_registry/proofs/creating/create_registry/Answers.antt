@@ -5,7 +5,7 @@ use Rattle.sqlite_store.specs.FileStore.{recovers}
 use Rattle.goo_spec.specs.Created.{created}
 use Rattle.goo_spec.specs.State.{State}
 use Rattle.goo_cli_registry.specs.Closings.{IsKept}
-use Rattle.goo_cli_registry.proofs.Files.{clean_before, kept_spares, leaves_or, leaves_or_made, leaves_store, new_not_kept, only_there, whole_as, word_of_desk}
+use Rattle.goo_cli_registry.proofs.Files.{clean_before, kept_spares, leaves_or, leaves_or_made, leaves_store, made_open, new_not_kept, only_there, whole_as, word_of_desk}
 use Rattle.goo_cli_registry.proofs.creating.create_registry.Goals as goal
 
 pub returns-in-Err-clause-words : goal.returns-in-Err-clause-words
@@ -52,6 +52,6 @@ returns-in_default g c = record {
       let late : HasCleanDisk (file_state c.in-Err-begin.conn) = clean_before _ _ c.into_store.ensures.quiet.clean clean in
       let before : HasCleanDisk (file_state c.in-Ok.conn) = c.in-Err-begin.ensures.clean late in
       leaves_or_made c.args.files g.met.D.Disk.seen_may_stay c.in-Ok.conn (c.in-Ok.ensures.opened before).0.is_open (c.in-Ok.ensures.found before) (created c.args.opening.code c.args.opening.today c.args.opening.next_serial)
-      c.into_store.result (λ db may. c.in-Err-begin.ensures.crash late db (c.into_store.ensures.quiet.outcomes db may));
+      c.into_store.result (λ db may. made_open _ db (file_state c.in-Ok.conn).is_open (c.in-Ok.ensures.opened before).0.is_open (c.in-Err-begin.ensures.crash late db (c.into_store.ensures.quiet.outcomes db may)));
   there = λ told. absurd (c.in_default.not-AlreadyThere (only_there c.in-Err-begin.fault (sym c.ending_of-in_default.ensures ∙ told)));
 }

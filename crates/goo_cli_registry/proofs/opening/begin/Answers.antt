@@ -2,6 +2,7 @@ use Rattle.std.proofs.Common.{arith}
 use Rattle.std.proofs.lemmas.Result.{IfErr-weaker}
 use Rattle.sqlite.specs.Held.{state as view}
 use Rattle.goo_store.specs.Creating.{IsFirst}
+use Rattle.goo_store_lookups.specs.Holding.{sure}
 use Rattle.goo_cli_registry.proofs.Files.{begun_or, kept_or_renewed}
 use Rattle.goo_cli_registry.proofs.opening.begin.Goals as goal
 
@@ -22,3 +23,6 @@ returns-in-Kept-clause-there g c = IfErr-weaker c.open.result _ _ (λ e any told
 pub returns-in-Kept-clause-crash : goal.returns-in-Kept-clause-crash
 returns-in-Kept-clause-crash g c =
     rw c.in-Kept.is (IfErr-weaker c.open.result _ _ (λ e left. kept_or_renewed (view g.S.Store c.args.conn) (view g.S.Store e.0) left) c.open.ensures.left)
+
+pub open-requires-in-Kept-clause-ordered : goal.open-requires-in-Kept-clause-ordered
+open-requires-in-Kept-clause-ordered g c = λ none. c.requires.ordered (sure (view g.S.Store c.args.conn) none).0

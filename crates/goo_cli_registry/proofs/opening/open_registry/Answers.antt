@@ -1,10 +1,15 @@
-use Rattle.std.proofs.Common.{◌∙◌, ap}
+use Rattle.std.proofs.Common.{◌∙◌, ap, sym, subst}
 use Rattle.sqlite.specs.Effect.{Database}
 use Rattle.sqlite.specs.Files.{file_state}
 use Rattle.goo_store.specs.Versions.{state_held}
 use Rattle.goo_store_lookups.specs.Holding.{sure}
-use Rattle.goo_cli_registry.proofs.Files.{clean_before, leaves_registry, leaves_same}
+use Rattle.goo_store_lookups.specs.Moments.{OpensAsEither}
+use Rattle.sqlite.specs.Tree.{Trees}
+use Rattle.goo_cli_registry.proofs.Files.{clean_before, leaves_registry, leaves_same, outside_failure, fault_failure}
 use Rattle.goo_cli_registry.proofs.opening.open_registry.Goals as goal
+
+pub open_telling-requires-in-Ok-clause-ordered : goal.open_telling-requires-in-Ok-clause-ordered
+open_telling-requires-in-Ok-clause-ordered g c = λ none. c.in-Ok.ensures.ordered (sure (file_state c.in-Ok.conn) none).0
 
 pub returns-in-Ok-open_telling-clause-state : goal.returns-in-Ok-open_telling-clause-state
 returns-in-Ok-open_telling-clause-state g c = λ db holds none.
@@ -22,3 +27,23 @@ returns-in-Err-open_telling-clause-unharmed g c = λ clean.
 
 pub returns-in-Err-clause-unharmed : goal.returns-in-Err-clause-unharmed
 returns-in-Err-clause-unharmed g c = λ clean. leaves_same c.args.files c.in-Err.left (c.in-Err.ensures.unharmed clean)
+
+pub returns-in-Ok-open_telling-clause-again : goal.returns-in-Ok-open_telling-clause-again
+returns-in-Ok-open_telling-clause-again g c = λ db holds s t either none.
+    let shelf = c.in-Ok-open_telling.shelf in
+    let clean = c.in-Ok-open_telling.ensures.clean (sure (file_state shelf.conn) none).0 in
+    let opened = (c.in-Ok.ensures.opened clean).0 in
+    let same = ap (λ (d : Database). d.trees) opened.clean ∙ (c.in-Ok.ensures.found clean).holds db holds in
+    c.in-Ok-open_telling.ensures.again opened.is_open s t (subst (λ (x : Trees). OpensAsEither x s t) (sym same) either) none
+
+pub returns-in-Err-open_telling-clause-never_foreign : goal.returns-in-Err-open_telling-clause-never_foreign
+returns-in-Err-open_telling-clause-never_foreign g c = λ clean db holds s t either.
+    let late = clean_before _ _ c.into_store.ensures.quiet.clean clean in
+    let before = c.in-Err-open_telling.ensures.clean_before late in
+    let opened = (c.in-Ok.ensures.opened before).0 in
+    let same = ap (λ (d : Database). d.trees) opened.clean ∙ (c.in-Ok.ensures.found before).holds db holds in
+    outside_failure c.in-Err-open_telling.fault c.failure_of.result c.failure_of.ensures
+    (c.in-Err-open_telling.ensures.never_foreign opened.is_open c.in-Ok.ensures.fresh.unlimited s t (subst (λ (x : Trees). OpensAsEither x s t) (sym same) either) late)
+
+pub returns-in-Err-clause-never_foreign : goal.returns-in-Err-clause-never_foreign
+returns-in-Err-clause-never_foreign g c = λ clean db holds s t either. fault_failure c.in-Err.fault c.from.result c.from.ensures

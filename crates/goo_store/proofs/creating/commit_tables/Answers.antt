@@ -1,7 +1,7 @@
 use Rattle.std.proofs.Common.{◌≡◌, IsTrue, true, arith, rules, subst, sym}
-use Rattle.sqlite.specs.State.{HasCleanDisk, KeepsCommit, Survives}
+use Rattle.sqlite.specs.State.{HasCleanDisk, IsLive, KeepsCommit, Survives}
 use Rattle.sqlite.specs.Held.{state}
-use Rattle.goo_tables_rows.specs.Stands.{Sees, Settled, Holds}
+use Rattle.goo_tables_rows.specs.Stands.{Sees, Settled, HoldsOurs}
 use Rattle.goo_tables_rows.specs.Rows.{meta_in}
 use Rattle.goo_tables_holdings.specs.Changes.{begun}
 use Rattle.goo_tables_rows.specs.Columns.{no_schema}
@@ -31,8 +31,9 @@ returns-clause-crash g c =
     let opened : IsTrue (state g.S.Store c.transaction-tx.result.conn.now).in_transaction = subst (λ h. IsTrue (state g.S.Store h).in_transaction) (sym c.transaction-tx.ensures.begun) refl in
     let none : (state g.S.Store c.transaction-tx.result.conn.now).now.schema ≡ no_schema = subst (λ h. (state g.S.Store h).now.schema ≡ no_schema) (sym c.transaction-tx.ensures.begun) c.requires.empty in
     let inside = subst (λ h. Survives (state g.S.Store h) (state g.S.Store mid) (λ _. ⊥)) c.transaction-tx.ensures.begun c.write_tables.ensures.survives in
-    subst (λ h. Survives (state g.S.Store c.args.conn.now) (state g.S.Store h) (Holds then)) same
-    (survives_commit g.S.Store c.args.conn.now mid end then (λ clean. c.in_ok-write_tables.ensures.made clean opened none) inside c.commit.ensures.survives)
+    let begun : IsLive (state g.S.Store c.transaction-tx.result.conn.now) = subst (λ h. IsLive (state g.S.Store h)) {x = record c.args.conn.now { in_transaction = true }} {y = c.transaction-tx.result.conn.now} (sym c.transaction-tx.ensures.begun) c.schema-known.ensures.live in
+    subst (λ h. Survives (state g.S.Store c.args.conn.now) (state g.S.Store h) (HoldsOurs (state g.S.Store c.args.conn.now).is_open then)) same
+    (survives_commit g.S.Store c.args.conn.now mid end then (λ clean. c.in_ok-write_tables.ensures.made clean opened none) (λ clean _. c.in_ok-write_tables.ensures.live clean begun opened none) inside c.commit.ensures.survives)
 
 pub returns-in_err-commit-clause-crash : goal.returns-in_err-commit-clause-crash
 returns-in_err-commit-clause-crash g c =
@@ -43,8 +44,9 @@ returns-in_err-commit-clause-crash g c =
     let opened : IsTrue (state g.S.Store c.transaction-tx.result.conn.now).in_transaction = subst (λ h. IsTrue (state g.S.Store h).in_transaction) (sym c.transaction-tx.ensures.begun) refl in
     let none : (state g.S.Store c.transaction-tx.result.conn.now).now.schema ≡ no_schema = subst (λ h. (state g.S.Store h).now.schema ≡ no_schema) (sym c.transaction-tx.ensures.begun) c.requires.empty in
     let inside = subst (λ h. Survives (state g.S.Store h) (state g.S.Store mid) (λ _. ⊥)) c.transaction-tx.ensures.begun c.write_tables.ensures.survives in
-    subst (λ h. Survives (state g.S.Store c.args.conn.now) (state g.S.Store h) (Holds then)) same
-    (survives_commit g.S.Store c.args.conn.now mid end then (λ clean. c.in_ok-write_tables.ensures.made clean opened none) inside c.commit.ensures.survives)
+    let begun : IsLive (state g.S.Store c.transaction-tx.result.conn.now) = subst (λ h. IsLive (state g.S.Store h)) {x = record c.args.conn.now { in_transaction = true }} {y = c.transaction-tx.result.conn.now} (sym c.transaction-tx.ensures.begun) c.schema-known.ensures.live in
+    subst (λ h. Survives (state g.S.Store c.args.conn.now) (state g.S.Store h) (HoldsOurs (state g.S.Store c.args.conn.now).is_open then)) same
+    (survives_commit g.S.Store c.args.conn.now mid end then (λ clean. c.in_ok-write_tables.ensures.made clean opened none) (λ clean _. c.in_ok-write_tables.ensures.live clean begun opened none) inside c.commit.ensures.survives)
 
 pub returns-in_err-commit-clause-kept : goal.returns-in_err-commit-clause-kept
 returns-in_err-commit-clause-kept g c clean live =

@@ -12,7 +12,7 @@ returns-in_err-insert_piece-clause-refused g c clean live unlimited t it any =
     let zero : c.in_ok-set_piece.field-0 ≡ 0 = omega (arith, c.if-branch-eq0.true) in
     let seen = c.in_ok-set_piece.ensures.changed early t it in
     let free = set_is_free t c.args.row.now it.stands.pieces.rise c.in_ok-set_piece.field-0 (c.in_ok-set_piece.ensures.count early t it) zero in
-    let told = c.in_err-insert_piece.ensures.refused clean (c.in_ok-set_piece.ensures.live early live it.inside it.stands.schema) (c.set_piece.ensures.survives.limit ∙ unlimited) (with_piece_set t c.args.row.now) seen free in
+    let told = c.in_err-insert_piece.ensures.refused clean (c.in_ok-set_piece.ensures.live early live it.inside it.stands.schema).1 (c.set_piece.ensures.survives.limit ∙ unlimited) (with_piece_set t c.args.row.now) seen free in
     search rules
 
 pub returns-in_ok-insert_piece-clause-changed : goal.returns-in_ok-insert_piece-clause-changed

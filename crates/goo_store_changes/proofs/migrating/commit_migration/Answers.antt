@@ -1,7 +1,7 @@
 use Rattle.std.proofs.Common.{◌≡◌, IsTrue, true, arith, rules, subst, sym}
 use Rattle.sqlite.specs.State.{HasCleanDisk, IsLive, KeepsCommit, Survives}
 use Rattle.sqlite.specs.Held.{state}
-use Rattle.goo_tables_rows.specs.Stands.{Sees, Settled, Holds}
+use Rattle.goo_tables_rows.specs.Stands.{Sees, Settled, HoldsOurs}
 use Rattle.goo_tables_holdings.specs.Changes.{with_version}
 use Rattle.goo_store_changes.specs.Changes.{made_all}
 use Rattle.goo_store_changes.specs.Migrated.{SeesFirst}
@@ -29,8 +29,9 @@ returns-clause-crash g c t it for =
     let same : end ≡ c.conn-2-1.given.0 = search rules in
     let first : SeesFirst (state g.S.Store c.transaction-tx.result.conn.now) t = first_seen g.S.Store c.args.conn.now c.transaction-tx.result.conn.now t c.transaction-tx.ensures.begun it in
     let inside = subst (λ h. Survives (state g.S.Store h) (state g.S.Store mid) (λ _. ⊥)) {x = c.transaction-tx.result.conn.now} {y = record c.args.conn.now { in_transaction = true }} c.transaction-tx.ensures.begun c.migrate.ensures.survives in
-    subst (λ h. Survives (state g.S.Store c.args.conn.now) (state g.S.Store h) (Holds then)) {x = c.commit.new.self.0} {y = c.conn-2-1.given.0} same
-    (survives_commit g.S.Store c.args.conn.now mid end then (λ clean. c.in_ok-migrate.ensures.migrated clean t first for) inside c.commit.ensures.survives)
+    let begun : IsLive (state g.S.Store c.transaction-tx.result.conn.now) = subst (λ h. IsLive (state g.S.Store h)) {x = record c.args.conn.now { in_transaction = true }} {y = c.transaction-tx.result.conn.now} (sym c.transaction-tx.ensures.begun) c.schema-known.ensures.live in
+    subst (λ h. Survives (state g.S.Store c.args.conn.now) (state g.S.Store h) (HoldsOurs (state g.S.Store c.args.conn.now).is_open then)) {x = c.commit.new.self.0} {y = c.conn-2-1.given.0} same
+    (survives_commit g.S.Store c.args.conn.now mid end then (λ clean. c.in_ok-migrate.ensures.migrated clean t first for) (λ clean _. c.in_ok-migrate.ensures.live clean begun t first for) inside c.commit.ensures.survives)
 
 pub returns-in_err-commit-clause-crash : goal.returns-in_err-commit-clause-crash
 returns-in_err-commit-clause-crash g c t it for =
@@ -40,8 +41,9 @@ returns-in_err-commit-clause-crash g c t it for =
     let same : end ≡ c.conn-2-1.given.0 = search rules in
     let first : SeesFirst (state g.S.Store c.transaction-tx.result.conn.now) t = first_seen g.S.Store c.args.conn.now c.transaction-tx.result.conn.now t c.transaction-tx.ensures.begun it in
     let inside = subst (λ h. Survives (state g.S.Store h) (state g.S.Store mid) (λ _. ⊥)) {x = c.transaction-tx.result.conn.now} {y = record c.args.conn.now { in_transaction = true }} c.transaction-tx.ensures.begun c.migrate.ensures.survives in
-    subst (λ h. Survives (state g.S.Store c.args.conn.now) (state g.S.Store h) (Holds then)) {x = c.commit.new.self.0} {y = c.conn-2-1.given.0} same
-    (survives_commit g.S.Store c.args.conn.now mid end then (λ clean. c.in_ok-migrate.ensures.migrated clean t first for) inside c.commit.ensures.survives)
+    let begun : IsLive (state g.S.Store c.transaction-tx.result.conn.now) = subst (λ h. IsLive (state g.S.Store h)) {x = record c.args.conn.now { in_transaction = true }} {y = c.transaction-tx.result.conn.now} (sym c.transaction-tx.ensures.begun) c.schema-known.ensures.live in
+    subst (λ h. Survives (state g.S.Store c.args.conn.now) (state g.S.Store h) (HoldsOurs (state g.S.Store c.args.conn.now).is_open then)) {x = c.commit.new.self.0} {y = c.conn-2-1.given.0} same
+    (survives_commit g.S.Store c.args.conn.now mid end then (λ clean. c.in_ok-migrate.ensures.migrated clean t first for) (λ clean _. c.in_ok-migrate.ensures.live clean begun t first for) inside c.commit.ensures.survives)
 
 pub returns-in_err-commit-clause-kept : goal.returns-in_err-commit-clause-kept
 returns-in_err-commit-clause-kept g c clean live t it for =
@@ -71,7 +73,7 @@ returns-clause-live g c clean t it for =
     let early : HasCleanDisk mid = omega (arith, c.commit.ensures.survives.clean) in
     let first : SeesFirst (state g.S.Store c.transaction-tx.result.conn.now) t = first_seen g.S.Store c.args.conn.now c.transaction-tx.result.conn.now t c.transaction-tx.ensures.begun it in
     let begun : IsLive (state g.S.Store c.transaction-tx.result.conn.now) = subst (λ h. IsLive (state g.S.Store h)) {x = record c.args.conn.now { in_transaction = true }} {y = c.transaction-tx.result.conn.now} (sym c.transaction-tx.ensures.begun) c.schema-known.ensures.live in
-    let lives : IsLive mid = c.in_ok-migrate.ensures.live early begun t first for in
+    let lives : IsLive mid = (c.in_ok-migrate.ensures.live early begun t first for).1 in
     subst (λ h. IsLive (state g.S.Store h)) {x = c.commit.new.self.0} {y = c.conn-2-1.given.0} same (committed_live mid (state g.S.Store end) lives (c.in_ok-commit.ensures.ok late).1)
 
 pub returns-in_err-commit-clause-live : goal.returns-in_err-commit-clause-live
@@ -84,6 +86,6 @@ returns-in_err-commit-clause-live g c clean t it for =
     let early : HasCleanDisk mid = omega (arith, c.commit.ensures.survives.clean) in
     let first : SeesFirst (state g.S.Store c.transaction-tx.result.conn.now) t = first_seen g.S.Store c.args.conn.now c.transaction-tx.result.conn.now t c.transaction-tx.ensures.begun it in
     let begun : IsLive (state g.S.Store c.transaction-tx.result.conn.now) = subst (λ h. IsLive (state g.S.Store h)) {x = record c.args.conn.now { in_transaction = true }} {y = c.transaction-tx.result.conn.now} (sym c.transaction-tx.ensures.begun) c.schema-known.ensures.live in
-    let lives : IsLive mid = c.in_ok-migrate.ensures.live early begun t first for in
+    let lives : IsLive mid = (c.in_ok-migrate.ensures.live early begun t first for).1 in
     let seen : Sees mid then = c.in_ok-migrate.ensures.migrated early t first for in
     subst (λ h. IsLive (state g.S.Store h)) {x = c.commit.new.self.0} {y = c.conn-2-1.given.0} same (undone_live mid (state g.S.Store end) then _ lives seen (c.in_err-commit.ensures.err late))

@@ -19,4 +19,4 @@ returns-clause-live g c = λ clean live t it for.
     let first : Sees (state g.S.Store c.add_tables.new.tx.conn.now) t = c.in_ok-add_tables.ensures.added grown it.inside t it.first in
     let then : Sees (state g.S.Store c.make_all.new.tx.conn.now) (made_all t c.args.changes.now) = c.in_ok-make_all.ensures.changed made t first for in
     let early : IsLive (state g.S.Store c.add_tables.new.tx.conn.now) = c.in_ok-add_tables.ensures.live grown live it.inside it.first.0 in
-    c.in_ok-set_version.ensures.live clean (c.in_ok-make_all.ensures.live made early t first for) then.inside then.stands.schema
+    c.in_ok-set_version.ensures.live clean (c.in_ok-make_all.ensures.live made early t first for).1 then.inside then.stands.schema

@@ -38,18 +38,18 @@ invariant_of-self g c =
     let after : doubts mid ≡ 0 → IsBasisOf c.in_ok-planned.planned.after (made_all (tables_in mid) c.deref.result.now) =
     λ none. subst (λ xs. IsBasisOf c.in_ok-planned.planned.after (made_all (tables_in mid) xs)) (sym c.deref.ensures.value) (c.in_ok-planned.ensures.planned none (fits_still old (moment mid shelf.refused) plan _ c.in_ok-planned.ensures.prepares c.requires none)).1 in record {
       outside = it.outside;
-      well = well_after mid (view g.S.Store c.commit_changes-made.new.conn) shelf.well c.deref.result.now plan planned c.commit_changes-made.result it.clean it.was_open it.works it.done it.kept it.crash;
+      well = well_after mid (view g.S.Store c.commit_changes-made.new.conn) shelf.well c.deref.result.now plan planned c.commit_changes-made.result it.clean it.was_open it.works it.done it.kept it.crash it.live;
       known = known_after (view g.S.Store c.commit_changes-made.new.conn) shelf.findings c.in_ok-planned.ensures.taken c.row_after.result
-          (so_after mid (view g.S.Store c.commit_changes-made.new.conn) shelf.well c.deref.result.now plan planned c.commit_changes-made.result it.clean it.was_open it.works it.done it.kept it.crash
+          (so_after mid (view g.S.Store c.commit_changes-made.new.conn) shelf.well c.deref.result.now plan planned c.commit_changes-made.result it.clean it.was_open it.works it.done it.kept it.crash it.live
           (IsRowOf c.copied-own.result) (IsRowOf c.row_after.result)
           (λ none. subst (IsRowOf c.copied-own.result) (sym (c.in_ok-planned.ensures.same none)) (c.copied-own.ensures (tables_in start) (c.args.self.now.known (c.in_ok-planned.ensures.prepares.doubted none)).own))
           (subst (λ xs. OnOk c.commit_changes-made.result ((t : Tables) → IsRowOf c.copied-own.result t → IsRowOf c.row_after.result (made_all t xs))) (c.deref-2.ensures.value ∙ sym c.deref.ensures.value) c.row_after.ensures.made)
           c.row_after.ensures.failed)
           c.known_after-self.result
-          (basis_after mid (view g.S.Store c.commit_changes-made.new.conn) shelf.well c.deref.result.now plan planned c.commit_changes-made.result it.clean it.was_open it.works it.done it.kept it.crash
+          (basis_after mid (view g.S.Store c.commit_changes-made.new.conn) shelf.well c.deref.result.now plan planned c.commit_changes-made.result it.clean it.was_open it.works it.done it.kept it.crash it.live
           c.in_ok-planned.planned.after c.known_after-self.result after c.known_after-self.ensures.done c.known_after-self.ensures.undone);
       lasts =
-          lasts_after mid (view g.S.Store c.commit_changes-made.new.conn) shelf.well c.deref.result.now plan planned c.commit_changes-made.result it.clean it.was_open it.works it.done it.kept it.crash
+          lasts_after mid (view g.S.Store c.commit_changes-made.new.conn) shelf.well c.deref.result.now plan planned c.commit_changes-made.result it.clean it.was_open it.works it.done it.kept it.crash it.live
           shelf.lasting c.outlast.new.self shelf.lasts c.outlast.ensures.answered
           (subst (λ xs. OnOk c.commit_changes-made.result ((t : Tables) → IsLasting shelf.lasting t → IsLasting c.outlast.new.self (made_all t xs))) (c.deref-3.ensures.value ∙ sym c.deref.ensures.value) c.outlast.ensures.made)
           c.outlast.ensures.failed;
@@ -67,7 +67,7 @@ returns-clause-commits g c =
     let planned : doubts mid ≡ 0 → IsPlanned (tables_in mid) c.deref.result.now plan =
     λ none. subst (λ xs. IsPlanned (tables_in mid) xs plan) (sym c.deref.ensures.value) (c.in_ok-planned.ensures.planned none (fits_still old (moment mid shelf.refused) plan _ looks c.requires none)).0 in
     commits_after old (moment mid shelf.refused) plan (moment new c.told.new.refused) c.in_ok-planned.planned looks c.told.result
-    (committed mid new shelf.well c.deref.result.now plan planned c.commit_changes-made.result it.clean it.was_open it.works it.done it.kept it.crash c.ending.result shelf.refused c.told.new.refused c.told.result
+    (committed mid new shelf.well c.deref.result.now plan planned c.commit_changes-made.result it.clean it.was_open it.works it.done it.kept it.crash it.live c.ending.result shelf.refused c.told.new.refused c.told.result
     (λ live db may. g.met.S.Store.settled shelf.conn.store db live may) (not_refused shelf.refused looks.told) c.ending.ensures.passes c.told.ensures)
 
 pub returns-clause-store : goal.returns-clause-store
