@@ -4,6 +4,7 @@ use Rattle.std.specs.Prelude.{Result, Ok, Err, IfOk, IfErr}
 use Rattle.goo_types.specs.declared.fault.Fault.{Fault}
 use Rattle.goo_types.specs.declared.fault.Fault.TheVariants.{Memory}
 use Rattle.goo_core_shelf.specs.Shelf.{IsTold, Looks}
+use Rattle.goo_core_shelf.proofs.Looking.{stays_still}
 use Rattle.goo_core_list.specs.Moments.{seen_in}
 use Rattle.goo_core_list.specs.declared.list_shelf.ListShelf.{ListShelf}
 
@@ -18,6 +19,7 @@ looks s (Ok x) right found memory = record {
   kept = omega arith;
   told = refl;
   works = λ _. refl;
+  stays = λ _ _. stays_still (seen_in s) refl;
   crash = λ _ _ o left. absurd left;
 }
 looks {T = T} s (Err fault) right found memory = record {
@@ -29,6 +31,7 @@ looks {T = T} s (Err fault) right found memory = record {
   kept = omega arith;
   told = subst (λ f. IsTold {T = T} (Err f) 0) (sym memory) refl;
   works = tt;
+  stays = λ _ _. stays_still (seen_in s) refl;
   crash = λ _ _ o left. absurd left;
 }
 

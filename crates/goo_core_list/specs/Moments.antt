@@ -12,6 +12,7 @@ seen_in s = record {
   refusals = 0;
   lies = 0;
   doubts = 0;
+  failures = 0;
   leaves = λ o. ⊥;
 }
 

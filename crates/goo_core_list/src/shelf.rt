@@ -166,4 +166,6 @@ impl Shelf for ListShelf {
     }
 
     ghost settled = { safe_in };
+
+    ghost unlied = { λ s none. none };
 }

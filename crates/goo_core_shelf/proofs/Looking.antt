@@ -4,7 +4,22 @@ use Rattle.goo_types.specs.declared.fault.Fault.{Fault}
 use Rattle.goo_types.specs.declared.fault.Fault.TheVariants.{Memory}
 use Rattle.goo_types.specs.declared.piece.Piece.{Piece}
 use Rattle.goo_spec.specs.State.{State}
-use Rattle.goo_core_shelf.specs.Shelf.{Moment, Looks, IsTold, IsReady, IsSafe}
+use Rattle.goo_core_shelf.specs.Shelf.{Moment, Looks, IsTold, IsReady, IsSafe, StaysSure}
+
+-- nothing was called
+pub stays_still : (m : Moment) → m.doubts ≡ 0 → StaysSure m m
+stays_still m none = record { counts = omega arith; sure = λ _. none }
+
+-- one call after another
+pub stays_both : (a b c : Moment) → StaysSure a b → StaysSure b c → StaysSure a c
+stays_both a b c one two = record {
+  counts = omega (arith, one.counts, two.counts);
+  sure = λ unfailed. two.sure (λ failed. unfailed (omega (arith, one.counts, failed)));
+}
+
+-- a call after a look-up that was answered
+pub stays_on : {T : Type 0} (a b c : Moment) (x : T) (first : T → Type 0) → Looks a b (Ok x) first → (c.lies ≡ 0 → b.lies ≡ 0) → (c.lies ≡ 0 → b.doubts ≡ 0 → StaysSure b c) → c.lies ≡ 0 → a.doubts ≡ 0 → StaysSure a c
+stays_on a b c x first one lied two late none = stays_both a b c (one.stays (lied late) none) (two late (one.works (lied late)))
 
 -- a shelf that is ready, with what is known without another look-up
 pub still : {T : Type 0} (m : Moment) (x : T) (right : T → Type 0) → IsReady m → (m.doubts ≡ 0 → right x) → Looks m m (Ok x) right
@@ -17,6 +32,7 @@ still m x right ready so = record {
   kept = omega arith;
   told = ready.told;
   works = ready.works;
+  stays = λ late none. stays_still m none;
   crash = λ late none. ready.settled none;
 }
 
@@ -31,6 +47,7 @@ looks_as a b x y first right look so = record {
   kept = look.kept;
   told = look.told;
   works = look.works;
+  stays = look.stays;
   crash = look.crash;
 }
 
@@ -51,6 +68,7 @@ looked_or_full {T} {U} a b x (Err e) first made right look memory is so = record
   kept = look.kept;
   told = subst (λ f. IsTold {T = U} (Err f) b.refusals) (sym memory) look.told;
   works = tt;
+  stays = look.stays;
   crash = look.crash;
 }
 
@@ -68,6 +86,7 @@ looked_then a b c x (Ok y) first second one two = record {
   kept = omega (arith, one.kept, two.kept);
   told = two.told;
   works = two.works;
+  stays = stays_on a b c x first one two.lied two.stays;
   crash = λ late none. let well = one.works (two.lied late) in subst (IsSafe c) (one.same well) (two.crash late well);
 }
 looked_then a b c x (Err e) first second one two = record {
@@ -79,6 +98,7 @@ looked_then a b c x (Err e) first second one two = record {
   kept = omega (arith, one.kept, two.kept);
   told = two.told;
   works = two.works;
+  stays = stays_on a b c x first one two.lied two.stays;
   crash = λ late none. let well = one.works (two.lied late) in subst (IsSafe c) (one.same well) (two.crash late well);
 }
 
@@ -104,5 +124,6 @@ looked_as {T} a b (Err e) first right look so = record {
   kept = look.kept;
   told = look.told;
   works = tt;
+  stays = look.stays;
   crash = look.crash;
 }

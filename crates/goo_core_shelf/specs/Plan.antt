@@ -14,7 +14,7 @@ use Rattle.goo_spec.specs.Step.{outcome, accept}
 use Rattle.goo_ranges.specs.declared.edits.Edit.{Edit}
 use Rattle.goo_ranges_rows.specs.Plans.{IsTurned}
 use Rattle.goo_ranges_rows.specs.Rows.{AreRowsOf, edited, edited_all}
-use Rattle.goo_core_shelf.specs.Shelf.{Moment, IsTold}
+use Rattle.goo_core_shelf.specs.Shelf.{Moment, IsTold, StaysSure}
 use Rattle.goo_core_shelf.specs.declared.plan.Plan.{Plan}
 
 -- the rows rise before, between and after the edits
@@ -41,7 +41,7 @@ pub record Fits (s : State) (rows : List Piece) (plan : Plan) : Type 0 where
 abbrev pub IsEither : Moment → State → State → Type 0
 IsEither m s t = (o : Option State) → m.leaves o → (o ≡ Some s) ⊎ (o ≡ Some t)
 
--- the whole change or none, a fault is told, and a crash finds the state before it or after it
+-- the whole change or none, a fault is told, only a failed call brings a doubt, and a crash finds the state before it or after it
 pub record Commits (old new : Moment) (result : Result (Unit {0}) Fault) (plan : Plan) : Type 0 where
   pub done : new.doubts ≡ 0 → OnOk result (new.state ≡ accept old.state plan.request)
   pub rows_done : new.doubts ≡ 0 → OnOk result (new.rows ≡ edited_all plan.edits.items old.rows)
@@ -52,4 +52,5 @@ pub record Commits (old new : Moment) (result : Result (Unit {0}) Fault) (plan :
   pub kept : old.refusals ≤ new.refusals
   pub told : IsTold result new.refusals
   pub works : OnOk result (new.lies ≡ 0 → new.doubts ≡ 0)
+  pub stays : new.lies ≡ 0 → old.doubts ≡ 0 → StaysSure old new
   pub crash : new.lies ≡ 0 → old.doubts ≡ 0 → IsEither new old.state (accept old.state plan.request)

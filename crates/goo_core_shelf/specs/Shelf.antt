@@ -1,5 +1,5 @@
 -- What the calls of a shelf say.
-use Rattle.std.specs.Prelude.{◌≡◌, ℕ, ◌≤◌, cond, List, map, Option, Some, None, Result, Ok, Err, IfOk, OnOk}
+use Rattle.std.specs.Prelude.{◌≡◌, ℕ, ◌+◌, ◌-◌, ◌^◌, ◌≤◌, min, cond, List, map, Option, Some, None, Result, Ok, Err, IfOk, OnOk, OnErr}
 use Rattle.std.specs.FinMap.{entries, get}
 use Rattle.goo_types.specs.Day.{CalendarDay}
 use Rattle.goo_types.specs.Notice.{NoticeContents}
@@ -34,6 +34,8 @@ pub record Moment : Type 1 where
   pub lies : ℕ
   -- 0 while, besides, it works
   pub doubts : ℕ
+  -- how many calls have failed, as what lies below counts them, to 2 ^ 64 - 1 at most
+  pub failures : ℕ
   -- a crash at this moment may leave what opens with that state, or with none
   pub leaves : Option State → Type 0
 
@@ -47,13 +49,22 @@ IsTold (Err Store) refusals = refusals ≡ 1
 abbrev pub IsSafe : Moment → State → Type 0
 IsSafe m s = (o : Option State) → m.leaves o → o ≡ Some s
 
+-- a call has failed in between
+abbrev pub HasFailed : Moment → Moment → Type 0
+HasFailed old new = min (old.failures + 1) (2 ^ 64 - 1) ≤ new.failures
+
+-- unless a call has failed in between, nothing is in doubt; no failure is forgotten
+pub record StaysSure (old new : Moment) : Type 0 where
+  pub counts : old.failures ≤ new.failures
+  pub sure : ¬ HasFailed old new → new.doubts ≡ 0
+
 -- the last call was answered: no call was refused yet, without a lie there is no doubt, and without a doubt a crash finds the state
 pub record IsReady (m : Moment) : Type 0 where
   pub told : m.refusals ≡ 0
   pub works : m.lies ≡ 0 → m.doubts ≡ 0
   pub settled : m.doubts ≡ 0 → IsSafe m m.state
 
--- a look-up: what is found is right, the state and the rows stay, a fault is told, and a crash after it finds the state
+-- a look-up: what is found is right, the state and the rows stay, a fault is told, only a failed call brings a doubt, and a crash after it finds the state
 pub record Looks {T : Type 0} (old new : Moment) (result : Result T Fault) (right : T → Type 0) : Type 0 where
   pub found : new.doubts ≡ 0 → IfOk result right
   pub same : new.doubts ≡ 0 → new.state ≡ old.state
@@ -63,7 +74,18 @@ pub record Looks {T : Type 0} (old new : Moment) (result : Result T Fault) (righ
   pub kept : old.refusals ≤ new.refusals
   pub told : IsTold result new.refusals
   pub works : OnOk result (new.lies ≡ 0 → new.doubts ≡ 0)
+  pub stays : new.lies ≡ 0 → old.doubts ≡ 0 → StaysSure old new
   pub crash : new.lies ≡ 0 → old.doubts ≡ 0 → IsSafe new old.state
+
+-- all is as it was: the state, the rows, and what a crash finds
+pub record IsSpared (old new : Moment) : Type 0 where
+  pub state : new.state ≡ old.state
+  pub rows : new.rows ≡ old.rows
+  pub crash : IsSafe new old.state
+
+-- where nothing lied, a fault that comes with no failed call leaves all as it was
+abbrev pub Spares : {T : Type 0} → Moment → Moment → Result T Fault → Type 0
+Spares old new result = new.lies ≡ 0 → old.doubts ≡ 0 → ¬ HasFailed old new → OnErr result (IsSpared old new)
 
 abbrev pub progress_of : State → List ℕ → Progress
 progress_of s device = record { last_day = last_end None (declared_by device s.declarations); carry = carry s device }

@@ -261,4 +261,7 @@ pub trait Shelf {
 
     /// While nothing is in doubt, a crash leaves the state and nothing else.
     ghost settled: { (s : Self) → (seen s).doubts ≡ 0 → IsSafe (seen s) (seen s).state };
+
+    /// Nothing has lied where nothing is in doubt.
+    ghost unlied: { (s : Self) → (seen s).doubts ≡ 0 → (seen s).lies ≡ 0 };
 }

@@ -47,6 +47,7 @@ full a b u look = record {
   kept = look.kept;
   told = look.told;
   works = tt;
+  stays = look.stays;
   crash = look.crash;
 }
 

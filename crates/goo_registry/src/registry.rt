@@ -11,6 +11,7 @@ ghost use Rattle.goo_spec_final.specs.Final.{IsForGood};
 ghost use Rattle.goo_spec_idle.specs.Idle.{OthersMakeNoDifference};
 ghost use Rattle.goo_spec_independent.specs.Independent.{IsIndependent};
 ghost use Rattle.goo_spec.specs.Sound.{IsSound};
+ghost use Rattle.goo_core_shelf.specs.Shelf.{Spares};
 ghost use Rattle.goo_registry.specs.Applying.{Applies};
 ghost use Rattle.goo_registry.specs.Running.{Runs, RunsAsOne, answered, answers};
 ghost use Rattle.goo_registry.specs.Shown.{Shows, apart as answer_of};
@@ -105,7 +106,8 @@ impl<S: Shelf> Registry<S> {
     /// // Refused(Refusal::NotHeld(number)) where account 1 doesn't hold them all: `number` is the least that it doesn't hold.
     /// ```
     pub fn apply(&mut self, alloc: Global, request: &Request) -> Result<Outcome, Fault>
-        ensures { Applies (S.seen self.old.shelf) (S.seen self.new.shelf) result request.now }
+        ensures applies { Applies (S.seen self.old.shelf) (S.seen self.new.shelf) result request.now }
+        ensures spared { Spares (S.seen self.old.shelf) (S.seen self.new.shelf) result }
     {
         carry_out(alloc, &mut self.shelf, request)
     }

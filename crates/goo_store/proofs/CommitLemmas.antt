@@ -34,6 +34,7 @@ use Rattle.goo_store.specs.declared.lasting.Lasting.{Lasting}
 use Rattle.std.specs.Prelude.{is_ok}
 use Rattle.goo_spec_tables.specs.States.{state_of}
 use Rattle.goo_store_values.specs.Telling.{PassesOn, Tells}
+use Rattle.goo_store_lookups.proofs.Looking.{survived}
 use Rattle.goo_store_lookups.specs.Holding.{is_sure, sure, LeavesCommit, opens_so, left_by}
 
 -- trees that hold these tables are read as them
@@ -140,6 +141,7 @@ module _ (old new : State) (it : IsWell old) (changes : List TableChange) (plan 
         kept = omega (arith, ap count not_yet);
         told = is;
         works = tt;
+        stays = λ late none. survived old new a b (Holds (made_all (tables_in old) changes)) (crash (tables_in old) (it.stands none) (planned none).for) late none;
         crash = λ late none. found law late none b;
       }
 
@@ -156,6 +158,7 @@ module _ (old new : State) (it : IsWell old) (changes : List TableChange) (plan 
         kept = omega (arith, ap count not_yet);
         told = ap count (tells.1 ∙ not_yet);
         works = live;
+        stays = λ late none. survived old new a b (Holds (made_all (tables_in old) changes)) (crash (tables_in old) (it.stands none) (planned none).for) late none;
         crash = λ late none. found law late none b;
       })
       go (Ok x) (Err f) p tells ok err live = absurd (true≢false (sym p))

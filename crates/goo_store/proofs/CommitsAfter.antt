@@ -8,6 +8,7 @@ use Rattle.goo_spec.specs.Step.{accept}
 use Rattle.goo_ranges_rows.specs.Rows.{edited_all}
 use Rattle.goo_core_shelf.specs.Plan.{Fits, Commits, IsEither}
 use Rattle.goo_core_shelf.specs.Shelf.{Moment, Looks, IsTold}
+use Rattle.goo_core_shelf.proofs.Looking.{stays_both}
 use Rattle.goo_core_shelf.specs.declared.plan.Plan.{Plan}
 use Rattle.goo_store_lookups.specs.Holding.{LeavesCommit}
 use Rattle.goo_store_lookups.specs.Moments.{count, moment, IsWell}
@@ -29,6 +30,7 @@ prepared {T = T} a b r right look = record {
   kept = look.kept;
   told = look.told;
   works = works_still r look.works;
+  stays = look.stays;
   crash = look.crash;
 }
   where
@@ -53,6 +55,7 @@ module _ (a b : Moment) (plan : Plan) where
     kept = look.kept;
     told = told_as e look.told;
     works = tt;
+    stays = look.stays;
     crash = λ late none o left. inl (look.crash late none o left);
   }
     where
@@ -85,5 +88,6 @@ module _ (a b : Moment) (plan : Plan) where
       kept = omega (arith, look.kept, commit.kept);
       told = commit.told;
       works = commit.works;
+      stays = λ late none. let early = commit.lied late in stays_both a b c (look.stays early none) (commit.stays late (look.works early none));
       crash = λ late none. let mid = look.works (commit.lied late) none in subst (λ (s : State). IsEither c s (accept s plan.request)) (look.same mid) (commit.crash late mid);
     }

@@ -18,6 +18,7 @@ use Rattle.goo_store_lookups.specs.Holding.{is_sure, LeavesCommit, safe}
 use Rattle.goo_store_lookups.specs.Moments.{tables_in, count, moment, IsWell}
 use Rattle.goo_store_lookups.specs.StoreFaults.{BlamesStore}
 use Rattle.goo_store_lookups.proofs.Looking.{before, so_still}
+use Rattle.goo_core_shelf.proofs.Looking.{stays_still}
 use Rattle.goo_spec_tables.specs.Places.{rows_of}
 use Rattle.goo_store.specs.Ahead.{AreAhead}
 use Rattle.goo_store.specs.Outlasting.{AreAccountsOf, AreLeft, IsLasting, Lasts}
@@ -79,6 +80,7 @@ kept_look old it a down law P x live is = record {
   kept = omega arith;
   told = ap count down;
   works = λ late. is_sure old late (live late);
+  stays = λ late none. stays_still (moment old a) none;
   crash = λ late none. safe old it law none a;
 }
 

@@ -1,6 +1,7 @@
 -- What a shelf tells of calls that gather what the tables show.
-use Rattle.std.proofs.Common.{◌≡◌, ◌≤◌, Bool, false, IsTrue, sym, ap, subst, ◌∙◌, arith, Ok, Err, Result, IfOk, OnOk}
-use Rattle.sqlite.specs.State.{State, HasCleanDisk}
+use Rattle.std.proofs.Common.{◌≡◌, ◌≤◌, ◌⊎◌, inl, inr, Bool, false, IsTrue, sym, ap, subst, ◌∙◌, arith, Ok, Err, Result, IfOk, OnOk}
+use Rattle.sqlite.specs.State.{State, HasCleanDisk, Survives}
+use Rattle.sqlite.specs.Tree.{Trees}
 use Rattle.sqlite.specs.Effect.{Database}
 use Rattle.goo_types.specs.declared.fault.Fault.{Fault}
 use Rattle.goo_core_shelf.specs.Shelf as shelf
@@ -19,6 +20,7 @@ use Rattle.goo_store_values.specs.Telling.{Tells}
 use Rattle.goo_store_plans.specs.declared.findings.Findings.{Findings}
 use Rattle.goo_store_values.specs.declared.trouble.Trouble.{Trouble}
 use Rattle.goo_store_values.specs.declared.trouble.Trouble.TheVariants.{Memory, Refused}
+use Rattle.goo_store_lookups.proofs.Looking.{survived}
 use Rattle.goo_store_lookups.specs.Holding.{is_sure, sure, LeavesCommit, left_by}
 
 -- tables that stand are in the order of their keys
@@ -68,8 +70,15 @@ module _ {T : Type 0} (old new : State) (it : IsWell old) (r : Result T Trouble)
   pub known : (findings : Findings) → Knows old findings → Knows new findings
   known findings knows none = subst (AreFindingsOf findings) (sym (tables_same none)) (knows (before none))
 
+  survives : HasCleanDisk new → doubts old ≡ 0 → Survives old new (λ _. ⊥)
+  survives late none = gathers.crash late (sure old none).1 (ours none)
+
+  no_more : (db : Trees) → old.may_leave db ⊎ ⊥ → old.may_leave db
+  no_more db (inl early) = early
+  no_more db (inr never) = absurd never
+
   crash : LeavesCommit old → HasCleanDisk new → doubts old ≡ 0 → (b : Bool) → shelf.IsSafe (moment new b) (state_of (tables_in old))
-  crash law late none b o left = left_by old it law none left.0 (gathers.crash late (sure old none).1 (ours none) left.0 left.1) o left.2
+  crash law late none b o left = left_by old it law none left.0 (no_more left.0 ((survives late none).crash late left.0 left.1)) o left.2
 
   told_so : (q : Result T Trouble) (a b : Bool) (result : Result T Fault) → a ≡ false → Tells q result a b → shelf.IsTold result (count b)
   told_so (Ok x) a b result not_yet told = subst (λ (z : Result T Fault). shelf.IsTold z (count b)) (sym told.0) (ap count (told.1 ∙ not_yet))
@@ -112,5 +121,6 @@ module _ {T : Type 0} (old new : State) (it : IsWell old) (r : Result T Trouble)
     kept = still a b not_yet;
     told = told_so r a b result not_yet told;
     works = works_so _ r a b result told (sure_so r gathers.works);
+    stays = λ late none. survived old new a b (λ _. ⊥) (survives late none) late none;
     crash = λ late none. crash law late none b;
   }

@@ -1,7 +1,7 @@
 -- Look-ups with which a commit begins.
 use Rattle.std.specs.Prelude.{◌≡◌, ◌≤◌, Result, OnOk}
 use Rattle.goo_types.specs.declared.fault.Fault.{Fault}
-use Rattle.goo_core_shelf.specs.Shelf.{Moment, IsTold, IsSafe}
+use Rattle.goo_core_shelf.specs.Shelf.{Moment, IsTold, IsSafe, StaysSure}
 
 -- As a look-up, but for any number of statements, none among them: a success tells that no doubt has come, and not that there is none.
 -- That the database works is shown by the transaction that is made then.
@@ -13,4 +13,5 @@ pub record Prepares {T : Type 0} (old new : Moment) (result : Result T Fault) : 
   pub kept : old.refusals ≤ new.refusals
   pub told : IsTold result new.refusals
   pub works : OnOk result (new.lies ≡ 0 → old.doubts ≡ 0 → new.doubts ≡ 0)
+  pub stays : new.lies ≡ 0 → old.doubts ≡ 0 → StaysSure old new
   pub crash : new.lies ≡ 0 → old.doubts ≡ 0 → IsSafe new old.state

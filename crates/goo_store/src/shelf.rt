@@ -48,7 +48,7 @@ impl<S: Alter> Shelf for SqlShelf<S> {
     ghost use Rattle.goo_store.specs.Gathering.{BlamesCommit, CanCarryOut};
     ghost use Rattle.goo_store_lookups.specs.Moments.{moment};
     ghost use Rattle.goo_store_lookups.specs.StoreFaults.{BlamesStore};
-    ghost use Rattle.goo_store_lookups.specs.Holding.{safe};
+    ghost use Rattle.goo_store_lookups.specs.Holding.{safe, sure};
 
     ghost seen = { λ s. moment (view S.Store s.conn) s.refused };
 
@@ -234,4 +234,6 @@ impl<S: Alter> Shelf for SqlShelf<S> {
     }
 
     ghost settled = { λ s none. safe _ s.well (λ live db may. S.settled s.conn.store db live may) none s.refused };
+
+    ghost unlied = { λ s none. (sure (view S.Store s.conn) none).0 };
 }

@@ -1,11 +1,13 @@
 -- Look-ups of a shelf, from those of the tables.
 use Rattle.std.proofs.Common.{◌≡◌, ◌≤◌, inl, inr, Bool, true, false, IsTrue, refl, sym, ap, subst, ◌∙◌, arith, true≢false, Ok, Err, Result, IfOk, OnOk}
-use Rattle.sqlite.specs.State.{State, HasCleanDisk}
+use Rattle.sqlite.specs.State.{State, HasCleanDisk, Survives}
+use Rattle.sqlite.specs.Tree.{Trees}
 use Rattle.sqlite.specs.Effect.{Database}
 use Rattle.sqlite.specs.declared.error.Error.{Error}
 use Rattle.goo_types.specs.declared.fault.Fault.{Fault}
 use Rattle.goo_types.specs.declared.fault.Fault.TheVariants as fault
 use Rattle.goo_core_shelf.specs.Shelf as shelf
+use Rattle.goo_core_shelf.proofs.Looking.{stays_still, stays_on}
 use Rattle.goo_tables_rows.proofs.Results.{if_ok}
 use Rattle.goo_tables_rows.specs.Rows.{Tables, tables_of}
 use Rattle.goo_tables_rows.specs.Stands.{Stands, Rests, Looks, AreOurs, doubts}
@@ -18,6 +20,13 @@ use Rattle.goo_store_values.specs.Passing.{Passes}
 use Rattle.goo_store_values.specs.Telling.{Tells}
 use Rattle.goo_store_lookups.specs.Moments.{tables_in, count, moment, IsWell}
 use Rattle.goo_store_lookups.specs.Holding.{is_sure, sure, LeavesCommit, left_by, safe}
+
+-- a call that only a failed one lets shut the connection
+pub survived : (old new : State) (a b : Bool) (Commits : Trees → Type 0) → Survives old new Commits → HasCleanDisk new → doubts old ≡ 0 → shelf.StaysSure (moment old a) (moment new b)
+survived old new a b Commits survives clean none = record {
+  counts = survives.counts;
+  sure = λ unfailed. elim (survives.closes clean (sure old none).1) [ inl live ↦ is_sure new clean live | inr failed ↦ absurd (unfailed failed) ];
+}
 
 module _ (old new : State) (it : IsWell old) {T : Type 0} (r : Result T Error) (right : Tables → T → Type 0) (looks : Looks old new r right) where
   pub before : doubts new ≡ 0 → doubts old ≡ 0
@@ -94,6 +103,7 @@ module _ (old new : State) (it : IsWell old) {T : Type 0} (r : Result T Error) (
     kept = still a b not_yet;
     told = told_so read a b result not_yet told;
     works = works_so _ R r read a b result passes told (works_sure r looks.works);
+    stays = λ late none. survived old new a b (λ _. ⊥) (looks.crash (it.stands none).schema) late none;
     crash = λ late none. crash law late none b;
   }
 
@@ -108,6 +118,7 @@ refused_look old it a has law P = record {
   kept = omega arith;
   told = ap count has;
   works = tt;
+  stays = λ late none. stays_still (moment old a) none;
   crash = λ late none. safe old it law none a;
 }
 
@@ -124,6 +135,7 @@ module _ (old mid new : State) (a0 a b c : Bool) {T U V : Type 0} (x : T) (first
     kept = omega (arith, one.kept, two.kept);
     told = fault_told e two.told;
     works = tt;
+    stays = stays_on (moment old a0) (moment mid a) (moment new b) x first one two.lied two.stays;
     crash = λ late none. subst (shelf.IsSafe (moment new b)) (one.same (one.works (two.lied late))) (two.crash late (one.works (two.lied late)));
   })
     where
@@ -143,6 +155,9 @@ module _ (old mid new : State) (a0 a b c : Bool) {T U V : Type 0} (x : T) (first
     kept = omega (arith, one.kept, one.told, two.told);
     told = told_told read b c result told (down b two.told);
     works = works_told read b c result told two.works;
+    stays = λ late none.
+        let both = stays_on (moment old a0) (moment mid a) (moment new b) x first one two.lied two.stays late none in
+        record { counts = both.counts; sure = both.sure };
     crash = λ late none. subst (shelf.IsSafe (moment new b)) (one.same (one.works (two.lied late))) (two.crash late (one.works (two.lied late)));
   }
     where
@@ -178,5 +193,6 @@ module _ (old mid new : State) (a0 a b : Bool) {T V : Type 0} (x : T) (first : T
     kept = omega (arith, one.kept, two.kept);
     told = two.told;
     works = two.works;
+    stays = stays_on (moment old a0) (moment mid a) (moment new b) x first one two.lied two.stays;
     crash = λ late none. subst (shelf.IsSafe (moment new b)) (one.same (one.works (two.lied late))) (two.crash late (one.works (two.lied late)));
   }

@@ -59,6 +59,7 @@ moment s refused = record {
   refusals = count refused;
   lies = doubt s.is_clean;
   doubts = doubts s;
+  failures = s.faults;
   leaves = leaves_in s;
 }
 

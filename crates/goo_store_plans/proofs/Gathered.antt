@@ -1,17 +1,14 @@
 -- Calls that gather what the tables show, one after another.
-use Rattle.std.proofs.Common.{◌≡◌, inl, inr, IsTrue, sym, ap, subst, ◌∙◌, arith, true≢false, Ok, Err, Result, IfOk, OnOk, IsErr}
-use Rattle.sqlite.specs.State.{State, HasCleanDisk, Survives}
-use Rattle.sqlite.specs.Tree.{Trees}
+use Rattle.std.proofs.Common.{◌≡◌, IsTrue, sym, ap, subst, ◌∙◌, arith, true≢false, Ok, Err, Result, IfOk, OnOk, IsErr}
+use Rattle.sqlite.specs.State.{State, HasCleanDisk}
 use Rattle.sqlite.specs.Effect.{Database}
 use Rattle.sqlite.specs.declared.error.Error.{Error}
 use Rattle.goo_tables_rows.specs.Rows.{Tables}
 use Rattle.goo_tables_rows.specs.Stands.{Stands, Looks}
+use Rattle.goo_tables_rows.proofs.Inside.{survives_both}
 use Rattle.goo_store_plans.specs.LookingUp.{LooksUp, IsOurs}
 use Rattle.goo_store_values.specs.Passing.{Passes}
 use Rattle.goo_store_values.specs.declared.trouble.Trouble.{Trouble}
-
-pub no_more : (old new : State) → Survives old new (λ _. ⊥) → HasCleanDisk new → (db : Trees) → new.may_leave db → old.may_leave db
-no_more old new s clean db left = elim (s.crash clean db left) [ inl before ↦ before | inr none ↦ absurd none ]
 
 -- ---- one statement, whose rows are read
 
@@ -37,7 +34,7 @@ gathers_looked old new r right R read known looks passes says = record {
   works = weaker _ _ read (λ live clean was. live clean) (works_passed _ R r read passes looks.works);
   was_open = looks.was_open;
   rests = λ clean it. looks.rests clean it.0 it.1;
-  crash = λ clean live it. no_more old new (looks.crash it.0) clean;
+  crash = λ clean live it. looks.crash it.0;
 }
 
 -- ---- one after another
@@ -114,5 +111,5 @@ module _ {T U : Type 0} (a b c : State) (x : T) (r : Result U Trouble) (First : 
       now = λ live. let mid = two.was_open clean live in (two.rests clean (again clean it mid)).now live ∙ same clean it mid;
       committed = λ live. let mid = two.was_open clean live in (two.rests clean (again clean it mid)).committed live ∙ (one.rests (early clean) it).committed mid;
     };
-    crash = λ clean live it db left. let mid = one.works (early clean) live in one.crash (early clean) live it db (two.crash clean mid (again clean it mid) db left);
+    crash = λ clean live it. let mid = one.works (early clean) live in survives_both a b c (one.crash (early clean) live it) (two.crash clean mid (again clean it mid));
   }

@@ -4,11 +4,12 @@ use Rattle.sqlite.specs.State.{State}
 use Rattle.sqlite.specs.declared.error.Error.{Error}
 use Rattle.goo_tables_rows.specs.Rows.{Tables}
 use Rattle.goo_tables_rows.specs.Stands.{Stands, Looks}
+use Rattle.goo_tables_rows.proofs.Inside.{stays}
 use Rattle.goo_tables_rows.proofs.Results.{if_ok}
 use Rattle.goo_store_values.specs.declared.trouble.Trouble.{Trouble}
 use Rattle.goo_store_plans.specs.LookingUp.{LooksUp}
 use Rattle.goo_store_values.specs.Passing.{Passes}
-use Rattle.goo_store_plans.proofs.Gathered.{passed, no_more, weaker, works_passed, gathers_failed, gathers_then, when_ok}
+use Rattle.goo_store_plans.proofs.Gathered.{passed, weaker, works_passed, gathers_failed, gathers_then, when_ok}
 
 -- one statement, and what is read of what it found
 pub looked_up : (old new : State) {T : Type 0} (r : Result T Error) (right : Tables → T → Type 0) → Looks old new r right → {U : Type 0} (R : T → U → Type 0) (P : Tables → U → Type 0) (read : Result U Trouble) → Passes r read R
@@ -19,7 +20,7 @@ looked_up old new r right looks R P read passes says = record {
   works = weaker _ _ read (λ live clean was. live clean) (works_passed _ R r read passes looks.works);
   was_open = looks.was_open;
   rests = λ clean it. looks.rests clean it.0 it.1;
-  crash = λ clean live it. no_more old new (looks.crash it.0) clean;
+  crash = λ clean live it. looks.crash it.0;
 }
 
 pub on : {U : Type 0} {A B : Type 0} (r : Result U Trouble) → OnOk r A → (A → B) → OnOk r B
@@ -39,7 +40,7 @@ looks_none old r P says = record {
   works = when_ok r (λ clean live. live);
   was_open = λ clean live. live;
   rests = λ clean it. record { was_open = λ live. live; now = λ live. refl; committed = λ live. refl };
-  crash = λ clean live it db left. left;
+  crash = λ clean live it. stays old;
 }
 
 -- an error after whatever was looked up

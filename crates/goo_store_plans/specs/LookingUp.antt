@@ -1,7 +1,6 @@
 -- Calls on the connection that gather what the tables show, and change nothing.
 use Rattle.std.specs.Prelude.{◌≡◌, ◌≤◌, Result, IfOk, OnOk, IsTrue}
-use Rattle.sqlite.specs.State.{State, HasCleanDisk}
-use Rattle.sqlite.specs.Tree.{Trees}
+use Rattle.sqlite.specs.State.{State, HasCleanDisk, Survives}
 use Rattle.sqlite_trees.specs.View.{doubt}
 use Rattle.goo_tables_rows.specs.Columns.{registry_schema}
 use Rattle.goo_tables_rows.specs.Rows.{Tables}
@@ -20,4 +19,4 @@ pub record LooksUp {T : Type 0} (old new : State) (result : Result T Trouble) (r
   pub works : OnOk result (HasCleanDisk new → IsTrue old.is_open → IsTrue new.is_open)
   pub was_open : HasCleanDisk new → IsTrue new.is_open → IsTrue old.is_open
   pub rests : HasCleanDisk new → IsOurs old → Rests old new
-  pub crash : HasCleanDisk new → IsTrue old.is_open → IsOurs old → (db : Trees) → new.may_leave db → old.may_leave db
+  pub crash : HasCleanDisk new → IsTrue old.is_open → IsOurs old → Survives old new (λ _. ⊥)
