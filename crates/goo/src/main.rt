@@ -11,10 +11,9 @@ use crate::object::Object;
 use crate::reason::{Reason, Refusal};
 use goo_cli::{Opening, read_task};
 use goo_cli_ending::{Ending, Failure};
-use goo_cli_files::{Job, LocalListener, Work, copy_of, job_of, serve_in_memory, work_in_files};
+use goo_cli_files::{Job, LocalListener, Work, copy_of, job_of, work_in_files, work_in_memory};
 use goo_cli_registry::creating::init_in_files;
 use goo_cli_registry::renewal_line::RenewalLine;
-use goo_cli_registry::running::run_in_memory;
 use goo_cli_texts::ProgressLine;
 use sqlite::{Start, Unknown};
 use std::env;
@@ -86,14 +85,18 @@ fn perform_job<W: Write + Drop>(
     match job {
         Job::Make(path, opening) => make_at(rt, *path, Unknown, copy_of(opening), writer),
         Job::InFile(path, work) => work_at(rt, *path, Unknown, work, writer),
-        Job::RunInMemory(opening) => {
-            let ending = run_in_memory(rt.alloc(), copy_of(opening), &mut rt.reader(), writer);
-            (ending, None)
-        }
-        Job::ServeInMemory(opening, serving) => {
-            let mut listener = LocalListener::new(rt);
+        Job::InMemory(opening, work) => {
             let opening = copy_of(opening);
-            let ending = serve_in_memory(rt.alloc(), opening, *serving, &mut listener, writer);
+            let mut listener = LocalListener::new(rt);
+            let mut reader = rt.reader();
+            let ending = work_in_memory(
+                rt.alloc(),
+                opening,
+                work,
+                &mut listener,
+                &mut reader,
+                writer,
+            );
             (ending, None)
         }
     }

@@ -1,7 +1,7 @@
 //! What a line on standard error speaks of.
 use crate::reason::Reason;
 use goo_cli_ending::{Denial, Ending, Failure};
-use goo_cli_files::{Job, Work};
+use goo_cli_files::{Job, MemoryWork, Work};
 use goo_types::account_no::AccountNo;
 use std::fmt;
 
@@ -59,7 +59,7 @@ impl<'a> Object<'a> {
     fn file_of(job: &Job<'a>, reason: Option<Reason>) -> Option<Object<'a>> {
         match job {
             Job::Make(path, _) | Job::InFile(path, _) => Some(Object::File(*path, reason)),
-            Job::RunInMemory(_) | Job::ServeInMemory(_, _) => None,
+            Job::InMemory(_, _) => None,
         }
     }
 
@@ -74,7 +74,7 @@ impl<'a> Object<'a> {
     /// Where a job takes its requests from.
     fn read_by(job: &Job<'a>) -> Object<'a> {
         match job {
-            Job::InFile(_, Work::Serve(serving)) | Job::ServeInMemory(_, serving) => {
+            Job::InFile(_, Work::Serve(serving)) | Job::InMemory(_, MemoryWork::Serve(serving)) => {
                 Object::Port(serving.port)
             }
             _ => Object::Input,

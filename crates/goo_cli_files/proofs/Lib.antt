@@ -1,1 +1,3 @@
 mod Works
+mod Stopping
+mod MemoryLemmas

@@ -1,9 +1,10 @@
 -- What is done with a registry, said of the state that it began with.
-use Rattle.std.proofs.Common.{◌≡◌, ◌≢◌, ◌<◌, ◌∙◌, subst, List, ℕ, Option, Some, None, IfSome}
+use Rattle.std.proofs.Common.{◌≡◌, ◌≢◌, ◌<◌, ◌∙◌, ap, subst, List, ℕ, Option, Some, None, IfSome}
 use Rattle.std.specs.FinMap.{get}
 use Rattle.std.specs.Io.KnownBytes.{Appends, Keeps}
 use Rattle.sqlite_disk.specs.declared.Disk.{Ghosts}
 use Rattle.goo_spec.specs.State.{State}
+use Rattle.goo_core_shelf.specs.Shelf.{IsSafe, Moment}
 use Rattle.goo_files.specs.Texts.{IsAuditText, IsStatement}
 use Rattle.goo_files.specs.Writes.{Wrote}
 use Rattle.sqlite_wal.specs.Reads.{AreClean}
@@ -12,7 +13,9 @@ use Rattle.goo_cli_ending.specs.declared.ending.Ending.{Ending}
 use Rattle.goo_cli_ending.specs.declared.ending.Ending.TheVariants.{Failed}
 use Rattle.goo_cli_ending.specs.declared.ending.Failure.{Failure}
 use Rattle.goo_cli_registry.specs.Closings.{HoldRegistry, HoldState, HoldsSome, IfRefused, IfWhole}
+use Rattle.goo_cli_registry.specs.Finds.{FindsRight, HasState, IfParts}
 use Rattle.goo_cli_registry.specs.Stopped.{HoldsStopped, IfOpened}
+use Rattle.goo_cli_registry.proofs.Finding.{has_state, parts_so}
 use Rattle.goo_cli_registry.specs.declared.closing.Left.{Left}
 use Rattle.goo_cli_registry.specs.declared.closing.Left.TheVariants.{Parts, Refused, Whole}
 use Rattle.goo_cli_texts.specs.Declaring.{IsDeclared}
@@ -35,12 +38,18 @@ holds_some (Whole files) new doubts right keeps held sure = λ clean. (new, keep
 holds_some (Refused rest) new doubts right keeps held sure = tt
 holds_some (Parts rest) new doubts right keeps held sure = tt
 
--- a registry that stayed as it was
-pub held_as : {D : Type 0} {g : Ghosts D} (rest : Left D g) (new old begun : State) (doubts : ℕ) → (doubts ≡ 0 → new ≡ old) → old ≡ begun → IfWhole rest (λ files. HoldState g files new)
+whole_as : {D : Type 0} {g : Ghosts D} (rest : Left D g) (new begun : State) (doubts : ℕ) → (doubts ≡ 0 → new ≡ begun) → IfWhole rest (λ files. HoldState g files new)
     → IfWhole rest (λ files. AreClean g files.log files.db → doubts ≡ 0) → IfWhole rest (λ files. HoldState g files begun)
-held_as {D} {g} (Whole files) new old begun doubts rests same held sure = λ clean. subst (HoldRegistry g files) (rests (sure clean) ∙ same) (held clean)
-held_as (Refused rest) new old begun doubts rests same held sure = tt
-held_as (Parts rest) new old begun doubts rests same held sure = tt
+whole_as {D} {g} (Whole files) new begun doubts same held sure = λ clean. subst (HoldRegistry g files) (same (sure clean)) (held clean)
+whole_as (Refused rest) new begun doubts same held sure = tt
+whole_as (Parts rest) new begun doubts same held sure = tt
+
+-- a registry that stayed as it was, which a crash finds so
+pub held_as : {D : Type 0} {g : Ghosts D} (rest : Left D g) (m : Moment) (old begun : State) → (m.doubts ≡ 0 → m.state ≡ old) → IsSafe m old → old ≡ begun → IfWhole rest (λ files. HoldState g files m.state)
+    → IfWhole rest (λ files. AreClean g files.log files.db → m.doubts ≡ 0) → IfParts rest (FindsRight m.leaves) → HasState begun rest
+held_as rest m old begun rests safe same held sure found =
+    has_state rest begun (whole_as rest m.state begun m.doubts (λ none. rests none ∙ same) held sure)
+    (parts_so m.leaves (λ found. found ≡ Some begun) (λ found may. safe found may ∙ ap Some same) rest found)
 
 -- of a registry that was opened nothing is said that is said of others
 pub not_refused : {D : Type 0} {g : Ghosts D} (rest : Left D g) (Holds : Leftover D g → Type 0) → IfRefused rest (λ it. ⊥) → IfRefused rest Holds
@@ -78,11 +87,11 @@ answered s None had has told rest all_done not_all_done written kept stopped pro
 answered s (Some input) had has told rest all_done not_all_done written kept stopped promised = record { all_done = all_done; not_all_done = not_all_done; written = written; kept = kept; stopped = stopped; promised = promised }
 
 pub stated : {D : Type 0} {g : Ghosts D} (s : State) (read had has : Option (List ℕ)) (told : Ending) (rest : Left D g) (account : ℕ) → (status_of told ≡ 0 → Wrote had has (IsStatement s account)) → (status_of told ≡ 1 → get s.accounts account ≡ None)
-    → (status_of told ≡ 1 → Keeps had has) → IfWhole rest (λ files. HoldState g files s) → IsStated s read had has told rest account
+    → (status_of told ≡ 1 → Keeps had has) → HasState s rest → IsStated s read had has told rest account
 stated s read had has told rest account shown unknown silent kept = record { shown = shown; unknown = unknown; silent = silent; kept = kept }
 
 pub audited : {D : Type 0} {g : Ghosts D} (s : State) (read had has : Option (List ℕ)) (told : Ending) (rest : Left D g) → (status_of told ≡ 0 → Wrote had has (IsAuditText s)) → (status_of told ≡ 1 → Keeps had has)
-    → IfWhole rest (λ files. HoldState g files s) → IsAudited s read had has told rest
+    → HasState s rest → IsAudited s read had has told rest
 audited s read had has told rest shown silent kept = record { shown = shown; silent = silent; kept = kept }
 
 pub served : {D : Type 0} {g : Ghosts D} (s : State) (read had has : Option (List ℕ)) (told : Ending) (rest : Left D g) (sends : ℕ → Option (List ℕ)) (was now port count : ℕ) → (status_of told ≡ 0 → Appends had has (listening_text port))

@@ -1,2 +1,4 @@
 pub mod Imports
 pub mod Works
+pub mod Stopped
+pub mod MemoryWorks

@@ -8,15 +8,18 @@ use Rattle.goo_desk_lines.specs.Fold.{lines}
 use Rattle.goo_desk_server.specs.Runs as served
 use Rattle.goo_files.specs.Texts.{IsStatement, IsAuditText}
 use Rattle.goo_files.specs.Writes.{Wrote}
-use Rattle.goo_cli.specs.Asked.{Asked, InFile, InMemory, Init, Run, Declare, Statement, Audit, Serve}
+use Rattle.goo_cli.specs.Asked.{Asked, InFile, Init, Run, Declare, Statement, Audit, Serve}
 use Rattle.goo_cli_ending.specs.declared.ending.Ending.{Ending}
 use Rattle.goo_cli_ending.specs.Endings.{status_of}
 use Rattle.goo_cli_ending.specs.Promised as answered
 use Rattle.goo_cli_registry.specs.declared.closing.Left.{Left}
 use Rattle.goo_cli_registry.specs.Closings.{HoldState, HoldsSome, IfWhole}
+use Rattle.goo_cli_registry.specs.Finds.{HasState}
 use Rattle.goo_cli_registry.specs.Stopped.{HoldsStopped, IfOpened}
 use Rattle.goo_cli_http.specs.Endings.{IsCounted, listening_text}
 use Rattle.goo_cli_files.specs.Imports.{DeclaredIn}
+use Rattle.goo_cli_files.specs.MemoryWorks.{asked_in_memory}
+use Rattle.goo_cli_files.specs.Stopped as rows
 use Rattle.goo_cli_files.specs.declared.work.Job.{Job}
 use Rattle.goo_cli_files.specs.declared.work.Job.TheVariants as job
 use Rattle.goo_cli_files.specs.declared.work.Work.{Work}
@@ -33,8 +36,7 @@ asked_in file (work.Serve serving) = Serve (InFile file) serving
 abbrev pub asked_for : Job → Asked
 asked_for (job.Make file opening) = Init file.now opening
 asked_for (job.InFile file done) = asked_in file.now done
-asked_for (job.RunInMemory opening) = Run (InMemory opening)
-asked_for (job.ServeInMemory opening serving) = Serve (InMemory opening) serving
+asked_for (job.InMemory opening done) = asked_in_memory opening done
 
 module _ {D : Type 0} {g : Ghosts D} (s : State) (read had has : Option (List ℕ)) (told : Ending) (rest : Left D g) where
   -- the lines of an input were answered from this state on: all were accepted, or some were not; their outcomes are written, and where the log
@@ -53,13 +55,13 @@ module _ {D : Type 0} {g : Ghosts D} (s : State) (read had has : Option (List �
     pub shown : status_of told ≡ 0 → Wrote had has (IsStatement s account)
     pub unknown : status_of told ≡ 1 → get s.accounts account ≡ None
     pub silent : status_of told ≡ 1 → Keeps had has
-    pub kept : IfWhole rest (λ files. HoldState g files s)
+    pub kept : HasState s rest
 
   -- the audit is shown, and the registry stays as it was
   pub record IsAudited : Type 0 where
     pub shown : status_of told ≡ 0 → Wrote had has (IsAuditText s)
     pub silent : status_of told ≡ 1 → Keeps had has
-    pub kept : IfWhole rest (λ files. HoldState g files s)
+    pub kept : HasState s rest
 
   -- it was told at which port, as many connections were accepted as asked for, and what is promised holds of the requests that they left applied
   pub record IsServed (sends : ℕ → Option (List ℕ)) (was now port count : ℕ) : Type 0 where
@@ -70,7 +72,7 @@ module _ {D : Type 0} {g : Ghosts D} (s : State) (read had has : Option (List �
   -- what this work comes to, from the state that the files held, with the connections that were accepted meanwhile
   abbrev pub IsWorked : (ℕ → Option (List ℕ)) → ℕ → ℕ → Work → Type 0
   IsWorked sends was now work.Run = IfSome read AreAnswered
-  IsWorked sends was now work.Declare = IfSome read (λ input. DeclaredIn s input had has told rest)
+  IsWorked sends was now work.Declare = IfSome read (λ input. DeclaredIn s input had has told rest × IfOpened rest (rows.HoldsStopped rest input s had has told))
   IsWorked sends was now (work.Statement account) = IsStated account
   IsWorked sends was now work.Audit = IsAudited
   IsWorked sends was now (work.Serve serving) = IsServed sends was now serving.port serving.count

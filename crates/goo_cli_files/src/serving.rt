@@ -7,11 +7,14 @@ ghost use Rattle.sqlite.specs.Held.{state as view};
 ghost use Rattle.sqlite.specs.State.{HasCleanDisk};
 ghost use Rattle.sqlite.specs.Tree.{Trees};
 ghost use Rattle.goo_tables_rows.specs.Met.{IsInKeyOrder};
+ghost use Rattle.goo_spec.specs.Created.{created};
 ghost use Rattle.goo_store.specs.Versions.{state_held};
+ghost use Rattle.goo_store_lookups.specs.Moments.{moment};
 ghost use Rattle.goo_desk_server.specs.Runs.{KeepsPromise};
 ghost use Rattle.goo_cli_ending.specs.Endings.{status_of};
 ghost use Rattle.goo_cli_http.specs.Endings.{IsCounted, listening_text};
 ghost use Rattle.goo_cli_registry.specs.Closings.{HasSpareLog, HoldsSome, IfRefused, IsClean, LeavesRegistry};
+ghost use Rattle.goo_cli_registry.specs.Openings.{IsRun};
 
 use goo_cli::{Opening, Serving};
 use goo_cli_ending::Ending;
@@ -28,6 +31,9 @@ use std::alloc::Global;
 use std::io::{BufWriter, Write};
 
 /// Serves so many connections by a new registry in a database that is empty, and hands the database back.
+///
+/// - `promised`: what a registry promises after any list of requests holds of the new registry, the requests that the connections left applied, and what the
+///   database holds then. A fault of the records, and want of memory, may have kept the registry from being made.
 fn serve_new<S: Alter, L: Listener, W: Write + Drop>(
     alloc: Global,
     conn: Connection<S>,
@@ -40,6 +46,7 @@ fn serve_new<S: Alter, L: Listener, W: Write + Drop>(
     requires ordered { HasCleanDisk (view S.Store conn) → IsInKeyOrder (view S.Store conn).now }
     ensures announced { status_of result.0 ≡ 0 → Appends (writer_contents W.contents writer.old) (writer_contents W.contents writer.new) (listening_text serving.port) }
     ensures counted { IsCounted result.0 (L.accepted listener.old) (L.accepted listener.new) serving.count }
+    ensures promised { IsRun result.0 → (moment (view S.Store result.1) false).lies ≡ 0 → (moment (view S.Store result.1) false).doubts ≡ 0 → KeepsPromise (L.sends listener.old) (L.accepted listener.old) (L.accepted listener.new) (created opening.code opening.today opening.next_serial) (moment (view S.Store result.1) false).state }
 {
     match begin(alloc, conn, Start::New(opening)) {
         Ok(shelf) => {

@@ -9,6 +9,7 @@ ghost use Rattle.goo_cli_registry.specs.Closings.{HasSpareLog, IfRefused, IsClea
 ghost use Rattle.goo_cli_files.specs.Works.{asked_for, IsWorked};
 
 use crate::in_files::{audit_in_files, declare_in_files, statement_in_files};
+use crate::memory_work::MemoryWork;
 use crate::serving::serve_in_files;
 use goo_cli::{Opening, Records, Serving, Task};
 use goo_cli_ending::Ending;
@@ -45,10 +46,8 @@ pub enum Job<'a> {
     Make(&'a str, Opening),
     /// This is done with the registry in the file.
     InFile(&'a str, Work),
-    /// The requests of the input are answered by a new registry in memory.
-    RunInMemory(Opening),
-    /// Requests are answered over HTTP by a new registry in memory.
-    ServeInMemory(Opening, Serving),
+    /// This is done with a new registry in memory.
+    InMemory(Opening, MemoryWork),
 }
 
 /// The same opening, field by field, as what is lent can't be given away.
@@ -68,13 +67,13 @@ pub fn job_of<'a>(task: &Task<'a>) -> Job<'a>
 {
     match task {
         Task::Init(path, opening) => Job::Make(*path, copy_of(opening)),
-        Task::Run(Records::Memory(opening)) => Job::RunInMemory(copy_of(opening)),
+        Task::Run(Records::Memory(opening)) => { Job::InMemory(copy_of(opening), MemoryWork::Run) }
         Task::Run(Records::File(path)) => Job::InFile(*path, Work::Run),
         Task::Declare(path) => Job::InFile(*path, Work::Declare),
         Task::Statement(path, account) => Job::InFile(*path, Work::Statement(*account)),
         Task::Audit(path) => Job::InFile(*path, Work::Audit),
         Task::Serve(Records::Memory(opening), serving) => {
-            Job::ServeInMemory(copy_of(opening), *serving)
+            Job::InMemory(copy_of(opening), MemoryWork::Serve(*serving))
         }
         Task::Serve(Records::File(path), serving) => Job::InFile(*path, Work::Serve(*serving)),
     }

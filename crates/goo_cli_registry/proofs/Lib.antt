@@ -1,4 +1,5 @@
-mod Files
+pub mod Files
 mod RunLemmas
 mod SpareLogs
 mod StoppedLemmas
+pub mod Finding

@@ -1,3 +1,4 @@
 pub mod Openings
 pub mod Closings
 pub mod Stopped
+pub mod Finds

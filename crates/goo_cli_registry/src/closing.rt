@@ -5,6 +5,7 @@ ghost use Rattle.sqlite.specs.State.{HasCleanDisk};
 ghost use Rattle.goo_store_lookups.specs.Moments.{moment};
 ghost use Rattle.sqlite_wal.specs.Reads.{AreClean};
 ghost use Rattle.goo_cli_registry.specs.Closings.{is_whole, files_in, HasSpareLog, IfWhole, IfRefused, IsClean, IsKept, HoldState, NeedNoLog};
+ghost use Rattle.goo_cli_registry.specs.Finds.{FindsRight, IfParts};
 
 use crate::settling::{Settled, settle_files};
 use goo_store::sql_shelf::SqlShelf;
@@ -76,6 +77,10 @@ impl<D: Disk> Left<D> {
 
 /// Copies the log into the database file and closes the database. Where that fails, what was committed stands, and the next
 /// opening finds it.
+///
+/// - `whole`, `copied`, `sure`: where the log was copied, the database file alone holds the registry, which is in no doubt, and the log may go.
+/// - `kept`: while nothing was in doubt, the state is kept, in the database file alone or in the file and its log.
+/// - `found`: where the log was not copied, the next opening finds what a crash before the close might have left, and nothing else.
 pub fn close_registry<D: Disk + Drop>(shelf: SqlShelf<FileStore<D>>) -> Left<D>
     ensures clean { IsClean result → HasCleanDisk (file_state shelf.conn) }
     ensures whole { IfWhole result (λ files. HoldState D.Disk files (moment (file_state shelf.conn) shelf.refused).state) }
@@ -83,6 +88,7 @@ pub fn close_registry<D: Disk + Drop>(shelf: SqlShelf<FileStore<D>>) -> Left<D>
     ensures sure { IfWhole result (λ files. AreClean D.Disk files.log files.db → (moment (file_state shelf.conn) shelf.refused).doubts ≡ 0) }
     ensures opened { IfRefused result (λ _. ⊥) }
     ensures kept { (moment (file_state shelf.conn) shelf.refused).doubts ≡ 0 → IsKept (moment (file_state shelf.conn) shelf.refused).state result }
+    ensures found { IfParts result (FindsRight (moment (file_state shelf.conn) shelf.refused).leaves) }
 {
     match shelf.into_connection().close_files() {
         Ok(files) => Left::Whole(files),

@@ -5,7 +5,9 @@ use Rattle.sqlite_wal.specs.Reads.{AreClean}
 use Rattle.goo_spec.specs.Sound.{IsSound}
 use Rattle.goo_store.specs.Versions.{state_held}
 use Rattle.goo_store_lookups.specs.Moments.{moment}
-use Rattle.goo_cli_registry.specs.Closings.{HoldState, IfWhole}
+use Rattle.goo_registry.specs.Desks.{seen_of}
+use Rattle.goo_cli_registry.specs.Closings.{HoldState, IfWhole, IsKept}
+use Rattle.goo_cli_files.proofs.Stopping.{rows_stopped}
 use Rattle.goo_cli_files.proofs.Works.{declared_begun, not_refused, rows_promised, undeclared, unopened}
 use Rattle.goo_cli_files.proofs.in_files.declare_in_files.Goals as goal
 
@@ -31,6 +33,23 @@ returns-in-Ok-clause-done g c = λ clean db holds.
     (c.declare-ending.ensures.done low)
     (subst (λ shelf. IfWhole c.close_registry.result (λ files. HoldState g.D.Disk files (moment (file_state shelf.conn) shelf.refused).state)) c.into_shelf.ensures c.close_registry.ensures.whole)
     (keeps g c clean db holds)
+
+pub returns-in-Ok-clause-stopped : goal.returns-in-Ok-clause-stopped
+returns-in-Ok-clause-stopped g c = λ clean db holds.
+    let low = subst (λ shelf. doubt (file_state shelf.conn).is_clean ≡ 0) c.into_shelf.ensures (c.close_registry.ensures.clean clean) in
+    let before = subst (λ shelf. doubt (file_state shelf.conn).is_clean ≡ 0) c.new-registry.ensures (c.declare-ending.ensures.lied low) in
+    let none = c.in-Ok.ensures.ready.works before in
+    rows_stopped c.close_registry.result (g.R.Read.remaining c.args.reader.now) _ (seen_of (moment (file_state c.new-registry.result.shelf.conn) c.new-registry.result.shelf.refused))
+    (seen_of (moment (file_state c.declare-ending.new.registry.shelf.conn) c.declare-ending.new.registry.shelf.refused)) (state_held db) _ _
+    (subst (λ shelf. (moment (file_state shelf.conn) shelf.refused).state ≡ state_held db) (sym c.new-registry.ensures) (c.in-Ok.ensures.state db holds none))
+    (subst (λ shelf. (moment (file_state shelf.conn) shelf.refused).doubts ≡ 0) (sym c.new-registry.ensures) none)
+    (c.declare-ending.ensures.stopped low)
+    (subst (λ shelf. IfWhole c.close_registry.result (λ files. HoldState g.D.Disk files (moment (file_state shelf.conn) shelf.refused).state)) c.into_shelf.ensures c.close_registry.ensures.whole)
+    (subst (λ shelf. IfWhole c.close_registry.result (λ files. AreClean g.D.Disk files.log files.db → (moment (file_state shelf.conn) shelf.refused).doubts ≡ 0)) c.into_shelf.ensures c.close_registry.ensures.sure)
+    (subst (λ shelf. (moment (file_state shelf.conn) shelf.refused).doubts ≡ 0 → IsKept (moment (file_state shelf.conn) shelf.refused).state c.close_registry.result) c.into_shelf.ensures c.close_registry.ensures.kept)
+
+pub returns-in-Err-clause-stopped : goal.returns-in-Err-clause-stopped
+returns-in-Err-clause-stopped g c = λ clean db holds. unopened (g.R.Read.remaining c.args.reader.now)
 
 pub returns-in-Err-clause-done : goal.returns-in-Err-clause-done
 returns-in-Err-clause-done g c = λ clean db holds. undeclared c.in-Err.left (g.R.Read.remaining c.args.reader.now) _ _ c.in-Err.failure (state_held db)

@@ -6,7 +6,7 @@ use Rattle.sqlite_store.specs.Laws.{settled_at}
 use Rattle.goo_tables_rows.specs.Stands.{doubts}
 use Rattle.goo_spec_tables.specs.States.{state_of}
 use Rattle.goo_store_lookups.specs.Holding.{is_sure, sure}
-use Rattle.goo_store_lookups.specs.Moments.{OpensAs, tables_in}
+use Rattle.goo_store_lookups.specs.Moments.{OpensAs, leaves_in, tables_in}
 use Rattle.goo_cli_registry.proofs.Files.{clean_before, opens_committed}
 use Rattle.goo_cli_registry.proofs.closing.close_registry.Goals as goal
 
@@ -55,3 +55,8 @@ returns-in-Err-clause-kept g c none db may =
 pub returns-in-Err-clause-clean : goal.returns-in-Err-clause-clean
 returns-in-Err-clause-clean g c = λ clean.
     subst (λ conn. HasCleanDisk (file_state conn)) c.into_connection.ensures.conn (clean_before _ _ c.in-Err.ensures.err.0.quiet.clean clean)
+
+-- a close that failed committed nothing more
+pub returns-in-Err-clause-found : goal.returns-in-Err-clause-found
+returns-in-Err-clause-found g c = λ db may found opens.
+    subst (λ kept. leaves_in (file_state kept) found) c.into_connection.ensures.conn (db, c.in-Err.ensures.err.0.quiet.outcomes db may, opens)
