@@ -14,6 +14,7 @@ use Rattle.goo_cli_ending.specs.declared.ending.Ending.TheVariants.{Failed}
 use Rattle.goo_cli_ending.specs.declared.ending.Failure.{Failure}
 use Rattle.goo_cli_registry.specs.Closings.{HoldRegistry, HoldState, HoldsSome, IfRefused, IfWhole}
 use Rattle.goo_cli_registry.specs.Finds.{FindsRight, HasState, IfParts}
+use Rattle.goo_cli_registry.specs.Durable.{FindsAcknowledged}
 use Rattle.goo_cli_registry.specs.Stopped.{HoldsStopped, IfOpened}
 use Rattle.goo_cli_registry.proofs.Finding.{has_state, parts_so}
 use Rattle.goo_cli_registry.specs.declared.closing.Left.{Left}
@@ -82,9 +83,11 @@ pub answered : {D : Type 0} {g : Ghosts D} (s : State) (read had has : Option (L
     → (status_of told ≡ 0 → IfSome read (λ input. (lines s input).bad ≡ 0)) → (status_of told ≡ 1 → IfSome read (λ input. (lines s input).bad ≢ 0))
     → (status_of told < 2 → IfSome read (λ input. Appends had has (lines s input).text)) → (status_of told < 2 → IfSome read (λ input. IfWhole rest (λ files. HoldState g files (lines s input).state)))
     → IfSome read (λ input. IfOpened rest (HoldsStopped rest input s told had has)) → IfSome read (λ input. IfOpened rest (answer.KeepsPromise told input s had has (λ t. IfWhole rest (λ files. HoldState g files t))))
+    → IfSome read (λ input. IfOpened rest (FindsAcknowledged rest input s had has))
     → IfSome read (AreAnswered s read had has told rest)
-answered s None had has told rest all_done not_all_done written kept stopped promised = tt
-answered s (Some input) had has told rest all_done not_all_done written kept stopped promised = record { all_done = all_done; not_all_done = not_all_done; written = written; kept = kept; stopped = stopped; promised = promised }
+answered s None had has told rest all_done not_all_done written kept stopped promised found = tt
+answered s (Some input) had has told rest all_done not_all_done written kept stopped promised found =
+    record { all_done = all_done; not_all_done = not_all_done; written = written; kept = kept; stopped = stopped; promised = promised; found = found }
 
 pub stated : {D : Type 0} {g : Ghosts D} (s : State) (read had has : Option (List ℕ)) (told : Ending) (rest : Left D g) (account : ℕ) → (status_of told ≡ 0 → Wrote had has (IsStatement s account)) → (status_of told ≡ 1 → get s.accounts account ≡ None)
     → (status_of told ≡ 1 → Keeps had has) → HasState s rest → IsStated s read had has told rest account

@@ -15,6 +15,7 @@ use Rattle.goo_cli_ending.specs.Promised as answered
 use Rattle.goo_cli_registry.specs.declared.closing.Left.{Left}
 use Rattle.goo_cli_registry.specs.Closings.{HoldState, HoldsSome, IfWhole}
 use Rattle.goo_cli_registry.specs.Finds.{HasState}
+use Rattle.goo_cli_registry.specs.Durable.{FindsAcknowledged}
 use Rattle.goo_cli_registry.specs.Stopped.{HoldsStopped, IfOpened}
 use Rattle.goo_cli_http.specs.Endings.{IsCounted, listening_text}
 use Rattle.goo_cli_files.specs.Imports.{DeclaredIn}
@@ -41,7 +42,7 @@ asked_for (job.InMemory opening done) = asked_in_memory opening done
 module _ {D : Type 0} {g : Ghosts D} (s : State) (read had has : Option (List ℕ)) (told : Ending) (rest : Left D g) where
   -- the lines of an input were answered from this state on: all were accepted, or some were not; their outcomes are written, and where the log
   -- was copied, the file holds what they come to. After a fault the same is so of the first lines. What is promised holds of those that were
-  -- answered.
+  -- answered. All that is written are answers to lines that the next opening finds carried out.
   pub record AreAnswered (input : List ℕ) : Type 0 where
     pub all_done : status_of told ≡ 0 → (lines s input).bad ≡ 0
     pub not_all_done : status_of told ≡ 1 → (lines s input).bad ≢ 0
@@ -49,6 +50,7 @@ module _ {D : Type 0} {g : Ghosts D} (s : State) (read had has : Option (List �
     pub kept : status_of told < 2 → IfWhole rest (λ files. HoldState g files (lines s input).state)
     pub stopped : IfOpened rest (HoldsStopped rest input s told had has)
     pub promised : IfOpened rest (answered.KeepsPromise told input s had has (λ t. IfWhole rest (λ files. HoldState g files t)))
+    pub found : IfOpened rest (FindsAcknowledged rest input s had has)
 
   -- the statement of an account is shown, or there is no such account and nothing is written; the registry stays as it was
   pub record IsStated (account : ℕ) : Type 0 where

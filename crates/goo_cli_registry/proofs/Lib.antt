@@ -1,5 +1,6 @@
 pub mod Files
 mod RunLemmas
+mod DurableLemmas
 mod SpareLogs
 mod StoppedLemmas
 pub mod Finding

@@ -41,7 +41,7 @@ module _ {D : Type 0} {g : Ghosts D} (rest : Left D g) (new : State) (doubts : �
   stopped_in (ending.Words error) input s had has it holds sure = tt
   stopped_in (ending.Misused reason) input s had has it holds sure = tt
 
-opened : {D : Type 0} {g : Ghosts D} (rest : Left D g) (Holds : Type 0) → Holds → IfOpened rest Holds
+pub opened : {D : Type 0} {g : Ghosts D} (rest : Left D g) (Holds : Type 0) → Holds → IfOpened rest Holds
 opened (left.Whole files) Holds holds = holds
 opened (left.Refused rest) Holds holds = tt
 opened (left.Parts rest) Holds holds = holds

@@ -1,3 +1,4 @@
+pub mod Durable
 pub mod Openings
 pub mod Closings
 pub mod Stopped

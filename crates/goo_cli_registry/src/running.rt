@@ -12,10 +12,13 @@ ghost use Rattle.goo_store.specs.Versions.{state_held};
 ghost use Rattle.goo_store_lookups.specs.Moments.{IsWell};
 ghost use Rattle.goo_spec.specs.Created.{created};
 ghost use Rattle.goo_spec.specs.Sound.{IsSound};
+ghost use Rattle.goo_desk_lines.specs.Durable.{FindsAnswered};
 ghost use Rattle.goo_desk_lines.specs.Fold.{lines};
+ghost use Rattle.goo_registry.specs.Desks.{seen_of};
 ghost use Rattle.goo_cli_ending.specs.Endings.{status_of, IsToldOf};
 ghost use Rattle.goo_cli_ending.specs.Promised.{KeepsPromise};
 ghost use Rattle.goo_cli_ending.specs.Stopped.{IsStopped};
+ghost use Rattle.goo_cli_registry.specs.Durable.{FindsAcknowledged};
 ghost use Rattle.goo_cli_registry.specs.Stopped.{HoldsStopped, IfOpened};
 ghost use Rattle.goo_store_open.specs.Foreign.{LacksMeta};
 ghost use Rattle.goo_cli_registry.specs.Openings.{begun, IsRun};
@@ -53,6 +56,11 @@ pub fn answer_by<S: Shelf, R: Read, W: Write + Drop>(
     ensures told { (S.seen registry.shelf).refusals ≡ 0 → IsToldOf result.0 (S.seen result.1).refusals }
     ensures promised { IsSound (S.seen registry.shelf).state → (S.seen result.1).lies ≡ 0 → IfSome (R.remaining reader.old) (λ input. KeepsPromise result.0 input (S.seen registry.shelf).state (writer_contents W.contents writer.old) (writer_contents W.contents writer.new) (λ t. (S.seen result.1).doubts ≡ 0 → (S.seen result.1).state ≡ t)) }
     ensures lied { (S.seen result.1).lies ≡ 0 → (S.seen registry.shelf).lies ≡ 0 }
+    ensures found { (S.seen result.1).lies ≡ 0 → (S.seen registry.shelf).doubts ≡ 0
+        → IfSome (R.remaining reader.old) (λ input.
+        FindsAnswered input (S.seen registry.shelf).state (seen_of (S.seen result.1))
+        (writer_contents W.contents writer.old) (writer_contents W.contents writer.new)
+        (S.seen result.1).leaves) }
 {
     let mut registry = registry;
     let ending = answer_input(alloc, &mut registry, reader, writer);
@@ -133,8 +141,8 @@ pub fn run_in_memory<R: Read, W: Write + Drop>(
 /// - `unharmed`: where there is no registry to run, no harm came to what the files held, after a crash too: but for a registry of version 1,
 ///   the same registry in version 2 may be found then.
 /// - `copied`: a log that is said to be copied into the database file is.
-///
-/// What a crash leaves, and a fault where the log could not be copied, is the shelf's: the lines that were answered, or one more.
+/// - `found`: whatever the status, all that was handed to the writer, flushed or not, are answers to first lines, and after a crash the next
+///   opening finds what these lines come to, or one line more where the log could not be copied.
 pub fn run_in_files<D: Disk + Drop, R: Read, W: Write + Drop, T: Write>(
     alloc: Global,
     files: Files<D>,
@@ -155,6 +163,10 @@ pub fn run_in_files<D: Disk + Drop, R: Read, W: Write + Drop, T: Write>(
     ensures promised { IsClean result.1 → (db : Trees) → HoldsDatabase (image_of D.Disk files) db → IfSome (R.remaining reader.old) (λ input. IfOpened result.1 (KeepsPromise result.0 input (state_held db) (writer_contents W.contents writer.old) (writer_contents W.contents writer.new) (λ t. IfWhole result.1 (λ files. HoldState D.Disk files t)))) }
     ensures unharmed { IsClean result.1 → IfRefused result.1 (LeavesRegistry files) }
     ensures copied { HasSpareLog result.1 }
+    ensures found { IsClean result.1 → (db : Trees) → HoldsDatabase (image_of D.Disk files) db
+        → IfSome (R.remaining reader.old) (λ input. IfOpened result.1
+        (FindsAcknowledged result.1 input (state_held db)
+        (writer_contents W.contents writer.old) (writer_contents W.contents writer.new))) }
 {
     match open_registry(alloc, files, seed, line) {
         Ok(shelf) => {

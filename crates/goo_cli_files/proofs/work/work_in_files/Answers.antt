@@ -9,7 +9,7 @@ returns-in-Run-clause-worked g c = λ clean db holds.
     let it = c.run_in_files.ensures in
     rw c.in-Run.is (answered (state_held db) (g.R.Read.remaining c.args.reader.now) _ _ c.run_in_files.result.0 c.run_in_files.result.1
     (it.all_done clean db holds) (it.not_all_done clean db holds) (it.written clean db holds) (it.kept clean db holds) (it.stopped clean db holds)
-    (it.promised clean db holds))
+    (it.promised clean db holds) (it.found clean db holds))
 
 pub returns-in-Declare-clause-worked : goal.returns-in-Declare-clause-worked
 returns-in-Declare-clause-worked g c = λ clean db holds.

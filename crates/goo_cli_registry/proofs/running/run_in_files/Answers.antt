@@ -7,6 +7,7 @@ use Rattle.goo_cli_registry.proofs.Files.{kept_begun, not_refused}
 use Rattle.goo_cli_registry.proofs.RunLemmas.{all_done_begun, not_all_done_begun, written_begun}
 use Rattle.goo_spec.specs.Sound.{IsSound}
 use Rattle.goo_cli_registry.proofs.StoppedLemmas.{promised_in, stopped_begun, unopened}
+use Rattle.goo_cli_registry.proofs.DurableLemmas.{found_in}
 use Rattle.goo_cli_registry.proofs.running.run_in_files.Goals as goal
 
 -- files that returned what was written to the end did so when the registry was opened
@@ -68,3 +69,16 @@ returns-in-Ok-clause-promised g c = λ clean db holds.
 
 pub returns-in-Err-clause-promised : goal.returns-in-Err-clause-promised
 returns-in-Err-clause-promised g c = λ clean db holds. unopened (g.R.Read.remaining c.args.reader.now)
+
+pub returns-in-Ok-clause-found : goal.returns-in-Ok-clause-found
+returns-in-Ok-clause-found g c = λ clean db holds.
+    let low = c.close_registry.ensures.clean clean in
+    let before = subst (λ shelf. doubt (file_state shelf.conn).is_clean ≡ 0) c.new.ensures (c.answer_by-ending.ensures.lied low) in
+    let none = c.in-Ok.ensures.ready.works before in
+    found_in c.close_registry.result (g.R.Read.remaining c.args.reader.now) _ _ (moment (file_state c.answer_by-ending.result.1.conn) c.answer_by-ending.result.1.refused) _ _
+    (subst (λ shelf. (moment (file_state shelf.conn) shelf.refused).state ≡ state_held db) (sym c.new.ensures) (c.in-Ok.ensures.state db holds none))
+    (c.answer_by-ending.ensures.found low (subst (λ shelf. (moment (file_state shelf.conn) shelf.refused).doubts ≡ 0) (sym c.new.ensures) none))
+    c.close_registry.ensures.whole c.close_registry.ensures.sure c.close_registry.ensures.found
+
+pub returns-in-Err-clause-found : goal.returns-in-Err-clause-found
+returns-in-Err-clause-found g c = λ clean db holds. unopened (g.R.Read.remaining c.args.reader.now)
