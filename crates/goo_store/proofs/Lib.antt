@@ -15,7 +15,7 @@ pub mod Next
 pub mod NextRow
 pub mod HeldFound
 pub mod CreationBlamed
-pub mod SumLemmas
+pub mod CountingFound
 pub mod FirstTables
 pub mod HeldLemmas
 pub mod Edges

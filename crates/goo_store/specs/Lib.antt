@@ -2,7 +2,6 @@ pub mod Found
 pub mod Ahead
 pub mod Outlasting
 pub mod Reading
-pub mod Summing
 pub mod Near
 pub mod Creating
 pub mod Preparing

@@ -23,7 +23,7 @@ use sqlite::{Alter, Error};
 use std::alloc::Global;
 
 /// The corrections, in the order in which they came.
-fn read_all(
+pub fn read_all(
     alloc: Global,
     found: Result<Vec<CorrectionRow>, Error>,
 ) -> Result<Vec<CorrectRecord>, Trouble>

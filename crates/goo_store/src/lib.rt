@@ -19,6 +19,7 @@ mod kept_registry_row;
 mod lasting;
 mod lots;
 mod lowering;
+mod net_energy;
 mod next_rows;
 mod notices;
 pub mod opening;
@@ -31,7 +32,7 @@ mod renewing;
 mod rows;
 mod shelf;
 pub mod sql_shelf;
-mod sums;
+mod taken;
 mod totals;
 
 pub use goo_store_open::fault::OpenFault;

@@ -31,9 +31,6 @@ use goo_types::range::Range;
 use sqlite::Alter;
 use std::alloc::Global;
 
-/// A number above all certificates' numbers.
-const BEYOND_ALL: u64 = 100_000_000_000_000;
-
 impl<S: Alter> SqlShelf<S> {
     /// The last row that begins below a number.
     fn row_before(&mut self, alloc: Global, low: u64) -> Result<Option<Piece>, Fault>
@@ -87,21 +84,6 @@ impl<S: Alter> SqlShelf<S> {
         }
         let later = self.rows_beginning(alloc, first, last + 1)?;
         told(join_near(alloc, range, before, &later), &mut self.refused)
-    }
-
-    /// All rows, rising.
-    pub(crate) fn all_rows(&mut self, alloc: Global) -> Result<Vec<Piece>, Fault>
-        ensures looks { Looks (moment (view S.Store self.old.conn) self.old.refused) (moment (view S.Store self.new.conn) self.new.refused) result (λ rows. rows.items ≡ (moment (view S.Store self.old.conn) self.old.refused).rows) }
-        ensures store { BlamesStore (view S.Store self.old.conn) (view S.Store self.new.conn) self.old.refused result }
-        ensures rising { IfOk result (λ rows. IsRising rows.items) }
-    {
-        if self.refused {
-            return Err(Fault::Store);
-        }
-        let found = pieces_beginning(alloc, &mut self.conn, 0, BEYOND_ALL);
-        self.lasting.answered = found.is_ok();
-        let rows = read_rising(alloc, found, &mut self.findings.lots);
-        told(rows, &mut self.refused)
     }
 
     /// The rows whose place names an account, rising.

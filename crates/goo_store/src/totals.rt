@@ -1,38 +1,92 @@
 //! The energy and the certificates of each device.
+//!
+//! An audit goes through the tables in the order of their keys, a page at a time. Of what it read it keeps sums by device alone, so its
+//! memory follows the devices, and not the declarations or the rows.
 
-ghost use Rattle.std.specs.Prelude.{◌≡◌};
+ghost use Rattle.std.specs.Prelude.{◌≡◌, ◌≤◌, List, IfOk};
 ghost use Rattle.std.specs.FinMap.{keys as keys_of};
 ghost use Rattle.sqlite.specs.Held.{state as view};
 ghost use Rattle.goo_core_shelf.specs.Shelf.{Looks, totals_of};
+ghost use Rattle.goo_spec.specs.State.{Correction};
+ghost use Rattle.goo_store_audit.specs.Counting.{IsBelow, IsPageAdded, IsTallyOf, all_numbers};
+ghost use Rattle.goo_store_audit.specs.Summing.{AreDeclaredBy, AreTakenBy};
 ghost use Rattle.goo_store_lookups.specs.Moments.{moment};
 ghost use Rattle.goo_store_lookups.specs.StoreFaults.{BlamesStore};
+ghost use Rattle.goo_store_rules.specs.Correcting.{AreTakenBack};
 
 use crate::sql_shelf::SqlShelf;
-use crate::sums::totals_over;
 use goo_core_shelf::found::DeviceTotals;
-use goo_store_rules::correct_record::CorrectRecord;
+use goo_store_audit::sums::totals_over;
+use goo_store_audit::taken::Taken;
+use goo_store_audit::tallies::{Tally, count_found};
 use goo_store_values::told::told;
+use goo_tables_pages::device_pieces::page_of_pieces;
 use goo_types::fault::Fault;
 use goo_types::gsrn::Gsrn;
 use goo_types::registry_code::RegistryCode;
 use sqlite::Alter;
 use std::alloc::Global;
+use std::collections::BTreeSet;
 
 impl<S: Alter> SqlShelf<S> {
-    /// The totals of these devices, by the declarations, the rows and these corrections.
+    /// Counts a page of the rows that begin at `low` or later; the number after the last of them.
+    fn count_page(
+        &mut self,
+        alloc: Global,
+        own: RegistryCode,
+        withdrawals: &BTreeSet<(Gsrn, u32)>,
+        low: u64,
+        tally: &mut Tally,
+    ) -> Result<u64, Fault>
+        requires { IsBelow low tally.old }
+        ensures looks { Looks (moment (view S.Store self.old.conn) self.old.refused) (moment (view S.Store self.new.conn) self.new.refused) result (λ next. IsPageAdded own withdrawals.now (moment (view S.Store self.old.conn) self.old.refused).rows low next tally.old tally.new) }
+        ensures store { BlamesStore (view S.Store self.old.conn) (view S.Store self.new.conn) self.old.refused result }
+        ensures below { IfOk result (λ next. (low ≤ next) × IsBelow next tally.new) }
+    {
+        if self.refused {
+            return Err(Fault::Store);
+        }
+        let found = page_of_pieces(alloc, &mut self.conn, low);
+        self.lasting.answered = found.is_ok();
+        let next = count_found(own, withdrawals, found, low, tally);
+        told(next, &mut self.refused)
+    }
+
+    /// The certificates of each device in all rows, a page at a time.
+    fn count_pages(
+        &mut self,
+        alloc: Global,
+        own: RegistryCode,
+        withdrawals: &BTreeSet<(Gsrn, u32)>,
+    ) -> Result<Tally, Fault>
+        ensures looks { Looks (moment (view S.Store self.old.conn) self.old.refused) (moment (view S.Store self.new.conn) self.new.refused) result (λ tally. (cs : List Correction) → AreTakenBack cs withdrawals.now → IsTallyOf own cs (moment (view S.Store self.old.conn) self.old.refused).rows tally) }
+        ensures store { BlamesStore (view S.Store self.old.conn) (view S.Store self.new.conn) self.old.refused result }
+        ensures below { IfOk result (IsBelow all_numbers) }
+    {
+        let mut tally = Tally::none(alloc);
+        let mut low = 0;
+        let mut next = self.count_page(alloc, own, withdrawals, low, &mut tally)?;
+        while low < next {
+            low = next;
+            next = self.count_page(alloc, own, withdrawals, low, &mut tally)?;
+        }
+        Ok(tally)
+    }
+
+    /// The totals of these devices, by the declarations, the rows and what corrections did.
     fn totals_beside(
         &mut self,
         alloc: Global,
         own: RegistryCode,
         devices: &[Gsrn],
-        corrections: &[CorrectRecord],
+        taken: &Taken,
     ) -> Result<Vec<DeviceTotals>, Fault>
-        ensures looks { Looks (moment (view S.Store self.old.conn) self.old.refused) (moment (view S.Store self.new.conn) self.new.refused) result (λ totals. own ≡ (moment (view S.Store self.old.conn) self.old.refused).state.own → devices.now ≡ keys_of (moment (view S.Store self.old.conn) self.old.refused).state.devices → corrections.now ≡ (moment (view S.Store self.old.conn) self.old.refused).state.corrections → totals.items ≡ totals_of (moment (view S.Store self.old.conn) self.old.refused).state) }
+        ensures looks { Looks (moment (view S.Store self.old.conn) self.old.refused) (moment (view S.Store self.new.conn) self.new.refused) result (λ totals. own ≡ (moment (view S.Store self.old.conn) self.old.refused).state.own → devices.now ≡ keys_of (moment (view S.Store self.old.conn) self.old.refused).state.devices → AreTakenBy (moment (view S.Store self.old.conn) self.old.refused).state.corrections taken.now → totals.items ≡ totals_of (moment (view S.Store self.old.conn) self.old.refused).state) }
         ensures store { BlamesStore (view S.Store self.old.conn) (view S.Store self.new.conn) self.old.refused result }
     {
-        let declared = self.declarations(alloc)?;
-        let rows = self.all_rows(alloc)?;
-        let totals = totals_over(alloc, own, devices, &declared, corrections, &rows);
+        let declared = self.net_energy(alloc)?;
+        let tally = self.count_pages(alloc, own, &taken.withdrawals)?;
+        let totals = totals_over(alloc, devices, &declared, &taken.lowered, &tally);
         told(totals, &mut self.refused)
     }
 
@@ -46,8 +100,8 @@ impl<S: Alter> SqlShelf<S> {
         ensures looks { Looks (moment (view S.Store self.old.conn) self.old.refused) (moment (view S.Store self.new.conn) self.new.refused) result (λ totals. own ≡ (moment (view S.Store self.old.conn) self.old.refused).state.own → devices.now ≡ keys_of (moment (view S.Store self.old.conn) self.old.refused).state.devices → totals.items ≡ totals_of (moment (view S.Store self.old.conn) self.old.refused).state) }
         ensures store { BlamesStore (view S.Store self.old.conn) (view S.Store self.new.conn) self.old.refused result }
     {
-        let corrections = self.corrections(alloc)?;
-        self.totals_beside(alloc, own, devices, &corrections)
+        let taken = self.taken(alloc)?;
+        self.totals_beside(alloc, own, devices, &taken)
     }
 
     /// The totals of all devices, of the registry of this code.

@@ -1,6 +1,0 @@
-use Rattle.std.proofs.Common.{◌≡◌, ◌++◌, map, drop}
-use Rattle.goo_store.specs.Summing.{total_in}
-use Rattle.goo_store.proofs.sums.totals_over.Given as goal
-
-abbrev pub invariant-loop-device : goal.invariant-loop-device
-invariant-loop-device l = l.totals.items ++ map (total_in l.sums) (drop l.device-index l.devices) ≡ map (total_in l.sums) l.devices

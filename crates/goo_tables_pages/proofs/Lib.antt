@@ -1,0 +1,2 @@
+pub mod PieceQueries
+pub mod NetQueries

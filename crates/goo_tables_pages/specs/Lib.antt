@@ -1,0 +1,2 @@
+pub mod DevicePieces
+pub mod NetRows
