@@ -1,5 +1,6 @@
 -- What a commit takes, and what it leaves.
-use Rattle.std.specs.Prelude.{◌≡◌, ◌⊎◌, ◌≤◌, List, [], ◌∷◌, Option, Some, None, Result, OnOk, OnErr}
+use Rattle.std.specs.Prelude.{◌≡◌, ◌⊎◌, ◌≤◌, List, [], ◌∷◌, All, Option, Some, None, Result, OnOk, OnErr}
+use Rattle.std.specs.FinMap.{get}
 use Rattle.goo_types.specs.Notice.{NoticeContents}
 use Rattle.goo_types.specs.Piece.{IsRising}
 use Rattle.goo_types.specs.declared.command.Command.{Command}
@@ -8,6 +9,7 @@ use Rattle.goo_types.specs.declared.fault.Fault.{Fault}
 use Rattle.goo_types.specs.declared.outcome.Outcome.TheVariants.{Accepted}
 use Rattle.goo_types.specs.declared.piece.Piece.{Piece}
 use Rattle.goo_spec.specs.Export.{notice_of}
+use Rattle.goo_spec.specs.Lots.{key_of}
 use Rattle.goo_spec.specs.Sound.{IsSound}
 use Rattle.goo_spec.specs.State.{State}
 use Rattle.goo_spec.specs.Step.{outcome, accept}
@@ -22,13 +24,18 @@ abbrev pub StayRising : List Edit → List Piece → Type 0
 StayRising [] rows = IsRising rows
 StayRising (e ∷ es) rows = IsRising rows × StayRising es (edited e rows)
 
+-- the state knows the lot of each piece that the edits insert
+abbrev pub HaveKnownLots : State → List Edit → Type 0
+HaveKnownLots s edits = All (λ e. All (λ p. get s.lots (key_of p.lot) ≡ Some p.lot) e.insert.items) edits
+
 -- the notice that a command sends when it is accepted
 abbrev pub notice_sent : State → Command → Option NoticeContents
 notice_sent s (Export x) = Some (notice_of s x)
 notice_sent s _ = None
 
 -- a plan may be committed: its request is accepted here with its reply, its notice is the one that is sent, and its edits
--- turn the rows into those of the state after it, and into as few as can be where they were that
+-- turn the rows into those of the state after it, and into as few as can be where they were that; they insert pieces of lots
+-- that the state after it knows
 pub record Fits (s : State) (rows : List Piece) (plan : Plan) : Type 0 where
   pub sound : IsSound s
   pub before : AreRowsOf s.at rows
@@ -36,6 +43,7 @@ pub record Fits (s : State) (rows : List Piece) (plan : Plan) : Type 0 where
   pub sent : plan.notice ≡ notice_sent s plan.request.command
   pub rising : StayRising plan.edits.items rows
   pub turned : IsTurned (accept s plan.request).at rows plan.edits.items
+  pub known : HaveKnownLots (accept s plan.request) plan.edits.items
 
 -- a crash finds one of two states
 abbrev pub IsEither : Moment → State → State → Type 0

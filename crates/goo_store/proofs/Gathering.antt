@@ -50,5 +50,5 @@ module _ (old new : State) (it : IsWell old) {T : Type 0} (read : Result T Troub
         let none = fine clean live in
         let stands = it.stands none in
         told_so (MoreFaults old.faults new.faults) read a b result told (blames.refused clean (ours none) live unlimited (tables_in old) stands (it.kept none)
-        (record { found = knows none; order = in_order old.now (tables_in old) stands; fits = has.fits; room = has.room; edits = has.edits; lots = has.lots }));
+        (record { found = knows none; order = in_order old.now (tables_in old) stands; fits = has.fits; room = has.room; lots = has.lots }));
   }

@@ -10,17 +10,16 @@ use Rattle.goo_core_shelf.specs.declared.plan.Plan.{Plan}
 use Rattle.goo_tables_rows.specs.Rows.{Tables}
 use Rattle.goo_spec_tables.specs.Places.{rows_of}
 use Rattle.goo_spec_tables.specs.States.{state_of}
-use Rattle.goo_store_plans.specs.EditsTaken.{HaveKeptNumbers, HaveKnownLots}
+use Rattle.goo_store_plans.specs.EditsTaken.{HaveKeptNumbers}
 use Rattle.goo_store_plans.specs.PlanNeeds.{HasRoomFor}
 use Rattle.goo_store_plans.specs.Room.{HaveRowids}
 use Rattle.goo_store_lookups.specs.Moments.{tables_in}
 
--- The plan may be committed in the tables, which have room for its command. The registry knows the lots of the pieces that the edits
--- insert, once the request is accepted; and columns keep the numbers of the lots that are there.
+-- The plan may be committed in the tables, which have room for its command; and columns keep the numbers of the
+-- lots that are there.
 pub record HaveWhatItNeeds (t : Tables) (plan : Plan) : Type 0 where
   pub fits : Fits (state_of t) (rows_of t) plan
   pub room : HasRoomFor t plan.request.command
-  pub edits : HaveKnownLots (accept (state_of t) plan.request) plan.edits.items
   pub lots : HaveKeptNumbers t.lots
 
 -- so they have, and rowids are left

@@ -25,7 +25,7 @@ use Rattle.goo_store_changes.specs.declared.change.TableChange.{TableChange}
 use Rattle.goo_store_changes.specs.declared.change.TableChange.TheVariants.{AddHolder, AddAccount, CloseAccount, AddDevice, AddDeclaration, SetProgress, AddLot, DeletePiece, InsertPiece, AddPeer, AddReceipt, AddCancellation, AddWithdrawal, AddCorrection, AddNoticeOut, AddNoticeIn, SetToday, SetCounters}
 use Rattle.goo_store_plans.specs.AtHand.{IsAtHand}
 use Rattle.goo_store_plans.specs.Carrying.{CarriesOut}
-use Rattle.goo_store_plans.specs.EditsTaken.{CanTakeEdits, HaveKeptNumbers, HaveKnownLots}
+use Rattle.goo_store_plans.specs.EditsTaken.{CanTakeEdits, HaveKeptNumbers}
 use Rattle.goo_store_plans.specs.Found.{AreStated}
 use Rattle.goo_store_plans.specs.declared.gathered_lots.Gathered.{Gathered}
 use Rattle.goo_store_plans.specs.declared.lot_numbers.NumberedLot.{NumberedLot}
@@ -117,15 +117,15 @@ unfolding accept
 lots_after t plan gathered carries = ap (λ (s : State). s.lots) (carries.acted.state (state_of t).at)
 
 pub edits_at_hand : (t : Tables) (plan : Plan) (gathered : Gathered) (found : List NumberedLot) → Fits (state_of t) (rows_of t) plan → CarriesOut t plan.request.command gathered → All ChangeFits gathered.changes.items
-    → AreStated t.lots found → HaveKnownLots (accept (state_of t) plan.request) plan.edits.items → HaveKeptNumbers t.lots → CanTakeEdits (gathered.added.items ++ found) t plan.edits.items
+    → AreStated t.lots found → HaveKeptNumbers t.lots → CanTakeEdits (gathered.added.items ++ found) t plan.edits.items
 unfolding state_of
-edits_at_hand t plan gathered found fits carries fit stated known low =
+edits_at_hand t plan gathered found fits carries fit stated low =
     let after : List Lot = (made_all t gathered.changes.items).lots in
     let all = with_found t.lots gathered.added.items found after stated carries.lots in
     let forward = all_forward plan.edits.items (rows_of t) fits.rising in
     let at_hand : (p : Piece) → get (accept (state_of t) plan.request).lots (key_of p.lot) ≡ Some p.lot → IsAtHand (gathered.added.items ++ found) t p.lot =
     λ p is. all.only p.lot (ap (λ lots. get lots (key_of p.lot)) (lots_after t plan gathered carries) ∙ is) in record {
-      pieces = λ i e low_e j p low_p. (forward i e low_e j p low_p, at_hand (get_or (get_or plan.edits.items i e).insert.items j p) (known i e low_e j p low_p));
+      pieces = λ i e low_e j p low_p. (forward i e low_e j p low_p, at_hand (get_or (get_or plan.edits.items i e).insert.items j p) (fits.known i e low_e j p low_p));
       lots = after;
       with = all.with;
       numbers = All-from_recursion (λ l. l.id < 2 ^ 63) after (low_after t gathered.changes.items fit (recursion_from_All (λ l. l.id < 2 ^ 63) t.lots low));

@@ -19,10 +19,6 @@ CanBePutIn added t p = IsForward p × IsAtHand added t p.lot
 abbrev pub CanAllBePutIn : List NumberedLot → Tables → List Edit → Type 0
 CanAllBePutIn added t edits = All (λ e. All (CanBePutIn added t) e.insert.items) edits
 
--- the state knows the lot of each piece that the edits insert
-abbrev pub HaveKnownLots : State → List Edit → Type 0
-HaveKnownLots s edits = All (λ e. All (λ p. get s.lots (key_of p.lot) ≡ Some p.lot) e.insert.items) edits
-
 -- each row has a number that a column keeps
 abbrev pub HaveKeptNumbers : List Lot → Type 0
 HaveKeptNumbers lots = All (λ l. l.id < 2 ^ 63) lots

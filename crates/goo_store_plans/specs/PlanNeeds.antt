@@ -11,7 +11,7 @@ use Rattle.goo_spec_tables.specs.Places.{rows_of}
 use Rattle.goo_spec_tables.specs.States.{state_of}
 use Rattle.goo_store_plans.specs.AtHand.{HasRoom}
 use Rattle.goo_store_plans.specs.Carried.{AreInOrder}
-use Rattle.goo_store_plans.specs.EditsTaken.{HaveKeptNumbers, HaveKnownLots}
+use Rattle.goo_store_plans.specs.EditsTaken.{HaveKeptNumbers}
 use Rattle.goo_store_plans.specs.Found.{AreFindingsOf, IsNext}
 use Rattle.goo_store_plans.specs.Needing.{CanGoByRow}
 use Rattle.goo_store_plans.specs.declared.findings.Findings.{Findings}
@@ -36,12 +36,11 @@ HasRoomFor t (Correct x) = HasRoom 1 correction_key t.corrections
 HasRoomFor t (Import x) = HasRoom (length x.notice.parts) lot_key t.lots
 HasRoomFor t _ = Unit {0}
 
--- What was kept is so in the tables, in which the plan may be committed, and they have room for its command. The registry knows the
--- lots of the pieces that the edits insert, once the request is accepted; and columns keep the numbers of the lots that are there.
+-- What was kept is so in the tables, in which the plan may be committed, and they have room for its command; and columns
+-- keep the numbers of the lots that are there.
 pub record CanBePlanned (t : Tables) (findings : Findings) (plan : Plan) : Type 0 where
   pub found : AreFindingsOf findings t
   pub order : AreInOrder t
   pub fits : Fits (state_of t) (rows_of t) plan
   pub room : HasRoomFor t plan.request.command
-  pub edits : HaveKnownLots (accept (state_of t) plan.request) plan.edits.items
   pub lots : HaveKeptNumbers t.lots

@@ -68,7 +68,7 @@ returns-in_err-edits-clause-blames g c =
     (λ t stands kept can carry.
     let carries = carry can.found.own can.found.basis (subst (AreStated t.lots) (sym c.deref.ensures.value) can.found.lots) kept can.order can.fits in
     subst (λ xs. CanTakeEdits xs t c.deref-4.result.now) (sym (c.deref-3.ensures.value ∙ c.in_ok-extend_from_slice.ensures.items ∙ ap (λ xs. act.added.items ++ xs) c.deref-2.ensures.value))
-    (subst (CanTakeEdits (act.added.items ++ lots) t) (sym c.deref-4.ensures.value) (edits_at_hand t c.args.plan.now act lots can.fits carries c.in_ok-act.ensures.fits can.found.lots can.edits can.lots))))
+    (subst (CanTakeEdits (act.added.items ++ lots) t) (sym c.deref-4.ensures.value) (edits_at_hand t c.args.plan.now act lots can.fits carries c.in_ok-act.ensures.fits can.found.lots can.lots))))
 
 pub returns-clause-blames : goal.returns-clause-blames
 returns-clause-blames g c =
@@ -84,5 +84,5 @@ returns-clause-blames g c =
     (λ t stands kept can carry.
     let carries = carry can.found.own can.found.basis (subst (AreStated t.lots) (sym c.deref.ensures.value) can.found.lots) kept can.order can.fits in
     subst (λ xs. CanTakeEdits xs t c.deref-4.result.now) (sym (c.deref-3.ensures.value ∙ c.in_ok-extend_from_slice.ensures.items ∙ ap (λ xs. act.added.items ++ xs) c.deref-2.ensures.value))
-    (subst (CanTakeEdits (act.added.items ++ lots) t) (sym c.deref-4.ensures.value) (edits_at_hand t c.args.plan.now act lots can.fits carries c.in_ok-act.ensures.fits can.found.lots can.edits can.lots))))
+    (subst (CanTakeEdits (act.added.items ++ lots) t) (sym c.deref-4.ensures.value) (edits_at_hand t c.args.plan.now act lots can.fits carries c.in_ok-act.ensures.fits can.found.lots can.lots))))
     c.joined.result _ (λ t stands kept can first. c.joined.ensures.memory (kept_numbers t kept c.args.plan.now can.fits))

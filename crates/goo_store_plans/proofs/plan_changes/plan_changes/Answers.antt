@@ -38,7 +38,7 @@ returns-in_err-changes-clause-blames g c =
     blames_err s0 s2 c.in_err-changes.field-0.0 c.from_residual-in_err-changes.result _ same
     (blames_then s0 s1 s2 c.in_ok-basis.basis _ c.in_ok-basis.ensures.looks _ c.in_ok-basis.ensures.blames (Err c.in_err-changes.field-0.0) _ c.in_err-changes.ensures.gathers _ c.in_err-changes.ensures.blames _
     (λ t stands kept can first.
-    record { found = record { own = can.found.own; basis = first can.found.basis; lots = can.found.lots; edges = can.found.edges }; order = can.order; fits = can.fits; room = can.room; edits = can.edits; lots = can.lots }))
+    record { found = record { own = can.found.own; basis = first can.found.basis; lots = can.found.lots; edges = can.found.edges }; order = can.order; fits = can.fits; room = can.room; lots = can.lots }))
 
 pub returns-clause-blames : goal.returns-clause-blames
 returns-clause-blames g c =
@@ -49,5 +49,5 @@ returns-clause-blames g c =
     blames_made s0 s2 changes _ (looks_then s0 s1 s2 c.in_ok-basis.basis (Ok changes) _ _ c.in_ok-basis.ensures.looks c.in_ok-changes.ensures.gathers) _
     (blames_then s0 s1 s2 c.in_ok-basis.basis _ c.in_ok-basis.ensures.looks _ c.in_ok-basis.ensures.blames (Ok changes) _ c.in_ok-changes.ensures.gathers _ c.in_ok-changes.ensures.blames (λ t. CanBePlanned t c.args.findings c.args.plan.now)
     (λ t stands kept can first.
-    record { found = record { own = can.found.own; basis = first can.found.basis; lots = can.found.lots; edges = can.found.edges }; order = can.order; fits = can.fits; room = can.room; edits = can.edits; lots = can.lots }))
+    record { found = record { own = can.found.own; basis = first can.found.basis; lots = can.found.lots; edges = can.found.edges }; order = can.order; fits = can.fits; room = can.room; lots = can.lots }))
     (Ok (record { changes = changes; after = c.after_changes-after.result })) _ (λ t stands kept can first. tt)
