@@ -5,7 +5,7 @@ ghost use Rattle.std.specs.Prelude.{IfOk, IsTrue};
 ghost use Rattle.goo_cli_registry.specs.Closings.{HasSpareLog};
 ghost use Rattle.sqlite_std_file.specs.File.{file_is_usable};
 
-use crate::reason::{Reason, Refusal};
+use crate::reason::{OpeningFailure, Reason};
 use goo_cli_ending::Failure;
 use goo_cli_registry::closing::Left;
 use goo_cli_registry::first_page::make_first_page;
@@ -34,20 +34,24 @@ pub struct Opened<S: Start> {
 ///
 /// `NotARegistry` where there is no file, or one that holds no database; nothing is made then. `Store` where it can't be opened, as
 /// where another program has it open; `Memory` where memory was refused.
-pub fn open_kept<S: Start>(rt: &HostRuntime, path: &str, start: S) -> Result<Opened<S>, Refusal>
+pub fn open_kept<S: Start>(
+    rt: &HostRuntime,
+    path: &str,
+    start: S,
+) -> Result<Opened<S>, OpeningFailure>
     ensures log { IfOk result (λ opened. IsTrue (file_is_usable S.Start opened.files.log)) }
     ensures db { IfOk result (λ opened. IsTrue (file_is_usable S.Start opened.files.db)) }
 {
     let real = match fs::canonicalize(rt, path) {
         Ok(real) => real,
         Err(error) if error.kind() == ErrorKind::NotFound => {
-            return Err(Refusal::from(Failure::NotARegistry));
+            return Err(OpeningFailure::from(Failure::NotARegistry));
         }
-        Err(error) => return Err(Refusal::from(error)),
+        Err(error) => return Err(OpeningFailure::from(error)),
     };
     let found = fs::metadata(rt, real.as_str())?;
     if found.is_file() && found.len() < HEAD {
-        return Err(Refusal::from(Failure::NotARegistry));
+        return Err(OpeningFailure::from(Failure::NotARegistry));
     }
     open_at(rt, real.as_str(), start)
 }
@@ -57,7 +61,11 @@ pub fn open_kept<S: Start>(rt: &HostRuntime, path: &str, start: S) -> Result<Ope
 /// # Errors
 ///
 /// `Store` where they can't be made or opened, and `Memory` where memory was refused.
-pub fn open_new<S: Start>(rt: &HostRuntime, path: &str, start: S) -> Result<Opened<S>, Refusal>
+pub fn open_new<S: Start>(
+    rt: &HostRuntime,
+    path: &str,
+    start: S,
+) -> Result<Opened<S>, OpeningFailure>
     ensures log { IfOk result (λ opened. IsTrue (file_is_usable S.Start opened.files.log)) }
     ensures db { IfOk result (λ opened. IsTrue (file_is_usable S.Start opened.files.db)) }
 {
@@ -70,7 +78,7 @@ pub fn open_new<S: Start>(rt: &HostRuntime, path: &str, start: S) -> Result<Open
             let _ = begin_database(rt, path);
             open_at(rt, path, start)
         }
-        Err(error) => Err(Refusal::from(error)),
+        Err(error) => Err(OpeningFailure::from(error)),
     }
 }
 
@@ -101,7 +109,7 @@ fn write_page(rt: &HostRuntime, path: &str) -> io::Result<()> {
 }
 
 /// The files at this path, with a log that is made if need be.
-fn open_at<S: Start>(rt: &HostRuntime, path: &str, start: S) -> Result<Opened<S>, Refusal>
+fn open_at<S: Start>(rt: &HostRuntime, path: &str, start: S) -> Result<Opened<S>, OpeningFailure>
     ensures log { IfOk result (λ opened. IsTrue (file_is_usable S.Start opened.files.log)) }
     ensures db { IfOk result (λ opened. IsTrue (file_is_usable S.Start opened.files.db)) }
 {
@@ -114,10 +122,10 @@ fn open_at<S: Start>(rt: &HostRuntime, path: &str, start: S) -> Result<Opened<S>
 }
 
 /// Why the files at this path are not opened.
-fn refusal_at(rt: &HostRuntime, path: &str, error: OpenError) -> Refusal {
+fn refusal_at(rt: &HostRuntime, path: &str, error: OpenError) -> OpeningFailure {
     match fs::metadata(rt, path) {
-        Ok(found) if found.is_dir() => Refusal::because(Reason::Folder),
-        Ok(_) | Err(_) => Refusal::from(error),
+        Ok(found) if found.is_dir() => OpeningFailure::because(Reason::Folder),
+        Ok(_) | Err(_) => OpeningFailure::from(error),
     }
 }
 

@@ -8,7 +8,7 @@ mod reason;
 
 use crate::files::{Opened, let_go, open_kept, open_new};
 use crate::object::Object;
-use crate::reason::{Reason, Refusal};
+use crate::reason::{OpeningFailure, Reason};
 use goo_cli::{Opening, read_task};
 use goo_cli_ending::{Ending, Failure};
 use goo_cli_files::{Job, LocalListener, Work, copy_of, job_of, work_in_files, work_in_memory};
@@ -121,7 +121,7 @@ fn make_at<S: Start, W: Write + Drop>(
 }
 
 /// How the program ends where the files of a registry are not opened.
-fn refused(refusal: Refusal) -> (Ending, Option<Reason>) {
+fn refused(refusal: OpeningFailure) -> (Ending, Option<Reason>) {
     (Ending::Failed(refusal.failure), refusal.reason)
 }
 

@@ -1,6 +1,6 @@
 //! What a line on standard error speaks of.
 use crate::reason::Reason;
-use goo_cli_ending::{Denial, Ending, Failure};
+use goo_cli_ending::{Ending, Failure, NotDone};
 use goo_cli_files::{Job, MemoryWork, Work};
 use goo_types::account_no::AccountNo;
 use std::fmt;
@@ -49,7 +49,7 @@ impl<'a> Object<'a> {
             Ending::Failed(Failure::Write) => Some(Object::Output),
             Ending::Failed(Failure::Memory) => None,
             Ending::Failed(_) => Object::file_of(job, reason),
-            Ending::Denied(Denial::Header) => Some(Object::Header),
+            Ending::Denied(NotDone::Header) => Some(Object::Header),
             Ending::Denied(_) => Object::asked_of(job),
             _ => None,
         }

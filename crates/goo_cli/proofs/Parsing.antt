@@ -15,7 +15,7 @@ use Rattle.goo_cli.specs.Asked.{Asked, asked, asked_by}
 use Rattle.goo_cli.specs.Options.{Values, values_in, is_set}
 use Rattle.goo_cli.specs.Verbs.{verb_in}
 use Rattle.goo_cli.specs.Line.{goo_app, task_in, task_named, task_of, task_unless, FaultIn, NoTask, TellsFault}
-use Rattle.goo_cli.specs.declared.task.Task.{Task}
+use Rattle.goo_cli.specs.declared.task.Invocation.{Invocation}
 use Rattle.goo_cli.specs.declared.line_fault.LineFault.{LineFault}
 use Rattle.goo_cli.specs.declared.line_fault.LineFault.TheVariants as fault
 
@@ -78,12 +78,12 @@ task-told words e told kinds (inl memory) = rw memory.1 tt
 task-told words e told (inl memory) (inr text) = absurd (text.0 memory)
 task-told words e told (inr among) (inr text) = rw text.1 (refused (fault_of goo_app words) (task_named (subcommand_of goo_app words)) (kind_of e) among)
 
-pub task-refused : (a : App) (words : List Text) (e : Error) (r : Result Task LineFault) → a ≡ goo_app → HasKind (fault_of a words) e → IsErrAnd r (TellsWords e) → IfErr r (NoTask (task_in words))
+pub task-refused : (a : App) (words : List Text) (e : Error) (r : Result Invocation LineFault) → a ≡ goo_app → HasKind (fault_of a words) e → IsErrAnd r (TellsWords e) → IfErr r (NoTask (task_in words))
 task-refused a words e (Ok task) same kinds tells = tt
 task-refused a words e (Err told) same kinds tells = task-told words e told (rw same at kinds) tells
 
 -- a task, or a fault, by what the words ask for
-pub task-given : (wanted : Result Asked LineFault) (r : Result Task LineFault) → asked r ≡ wanted → IfOk r (λ task. result_ok wanted ≡ Some (asked_by task))
+pub task-given : (wanted : Result Asked LineFault) (r : Result Invocation LineFault) → asked r ≡ wanted → IfOk r (λ task. result_ok wanted ≡ Some (asked_by task))
 task-given wanted (Ok task) e = sym (ap result_ok e)
 task-given wanted (Err fault) e = tt
 
@@ -97,7 +97,7 @@ no-task given fault.NotNew e = sym e
 no-task given (fault.Missing setting) e = sym e
 no-task given (fault.Wrong setting) e = sym e
 
-pub no-task-given : (wanted : Result Asked LineFault) (r : Result Task LineFault) → asked r ≡ wanted → IfErr r (NoTask (result_ok wanted))
+pub no-task-given : (wanted : Result Asked LineFault) (r : Result Invocation LineFault) → asked r ≡ wanted → IfErr r (NoTask (result_ok wanted))
 no-task-given wanted (Ok task) e = tt
 no-task-given wanted (Err told) e = no-task (result_ok wanted) told (ap result_ok e)
 
@@ -110,17 +110,17 @@ words-told (k ∷ kinds) wanted e told (inl memory) (inr text) = absurd (text.0 
 words-told [] wanted e told (inr among) (inr text) = absurd among
 words-told (k ∷ kinds) wanted e told (inr among) (inr text) = inr (e, text.1, among)
 
-pub fault-refused : (a : App) (words : List Text) (e : Error) (r : Result Task LineFault) → a ≡ goo_app → HasKind (fault_of a words) e → IsErrAnd r (TellsWords e) → IfErr r (FaultIn words)
+pub fault-refused : (a : App) (words : List Text) (e : Error) (r : Result Invocation LineFault) → a ≡ goo_app → HasKind (fault_of a words) e → IsErrAnd r (TellsWords e) → IfErr r (FaultIn words)
 unfolding FaultIn
 fault-refused a words e (Ok task) same kinds tells = tt
 fault-refused a words e (Err told) same kinds tells = words-told (fault_of goo_app words) (task_named (subcommand_of goo_app words)) e told (rw same at kinds) tells
 
-command-told : (kinds : Kinds) (wanted : Result Asked LineFault) (r : Result Task LineFault) → kinds ≡ [] → asked r ≡ wanted → IfErr r (TellsFault kinds wanted)
+command-told : (kinds : Kinds) (wanted : Result Asked LineFault) (r : Result Invocation LineFault) → kinds ≡ [] → asked r ≡ wanted → IfErr r (TellsFault kinds wanted)
 command-told kinds wanted (Ok task) none e = tt
 command-told [] wanted (Err told) none e = inr (sym e)
 command-told (k ∷ kinds) wanted (Err told) none e = absurd (cc none)
 
-pub fault-given : (a : App) (words : List Text) (m : ArgMatches) (r : Result Task LineFault) → a ≡ goo_app → fault_of a words ≡ [] → HasMatchesOf a words m → is_simple a ≡ true → asked r ≡ task_named (subcommand_rows_of m) → IfErr r (FaultIn words)
+pub fault-given : (a : App) (words : List Text) (m : ArgMatches) (r : Result Invocation LineFault) → a ≡ goo_app → fault_of a words ≡ [] → HasMatchesOf a words m → is_simple a ≡ true → asked r ≡ task_named (subcommand_rows_of m) → IfErr r (FaultIn words)
 unfolding FaultIn
 fault-given a words m r same kinds found simple e =
     let rows = (found simple).1 in
@@ -131,7 +131,7 @@ pub memory-told : (kinds : Kinds) (wanted : Result Asked LineFault) → TellsFau
 memory-told [] wanted = inl refl
 memory-told (k ∷ kinds) wanted = inl refl
 
-pub fault-out_of_memory : (words : List Text) (r : Result Task LineFault) → IsErrAnd r (λ told. told ≡ fault.Memory) → IfErr r (FaultIn words)
+pub fault-out_of_memory : (words : List Text) (r : Result Invocation LineFault) → IsErrAnd r (λ told. told ≡ fault.Memory) → IfErr r (FaultIn words)
 unfolding FaultIn
 fault-out_of_memory words (Ok task) told = tt
 fault-out_of_memory words (Err told) e = rw e (memory-told (fault_of goo_app words) (task_named (subcommand_of goo_app words)))

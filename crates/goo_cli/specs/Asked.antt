@@ -1,7 +1,7 @@
 -- What a command line asks for, with the texts of its paths.
 use Rattle.std.specs.Prelude.{ℕ, List, Result, Ok, Err}
-use Rattle.goo_cli.specs.declared.task.Task.{Task}
-use Rattle.goo_cli.specs.declared.task.Task.TheVariants as task
+use Rattle.goo_cli.specs.declared.task.Invocation.{Invocation}
+use Rattle.goo_cli.specs.declared.task.Invocation.TheVariants as task
 use Rattle.goo_cli.specs.declared.task.Records.{Records}
 use Rattle.goo_cli.specs.declared.task.Records.TheVariants as place
 use Rattle.goo_cli.specs.declared.task.Opening.{Opening}
@@ -25,7 +25,7 @@ abbrev pub where_of : Records → Where
 where_of (place.Memory opening) = InMemory opening
 where_of (place.File file) = InFile file.now
 
-abbrev pub asked_by : Task → Asked
+abbrev pub asked_by : Invocation → Asked
 asked_by (task.Init file opening) = Init file.now opening
 asked_by (task.Run place) = Run (where_of place)
 asked_by (task.Declare file) = Declare file.now
@@ -37,6 +37,6 @@ abbrev pub asked_place : Result Records LineFault → Result Where LineFault
 asked_place (Ok place) = Ok (where_of place)
 asked_place (Err fault) = Err fault
 
-abbrev pub asked : Result Task LineFault → Result Asked LineFault
+abbrev pub asked : Result Invocation LineFault → Result Asked LineFault
 asked (Ok task) = Ok (asked_by task)
 asked (Err fault) = Err fault

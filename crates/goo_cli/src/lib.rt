@@ -16,6 +16,6 @@ mod words;
 
 pub use line_fault::LineFault;
 pub use setting::Setting;
-pub use task::{Opening, Records, Serving, Task};
+pub use task::{Invocation, Opening, Records, Serving};
 pub use values::{code_in, day_in, serial_in};
 pub use words::read_task;

@@ -5,7 +5,7 @@ use goo_types::serial::Serial;
 
 /// What a command line asks for. A file is named by its path.
 #[derive(Clone, Copy)]
-pub enum Task<'a> {
+pub enum Invocation<'a> {
     /// Make a new registry in the file.
     Init(&'a str, Opening),
     /// Answer the requests of standard input, one a line.

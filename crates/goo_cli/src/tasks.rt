@@ -7,7 +7,7 @@ ghost use Rattle.goo_cli.specs.Readings.{code_reading, today_reading, serial_rea
 use crate::given::Given;
 use crate::line_fault::LineFault;
 use crate::setting::Setting;
-use crate::task::{Opening, Records, Serving, Task};
+use crate::task::{Invocation, Opening, Records, Serving};
 use crate::values::{account_in, code_in, count_in, day_in, port_in, serial_in};
 use crate::verb::Verb;
 use goo_types::account_no::AccountNo;
@@ -120,12 +120,12 @@ fn serving_given(given: &Given<'_>) -> Result<Serving, LineFault>
 }
 
 /// The task of `init`.
-fn init_given<'a>(given: &Given<'a>) -> Result<Task<'a>, LineFault>
+fn init_given<'a>(given: &Given<'a>) -> Result<Invocation<'a>, LineFault>
     ensures { asked result ≡ init_given (values_of given.now) }
 {
     match given.file {
         Some(file) => match opening_given(given) {
-            Ok(opening) => Ok(Task::Init(file, opening)),
+            Ok(opening) => Ok(Invocation::Init(file, opening)),
             Err(fault) => Err(fault),
         },
         None => Err(LineFault::Missing(Setting::File)),
@@ -133,32 +133,32 @@ fn init_given<'a>(given: &Given<'a>) -> Result<Task<'a>, LineFault>
 }
 
 /// The task of `run`.
-fn run_given<'a>(given: &Given<'a>) -> Result<Task<'a>, LineFault>
+fn run_given<'a>(given: &Given<'a>) -> Result<Invocation<'a>, LineFault>
     ensures { asked result ≡ run_given (values_of given.now) }
 {
     match place_given(given) {
-        Ok(place) => Ok(Task::Run(place)),
+        Ok(place) => Ok(Invocation::Run(place)),
         Err(fault) => Err(fault),
     }
 }
 
 /// The task of `declare`.
-fn declare_given<'a>(given: &Given<'a>) -> Result<Task<'a>, LineFault>
+fn declare_given<'a>(given: &Given<'a>) -> Result<Invocation<'a>, LineFault>
     ensures { asked result ≡ declare_given (values_of given.now) }
 {
     match given.file {
-        Some(file) => Ok(Task::Declare(file)),
+        Some(file) => Ok(Invocation::Declare(file)),
         None => Err(LineFault::Missing(Setting::File)),
     }
 }
 
 /// The task of `statement`.
-fn statement_given<'a>(given: &Given<'a>) -> Result<Task<'a>, LineFault>
+fn statement_given<'a>(given: &Given<'a>) -> Result<Invocation<'a>, LineFault>
     ensures { asked result ≡ statement_given (values_of given.now) }
 {
     match given.file {
         Some(file) => match account_given(given) {
-            Ok(account) => Ok(Task::Statement(file, account)),
+            Ok(account) => Ok(Invocation::Statement(file, account)),
             Err(fault) => Err(fault),
         },
         None => Err(LineFault::Missing(Setting::File)),
@@ -166,22 +166,22 @@ fn statement_given<'a>(given: &Given<'a>) -> Result<Task<'a>, LineFault>
 }
 
 /// The task of `audit`.
-fn audit_given<'a>(given: &Given<'a>) -> Result<Task<'a>, LineFault>
+fn audit_given<'a>(given: &Given<'a>) -> Result<Invocation<'a>, LineFault>
     ensures { asked result ≡ audit_given (values_of given.now) }
 {
     match given.file {
-        Some(file) => Ok(Task::Audit(file)),
+        Some(file) => Ok(Invocation::Audit(file)),
         None => Err(LineFault::Missing(Setting::File)),
     }
 }
 
 /// The task of `serve`.
-fn serve_given<'a>(given: &Given<'a>) -> Result<Task<'a>, LineFault>
+fn serve_given<'a>(given: &Given<'a>) -> Result<Invocation<'a>, LineFault>
     ensures { asked result ≡ serve_given (values_of given.now) }
 {
     match serving_given(given) {
         Ok(serving) => match place_given(given) {
-            Ok(place) => Ok(Task::Serve(place, serving)),
+            Ok(place) => Ok(Invocation::Serve(place, serving)),
             Err(fault) => Err(fault),
         },
         Err(fault) => Err(fault),
@@ -189,7 +189,7 @@ fn serve_given<'a>(given: &Given<'a>) -> Result<Task<'a>, LineFault>
 }
 
 /// The task of a command with its options.
-pub fn task_by<'a>(verb: Verb, given: &Given<'a>) -> Result<Task<'a>, LineFault>
+pub fn task_by<'a>(verb: Verb, given: &Given<'a>) -> Result<Invocation<'a>, LineFault>
     ensures { asked result ≡ task_by verb (values_of given.now) }
 {
     match verb {

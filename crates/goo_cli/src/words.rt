@@ -11,7 +11,7 @@ ghost use Rattle.goo_cli.specs.Line.{option_rule, flag_rule, word_rule, with_ver
 use crate::given::read_options;
 use crate::help;
 use crate::line_fault::LineFault;
-use crate::task::Task;
+use crate::task::Invocation;
 use crate::tasks::task_by;
 use crate::verb::verb_in;
 use clap::{Arg, ArgAction, ArgMatches, Command};
@@ -207,7 +207,7 @@ fn program_command<'a>(alloc: Global) -> Result<Command<'a>, AllocError>
 }
 
 /// The task of the command that the words name.
-fn task_named<'a>(matches: &ArgMatches<'a>) -> Result<Task<'a>, LineFault>
+fn task_named<'a>(matches: &ArgMatches<'a>) -> Result<Invocation<'a>, LineFault>
     ensures { asked result ≡ task_named (subcommand_rows_of matches.now) }
 {
     match matches.subcommand() {
@@ -225,7 +225,7 @@ fn task_named<'a>(matches: &ArgMatches<'a>) -> Result<Task<'a>, LineFault>
 ///
 /// Where the words aren't a command of the program with its options, a value is missing or refused, or they ask for help or the version;
 /// and `Memory`, where there is no room to read them.
-pub fn read_task<'a, S: AsStr>(alloc: Global, words: &'a [S]) -> Result<Task<'a>, LineFault>
+pub fn read_task<'a, S: AsStr>(alloc: Global, words: &'a [S]) -> Result<Invocation<'a>, LineFault>
     ensures task { IfOk result (λ task. task_in (map S.text words.now) ≡ Some (asked_by task)) }
     ensures none { IfErr result (NoTask (task_in (map S.text words.now))) }
     ensures told { IfErr result (FaultIn (map S.text words.now)) }

@@ -10,8 +10,8 @@ use Rattle.goo_cli.specs.declared.line_fault.LineFault.{LineFault}
 use Rattle.goo_cli.specs.declared.line_fault.LineFault.TheVariants as line
 use Rattle.goo_cli_ending.specs.declared.ending.Ending.{Ending}
 use Rattle.goo_cli_ending.specs.declared.ending.Ending.TheVariants as ending
-use Rattle.goo_cli_ending.specs.declared.ending.Denial.{Denial}
-use Rattle.goo_cli_ending.specs.declared.ending.Denial.TheVariants as denial
+use Rattle.goo_cli_ending.specs.declared.ending.NotDone.{NotDone}
+use Rattle.goo_cli_ending.specs.declared.ending.NotDone.TheVariants as denial
 use Rattle.goo_cli_ending.specs.declared.ending.Failure.{Failure}
 use Rattle.goo_cli_ending.specs.declared.ending.Failure.TheVariants as failure
 
@@ -33,7 +33,7 @@ failure_text failure.NotARegistry = codes "goo: not a registry"
 failure_text (failure.Version version) = codes "goo: version " ++ decimal version
 failure_text failure.Damaged = codes "goo: damaged"
 
-abbrev pub denial_text : Denial → List ℕ
+abbrev pub denial_text : NotDone → List ℕ
 denial_text denial.AlreadyThere = codes "goo: already there"
 denial_text denial.UnknownAccount = codes "goo: unknown account"
 denial_text denial.Header = codes "goo: header"

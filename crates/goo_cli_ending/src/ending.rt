@@ -70,7 +70,7 @@ impl From<LinesFault> for Failure {
 
 /// Why nothing was done, where what was asked for is not there, or is there already.
 #[derive(Debug, Clone, Copy, PartialEq, Eq)]
-pub enum Denial {
+pub enum NotDone {
     /// A registry is in the file already.
     AlreadyThere,
     /// No account has this number.
@@ -79,15 +79,15 @@ pub enum Denial {
     Header,
 }
 
-impl Denial {
+impl NotDone {
     /// The line that tells it.
     pub fn text(self) -> &'static str
         ensures { result.now ≡ denial_text self }
     {
         match self {
-            Denial::AlreadyThere => "goo: already there",
-            Denial::UnknownAccount => "goo: unknown account",
-            Denial::Header => "goo: header",
+            NotDone::AlreadyThere => "goo: already there",
+            NotDone::UnknownAccount => "goo: unknown account",
+            NotDone::Header => "goo: header",
         }
     }
 }
@@ -100,7 +100,7 @@ pub enum Ending {
     /// Something was refused or unreadable; all else was done.
     PartlyDone,
     /// Nothing was done: why.
-    Denied(Denial),
+    Denied(NotDone),
     /// `clap` refuses the command line, or it asks for help.
     Words(Error),
     /// The command line asks for nothing that the program does: why.

@@ -7,4 +7,4 @@ mod ending;
 mod settings;
 
 pub use answering::answer_input;
-pub use ending::{Denial, Ending, Failure};
+pub use ending::{Ending, Failure, NotDone};

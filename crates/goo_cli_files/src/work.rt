@@ -11,7 +11,7 @@ ghost use Rattle.goo_cli_files.specs.Works.{asked_for, IsWorked};
 use crate::in_files::{audit_in_files, declare_in_files, statement_in_files};
 use crate::memory_work::MemoryWork;
 use crate::serving::serve_in_files;
-use goo_cli::{Opening, Records, Serving, Task};
+use goo_cli::{Invocation, Opening, Records, Serving};
 use goo_cli_ending::Ending;
 use goo_cli_http::Listener;
 use goo_cli_registry::closing::Left;
@@ -62,20 +62,25 @@ pub fn copy_of(opening: &Opening) -> Opening
 }
 
 /// The job of a task.
-pub fn job_of<'a>(task: &Task<'a>) -> Job<'a>
+pub fn job_of<'a>(task: &Invocation<'a>) -> Job<'a>
     ensures { asked_for result ≡ asked_by task.now }
 {
     match task {
-        Task::Init(path, opening) => Job::Make(*path, copy_of(opening)),
-        Task::Run(Records::Memory(opening)) => { Job::InMemory(copy_of(opening), MemoryWork::Run) }
-        Task::Run(Records::File(path)) => Job::InFile(*path, Work::Run),
-        Task::Declare(path) => Job::InFile(*path, Work::Declare),
-        Task::Statement(path, account) => Job::InFile(*path, Work::Statement(*account)),
-        Task::Audit(path) => Job::InFile(*path, Work::Audit),
-        Task::Serve(Records::Memory(opening), serving) => {
+        Invocation::Init(path, opening) => Job::Make(*path, copy_of(opening)),
+        Invocation::Run(Records::Memory(opening)) => {
+            Job::InMemory(copy_of(opening), MemoryWork::Run)
+        }
+        Invocation::Run(Records::File(path)) => Job::InFile(*path, Work::Run),
+        Invocation::Declare(path) => Job::InFile(*path, Work::Declare),
+        Invocation::Statement(path, account) => Job::InFile(*path, Work::Statement(*account)),
+        Invocation::Audit(path) => Job::InFile(*path, Work::Audit),
+        Invocation::Serve(Records::Memory(opening), serving) => {
             Job::InMemory(copy_of(opening), MemoryWork::Serve(*serving))
         }
-        Task::Serve(Records::File(path), serving) => Job::InFile(*path, Work::Serve(*serving)),
+        Invocation::Serve(Records::File(path), serving) => Job::InFile(
+            *path,
+            Work::Serve(*serving),
+        ),
     }
 }
 

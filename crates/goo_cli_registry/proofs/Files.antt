@@ -40,7 +40,7 @@ use Rattle.goo_spec.specs.State as registry
 use Rattle.goo_store_open.specs.Found.{IsOutside}
 use Rattle.goo_store_open.specs.declared.fault.OpenFault.{OpenFault}
 use Rattle.goo_store_open.specs.declared.fault.OpenFault.TheVariants as opening
-use Rattle.goo_cli_ending.specs.declared.ending.Denial.TheVariants.{AlreadyThere}
+use Rattle.goo_cli_ending.specs.declared.ending.NotDone.TheVariants.{AlreadyThere}
 use Rattle.goo_cli_ending.specs.declared.ending.Ending.{Ending}
 use Rattle.goo_cli_ending.specs.declared.ending.Ending.TheVariants.{Denied, Failed}
 use Rattle.goo_cli_ending.specs.declared.ending.Failure.{Failure}

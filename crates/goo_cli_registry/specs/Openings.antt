@@ -17,7 +17,7 @@ use Rattle.goo_store_open.specs.declared.fault.OpenFault.{OpenFault}
 use Rattle.goo_store_open.specs.declared.fault.OpenFault.TheVariants as opening
 use Rattle.goo_cli_ending.specs.declared.ending.Ending.{Ending}
 use Rattle.goo_cli_ending.specs.declared.ending.Ending.TheVariants as ending
-use Rattle.goo_cli_ending.specs.declared.ending.Denial.TheVariants as denial
+use Rattle.goo_cli_ending.specs.declared.ending.NotDone.TheVariants as denial
 use Rattle.goo_cli_ending.specs.declared.ending.Failure.{Failure}
 use Rattle.goo_cli_ending.specs.declared.ending.Failure.TheVariants as failure
 use Rattle.goo_cli_registry.specs.declared.start.Start.{Start}

@@ -11,7 +11,7 @@ use crate::closing::{Left, close_registry};
 use crate::opening::{begin, failure_of, file_options, open_database};
 use crate::start::Start;
 use goo_cli::Opening;
-use goo_cli_ending::{Denial, Ending, Failure};
+use goo_cli_ending::{Ending, Failure, NotDone};
 use goo_store_open::fault::OpenFault;
 use goo_types::registry_code::RegistryCode;
 use sqlite::{Files, Leftover};
@@ -24,7 +24,7 @@ fn ending_of(fault: OpenFault) -> Ending
     ensures { result ≡ ending_of_opening fault }
 {
     match fault {
-        OpenFault::AlreadyThere => Ending::Denied(Denial::AlreadyThere),
+        OpenFault::AlreadyThere => Ending::Denied(NotDone::AlreadyThere),
         other => Ending::Failed(failure_of(other)),
     }
 }
@@ -46,7 +46,7 @@ fn create_registry<D: Disk + Drop>(
     ensures words { IfErr result (λ e. (fault : OpenFault) × (e.0 ≡ ending_of_opening fault)) }
     ensures held { IfOk result (λ left. IsClean left → SparesOrMakes files (created opening.code opening.today opening.next_serial) left) }
     ensures left { IfErr result (λ e. IsClean e.1 → SparesOrMakes files (created opening.code opening.today opening.next_serial) e.1) }
-    ensures there { IfErr result (λ e. e.0 ≡ Ending.Denied Denial.AlreadyThere → IsClean e.1 → Spares files e.1) }
+    ensures there { IfErr result (λ e. e.0 ≡ Ending.Denied NotDone.AlreadyThere → IsClean e.1 → Spares files e.1) }
     ensures copied { IfOk result HasSpareLog }
     ensures uncopied { IfErr result (λ e. HasSpareLog e.1) }
 {
@@ -126,7 +126,7 @@ pub fn init_in_files<D: Disk + Drop, W: Write + Drop>(
     ensures unready { IsMade result.1 (created opening.code opening.today opening.next_serial) ⊎ Keeps (writer_contents W.contents writer.old) (writer_contents W.contents writer.new) }
     ensures said { status_of result.0 ≡ 0 → Appends (writer_contents W.contents writer.old) (writer_contents W.contents writer.new) (ready_text opening.code) }
     ensures flushed { status_of result.0 ≡ 0 → writer_buffer writer.new ≡ [] }
-    ensures there { status_of result.0 ≡ 1 → (result.0 ≡ Ending.Denied Denial.AlreadyThere) × (IsClean result.1 → Spares files result.1) }
+    ensures there { status_of result.0 ≡ 1 → (result.0 ≡ Ending.Denied NotDone.AlreadyThere) × (IsClean result.1 → Spares files result.1) }
     ensures left { IsClean result.1 → SparesOrMakes files (created opening.code opening.today opening.next_serial) result.1 }
     ensures copied { HasSpareLog result.1 }
 {

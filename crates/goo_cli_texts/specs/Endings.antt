@@ -3,10 +3,10 @@ use Rattle.std.specs.Prelude.{Bool, true, false, List, Option, Some, None, Resul
 use Rattle.std.specs.List.{list_all}
 use Rattle.goo_cli_ending.specs.declared.ending.Ending.{Ending}
 use Rattle.goo_cli_ending.specs.declared.ending.Ending.TheVariants as ending
-use Rattle.goo_cli_ending.specs.declared.ending.Denial.TheVariants as denial
+use Rattle.goo_cli_ending.specs.declared.ending.NotDone.TheVariants as denial
 use Rattle.goo_cli_ending.specs.declared.ending.Failure.TheVariants as failure
-use Rattle.goo_files.specs.declared.text_fault.TextFault.{TextFault}
-use Rattle.goo_files.specs.declared.text_fault.TextFault.TheVariants as text
+use Rattle.goo_files.specs.declared.text_fault.ShowFault.{ShowFault}
+use Rattle.goo_files.specs.declared.text_fault.ShowFault.TheVariants as text
 use Rattle.goo_files_import.specs.declared.cause.Cause.{Cause}
 use Rattle.goo_files_import.specs.declared.cause.Cause.TheVariants as cause
 use Rattle.goo_files_import.specs.declared.row_result.RowResult.{RowResult}
@@ -14,7 +14,7 @@ use Rattle.goo_files_import.specs.declared.row_result.RowResult.TheVariants as r
 
 -- a text that was written, and an output that went out whole or did not. The issuing body may see all that is there, so what it may not
 -- see is not there.
-abbrev pub ending_of_text : Result (Unit {0}) TextFault → Bool → Ending
+abbrev pub ending_of_text : Result (Unit {0}) ShowFault → Bool → Ending
 ending_of_text (Ok done) true = ending.Done
 ending_of_text (Ok done) false = ending.Failed failure.Write
 ending_of_text (Err text.NotAllowed) out = ending.Denied denial.UnknownAccount

@@ -14,7 +14,7 @@ ghost use Rattle.goo_spec.specs.Sound.{IsSound};
 
 use crate::issuer::issuer;
 use crate::progress_line::ProgressLine;
-use goo_cli_ending::{Denial, Ending, Failure};
+use goo_cli_ending::{Ending, Failure, NotDone};
 use goo_core_shelf::shelf::Shelf;
 use goo_files::{Cause, Report, RowResult, import_declarations_watched, write_report};
 use goo_registry::Registry;
@@ -43,7 +43,7 @@ fn ending_of(cause: Option<Cause>, all_stand: bool, flushed: bool) -> Ending
     ensures { result ≡ ending_of_import cause all_stand flushed }
 {
     match cause {
-        Some(Cause::Header) => Ending::Denied(Denial::Header),
+        Some(Cause::Header) => Ending::Denied(NotDone::Header),
         Some(Cause::Read) => Ending::Failed(Failure::Read),
         Some(Cause::Store) => Ending::Failed(Failure::Store),
         Some(Cause::Memory) => Ending::Failed(Failure::Memory),

@@ -5,7 +5,7 @@ ghost use Rattle.arrayvec.specs.ArrayString.{array_string_len};
 ghost use Rattle.goo_cli_texts.specs.Progress.{progress_text};
 
 use arrayvec::ArrayString;
-use goo_files::Progress;
+use goo_files::ImportWatcher;
 use goo_files_streams::{WriteFault, write_whole};
 use itoa::Buffer;
 use std::io::Write;
@@ -86,7 +86,7 @@ impl<T: Write> ProgressLine<T> {
     }
 }
 
-impl<T: Write> Progress for ProgressLine<T> {
+impl<T: Write> ImportWatcher for ProgressLine<T> {
     fn is_watched(&self) -> bool {
         self.terminal.is_some()
     }

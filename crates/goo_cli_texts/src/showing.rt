@@ -10,25 +10,25 @@ ghost use Rattle.goo_cli_ending.specs.Endings.{status_of};
 ghost use Rattle.goo_cli_texts.specs.Endings.{ending_of_text};
 
 use crate::issuer::issuer;
-use goo_cli_ending::{Denial, Ending, Failure};
+use goo_cli_ending::{Ending, Failure, NotDone};
 use goo_core_shelf::shelf::Shelf;
-use goo_files::{TextFault, write_audit, write_statement};
+use goo_files::{ShowFault, write_audit, write_statement};
 use goo_registry::Registry;
 use goo_types::account_no::AccountNo;
 use std::alloc::Global;
 use std::io::{BufWriter, Write};
 
 /// How a command ends that wrote a text, whose output went out whole or did not.
-fn ending_of(written: Result<(), TextFault>, flushed: bool) -> Ending
+fn ending_of(written: Result<(), ShowFault>, flushed: bool) -> Ending
     ensures { result ≡ ending_of_text written flushed }
 {
     match written {
         Ok(()) if flushed => Ending::Done,
         Ok(()) => Ending::Failed(Failure::Write),
-        Err(TextFault::NotAllowed | TextFault::Unknown) => Ending::Denied(Denial::UnknownAccount),
-        Err(TextFault::Write) => Ending::Failed(Failure::Write),
-        Err(TextFault::Store) => Ending::Failed(Failure::Store),
-        Err(TextFault::Memory) => Ending::Failed(Failure::Memory),
+        Err(ShowFault::NotAllowed | ShowFault::Unknown) => Ending::Denied(NotDone::UnknownAccount),
+        Err(ShowFault::Write) => Ending::Failed(Failure::Write),
+        Err(ShowFault::Store) => Ending::Failed(Failure::Store),
+        Err(ShowFault::Memory) => Ending::Failed(Failure::Memory),
     }
 }
 

@@ -8,11 +8,11 @@ use Rattle.goo_spec.specs.State.{State}
 use Rattle.goo_desk_body.specs.Body.{body_of}
 use Rattle.goo_desk_lines.specs.Answers.{answer_by, state_by, answer_text}
 use Rattle.goo_desk_lines.specs.Lines.{body_reading}
-use Rattle.goo_desk_lines.specs.declared.answer.Answer.{Answer}
-use Rattle.goo_desk_lines.specs.declared.answer.Answer.TheVariants as answer
+use Rattle.goo_desk_lines.specs.declared.answer.LineAnswer.{LineAnswer}
+use Rattle.goo_desk_lines.specs.declared.answer.LineAnswer.TheVariants as answer
 use Rattle.goo_desk_heads.specs.Requests.{Decides, Parts, is_for_head}
-use Rattle.goo_desk_heads.specs.declared.refusal.Refusal.{Refusal as HeadRefusal}
-use Rattle.goo_desk_heads.specs.declared.refusal.Refusal.TheVariants as head
+use Rattle.goo_desk_heads.specs.declared.refusal.HeadFault.{HeadFault as HeadRefusal}
+use Rattle.goo_desk_heads.specs.declared.refusal.HeadFault.TheVariants as head
 use Rattle.goo_desk_heads.specs.declared.request.RefusedHead.{RefusedHead}
 use Rattle.goo_desk_responses.specs.Responses.{Response, response_of, response_text, fixed}
 use Rattle.goo_desk_responses.specs.declared.content.Content.{Content}
@@ -41,18 +41,18 @@ status_of_outcome (Accepted reply) = status.Done
 status_of_outcome (Repeated reply) = status.Done
 status_of_outcome (Refused refusal) = status_of_refusal refusal
 
-abbrev pub status_of_answer : Answer → Status
+abbrev pub status_of_answer : LineAnswer → Status
 status_of_answer (answer.Decided outcome) = status_of_outcome outcome
 status_of_answer (answer.Unreadable reason) = status.BadRequest
 
 -- what the body of a caller's request is answered, and the state after it: as a line of these
-unfoldable pub applied : State → List ℕ → List ℕ → Answer
+unfoldable pub applied : State → List ℕ → List ℕ → LineAnswer
 applied s caller body = answer_by s (body_reading (body_of caller body))
 
 unfoldable pub state_applied : State → List ℕ → List ℕ → State
 state_applied s caller body = state_by s (body_reading (body_of caller body))
 
-abbrev pub apply_response : Answer → Response
+abbrev pub apply_response : LineAnswer → Response
 apply_response given = response_of (status_of_answer given) Json (answer_text given)
 
 -- ---- what is shown

@@ -11,7 +11,7 @@ use crate::answered::Answer;
 use arrayvec::ArrayString;
 use goo_desk_body::read_command;
 use goo_desk_counter::Counter;
-use goo_desk_lines::{Answer as Given, Unread};
+use goo_desk_lines::{LineAnswer as Given, Unread};
 use goo_desk_responses::{Content, ROOM, Status, short_response};
 use goo_types::fault::Fault;
 use goo_types::holder_code::HolderCode;

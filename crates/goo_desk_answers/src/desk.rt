@@ -14,7 +14,7 @@ use crate::handling::{Handling, handling_for};
 use crate::import::answer_import;
 use crate::show::answer_show;
 use goo_desk_counter::Counter;
-use goo_desk_heads::{Method, Received, Refusal, RefusedHead, is_for_head, read_request};
+use goo_desk_heads::{HeadFault, Method, Received, RefusedHead, is_for_head, read_request};
 use goo_desk_responses::{Status, fixed_response};
 use goo_desk_routes::{Routes, Task};
 use goo_types::fault::Fault;
@@ -22,13 +22,13 @@ use goo_types::holder_code::HolderCode;
 use std::alloc::{AllocError, Global};
 
 /// The status of a request that is refused for its head.
-fn status_of(why: Refusal) -> Status
+fn status_of(why: HeadFault) -> Status
     ensures { result ≡ status_of_head why }
 {
     match why {
-        Refusal::BadRequest => Status::BadRequest,
-        Refusal::TooLarge => Status::TooLarge,
-        Refusal::NotImplemented => Status::NotImplemented,
+        HeadFault::BadRequest => Status::BadRequest,
+        HeadFault::TooLarge => Status::TooLarge,
+        HeadFault::NotImplemented => Status::NotImplemented,
     }
 }
 

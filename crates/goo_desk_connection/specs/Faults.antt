@@ -1,11 +1,11 @@
 -- What the faults of streams become.
 use Rattle.std.specs.Prelude.{◌≡◌, ℕ, Result, Ok, Err}
-use Rattle.goo_files_streams.specs.declared.ReadFault.{ReadFault}
-use Rattle.goo_files_streams.specs.declared.ReadFault.TheVariants as reading
+use Rattle.goo_files_streams.specs.declared.InputFault.{InputFault}
+use Rattle.goo_files_streams.specs.declared.InputFault.TheVariants as reading
 use Rattle.goo_desk_connection.specs.declared.serve_fault.ServeFault.{ServeFault}
 use Rattle.goo_desk_connection.specs.declared.serve_fault.ServeFault.TheVariants.{Read, Write, Store, Memory}
 
-abbrev pub of_reading : ReadFault → ServeFault
+abbrev pub of_reading : InputFault → ServeFault
 of_reading reading.Read = Read
 of_reading reading.Memory = Memory
 

@@ -3,7 +3,7 @@ ghost use Rattle.std.specs.Prelude.{◌≡◌, IfOk};
 ghost use Rattle.goo_desk_connection.specs.Reading.{StandsFor};
 
 use goo_desk_heads::is_decided;
-use goo_files_streams::{ReadFault, read_some};
+use goo_files_streams::{InputFault, read_some};
 use std::alloc::Global;
 use std::io::Read;
 
@@ -15,7 +15,7 @@ use std::io::Read;
 /// # Errors
 ///
 /// `Read` where a read fails, `Memory` where there is no room. What was read up to then is lost.
-pub fn read_decided<R: Read>(alloc: Global, reader: &mut R) -> Result<Vec<u8>, ReadFault>
+pub fn read_decided<R: Read>(alloc: Global, reader: &mut R) -> Result<Vec<u8>, InputFault>
     ensures { IfOk result (λ bytes. StandsFor (R.remaining reader.old) bytes.items) }
 {
     let mut bytes = Vec::new(alloc);

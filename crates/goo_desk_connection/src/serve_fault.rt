@@ -2,7 +2,7 @@ ghost use Rattle.std.specs.Prelude.{◌≡◌};
 ghost use Rattle.goo_desk_connection.specs.Faults.{of_reading};
 ghost use Rattle.goo_desk_connection.specs.declared.serve_fault.ServeFault.TheVariants.{Write};
 
-use goo_files_streams::{ReadFault, WriteFault};
+use goo_files_streams::{InputFault, WriteFault};
 
 /// Why a connection was not served.
 #[derive(Debug, Clone, Copy, PartialEq, Eq)]
@@ -17,13 +17,13 @@ pub enum ServeFault {
     Memory,
 }
 
-impl From<ReadFault> for ServeFault {
+impl From<InputFault> for ServeFault {
     ghost from_gives = { λ of fault. fault ≡ of_reading of };
 
-    fn from(fault: ReadFault) -> Self {
+    fn from(fault: InputFault) -> Self {
         match fault {
-            ReadFault::Read => ServeFault::Read,
-            ReadFault::Memory => ServeFault::Memory,
+            InputFault::Read => ServeFault::Read,
+            InputFault::Memory => ServeFault::Memory,
         }
     }
 }

@@ -6,14 +6,14 @@ use Rattle.goo_registry.specs.Desks.{seen_of}
 use Rattle.goo_core_answers.specs.declared.denial.Denial.{Denial}
 use Rattle.goo_core_answers.specs.declared.denial.Denial.TheVariants as denied
 use Rattle.goo_files.specs.Writes.{Writes}
-use Rattle.goo_files.specs.declared.text_fault.TextFault.{TextFault}
-use Rattle.goo_files.specs.declared.text_fault.TextFault.TheVariants as fault
+use Rattle.goo_files.specs.declared.text_fault.ShowFault.{ShowFault}
+use Rattle.goo_files.specs.declared.text_fault.ShowFault.TheVariants as fault
 use Rattle.goo_desk_routes.specs.declared.task.Subject.{Subject}
 use Rattle.goo_desk_counter.specs.Counters.{Shows}
 use Rattle.goo_desk_counter.specs.Made.{shown_as}
 use Rattle.goo_desk_counter.specs.Showing.{shown_by, IsTextUnless}
 
-pub shows-text : (old new : Moment) (caller : List ℕ) (subject : Subject) (bytes : Vec ℕ Global) (before : List ℕ) (written : Result (Unit {0}) TextFault) (denial : Option Denial) (right : List ℕ → Type 0)
+pub shows-text : (old new : Moment) (caller : List ℕ) (subject : Subject) (bytes : Vec ℕ Global) (before : List ℕ) (written : Result (Unit {0}) ShowFault) (denial : Option Denial) (right : List ℕ → Type 0)
     → before ≡ []
     → ((given : Result (List ℕ) Denial) → IsTextUnless denial right given → shown_by old.state caller subject given)
     → Writes old new (Some before) (Some bytes.items) written denial (λ u. right)

@@ -5,8 +5,8 @@ use Rattle.goo_types.specs.declared.fault.Fault.{Fault}
 use Rattle.goo_types.specs.declared.fault.Fault.TheVariants as fault
 use Rattle.goo_core_answers.specs.declared.denial.Denial.{Denial}
 use Rattle.goo_core_answers.specs.declared.denial.Denial.TheVariants as denial
-use Rattle.goo_files.specs.declared.text_fault.TextFault.{TextFault}
-use Rattle.goo_files.specs.declared.text_fault.TextFault.TheVariants as text
+use Rattle.goo_files.specs.declared.text_fault.ShowFault.{ShowFault}
+use Rattle.goo_files.specs.declared.text_fault.ShowFault.TheVariants as text
 use Rattle.goo_files_import.specs.declared.cause.Cause.{Cause}
 use Rattle.goo_files_import.specs.declared.cause.Cause.TheVariants as cause
 use Rattle.goo_desk_counter.specs.declared.counter.Shown.{Shown}
@@ -15,7 +15,7 @@ use Rattle.goo_desk_counter.specs.declared.counter.Imported.{Imported}
 use Rattle.goo_desk_counter.specs.declared.counter.Imported.TheVariants as imported
 
 -- a text written in memory: a write fails for want of that alone
-abbrev pub shown_as : Vec ℕ Global → Result (Unit {0}) TextFault → Result Shown Fault
+abbrev pub shown_as : Vec ℕ Global → Result (Unit {0}) ShowFault → Result Shown Fault
 shown_as bytes (Ok done) = Ok (shown.Text bytes)
 shown_as bytes (Err text.NotAllowed) = Ok (shown.Denied denial.NotAllowed)
 shown_as bytes (Err text.Unknown) = Ok (shown.Denied denial.Unknown)

@@ -12,7 +12,7 @@ use goo_core_answers::denial::Denial;
 use goo_core_shelf::shelf::Shelf;
 use goo_desk_routes::Subject;
 use goo_desk_shown::certificate_text;
-use goo_files::{TextFault, write_audit, write_cancellation, write_statement};
+use goo_files::{ShowFault, write_audit, write_cancellation, write_statement};
 use goo_notice_text::write;
 use goo_registry::{ReadFault, Registry};
 use goo_types::account_no::AccountNo;
@@ -36,15 +36,15 @@ fn apart<T: Drop>(read: Result<T, ReadFault>) -> Result<Result<T, Denial>, Fault
 }
 
 /// What is shown of a text that was written in memory. A write there fails only for want of it.
-fn shown_from(bytes: Vec<u8>, written: Result<(), TextFault>) -> Result<Shown, Fault>
+fn shown_from(bytes: Vec<u8>, written: Result<(), ShowFault>) -> Result<Shown, Fault>
     ensures { result ≡ shown_as bytes written }
 {
     match written {
         Ok(()) => Ok(Shown::Text(bytes)),
-        Err(TextFault::NotAllowed) => Ok(Shown::Denied(Denial::NotAllowed)),
-        Err(TextFault::Unknown) => Ok(Shown::Denied(Denial::Unknown)),
-        Err(TextFault::Store) => Err(Fault::Store),
-        Err(TextFault::Write) | Err(TextFault::Memory) => Err(Fault::Memory),
+        Err(ShowFault::NotAllowed) => Ok(Shown::Denied(Denial::NotAllowed)),
+        Err(ShowFault::Unknown) => Ok(Shown::Denied(Denial::Unknown)),
+        Err(ShowFault::Store) => Err(Fault::Store),
+        Err(ShowFault::Write) | Err(ShowFault::Memory) => Err(Fault::Memory),
     }
 }
 

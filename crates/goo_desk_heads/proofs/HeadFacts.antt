@@ -8,7 +8,7 @@ use Rattle.httparse.specs.declared.spans.RequestSpans.{RequestSpans}
 use Rattle.httparse.specs.declared.spans.HeaderSpan.{HeaderSpan}
 use Rattle.httparse.specs.Grammar.{print_request, RequestHead, ReadsRequest, HasNoRequest}
 use Rattle.httparse.specs.Spans.{IsRequestAt, IsRequestWithin, RequestOverflows, header_bytes, name_and_value}
-use Rattle.goo_desk_heads.specs.declared.refusal.Refusal.{Refusal}
+use Rattle.goo_desk_heads.specs.declared.refusal.HeadFault.{HeadFault}
 use Rattle.goo_desk_heads.specs.declared.request.RefusedHead.{RefusedHead}
 use Rattle.goo_desk_heads.specs.Fields.{most_body}
 use Rattle.goo_desk_heads.specs.Heads.{most_head, most_fields, HasNoHead, NeverHasHead, HasHead, after_head, length_of}
@@ -95,7 +95,7 @@ after-more : (bytes more : List ℕ) (h : RequestHead) → HasHead bytes h → a
 after-more bytes more h has = drop-append-le (length (print_request h)) bytes more (head-fits bytes h has)
 
 -- a head that is refused is sure
-pub refused-sure : (bytes : List ℕ) (h : RequestHead) (why : Refusal) → HasHead bytes h → length_of h ≡ Err why → IsSure bytes
+pub refused-sure : (bytes : List ℕ) (h : RequestHead) (why : HeadFault) → HasHead bytes h → length_of h ≡ Err why → IsSure bytes
 refused-sure bytes h why has is = head-sure bytes h has (λ more. rw is refl)
 
 -- a whole body is sure

@@ -6,8 +6,8 @@ use Rattle.std.specs.Str.Parse.{digits_value}
 use Rattle.std.specs.Cmp.Lexicographic.{pointwise}
 use Rattle.goo_desk_heads.specs.declared.occurrence.Occurrence.{Occurrence}
 use Rattle.goo_desk_heads.specs.declared.occurrence.Occurrence.TheVariants.{Absent, Once, Repeated}
-use Rattle.goo_desk_heads.specs.declared.refusal.Refusal.{Refusal}
-use Rattle.goo_desk_heads.specs.declared.refusal.Refusal.TheVariants.{BadRequest, TooLarge, NotImplemented}
+use Rattle.goo_desk_heads.specs.declared.refusal.HeadFault.{HeadFault}
+use Rattle.goo_desk_heads.specs.declared.refusal.HeadFault.TheVariants.{BadRequest, TooLarge, NotImplemented}
 
 -- two names are the same but for the case of their letters
 abbrev pub same_name : List ℕ → List ℕ → Bool
@@ -38,13 +38,13 @@ abbrev pub is_length : List ℕ → Bool
 is_length text = nat_lt 0 (length text) && nat_le (length text) 19 && list_all is_ascii_digit text
 
 -- the length that a value of Content-Length states
-abbrev pub length_in : List ℕ → Result ℕ Refusal
+abbrev pub length_in : List ℕ → Result ℕ HeadFault
 length_in text =
     if is_length text then (if nat_le (digits_value 10 text) most_body then Ok (digits_value 10 text) else Err TooLarge)
     else Err BadRequest
 
 -- the length that the values of Content-Length state
-abbrev pub stated_length : List (List ℕ) → Result ℕ Refusal
+abbrev pub stated_length : List (List ℕ) → Result ℕ HeadFault
 stated_length [] = Ok 0
 stated_length (value ∷ []) = length_in value
 stated_length (value ∷ other ∷ more) = Err BadRequest
@@ -54,7 +54,7 @@ abbrev pub has_bad_hosts : ℕ → List (List ℕ) → Bool
 has_bad_hosts minor hosts = nat_lt 1 (length hosts) || ((minor == 1) && (length hosts == 0))
 
 -- the length of the body, or why the head is refused: its hosts, then a transfer coding, then the length
-unfoldable pub body_length : ℕ → List (List ℕ × List ℕ) → Result ℕ Refusal
+unfoldable pub body_length : ℕ → List (List ℕ × List ℕ) → Result ℕ HeadFault
 body_length minor fields =
     if has_bad_hosts minor (values_of (codes "host") fields) then Err BadRequest
     else if nat_lt 0 (length (values_of (codes "transfer-encoding") fields)) then Err NotImplemented

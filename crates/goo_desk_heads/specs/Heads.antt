@@ -3,7 +3,7 @@ use Rattle.std.specs.Prelude.{◌≡◌, ℕ, ◌<◌, ◌≤◌, List, ◌++◌
 use Rattle.httparse.specs.Grammar.{RequestHead, ReadsRequest, print_request}
 use Rattle.httparse.specs.Spans.{name_and_value}
 use Rattle.goo_desk_heads.specs.Fields.{body_length, most_body, sole, values_of}
-use Rattle.goo_desk_heads.specs.declared.refusal.Refusal.{Refusal}
+use Rattle.goo_desk_heads.specs.declared.refusal.HeadFault.{HeadFault}
 use Rattle.goo_desk_heads.specs.declared.front.Front.{Front}
 use Rattle.goo_desk_heads.specs.declared.front.Front.TheVariants as front
 use Rattle.goo_desk_heads.specs.declared.front.Head.{Head}
@@ -36,7 +36,7 @@ abbrev pub caller_of : RequestHead → Option (List ℕ)
 caller_of h = sole (values_of (codes "goo-caller") (map name_and_value h.fields))
 
 -- the length of the body after a head, or why the head is refused
-abbrev pub length_of : RequestHead → Result ℕ Refusal
+abbrev pub length_of : RequestHead → Result ℕ HeadFault
 length_of h = body_length h.minor (map name_and_value h.fields)
 
 -- what a head asks for, and the bytes after it

@@ -3,8 +3,8 @@ use Rattle.std.specs.Prelude.{◌≡◌, ℕ, ◌<◌, ◌⊎◌, Bool, false, n
 use Rattle.std.specs.Str.{bytes_eq}
 use Rattle.httparse.specs.Grammar.{RequestHead}
 use Rattle.goo_desk_heads.specs.Heads.{most_head, HasNoHead, HasHead, after_head, caller_of, length_of}
-use Rattle.goo_desk_heads.specs.declared.refusal.Refusal.{Refusal}
-use Rattle.goo_desk_heads.specs.declared.refusal.Refusal.TheVariants.{BadRequest}
+use Rattle.goo_desk_heads.specs.declared.refusal.HeadFault.{HeadFault}
+use Rattle.goo_desk_heads.specs.declared.refusal.HeadFault.TheVariants.{BadRequest}
 use Rattle.goo_desk_heads.specs.declared.request.Received.{Received}
 use Rattle.goo_desk_heads.specs.declared.request.RefusedHead.{RefusedHead}
 
@@ -20,7 +20,7 @@ abbrev pub is_for_head : List ℕ → Bool
 is_for_head method = bytes_eq method (codes "HEAD")
 
 -- a request that is refused for its head
-abbrev pub refused_as : List ℕ → Refusal → RefusedHead
+abbrev pub refused_as : List ℕ → HeadFault → RefusedHead
 refused_as method why = record { why = why; is_head = is_for_head method }
 
 -- a request without a head
@@ -28,7 +28,7 @@ abbrev pub headless : RefusedHead
 headless = record { why = BadRequest; is_head = false }
 
 -- a request whose body has come, where its head isn't refused
-abbrev pub whole_request : List ℕ → List ℕ → Option (List ℕ) → List ℕ → Result ℕ Refusal → Result Parts RefusedHead
+abbrev pub whole_request : List ℕ → List ℕ → Option (List ℕ) → List ℕ → Result ℕ HeadFault → Result Parts RefusedHead
 whole_request method target caller rest (Err why) = Err (refused_as method why)
 whole_request method target caller rest (Ok count) =
     if nat_le count (length rest) then Ok (record { method = method; target = target; caller = caller; body = take count rest }) else Err (refused_as method BadRequest)

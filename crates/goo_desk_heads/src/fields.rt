@@ -7,7 +7,7 @@ ghost use Rattle.httparse.specs.Spans.{IsHeaderWithin, header_bytes};
 ghost use Rattle.goo_desk_heads.specs.Fields.{Occurs, values_of, same_name, length_in as length_stated, body_length as body_length_stated, sole, most_body};
 
 use crate::occurrence::Occurrence;
-use crate::refusal::Refusal;
+use crate::refusal::HeadFault;
 use httparse::spans::HeaderSpan;
 
 /// The most bytes of a body.
@@ -63,42 +63,42 @@ fn is_digits(text: &[u8]) -> bool
 }
 
 /// The length that a value of `Content-Length` states.
-fn length_in(value: &[u8]) -> Result<u64, Refusal>
+fn length_in(value: &[u8]) -> Result<u64, HeadFault>
     ensures value { result ≡ length_stated value.now }
     ensures few { IfOk result (λ length. length ≤ most_body) }
 {
     if value.is_empty() || value.len() > 19 || !is_digits(value) {
-        return Err(Refusal::BadRequest);
+        return Err(HeadFault::BadRequest);
     }
     let Ok(text) = str::from_utf8(value) else {
-        return Err(Refusal::BadRequest);
+        return Err(HeadFault::BadRequest);
     };
     match text.parse::<u64>() {
         Ok(stated) if stated <= MOST_BODY => Ok(stated),
-        Ok(_) => Err(Refusal::TooLarge),
-        Err(_) => Err(Refusal::BadRequest),
+        Ok(_) => Err(HeadFault::TooLarge),
+        Err(_) => Err(HeadFault::BadRequest),
     }
 }
 
 /// The length of the body that follows a head, or why the head is refused.
 #[tactic(auto, unfolding(crate::specs::Fields::body_length))]
-pub(crate) fn body_length(minor: u8, buf: &[u8], headers: &[HeaderSpan]) -> Result<u64, Refusal>
+pub(crate) fn body_length(minor: u8, buf: &[u8], headers: &[HeaderSpan]) -> Result<u64, HeadFault>
     requires { All (IsHeaderWithin (length buf.now)) headers.now }
     ensures value { result ≡ body_length_stated minor (map (header_bytes buf.now) headers.now) }
     ensures few { IfOk result (λ length. length ≤ most_body) }
 {
     match field_value(buf, headers, "host") {
-        Occurrence::Repeated => return Err(Refusal::BadRequest),
-        Occurrence::Absent if minor == 1 => return Err(Refusal::BadRequest),
+        Occurrence::Repeated => return Err(HeadFault::BadRequest),
+        Occurrence::Absent if minor == 1 => return Err(HeadFault::BadRequest),
         Occurrence::Absent | Occurrence::Once(_) => {}
     }
     match field_value(buf, headers, "transfer-encoding") {
         Occurrence::Absent => {}
-        Occurrence::Once(_) | Occurrence::Repeated => return Err(Refusal::NotImplemented),
+        Occurrence::Once(_) | Occurrence::Repeated => return Err(HeadFault::NotImplemented),
     }
     match field_value(buf, headers, "content-length") {
         Occurrence::Absent => Ok(0),
         Occurrence::Once(value) => length_in(value),
-        Occurrence::Repeated => Err(Refusal::BadRequest),
+        Occurrence::Repeated => Err(HeadFault::BadRequest),
     }
 }

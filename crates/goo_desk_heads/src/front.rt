@@ -3,7 +3,7 @@ ghost use Rattle.std.specs.Prelude.{◌≡◌, IsUtf8};
 ghost use Rattle.goo_desk_heads.specs.Heads.{Begins};
 
 use crate::fields::{body_length, sole_value};
-use crate::refusal::Refusal;
+use crate::refusal::HeadFault;
 use httparse::Status;
 use httparse::spans::{EMPTY_HEADER_SPAN, parse_request};
 
@@ -23,7 +23,7 @@ pub struct Head<'b> {
     /// The value of `GOO-Caller`, where that field is there once.
     pub caller: Option<&'b [u8]>,
     /// How many bytes of body follow the head, or why it is refused.
-    pub length: Result<u64, Refusal>,
+    pub length: Result<u64, HeadFault>,
     /// The bytes after the head.
     pub rest: &'b [u8],
 }

@@ -5,7 +5,7 @@ ghost use Rattle.goo_desk_heads.specs.Heads.{most_head};
 ghost use Rattle.goo_desk_heads.specs.Fields.{most_body};
 
 use crate::front::{Front, Head, front_of};
-use crate::refusal::Refusal;
+use crate::refusal::HeadFault;
 
 /// The parts of a whole request.
 #[derive(Clone, Copy, Drop)]
@@ -24,13 +24,13 @@ pub struct Received<'b> {
 #[derive(Debug, Clone, Copy, PartialEq, Eq, Drop)]
 pub struct RefusedHead {
     /// Why.
-    pub why: Refusal,
+    pub why: HeadFault,
     /// Whether it was a request for a head alone.
     pub is_head: bool,
 }
 
 /// A request that is refused, with the method that it has.
-fn refuse(head: &Head<'_>, why: Refusal) -> RefusedHead
+fn refuse(head: &Head<'_>, why: HeadFault) -> RefusedHead
     ensures { result ≡ refused_as head.now.method.now why }
 {
     RefusedHead {
@@ -55,7 +55,7 @@ fn whole<'b>(head: &Head<'b>) -> Result<Received<'b>, RefusedHead>
         Err(why) => return Err(refuse(head, why)),
     };
     if (head.rest.len() as u64) < length {
-        return Err(refuse(head, Refusal::BadRequest));
+        return Err(refuse(head, HeadFault::BadRequest));
     }
     Ok(Received {
         method: head.method,
@@ -78,7 +78,7 @@ pub fn read_request(bytes: &[u8]) -> Result<Received<'_>, RefusedHead>
 {
     match front_of(bytes) {
         Front::Unfinished | Front::Refused => Err(RefusedHead {
-            why: Refusal::BadRequest,
+            why: HeadFault::BadRequest,
             is_head: false,
         }),
         Front::Head(head) => whole(&head),

@@ -6,8 +6,8 @@ use Rattle.std.proofs.lemmas.List.Sums.{count_by-le-length}
 use Rattle.std.specs.Io.KnownBytes.{Appends, Keeps}
 use Rattle.goo_files_streams.proofs.AppendsFacts.{appends-kept, appends-more, appends-none}
 use Rattle.goo_files_streams.specs.Streams.{IsWholeOf}
-use Rattle.goo_files_streams.specs.declared.ReadFault.{ReadFault}
-use Rattle.goo_files_streams.specs.declared.ReadFault.TheVariants as reading
+use Rattle.goo_files_streams.specs.declared.InputFault.{InputFault}
+use Rattle.goo_files_streams.specs.declared.InputFault.TheVariants as reading
 use Rattle.goo_types.specs.declared.fault.Fault.{Fault}
 use Rattle.goo_types.specs.declared.fault.Fault.TheVariants as desk
 use Rattle.goo_core_shelf.specs.Shelf.{IsTold}
@@ -18,7 +18,7 @@ use Rattle.goo_files_streams.specs.Streams.{AppendsPrefix}
 use Rattle.goo_desk_lines.specs.Answers.{answer_line, answer_text, answer_to, is_good, state_after}
 use Rattle.goo_desk_lines.specs.Stops.{AnswersLine, IsBetweenLines, IsToldIn, IsTurnedDown, StandsInPart, StandsWhole}
 use Rattle.goo_registry_desk.specs.Desk.{Seen}
-use Rattle.goo_desk_lines.specs.declared.answer.Answer.{Answer}
+use Rattle.goo_desk_lines.specs.declared.answer.LineAnswer.{LineAnswer}
 use Rattle.goo_desk_lines.specs.Fold.{Answered, answering, counted, nothing_answered, with_answer, with_line, with_lines}
 use Rattle.goo_desk_lines.specs.declared.lines_fault.LinesFault.{LinesFault}
 use Rattle.goo_desk_lines.specs.declared.tally.Tally.{Tally}
@@ -67,17 +67,17 @@ on-line s t [] some = absurd (omega (arith, some))
 on-line s t (b ∷ line) some = refl
 
 -- a line that isn't empty, by its answer and the state after it
-pub on-answer : (s new : State) (t : Tally) (line : List ℕ) (a : Answer) → 0 < length line → a ≡ answer_to s line → new ≡ state_after s line → with_line (counted s t) line ≡ with_answer (counted s t) a new
+pub on-answer : (s new : State) (t : Tally) (line : List ℕ) (a : LineAnswer) → 0 < length line → a ≡ answer_to s line → new ≡ state_after s line → with_line (counted s t) line ≡ with_answer (counted s t) a new
 on-answer s new t line a some answer state = rw (answer, state) (on-line s t line some)
 
-pub answers-good : (s new : State) (t : Tally) (line : List ℕ) (a : Answer) (had has : Option (List ℕ)) → 0 < length line → a ≡ answer_to s line → new ≡ state_after s line → is_good a ≡ true
+pub answers-good : (s new : State) (t : Tally) (line : List ℕ) (a : LineAnswer) (had has : Option (List ℕ)) → 0 < length line → a ≡ answer_to s line → new ≡ state_after s line → is_good a ≡ true
     → Appends had has (answer_text a ++ 10 ∷ []) → AnswersLine line s new t (record { good = t.good + 1; bad = t.bad }) had has
 unfolding answer_line
 answers-good s new t line a had has some answer state good text =
     let whole = on-answer s new t line a some answer state in
     record { state = rw whole refl; text = rw whole text; good = rw (whole, good) refl; bad = rw (whole, good) refl }
 
-pub answers-bad : (s new : State) (t : Tally) (line : List ℕ) (a : Answer) (had has : Option (List ℕ)) → 0 < length line → a ≡ answer_to s line → new ≡ state_after s line → is_good a ≡ false
+pub answers-bad : (s new : State) (t : Tally) (line : List ℕ) (a : LineAnswer) (had has : Option (List ℕ)) → 0 < length line → a ≡ answer_to s line → new ≡ state_after s line → is_good a ≡ false
     → Appends had has (answer_text a ++ 10 ∷ []) → AnswersLine line s new t (record { good = t.good; bad = t.bad + 1 }) had has
 unfolding answer_line
 answers-bad s new t line a had has some answer state good text =
@@ -85,7 +85,7 @@ answers-bad s new t line a had has some answer state good text =
     record { state = rw whole refl; text = rw whole text; good = rw (whole, good) refl; bad = rw (whole, good) refl }
 
 -- a beginning of the line's answer was written
-pub writes-part : (s new : State) (t : Tally) (line : List ℕ) (a : Answer) (had has : Option (List ℕ)) → 0 < length line → a ≡ answer_to s line → new ≡ state_after s line
+pub writes-part : (s new : State) (t : Tally) (line : List ℕ) (a : LineAnswer) (had has : Option (List ℕ)) → 0 < length line → a ≡ answer_to s line → new ≡ state_after s line
     → AppendsPrefix had has (answer_text a ++ 10 ∷ []) → AppendsPrefix had has (with_line (counted s t) line).text
 unfolding answer_line
 writes-part s new t line a had has some answer state text = rw (on-answer s new t line a some answer state) text
@@ -173,7 +173,7 @@ told_by_desk T {U} desk.Store (Err e) n is told = subst (λ (g : LinesFault). Is
 told_by_desk T {U} desk.Memory (Err e) n is told = subst (λ (g : LinesFault). IsToldIn {T = U} (Err g) n) (sym is) told
 
 -- a fault of the reader is none of the store
-pub told_by_reader : {U : Type 0} (f : ReadFault) (r : Result U LinesFault) (n : ℕ) → IsErrAnd r (λ e. e ≡ of_reading f) → n ≡ 0 → IsToldIn r n
+pub told_by_reader : {U : Type 0} (f : InputFault) (r : Result U LinesFault) (n : ℕ) → IsErrAnd r (λ e. e ≡ of_reading f) → n ≡ 0 → IsToldIn r n
 told_by_reader f (Ok x) n is none = absurd is
 told_by_reader {U} reading.Read (Err e) n is none = subst (λ (g : LinesFault). IsToldIn {T = U} (Err g) n) (sym is) none
 told_by_reader {U} reading.Memory (Err e) n is none = subst (λ (g : LinesFault). IsToldIn {T = U} (Err g) n) (sym is) none
@@ -183,12 +183,12 @@ keeps-same None = tt
 keeps-same (Some a) = refl
 
 -- nothing was read
-turned_down : (f : ReadFault) (r : Result Tally LinesFault) (s : Seen) (w : Option (List ℕ)) → IsErrAnd r (λ e. e ≡ of_reading f) → IsTurnedDown r s s w w
+turned_down : (f : InputFault) (r : Result Tally LinesFault) (s : Seen) (w : Option (List ℕ)) → IsErrAnd r (λ e. e ≡ of_reading f) → IsTurnedDown r s s w w
 turned_down f (Ok x) s w is = absurd is
 turned_down reading.Read (Err e) s w is = record { fault = rw is tt; seen = refl; silent = keeps-same w }
 turned_down reading.Memory (Err e) s w is = record { fault = rw is tt; seen = refl; silent = keeps-same w }
 
-pub down-unread : (f : ReadFault) (r : Result Tally LinesFault) (known : Option (List ℕ)) (limit : ℕ) (s : Seen) (w : Option (List ℕ)) → IsErrAnd r (λ e. e ≡ of_reading f)
+pub down-unread : (f : InputFault) (r : Result Tally LinesFault) (known : Option (List ℕ)) (limit : ℕ) (s : Seen) (w : Option (List ℕ)) → IsErrAnd r (λ e. e ≡ of_reading f)
     → IfSome known (λ input. limit < length input → IsTurnedDown r s s w w)
 down-unread f r None limit s w is = tt
 down-unread f r (Some input) limit s w is = λ over. turned_down f r s w is

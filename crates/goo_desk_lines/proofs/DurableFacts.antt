@@ -10,7 +10,7 @@ use Rattle.goo_registry_desk.specs.Desk.{Seen}
 use Rattle.goo_desk_lines.specs.Durable.{FindsAnswered, FindsLine, state_with, text_with}
 use Rattle.goo_desk_lines.specs.Fold.{Answered, answering, nothing_answered, with_line, with_lines}
 use Rattle.goo_desk_lines.specs.Lines.{lines_of}
-use Rattle.goo_desk_lines.specs.declared.answer.Answer.{Answer}
+use Rattle.goo_desk_lines.specs.declared.answer.LineAnswer.{LineAnswer}
 use Rattle.goo_desk_lines.specs.declared.tally.Tally.{Tally}
 use Rattle.goo_desk_lines.proofs.AnswerFacts.{Stands, keeps-same, with-last}
 
@@ -26,7 +26,7 @@ state-on : (s : State) (line : List ℕ) → 0 < length line → state_with s li
 state-on s [] some = absurd (omega (arith, some))
 state-on s (b ∷ line) some = refl
 
-text-on : (s : State) (line : List ℕ) (a : Answer) → 0 < length line → a ≡ answer_to s line → answer_text a ++ 10 ∷ [] ≡ text_with s line
+text-on : (s : State) (line : List ℕ) (a : LineAnswer) → 0 < length line → a ≡ answer_to s line → answer_text a ++ 10 ∷ [] ≡ text_with s line
 unfolding answer_line
 text-on s [] a some is = absurd (omega (arith, some))
 text-on s (b ∷ line) a some is = rw is refl
@@ -41,7 +41,7 @@ pub unanswered : (s : State) (new : Seen) (line : List ℕ) (w : Option (List �
 unanswered s new line w leaves some same either = inl (record { silent = keeps-same w; state = same; found = subst (FindsEither leaves s) (sym (state-on s line some)) either })
 
 -- it was carried out, and a beginning of its answer is written
-pub begun_after : (s : State) (new : Seen) (line : List ℕ) (a : Answer) (had has : Option (List ℕ)) (leaves : Option State → Type 0) → 0 < length line → a ≡ answer_to s line → new.state ≡ state_after s line
+pub begun_after : (s : State) (new : Seen) (line : List ℕ) (a : LineAnswer) (had has : Option (List ℕ)) (leaves : Option State → Type 0) → 0 < length line → a ≡ answer_to s line → new.state ≡ state_after s line
     → AppendsPrefix had has (answer_text a ++ 10 ∷ []) → FindsOnly leaves new.state → FindsLine s line new had has leaves
 begun_after s new line a had has leaves some is state text only =
     let same : new.state ≡ state_with s line = state ∙ sym (state-on s line some) in

@@ -1,7 +1,7 @@
 -- The promise, of lines that were answered.
 use Rattle.std.proofs.Common.{◌≡◌, ◌≢◌, ◌∙◌, ℕ, List, [], ◌∷◌, ◌++◌, append_assoc, Option, Some, None, Result, Ok, Err, IfErr, IfSome, OnOk, IsErrAnd, refl, sym, subst}
 use Rattle.goo_files_streams.specs.Streams.{IsWholeOf}
-use Rattle.goo_files_streams.specs.declared.ReadFault.{ReadFault}
+use Rattle.goo_files_streams.specs.declared.InputFault.{InputFault}
 use Rattle.goo_spec.specs.State.{State}
 use Rattle.goo_spec.specs.Sound.{IsSound}
 use Rattle.goo_spec.specs.Promise.{IsPromised}
@@ -47,7 +47,7 @@ answered_promised old new None input had has r whole sound state kinds between p
 answered_promised old new (Some all) input had has r whole sound state kinds between part = subst (λ l. KeepsPromise l old.state new r) whole (by_result old new input had has r sound state kinds between part)
 
 -- it was not
-pub unread_promised : {T : Type 0} (s : Seen) (known : Option (List ℕ)) (f : ReadFault) (r : Result T LinesFault) → IsErrAnd r (λ e. e ≡ of_reading f) → IsSound s.state → IfSome known (λ all. KeepsPromise all s.state s r)
+pub unread_promised : {T : Type 0} (s : Seen) (known : Option (List ℕ)) (f : InputFault) (r : Result T LinesFault) → IsErrAnd r (λ e. e ≡ of_reading f) → IsSound s.state → IfSome known (λ all. KeepsPromise all s.state s r)
 unread_promised s None f r is sound = tt
 unread_promised s (Some all) f (Ok x) is sound = absurd is
 unread_promised s (Some all) f (Err e) is sound = λ sure. of_none s.state all sound

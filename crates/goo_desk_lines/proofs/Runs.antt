@@ -12,13 +12,13 @@ use Rattle.goo_desk_lines.specs.Answers.{answer_by, state_by, answer_to, state_a
 use Rattle.goo_desk_lines.specs.Fold.{Answered, with_answer, with_lines, nothing_answered}
 use Rattle.goo_desk_lines.specs.Requests.{requests_among, in_place, stated}
 use Rattle.goo_desk_lines.specs.Laws.{LinesAreARun}
-use Rattle.goo_desk_lines.specs.declared.answer.Answer.{Answer}
+use Rattle.goo_desk_lines.specs.declared.answer.LineAnswer.{LineAnswer}
 
-abbrev is_bad : Answer → Bool
+abbrev is_bad : LineAnswer → Bool
 is_bad a = not (is_good a)
 
 -- the answers to what some lines state
-abbrev answered : State → List (Result Request Unreadable) → List Answer
+abbrev answered : State → List (Result Request Unreadable) → List LineAnswer
 answered s some = in_place some (outcomes s (requests_among some))
 
 -- what is answered behind so much
@@ -38,7 +38,7 @@ counts_not true n m k is = omega (arith, is)
 counts_not false n m k is = omega (arith, is)
 
 -- one answer, and then the others
-with_first : (a : Answered) (given : Answer) (after : State) (rest : List Answer) (text : List ℕ) (good bad : ℕ) (some : List Answer) → some ≡ given ∷ rest
+with_first : (a : Answered) (given : LineAnswer) (after : State) (rest : List LineAnswer) (text : List ℕ) (good bad : ℕ) (some : List LineAnswer) → some ≡ given ∷ rest
     → text ≡ (with_answer a given after).text ++ flat_map answer_line rest → good ≡ (with_answer a given after).good + count_by is_good rest → bad ≡ (with_answer a given after).bad + count_by is_bad rest
     → (text ≡ a.text ++ flat_map answer_line some) × (good ≡ a.good + count_by is_good some) × (bad ≡ a.bad + count_by is_bad some)
 with_first a given after rest text good bad some is texts goods bads = (

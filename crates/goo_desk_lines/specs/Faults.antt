@@ -1,6 +1,6 @@
 -- What the faults of streams, of a desk and of bodies become.
-use Rattle.goo_files_streams.specs.declared.ReadFault.{ReadFault}
-use Rattle.goo_files_streams.specs.declared.ReadFault.TheVariants as reading
+use Rattle.goo_files_streams.specs.declared.InputFault.{InputFault}
+use Rattle.goo_files_streams.specs.declared.InputFault.TheVariants as reading
 use Rattle.goo_types.specs.declared.fault.Fault.{Fault}
 use Rattle.goo_types.specs.declared.fault.Fault.TheVariants as desk
 use Rattle.goo_desk_body.specs.declared.body_fault.BodyFault.{BodyFault}
@@ -11,7 +11,7 @@ use Rattle.goo_desk_lines.specs.declared.unread.Unread.TheVariants as unread
 use Rattle.goo_desk_lines.specs.declared.lines_fault.LinesFault.{LinesFault}
 use Rattle.goo_desk_lines.specs.declared.lines_fault.LinesFault.TheVariants.{Read, Store, Memory}
 
-abbrev pub of_reading : ReadFault → LinesFault
+abbrev pub of_reading : InputFault → LinesFault
 of_reading reading.Read = Read
 of_reading reading.Memory = Memory
 

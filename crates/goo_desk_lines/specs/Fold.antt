@@ -3,7 +3,7 @@ use Rattle.std.specs.Prelude.{ℕ, ◌+◌, List, [], ◌∷◌, ◌++◌, if◌
 use Rattle.goo_spec.specs.State.{State}
 use Rattle.goo_desk_lines.specs.Lines.{lines_of}
 use Rattle.goo_desk_lines.specs.Answers.{answer_to, state_after, answer_line, is_good}
-use Rattle.goo_desk_lines.specs.declared.answer.Answer.{Answer}
+use Rattle.goo_desk_lines.specs.declared.answer.LineAnswer.{LineAnswer}
 use Rattle.goo_desk_lines.specs.declared.tally.Tally.{Tally}
 
 -- the text that is written, the state, and how many lines were carried out and how many were not
@@ -17,7 +17,7 @@ abbrev pub nothing_answered : State → Answered
 nothing_answered s = record { text = []; state = s; good = 0; bad = 0 }
 
 -- one more answer, and the state that it leaves
-abbrev pub with_answer : Answered → Answer → State → Answered
+abbrev pub with_answer : Answered → LineAnswer → State → Answered
 with_answer a given after = record {
   text = a.text ++ answer_line given;
   state = after;

@@ -7,8 +7,8 @@ use Rattle.goo_spec.specs.State.{State}
 use Rattle.goo_spec.specs.Run.{outcomes}
 use Rattle.goo_desk_outcome.specs.declared.unreadable.Unreadable.{Unreadable}
 use Rattle.goo_desk_lines.specs.Lines.{lines_of, request_in}
-use Rattle.goo_desk_lines.specs.declared.answer.Answer.{Answer}
-use Rattle.goo_desk_lines.specs.declared.answer.Answer.TheVariants as answer
+use Rattle.goo_desk_lines.specs.declared.answer.LineAnswer.{LineAnswer}
+use Rattle.goo_desk_lines.specs.declared.answer.LineAnswer.TheVariants as answer
 
 abbrev pub is_filled : List ℕ → Bool
 is_filled [] = false
@@ -32,12 +32,12 @@ abbrev pub requests_in : List ℕ → List Request
 requests_in input = requests_of (lines_of input)
 
 -- the outcomes of the requests, and in its place the reason of each line that states none
-abbrev pub in_place : List (Result Request Unreadable) → List Outcome → List Answer
+abbrev pub in_place : List (Result Request Unreadable) → List Outcome → List LineAnswer
 in_place [] os = []
 in_place (Err reason ∷ rest) os = answer.Unreadable reason ∷ in_place rest os
 in_place (Ok q ∷ rest) [] = []
 in_place (Ok q ∷ rest) (o ∷ os) = answer.Decided o ∷ in_place rest os
 
 -- the answers to some lines
-abbrev pub answers_of : State → List (List ℕ) → List Answer
+abbrev pub answers_of : State → List (List ℕ) → List LineAnswer
 answers_of s lines = in_place (stated lines) (outcomes s (requests_of lines))

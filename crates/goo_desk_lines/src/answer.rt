@@ -8,7 +8,7 @@ use goo_types::outcome::Outcome;
 
 /// What a line is answered.
 #[derive(Debug, Clone, Copy, PartialEq, Eq)]
-pub enum Answer {
+pub enum LineAnswer {
     /// Its request was decided on.
     Decided(Outcome),
     /// It states no request.
@@ -26,14 +26,14 @@ fn is_carried_out(outcome: &Outcome) -> bool
     }
 }
 
-impl Answer {
+impl LineAnswer {
     /// The text of the answer, without a line feed. It takes no memory.
     pub fn text(&self) -> ArrayString<256>
         ensures { result.bytes ≡ answer_text self.now }
     {
         match self {
-            Answer::Decided(outcome) => outcome_text(*outcome),
-            Answer::Unreadable(reason) => unreadable_text(*reason),
+            LineAnswer::Decided(outcome) => outcome_text(*outcome),
+            LineAnswer::Unreadable(reason) => unreadable_text(*reason),
         }
     }
 
@@ -42,8 +42,8 @@ impl Answer {
         ensures { result ≡ is_good self.now }
     {
         match self {
-            Answer::Decided(outcome) => is_carried_out(outcome),
-            Answer::Unreadable(_) => false,
+            LineAnswer::Decided(outcome) => is_carried_out(outcome),
+            LineAnswer::Unreadable(_) => false,
         }
     }
 }

@@ -13,7 +13,7 @@ mod run;
 mod tally;
 mod unread;
 
-pub use answer::Answer;
+pub use answer::LineAnswer;
 pub use law::lines_are_a_run;
 pub use line::read_line;
 pub use lines::Lines;

@@ -3,7 +3,7 @@ ghost use Rattle.std.specs.Prelude.{◌≡◌};
 ghost use Rattle.goo_desk_lines.specs.Faults.{of_reading, of_desk};
 ghost use Rattle.goo_desk_lines.specs.declared.lines_fault.LinesFault.TheVariants.{Write};
 
-use goo_files_streams::{ReadFault, WriteFault};
+use goo_files_streams::{InputFault, WriteFault};
 use goo_types::fault::Fault;
 
 /// Why the lines after some were not answered.
@@ -19,13 +19,13 @@ pub enum LinesFault {
     Memory,
 }
 
-impl From<ReadFault> for LinesFault {
+impl From<InputFault> for LinesFault {
     ghost from_gives = { λ of fault. fault ≡ of_reading of };
 
-    fn from(fault: ReadFault) -> Self {
+    fn from(fault: InputFault) -> Self {
         match fault {
-            ReadFault::Read => LinesFault::Read,
-            ReadFault::Memory => LinesFault::Memory,
+            InputFault::Read => LinesFault::Read,
+            InputFault::Memory => LinesFault::Memory,
         }
     }
 }

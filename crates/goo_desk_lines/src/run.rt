@@ -13,7 +13,7 @@ ghost use Rattle.goo_desk_lines.specs.Promised.{KeepsPromise};
 ghost use Rattle.goo_desk_lines.specs.Stops.{AnswersLine, IsAfterReading, IsBetweenLines, IsToldIn, IsTurnedDown, StandsWhole, StandsInPart};
 ghost use Rattle.goo_desk_lines.specs.declared.lines_fault.LinesFault.TheVariants.{Read as Reading, Write as Writing};
 
-use crate::answer::Answer;
+use crate::answer::LineAnswer;
 use crate::line::read_line;
 use crate::lines::Lines;
 use crate::lines_fault::LinesFault;
@@ -30,7 +30,7 @@ pub const MOST_INPUT: usize = 16_777_216;
 
 /// The answer to one line.
 #[tactic(auto, unfolding(crate::specs::Answers::answer_to, crate::specs::Answers::state_after))]
-fn answer_line<D: Desk>(alloc: Global, desk: &mut D, line: &[u8]) -> Result<Answer, Fault>
+fn answer_line<D: Desk>(alloc: Global, desk: &mut D, line: &[u8]) -> Result<LineAnswer, Fault>
     ensures answer { (D.seen desk.new).lies ≡ 0 → IfOk result (λ given. given ≡ answer_to (D.seen desk.old).state line.now) }
     ensures state { (D.seen desk.new).lies ≡ 0 → OnOk result ((D.seen desk.new).state ≡ state_after (D.seen desk.old).state line.now) }
     ensures unchanged { (D.seen desk.new).doubts ≡ 0 → OnErr result ((D.seen desk.new).state ≡ (D.seen desk.old).state) }
@@ -44,8 +44,8 @@ fn answer_line<D: Desk>(alloc: Global, desk: &mut D, line: &[u8]) -> Result<Answ
         (state_after (D.seen desk.old).state line.now) }
 {
     match read_line(alloc, line) {
-        Ok(request) => Ok(Answer::Decided(desk.apply(alloc, &request)?)),
-        Err(Unread::Unreadable(reason)) => Ok(Answer::Unreadable(reason)),
+        Ok(request) => Ok(LineAnswer::Decided(desk.apply(alloc, &request)?)),
+        Err(Unread::Unreadable(reason)) => Ok(LineAnswer::Unreadable(reason)),
         Err(Unread::Memory) => Err(Fault::Memory),
     }
 }

@@ -21,8 +21,8 @@ use Rattle.goo_files_documents.specs.declared.cancellation.CancellationHead.{Can
 use Rattle.goo_files.specs.Faults.{of_read}
 use Rattle.goo_files.specs.Texts.{IsDocument, denial_in, denial_by, cancellation_denial}
 use Rattle.goo_files.specs.Writes.{Writes}
-use Rattle.goo_files.specs.declared.text_fault.TextFault.{TextFault}
-use Rattle.goo_files.specs.declared.text_fault.TextFault.TheVariants as text
+use Rattle.goo_files.specs.declared.text_fault.ShowFault.{ShowFault}
+use Rattle.goo_files.specs.declared.text_fault.ShowFault.TheVariants as text
 use Rattle.goo_files.proofs.Chaining.{chain_ok, chain_err, none_denied, unwritten}
 
 -- who may see it
@@ -167,7 +167,7 @@ module _ (old mid new : Moment) (before after : Option (List ℕ)) (caller : Lis
     }
 
     -- by how the writing ended
-    pub document_done : (r : Result (Unit {0}) TextFault) → (new.doubts ≡ 0 → OnOk r (Appends before after (cancellation_text (head_by found act own.code) found.runs.items)))
+    pub document_done : (r : Result (Unit {0}) ShowFault) → (new.doubts ≡ 0 → OnOk r (Appends before after (cancellation_text (head_by found act own.code) found.runs.items)))
         → (new.doubts ≡ 0 → OnErr r (AppendsPrefix before after (cancellation_text (head_by found act own.code) found.runs.items))) → IfErr r (λ f. f ≡ text.Write)
         → Writes old new before after r (cancellation_denial old.state caller act) (λ (u : Unit {0}) t. IsDocument old.state act t)
     document_done (Ok u) wrote part kind = document_written wrote

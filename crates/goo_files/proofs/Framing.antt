@@ -16,8 +16,8 @@ use Rattle.goo_registry.specs.declared.heading.Heading.{Heading}
 use Rattle.goo_files.specs.Lines.{AreLines, IsRowFault}
 use Rattle.goo_files.specs.Texts.{AreRunsNaming}
 use Rattle.goo_files.specs.Writes.{Writes, Began}
-use Rattle.goo_files.specs.declared.text_fault.TextFault.{TextFault}
-use Rattle.goo_files.specs.declared.text_fault.TextFault.TheVariants as text
+use Rattle.goo_files.specs.declared.text_fault.ShowFault.{ShowFault}
+use Rattle.goo_files.specs.declared.text_fault.ShowFault.TheVariants as text
 use Rattle.goo_files.proofs.Chaining.{chain_ok, chain_err, plain_ok, none_denied}
 use Rattle.goo_files.proofs.Lining.{IsWell, full}
 
@@ -40,7 +40,7 @@ module _ {T : Type 0} (line : Piece → List ℕ) (sum : List Piece → T) (foot
         inr (text_with head all.0, (tt, right sure all.0 all.1), prefix-front before at head _ part)
 
     -- that wasn't written whole
-    pub head_broken : (f : TextFault) → IsRowFault f → AppendsPrefix before mid head → Writes old first before mid (Err f) (account_denial caller (get old.state.accounts account)) Texts
+    pub head_broken : (f : ShowFault) → IsRowFault f → AppendsPrefix before mid head → Writes old first before mid (Err f) (account_denial caller (get old.state.accounts account)) Texts
     head_broken text.NotAllowed is part = absurd is
     head_broken text.Unknown is part = absurd is
     head_broken text.Store is part = absurd is
@@ -72,7 +72,7 @@ module _ {T : Type 0} (line : Piece → List ℕ) (sum : List Piece → T) (foot
           inr (text_with head lines.runs, (tt, right sure lines.runs are), prefix-more before mid at head _ wrote (prefix-front mid at (flat_map line lines.runs) _ (subst (AppendsPrefix mid at) lines.is part)))
 
       -- the lines broke off
-      pub lines_cut : (f : TextFault) → Writes {T = T} first new mid at (Err f) None (AreLines line sum first.state account) → Writes old new before at (Err f) (account_denial caller (get old.state.accounts account)) Texts
+      pub lines_cut : (f : ShowFault) → Writes {T = T} first new mid at (Err f) None (AreLines line sum first.state account) → Writes old new before at (Err f) (account_denial caller (get old.state.accounts account)) Texts
       lines_cut text.NotAllowed w = record {
         looks = chain_ok old first new (Ok h) (IsHeadingShown old.state caller account) look tt (λ u. ⊤) tt w.looks;
         shown = λ none. tt;

@@ -30,8 +30,8 @@ use Rattle.goo_files.specs.Lines.{AreLines, IsRowFault}
 use Rattle.goo_files.specs.Faults.{of_read}
 use Rattle.goo_files.specs.Texts.{AreRunsNaming}
 use Rattle.goo_files.specs.Writes.{Writes, Began}
-use Rattle.goo_files.specs.declared.text_fault.TextFault.{TextFault}
-use Rattle.goo_files.specs.declared.text_fault.TextFault.TheVariants as text
+use Rattle.goo_files.specs.declared.text_fault.ShowFault.{ShowFault}
+use Rattle.goo_files.specs.declared.text_fault.ShowFault.TheVariants as text
 use Rattle.goo_files.proofs.Chaining.{chain_ok, chain_err}
 use Rattle.std.proofs.lemmas.List.Concat.{flat_map-append}
 use Rattle.goo_files.proofs.LineFacts.{lines-last}
@@ -242,7 +242,7 @@ module _ {T : Type 0} (line : Piece → List ℕ) (sum : List Piece → T) where
               begun_part later p begins (shown_at mid.state old.state caller account after (Ok (Some p)) (going.looks.same was) (look.found sure)) (going.begun was) part;
         }
 
-    pub going_broken : (later : Option (List ℕ)) (p : Piece) (f : TextFault) → IsRowFault f → BeginsFrom (from_of after) p → Looks mid new (Ok (Ok (Some p))) (IsNextRunShown mid.state caller account after) → AppendsPrefix at later (line p)
+    pub going_broken : (later : Option (List ℕ)) (p : Piece) (f : ShowFault) → IsRowFault f → BeginsFrom (from_of after) p → Looks mid new (Ok (Ok (Some p))) (IsNextRunShown mid.state caller account after) → AppendsPrefix at later (line p)
         → Writes {T = T} old new before later (Err f) None (AreLines line sum old.state account)
     going_broken later p text.NotAllowed is begins look part = absurd is
     going_broken later p text.Unknown is begins look part = absurd is

@@ -17,7 +17,7 @@ use Rattle.goo_files_documents.specs.Statement.{statement_head, statement_foot}
 use Rattle.goo_files.specs.Lines.{held_row, no_sum, AreHeldRows}
 use Rattle.goo_files.specs.Texts.{IsStatement, IsHoldingsCsv, AreRunsNaming}
 use Rattle.goo_files.specs.Writes.{Writes}
-use Rattle.goo_files.specs.declared.text_fault.TextFault.{TextFault}
+use Rattle.goo_files.specs.declared.text_fault.ShowFault.{ShowFault}
 use Rattle.goo_files.proofs.Framing.{lines_cut, foot_ends}
 use Rattle.goo_files.proofs.LineFacts.{held-rows}
 use Rattle.goo_files.proofs.Lining.{IsWell}
@@ -44,7 +44,7 @@ holdings_by s account runs are = record { runs = runs; are_runs = are; is = ap (
 
 -- the header was written, and then the rows
 pub rows_done : (old first : Moment) (before mid : Option (List ℕ)) (caller : List ℕ) (account : ℕ) (h : Heading) → Looks old first (Ok (Ok h)) (IsHeadingShown old.state caller account) → IsWell old → (new : Moment) (at : Option (List ℕ)) → Appends before mid header_row
-    → (r : Result (Unit {0}) TextFault) → Writes {T = Unit {0}} first new mid at r None (AreHeldRows first.state account)
+    → (r : Result (Unit {0}) ShowFault) → Writes {T = Unit {0}} first new mid at r None (AreHeldRows first.state account)
     → Writes old new before at r (account_denial caller (get old.state.accounts account)) (λ (u : Unit {0}) t. IsHoldingsCsv old.state account t)
 rows_done old first before mid caller account h look well new at wrote (Ok u) w =
     foot_ends held_row no_sum no_foot (IsHoldingsCsv old.state account) old first before mid caller account h look well header_row (λ sure. holdings_by old.state account) new at wrote at tt w (appends-none at)

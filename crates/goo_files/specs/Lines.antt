@@ -8,8 +8,8 @@ use Rattle.goo_files_documents.specs.Counts.{counts_of}
 use Rattle.goo_files_documents.specs.Runs.{statement_line}
 use Rattle.goo_files_documents.specs.declared.counts.Counts.{Counts}
 use Rattle.goo_files.specs.Texts.{AreRunsNaming}
-use Rattle.goo_files.specs.declared.text_fault.TextFault.{TextFault}
-use Rattle.goo_files.specs.declared.text_fault.TextFault.TheVariants.{NotAllowed, Unknown, Write, Store, Memory}
+use Rattle.goo_files.specs.declared.text_fault.ShowFault.{ShowFault}
+use Rattle.goo_files.specs.declared.text_fault.ShowFault.TheVariants.{NotAllowed, Unknown, Write, Store, Memory}
 
 -- a line for each of an account's runs, and what these sum up to
 pub record AreLines {T : Type 0} (line : Piece → List ℕ) (sum : List Piece → T) (s : State) (account : ℕ) (total : T) (text : List ℕ) : Type 0 where
@@ -34,7 +34,7 @@ abbrev pub AreHeldRows : State → ℕ → Unit {0} → List ℕ → Type 0
 AreHeldRows s account u text = AreLines held_row no_sum s account u text
 
 -- a row wasn't written
-abbrev pub IsRowFault : TextFault → Type 0
+abbrev pub IsRowFault : ShowFault → Type 0
 IsRowFault NotAllowed = ⊥
 IsRowFault Unknown = ⊥
 IsRowFault Write = Unit {0}

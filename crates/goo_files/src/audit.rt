@@ -5,7 +5,7 @@ ghost use Rattle.goo_files_streams.specs.Streams.{AppendsPrefix};
 ghost use Rattle.goo_files.specs.Writes.{Writes};
 ghost use Rattle.goo_files.specs.Texts.{IsAuditText, device_line, audit_denial};
 
-use crate::text_fault::TextFault;
+use crate::text_fault::ShowFault;
 use crate::writing::write_line;
 use goo_core_shelf::found::DeviceTotals;
 use goo_core_shelf::shelf::Shelf;
@@ -40,22 +40,22 @@ fn write_devices<W: Write>(writer: &mut W, totals: &[DeviceTotals]) -> Result<()
 ///
 /// # Errors
 ///
-/// See [`TextFault`]: after `NotAllowed` nothing was written, after the others a beginning of the text. A caller who is denied it gets no byte,
+/// See [`ShowFault`]: after `NotAllowed` nothing was written, after the others a beginning of the text. A caller who is denied it gets no byte,
 /// however the call ends (`unseen`).
 pub fn write_audit<S: Shelf, W: Write>(
     alloc: Global,
     registry: &mut Registry<S>,
     caller: &HolderCode,
     writer: &mut W,
-) -> Result<(), TextFault>
+) -> Result<(), ShowFault>
     ensures { Writes (S.seen registry.old.shelf) (S.seen registry.new.shelf) (W.contents writer.old) (W.contents writer.new) result (audit_denial caller.now) (λ u text. IsAuditText (S.seen registry.old.shelf).state text) }
 {
     let totals = match registry.audit(alloc, caller) {
         Ok(totals) => totals,
-        Err(fault) => return Err(TextFault::from(fault)),
+        Err(fault) => return Err(ShowFault::from(fault)),
     };
     match write_devices(writer, &totals) {
         Ok(()) => Ok(()),
-        Err(_) => Err(TextFault::Write),
+        Err(_) => Err(ShowFault::Write),
     }
 }

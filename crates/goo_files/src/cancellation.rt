@@ -6,10 +6,10 @@ ghost use Rattle.goo_types.specs.Piece.{IsRising};
 ghost use Rattle.goo_files_documents.specs.Cancellation.{cancellation_foot as foot_text, certificates_in as count_in, cancellation_text};
 ghost use Rattle.goo_files_documents.specs.Runs.{document_line as document_text};
 ghost use Rattle.goo_files.specs.Writes.{Writes};
-ghost use Rattle.goo_files.specs.declared.text_fault.TextFault.TheVariants.{Write as Unwritten};
+ghost use Rattle.goo_files.specs.declared.text_fault.ShowFault.TheVariants.{Write as Unwritten};
 ghost use Rattle.goo_files.specs.Texts.{IsDocument, cancellation_denial};
 
-use crate::text_fault::TextFault;
+use crate::text_fault::ShowFault;
 use crate::writing::write_line;
 use goo_core_shelf::shelf::Shelf;
 use goo_files_documents::{
@@ -77,7 +77,7 @@ fn write_document<W: Write>(
     writer: &mut W,
     head: &CancellationHead,
     runs: &[Piece],
-) -> Result<(), TextFault>
+) -> Result<(), ShowFault>
     ensures written { OnOk result (IsRising runs.now → Appends (W.contents writer.old) (W.contents writer.new) (cancellation_text head.now runs.now)) }
     ensures prefix { OnErr result (IsRising runs.now → AppendsPrefix (W.contents writer.old) (W.contents writer.new) (cancellation_text head.now runs.now)) }
     ensures kinds { IfErr result (λ fault. fault ≡ Unwritten) }
@@ -92,7 +92,7 @@ fn write_document<W: Write>(
 ///
 /// # Errors
 ///
-/// See [`TextFault`]: after `NotAllowed` and `Unknown` nothing was written, after the others a beginning of the text. A caller who is denied it gets no byte,
+/// See [`ShowFault`]: after `NotAllowed` and `Unknown` nothing was written, after the others a beginning of the text. A caller who is denied it gets no byte,
 /// however the call ends (`unseen`).
 pub fn write_cancellation<S: Shelf, W: Write>(
     alloc: Global,
@@ -100,16 +100,16 @@ pub fn write_cancellation<S: Shelf, W: Write>(
     caller: &HolderCode,
     act: ActNo,
     writer: &mut W,
-) -> Result<(), TextFault>
+) -> Result<(), ShowFault>
     ensures { Writes (S.seen registry.old.shelf) (S.seen registry.new.shelf) (W.contents writer.old) (W.contents writer.new) result (cancellation_denial (S.seen registry.old.shelf).state caller.now act) (λ u text. IsDocument (S.seen registry.old.shelf).state act text) }
 {
     let found = match registry.cancellation(alloc, caller, act) {
         Ok(found) => found,
-        Err(fault) => return Err(TextFault::from(fault)),
+        Err(fault) => return Err(ShowFault::from(fault)),
     };
     let own = match registry.heading(caller, found.record.account()) {
         Ok(own) => own,
-        Err(fault) => return Err(TextFault::from(fault)),
+        Err(fault) => return Err(ShowFault::from(fault)),
     };
     let head = head_of_document(&found, act, own.code);
     write_document(writer, &head, &found.runs)

@@ -11,7 +11,7 @@ ghost use Rattle.goo_spec.specs.Lots.{is_held as held_test};
 ghost use Rattle.goo_files.specs.Lines.{held_row, AreHeldRows, IsRowFault};
 ghost use Rattle.goo_files.specs.Texts.{IsHoldingsCsv};
 
-use crate::text_fault::TextFault;
+use crate::text_fault::ShowFault;
 use goo_core_shelf::shelf::Shelf;
 use goo_files_csv::{NoRoom, holding_row, holdings_header};
 use goo_files_streams::write_whole;
@@ -34,7 +34,7 @@ fn is_held(place: Place) -> bool
 }
 
 /// Writes a row that was made, or tells that there was no room for it.
-fn write_made<W: Write>(writer: &mut W, made: Result<Vec<u8>, NoRoom>) -> Result<(), TextFault>
+fn write_made<W: Write>(writer: &mut W, made: Result<Vec<u8>, NoRoom>) -> Result<(), ShowFault>
     ensures written { (text : _) → IfOk made (λ row. row.items ≡ text) → OnOk result (Appends (W.contents writer.old) (W.contents writer.new) text) }
     ensures prefix { (text : _) → IfOk made (λ row. row.items ≡ text) → OnErr result (AppendsPrefix (W.contents writer.old) (W.contents writer.new) text) }
     ensures kinds { IfErr result IsRowFault }
@@ -42,14 +42,14 @@ fn write_made<W: Write>(writer: &mut W, made: Result<Vec<u8>, NoRoom>) -> Result
     match made {
         Ok(row) => match write_whole(writer, &row) {
             Ok(()) => Ok(()),
-            Err(_) => Err(TextFault::Write),
+            Err(_) => Err(ShowFault::Write),
         },
-        Err(_) => Err(TextFault::Memory),
+        Err(_) => Err(ShowFault::Memory),
     }
 }
 
 /// Writes the row of a run that is held, and nothing for another.
-fn write_row<W: Write>(alloc: Global, writer: &mut W, run: &Piece) -> Result<(), TextFault>
+fn write_row<W: Write>(alloc: Global, writer: &mut W, run: &Piece) -> Result<(), ShowFault>
     ensures written { OnOk result (Appends (W.contents writer.old) (W.contents writer.new) (held_row run.now)) }
     ensures prefix { OnErr result (AppendsPrefix (W.contents writer.old) (W.contents writer.new) (held_row run.now)) }
     ensures kinds { IfErr result IsRowFault }
@@ -62,7 +62,7 @@ fn write_row<W: Write>(alloc: Global, writer: &mut W, run: &Piece) -> Result<(),
 }
 
 /// Writes the row of the names of the fields.
-fn write_header<W: Write>(alloc: Global, writer: &mut W) -> Result<(), TextFault>
+fn write_header<W: Write>(alloc: Global, writer: &mut W) -> Result<(), ShowFault>
     ensures written { OnOk result (Appends (W.contents writer.old) (W.contents writer.new) header_row) }
     ensures prefix { OnErr result (AppendsPrefix (W.contents writer.old) (W.contents writer.new) header_row) }
     ensures kinds { IfErr result IsRowFault }
@@ -77,7 +77,7 @@ fn write_rows<S: Shelf, W: Write>(
     caller: &HolderCode,
     account: AccountNo,
     writer: &mut W,
-) -> Result<(), TextFault>
+) -> Result<(), ShowFault>
     requires ready { IsReady (S.seen registry.old.shelf) }
     requires shown { (S.seen registry.old.shelf).doubts ≡ 0 → account_denial caller.now (get (S.seen registry.old.shelf).state.accounts account) ≡ None }
     ensures { Writes (S.seen registry.old.shelf) (S.seen registry.new.shelf) (W.contents writer.old) (W.contents writer.new) result None (AreHeldRows (S.seen registry.old.shelf).state account) }
@@ -93,7 +93,7 @@ fn write_rows<S: Shelf, W: Write>(
                 let _end = run.last.get();
             }
             Ok(None) => return Ok(()),
-            Err(fault) => return Err(TextFault::from(fault)),
+            Err(fault) => return Err(ShowFault::from(fault)),
         }
     }
 }
@@ -103,7 +103,7 @@ fn write_rows<S: Shelf, W: Write>(
 ///
 /// # Errors
 ///
-/// See [`TextFault`]: after `NotAllowed` and `Unknown` nothing was written, after the others a beginning of the text. A caller who is denied it gets no byte,
+/// See [`ShowFault`]: after `NotAllowed` and `Unknown` nothing was written, after the others a beginning of the text. A caller who is denied it gets no byte,
 /// however the call ends (`unseen`).
 pub fn write_holdings_csv<S: Shelf, W: Write>(
     alloc: Global,
@@ -111,12 +111,12 @@ pub fn write_holdings_csv<S: Shelf, W: Write>(
     caller: &HolderCode,
     account: AccountNo,
     writer: &mut W,
-) -> Result<(), TextFault>
+) -> Result<(), ShowFault>
     ensures { Writes (S.seen registry.old.shelf) (S.seen registry.new.shelf) (W.contents writer.old) (W.contents writer.new) result (account_denial caller.now (get (S.seen registry.old.shelf).state.accounts account)) (λ u text. IsHoldingsCsv (S.seen registry.old.shelf).state account text) }
 {
     let _heading = match registry.heading(caller, account) {
         Ok(heading) => heading,
-        Err(fault) => return Err(TextFault::from(fault)),
+        Err(fault) => return Err(ShowFault::from(fault)),
     };
     if let Err(fault) = write_header(alloc, writer) {
         return Err(fault);

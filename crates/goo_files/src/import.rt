@@ -8,11 +8,11 @@ ghost use Rattle.goo_files_import.specs.Report.{report_text};
 ghost use Rattle.goo_files_import.specs.Table.{LacksHeader};
 ghost use Rattle.goo_files_import.specs.Stands.{IsImported, StandsInPart, IsBeforeRows, IsBetweenRows, IsToldIn};
 ghost use Rattle.goo_files_import.specs.declared.cause.Cause.TheVariants.{Header as NoHeader};
-ghost use Rattle.goo_files.specs.declared.text_fault.TextFault.TheVariants.{Write as Unwritten};
+ghost use Rattle.goo_files.specs.declared.text_fault.ShowFault.TheVariants.{Write as Unwritten};
 
-use crate::text_fault::TextFault;
+use crate::text_fault::ShowFault;
 use goo_core_shelf::shelf::Shelf;
-use goo_files_import::{ImportFault, Progress, Report, Unwatched};
+use goo_files_import::{ImportFault, ImportWatcher, Report, Unwatched};
 use goo_registry::Registry;
 use goo_types::holder_code::HolderCode;
 use std::alloc::Global;
@@ -23,7 +23,7 @@ use std::io::{Read, Write};
 /// # Errors
 ///
 /// Those of [`import_declarations`].
-pub fn import_declarations_watched<S: Shelf, R: Read, P: Progress>(
+pub fn import_declarations_watched<S: Shelf, R: Read, P: ImportWatcher>(
     alloc: Global,
     registry: &mut Registry<S>,
     caller: &HolderCode,
@@ -82,7 +82,7 @@ pub fn import_declarations<S: Shelf, R: Read>(
 /// # Errors
 ///
 /// `Write`, where a write fails: a beginning of the text was written then.
-pub fn write_report<W: Write>(report: &Report, writer: &mut W) -> Result<(), TextFault>
+pub fn write_report<W: Write>(report: &Report, writer: &mut W) -> Result<(), ShowFault>
     ensures written { OnOk result (Appends (W.contents writer.old) (W.contents writer.new) (report_text report.now.lines.items)) }
     ensures prefix { OnErr result (AppendsPrefix (W.contents writer.old) (W.contents writer.new) (report_text report.now.lines.items)) }
     ensures kind { IfErr result (λ fault. fault ≡ Unwritten) }

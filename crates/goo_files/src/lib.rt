@@ -14,9 +14,9 @@ mod writing;
 
 pub use audit::write_audit;
 pub use cancellation::write_cancellation;
-pub use goo_files_import::{Cause, ImportFault, Progress, Report, RowResult, Unwatched};
+pub use goo_files_import::{Cause, ImportFault, ImportWatcher, Report, RowResult, Unwatched};
 pub use holdings::write_holdings_csv;
 pub use import::{import_declarations, import_declarations_watched, write_report};
 pub use laws::{equal_texts, one_document, one_holdings_csv, one_statement};
 pub use statement::write_statement;
-pub use text_fault::TextFault;
+pub use text_fault::ShowFault;

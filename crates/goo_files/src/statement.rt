@@ -10,7 +10,7 @@ ghost use Rattle.goo_files.specs.Writes.{Writes};
 ghost use Rattle.goo_files.specs.Lines.{AreRunLines};
 ghost use Rattle.goo_files.specs.Texts.{IsStatement};
 
-use crate::text_fault::TextFault;
+use crate::text_fault::ShowFault;
 use crate::writing::write_line;
 use goo_core_shelf::shelf::Shelf;
 use goo_files_documents::{Counts, statement_foot, statement_head, statement_line};
@@ -26,7 +26,7 @@ fn write_runs<S: Shelf, W: Write>(
     caller: &HolderCode,
     account: AccountNo,
     writer: &mut W,
-) -> Result<Counts, TextFault>
+) -> Result<Counts, ShowFault>
     requires ready { IsReady (S.seen registry.old.shelf) }
     requires shown { (S.seen registry.old.shelf).doubts ≡ 0 → account_denial caller.now (get (S.seen registry.old.shelf).state.accounts account) ≡ None }
     ensures { Writes (S.seen registry.old.shelf) (S.seen registry.new.shelf) (W.contents writer.old) (W.contents writer.new) result None (AreRunLines (S.seen registry.old.shelf).state account) }
@@ -37,14 +37,14 @@ fn write_runs<S: Shelf, W: Write>(
         match registry.read_run(caller, account, &mut place) {
             Ok(Some(run)) => {
                 if write_line(writer, &statement_line(&run)).is_err() {
-                    return Err(TextFault::Write);
+                    return Err(ShowFault::Write);
                 }
                 counts.add(&run);
                 // Numbers end somewhere, so this does.
                 let _end = run.last.get();
             }
             Ok(None) => return Ok(counts),
-            Err(fault) => return Err(TextFault::from(fault)),
+            Err(fault) => return Err(ShowFault::from(fault)),
         }
     }
 }
@@ -69,22 +69,22 @@ fn write_head<W: Write>(writer: &mut W, heading: &Heading) -> Result<(), WriteFa
 ///
 /// # Errors
 ///
-/// See [`TextFault`]: after `NotAllowed` and `Unknown` nothing was written, after the others a beginning of the text. A caller who is denied it gets no byte,
+/// See [`ShowFault`]: after `NotAllowed` and `Unknown` nothing was written, after the others a beginning of the text. A caller who is denied it gets no byte,
 /// however the call ends (`unseen`).
 pub fn write_statement<S: Shelf, W: Write>(
     registry: &mut Registry<S>,
     caller: &HolderCode,
     account: AccountNo,
     writer: &mut W,
-) -> Result<(), TextFault>
+) -> Result<(), ShowFault>
     ensures { Writes (S.seen registry.old.shelf) (S.seen registry.new.shelf) (W.contents writer.old) (W.contents writer.new) result (account_denial caller.now (get (S.seen registry.old.shelf).state.accounts account)) (λ u text. IsStatement (S.seen registry.old.shelf).state account text) }
 {
     let heading = match registry.heading(caller, account) {
         Ok(heading) => heading,
-        Err(fault) => return Err(TextFault::from(fault)),
+        Err(fault) => return Err(ShowFault::from(fault)),
     };
     if write_head(writer, &heading).is_err() {
-        return Err(TextFault::Write);
+        return Err(ShowFault::Write);
     }
     let counts = match write_runs(registry, caller, account, writer) {
         Ok(counts) => counts,
@@ -92,6 +92,6 @@ pub fn write_statement<S: Shelf, W: Write>(
     };
     match write_line(writer, &statement_foot(&counts)) {
         Ok(()) => Ok(()),
-        Err(_) => Err(TextFault::Write),
+        Err(_) => Err(ShowFault::Write),
     }
 }

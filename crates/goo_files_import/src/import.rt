@@ -13,12 +13,12 @@ ghost use Rattle.goo_files_import.specs.Stands.{IsImported, StandsInPart, IsBefo
 ghost use Rattle.goo_files_import.specs.declared.cause.Cause.TheVariants.{Header as NoHeader, Read as Unread, Store as Refused};
 
 use crate::cause::{Cause, ImportFault};
-use crate::progress::Progress;
+use crate::progress::ImportWatcher;
 use crate::report::Report;
 use crate::row_result::RowResult;
 use csv::{ByteRecord, ReaderBuilder};
 use goo_files_csv::{is_header, read_row};
-use goo_files_streams::{ReadFault, read_whole};
+use goo_files_streams::{InputFault, read_whole};
 use goo_registry_desk::Desk;
 use goo_types::fault::Fault;
 use goo_types::holder_code::HolderCode;
@@ -116,7 +116,7 @@ fn count_rows(alloc: Global, input: &[u8]) -> u64 {
 }
 
 /// Tells that an import begins.
-fn announce<P: Progress>(alloc: Global, input: &[u8], progress: &mut P) {
+fn announce<P: ImportWatcher>(alloc: Global, input: &[u8], progress: &mut P) {
     if progress.is_watched() {
         progress.begin(count_rows(alloc, input));
     }
@@ -127,7 +127,7 @@ fn announce<P: Progress>(alloc: Global, input: &[u8], progress: &mut P) {
 /// # Errors
 ///
 /// See [`Cause`]: after `Header` nothing was applied; after `Store` and `Memory` the rows of the report stand. `Read` never comes.
-pub fn import_bytes<D: Desk, P: Progress>(
+pub fn import_bytes<D: Desk, P: ImportWatcher>(
     alloc: Global,
     desk: &mut D,
     caller: &HolderCode,
@@ -191,7 +191,7 @@ pub fn import_bytes<D: Desk, P: Progress>(
 /// # Errors
 ///
 /// See [`Cause`]: after `Header` and `Read` nothing was applied; after `Store` and `Memory` the rows of the report stand.
-pub fn import_declarations<D: Desk, R: Read, P: Progress>(
+pub fn import_declarations<D: Desk, R: Read, P: ImportWatcher>(
     alloc: Global,
     desk: &mut D,
     caller: &HolderCode,
@@ -215,7 +215,7 @@ pub fn import_declarations<D: Desk, R: Read, P: Progress>(
 {
     match read_whole(alloc, reader, MOST_INPUT) {
         Ok(input) => import_bytes(alloc, desk, caller, &input, progress),
-        Err(ReadFault::Read) => Err(stopped(Vec::new(alloc), Cause::Read)),
-        Err(ReadFault::Memory) => Err(stopped(Vec::new(alloc), Cause::Memory)),
+        Err(InputFault::Read) => Err(stopped(Vec::new(alloc), Cause::Read)),
+        Err(InputFault::Memory) => Err(stopped(Vec::new(alloc), Cause::Memory)),
     }
 }

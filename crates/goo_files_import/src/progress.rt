@@ -1,7 +1,7 @@
 //! What is told how far an import is.
 
 /// What is told how far an import is. It can change nothing of it.
-pub trait Progress {
+pub trait ImportWatcher {
     /// Whether anybody looks; if not, rows aren't counted beforehand.
     fn is_watched(&self) -> bool;
 
@@ -16,7 +16,7 @@ pub trait Progress {
 #[derive(Clone, Copy, Debug)]
 pub struct Unwatched;
 
-impl Progress for Unwatched {
+impl ImportWatcher for Unwatched {
     fn is_watched(&self) -> bool {
         false
     }

@@ -9,7 +9,7 @@ ghost use Rattle.std.specs.Prelude.{◌≡◌, ◌≤◌, ◌<◌, ℕ, List, le
 ghost use Rattle.std.specs.Io.{ReadsAtMost, WritesAtMost};
 ghost use Rattle.std.specs.Io.KnownBytes.{Appends, Consumes, Keeps, IsAtEnd};
 ghost use Rattle.goo_files_streams.specs.Streams.{AppendsPrefix, IsWholeOf};
-ghost use Rattle.goo_files_streams.specs.declared.ReadFault.TheVariants.{Memory};
+ghost use Rattle.goo_files_streams.specs.declared.InputFault.TheVariants.{Memory};
 
 use std::alloc::{AllocError, Global};
 use std::io::{ErrorKind, Read, Write};
@@ -19,18 +19,18 @@ pub const MOST_INTERRUPTIONS: u32 = 1_000;
 
 /// Why an input was not read. What the reader had given is lost, and nothing else happened.
 #[derive(Debug, Clone, Copy, PartialEq, Eq, Drop)]
-pub enum ReadFault {
+pub enum InputFault {
     /// The reader failed, was interrupted too often, or held more than the limit.
     Read,
     /// There was no room for the input.
     Memory,
 }
 
-impl From<AllocError> for ReadFault {
+impl From<AllocError> for InputFault {
     ghost from_gives = { λ _ fault. fault ≡ Memory };
 
     fn from(_: AllocError) -> Self {
-        ReadFault::Memory
+        InputFault::Memory
     }
 }
 
@@ -43,7 +43,7 @@ pub struct WriteFault;
 /// # Errors
 ///
 /// `Read` where the reader fails or is interrupted 1,001 times in a row. The reader has given no byte then.
-pub fn read_some<R: Read>(reader: &mut R, buffer: &mut [u8]) -> Result<usize, ReadFault>
+pub fn read_some<R: Read>(reader: &mut R, buffer: &mut [u8]) -> Result<usize, InputFault>
     ensures bound { ReadsAtMost result buffer.new }
     ensures bytes { IfOk result (λ count. Consumes (R.remaining reader.old) (R.remaining reader.new) (take count buffer.new)) }
     ensures end { IfOk result (λ count. count ≡ 0 → 0 < length buffer.old → IsAtEnd (R.remaining reader.new)) }
@@ -54,12 +54,12 @@ pub fn read_some<R: Read>(reader: &mut R, buffer: &mut [u8]) -> Result<usize, Re
             Ok(count) => return Ok(count),
             Err(error) => {
                 if error.kind() != ErrorKind::Interrupted {
-                    return Err(ReadFault::Read);
+                    return Err(InputFault::Read);
                 }
             }
         }
     }
-    Err(ReadFault::Read)
+    Err(InputFault::Read)
 }
 
 /// One write, tried again after each interruption: how many bytes of `text` were taken, at least one.
@@ -97,7 +97,7 @@ pub fn read_whole<R: Read>(
     alloc: Global,
     reader: &mut R,
     limit: usize,
-) -> Result<Vec<u8>, ReadFault>
+) -> Result<Vec<u8>, InputFault>
     ensures whole { IfOk result (λ input. IsWholeOf (R.remaining reader.old) input.items) }
     ensures within { IfOk result (λ input. length input.items ≤ limit) }
     ensures end { OnOk result (IsAtEnd (R.remaining reader.new)) }
@@ -110,7 +110,7 @@ pub fn read_whole<R: Read>(
             return Ok(input);
         }
         if count > limit - input.len() {
-            return Err(ReadFault::Read);
+            return Err(InputFault::Read);
         }
         input.extend_from_slice(&chunk[..count])?;
     }

@@ -3,7 +3,7 @@
 use crate::requests::{CANCELLATION, DEVICE, MEMBERS, QUARTER, THERE_AND_BACK, sends};
 use crate::wanted::{AUDIT, DOCUMENT, GIVEN, HOLDINGS, LEFT, STATEMENT};
 use goo_core_shelf::shelf::Shelf;
-use goo_files::{TextFault, write_audit, write_cancellation, write_holdings_csv, write_statement};
+use goo_files::{ShowFault, write_audit, write_cancellation, write_holdings_csv, write_statement};
 use goo_registry::Registry;
 use goo_types::account_no::AccountNo;
 use goo_types::act_no::ActNo;
@@ -31,19 +31,19 @@ fn given<S: Shelf>(
     caller: &HolderCode,
     text: Text,
     out: &mut Vec<u8>,
-) -> Result<(), TextFault> {
+) -> Result<(), ShowFault> {
     match text {
         Text::Statement(account) => match AccountNo::new(account) {
             Some(account) => write_statement(registry, caller, account, out),
-            None => Err(TextFault::Unknown),
+            None => Err(ShowFault::Unknown),
         },
         Text::Holdings(account) => match AccountNo::new(account) {
             Some(account) => write_holdings_csv(alloc, registry, caller, account, out),
-            None => Err(TextFault::Unknown),
+            None => Err(ShowFault::Unknown),
         },
         Text::Document(act) => match ActNo::new(act) {
             Some(act) => write_cancellation(alloc, registry, caller, act, out),
-            None => Err(TextFault::Unknown),
+            None => Err(ShowFault::Unknown),
         },
         Text::Audit => write_audit(alloc, registry, caller, out),
     }
@@ -56,7 +56,7 @@ fn gives<S: Shelf>(
     registry: &mut Registry<S>,
     caller: &str,
     text: Text,
-    wanted: Result<&str, TextFault>,
+    wanted: Result<&str, ShowFault>,
 ) {
     let caller = HolderCode::read(caller.as_bytes()).expect(rt, "a caller");
     let mut out = Vec::new(alloc);
@@ -75,7 +75,7 @@ pub fn gives_all<S: Shelf>(
     rt: &impl Abort,
     alloc: Global,
     registry: &mut Registry<S>,
-    asked: &[(&str, Text, Result<&str, TextFault>)],
+    asked: &[(&str, Text, Result<&str, ShowFault>)],
 ) {
     for (caller, text, wanted) in asked {
         gives(rt, alloc, registry, caller, *text, *wanted);
@@ -95,13 +95,13 @@ pub fn gives_a_quarter<S: Shelf>(rt: &impl Abort, alloc: Global, registry: &mut 
         &[
             ("ISSUER", Text::Statement(1), Ok(STATEMENT)),
             ("SUN", Text::Statement(1), Ok(STATEMENT)),
-            ("VOLT", Text::Statement(1), Err(TextFault::NotAllowed)),
-            ("SUN", Text::Statement(3), Err(TextFault::NotAllowed)),
-            ("ISSUER", Text::Statement(3), Err(TextFault::Unknown)),
+            ("VOLT", Text::Statement(1), Err(ShowFault::NotAllowed)),
+            ("SUN", Text::Statement(3), Err(ShowFault::NotAllowed)),
+            ("ISSUER", Text::Statement(3), Err(ShowFault::Unknown)),
             ("SUN", Text::Holdings(1), Ok(HOLDINGS)),
-            ("VOLT", Text::Holdings(1), Err(TextFault::NotAllowed)),
+            ("VOLT", Text::Holdings(1), Err(ShowFault::NotAllowed)),
             ("ISSUER", Text::Audit, Ok(AUDIT)),
-            ("SUN", Text::Audit, Err(TextFault::NotAllowed)),
+            ("SUN", Text::Audit, Err(ShowFault::NotAllowed)),
         ],
     );
     sends(rt, alloc, registry, &THERE_AND_BACK[..1]);
@@ -125,8 +125,8 @@ pub fn gives_a_quarter<S: Shelf>(rt: &impl Abort, alloc: Global, registry: &mut 
         registry,
         &[
             ("SUN", Text::Document(1), Ok(DOCUMENT)),
-            ("VOLT", Text::Document(1), Err(TextFault::NotAllowed)),
-            ("ISSUER", Text::Document(2), Err(TextFault::Unknown)),
+            ("VOLT", Text::Document(1), Err(ShowFault::NotAllowed)),
+            ("ISSUER", Text::Document(2), Err(ShowFault::Unknown)),
             ("SUN", Text::Holdings(1), Ok(LEFT)),
         ],
     );

@@ -1,7 +1,9 @@
 //! Declarations imported from CSV.
 
 use goo_core_shelf::shelf::Shelf;
-use goo_files::{Cause, ImportFault, Progress, Report, import_declarations_watched, write_report};
+use goo_files::{
+    Cause, ImportFault, ImportWatcher, Report, import_declarations_watched, write_report,
+};
 use goo_registry::Registry;
 use goo_types::holder_code::HolderCode;
 use std::alloc::Global;
@@ -18,7 +20,7 @@ struct Counted {
     done: u64,
 }
 
-impl Progress for Counted {
+impl ImportWatcher for Counted {
     fn is_watched(&self) -> bool {
         true
     }

@@ -61,7 +61,7 @@ mod registries {
 
 mod texts {
     pub use goo_files::{
-        Cause, ImportFault, Report, RowResult, TextFault, import_declarations, write_audit,
+        Cause, ImportFault, Report, RowResult, ShowFault, import_declarations, write_audit,
         write_cancellation, write_holdings_csv, write_report, write_statement,
     };
 }

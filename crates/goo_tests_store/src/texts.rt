@@ -11,7 +11,7 @@ use crate::script::{APRIL, CANCELLATION, Line, requests};
 use crate::wanted;
 use goo_core_shelf::shelf::Shelf;
 use goo_files::{
-    Cause, ImportFault, Report, TextFault, import_declarations, write_audit, write_cancellation,
+    Cause, ImportFault, Report, ShowFault, import_declarations, write_audit, write_cancellation,
     write_holdings_csv, write_report, write_statement,
 };
 use goo_registry::Registry;
@@ -41,7 +41,7 @@ pub enum Text {
 }
 
 /// Who asks for a text, and what comes of it.
-pub type Asked = (&'static str, Text, Result<&'static str, TextFault>);
+pub type Asked = (&'static str, Text, Result<&'static str, ShowFault>);
 
 /// Of a new registry.
 const AT_FIRST: [Asked; 1] = [("ISSUER", Text::Audit, Ok(""))];
@@ -50,12 +50,12 @@ const AT_FIRST: [Asked; 1] = [("ISSUER", Text::Audit, Ok(""))];
 const IN_APRIL: [Asked; 8] = [
     ("ISSUER", Text::Statement(1), Ok(wanted::STATEMENT)),
     ("SUN", Text::Statement(1), Ok(wanted::STATEMENT)),
-    ("VOLT", Text::Statement(1), Err(TextFault::NotAllowed)),
-    ("ISSUER", Text::Statement(3), Err(TextFault::Unknown)),
+    ("VOLT", Text::Statement(1), Err(ShowFault::NotAllowed)),
+    ("ISSUER", Text::Statement(3), Err(ShowFault::Unknown)),
     ("SUN", Text::Holdings(1), Ok(wanted::HOLDINGS)),
-    ("VOLT", Text::Holdings(1), Err(TextFault::NotAllowed)),
+    ("VOLT", Text::Holdings(1), Err(ShowFault::NotAllowed)),
     ("ISSUER", Text::Audit, Ok(wanted::AUDIT)),
-    ("SUN", Text::Audit, Err(TextFault::NotAllowed)),
+    ("SUN", Text::Audit, Err(ShowFault::NotAllowed)),
 ];
 
 /// While a hundred certificates are in the other account.
@@ -67,8 +67,8 @@ const BACK: [Asked; 1] = [("SUN", Text::Statement(1), Ok(wanted::STATEMENT))];
 /// Once ten are cancelled.
 const CANCELLED: [Asked; 4] = [
     ("SUN", Text::Document(1), Ok(wanted::DOCUMENT)),
-    ("VOLT", Text::Document(1), Err(TextFault::NotAllowed)),
-    ("ISSUER", Text::Document(2), Err(TextFault::Unknown)),
+    ("VOLT", Text::Document(1), Err(ShowFault::NotAllowed)),
+    ("ISSUER", Text::Document(2), Err(ShowFault::Unknown)),
     ("SUN", Text::Holdings(1), Ok(wanted::LEFT)),
 ];
 
@@ -98,30 +98,30 @@ fn given<S: Shelf>(
     caller: &HolderCode,
     text: Text,
     out: &mut Vec<u8>,
-) -> Result<(), TextFault> {
+) -> Result<(), ShowFault> {
     match text {
         Text::Statement(account) => match AccountNo::new(account) {
             Some(account) => write_statement(registry, caller, account, out),
-            None => Err(TextFault::Unknown),
+            None => Err(ShowFault::Unknown),
         },
         Text::Holdings(account) => match AccountNo::new(account) {
             Some(account) => write_holdings_csv(alloc, registry, caller, account, out),
-            None => Err(TextFault::Unknown),
+            None => Err(ShowFault::Unknown),
         },
         Text::Document(act) => match ActNo::new(act) {
             Some(act) => write_cancellation(alloc, registry, caller, act, out),
-            None => Err(TextFault::Unknown),
+            None => Err(ShowFault::Unknown),
         },
         Text::Audit => write_audit(alloc, registry, caller, out),
     }
 }
 
 /// A text is the one that is wanted; where memory was refused, the beginning of it.
-fn is_text(rt: &impl Abort, written: Result<(), TextFault>, text: &[u8], asked: &Asked) {
+fn is_text(rt: &impl Abort, written: Result<(), ShowFault>, text: &[u8], asked: &Asked) {
     let is_so = match (written, asked.2) {
         (Ok(()), Ok(wanted)) => text == wanted.as_bytes(),
-        (Err(TextFault::Memory), Ok(wanted)) => wanted.as_bytes().starts_with(text),
-        (Err(TextFault::Memory), Err(_)) => text.is_empty(),
+        (Err(ShowFault::Memory), Ok(wanted)) => wanted.as_bytes().starts_with(text),
+        (Err(ShowFault::Memory), Err(_)) => text.is_empty(),
         (Err(fault), Err(wanted)) => fault == wanted && text.is_empty(),
         _ => false,
     };
@@ -136,7 +136,7 @@ fn gives<S: Shelf>(rt: &impl Abort, alloc: Global, registry: &mut Registry<S>, a
     let first = given(alloc, registry, &caller, asked.1, &mut text);
     mark(rt, alloc);
     is_text(rt, first, &text, asked);
-    if first == Err(TextFault::Memory) {
+    if first == Err(ShowFault::Memory) {
         text.clear();
         let again = given(alloc, registry, &caller, asked.1, &mut text);
         holds(rt, again != first, "memory again");

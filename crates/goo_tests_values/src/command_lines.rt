@@ -1,6 +1,6 @@
 //! What command lines ask for.
 use crate::claims::holds;
-use goo_cli::{LineFault, Opening, Records, Setting, Task, read_task};
+use goo_cli::{Invocation, LineFault, Opening, Records, Setting, read_task};
 use std::alloc::Global;
 use std::process::Abort;
 
@@ -112,19 +112,19 @@ fn begun(opening: Opening) -> (u8, [u8; 10], u64) {
 }
 
 /// Whether a task is that of these words, of which some are told in short.
-fn is_told(task: &Task<'_>, wanted: &str) -> bool {
+fn is_told(task: &Invocation<'_>, wanted: &str) -> bool {
     match task {
-        Task::Init("x", opening) => {
+        Invocation::Init("x", opening) => {
             wanted == "init" && begun(*opening) == (7, *b"2025-03-01", 999_999_999_999)
         }
-        Task::Run(Records::Memory(opening)) => {
+        Invocation::Run(Records::Memory(opening)) => {
             wanted == "run in memory" && begun(*opening) == (7, *b"2025-03-01", 1)
         }
-        Task::Run(Records::File("x")) => wanted == "run",
-        Task::Declare("x") => wanted == "declare",
-        Task::Statement("x", account) => wanted == "statement" && account.get() == 1,
-        Task::Audit("x") => wanted == "audit",
-        Task::Serve(Records::File("x"), serving) => {
+        Invocation::Run(Records::File("x")) => wanted == "run",
+        Invocation::Declare("x") => wanted == "declare",
+        Invocation::Statement("x", account) => wanted == "statement" && account.get() == 1,
+        Invocation::Audit("x") => wanted == "audit",
+        Invocation::Serve(Records::File("x"), serving) => {
             wanted == "serve" && serving.port == 65_535 && serving.count == 0
         }
         _ => false,

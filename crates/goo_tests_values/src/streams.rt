@@ -1,6 +1,6 @@
 //! Streams that are interrupted, that fail in the middle, and that have no more room.
 use crate::claims::holds;
-use goo_files_streams::{ReadFault, read_whole, write_whole};
+use goo_files_streams::{InputFault, read_whole, write_whole};
 use std::io::{self, ErrorKind, Read, Write};
 use std::process::Abort;
 
@@ -99,7 +99,7 @@ impl Write for Narrow {
 }
 
 /// What was read is this text.
-fn is_text(rt: &impl Abort, read: Result<Vec<u8>, ReadFault>, wanted: &[u8]) {
+fn is_text(rt: &impl Abort, read: Result<Vec<u8>, InputFault>, wanted: &[u8]) {
     holds(
         rt,
         read.expect(rt, "a text").as_slice() == wanted,
@@ -108,10 +108,10 @@ fn is_text(rt: &impl Abort, read: Result<Vec<u8>, ReadFault>, wanted: &[u8]) {
 }
 
 /// Nothing was read.
-fn is_fault(rt: &impl Abort, read: Result<Vec<u8>, ReadFault>) {
+fn is_fault(rt: &impl Abort, read: Result<Vec<u8>, InputFault>) {
     holds(
         rt,
-        read.err() == Some(ReadFault::Read),
+        read.err() == Some(InputFault::Read),
         "a fault of the reader",
     );
 }

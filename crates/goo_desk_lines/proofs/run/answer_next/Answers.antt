@@ -1,7 +1,7 @@
 use Rattle.std.proofs.Common.{rules, ◌<◌, ◌≡◌, ◌++◌, ◌∷◌, [], length, IsErrAnd}
 use Rattle.goo_desk_lines.specs.Answers.{answer_text}
 use Rattle.goo_desk_lines.specs.Faults.{of_desk}
-use Rattle.goo_desk_lines.specs.declared.answer.Answer.{Answer}
+use Rattle.goo_desk_lines.specs.declared.answer.LineAnswer.{LineAnswer}
 use Rattle.goo_desk_lines.proofs.AnswerFacts.{answers-good, answers-bad, writes-part, on-any-err, told_by_desk}
 use Rattle.goo_files_streams.proofs.AppendsFacts.{prefix-whole}
 use Rattle.goo_desk_lines.proofs.DurableFacts.{begun_after, unanswered, untouched}
@@ -32,7 +32,7 @@ returns-in_err-write_line-clause-prefix g c =
 pub returns-in_err-answer-clause-told : goal.returns-in_err-answer-clause-told
 returns-in_err-answer-clause-told g c none =
     let is : IsErrAnd c.from_residual.result (λ e. e ≡ of_desk c.in_err-answer.field-0.0) = search rules in
-    told_by_desk Answer c.in_err-answer.field-0.0 c.from_residual.result _ is (c.in_err-answer.ensures.told none)
+    told_by_desk LineAnswer c.in_err-answer.field-0.0 c.from_residual.result _ is (c.in_err-answer.ensures.told none)
 
 pub returns-then-is_empty-clause-found : goal.returns-then-is_empty-clause-found
 returns-then-is_empty-clause-found g c lies sure =

@@ -5,7 +5,7 @@ use Rattle.goo_files_documents.specs.Counts.{counts_of}
 use Rattle.goo_files_documents.specs.Runs.{statement_line}
 use Rattle.goo_files_documents.specs.Statement.{statement_foot}
 use Rattle.goo_files.specs.Texts.{IsStatement}
-use Rattle.goo_files.specs.declared.text_fault.TextFault.TheVariants as text
+use Rattle.goo_files.specs.declared.text_fault.ShowFault.TheVariants as text
 use Rattle.goo_files.proofs.Framing.{head_broken, lines_cut, foot_ends, foot_cut}
 use Rattle.goo_files.proofs.Whole.{head_of, statement_by}
 use Rattle.goo_files.proofs.statement.write_statement.Goals as goal
