@@ -17,4 +17,5 @@ applied old new result q done = record {
   doubted = done.doubted;
   lied = done.lied;
   told = done.told;
+  stays = λ honest sure. record { counts = (done.stays honest sure).counts; sure = (done.stays honest sure).sure };
 }
