@@ -9,7 +9,7 @@ ghost use Rattle.std.specs.FinMap.{keys as keys_of};
 ghost use Rattle.goo_core_shelf.specs.Shelf.{Looks, totals_of};
 ghost use Rattle.goo_spec.specs.State.{Correction};
 ghost use Rattle.goo_store_audit.specs.Counting.{IsBelow, IsPageAdded, IsTallyOf, all_numbers};
-ghost use Rattle.goo_store_audit.specs.Summing.{AreDeclaredBy, AreTakenBy};
+ghost use Rattle.goo_store_audit.specs.Summing.{AreTakenBy};
 ghost use Rattle.goo_store_rules.specs.Correcting.{AreTakenBack};
 ghost use Rattle.goo_store.specs.Seen.{Blames, seen_by};
 
