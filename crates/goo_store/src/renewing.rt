@@ -56,7 +56,7 @@ pub fn renew<S: Alter, N: Renewal>(
 {
     match judge(alloc, conn, Layout::First) {
         Ok(pieces) => {
-            told.begins();
+            told.begins(&*conn);
             match rewrite(alloc, conn, &pieces) {
                 Ok(()) => Ok(()),
                 Err(trouble) => Err(OpenFault::from(trouble)),
