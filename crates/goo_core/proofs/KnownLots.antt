@@ -50,7 +50,7 @@ module _ (s : State) (q : Request) (reply : Reply) (obeys : Obeys q.command) (so
       let now = sound_accept s q reply obeys accepted sound in
       let known : (lot : LotFields) → IsLotOf (at_of rows) (get (changed s q.command).at) lot → get (accept s q).lots (key_of lot) ≡ Some lot =
       λ lot is. ⊎_elim
-          (λ (before : lot_in (at_of rows is.0) ≡ Some lot). lot_known (accept s q) now is.0 lot (lot_kept is.0 lot (ap lot_in (sym (kept.same is.0)) ∙ before)))
-          (λ (here : lot_in (get (changed s q.command).at is.0) ≡ Some lot). lot_known (accept s q) now is.0 lot here)
-          is.1 in
+      (λ (before : lot_in (at_of rows is.0) ≡ Some lot). lot_known (accept s q) now is.0 lot (lot_kept is.0 lot (ap lot_in (sym (kept.same is.0)) ∙ before)))
+      (λ (here : lot_in (get (changed s q.command).at is.0) ≡ Some lot). lot_known (accept s q) now is.0 lot here)
+      is.1 in
       lots_weaker (IsLotOf (at_of rows) (get (changed s q.command).at)) (λ lot. get (accept s q).lots (key_of lot) ≡ Some lot) known edits lots

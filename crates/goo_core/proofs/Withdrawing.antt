@@ -88,10 +88,13 @@ module _ (range part : Numbers) (run : Piece) (act : ℕ) (common : AreCommon ru
   part_made met change old new es edits edit are exact was now apart map small made =
       let one : IsEditWithin range (edited_all es met) edit = subst (λ b. IsEditWithin range b edit) made.book_is (within-of_book range old new edit (moved part.first part.last place) exact was now apart beyond map) in
       let still : (lot : LotFields) → IsLotOf (at_of met) (at_of old) lot → IsLotOf (at_of met) (at_of new) lot =
-      λ lot is. (is.0, ⊎_elim
-          (λ (before : lot_in (at_of met is.0) ≡ Some lot). inl before)
-          (λ (here : lot_in (at_of old is.0) ≡ Some lot). inr (ap lot_in (map is.0) ∙ moved_lot (inside part.first part.last is.0) place (at_of old is.0) ∙ here))
-          is.1) in
+      λ lot is. (
+        is.0,
+        ⊎_elim
+            (λ (before : lot_in (at_of met is.0) ≡ Some lot). inl before)
+            (λ (here : lot_in (at_of old is.0) ≡ Some lot). inr (ap lot_in (map is.0) ∙ moved_lot (inside part.first part.last is.0) place (at_of old is.0) ∙ here))
+            is.1,
+      ) in
       let begins : range.first ≤ part.first = let first = common.0 in omega (arith, first) in
       let ends : part.last ≤ range.last = let last = common.1 in omega (arith, last) in
       let few : IsSmallFor (range ∷ []) (edited_all es met) edit = (range, (0, omega arith, refl), small-for_more part.first part.last range.first range.last (edited_all es met) edit begins ends (subst (λ b. IsSmall part.first part.last b edit) made.book_is small)) in
