@@ -85,11 +85,12 @@ pub fn read_request(bytes: &[u8]) -> Result<Received<'_>, RefusedHead>
     }
 }
 
-/// At how many bytes those of a stream that begins with these are looked at next. `None` where the bytes that may follow these
-/// change nothing: all bytes that begin with these are then read, or refused, as these are.
+/// At how many bytes those of a stream that begins with these are looked at next. `None` where the
+/// bytes that may follow these change nothing: all bytes that begin with these are then read, or
+/// refused, as these are.
 ///
-/// - `waits`: where they may change it, no head has come yet, and a byte more may end it; or not all of its body, which ends at
-///   this length.
+/// - `waits`: where they may change it, no head has come yet, and a byte more may end it; or not
+///   all of its body, which ends at this length.
 pub fn bytes_wanted(bytes: &[u8]) -> Option<usize>
     ensures sure { IfNone result (IsSure bytes.now) }
     ensures waits { IfSome result (λ wanted. IsWaiting bytes.now wanted) }
