@@ -1,5 +1,5 @@
 -- What is sent, by what was answered.
-use Rattle.std.proofs.Common.{◌≡◌, ◌≤◌, arith, ℕ, List, [], Option, Some, None, Result, Ok, Err, IfErr, IfOk, IfSome, OnOk, OnErr, refl, inl, inr}
+use Rattle.std.proofs.Common.{◌≡◌, arith, ℕ, List, [], Option, Some, None, Result, Ok, Err, IfErr, IfOk, IfSome, OnOk, OnErr, refl, inl, inr}
 use Rattle.std.proofs.lemmas.List.{append-nil}
 use Rattle.std.specs.Io.KnownBytes.{Appends, Consumes, IsAtEnd}
 use Rattle.goo_files_streams.specs.Streams.{AppendsPrefix, IsWholeOf}

@@ -1,5 +1,5 @@
 -- Only a failed call brings a doubt, line after line.
-use Rattle.std.proofs.Common.{◌≡◌, ◌≤◌, ◌+◌, ◌-◌, ◌^◌, min, arith}
+use Rattle.std.proofs.Common.{◌≡◌, arith}
 use Rattle.goo_registry_desk.specs.Desk.{Seen, StaysSure}
 
 -- nothing was called
