@@ -1,16 +1,17 @@
 -- Bytes are answered in one way: the response is a function of the bytes and of what the registry knows.
-use Rattle.std.proofs.Common.{◌≡◌, ◌∙◌, ℕ, Bool, List, Result, Ok, Err, sym, ap, refl, subst}
+use Rattle.std.proofs.Common.{◌≡◌, ◌∙◌, ℕ, Bool, List, Option, Result, Ok, Err, sym, ap, refl, subst}
 use Rattle.goo_spec.specs.State.{State}
 use Rattle.goo_desk_heads.proofs.HeadFacts.{decides-one}
-use Rattle.goo_desk_heads.specs.Requests.{Parts}
+use Rattle.goo_desk_heads.specs.Requests.{Decides, Parts}
 use Rattle.goo_desk_heads.specs.declared.request.RefusedHead.{RefusedHead}
 use Rattle.goo_desk_responses.specs.Responses.{Response}
 use Rattle.goo_desk_responses.specs.declared.status.Status.{Status}
 use Rattle.goo_desk_routes.specs.declared.task.Task.{Task}
 use Rattle.goo_desk_routes.specs.declared.task.Task.TheVariants.{Apply, Import, Show}
+use Rattle.goo_core_answers.specs.declared.denial.Denial.{Denial}
 use Rattle.goo_desk_counter.specs.Counters.{Showing, Importing, ShowsOne, ImportsOne}
 use Rattle.goo_desk_answers.specs.Handling.{handling_of}
-use Rattle.goo_desk_answers.specs.Responds.{IsFixed, IsGiven, Does, Handles, RespondsTo, IsOneResponse, show_response, import_response}
+use Rattle.goo_desk_answers.specs.Responds.{IsFixed, IsGiven, Does, Handles, RespondsTo, Responds, IsOneResponse, show_response, import_response}
 use Rattle.goo_desk_answers.specs.declared.handling.Handling.{Handling}
 use Rattle.goo_desk_answers.specs.declared.handling.Handling.TheVariants.{Fixed, Own}
 
