@@ -27,7 +27,9 @@ use Rattle.goo_desk_server.specs.Runs as serving
 use Rattle.goo_desk_lines.specs.Fold.{lines}
 use Rattle.goo_cli_ending.specs.Endings.{status_of}
 use Rattle.goo_cli_files.specs.Imports.{DeclaredIn}
-use Rattle.goo_cli_files.specs.Works.{AreAnswered, IsAudited, IsServed, IsStated}
+use Rattle.goo_cli_files.specs.Durable.{FindsImported}
+use Rattle.goo_cli_files.specs.Stopped as stopping
+use Rattle.goo_cli_files.specs.Works.{AreAnswered, AreImported, IsAudited, IsServed, IsStated}
 
 pub wrote_begun : (right : State → List ℕ → Type 0) (had has : Option (List ℕ)) (seen begun : State) → seen ≡ begun → Wrote had has (right seen) → Wrote had has (right begun)
 wrote_begun right had has seen begun same told = subst (λ (s : State). Wrote had has (right s)) same told
@@ -88,6 +90,13 @@ pub answered : {D : Type 0} {g : Ghosts D} (s : State) (read had has : Option (L
 answered s None had has told rest all_done not_all_done written kept stopped promised found = tt
 answered s (Some input) had has told rest all_done not_all_done written kept stopped promised found =
     record { all_done = all_done; not_all_done = not_all_done; written = written; kept = kept; stopped = stopped; promised = promised; found = found }
+
+-- the rows of an input, by what an import of them says
+pub imported : {D : Type 0} {g : Ghosts D} (s : State) (read had has : Option (List ℕ)) (told : Ending) (rest : Left D g) → IfSome read (λ input. DeclaredIn s input had has told rest)
+    → IfSome read (λ input. IfOpened rest (stopping.HoldsStopped rest input s had has told)) → IfSome read (λ input. IfOpened rest (FindsImported rest input s had has))
+    → IfSome read (AreImported s read had has told rest)
+imported s None had has told rest declared stopped found = tt
+imported s (Some input) had has told rest declared stopped found = record { declared = declared; stopped = stopped; found = found }
 
 pub stated : {D : Type 0} {g : Ghosts D} (s : State) (read had has : Option (List ℕ)) (told : Ending) (rest : Left D g) (account : ℕ) → (status_of told ≡ 0 → Wrote had has (IsStatement s account)) → (status_of told ≡ 1 → get s.accounts account ≡ None)
     → (status_of told ≡ 1 → Keeps had has) → HasState s rest → IsStated s read had has told rest account
