@@ -132,6 +132,7 @@ module _ (s : State) (rows : List Piece) (caller : List ℕ) (x : Correct) (kept
         turned = rw (edits, after_by None is) none.turned;
         few = rw edits (omega arith);
         small = rw edits tt;
+        lots = rw (edits, after_by None is) none.lots;
       }
 
   pub ruled_ranged : (met : List Piece) (range : Numbers) (own next c : ℕ) (ruling : Ruling) → x.range ≡ Some range → own ≡ s.own → next ≡ s.next_withdrawal → c ≡ (remaining s x.device - x.less) % certificate → met ≡ meeting range rows

@@ -15,6 +15,7 @@ pub mod Arrivals
 pub mod Importing
 pub mod Withdrawing
 pub mod Correcting
+pub mod KnownLots
 pub mod Deciding
 pub mod Stopping
 pub mod AccountRuns

@@ -1,5 +1,5 @@
 -- Certificates that are withdrawn run by run.
-use Rattle.std.proofs.Common.{◌≡◌, ◌∙◌, ℕ, ◌+◌, ◌<◌, ◌≤◌, List, [], ◌∷◌, ◌++◌, Bool, true, false, cond, ◌&&◌, if◌then◌else◌, Option, Some, None, refl, ap, sym, subst, arith, inr}
+use Rattle.std.proofs.Common.{◌≡◌, ◌∙◌, ℕ, ◌+◌, ◌<◌, ◌≤◌, List, [], ◌∷◌, ◌++◌, Bool, true, false, cond, ◌&&◌, if◌then◌else◌, Option, Some, None, refl, ap, sym, subst, arith, ⊎_elim, inl, inr}
 use Rattle.std.specs.Prelude.{not, length, count_by, Vec, Result, Ok, Err, IfOk}
 use Rattle.std.specs.Global.{Global}
 use Rattle.goo_types.specs.declared.fault.Fault.{Fault}
@@ -10,6 +10,7 @@ use Rattle.std.proofs.lemmas.List.Sums.{sum_by-append, sum_by-cons}
 use Rattle.goo_types.specs.Piece.{Label, label_of, covers, at_of, IsRising, IsRisingFrom}
 use Rattle.goo_types.specs.Place.{account_of}
 use Rattle.goo_types.specs.Range.{Numbers}
+use Rattle.goo_types.specs.declared.lot_fields.LotFields.{LotFields}
 use Rattle.goo_types.specs.declared.piece.Piece.{Piece}
 use Rattle.goo_types.specs.declared.place.Place.{Place}
 use Rattle.goo_types.specs.declared.place.Place.TheVariants.{Withdrawn}
@@ -27,7 +28,7 @@ use Rattle.goo_types.specs.declared.command.Withdraw.{Withdraw}
 use Rattle.goo_types.specs.declared.refusal.Refusal.TheVariants.{NotAllowed}
 use Rattle.goo_types.specs.declared.reply.Reply.TheVariants as reply
 use Rattle.goo_spec.specs.Checks.{first_refusal, when, is_issuer}
-use Rattle.goo_spec.specs.Lots.{is_held}
+use Rattle.goo_spec.specs.Lots.{is_held, lot_in}
 use Rattle.goo_spec.specs.Maps.{count_of}
 use Rattle.goo_spec.specs.State.{State}
 use Rattle.goo_spec.specs.Withdraw.{withdraw_refusal, withdraw_reply, with_withdrawal}
@@ -36,11 +37,12 @@ use Rattle.goo_core.specs.Moves.{IsChangeRuling}
 use Rattle.goo_core.specs.Ruling.{IsRuling, plain_meaning}
 use Rattle.goo_core_checks.specs.declared.ruling.Ruling.{Ruling}
 use Rattle.goo_core.proofs.Rulings.{ruled_change}
-use Rattle.goo_core_checks.specs.Changes.{AreEditsFor, AreSmall, IsSmallFor}
+use Rattle.goo_core_checks.specs.Changes.{AreEditsFor, AreSmall, IsSmallFor, AreOfLots, IsLotOf}
 use Rattle.goo_core.specs.Changes.{AreMade}
 use Rattle.goo_ranges.specs.Sparing.{IsSmall}
 use Rattle.goo_ranges.proofs.Sparing.{small-for_more}
 use Rattle.goo_core_checks.proofs.Changing.{small-push}
+use Rattle.goo_core_checks.proofs.Lots.{inserted_lots, lots_weaker, lots_push, moved_lot}
 use Rattle.goo_core.specs.Withdraw.{withdrawn, run_withdrawn, runs_withdrawn, range_checks, AreCommon}
 use Rattle.goo_core.specs.AccountRuns.{account_in, account_runs}
 use Rattle.goo_core.proofs.AccountRuns.{few_runs, met_runs}
@@ -60,6 +62,7 @@ none_made range met change book edits run act apart made = record {
   within = made.within;
   book_is = made.book_is;
   small = made.small;
+  lots = made.lots;
   changes = λ n. made.changes n ∙ sym (ap (λ (b : Bool). if b then option_map (λ (label : Label). (label.0, Withdrawn (account_of run.place) act)) (change n (at_of met n)) else change n (at_of met n)) (common_none run range n apart));
 }
 
@@ -84,6 +87,14 @@ module _ (range part : Numbers) (run : Piece) (act : ℕ) (common : AreCommon ru
       → AreMade range met change old es → AreMade range met (λ n o. run_withdrawn range act run n (change n o)) new edits
   part_made met change old new es edits edit are exact was now apart map small made =
       let one : IsEditWithin range (edited_all es met) edit = subst (λ b. IsEditWithin range b edit) made.book_is (within-of_book range old new edit (moved part.first part.last place) exact was now apart beyond map) in
+      let still : (lot : LotFields) → IsLotOf (at_of met) (at_of old) lot → IsLotOf (at_of met) (at_of new) lot =
+      λ lot is. (
+        is.0,
+        ⊎_elim
+            (λ (before : lot_in (at_of met is.0) ≡ Some lot). inl before)
+            (λ (here : lot_in (at_of old is.0) ≡ Some lot). inr (ap lot_in (map is.0) ∙ moved_lot (inside part.first part.last is.0) place (at_of old is.0) ∙ here))
+            is.1,
+      ) in
       let begins : range.first ≤ part.first = let first = common.0 in omega (arith, first) in
       let ends : part.last ≤ range.last = let last = common.1 in omega (arith, last) in
       let few : IsSmallFor (range ∷ []) (edited_all es met) edit = (range, (0, omega arith, refl), small-for_more part.first part.last range.first range.last (edited_all es met) edit begins ends (subst (λ b. IsSmall part.first part.last b edit) made.book_is small)) in
@@ -94,6 +105,8 @@ module _ (range part : Numbers) (run : Piece) (act : ℕ) (common : AreCommon ru
             ∙ ap (λ (b : Bool). if b then option_map (λ (label : Label). (label.0, place)) (at_of old n) else at_of old n) (common_inside run range part n common)
             ∙ ap (run_withdrawn range act run n) (made.changes n);
         small = subst (AreSmall (range ∷ []) met) (sym are) (small-push (range ∷ []) met es edit made.small (inr few));
+        lots = subst (AreOfLots (IsLotOf (at_of met) (at_of new))) (sym are) (lots_push (IsLotOf (at_of met) (at_of new)) es edit (lots_weaker (IsLotOf (at_of met) (at_of old)) (IsLotOf (at_of met) (at_of new)) still es made.lots)
+            (inserted_lots (at_of met) old new edit exact now));
       }
 
 -- one run more
@@ -142,6 +155,7 @@ pub withdrawn_edits : (range : Numbers) (act : ℕ) (runs book new : List Piece)
 withdrawn_edits range act runs book new edits are made = record {
   within = made.within;
   small = made.small;
+  lots = subst (λ l. AreOfLots (IsLotOf (at_of book) (at_of l)) edits) made.book_is made.lots;
   changes = λ n. ap (λ l. at_of l n) (sym made.book_is) ∙ made.changes n ∙ all_withdrawn range act 0 runs n (at_of book n) (runs-rise book runs are) (accounts-alike book runs are n);
 }
 

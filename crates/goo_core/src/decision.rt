@@ -86,6 +86,8 @@ fn decide_fresh<S: Shelf>(
     requires fresh { (S.seen shelf.old).doubts ≡ 0 → get (S.seen shelf.old).state.receipts (request.now.caller, request.now.key) ≡ None }
     ensures { Looks (S.seen shelf.old) (S.seen shelf.new) result (IsDecision (S.seen shelf.old).state (S.seen shelf.old).rows request.now) }
 {
+    // A request in hand is within its limits: its command comes with that fact.
+    let _ = request.command();
     let ruling = judge(alloc, shelf, &request.caller, &request.command)?;
     decision_by(alloc, request, ruling)
 }

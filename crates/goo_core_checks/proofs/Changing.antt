@@ -17,7 +17,8 @@ use Rattle.goo_ranges_rows.specs.Plans.{AreEditsWithin}
 use Rattle.goo_ranges_rows.specs.Rows.{edited, edited_all}
 use Rattle.goo_ranges_rows.proofs.Framing.{IsMet}
 use Rattle.goo_ranges_rows.proofs.Chains.{within-of_book, edited-exact, edit-framed, block-framed}
-use Rattle.goo_core_checks.specs.Changes.{IsOneForOne, IsSmallFor, AreSmall, AreEditsFor}
+use Rattle.goo_core_checks.specs.Changes.{IsOneForOne, IsSmallFor, AreSmall, AreOfLots, IsLotOf, AreEditsFor}
+use Rattle.goo_core_checks.proofs.Lots.{one_lots}
 
 pub moved-outside : (range : Numbers) (place : Place) (n : ℕ) (o : Option Label) → inside range.first range.last n ≡ false → moved range.first range.last place n o ≡ o
 moved-outside range place n o out = ap (λ (b : Bool). if b then option_map (λ (label : Label). (label.0, place)) o else o) out
@@ -66,9 +67,11 @@ pub one_edit : (range : Numbers) (old new : List Piece) (edit : Edit) (edits : L
     → ((n : ℕ) (o : Option Label) → inside range.first range.last n ≡ false → change n o ≡ o)
     → ((n : ℕ) → at_of new n ≡ change n (at_of old n)) → AreEditsFor range old change edits
 one_edit range old new edit edits change is exact was now apart small outside changes =
+    let after : edited edit old ≡ new = edited-exact old new edit exact was now in
     let one : AreEditsFor range old change (edit ∷ []) = record {
       within = (within-of_book range old new edit change exact was now apart outside changes, tt);
-      changes = λ n. ap (λ l. at_of l n) (edited-exact old new edit exact was now) ∙ changes n;
+      changes = λ n. ap (λ l. at_of l n) after ∙ changes n;
       small = subst (AreSmall (range ∷ []) old) is small;
+      lots = subst (λ l. AreOfLots (IsLotOf (at_of old) (at_of l)) (edit ∷ [])) (sym after) (one_lots (at_of old) old new edit exact now);
     } in
     subst (AreEditsFor range old change) (sym is) one

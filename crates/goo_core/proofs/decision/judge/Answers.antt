@@ -110,3 +110,13 @@ pub returns-in-Export : goal.returns-in-Export
 returns-in-Export g c =
     let old = g.S.Shelf.seen c.args.shelf.now in
     subst (λ command. Looks old (g.S.Shelf.seen c.judge_export.new.shelf) c.judge_export.result (IsRuling (meaning_of old.state c.args.caller.now command) old.rows)) (sym c.in-Export.is) c.judge_export.ensures
+
+pub returns-in-Transfer : goal.returns-in-Transfer
+returns-in-Transfer g c =
+    let old = g.S.Shelf.seen c.args.shelf.now in
+    subst (λ command. Looks old (g.S.Shelf.seen c.judge_transfer.new.shelf) c.judge_transfer.result (IsRuling (meaning_of old.state c.args.caller.now command) old.rows)) (sym c.in-Transfer.is) c.judge_transfer.ensures
+
+pub returns-in-Import : goal.returns-in-Import
+returns-in-Import g c =
+    let old = g.S.Shelf.seen c.args.shelf.now in
+    subst (λ command. Looks old (g.S.Shelf.seen c.judge_import.new.shelf) c.judge_import.result (IsRuling (meaning_of old.state c.args.caller.now command) old.rows)) (sym c.in-Import.is) c.judge_import.ensures
