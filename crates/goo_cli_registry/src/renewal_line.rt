@@ -1,6 +1,7 @@
 //! What is told of a registry of version 1 before it becomes one of version 2.
 
 use goo_store::renewal::Renewal;
+use sqlite::{Alter, Connection};
 use std::io::Write;
 
 /// The line on standard error that tells whose records are about to be changed, and into what. A write that fails is passed over:
@@ -20,7 +21,7 @@ impl<'a, T: Write> RenewalLine<'a, T> {
 }
 
 impl<'a, T: Write> Renewal for RenewalLine<'a, T> {
-    fn begins(&mut self) {
+    fn begins<S: Alter>(&mut self, _conn: &Connection<S>) {
         for part in ["goo: ", self.path, ": version 1 becomes version 2\n"] {
             if self.errors.write_all(part.as_bytes()).is_err() {
                 return;

@@ -33,7 +33,7 @@ use Rattle.goo_store_lookups.specs.Holding.{sure}
 use Rattle.goo_store_lookups.specs.Moments.{IsWell, tables_in}
 use Rattle.goo_store_lookups.specs.Opening.{Judges}
 use Rattle.goo_store_lookups.proofs.Judging.{keys_of}
-use Rattle.goo_store.specs.FirstTables.{Rewrites, Renews}
+use Rattle.goo_store.specs.FirstTables.{HoldsFirst, Rewrites, Renews}
 
 -- ---- the pieces are joined, in one transaction
 
@@ -135,6 +135,10 @@ module _ {T : Type 0} (listed : T → List PieceRow) (a b c : State) (x : T) (ju
     kept_after =
         let tables = was_met.ours ((judges.rests late was_met).was_open live) in
         renewed_kept them.0 them.2 (own_fields (seen_by First a.now) them.0 (keys_of First a.now them.0 tables them.1) them.1 them.2.readable.lots (keys_of First a.now them.0 tables them.1).lots)
+
+  -- they still hold when their renewal is told
+  pub still_first : HoldsFirst b
+  still_first late = ((them late).0, first_still late, (them late).2)
 
   pub renewed_first : {U V E : Type 0} (y : U) (z : V) (ps : List PieceRow) → ps ≡ listed x → Rewrites {E = E} b c ps (Ok y) → Renews a c (Ok z)
   renewed_first y z ps given writes = record {

@@ -22,6 +22,10 @@ pub record Rewrites {T E : Type 0} (old new : State) (pieces : List PieceRow) (r
   pub rests : HasCleanDisk new → (t : Tables) → IsFirst old.now t → t.pieces ≡ pieces → OnErr result (Rests old new)
   pub crash : HasCleanDisk new → (t : Tables) → IsFirst old.now t → t.pieces ≡ pieces → (db : Trees) → new.may_leave db → old.may_leave db ⊎ HoldsOurs old.is_open (renewed t) db
 
+-- the database holds tables of version 1 that keep the rules of their version
+abbrev pub HoldsFirst : State → Type 0
+HoldsFirst s = HasCleanDisk s → (t : Tables) × IsFirst s.now t × AreKeptIn 1 t
+
 -- the tables of version 1 that a database held and that keep their rules, renewed, and listed as ours
 abbrev pub HoldsRenewed : Database → Trees → Type 0
 HoldsRenewed old db = (t : Tables) × IsFirst old t × AreKeptIn 1 t × AreKept (renewed t) × Holds (renewed t) db × AreOurs db

@@ -4,7 +4,6 @@ use Rattle.sqlite_disk.specs.Disk.{MoreFaults}
 use Rattle.sqlite.specs.State.{State, HasCleanDisk}
 use Rattle.goo_types.specs.declared.fault.Fault.{Fault}
 use Rattle.goo_types.specs.declared.fault.Fault.TheVariants.{Store}
-use Rattle.goo_spec.specs.Step.{accept}
 use Rattle.goo_core_shelf.specs.Plan.{Fits}
 use Rattle.goo_core_shelf.specs.declared.plan.Plan.{Plan}
 use Rattle.goo_tables_rows.specs.Rows.{Tables}

@@ -10,3 +10,4 @@ pub mod NextRows
 pub mod FirstTables
 pub mod Versions
 pub mod Issuing
+pub mod Seen

@@ -2,14 +2,12 @@
 
 ghost use Rattle.std.specs.Prelude.{◌≡◌, IfSome, IsTrue, option_map};
 ghost use Rattle.std.specs.FinMap.{get};
-ghost use Rattle.sqlite.specs.Held.{state as view};
 ghost use Rattle.goo_tables_rows.specs.Rows.{account_in};
 ghost use Rattle.goo_core_shelf.specs.Shelf.{Looks};
-ghost use Rattle.goo_store_lookups.specs.Moments.{moment};
-ghost use Rattle.goo_store_lookups.specs.StoreFaults.{BlamesStore};
 ghost use Rattle.goo_spec_tables.specs.States.{account_of};
 ghost use Rattle.goo_spec_tables.specs.Readable.{is_account};
 ghost use Rattle.goo_store_values.specs.Passing.{Accepts, Passes};
+ghost use Rattle.goo_store.specs.Seen.{Blames, seen_by};
 
 use crate::lasting::keep_account;
 use crate::sql_shelf::SqlShelf;
@@ -25,8 +23,10 @@ use sqlite::{Alter, Error};
 
 /// The account in its row.
 fn read_account(found: Result<Option<AccountRow>, Error>) -> Result<Option<Account>, Trouble>
-    ensures value { Passes found result (λ row account. account ≡ option_map account_of (option_map account_in row)) }
-    ensures accepts { Accepts found result (λ row. IfSome row (λ r. IsTrue (is_account (account_in r)))) }
+    ensures value { Passes found result
+        (λ row account. account ≡ option_map account_of (option_map account_in row)) }
+    ensures accepts { Accepts found result
+        (λ row. IfSome row (λ r. IsTrue (is_account (account_in r)))) }
 {
     let Some(row) = found? else {
         return Ok(None);
@@ -38,8 +38,9 @@ fn read_account(found: Result<Option<AccountRow>, Error>) -> Result<Option<Accou
 impl<S: Alter> SqlShelf<S> {
     /// An account: the one that is kept, or else the one in the table, which is kept then.
     pub(crate) fn look_up_account(&mut self, account: AccountNo) -> Result<Option<Account>, Fault>
-        ensures looks { Looks (moment (view S.Store self.old.conn) self.old.refused) (moment (view S.Store self.new.conn) self.new.refused) result (λ found. found ≡ get (moment (view S.Store self.old.conn) self.old.refused).state.accounts account) }
-        ensures store { BlamesStore (view S.Store self.old.conn) (view S.Store self.new.conn) self.old.refused result }
+        ensures looks { Looks (seen_by self.old) (seen_by self.new) result
+            (λ found. found ≡ get (seen_by self.old).state.accounts account) }
+        ensures store { Blames self.old self.new result }
     {
         if self.refused {
             return Err(Fault::Store);

@@ -36,14 +36,17 @@ pub struct RowAhead {
 
 /// Whether this is what comes after an account's row that ends at the number.
 fn is_after(kept: &RowAhead, account: AccountNo, after: u64) -> bool
-    ensures { IsTrue result → (kept.now.account ≡ account) × (kept.now.after ≡ after) × IfSome kept.now.row (EndsFrom (after + 1)) }
+    ensures { IsTrue result → (kept.now.account ≡ account) × (kept.now.after ≡ after)
+        × IfSome kept.now.row (EndsFrom (after + 1)) }
 {
     kept.account == account && kept.after == after && is_none_or_beyond(&kept.row, after)
 }
 
 /// What comes after an account's row that ends at a number, where it is kept.
 pub fn ahead_among(ahead: &[RowAhead], account: AccountNo, after: u64) -> Option<Option<Piece>>
-    ensures kept { IfSome result (λ row. (rows : List Piece) → AreAhead rows ahead.now → row ≡ next_row account (Some after) rows) }
+    ensures kept { IfSome result
+        (λ row. (rows : List Piece) → AreAhead rows ahead.now
+        → row ≡ next_row account (Some after) rows) }
     ensures beyond { IfSome result (λ row. IfSome row (EndsFrom (after + 1))) }
 {
     for kept in ahead {
@@ -56,7 +59,8 @@ pub fn ahead_among(ahead: &[RowAhead], account: AccountNo, after: u64) -> Option
 
 /// Keeps what comes after an account's row; where memory for it is refused, it isn't kept.
 fn keep_after(ahead: &mut Vec<RowAhead>, account: AccountNo, after: u64, row: Option<Piece>)
-    ensures { (rows : List Piece) → row ≡ next_row account (Some after) rows → AreAhead rows ahead.old.items → AreAhead rows ahead.new.items }
+    ensures { (rows : List Piece) → row ≡ next_row account (Some after) rows
+        → AreAhead rows ahead.old.items → AreAhead rows ahead.new.items }
 {
     let _kept = ahead.extend_from_slice(&[RowAhead {
         account,
@@ -67,7 +71,8 @@ fn keep_after(ahead: &mut Vec<RowAhead>, account: AccountNo, after: u64, row: Op
 
 /// Keeps a page of an account's rows in place of what was kept, each after the one before it.
 fn keep_page(ahead: &mut Vec<RowAhead>, account: AccountNo, after: u64, page: &[Piece])
-    ensures { (rows : List Piece) → IsPageOf account after rows page.now → AreAhead rows ahead.new.items }
+    ensures { (rows : List Piece) → IsPageOf account after rows page.now
+        → AreAhead rows ahead.new.items }
 {
     ahead.clear();
     let mut end = after;
@@ -80,7 +85,8 @@ fn keep_page(ahead: &mut Vec<RowAhead>, account: AccountNo, after: u64, page: &[
     }
 }
 
-/// The row that a page of an account's rows was asked to follow, once the page is kept. The lots of the page are kept too.
+/// The row that a page of an account's rows was asked to follow, once the page is kept. The lots of
+/// the page are kept too.
 pub fn read_page(
     alloc: Global,
     found: Result<Vec<JoinedRow>, Error>,
@@ -93,7 +99,8 @@ pub fn read_page(
     ensures accepts { Accepts found result (λ rows. AreReadablePieces rows.items) }
     ensures row { IfOk result (λ shown. shown ≡ Some row) }
     ensures kept { KeepsRead found (λ rows. rows.items) lots.old.items lots.new.items }
-    ensures ahead { KeepsAhead found (λ rows. rows.items) account row.last ahead.old.items ahead.new.items }
+    ensures ahead { KeepsAhead found
+        (λ rows. rows.items) account row.last ahead.old.items ahead.new.items }
 {
     let page = read_rising(alloc, found, lots)?;
     keep_page(ahead, account, row.last.get(), &page);

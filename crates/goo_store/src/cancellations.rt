@@ -2,14 +2,12 @@
 
 ghost use Rattle.std.specs.Prelude.{◌≡◌, IfSome, IsTrue, option_map};
 ghost use Rattle.std.specs.FinMap.{get};
-ghost use Rattle.sqlite.specs.Held.{state as view};
 ghost use Rattle.goo_tables_rows.specs.Rows.{cancellation_in};
 ghost use Rattle.goo_core_shelf.specs.Shelf.{Looks};
-ghost use Rattle.goo_store_lookups.specs.Moments.{moment};
-ghost use Rattle.goo_store_lookups.specs.StoreFaults.{BlamesStore};
 ghost use Rattle.goo_spec_tables.specs.Records.{cancellation_of};
 ghost use Rattle.goo_spec_tables.specs.Readable.{is_cancellation};
 ghost use Rattle.goo_store_values.specs.Passing.{Accepts, Passes};
+ghost use Rattle.goo_store.specs.Seen.{Blames, seen_by};
 
 use crate::sql_shelf::SqlShelf;
 use goo_core_shelf::cancel_record::CancelRecord;
@@ -27,8 +25,10 @@ use sqlite::{Alter, Error};
 fn read_record(
     found: Result<Option<CancellationRow>, Error>,
 ) -> Result<Option<CancelRecord>, Trouble>
-    ensures value { Passes found result (λ row kept. kept ≡ option_map cancellation_of (option_map cancellation_in row)) }
-    ensures accepts { Accepts found result (λ row. IfSome row (λ r. IsTrue (is_cancellation (cancellation_in r)))) }
+    ensures value { Passes found result
+        (λ row kept. kept ≡ option_map cancellation_of (option_map cancellation_in row)) }
+    ensures accepts { Accepts found result
+        (λ row. IfSome row (λ r. IsTrue (is_cancellation (cancellation_in r)))) }
 {
     let Some(row) = found? else {
         return Ok(None);
@@ -49,8 +49,9 @@ impl<S: Alter> SqlShelf<S> {
         &mut self,
         cancellation: ActNo,
     ) -> Result<Option<CancelRecord>, Fault>
-        ensures looks { Looks (moment (view S.Store self.old.conn) self.old.refused) (moment (view S.Store self.new.conn) self.new.refused) result (λ found. found ≡ get (moment (view S.Store self.old.conn) self.old.refused).state.cancellations cancellation) }
-        ensures store { BlamesStore (view S.Store self.old.conn) (view S.Store self.new.conn) self.old.refused result }
+        ensures looks { Looks (seen_by self.old) (seen_by self.new) result
+            (λ found. found ≡ get (seen_by self.old).state.cancellations cancellation) }
+        ensures store { Blames self.old self.new result }
     {
         if self.refused {
             return Err(Fault::Store);

@@ -1,16 +1,16 @@
 //! Carrying out plans: what a plan changes is gathered first, and then made in one transaction.
 
 ghost use Rattle.std.specs.Prelude.{◌≡◌, All, IfErr, IfOk, OnErr, OnOk};
-ghost use Rattle.sqlite.specs.Held.{state as view};
 ghost use Rattle.goo_core_shelf.specs.Plan.{Fits, Commits};
 ghost use Rattle.goo_store_changes.specs.Changes.{ChangeFits, made_all};
 ghost use Rattle.goo_store_plans.specs.Found.{AreNone, IsBasisOf, IsNoBasis};
-ghost use Rattle.goo_store_lookups.specs.Moments.{moment, tables_in};
+ghost use Rattle.goo_store_lookups.specs.Moments.{tables_in};
 ghost use Rattle.goo_store_plans.specs.Planned.{IsPlanned};
 ghost use Rattle.goo_store.specs.Preparing.{Prepares};
-ghost use Rattle.goo_store.specs.Gathering.{BlamesCommit, CanCarryOut, HaveWhatItNeeds};
+ghost use Rattle.goo_store.specs.Gathering.{CanCarryOut, HaveWhatItNeeds};
 ghost use Rattle.goo_store_values.specs.Passing.{IsTroubleOf};
 ghost use Rattle.goo_store_values.specs.Telling.{PassesOn};
+ghost use Rattle.goo_store.specs.Seen.{BlamesPlan, database_of, seen_by};
 
 use crate::kept_registry_row::{copied, row_after};
 use crate::sql_shelf::SqlShelf;
@@ -48,15 +48,20 @@ fn known_after(made: &Result<(), Error>, after: KnownBasis) -> KnownBasis
 }
 
 impl<S: Alter> SqlShelf<S> {
-    /// The changes that carry out a plan. Nothing is changed yet, and nothing that was found is kept
-    /// any more.
+    /// The changes that carry out a plan. Nothing is changed yet, and nothing that was found is
+    /// kept any more.
     fn changes_for(&mut self, alloc: Global, plan: &Plan) -> Result<Planned, Fault>
-        ensures prepares { Prepares (moment (view S.Store self.old.conn) self.old.refused) (moment (view S.Store self.new.conn) self.new.refused) result }
-        ensures planned { (moment (view S.Store self.new.conn) self.new.refused).doubts ≡ 0 → IfOk result (λ planned. Fits (moment (view S.Store self.new.conn) self.new.refused).state (moment (view S.Store self.new.conn) self.new.refused).rows plan.now → IsPlanned (tables_in (view S.Store self.new.conn)) planned.changes.items plan.now × IsBasisOf planned.after (made_all (tables_in (view S.Store self.new.conn)) planned.changes.items)) }
+        ensures prepares { Prepares (seen_by self.old) (seen_by self.new) result }
+        ensures planned { (seen_by self.new).doubts ≡ 0 → IfOk result
+            (λ planned. Fits (seen_by self.new).state (seen_by self.new).rows plan.now
+            → IsPlanned (tables_in (database_of self.new)) planned.changes.items plan.now
+            × IsBasisOf planned.after
+            (made_all (tables_in (database_of self.new)) planned.changes.items)) }
         ensures fits { IfOk result (λ planned. All ChangeFits planned.changes.items) }
         ensures taken { IfOk result (λ _. AreNone self.new.findings) }
-        ensures same { (moment (view S.Store self.new.conn) self.new.refused).doubts ≡ 0 → tables_in (view S.Store self.new.conn) ≡ tables_in (view S.Store self.old.conn) }
-        ensures store { BlamesCommit (view S.Store self.old.conn) (view S.Store self.new.conn) self.old.refused result (λ t. HaveWhatItNeeds t plan.now) }
+        ensures same { (seen_by self.new).doubts ≡ 0
+            → tables_in (database_of self.new) ≡ tables_in (database_of self.old) }
+        ensures store { BlamesPlan self.old self.new result (λ t. HaveWhatItNeeds t plan.now) }
     {
         if self.refused {
             return Err(Fault::Store);
@@ -69,9 +74,10 @@ impl<S: Alter> SqlShelf<S> {
 
     /// Carries out the whole change of a plan, or none.
     pub(crate) fn carry_out(&mut self, alloc: Global, plan: &Plan) -> Result<(), Fault>
-        requires { (moment (view S.Store self.old.conn) self.old.refused).doubts ≡ 0 → Fits (moment (view S.Store self.old.conn) self.old.refused).state (moment (view S.Store self.old.conn) self.old.refused).rows plan.now }
-        ensures commits { Commits (moment (view S.Store self.old.conn) self.old.refused) (moment (view S.Store self.new.conn) self.new.refused) result plan.now }
-        ensures store { BlamesCommit (view S.Store self.old.conn) (view S.Store self.new.conn) self.old.refused result (λ t. CanCarryOut t plan.now) }
+        requires { (seen_by self.old).doubts ≡ 0
+            → Fits (seen_by self.old).state (seen_by self.old).rows plan.now }
+        ensures commits { Commits (seen_by self.old) (seen_by self.new) result plan.now }
+        ensures store { BlamesPlan self.old self.new result (λ t. CanCarryOut t plan.now) }
     {
         let own = copied(&self.findings.own);
         let planned = self.changes_for(alloc, plan)?;

@@ -1,15 +1,13 @@
 //! What can still be taken off a declaration.
 
 ghost use Rattle.std.specs.Prelude.{◌≡◌, IfSome, IsTrue, option_map};
-ghost use Rattle.sqlite.specs.Held.{state as view};
 ghost use Rattle.goo_spec.specs.Correct.{correctable, left_of};
 ghost use Rattle.goo_tables_rows.specs.Rows.{declaration_in};
 ghost use Rattle.goo_core_shelf.specs.Shelf.{Looks};
 ghost use Rattle.goo_spec_tables.specs.Devices.{declaration_of};
 ghost use Rattle.goo_spec_tables.specs.Readable.{is_declaration};
-ghost use Rattle.goo_store_lookups.specs.Moments.{moment};
-ghost use Rattle.goo_store_lookups.specs.StoreFaults.{BlamesStore};
 ghost use Rattle.goo_store_values.specs.Passing.{Accepts, Passes};
+ghost use Rattle.goo_store.specs.Seen.{Blames, seen_by};
 
 use crate::declarations::declaration_in_row;
 use crate::lowering::left_off;
@@ -30,8 +28,11 @@ fn read_left(
     found: Result<Option<DeclarationRow>, Error>,
     corrections: &[CorrectRecord],
 ) -> Result<Option<Wh>, Trouble>
-    ensures value { Passes found result (λ row left. left ≡ left_of corrections.now (option_map declaration_of (option_map declaration_in row))) }
-    ensures accepts { Accepts found result (λ row. IfSome row (λ r. IsTrue (is_declaration (declaration_in r)))) }
+    ensures value { Passes found result
+        (λ row left. left
+        ≡ left_of corrections.now (option_map declaration_of (option_map declaration_in row))) }
+    ensures accepts { Accepts found result
+        (λ row. IfSome row (λ r. IsTrue (is_declaration (declaration_in r)))) }
 {
     match found? {
         Some(row) => Ok(Some(left_off(corrections, &declaration_in_row(&row)?))),
@@ -40,15 +41,18 @@ fn read_left(
 }
 
 impl<S: Alter> SqlShelf<S> {
-    /// What can still be taken off a device's declaration that begins on a day, where these are the corrections.
+    /// What can still be taken off a device's declaration that begins on a day, where these are the
+    /// corrections.
     fn left_beside(
         &mut self,
         corrections: &[CorrectRecord],
         device: &Gsrn,
         first_day: Day,
     ) -> Result<Option<Wh>, Fault>
-        ensures looks { Looks (moment (view S.Store self.old.conn) self.old.refused) (moment (view S.Store self.new.conn) self.new.refused) result (λ left. corrections.now ≡ (moment (view S.Store self.old.conn) self.old.refused).state.corrections → left ≡ correctable (moment (view S.Store self.old.conn) self.old.refused).state device.now first_day) }
-        ensures store { BlamesStore (view S.Store self.old.conn) (view S.Store self.new.conn) self.old.refused result }
+        ensures looks { Looks (seen_by self.old) (seen_by self.new) result
+            (λ left. corrections.now ≡ (seen_by self.old).state.corrections
+            → left ≡ correctable (seen_by self.old).state device.now first_day) }
+        ensures store { Blames self.old self.new result }
     {
         if self.refused {
             return Err(Fault::Store);
@@ -65,8 +69,9 @@ impl<S: Alter> SqlShelf<S> {
         device: &Gsrn,
         first_day: Day,
     ) -> Result<Option<Wh>, Fault>
-        ensures looks { Looks (moment (view S.Store self.old.conn) self.old.refused) (moment (view S.Store self.new.conn) self.new.refused) result (λ left. left ≡ correctable (moment (view S.Store self.old.conn) self.old.refused).state device.now first_day) }
-        ensures store { BlamesStore (view S.Store self.old.conn) (view S.Store self.new.conn) self.old.refused result }
+        ensures looks { Looks (seen_by self.old) (seen_by self.new) result
+            (λ left. left ≡ correctable (seen_by self.old).state device.now first_day) }
+        ensures store { Blames self.old self.new result }
     {
         let corrections = self.corrections(self.alloc)?;
         self.left_beside(&corrections, device, first_day)

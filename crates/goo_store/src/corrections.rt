@@ -2,14 +2,12 @@
 
 ghost use Rattle.std.specs.Prelude.{◌≡◌, true, map};
 ghost use Rattle.std.specs.List.{list_all};
-ghost use Rattle.sqlite.specs.Held.{state as view};
 ghost use Rattle.goo_tables_rows.specs.Rows.{correction_in};
 ghost use Rattle.goo_core_shelf.specs.Shelf.{Looks};
 ghost use Rattle.goo_spec_tables.specs.Readable.{is_correction};
 ghost use Rattle.goo_spec_tables.specs.Records.{correction_of};
-ghost use Rattle.goo_store_lookups.specs.Moments.{moment};
-ghost use Rattle.goo_store_lookups.specs.StoreFaults.{BlamesStore};
 ghost use Rattle.goo_store_values.specs.Passing.{Accepts, Passes};
+ghost use Rattle.goo_store.specs.Seen.{Blames, seen_by};
 
 use crate::sql_shelf::SqlShelf;
 use goo_store_rules::correct_record::CorrectRecord;
@@ -27,8 +25,10 @@ pub fn read_all(
     alloc: Global,
     found: Result<Vec<CorrectionRow>, Error>,
 ) -> Result<Vec<CorrectRecord>, Trouble>
-    ensures value { Passes found result (λ rows corrections. corrections.items ≡ map correction_of (map correction_in rows.items)) }
-    ensures accepts { Accepts found result (λ rows. list_all (λ row. is_correction (correction_in row)) rows.items ≡ true) }
+    ensures value { Passes found result
+        (λ rows corrections. corrections.items ≡ map correction_of (map correction_in rows.items)) }
+    ensures accepts { Accepts found result
+        (λ rows. list_all (λ row. is_correction (correction_in row)) rows.items ≡ true) }
 {
     match corrects_in(alloc, &found?)? {
         Some(corrections) => Ok(corrections),
@@ -39,8 +39,9 @@ pub fn read_all(
 impl<S: Alter> SqlShelf<S> {
     /// The accepted corrections, in the order in which they came.
     pub(crate) fn corrections(&mut self, alloc: Global) -> Result<Vec<CorrectRecord>, Fault>
-        ensures looks { Looks (moment (view S.Store self.old.conn) self.old.refused) (moment (view S.Store self.new.conn) self.new.refused) result (λ corrections. corrections.items ≡ (moment (view S.Store self.old.conn) self.old.refused).state.corrections) }
-        ensures store { BlamesStore (view S.Store self.old.conn) (view S.Store self.new.conn) self.old.refused result }
+        ensures looks { Looks (seen_by self.old) (seen_by self.new) result
+            (λ corrections. corrections.items ≡ (seen_by self.old).state.corrections) }
+        ensures store { Blames self.old self.new result }
     {
         if self.refused {
             return Err(Fault::Store);

@@ -62,14 +62,25 @@ fn first_row(
 fn write_tables<S: Alter>(tx: &mut Transaction<'_, S>, meta: &MetaRow) -> Result<usize, Error>
     requires { MetaFits meta.now }
     ensures same_reference { tx.new.conn.ghost_name ≡ tx.old.conn.ghost_name }
-    ensures made { HasCleanDisk (state S.Store tx.new.conn.now) → IsTrue (state S.Store tx.old.conn.now).in_transaction → (state S.Store tx.old.conn.now).now.schema ≡ no_schema
+    ensures made { HasCleanDisk (state S.Store tx.new.conn.now)
+        → IsTrue (state S.Store tx.old.conn.now).in_transaction
+        → (state S.Store tx.old.conn.now).now.schema ≡ no_schema
         → OnOk result (Sees (state S.Store tx.new.conn.now) (begun (meta_in meta.now))) }
-    ensures refused { HasCleanDisk (state S.Store tx.new.conn.now) → IsLive (state S.Store tx.old.conn.now) → (state S.Store tx.old.conn.now).step_limit ≡ None → IsTrue (state S.Store tx.old.conn.now).in_transaction
-        → (state S.Store tx.old.conn.now).now.schema ≡ no_schema → IsSmall (meta_row (meta_in meta.now)) → IfErr result (IsFault (state S.Store tx.old.conn.now) (state S.Store tx.new.conn.now)) }
-    ensures live { HasCleanDisk (state S.Store tx.new.conn.now) → IsLive (state S.Store tx.old.conn.now) → IsTrue (state S.Store tx.old.conn.now).in_transaction → (state S.Store tx.old.conn.now).now.schema ≡ no_schema
+    ensures refused { HasCleanDisk (state S.Store tx.new.conn.now)
+        → IsLive (state S.Store tx.old.conn.now) → (state S.Store tx.old.conn.now).step_limit ≡ None
+        → IsTrue (state S.Store tx.old.conn.now).in_transaction
+        → (state S.Store tx.old.conn.now).now.schema ≡ no_schema
+        → IsSmall (meta_row (meta_in meta.now))
+        → IfErr result (IsFault (state S.Store tx.old.conn.now) (state S.Store tx.new.conn.now)) }
+    ensures live { HasCleanDisk (state S.Store tx.new.conn.now)
+        → IsLive (state S.Store tx.old.conn.now)
+        → IsTrue (state S.Store tx.old.conn.now).in_transaction
+        → (state S.Store tx.old.conn.now).now.schema ≡ no_schema
         → OnOk result (IsAlive (state S.Store tx.new.conn.now)) }
-    ensures uncommitted { HasCleanDisk (state S.Store tx.new.conn.now) → KeepsCommit (state S.Store tx.old.conn.now) (state S.Store tx.new.conn.now) }
-    ensures survives { Survives (state S.Store tx.old.conn.now) (state S.Store tx.new.conn.now) (λ _. ⊥) }
+    ensures uncommitted { HasCleanDisk (state S.Store tx.new.conn.now)
+        → KeepsCommit (state S.Store tx.old.conn.now) (state S.Store tx.new.conn.now) }
+    ensures survives { Survives (state S.Store tx.old.conn.now) (state S.Store tx.new.conn.now)
+        (λ _. ⊥) }
 {
     create_tables(tx)?;
     insert_meta(tx, meta)
@@ -81,14 +92,21 @@ pub fn commit_tables<S: Alter>(conn: &mut Connection<S>, meta: &MetaRow) -> Resu
     requires outside { conn.old.in_transaction ≡ false }
     requires empty { (state S.Store conn.old).now.schema ≡ no_schema }
     requires fits { MetaFits meta.now }
-    ensures clean { doubt (state S.Store conn.old).is_clean ≤ doubt (state S.Store conn.new).is_clean }
+    ensures clean { doubt (state S.Store conn.old).is_clean
+        ≤ doubt (state S.Store conn.new).is_clean }
     ensures outside { conn.new.in_transaction ≡ false }
-    ensures works { OnOk result (HasCleanDisk (state S.Store conn.new) → IsTrue (state S.Store conn.new).is_open) }
-    ensures done { HasCleanDisk (state S.Store conn.new) → OnOk result (Settled (state S.Store conn.new) (begun (meta_in meta.now))) }
-    ensures refused { HasCleanDisk (state S.Store conn.new) → (state S.Store conn.old).step_limit ≡ None → IsSmall (meta_row (meta_in meta.now)) → IfErr result (IsFault (state S.Store conn.old) (state S.Store conn.new)) }
+    ensures works { OnOk result (HasCleanDisk (state S.Store conn.new)
+        → IsTrue (state S.Store conn.new).is_open) }
+    ensures done { HasCleanDisk (state S.Store conn.new)
+        → OnOk result (Settled (state S.Store conn.new) (begun (meta_in meta.now))) }
+    ensures refused { HasCleanDisk (state S.Store conn.new)
+        → (state S.Store conn.old).step_limit ≡ None → IsSmall (meta_row (meta_in meta.now))
+        → IfErr result (IsFault (state S.Store conn.old) (state S.Store conn.new)) }
     ensures kept { HasCleanDisk (state S.Store conn.new) → IsTrue (state S.Store conn.new).is_open
-        → OnErr result (((state S.Store conn.new).now ≡ (state S.Store conn.old).now) × ((state S.Store conn.new).committed ≡ (state S.Store conn.old).committed)) }
-    ensures crash { Survives (state S.Store conn.old) (state S.Store conn.new) (HoldsOurs (state S.Store conn.old).is_open (begun (meta_in meta.now))) }
+        → OnErr result (((state S.Store conn.new).now ≡ (state S.Store conn.old).now)
+        × ((state S.Store conn.new).committed ≡ (state S.Store conn.old).committed)) }
+    ensures crash { Survives (state S.Store conn.old) (state S.Store conn.new)
+        (HoldsOurs (state S.Store conn.old).is_open (begun (meta_in meta.now))) }
 {
     let _settled = conn.is_autocommit();
     let _known = conn.schema();
@@ -102,7 +120,8 @@ pub fn commit_tables<S: Alter>(conn: &mut Connection<S>, meta: &MetaRow) -> Resu
 ///
 /// # Errors
 ///
-/// `Memory` where memory was refused; `Refused`, while the connection works, only where the disk failed.
+/// `Memory` where memory was refused; `Refused`, while the connection works, only where the disk
+/// failed.
 pub fn begin<S: Alter>(
     alloc: Global,
     conn: &mut Connection<S>,
@@ -112,16 +131,24 @@ pub fn begin<S: Alter>(
 ) -> Result<(), Trouble>
     requires outside { conn.old.in_transaction ≡ false }
     requires empty { (state S.Store conn.old).now.schema ≡ no_schema }
-    ensures clean { doubt (state S.Store conn.old).is_clean ≤ doubt (state S.Store conn.new).is_clean }
+    ensures clean { doubt (state S.Store conn.old).is_clean
+        ≤ doubt (state S.Store conn.new).is_clean }
     ensures outside { conn.new.in_transaction ≡ false }
-    ensures works { OnOk result (HasCleanDisk (state S.Store conn.new) → IsTrue (state S.Store conn.new).is_open) }
-    ensures done { HasCleanDisk (state S.Store conn.new) → OnOk result (Settled (state S.Store conn.new) (begun (meta_of code today next_serial))) }
+    ensures works { OnOk result (HasCleanDisk (state S.Store conn.new)
+        → IsTrue (state S.Store conn.new).is_open) }
+    ensures done { HasCleanDisk (state S.Store conn.new)
+        → OnOk result (Settled (state S.Store conn.new) (begun (meta_of code today next_serial))) }
     ensures limits { OnOk result (IsFirst code today next_serial) }
-    ensures blames { HasCleanDisk (state S.Store conn.new) → IsTrue (state S.Store conn.old).is_open → (state S.Store conn.old).step_limit ≡ None
-        → IfErr result (λ trouble. trouble ≡ Trouble.Refused → MoreFaults (state S.Store conn.old).faults (state S.Store conn.new).faults) }
+    ensures blames { HasCleanDisk (state S.Store conn.new) → IsTrue (state S.Store conn.old).is_open
+        → (state S.Store conn.old).step_limit ≡ None
+        → IfErr result
+        (λ trouble. trouble ≡ Trouble.Refused
+        → MoreFaults (state S.Store conn.old).faults (state S.Store conn.new).faults) }
     ensures kept { HasCleanDisk (state S.Store conn.new) → IsTrue (state S.Store conn.new).is_open
-        → OnErr result (((state S.Store conn.new).now ≡ (state S.Store conn.old).now) × ((state S.Store conn.new).committed ≡ (state S.Store conn.old).committed)) }
-    ensures crash { Survives (state S.Store conn.old) (state S.Store conn.new) (HoldsOurs (state S.Store conn.old).is_open (begun (meta_of code today next_serial))) }
+        → OnErr result (((state S.Store conn.new).now ≡ (state S.Store conn.old).now)
+        × ((state S.Store conn.new).committed ≡ (state S.Store conn.old).committed)) }
+    ensures crash { Survives (state S.Store conn.old) (state S.Store conn.new)
+        (HoldsOurs (state S.Store conn.old).is_open (begun (meta_of code today next_serial))) }
 {
     let row = first_row(alloc, code, next_serial, today)?;
     commit_tables(conn, &row)?;

@@ -3,18 +3,16 @@
 ghost use Rattle.std.specs.Prelude.{◌≡◌, ℕ, ◌++◌, [], ◌∷◌, None, pos, IfOk, IsOkUnless, IsTrue, OnOk, List, map};
 ghost use Rattle.std.specs.FinMap.{get, from_entries, keys as keys_of};
 ghost use Rattle.std.specs.BTreeMap.{keys as tree_keys, IsOrdered};
-ghost use Rattle.sqlite.specs.Held.{state as view};
 ghost use Rattle.goo_spec.specs.State.{text_cmp, Device as Known};
 ghost use Rattle.goo_tables_rows.specs.Rows.{device_in};
 ghost use Rattle.goo_core_shelf.specs.Maps.{map_of};
 ghost use Rattle.goo_core_shelf.specs.Shelf.{Looks};
 ghost use Rattle.goo_spec_tables.specs.Devices.{device_entry};
-ghost use Rattle.goo_store_lookups.specs.Moments.{moment};
-ghost use Rattle.goo_store_lookups.specs.StoreFaults.{BlamesStore};
 ghost use Rattle.goo_spec_tables.specs.Readable.{is_device};
 ghost use Rattle.goo_store.specs.Reading.{AreReadableDevices};
 ghost use Rattle.goo_store_values.specs.Passing.{Accepts, Passes};
 ghost use Rattle.goo_store_values.specs.declared.trouble.Trouble.TheVariants.{Memory};
+ghost use Rattle.goo_store.specs.Seen.{Blames, seen_by};
 
 use crate::sql_shelf::SqlShelf;
 use goo_core_shelf::device::Device;
@@ -32,8 +30,12 @@ use std::collections::BTreeMap;
 
 /// One device more. A number that is there already is refused.
 fn note(known: &mut BTreeMap<Gsrn, Device>, row: &DeviceRow) -> Result<(), Trouble>
-    ensures noted { OnOk result ((es : List (List ℕ × Known)) → map_of text_cmp known.old ≡ from_entries es → map_of text_cmp known.new ≡ from_entries (es ++ device_entry (device_in row.now) ∷ [])) }
-    ensures accepts { IsTrue (is_device (pos 0, device_in row.now)) → get (map_of text_cmp known.old) (device_in row.now).gsrn ≡ None → IsOkUnless result Memory }
+    ensures noted { OnOk result ((es : List (List ℕ × Known))
+        → map_of text_cmp known.old ≡ from_entries es
+        → map_of text_cmp known.new ≡ from_entries (es ++ device_entry (device_in row.now) ∷ [])) }
+    ensures accepts { IsTrue (is_device (pos 0, device_in row.now))
+        → get (map_of text_cmp known.old) (device_in row.now).gsrn ≡ None
+        → IsOkUnless result Memory }
 {
     let number = texts::gsrn(&row.gsrn)?;
     let device = device_in_row(row)?;
@@ -45,7 +47,9 @@ fn note(known: &mut BTreeMap<Gsrn, Device>, row: &DeviceRow) -> Result<(), Troub
 
 /// The devices by their numbers, without their carriers.
 fn note_each(alloc: Global, rows: &[DeviceRow]) -> Result<BTreeMap<Gsrn, Device>, Trouble>
-    ensures noted { IfOk result (λ known. map_of text_cmp known ≡ from_entries (map device_entry (map device_in rows.now))) }
+    ensures noted { IfOk result
+        (λ known. map_of text_cmp known
+        ≡ from_entries (map device_entry (map device_in rows.now))) }
     ensures accepts { AreReadableDevices rows.now → IsOkUnless result Memory }
 {
     let mut known = BTreeMap::new(alloc);
@@ -67,7 +71,9 @@ fn sorted(alloc: Global, known: &BTreeMap<Gsrn, Device>) -> Result<Vec<Gsrn>, Tr
 
 /// The numbers of the devices in rows, sorted.
 fn numbers_in(alloc: Global, rows: &[DeviceRow]) -> Result<Vec<Gsrn>, Trouble>
-    ensures value { IfOk result (λ numbers. numbers.items ≡ keys_of (from_entries {R = text_cmp} (map device_entry (map device_in rows.now)))) }
+    ensures value { IfOk result
+        (λ numbers. numbers.items
+        ≡ keys_of (from_entries {R = text_cmp} (map device_entry (map device_in rows.now)))) }
     ensures accepts { AreReadableDevices rows.now → IsOkUnless result Memory }
 {
     let known = note_each(alloc, rows)?;
@@ -76,7 +82,9 @@ fn numbers_in(alloc: Global, rows: &[DeviceRow]) -> Result<Vec<Gsrn>, Trouble>
 
 /// The numbers of the devices, sorted.
 fn sorted_numbers(alloc: Global, found: Result<Vec<DeviceRow>, Error>) -> Result<Vec<Gsrn>, Trouble>
-    ensures value { Passes found result (λ rows numbers. numbers.items ≡ keys_of (from_entries {R = text_cmp} (map device_entry (map device_in rows.items)))) }
+    ensures value { Passes found result
+        (λ rows numbers. numbers.items
+        ≡ keys_of (from_entries {R = text_cmp} (map device_entry (map device_in rows.items)))) }
     ensures accepts { Accepts found result (λ rows. AreReadableDevices rows.items) }
 {
     numbers_in(alloc, &found?)
@@ -85,8 +93,9 @@ fn sorted_numbers(alloc: Global, found: Result<Vec<DeviceRow>, Error>) -> Result
 impl<S: Alter> SqlShelf<S> {
     /// The numbers of the devices, sorted.
     pub(crate) fn device_numbers(&mut self, alloc: Global) -> Result<Vec<Gsrn>, Fault>
-        ensures looks { Looks (moment (view S.Store self.old.conn) self.old.refused) (moment (view S.Store self.new.conn) self.new.refused) result (λ numbers. numbers.items ≡ keys_of (moment (view S.Store self.old.conn) self.old.refused).state.devices) }
-        ensures store { BlamesStore (view S.Store self.old.conn) (view S.Store self.new.conn) self.old.refused result }
+        ensures looks { Looks (seen_by self.old) (seen_by self.new) result
+            (λ numbers. numbers.items ≡ keys_of (seen_by self.old).state.devices) }
+        ensures store { Blames self.old self.new result }
     {
         if self.refused {
             return Err(Fault::Store);

@@ -2,16 +2,14 @@
 
 ghost use Rattle.std.specs.Prelude.{◌≡◌, pos, is_ok, Some, IfOk, IfSome, IsOk, IsTrue, option_map, string_bytes};
 ghost use Rattle.std.specs.FinMap.{get};
-ghost use Rattle.sqlite.specs.Held.{state as view};
 ghost use Rattle.goo_tables_rows.specs.Rows.{device_in};
 ghost use Rattle.goo_core_shelf.specs.Shelf.{Looks, progress_of, IsRecordOf};
 ghost use Rattle.goo_spec_tables.specs.Devices.{device_of, progress_in, record_in};
 ghost use Rattle.goo_store.specs.Found.{KeepsDevice};
-ghost use Rattle.goo_store_lookups.specs.Moments.{moment};
-ghost use Rattle.goo_store_lookups.specs.StoreFaults.{BlamesStore};
 ghost use Rattle.goo_spec_tables.specs.Readable.{is_device, is_maybe_day};
 ghost use Rattle.goo_store_values.specs.Passing.{Accepts, Passes};
 ghost use Rattle.goo_spec_tables.specs.Texts.{day_of};
+ghost use Rattle.goo_store.specs.Seen.{Blames, seen_by};
 
 use crate::sql_shelf::SqlShelf;
 use goo_core_shelf::device::Device;
@@ -30,8 +28,10 @@ use sqlite::{Alter, Error};
 
 /// The device, if there is one.
 fn read_device(found: Result<Option<DeviceRow>, Error>) -> Result<Option<Device>, Trouble>
-    ensures value { Passes found result (λ row device. device ≡ option_map device_of (option_map device_in row)) }
-    ensures accepts { Accepts found result (λ row. IfSome row (λ r. IsTrue (is_device (pos 0, device_in r)))) }
+    ensures value { Passes found result
+        (λ row device. device ≡ option_map device_of (option_map device_in row)) }
+    ensures accepts { Accepts found result
+        (λ row. IfSome row (λ r. IsTrue (is_device (pos 0, device_in r)))) }
 {
     match found? {
         Some(row) => Ok(Some(device_in_row(&row)?)),
@@ -41,7 +41,8 @@ fn read_device(found: Result<Option<DeviceRow>, Error>) -> Result<Option<Device>
 
 /// A day, where there is one.
 fn maybe_day(text: &Option<String>) -> Result<Option<Day>, Trouble>
-    ensures value { IfOk result (λ day. day ≡ option_map day_of (option_map string_bytes text.now)) }
+    ensures value { IfOk result
+        (λ day. day ≡ option_map day_of (option_map string_bytes text.now)) }
     ensures accepts { is_ok result ≡ is_maybe_day (option_map string_bytes text.now) }
 {
     match text {
@@ -61,10 +62,13 @@ fn progress_in_row(row: &DeviceRow) -> Result<Progress, Trouble>
     })
 }
 
-/// The last accepted period's end and the carry in the row of a device; neither is there without a row.
+/// The last accepted period's end and the carry in the row of a device; neither is there without a
+/// row.
 fn read_progress(found: Result<Option<DeviceRow>, Error>) -> Result<Progress, Trouble>
-    ensures value { Passes found result (λ row progress. progress ≡ progress_in (option_map device_in row)) }
-    ensures accepts { Accepts found result (λ row. IfSome row (λ r. IsTrue (is_device (pos 0, device_in r)))) }
+    ensures value { Passes found result
+        (λ row progress. progress ≡ progress_in (option_map device_in row)) }
+    ensures accepts { Accepts found result
+        (λ row. IfSome row (λ r. IsTrue (is_device (pos 0, device_in r)))) }
 {
     let Some(row) = found? else {
         return Ok(Progress {
@@ -82,8 +86,10 @@ fn read_record(
     gsrn: &Gsrn,
     kept: &mut Option<KnownDevice>,
 ) -> Result<Option<DeviceRecord>, Trouble>
-    ensures value { Passes found result (λ row found. found ≡ record_in (option_map device_in row)) }
-    ensures accepts { Accepts found result (λ row. IfSome row (λ r. IsTrue (is_device (pos 0, device_in r)))) }
+    ensures value { Passes found result
+        (λ row found. found ≡ record_in (option_map device_in row)) }
+    ensures accepts { Accepts found result
+        (λ row. IfSome row (λ r. IsTrue (is_device (pos 0, device_in r)))) }
     ensures kept { KeepsDevice found gsrn.now kept.old kept.new }
 {
     let Some(row) = found? else {
@@ -101,8 +107,9 @@ fn read_record(
 impl<S: Alter> SqlShelf<S> {
     /// A device.
     pub(crate) fn look_up_device(&mut self, device: &Gsrn) -> Result<Option<Device>, Fault>
-        ensures looks { Looks (moment (view S.Store self.old.conn) self.old.refused) (moment (view S.Store self.new.conn) self.new.refused) result (λ found. found ≡ get (moment (view S.Store self.old.conn) self.old.refused).state.devices device.now) }
-        ensures store { BlamesStore (view S.Store self.old.conn) (view S.Store self.new.conn) self.old.refused result }
+        ensures looks { Looks (seen_by self.old) (seen_by self.new) result
+            (λ found. found ≡ get (seen_by self.old).state.devices device.now) }
+        ensures store { Blames self.old self.new result }
     {
         if self.refused {
             return Err(Fault::Store);
@@ -114,8 +121,9 @@ impl<S: Alter> SqlShelf<S> {
 
     /// A device's last accepted period and its carry.
     pub(crate) fn look_up_progress(&mut self, device: &Gsrn) -> Result<Progress, Fault>
-        ensures looks { Looks (moment (view S.Store self.old.conn) self.old.refused) (moment (view S.Store self.new.conn) self.new.refused) result (λ progress. progress ≡ progress_of (moment (view S.Store self.old.conn) self.old.refused).state device.now) }
-        ensures store { BlamesStore (view S.Store self.old.conn) (view S.Store self.new.conn) self.old.refused result }
+        ensures looks { Looks (seen_by self.old) (seen_by self.new) result
+            (λ progress. progress ≡ progress_of (seen_by self.old).state device.now) }
+        ensures store { Blames self.old self.new result }
     {
         if self.refused {
             return Err(Fault::Store);
@@ -130,8 +138,9 @@ impl<S: Alter> SqlShelf<S> {
         &mut self,
         device: &Gsrn,
     ) -> Result<Option<DeviceRecord>, Fault>
-        ensures looks { Looks (moment (view S.Store self.old.conn) self.old.refused) (moment (view S.Store self.new.conn) self.new.refused) result (IsRecordOf (moment (view S.Store self.old.conn) self.old.refused).state device.now) }
-        ensures store { BlamesStore (view S.Store self.old.conn) (view S.Store self.new.conn) self.old.refused result }
+        ensures looks { Looks (seen_by self.old) (seen_by self.new) result
+            (IsRecordOf (seen_by self.old).state device.now) }
+        ensures store { Blames self.old self.new result }
     {
         if self.refused {
             return Err(Fault::Store);

@@ -2,12 +2,10 @@
 
 ghost use Rattle.std.specs.Prelude.{◌≡◌, is_some, ⊤};
 ghost use Rattle.std.specs.List.{list_any};
-ghost use Rattle.sqlite.specs.Held.{state as view};
 ghost use Rattle.goo_spec.specs.Lots.{is_held_by};
 ghost use Rattle.goo_core_shelf.specs.Shelf.{Looks};
-ghost use Rattle.goo_store_lookups.specs.Moments.{moment};
-ghost use Rattle.goo_store_lookups.specs.StoreFaults.{BlamesStore};
 ghost use Rattle.goo_store_values.specs.Passing.{Accepts, Passes};
+ghost use Rattle.goo_store.specs.Seen.{Blames, seen_by};
 
 use crate::sql_shelf::SqlShelf;
 use goo_store_values::told::told;
@@ -29,11 +27,12 @@ fn is_there(found: Result<Option<PieceRow>, Error>) -> Result<bool, Trouble>
 impl<S: Alter> SqlShelf<S> {
     /// Whether an account holds a certificate: one statement, which shows one row that it holds.
     ///
-    /// The statement goes through the index of the account's rows. An index by account and kind would be another version of the
-    /// tables.
+    /// The statement goes through the index of the account's rows. An index by account and kind
+    /// would be another version of the tables.
     pub(crate) fn look_up_holding(&mut self, account: AccountNo) -> Result<bool, Fault>
-        ensures looks { Looks (moment (view S.Store self.old.conn) self.old.refused) (moment (view S.Store self.new.conn) self.new.refused) result (λ holds. holds ≡ list_any (λ p. is_held_by account p.place) (moment (view S.Store self.old.conn) self.old.refused).rows) }
-        ensures store { BlamesStore (view S.Store self.old.conn) (view S.Store self.new.conn) self.old.refused result }
+        ensures looks { Looks (seen_by self.old) (seen_by self.new) result
+            (λ holds. holds ≡ list_any (λ p. is_held_by account p.place) (seen_by self.old).rows) }
+        ensures store { Blames self.old self.new result }
     {
         if self.refused {
             return Err(Fault::Store);

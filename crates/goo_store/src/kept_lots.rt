@@ -22,7 +22,8 @@ fn is_kept(lots: &[NumberedLot], number: u64) -> bool
 
 /// Makes room for a lot more: where the most are kept, they go.
 fn make_room(lots: &mut Vec<NumberedLot>)
-    ensures kept { (known : List RowOfLot) → AreStated known lots.old.items → AreStated known lots.new.items }
+    ensures kept { (known : List RowOfLot) → AreStated known lots.old.items
+        → AreStated known lots.new.items }
 {
     if lots.len() >= MOST_LOTS {
         lots.clear();
@@ -31,7 +32,8 @@ fn make_room(lots: &mut Vec<NumberedLot>)
 
 /// Keeps the lot that the row under this number states, unless one is kept under it.
 pub fn keep_lot(lots: &mut Vec<NumberedLot>, number: u64, lot: &Lot) -> Result<(), Trouble>
-    ensures kept { (known : List RowOfLot) → AreStated known lots.old.items → IsStated known number lot.now → AreStated known lots.new.items }
+    ensures kept { (known : List RowOfLot) → AreStated known lots.old.items
+        → IsStated known number lot.now → AreStated known lots.new.items }
     ensures memory { IsOkUnless result Memory }
 {
     if is_kept(lots, number) {

@@ -62,7 +62,8 @@ pub fn row_after(
     own: Option<MetaRow>,
     changes: &[TableChange],
 ) -> Option<MetaRow>
-    ensures made { OnOk made.now ((t : Tables) → IsRowOf own t → IsRowOf result (made_all t changes.now)) }
+    ensures made { OnOk made.now ((t : Tables) → IsRowOf own t
+        → IsRowOf result (made_all t changes.now)) }
     ensures failed { OnErr made.now ((t : Tables) → IsRowOf result t) }
 {
     match made {

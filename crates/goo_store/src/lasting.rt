@@ -33,9 +33,10 @@ pub struct NumberedAccount {
     pub account: Account,
 }
 
-/// What look-ups found that few commits change, and that is kept over all others. All of it is so in the
-/// tables; what isn't here is looked up. A look-up that makes no statement can't tell whether the database still
-/// answers, so what is kept is told only while the last statement was answered.
+/// What look-ups found that few commits change, and that is kept over all others. All of it is so
+/// in the tables; what isn't here is looked up. A look-up that makes no statement can't tell
+/// whether the database still answers, so what is kept is told only while the last statement was
+/// answered.
 #[derive(Drop)]
 pub struct Lasting {
     /// Whether the last statement was answered, so that the database is open.
@@ -48,7 +49,9 @@ pub struct Lasting {
 
 /// The account that is kept under a number, if one is.
 fn account_among(accounts: &[NumberedAccount], number: AccountNo) -> Option<Account>
-    ensures { IfSome result (λ account. (s : State) → AreAccountsOf s accounts.now → get s.accounts number ≡ Some account) }
+    ensures { IfSome result
+        (λ account. (s : State) → AreAccountsOf s accounts.now
+        → get s.accounts number ≡ Some account) }
 {
     for kept in accounts {
         if kept.number == number {
@@ -60,20 +63,23 @@ fn account_among(accounts: &[NumberedAccount], number: AccountNo) -> Option<Acco
 
 /// Makes room for an account more: where the most are kept, they go.
 fn make_room(accounts: &mut Vec<NumberedAccount>)
-    ensures kept { (s : State) → AreAccountsOf s accounts.old.items → AreAccountsOf s accounts.new.items }
+    ensures kept { (s : State) → AreAccountsOf s accounts.old.items
+        → AreAccountsOf s accounts.new.items }
 {
     if accounts.len() >= MOST_ACCOUNTS {
         accounts.clear();
     }
 }
 
-/// Keeps the account that was looked up by its number, if it was found; where memory for it is refused, it isn't kept.
+/// Keeps the account that was looked up by its number, if it was found; where memory for it is
+/// refused, it isn't kept.
 pub fn keep_account(
     accounts: &mut Vec<NumberedAccount>,
     number: AccountNo,
     read: &Result<Option<Account>, Fault>,
 )
-    ensures kept { (s : State) → IfOk read.now (λ found. found ≡ get s.accounts number) → AreAccountsOf s accounts.old.items → AreAccountsOf s accounts.new.items }
+    ensures kept { (s : State) → IfOk read.now (λ found. found ≡ get s.accounts number)
+        → AreAccountsOf s accounts.old.items → AreAccountsOf s accounts.new.items }
 {
     let Ok(Some(account)) = read else {
         return;
@@ -95,7 +101,8 @@ fn leaves(change: &TableChange) -> bool
 
 /// Whether changes leave the accounts.
 fn all_leave(changes: &[TableChange]) -> bool
-    ensures { IsTrue result → (t : Tables) → AreLeft (state_of t) (state_of (made_all t changes.now)) }
+    ensures { IsTrue result → (t : Tables)
+        → AreLeft (state_of t) (state_of (made_all t changes.now)) }
 {
     for change in changes {
         if !leaves(change) {
@@ -121,7 +128,9 @@ impl Lasting {
     /// The account under a number, where it is kept and may be told.
     pub fn kept_account(&self, number: AccountNo) -> Option<Account>
         ensures answered { IfSome result (λ account. IsTrue self.now.answered) }
-        ensures kept { IfSome result (λ account. (t : Tables) → IsLasting self.now t → get (state_of t).accounts number ≡ Some account) }
+        ensures kept { IfSome result
+            (λ account. (t : Tables) → IsLasting self.now t
+            → get (state_of t).accounts number ≡ Some account) }
     {
         if self.answered {
             account_among(&self.accounts, number)
@@ -133,7 +142,9 @@ impl Lasting {
     /// The next row of an account after a number, where it was read ahead and may be told.
     pub fn row_ahead(&self, account: AccountNo, after: &Option<Number>) -> Option<Option<Piece>>
         ensures answered { IfSome result (λ row. IsTrue self.now.answered) }
-        ensures kept { IfSome result (λ row. (t : Tables) → IsLasting self.now t → row ≡ next_row account after.now (rows_of t)) }
+        ensures kept { IfSome result
+            (λ row. (t : Tables) → IsLasting self.now t
+            → row ≡ next_row account after.now (rows_of t)) }
         ensures ahead { IfSome result (λ row. IfSome row (EndsFrom (from_of after.now))) }
     {
         let Some(after) = after else {
@@ -149,7 +160,8 @@ impl Lasting {
     /// Keeps what is so still once changes were made, or nothing where the commit failed.
     pub fn outlast(&mut self, made: &Result<(), Error>, changes: &[TableChange])
         ensures answered { self.new.answered ≡ is_ok made.now }
-        ensures made { OnOk made.now ((t : Tables) → IsLasting self.old t → IsLasting self.new (made_all t changes.now)) }
+        ensures made { OnOk made.now ((t : Tables) → IsLasting self.old t
+            → IsLasting self.new (made_all t changes.now)) }
         ensures failed { OnErr made.now ((t : Tables) → IsLasting self.new t) }
     {
         self.answered = made.is_ok();

@@ -2,18 +2,16 @@
 
 ghost use Rattle.std.specs.Prelude.{◌≡◌, IfOk, IfSome, IsOkUnless, option_map};
 ghost use Rattle.std.specs.FinMap.{get};
-ghost use Rattle.sqlite.specs.Held.{state as view};
 ghost use Rattle.goo_types.specs.Texts.{day_text};
 ghost use Rattle.goo_spec.specs.Lots.{lot_key};
 ghost use Rattle.goo_tables_rows.specs.Rows.{lot_in};
 ghost use Rattle.goo_core_shelf.specs.Shelf.{Looks};
 ghost use Rattle.goo_store.specs.Found.{KeepsLot, KeepsRow};
-ghost use Rattle.goo_store_lookups.specs.Moments.{moment};
-ghost use Rattle.goo_store_lookups.specs.StoreFaults.{BlamesStore};
 ghost use Rattle.goo_spec_tables.specs.Places.{lot_of};
 ghost use Rattle.goo_store_values.specs.Reading.{IsReadableLot};
 ghost use Rattle.goo_store_values.specs.Passing.{Accepts, Passes};
 ghost use Rattle.goo_store_values.specs.declared.trouble.Trouble.TheVariants.{Memory};
+ghost use Rattle.goo_store.specs.Seen.{Blames, seen_by};
 
 use crate::kept_lots::keep_lot;
 use crate::sql_shelf::SqlShelf;
@@ -46,7 +44,8 @@ fn read_found(
     found: Result<Option<LotRow>, Error>,
     lots: &mut Vec<NumberedLot>,
 ) -> Result<Option<Lot>, Trouble>
-    ensures value { Passes found result (λ row lot. lot ≡ option_map lot_of (option_map lot_in row)) }
+    ensures value { Passes found result
+        (λ row lot. lot ≡ option_map lot_of (option_map lot_in row)) }
     ensures accepts { Accepts found result (λ row. IfSome row (λ r. IsReadableLot (lot_in r))) }
     ensures kept { KeepsLot found lots.old.items lots.new.items }
 {
@@ -64,8 +63,9 @@ impl<S: Alter> SqlShelf<S> {
         device: &Gsrn,
         first_day: Day,
     ) -> Result<Option<Lot>, Fault>
-        ensures looks { Looks (moment (view S.Store self.old.conn) self.old.refused) (moment (view S.Store self.new.conn) self.new.refused) result (λ lot. lot ≡ get (moment (view S.Store self.old.conn) self.old.refused).state.lots (lot_key origin device.now first_day)) }
-        ensures store { BlamesStore (view S.Store self.old.conn) (view S.Store self.new.conn) self.old.refused result }
+        ensures looks { Looks (seen_by self.old) (seen_by self.new) result
+            (λ lot. lot ≡ get (seen_by self.old).state.lots (lot_key origin device.now first_day)) }
+        ensures store { Blames self.old self.new result }
     {
         if self.refused {
             return Err(Fault::Store);

@@ -1,13 +1,12 @@
 //! What each device declared, added up a page of the declarations at a time.
 
 ghost use Rattle.std.specs.Prelude.{◌≡◌, ◌≤◌, IfOk};
-ghost use Rattle.sqlite.specs.Held.{state as view};
 ghost use Rattle.goo_core_shelf.specs.Shelf.{Looks};
 ghost use Rattle.goo_store_audit.specs.NetCounting.{IsNetPageAdded, IsSumBelow};
 ghost use Rattle.goo_store_audit.specs.Summing.{AreDeclaredBy};
-ghost use Rattle.goo_store_lookups.specs.Moments.{moment, tables_in};
-ghost use Rattle.goo_store_lookups.specs.StoreFaults.{BlamesStore};
+ghost use Rattle.goo_store_lookups.specs.Moments.{tables_in};
 ghost use Rattle.goo_tables_rows.specs.Stands.{doubts};
+ghost use Rattle.goo_store.specs.Seen.{Blames, database_of, seen_by};
 
 use crate::sql_shelf::SqlShelf;
 use goo_store_audit::nets::add_found;
@@ -20,7 +19,8 @@ use std::alloc::Global;
 use std::collections::BTreeMap;
 
 impl<S: Alter> SqlShelf<S> {
-    /// Adds the net energy of a page of the declarations under the number `low` or a later one; the number after the last of them.
+    /// Adds the net energy of a page of the declarations under the number `low` or a later one; the
+    /// number after the last of them.
     fn net_page(
         &mut self,
         alloc: Global,
@@ -28,10 +28,13 @@ impl<S: Alter> SqlShelf<S> {
         sums: &mut BTreeMap<Gsrn, u128>,
     ) -> Result<u64, Fault>
         requires { IsSumBelow low sums.old }
-        ensures looks { Looks (moment (view S.Store self.old.conn) self.old.refused) (moment (view S.Store self.new.conn) self.new.refused) result (λ next. IsNetPageAdded (tables_in (view S.Store self.old.conn)).declarations low next sums.old sums.new) }
-        ensures store { BlamesStore (view S.Store self.old.conn) (view S.Store self.new.conn) self.old.refused result }
+        ensures looks { Looks (seen_by self.old) (seen_by self.new) result
+            (λ next. IsNetPageAdded (tables_in (database_of self.old)).declarations low next
+            sums.old sums.new) }
+        ensures store { Blames self.old self.new result }
         ensures below { IfOk result (λ next. (low ≤ next) × IsSumBelow next sums.new) }
-        ensures tables { doubts (view S.Store self.new.conn) ≡ 0 → tables_in (view S.Store self.new.conn) ≡ tables_in (view S.Store self.old.conn) }
+        ensures tables { doubts (database_of self.new) ≡ 0
+            → tables_in (database_of self.new) ≡ tables_in (database_of self.old) }
     {
         if self.refused {
             return Err(Fault::Store);
@@ -44,8 +47,9 @@ impl<S: Alter> SqlShelf<S> {
 
     /// The net energy that each device declared, in Wh.
     pub(crate) fn net_energy(&mut self, alloc: Global) -> Result<BTreeMap<Gsrn, u128>, Fault>
-        ensures looks { Looks (moment (view S.Store self.old.conn) self.old.refused) (moment (view S.Store self.new.conn) self.new.refused) result (AreDeclaredBy (moment (view S.Store self.old.conn) self.old.refused).state.declarations) }
-        ensures store { BlamesStore (view S.Store self.old.conn) (view S.Store self.new.conn) self.old.refused result }
+        ensures looks { Looks (seen_by self.old) (seen_by self.new) result
+            (AreDeclaredBy (seen_by self.old).state.declarations) }
+        ensures store { Blames self.old self.new result }
     {
         let mut sums = BTreeMap::new(alloc);
         let mut low = 0;

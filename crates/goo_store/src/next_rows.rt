@@ -1,4 +1,5 @@
-//! Rows that are looked up one at a time: the next one of an account, and the next one that expires.
+//! Rows that are looked up one at a time: the next one of an account, and the next one that
+//! expires.
 
 ghost use Rattle.std.specs.Prelude.{◌≡◌, ◌↔◌, ◌⊎◌, ◌+◌, ◌<◌, ◌^◌, All, false, find, map, option_map, IfSome, IsOkAnd, IsSomeAnd, IsTrue, Some, take};
 ghost use Rattle.std.specs.List.{filter};
@@ -26,7 +27,8 @@ use std::alloc::Global;
 
 /// The row before, where it is looked for and ends above a number.
 pub fn reaching_row(before: Option<Piece>, sought: &Sought, after: u64) -> Option<Piece>
-    ensures value { IfSome before IsForward → result ≡ reaching_beyond (is_sought sought.now) after before }
+    ensures value { IfSome before IsForward
+        → result ≡ reaching_beyond (is_sought sought.now) after before }
     ensures ahead { IfSome result (EndsFrom (after + 1)) }
 {
     let row = before?;
@@ -64,9 +66,11 @@ pub fn is_clear(edges: &Edges, number: u64) -> bool
     is_edge(edges.last, number) || is_edge(edges.asked, number)
 }
 
-/// Whether a row is known to end where this one does, so that none reaches above its end from below.
+/// Whether a row is known to end where this one does, so that none reaches above its end from
+/// below.
 pub fn ends_clear(edges: &Edges, row: &Piece) -> bool
-    ensures { IsTrue result → (edges.now.last ≡ Some row.now.last) ⊎ (edges.now.asked ≡ Some row.now.last) }
+    ensures { IsTrue result → (edges.now.last ≡ Some row.now.last)
+        ⊎ (edges.now.asked ≡ Some row.now.last) }
 {
     is_clear(edges, row.last.get())
 }
@@ -84,7 +88,8 @@ fn asked_edge(edges: &Edges, after: u64) -> Option<u64>
 
 /// Where rows are known to end once a row was read that was asked for by a number.
 pub fn edges_after(edges: &Edges, after: u64, row: &Result<Option<Piece>, Trouble>) -> Edges
-    ensures last { IfSome result.last (λ n. IsOkAnd row.now (λ found. IsSomeAnd found (λ p. p.last ≡ n))) }
+    ensures last { IfSome result.last
+        (λ n. IsOkAnd row.now (λ found. IsSomeAnd found (λ p. p.last ≡ n))) }
     ensures asked { (result.asked ≡ edges.now.last) ⊎ (result.asked ≡ edges.now.asked) }
 {
     let last = edge_of(row);
@@ -100,8 +105,11 @@ pub fn ask_next<S: Alter>(
     after: u64,
 ) -> Result<Option<JoinedRow>, Error>
     requires { after < 2 ^ 63 }
-    ensures looks { Looks (view S.Store conn.old) (view S.Store conn.new) result (λ t found. option_map joined_in found ≡ find (begins_beyond sought.now after) (pieces_beside t)) }
-    ensures readable { FailsOnlyByFault (view S.Store conn.old) (view S.Store conn.new) result (λ t. All joined_readable (map joined_columns (pieces_beside t))) }
+    ensures looks { Looks (view S.Store conn.old) (view S.Store conn.new) result
+        (λ t found. option_map joined_in found
+        ≡ find (begins_beyond sought.now after) (pieces_beside t)) }
+    ensures readable { FailsOnlyByFault (view S.Store conn.old) (view S.Store conn.new) result
+        (λ t. All joined_readable (map joined_columns (pieces_beside t))) }
     ensures outside { conn.old.in_transaction ≡ false → conn.new.in_transaction ≡ false }
     ensures dated { IsDated sought.now }
 {
@@ -114,15 +122,19 @@ pub fn ask_next<S: Alter>(
     }
 }
 
-/// The first rows that name an account and begin above the end of one of its rows, beside their lots.
+/// The first rows that name an account and begin above the end of one of its rows, beside their
+/// lots.
 pub fn ask_page<S: Alter>(
     alloc: Global,
     conn: &mut Connection<S>,
     account: AccountNo,
     row: &Piece,
 ) -> Result<Vec<JoinedRow>, Error>
-    ensures looks { Looks (view S.Store conn.old) (view S.Store conn.new) result (λ t found. map joined_in found.items ≡ take 64 (filter (begins_beyond (Naming account) row.now.last) (pieces_beside t))) }
-    ensures readable { FailsOnlyByFault (view S.Store conn.old) (view S.Store conn.new) result (λ t. All joined_readable (map joined_columns (pieces_beside t))) }
+    ensures looks { Looks (view S.Store conn.old) (view S.Store conn.new) result
+        (λ t found. map joined_in found.items
+        ≡ take 64 (filter (begins_beyond (Naming account) row.now.last) (pieces_beside t))) }
+    ensures readable { FailsOnlyByFault (view S.Store conn.old) (view S.Store conn.new) result
+        (λ t. All joined_readable (map joined_columns (pieces_beside t))) }
     ensures outside { conn.old.in_transaction ≡ false → conn.new.in_transaction ≡ false }
 {
     page_of_account(alloc, conn, account.get(), row.last.get())

@@ -2,15 +2,13 @@
 
 ghost use Rattle.std.specs.Prelude.{◌≡◌, pos, Some, IfSome, IsTrue, option_map};
 ghost use Rattle.std.specs.FinMap.{get};
-ghost use Rattle.sqlite.specs.Held.{state as view};
 ghost use Rattle.goo_tables_rows.specs.Rows.{notice_out_in, notice_in_in};
 ghost use Rattle.goo_core_shelf.specs.Shelf.{Looks, arrival_of};
-ghost use Rattle.goo_store_lookups.specs.Moments.{moment};
-ghost use Rattle.goo_store_lookups.specs.StoreFaults.{BlamesStore};
 ghost use Rattle.goo_spec_tables.specs.Records.{sent_of, arrived_of};
 ghost use Rattle.goo_spec_tables.specs.Readable.{is_notice_in};
 ghost use Rattle.goo_store.specs.Reading.{IsReadableSent};
 ghost use Rattle.goo_store_values.specs.Passing.{Accepts, Passes};
+ghost use Rattle.goo_store.specs.Seen.{Blames, seen_by};
 
 use crate::sql_shelf::SqlShelf;
 use goo_core_shelf::found::Arrival;
@@ -33,8 +31,10 @@ fn read_sent(
     alloc: Global,
     found: Result<Option<NoticeOutRow>, Error>,
 ) -> Result<Option<Sent>, Trouble>
-    ensures value { Passes found result (λ row sent. sent ≡ option_map sent_of (option_map notice_out_in row)) }
-    ensures accepts { Accepts found result (λ row. IfSome row (λ r. IsReadableSent (notice_out_in r))) }
+    ensures value { Passes found result
+        (λ row sent. sent ≡ option_map sent_of (option_map notice_out_in row)) }
+    ensures accepts { Accepts found result
+        (λ row. IfSome row (λ r. IsReadableSent (notice_out_in r))) }
 {
     let Some(row) = found? else {
         return Ok(None);
@@ -60,8 +60,11 @@ fn read_arrival(
     found: Result<Option<NoticeInRow>, Error>,
     notice: &Notice,
 ) -> Result<Arrival, Trouble>
-    ensures value { Passes found result (λ row arrival. arrival ≡ arrival_of (option_map arrived_of (option_map notice_in_in row)) notice.now) }
-    ensures accepts { Accepts found result (λ row. IfSome row (λ r. IsTrue (is_notice_in (pos 0, notice_in_in r)))) }
+    ensures value { Passes found result
+        (λ row arrival. arrival
+        ≡ arrival_of (option_map arrived_of (option_map notice_in_in row)) notice.now) }
+    ensures accepts { Accepts found result
+        (λ row. IfSome row (λ r. IsTrue (is_notice_in (pos 0, notice_in_in r)))) }
 {
     let Some(row) = found? else {
         return Ok(Arrival::Absent);
@@ -76,8 +79,9 @@ impl<S: Alter> SqlShelf<S> {
         alloc: Global,
         notice: ActNo,
     ) -> Result<Option<Sent>, Fault>
-        ensures looks { Looks (moment (view S.Store self.old.conn) self.old.refused) (moment (view S.Store self.new.conn) self.new.refused) result (λ found. found ≡ get (moment (view S.Store self.old.conn) self.old.refused).state.sent notice) }
-        ensures store { BlamesStore (view S.Store self.old.conn) (view S.Store self.new.conn) self.old.refused result }
+        ensures looks { Looks (seen_by self.old) (seen_by self.new) result
+            (λ found. found ≡ get (seen_by self.old).state.sent notice) }
+        ensures store { Blames self.old self.new result }
     {
         if self.refused {
             return Err(Fault::Store);
@@ -93,8 +97,11 @@ impl<S: Alter> SqlShelf<S> {
         alloc: Global,
         notice: &Notice,
     ) -> Result<Arrival, Fault>
-        ensures looks { Looks (moment (view S.Store self.old.conn) self.old.refused) (moment (view S.Store self.new.conn) self.new.refused) result (λ arrival. arrival ≡ arrival_of (get (moment (view S.Store self.old.conn) self.old.refused).state.arrived (notice.now.sender, notice.now.number)) notice.now) }
-        ensures store { BlamesStore (view S.Store self.old.conn) (view S.Store self.new.conn) self.old.refused result }
+        ensures looks { Looks (seen_by self.old) (seen_by self.new) result
+            (λ arrival. arrival
+            ≡ arrival_of (get (seen_by self.old).state.arrived
+            (notice.now.sender, notice.now.number)) notice.now) }
+        ensures store { Blames self.old self.new result }
     {
         if self.refused {
             return Err(Fault::Store);

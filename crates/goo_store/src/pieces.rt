@@ -71,8 +71,10 @@ pub fn read_maybe(
     found: Result<Option<JoinedRow>, Error>,
     lots: &mut Vec<NumberedLot>,
 ) -> Result<Option<Piece>, Trouble>
-    ensures value { Passes found result (λ row piece. piece ≡ option_map piece_of (option_map joined_in row)) }
-    ensures accepts { Accepts found result (λ row. IfSome row (λ r. IsReadablePiece (joined_in r))) }
+    ensures value { Passes found result
+        (λ row piece. piece ≡ option_map piece_of (option_map joined_in row)) }
+    ensures accepts { Accepts found result
+        (λ row. IfSome row (λ r. IsReadablePiece (joined_in r))) }
     ensures kept { KeepsRead found (λ row. cons_option row []) lots.old.items lots.new.items }
 {
     match found? {
@@ -104,8 +106,11 @@ pub fn read_beyond(
     after: u64,
     lots: &mut Vec<NumberedLot>,
 ) -> Result<Option<Piece>, Trouble>
-    ensures value { Passes found result (λ row piece. piece ≡ option_map piece_of (option_map joined_in row)) }
-    ensures accepts { Accepts found result (λ row. IfSome row (λ r. IsReadablePiece (joined_in r)) × IfSome (option_map piece_of (option_map joined_in row)) (EndsFrom (after + 1))) }
+    ensures value { Passes found result
+        (λ row piece. piece ≡ option_map piece_of (option_map joined_in row)) }
+    ensures accepts { Accepts found result
+        (λ row. IfSome row (λ r. IsReadablePiece (joined_in r))
+        × IfSome (option_map piece_of (option_map joined_in row)) (EndsFrom (after + 1))) }
     ensures ahead { IfOk result (λ piece. IfSome piece (EndsFrom (after + 1))) }
     ensures kept { KeepsRead found (λ row. cons_option row []) lots.old.items lots.new.items }
 {
@@ -123,7 +128,8 @@ fn push_read(
     row: &JoinedRow,
     lots: &mut Vec<NumberedLot>,
 ) -> Result<(), Trouble>
-    ensures pushed { OnOk result (pieces.new.items ≡ pieces.old.items ++ piece_of (joined_in row.now) ∷ []) }
+    ensures pushed { OnOk result (pieces.new.items
+        ≡ pieces.old.items ++ piece_of (joined_in row.now) ∷ []) }
     ensures accepts { IsReadablePiece (joined_in row.now) → IsOkUnless result Memory }
     ensures kept { KeepsLots (row.now ∷ []) lots.old.items lots.new.items }
 {
@@ -139,7 +145,8 @@ fn read_each(
     lots: &mut Vec<NumberedLot>,
 ) -> Result<Vec<Piece>, Trouble>
     ensures value { IfOk result (λ pieces. pieces.items ≡ map piece_of (map joined_in rows.now)) }
-    ensures accepts { All (λ row. IsReadablePiece (joined_in row)) rows.now → IsOkUnless result Memory }
+    ensures accepts { All (λ row. IsReadablePiece (joined_in row)) rows.now
+        → IsOkUnless result Memory }
     ensures kept { KeepsLots rows.now lots.old.items lots.new.items }
 {
     let mut pieces = Vec::new(alloc);
@@ -169,7 +176,8 @@ pub fn read_rising(
     found: Result<Vec<JoinedRow>, Error>,
     lots: &mut Vec<NumberedLot>,
 ) -> Result<Vec<Piece>, Trouble>
-    ensures value { Passes found result (λ rows pieces. pieces.items ≡ map piece_of (map joined_in rows.items)) }
+    ensures value { Passes found result
+        (λ rows pieces. pieces.items ≡ map piece_of (map joined_in rows.items)) }
     ensures accepts { Accepts found result (λ rows. AreReadablePieces rows.items) }
     ensures rising { IfOk result (λ pieces. IsRising pieces.items) }
     ensures kept { KeepsRead found (λ rows. rows.items) lots.old.items lots.new.items }

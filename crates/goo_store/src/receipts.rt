@@ -2,17 +2,15 @@
 
 ghost use Rattle.std.specs.Prelude.{◌≡◌, ◌==◌, ◌&&◌, ◌||◌, pos, is_ok, IfOk, IfSome, IsOk, IsOkUnless, IsTrue, option_map};
 ghost use Rattle.std.specs.FinMap.{get};
-ghost use Rattle.sqlite.specs.Held.{state as view};
 ghost use Rattle.goo_notice.specs.Law.{command_in};
 ghost use Rattle.goo_spec.specs.Step.{is_kept};
 ghost use Rattle.goo_tables_rows.specs.Rows.{receipt_in};
 ghost use Rattle.goo_core_shelf.specs.Shelf.{Looks, receipt_of as seen_from};
-ghost use Rattle.goo_store_lookups.specs.Moments.{moment};
-ghost use Rattle.goo_store_lookups.specs.StoreFaults.{BlamesStore};
 ghost use Rattle.goo_spec_tables.specs.Replies.{issued_of, reply_of, receipt_of};
 ghost use Rattle.goo_spec_tables.specs.Readable.{are_ends, is_receipt, is_reply};
 ghost use Rattle.goo_store_values.specs.Passing.{Accepts, Passes};
 ghost use Rattle.goo_store_values.specs.declared.trouble.Trouble.TheVariants.{Memory};
+ghost use Rattle.goo_store.specs.Seen.{Blames, seen_by};
 
 use crate::sql_shelf::SqlShelf;
 use goo_core_shelf::found::Receipt;
@@ -98,8 +96,11 @@ fn read_receipt(
     found: Result<Option<ReceiptRow>, Error>,
     command: &Command,
 ) -> Result<Receipt, Trouble>
-    ensures value { Passes found result (λ row receipt. receipt ≡ seen_from (option_map receipt_of (option_map receipt_in row)) command.now) }
-    ensures accepts { Accepts found result (λ row. IfSome row (λ r. IsTrue (is_receipt (pos 0, receipt_in r)))) }
+    ensures value { Passes found result
+        (λ row receipt. receipt
+        ≡ seen_from (option_map receipt_of (option_map receipt_in row)) command.now) }
+    ensures accepts { Accepts found result
+        (λ row. IfSome row (λ r. IsTrue (is_receipt (pos 0, receipt_in r)))) }
 {
     let Some(row) = found? else {
         return Ok(Receipt::Absent);
@@ -120,8 +121,10 @@ impl<S: Alter> SqlShelf<S> {
         key: &Key,
         command: &Command,
     ) -> Result<Receipt, Fault>
-        ensures looks { Looks (moment (view S.Store self.old.conn) self.old.refused) (moment (view S.Store self.new.conn) self.new.refused) result (λ receipt. receipt ≡ seen_from (get (moment (view S.Store self.old.conn) self.old.refused).state.receipts (caller.now, key.now)) command.now) }
-        ensures store { BlamesStore (view S.Store self.old.conn) (view S.Store self.new.conn) self.old.refused result }
+        ensures looks { Looks (seen_by self.old) (seen_by self.new) result
+            (λ receipt. receipt
+            ≡ seen_from (get (seen_by self.old).state.receipts (caller.now, key.now)) command.now) }
+        ensures store { Blames self.old self.new result }
     {
         if self.refused {
             return Err(Fault::Store);

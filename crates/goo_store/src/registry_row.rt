@@ -1,19 +1,17 @@
 //! The registry itself, as its row tells of it.
 
 ghost use Rattle.std.specs.Prelude.{◌≡◌, Some, option_map, IfErr, IfOk, IfSome, IsOk, IsSomeAnd, IsTrue};
-ghost use Rattle.sqlite.specs.Held.{state as view};
 ghost use Rattle.goo_tables_rows.specs.Rows.{Tables, meta_in};
 ghost use Rattle.goo_core_shelf.specs.Counters.{counters_of};
 ghost use Rattle.goo_core_shelf.specs.Meta.{meta_of};
 ghost use Rattle.goo_core_shelf.specs.Shelf.{Looks};
-ghost use Rattle.goo_store_lookups.specs.Moments.{moment};
 ghost use Rattle.goo_store.specs.Found.{KeepsFound};
 ghost use Rattle.goo_store_plans.specs.Found.{IsRowOf};
-ghost use Rattle.goo_store_lookups.specs.StoreFaults.{BlamesStore};
 ghost use Rattle.goo_store_values.specs.Passing.{Accepts, Passes};
 ghost use Rattle.goo_spec_tables.specs.Readable.{is_meta};
 ghost use Rattle.goo_store_values.specs.declared.trouble.Trouble.TheVariants.{Refused};
 ghost use Rattle.goo_spec_tables.specs.States.{state_of};
+ghost use Rattle.goo_store.specs.Seen.{Blames, seen_by};
 
 use crate::sql_shelf::SqlShelf;
 use goo_core_shelf::counters::Counters;
@@ -32,7 +30,9 @@ use sqlite::{Alter, Error};
 /// The next number of each kind.
 #[tactic(auto, unfolding(goo_spec_tables::specs::States::state_of))]
 fn counters_in_row(row: &MetaRow) -> Result<Counters, Trouble>
-    ensures value { IfOk result (λ counters. (t : Tables) → t.meta ≡ meta_in row.now → counters ≡ counters_of (state_of t)) }
+    ensures value { IfOk result
+        (λ counters. (t : Tables) → t.meta ≡ meta_in row.now
+        → counters ≡ counters_of (state_of t)) }
     ensures accepts { IsTrue (is_meta (meta_in row.now)) → IsOk result }
     ensures cause { IfErr result (λ trouble. trouble ≡ Refused) }
 {
@@ -49,7 +49,8 @@ fn counters_in_row(row: &MetaRow) -> Result<Counters, Trouble>
 /// What the registry knows of itself, as its row tells.
 #[tactic(auto, unfolding(goo_spec_tables::specs::States::state_of))]
 fn meta_in_row(row: &MetaRow) -> Result<Meta, Trouble>
-    ensures value { IfOk result (λ meta. (t : Tables) → t.meta ≡ meta_in row.now → meta ≡ meta_of (state_of t)) }
+    ensures value { IfOk result
+        (λ meta. (t : Tables) → t.meta ≡ meta_in row.now → meta ≡ meta_of (state_of t)) }
     ensures accepts { IsTrue (is_meta (meta_in row.now)) → IsOk result }
     ensures cause { IfErr result (λ trouble. trouble ≡ Refused) }
 {
@@ -68,8 +69,11 @@ fn read_meta(
     found: Result<Option<MetaRow>, Error>,
     own: &mut Option<MetaRow>,
 ) -> Result<Meta, Trouble>
-    ensures value { Passes found result (λ row meta. (t : Tables) → option_map meta_in row ≡ Some t.meta → meta ≡ meta_of (state_of t)) }
-    ensures accepts { Accepts found result (λ row. IsSomeAnd row (λ m. IsTrue (is_meta (meta_in m)))) }
+    ensures value { Passes found result
+        (λ row meta. (t : Tables) → option_map meta_in row ≡ Some t.meta
+        → meta ≡ meta_of (state_of t)) }
+    ensures accepts { Accepts found result
+        (λ row. IsSomeAnd row (λ m. IsTrue (is_meta (meta_in m)))) }
     ensures kept { KeepsFound found own.old own.new }
 {
     let row = row(found)?;
@@ -80,7 +84,8 @@ fn read_meta(
 
 /// What the registry knows of itself, as the row tells that is kept, if one is.
 fn meta_in_kept(own: &Option<MetaRow>) -> Option<Meta>
-    ensures { IfSome result (λ meta. (t : Tables) → IsRowOf own.now t → meta ≡ meta_of (state_of t)) }
+    ensures { IfSome result
+        (λ meta. (t : Tables) → IsRowOf own.now t → meta ≡ meta_of (state_of t)) }
 {
     let row = own.as_ref()?;
     meta_in_row(row).ok()
@@ -90,7 +95,8 @@ impl<S: Alter> SqlShelf<S> {
     /// What the registry knows of itself, where its row is kept and may be told.
     fn kept_registry(&self) -> Option<Meta>
         ensures answered { IfSome result (λ meta. IsTrue self.now.lasting.answered) }
-        ensures kept { IfSome result (λ meta. (t : Tables) → IsRowOf self.now.findings.own t → meta ≡ meta_of (state_of t)) }
+        ensures kept { IfSome result
+            (λ meta. (t : Tables) → IsRowOf self.now.findings.own t → meta ≡ meta_of (state_of t)) }
     {
         if self.lasting.answered {
             meta_in_kept(&self.findings.own)
@@ -99,11 +105,12 @@ impl<S: Alter> SqlShelf<S> {
         }
     }
 
-    /// What the registry knows of itself: as the row tells that is kept, or else the one that is looked up, which is
-    /// kept then.
+    /// What the registry knows of itself: as the row tells that is kept, or else the one that is
+    /// looked up, which is kept then.
     pub(crate) fn look_up_registry(&mut self) -> Result<Meta, Fault>
-        ensures looks { Looks (moment (view S.Store self.old.conn) self.old.refused) (moment (view S.Store self.new.conn) self.new.refused) result (λ meta. meta ≡ meta_of (moment (view S.Store self.old.conn) self.old.refused).state) }
-        ensures store { BlamesStore (view S.Store self.old.conn) (view S.Store self.new.conn) self.old.refused result }
+        ensures looks { Looks (seen_by self.old) (seen_by self.new) result
+            (λ meta. meta ≡ meta_of (seen_by self.old).state) }
+        ensures store { Blames self.old self.new result }
     {
         if self.refused {
             return Err(Fault::Store);
@@ -118,8 +125,9 @@ impl<S: Alter> SqlShelf<S> {
 
     /// The registry's own code.
     pub(crate) fn look_up_code(&mut self) -> Result<RegistryCode, Fault>
-        ensures looks { Looks (moment (view S.Store self.old.conn) self.old.refused) (moment (view S.Store self.new.conn) self.new.refused) result (λ code. code ≡ (moment (view S.Store self.old.conn) self.old.refused).state.own) }
-        ensures store { BlamesStore (view S.Store self.old.conn) (view S.Store self.new.conn) self.old.refused result }
+        ensures looks { Looks (seen_by self.old) (seen_by self.new) result
+            (λ code. code ≡ (seen_by self.old).state.own) }
+        ensures store { Blames self.old self.new result }
     {
         let meta = self.look_up_registry()?;
         Ok(meta.code)
@@ -127,8 +135,9 @@ impl<S: Alter> SqlShelf<S> {
 
     /// The registry's date.
     pub(crate) fn look_up_today(&mut self) -> Result<Day, Fault>
-        ensures looks { Looks (moment (view S.Store self.old.conn) self.old.refused) (moment (view S.Store self.new.conn) self.new.refused) result (λ day. day ≡ (moment (view S.Store self.old.conn) self.old.refused).state.today) }
-        ensures store { BlamesStore (view S.Store self.old.conn) (view S.Store self.new.conn) self.old.refused result }
+        ensures looks { Looks (seen_by self.old) (seen_by self.new) result
+            (λ day. day ≡ (seen_by self.old).state.today) }
+        ensures store { Blames self.old self.new result }
     {
         let meta = self.look_up_registry()?;
         Ok(meta.today)
@@ -136,8 +145,9 @@ impl<S: Alter> SqlShelf<S> {
 
     /// The next number of each kind.
     pub(crate) fn look_up_counters(&mut self) -> Result<Counters, Fault>
-        ensures looks { Looks (moment (view S.Store self.old.conn) self.old.refused) (moment (view S.Store self.new.conn) self.new.refused) result (λ counters. counters ≡ counters_of (moment (view S.Store self.old.conn) self.old.refused).state) }
-        ensures store { BlamesStore (view S.Store self.old.conn) (view S.Store self.new.conn) self.old.refused result }
+        ensures looks { Looks (seen_by self.old) (seen_by self.new) result
+            (λ counters. counters ≡ counters_of (seen_by self.old).state) }
+        ensures store { Blames self.old self.new result }
     {
         let meta = self.look_up_registry()?;
         Ok(meta.counters)

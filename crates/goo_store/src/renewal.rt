@@ -1,9 +1,18 @@
 //! Who is told of a renewal.
 
+ghost use Rattle.sqlite.specs.Held.{state as view};
+ghost use Rattle.goo_store.specs.FirstTables.{HoldsFirst};
+
+use sqlite::{Alter, Connection};
+
 /// Who wants to know that a registry of version 1 is about to become one of version 2.
 pub trait Renewal {
-    /// It begins: the rules of version 1 hold, and nothing is changed yet.
-    fn begins(&mut self);
+    ghost use Rattle.sqlite.specs.Held.{state as view};
+    ghost use Rattle.goo_store.specs.FirstTables.{HoldsFirst};
+
+    /// It begins: the database holds tables of version 1 which keep the rules of their version, and nothing is changed yet.
+    fn begins<S: Alter>(&mut self, conn: &Connection<S>)
+        requires first { HoldsFirst (view S.Store conn.now) };
 }
 
 /// Nobody is told.
@@ -11,5 +20,5 @@ pub trait Renewal {
 pub struct Untold;
 
 impl Renewal for Untold {
-    fn begins(&mut self) {}
+    fn begins<S: Alter>(&mut self, _conn: &Connection<S>) {}
 }

@@ -18,7 +18,8 @@ use goo_tables_rows::piece::PieceRow;
 use sqlite::{Alter, Connection};
 use std::alloc::Global;
 
-/// Joins the pieces of tables of version 1 and makes the tables those of version 2, in one transaction, or does nothing.
+/// Joins the pieces of tables of version 1 and makes the tables those of version 2, in one
+/// transaction, or does nothing.
 ///
 /// # Errors
 ///
@@ -36,24 +37,26 @@ fn rewrite<S: Alter>(
     Ok(())
 }
 
-/// Judges tables of version 1 by the rules of their version, and makes them those of version 2, which is told before. The state that they
-/// stand for stays.
+/// Judges tables of version 1 by the rules of their version, and makes them those of version 2,
+/// which is told before. The state that they stand for stays.
 ///
 /// # Errors
 ///
-/// Those of the judgment, before anything is changed; then `Store` where a call was refused, and `Memory` where memory was.
+/// Those of the judgment, before anything is changed; then `Store` where a call was refused, and
+/// `Memory` where memory was.
 pub fn renew<S: Alter, N: Renewal>(
     alloc: Global,
     conn: &mut Connection<S>,
     told: &mut N,
 ) -> Result<(), OpenFault>
     requires outside { conn.old.in_transaction ≡ false }
-    requires met { HasCleanDisk (view S.Store conn.old) → IsMet Layout.First (view S.Store conn.old) }
+    requires met { HasCleanDisk (view S.Store conn.old)
+        → IsMet Layout.First (view S.Store conn.old) }
     ensures { Renews (view S.Store conn.old) (view S.Store conn.new) result }
 {
     match judge(alloc, conn, Layout::First) {
         Ok(pieces) => {
-            told.begins();
+            told.begins(&*conn);
             match rewrite(alloc, conn, &pieces) {
                 Ok(()) => Ok(()),
                 Err(trouble) => Err(OpenFault::from(trouble)),

@@ -2,7 +2,6 @@
 
 ghost use Rattle.std.specs.Prelude.{◌≡◌, ◌+◌, ◌<◌, ◌^◌, ◌&&◌, IfOk, IfSome, Some, find, reverse, nat_le, nat_lt};
 ghost use Rattle.std.specs.List.{filter};
-ghost use Rattle.sqlite.specs.Held.{state as view};
 ghost use Rattle.goo_types.specs.Piece.{IsRising};
 ghost use Rattle.goo_ranges_rows.specs.Rows.{meeting as near};
 ghost use Rattle.goo_spec_runs.specs.NextRun.{ending_from, first_of, from_of};
@@ -10,10 +9,10 @@ ghost use Rattle.goo_core_shelf.specs.Rows.{naming_account, next_row as next_of,
 ghost use Rattle.goo_core_shelf.specs.Shelf.{Looks};
 ghost use Rattle.goo_core_shelf.specs.Sought.{is_sought};
 ghost use Rattle.goo_spec_tables.specs.Places.{rows_of};
-ghost use Rattle.goo_store_lookups.specs.Moments.{moment, tables_in};
-ghost use Rattle.goo_store_lookups.specs.StoreFaults.{BlamesStore};
+ghost use Rattle.goo_store_lookups.specs.Moments.{tables_in};
 ghost use Rattle.goo_store_plans.specs.Found.{IsEdge};
 ghost use Rattle.goo_tables_rows.specs.Stands.{doubts};
+ghost use Rattle.goo_store.specs.Seen.{Blames, database_of, seen_by};
 
 use crate::ahead::read_page;
 use crate::issuing::is_issued_next;
@@ -35,8 +34,9 @@ impl<S: Alter> SqlShelf<S> {
     /// The last row that begins below a number.
     fn row_before(&mut self, alloc: Global, low: u64) -> Result<Option<Piece>, Fault>
         requires { low < 2 ^ 63 }
-        ensures looks { Looks (moment (view S.Store self.old.conn) self.old.refused) (moment (view S.Store self.new.conn) self.new.refused) result (λ row. row ≡ find (λ p. nat_lt p.first low) (reverse (moment (view S.Store self.old.conn) self.old.refused).rows)) }
-        ensures store { BlamesStore (view S.Store self.old.conn) (view S.Store self.new.conn) self.old.refused result }
+        ensures looks { Looks (seen_by self.old) (seen_by self.new) result
+            (λ row. row ≡ find (λ p. nat_lt p.first low) (reverse (seen_by self.old).rows)) }
+        ensures store { Blames self.old self.new result }
     {
         if self.refused {
             return Err(Fault::Store);
@@ -50,8 +50,10 @@ impl<S: Alter> SqlShelf<S> {
     /// The rows that begin between two numbers, both counted.
     fn rows_beginning(&mut self, alloc: Global, low: u64, high: u64) -> Result<Vec<Piece>, Fault>
         requires { (low < 2 ^ 63) × (high < 2 ^ 63) }
-        ensures looks { Looks (moment (view S.Store self.old.conn) self.old.refused) (moment (view S.Store self.new.conn) self.new.refused) result (λ rows. rows.items ≡ filter (λ p. nat_le low p.first && nat_le p.first high) (moment (view S.Store self.old.conn) self.old.refused).rows) }
-        ensures store { BlamesStore (view S.Store self.old.conn) (view S.Store self.new.conn) self.old.refused result }
+        ensures looks { Looks (seen_by self.old) (seen_by self.new) result
+            (λ rows. rows.items ≡ filter
+            (λ p. nat_le low p.first && nat_le p.first high) (seen_by self.old).rows) }
+        ensures store { Blames self.old self.new result }
     {
         if self.refused {
             return Err(Fault::Store);
@@ -62,15 +64,17 @@ impl<S: Alter> SqlShelf<S> {
         told(rows, &mut self.refused)
     }
 
-    /// The rows with a number of the range or next to one, rising. A range within one row, short of its ends, takes one statement, and
-    /// so do numbers that are issued next, since no row begins there. Any other range takes two.
+    /// The rows with a number of the range or next to one, rising. A range within one row, short of
+    /// its ends, takes one statement, and so do numbers that are issued next, since no row begins
+    /// there. Any other range takes two.
     pub(crate) fn look_up_meeting(
         &mut self,
         alloc: Global,
         range: Range,
     ) -> Result<Vec<Piece>, Fault>
-        ensures looks { Looks (moment (view S.Store self.old.conn) self.old.refused) (moment (view S.Store self.new.conn) self.new.refused) result (λ met. met.items ≡ near range (moment (view S.Store self.old.conn) self.old.refused).rows) }
-        ensures store { BlamesStore (view S.Store self.old.conn) (view S.Store self.new.conn) self.old.refused result }
+        ensures looks { Looks (seen_by self.old) (seen_by self.new) result
+            (λ met. met.items ≡ near range (seen_by self.old).rows) }
+        ensures store { Blames self.old self.new result }
         ensures rising { IfOk result (λ met. IsRising met.items) }
     {
         let first = range.first().get();
@@ -92,8 +96,9 @@ impl<S: Alter> SqlShelf<S> {
         alloc: Global,
         account: AccountNo,
     ) -> Result<Vec<Piece>, Fault>
-        ensures looks { Looks (moment (view S.Store self.old.conn) self.old.refused) (moment (view S.Store self.new.conn) self.new.refused) result (λ met. met.items ≡ naming_account account (moment (view S.Store self.old.conn) self.old.refused).rows) }
-        ensures store { BlamesStore (view S.Store self.old.conn) (view S.Store self.new.conn) self.old.refused result }
+        ensures looks { Looks (seen_by self.old) (seen_by self.new) result
+            (λ met. met.items ≡ naming_account account (seen_by self.old).rows) }
+        ensures store { Blames self.old self.new result }
         ensures rising { IfOk result (λ met. IsRising met.items) }
     {
         if self.refused {
@@ -108,8 +113,10 @@ impl<S: Alter> SqlShelf<S> {
     /// The first row that is looked for and begins above a number.
     fn first_beyond(&mut self, sought: &Sought, after: u64) -> Result<Option<Piece>, Fault>
         requires { after < 2 ^ 63 }
-        ensures looks { Looks (moment (view S.Store self.old.conn) self.old.refused) (moment (view S.Store self.new.conn) self.new.refused) result (λ row. row ≡ find (λ p. is_sought sought.now p && nat_lt after p.first) (moment (view S.Store self.old.conn) self.old.refused).rows) }
-        ensures store { BlamesStore (view S.Store self.old.conn) (view S.Store self.new.conn) self.old.refused result }
+        ensures looks { Looks (seen_by self.old) (seen_by self.new) result
+            (λ row. row ≡ find
+            (λ p. is_sought sought.now p && nat_lt after p.first) (seen_by self.old).rows) }
+        ensures store { Blames self.old self.new result }
         ensures ahead { IfOk result (λ row. IfSome row (EndsFrom (after + 1))) }
     {
         if self.refused {
@@ -124,16 +131,19 @@ impl<S: Alter> SqlShelf<S> {
 
     /// The first row that is looked for and ends after a number, or the first of all such rows.
     ///
-    /// That is the last row that begins at the number or before it, or else the first that begins after it: two statements
-    /// that each show one row, whatever lies between. Where the row that was found last ends at the number, as in a walk, the
-    /// second alone is asked.
+    /// That is the last row that begins at the number or before it, or else the first that begins
+    /// after it: two statements that each show one row, whatever lies between. Where the row that
+    /// was found last ends at the number, as in a walk, the second alone is asked.
     pub(crate) fn next_row(
         &mut self,
         sought: &Sought,
         after: Option<Number>,
     ) -> Result<Option<Piece>, Fault>
-        ensures looks { Looks (moment (view S.Store self.old.conn) self.old.refused) (moment (view S.Store self.new.conn) self.new.refused) result (λ row. row ≡ first_of (ending_from (from_of after) (filter (is_sought sought.now) (moment (view S.Store self.old.conn) self.old.refused).rows))) }
-        ensures store { BlamesStore (view S.Store self.old.conn) (view S.Store self.new.conn) self.old.refused result }
+        ensures looks { Looks (seen_by self.old) (seen_by self.new) result
+            (λ row. row
+            ≡ first_of (ending_from (from_of after)
+            (filter (is_sought sought.now) (seen_by self.old).rows))) }
+        ensures store { Blames self.old self.new result }
         ensures ahead { IfOk result (λ row. IfSome row (EndsFrom (from_of after))) }
     {
         let Some(after) = after else {
@@ -152,9 +162,11 @@ impl<S: Alter> SqlShelf<S> {
 
     /// A row of an account that was found, once the rows that follow it were read ahead and kept.
     fn follow(&mut self, account: AccountNo, row: Piece) -> Result<Option<Piece>, Fault>
-        requires { doubts (view S.Store self.now.conn) ≡ 0 → IsEdge (Some row.last) (rows_of (tables_in (view S.Store self.now.conn))) }
-        ensures looks { Looks (moment (view S.Store self.old.conn) self.old.refused) (moment (view S.Store self.new.conn) self.new.refused) result (λ found. found ≡ Some row) }
-        ensures store { BlamesStore (view S.Store self.old.conn) (view S.Store self.new.conn) self.old.refused result }
+        requires { doubts (database_of self.now) ≡ 0
+            → IsEdge (Some row.last) (rows_of (tables_in (database_of self.now))) }
+        ensures looks { Looks (seen_by self.old) (seen_by self.new) result
+            (λ found. found ≡ Some row) }
+        ensures store { Blames self.old self.new result }
         ensures row { IfOk result (λ found. found ≡ Some row) }
     {
         if self.refused {
@@ -173,15 +185,16 @@ impl<S: Alter> SqlShelf<S> {
         told(shown, &mut self.refused)
     }
 
-    /// The first row that names an account and ends after a number, as the tables have it. The rows that follow it are read
-    /// ahead, where it is known that none reaches above its end.
+    /// The first row that names an account and ends after a number, as the tables have it. The rows
+    /// that follow it are read ahead, where it is known that none reaches above its end.
     fn next_in_tables(
         &mut self,
         account: AccountNo,
         after: Option<Number>,
     ) -> Result<Option<Piece>, Fault>
-        ensures looks { Looks (moment (view S.Store self.old.conn) self.old.refused) (moment (view S.Store self.new.conn) self.new.refused) result (λ found. found ≡ next_of account after (moment (view S.Store self.old.conn) self.old.refused).rows) }
-        ensures store { BlamesStore (view S.Store self.old.conn) (view S.Store self.new.conn) self.old.refused result }
+        ensures looks { Looks (seen_by self.old) (seen_by self.new) result
+            (λ found. found ≡ next_of account after (seen_by self.old).rows) }
+        ensures store { Blames self.old self.new result }
         ensures ahead { IfOk result (λ found. IfSome found (EndsFrom (from_of after))) }
     {
         let found = self.next_row(&Sought::Naming(account), after)?;
@@ -199,8 +212,9 @@ impl<S: Alter> SqlShelf<S> {
         account: AccountNo,
         after: Option<Number>,
     ) -> Result<Option<Piece>, Fault>
-        ensures looks { Looks (moment (view S.Store self.old.conn) self.old.refused) (moment (view S.Store self.new.conn) self.new.refused) result (λ found. found ≡ next_of account after (moment (view S.Store self.old.conn) self.old.refused).rows) }
-        ensures store { BlamesStore (view S.Store self.old.conn) (view S.Store self.new.conn) self.old.refused result }
+        ensures looks { Looks (seen_by self.old) (seen_by self.new) result
+            (λ found. found ≡ next_of account after (seen_by self.old).rows) }
+        ensures store { Blames self.old self.new result }
         ensures ahead { IfOk result (λ found. IfSome found (EndsFrom (from_of after))) }
     {
         if self.refused {

@@ -45,83 +45,92 @@ impl<S: Alter> Shelf for SqlShelf<S> {
     ghost use Rattle.goo_core_shelf.specs.Rows.{naming_account, next_row, next_expiring_row, EndsFrom};
     ghost use Rattle.goo_core_shelf.specs.Shelf.{Looks, progress_of, IsRecordOf, receipt_of, arrival_of, totals_of};
     ghost use Rattle.goo_core_shelf.specs.Plan.{Fits, Commits};
-    ghost use Rattle.goo_store.specs.Gathering.{BlamesCommit, CanCarryOut};
-    ghost use Rattle.goo_store_lookups.specs.Moments.{moment};
-    ghost use Rattle.goo_store_lookups.specs.StoreFaults.{BlamesStore};
+    ghost use Rattle.goo_store.specs.Gathering.{CanCarryOut};
     ghost use Rattle.goo_store_lookups.specs.Holding.{safe, sure};
+    ghost use Rattle.goo_store.specs.Seen.{Blames, BlamesPlan, seen_by};
 
-    ghost seen = { λ s. moment (view S.Store s.conn) s.refused };
+    ghost seen = { λ s. seen_by s };
 
     fn refused_calls(&self) -> u64 {
         self.count_refused()
     }
 
     fn registry(&mut self) -> Result<Meta, Fault>
-        ensures looks { Looks (moment (view S.Store self.old.conn) self.old.refused) (moment (view S.Store self.new.conn) self.new.refused) result (λ meta. meta ≡ meta_of (moment (view S.Store self.old.conn) self.old.refused).state) }
-        ensures store { BlamesStore (view S.Store self.old.conn) (view S.Store self.new.conn) self.old.refused result }
+        ensures looks { Looks (seen_by self.old) (seen_by self.new) result
+            (λ meta. meta ≡ meta_of (seen_by self.old).state) }
+        ensures store { Blames self.old self.new result }
     {
         self.look_up_registry()
     }
 
     fn code(&mut self) -> Result<RegistryCode, Fault>
-        ensures looks { Looks (moment (view S.Store self.old.conn) self.old.refused) (moment (view S.Store self.new.conn) self.new.refused) result (λ code. code ≡ (moment (view S.Store self.old.conn) self.old.refused).state.own) }
-        ensures store { BlamesStore (view S.Store self.old.conn) (view S.Store self.new.conn) self.old.refused result }
+        ensures looks { Looks (seen_by self.old) (seen_by self.new) result
+            (λ code. code ≡ (seen_by self.old).state.own) }
+        ensures store { Blames self.old self.new result }
     {
         self.look_up_code()
     }
 
     fn today(&mut self) -> Result<Day, Fault>
-        ensures looks { Looks (moment (view S.Store self.old.conn) self.old.refused) (moment (view S.Store self.new.conn) self.new.refused) result (λ day. day ≡ (moment (view S.Store self.old.conn) self.old.refused).state.today) }
-        ensures store { BlamesStore (view S.Store self.old.conn) (view S.Store self.new.conn) self.old.refused result }
+        ensures looks { Looks (seen_by self.old) (seen_by self.new) result
+            (λ day. day ≡ (seen_by self.old).state.today) }
+        ensures store { Blames self.old self.new result }
     {
         self.look_up_today()
     }
 
     fn counters(&mut self) -> Result<Counters, Fault>
-        ensures looks { Looks (moment (view S.Store self.old.conn) self.old.refused) (moment (view S.Store self.new.conn) self.new.refused) result (λ counters. counters ≡ counters_of (moment (view S.Store self.old.conn) self.old.refused).state) }
-        ensures store { BlamesStore (view S.Store self.old.conn) (view S.Store self.new.conn) self.old.refused result }
+        ensures looks { Looks (seen_by self.old) (seen_by self.new) result
+            (λ counters. counters ≡ counters_of (seen_by self.old).state) }
+        ensures store { Blames self.old self.new result }
     {
         self.look_up_counters()
     }
 
     fn holder(&mut self, code: &HolderCode) -> Result<Option<Name>, Fault>
-        ensures looks { Looks (moment (view S.Store self.old.conn) self.old.refused) (moment (view S.Store self.new.conn) self.new.refused) result (λ name. name ≡ get (moment (view S.Store self.old.conn) self.old.refused).state.holders code.now) }
-        ensures store { BlamesStore (view S.Store self.old.conn) (view S.Store self.new.conn) self.old.refused result }
+        ensures looks { Looks (seen_by self.old) (seen_by self.new) result
+            (λ name. name ≡ get (seen_by self.old).state.holders code.now) }
+        ensures store { Blames self.old self.new result }
     {
         self.look_up_holder(code)
     }
 
     fn account(&mut self, account: AccountNo) -> Result<Option<Account>, Fault>
-        ensures looks { Looks (moment (view S.Store self.old.conn) self.old.refused) (moment (view S.Store self.new.conn) self.new.refused) result (λ found. found ≡ get (moment (view S.Store self.old.conn) self.old.refused).state.accounts account) }
-        ensures store { BlamesStore (view S.Store self.old.conn) (view S.Store self.new.conn) self.old.refused result }
+        ensures looks { Looks (seen_by self.old) (seen_by self.new) result
+            (λ found. found ≡ get (seen_by self.old).state.accounts account) }
+        ensures store { Blames self.old self.new result }
     {
         self.look_up_account(account)
     }
 
     fn device(&mut self, device: &Gsrn) -> Result<Option<Device>, Fault>
-        ensures looks { Looks (moment (view S.Store self.old.conn) self.old.refused) (moment (view S.Store self.new.conn) self.new.refused) result (λ found. found ≡ get (moment (view S.Store self.old.conn) self.old.refused).state.devices device.now) }
-        ensures store { BlamesStore (view S.Store self.old.conn) (view S.Store self.new.conn) self.old.refused result }
+        ensures looks { Looks (seen_by self.old) (seen_by self.new) result
+            (λ found. found ≡ get (seen_by self.old).state.devices device.now) }
+        ensures store { Blames self.old self.new result }
     {
         self.look_up_device(device)
     }
 
     fn progress(&mut self, device: &Gsrn) -> Result<Progress, Fault>
-        ensures looks { Looks (moment (view S.Store self.old.conn) self.old.refused) (moment (view S.Store self.new.conn) self.new.refused) result (λ progress. progress ≡ progress_of (moment (view S.Store self.old.conn) self.old.refused).state device.now) }
-        ensures store { BlamesStore (view S.Store self.old.conn) (view S.Store self.new.conn) self.old.refused result }
+        ensures looks { Looks (seen_by self.old) (seen_by self.new) result
+            (λ progress. progress ≡ progress_of (seen_by self.old).state device.now) }
+        ensures store { Blames self.old self.new result }
     {
         self.look_up_progress(device)
     }
 
     fn device_record(&mut self, device: &Gsrn) -> Result<Option<DeviceRecord>, Fault>
-        ensures looks { Looks (moment (view S.Store self.old.conn) self.old.refused) (moment (view S.Store self.new.conn) self.new.refused) result (IsRecordOf (moment (view S.Store self.old.conn) self.old.refused).state device.now) }
-        ensures store { BlamesStore (view S.Store self.old.conn) (view S.Store self.new.conn) self.old.refused result }
+        ensures looks { Looks (seen_by self.old) (seen_by self.new) result
+            (IsRecordOf (seen_by self.old).state device.now) }
+        ensures store { Blames self.old self.new result }
     {
         self.look_up_device_record(device)
     }
 
     fn correctable(&mut self, device: &Gsrn, first_day: Day) -> Result<Option<Wh>, Fault>
-        ensures looks { Looks (moment (view S.Store self.old.conn) self.old.refused) (moment (view S.Store self.new.conn) self.new.refused) result (λ left. left ≡ lowerable (moment (view S.Store self.old.conn) self.old.refused).state device.now first_day) }
-        ensures store { BlamesStore (view S.Store self.old.conn) (view S.Store self.new.conn) self.old.refused result }
+        ensures looks { Looks (seen_by self.old) (seen_by self.new) result
+            (λ left. left ≡ lowerable (seen_by self.old).state device.now first_day) }
+        ensures store { Blames self.old self.new result }
     {
         self.look_up_correctable(device, first_day)
     }
@@ -133,8 +142,11 @@ impl<S: Alter> Shelf for SqlShelf<S> {
         key: &Key,
         command: &Command,
     ) -> Result<Receipt, Fault>
-        ensures looks { Looks (moment (view S.Store self.old.conn) self.old.refused) (moment (view S.Store self.new.conn) self.new.refused) result (λ receipt. receipt ≡ receipt_of (get (moment (view S.Store self.old.conn) self.old.refused).state.receipts (caller.now, key.now)) command.now) }
-        ensures store { BlamesStore (view S.Store self.old.conn) (view S.Store self.new.conn) self.old.refused result }
+        ensures looks { Looks (seen_by self.old) (seen_by self.new) result
+            (λ receipt. receipt
+            ≡ receipt_of (get (seen_by self.old).state.receipts
+            (caller.now, key.now)) command.now) }
+        ensures store { Blames self.old self.new result }
     {
         self.look_up_receipt(alloc, caller, key, command)
     }
@@ -145,90 +157,104 @@ impl<S: Alter> Shelf for SqlShelf<S> {
         device: &Gsrn,
         first_day: Day,
     ) -> Result<Option<Lot>, Fault>
-        ensures looks { Looks (moment (view S.Store self.old.conn) self.old.refused) (moment (view S.Store self.new.conn) self.new.refused) result (λ lot. lot ≡ get (moment (view S.Store self.old.conn) self.old.refused).state.lots (lot_key origin device.now first_day)) }
-        ensures store { BlamesStore (view S.Store self.old.conn) (view S.Store self.new.conn) self.old.refused result }
+        ensures looks { Looks (seen_by self.old) (seen_by self.new) result
+            (λ lot. lot ≡ get (seen_by self.old).state.lots (lot_key origin device.now first_day)) }
+        ensures store { Blames self.old self.new result }
     {
         self.look_up_lot(origin, device, first_day)
     }
 
     fn peer(&mut self, code: RegistryCode) -> Result<bool, Fault>
-        ensures looks { Looks (moment (view S.Store self.old.conn) self.old.refused) (moment (view S.Store self.new.conn) self.new.refused) result (λ known. known ≡ contains_key (moment (view S.Store self.old.conn) self.old.refused).state.peers code) }
-        ensures store { BlamesStore (view S.Store self.old.conn) (view S.Store self.new.conn) self.old.refused result }
+        ensures looks { Looks (seen_by self.old) (seen_by self.new) result
+            (λ known. known ≡ contains_key (seen_by self.old).state.peers code) }
+        ensures store { Blames self.old self.new result }
     {
         self.look_up_peer(code)
     }
 
     fn arrived(&mut self, alloc: Global, notice: &Notice) -> Result<Arrival, Fault>
-        ensures looks { Looks (moment (view S.Store self.old.conn) self.old.refused) (moment (view S.Store self.new.conn) self.new.refused) result (λ arrival. arrival ≡ arrival_of (get (moment (view S.Store self.old.conn) self.old.refused).state.arrived (notice.now.sender, notice.now.number)) notice.now) }
-        ensures store { BlamesStore (view S.Store self.old.conn) (view S.Store self.new.conn) self.old.refused result }
+        ensures looks { Looks (seen_by self.old) (seen_by self.new) result
+            (λ arrival. arrival
+            ≡ arrival_of (get (seen_by self.old).state.arrived
+            (notice.now.sender, notice.now.number)) notice.now) }
+        ensures store { Blames self.old self.new result }
     {
         self.look_up_arrived(alloc, notice)
     }
 
     fn sent(&mut self, alloc: Global, notice: ActNo) -> Result<Option<Sent>, Fault>
-        ensures looks { Looks (moment (view S.Store self.old.conn) self.old.refused) (moment (view S.Store self.new.conn) self.new.refused) result (λ found. found ≡ get (moment (view S.Store self.old.conn) self.old.refused).state.sent notice) }
-        ensures store { BlamesStore (view S.Store self.old.conn) (view S.Store self.new.conn) self.old.refused result }
+        ensures looks { Looks (seen_by self.old) (seen_by self.new) result
+            (λ found. found ≡ get (seen_by self.old).state.sent notice) }
+        ensures store { Blames self.old self.new result }
     {
         self.look_up_sent(alloc, notice)
     }
 
     fn cancelled(&mut self, cancellation: ActNo) -> Result<Option<CancelRecord>, Fault>
-        ensures looks { Looks (moment (view S.Store self.old.conn) self.old.refused) (moment (view S.Store self.new.conn) self.new.refused) result (λ found. found ≡ get (moment (view S.Store self.old.conn) self.old.refused).state.cancellations cancellation) }
-        ensures store { BlamesStore (view S.Store self.old.conn) (view S.Store self.new.conn) self.old.refused result }
+        ensures looks { Looks (seen_by self.old) (seen_by self.new) result
+            (λ found. found ≡ get (seen_by self.old).state.cancellations cancellation) }
+        ensures store { Blames self.old self.new result }
     {
         self.look_up_cancelled(cancellation)
     }
 
     fn meeting(&mut self, alloc: Global, range: Range) -> Result<Vec<Piece>, Fault>
-        ensures looks { Looks (moment (view S.Store self.old.conn) self.old.refused) (moment (view S.Store self.new.conn) self.new.refused) result (λ met. met.items ≡ near range (moment (view S.Store self.old.conn) self.old.refused).rows) }
-        ensures store { BlamesStore (view S.Store self.old.conn) (view S.Store self.new.conn) self.old.refused result }
+        ensures looks { Looks (seen_by self.old) (seen_by self.new) result
+            (λ met. met.items ≡ near range (seen_by self.old).rows) }
+        ensures store { Blames self.old self.new result }
         ensures rising { IfOk result (λ met. IsRising met.items) }
     {
         self.look_up_meeting(alloc, range)
     }
 
     fn pieces_of(&mut self, alloc: Global, account: AccountNo) -> Result<Vec<Piece>, Fault>
-        ensures looks { Looks (moment (view S.Store self.old.conn) self.old.refused) (moment (view S.Store self.new.conn) self.new.refused) result (λ met. met.items ≡ naming_account account (moment (view S.Store self.old.conn) self.old.refused).rows) }
-        ensures store { BlamesStore (view S.Store self.old.conn) (view S.Store self.new.conn) self.old.refused result }
+        ensures looks { Looks (seen_by self.old) (seen_by self.new) result
+            (λ met. met.items ≡ naming_account account (seen_by self.old).rows) }
+        ensures store { Blames self.old self.new result }
         ensures rising { IfOk result (λ met. IsRising met.items) }
     {
         self.look_up_pieces_of(alloc, account)
     }
 
     fn holds(&mut self, account: AccountNo) -> Result<bool, Fault>
-        ensures looks { Looks (moment (view S.Store self.old.conn) self.old.refused) (moment (view S.Store self.new.conn) self.new.refused) result (λ holds. holds ≡ list_any (λ p. is_held_by account p.place) (moment (view S.Store self.old.conn) self.old.refused).rows) }
-        ensures store { BlamesStore (view S.Store self.old.conn) (view S.Store self.new.conn) self.old.refused result }
+        ensures looks { Looks (seen_by self.old) (seen_by self.new) result
+            (λ holds. holds ≡ list_any (λ p. is_held_by account p.place) (seen_by self.old).rows) }
+        ensures store { Blames self.old self.new result }
     {
         self.look_up_holding(account)
     }
 
     fn next_of(&mut self, account: AccountNo, after: Option<Number>) -> Result<Option<Piece>, Fault>
-        ensures looks { Looks (moment (view S.Store self.old.conn) self.old.refused) (moment (view S.Store self.new.conn) self.new.refused) result (λ found. found ≡ next_row account after (moment (view S.Store self.old.conn) self.old.refused).rows) }
-        ensures store { BlamesStore (view S.Store self.old.conn) (view S.Store self.new.conn) self.old.refused result }
+        ensures looks { Looks (seen_by self.old) (seen_by self.new) result
+            (λ found. found ≡ next_row account after (seen_by self.old).rows) }
+        ensures store { Blames self.old self.new result }
         ensures ahead { IfOk result (λ found. IfSome found (EndsFrom (from_of after))) }
     {
         self.next_naming(account, after)
     }
 
     fn next_expiring(&mut self, day: Day, after: Option<Number>) -> Result<Option<Piece>, Fault>
-        ensures looks { Looks (moment (view S.Store self.old.conn) self.old.refused) (moment (view S.Store self.new.conn) self.new.refused) result (λ found. found ≡ next_expiring_row day after (moment (view S.Store self.old.conn) self.old.refused).rows) }
-        ensures store { BlamesStore (view S.Store self.old.conn) (view S.Store self.new.conn) self.old.refused result }
+        ensures looks { Looks (seen_by self.old) (seen_by self.new) result
+            (λ found. found ≡ next_expiring_row day after (seen_by self.old).rows) }
+        ensures store { Blames self.old self.new result }
         ensures ahead { IfOk result (λ found. IfSome found (EndsFrom (from_of after))) }
     {
         self.next_row(&Sought::Expiring(day), after)
     }
 
     fn totals(&mut self, alloc: Global) -> Result<Vec<DeviceTotals>, Fault>
-        ensures looks { Looks (moment (view S.Store self.old.conn) self.old.refused) (moment (view S.Store self.new.conn) self.new.refused) result (λ totals. totals.items ≡ totals_of (moment (view S.Store self.old.conn) self.old.refused).state) }
-        ensures store { BlamesStore (view S.Store self.old.conn) (view S.Store self.new.conn) self.old.refused result }
+        ensures looks { Looks (seen_by self.old) (seen_by self.new) result
+            (λ totals. totals.items ≡ totals_of (seen_by self.old).state) }
+        ensures store { Blames self.old self.new result }
     {
         self.look_up_totals(alloc)
     }
 
     fn commit(&mut self, alloc: Global, plan: &Plan) -> Result<(), Fault>
-        requires { (moment (view S.Store self.old.conn) self.old.refused).doubts ≡ 0 → Fits (moment (view S.Store self.old.conn) self.old.refused).state (moment (view S.Store self.old.conn) self.old.refused).rows plan.now }
-        ensures commits { Commits (moment (view S.Store self.old.conn) self.old.refused) (moment (view S.Store self.new.conn) self.new.refused) result plan.now }
-        ensures store { BlamesCommit (view S.Store self.old.conn) (view S.Store self.new.conn) self.old.refused result (λ t. CanCarryOut t plan.now) }
+        requires { (seen_by self.old).doubts ≡ 0
+            → Fits (seen_by self.old).state (seen_by self.old).rows plan.now }
+        ensures commits { Commits (seen_by self.old) (seen_by self.new) result plan.now }
+        ensures store { BlamesPlan self.old self.new result (λ t. CanCarryOut t plan.now) }
     {
         self.carry_out(alloc, plan)
     }

@@ -13,7 +13,7 @@ ghost use Rattle.goo_tables_rows.specs.Stands.{HoldsOurs, doubts};
 ghost use Rattle.goo_core_shelf.specs.Shelf.{IsReady};
 ghost use Rattle.goo_tables_holdings.specs.Changes.{begun};
 ghost use Rattle.goo_store.specs.Creating.{meta_of};
-ghost use Rattle.goo_store_lookups.specs.Moments.{IsWell, IsWell-prop, OpensAs, count, moment};
+ghost use Rattle.goo_store_lookups.specs.Moments.{IsWell, IsWell-prop, OpensAs, count};
 ghost use Rattle.goo_store_lookups.specs.Opening.{BlamesOpening};
 ghost use Rattle.goo_store.specs.Found.{Knows, Knows-prop};
 ghost use Rattle.goo_store.specs.Outlasting.{Lasts, Lasts-prop};
@@ -32,8 +32,8 @@ use std::alloc::Global;
 
 /// A registry's state in a database. From the first call on that was refused for another cause than
 /// memory, or that met a row which breaks the rules of the tables, it answers `Store` and calls the
-/// database no more. What look-ups found is kept for the next commit, which needs it; what few commits change is
-/// kept until one does.
+/// database no more. What look-ups found is kept for the next commit, which needs it; what few
+/// commits change is kept until one does.
 pub struct SqlShelf<S: Alter> {
     pub(crate) alloc: Global,
     pub(crate) conn: Connection<S>,
@@ -59,6 +59,8 @@ impl<S: Alter + Drop> Drop for SqlShelf<S> {
 }
 
 impl<S: Alter> SqlShelf<S> {
+    ghost use Rattle.goo_store.specs.Seen.{seen_by};
+
     /// The registry that a database holds by all rules.
     pub(crate) fn over(alloc: Global, conn: Connection<S>) -> SqlShelf<S>
         requires outside { conn.in_transaction ≡ false }
@@ -81,8 +83,9 @@ impl<S: Alter> SqlShelf<S> {
     ///
     /// # Errors
     ///
-    /// The database with `AlreadyThere` where it has a table, an index or a view; with `Store` where the
-    /// disk failed, and `Memory` where memory was refused. The database is as it was then.
+    /// The database with `AlreadyThere` where it has a table, an index or a view; with `Store`
+    /// where the disk failed, and `Memory` where memory was refused. The database is as it was
+    /// then.
     pub fn create(
         alloc: Global,
         conn: Connection<S>,
@@ -91,20 +94,35 @@ impl<S: Alter> SqlShelf<S> {
         today: Day,
     ) -> Result<SqlShelf<S>, (Connection<S>, OpenFault)>
         requires { conn.in_transaction ≡ false }
-        ensures state { IfOk result (λ shelf. (moment (view S.Store shelf.conn) shelf.refused).doubts ≡ 0 → (moment (view S.Store shelf.conn) shelf.refused).state ≡ created code today next_serial) }
-        ensures rows { IfOk result (λ shelf. (moment (view S.Store shelf.conn) shelf.refused).doubts ≡ 0 → (moment (view S.Store shelf.conn) shelf.refused).rows ≡ []) }
-        ensures sound { IfOk result (λ shelf. (moment (view S.Store shelf.conn) shelf.refused).doubts ≡ 0 → IsSound (moment (view S.Store shelf.conn) shelf.refused).state) }
-        ensures rows_fit { IfOk result (λ shelf. (moment (view S.Store shelf.conn) shelf.refused).doubts ≡ 0 → AreRowsOf (moment (view S.Store shelf.conn) shelf.refused).state.at (moment (view S.Store shelf.conn) shelf.refused).rows) }
-        ensures apart { IfOk result (λ shelf. (moment (view S.Store shelf.conn) shelf.refused).doubts ≡ 0 → IsApart (moment (view S.Store shelf.conn) shelf.refused).rows) }
-        ensures ready { IfOk result (λ shelf. IsReady (moment (view S.Store shelf.conn) shelf.refused)) }
+        ensures state { IfOk result
+            (λ shelf. (seen_by shelf).doubts ≡ 0
+            → (seen_by shelf).state ≡ created code today next_serial) }
+        ensures rows { IfOk result
+            (λ shelf. (seen_by shelf).doubts ≡ 0 → (seen_by shelf).rows ≡ []) }
+        ensures sound { IfOk result
+            (λ shelf. (seen_by shelf).doubts ≡ 0 → IsSound (seen_by shelf).state) }
+        ensures rows_fit { IfOk result
+            (λ shelf. (seen_by shelf).doubts ≡ 0
+            → AreRowsOf (seen_by shelf).state.at (seen_by shelf).rows) }
+        ensures apart { IfOk result
+            (λ shelf. (seen_by shelf).doubts ≡ 0 → IsApart (seen_by shelf).rows) }
+        ensures ready { IfOk result (λ shelf. IsReady (seen_by shelf)) }
         ensures there { IfErr result (λ e. e.1 ≡ AlreadyThere → e.0 ≡ conn) }
-        ensures taken { (view S.Store conn).now.schema ≢ no_schema → IsErrAnd result (λ e. e.1 ≡ AlreadyThere) }
-        ensures untaken { (view S.Store conn).now.schema ≡ no_schema → IfErr result (λ e. e.1 ≢ AlreadyThere) }
+        ensures taken { (view S.Store conn).now.schema ≢ no_schema
+            → IsErrAnd result (λ e. e.1 ≡ AlreadyThere) }
+        ensures untaken { (view S.Store conn).now.schema ≡ no_schema
+            → IfErr result (λ e. e.1 ≢ AlreadyThere) }
         ensures words { IfErr result (λ e. (e.1 ≡ AlreadyThere) ⊎ IsOutside e.1) }
-        ensures blames { (view S.Store conn).now.schema ≡ no_schema → IfErr result (λ e. BlamesOpening (view S.Store conn) (view S.Store e.0) e.1) }
-        ensures kept { IfErr result (λ e. HasCleanDisk (view S.Store e.0) → IsTrue (view S.Store e.0).is_open → ((view S.Store e.0).now ≡ (view S.Store conn).now) × ((view S.Store e.0).committed ≡ (view S.Store conn).committed)) }
+        ensures blames { (view S.Store conn).now.schema ≡ no_schema
+            → IfErr result (λ e. BlamesOpening (view S.Store conn) (view S.Store e.0) e.1) }
+        ensures kept { IfErr result
+            (λ e. HasCleanDisk (view S.Store e.0) → IsTrue (view S.Store e.0).is_open
+            → ((view S.Store e.0).now ≡ (view S.Store conn).now)
+            × ((view S.Store e.0).committed ≡ (view S.Store conn).committed)) }
         ensures outside { IfErr result (λ e. e.0.in_transaction ≡ false) }
-        ensures crash { IfErr result (λ e. Survives (view S.Store conn) (view S.Store e.0) (HoldsOurs (view S.Store conn).is_open (begun (meta_of code today next_serial)))) }
+        ensures crash { IfErr result
+            (λ e. Survives (view S.Store conn) (view S.Store e.0)
+            (HoldsOurs (view S.Store conn).is_open (begun (meta_of code today next_serial)))) }
     {
         let mut conn = conn;
         if !is_empty(&conn) {
@@ -123,14 +141,16 @@ impl<S: Alter> SqlShelf<S> {
         if self.refused { 1 } else { 0 }
     }
 
-    /// The database, with the registry in it: while nothing is in doubt, it opens again as the state that the shelf has.
+    /// The database, with the registry in it: while nothing is in doubt, it opens again as the
+    /// state that the shelf has.
     pub fn into_connection(self) -> Connection<S>
         ensures conn { result ≡ self.conn }
         ensures outside { result.in_transaction ≡ false }
         ensures well { IsWell (view S.Store result) }
-        ensures ordered { doubts (view S.Store result) ≡ 0 → IsInKeyOrder (view S.Store result).now }
+        ensures ordered { doubts (view S.Store result) ≡ 0
+            → IsInKeyOrder (view S.Store result).now }
         ensures opens { doubts (view S.Store result) ≡ 0
-            → OpensAs (view S.Store result).now.trees (Some (moment (view S.Store self.conn) self.refused).state) }
+            → OpensAs (view S.Store result).now.trees (Some (seen_by self).state) }
     {
         let SqlShelf {
             alloc: _,

@@ -2,15 +2,13 @@
 
 ghost use Rattle.std.specs.Prelude.{◌≡◌, true, map};
 ghost use Rattle.std.specs.List.{list_all};
-ghost use Rattle.sqlite.specs.Held.{state as view};
 ghost use Rattle.goo_core_shelf.specs.Shelf.{Looks};
 ghost use Rattle.goo_spec_tables.specs.Readable.{is_correction};
 ghost use Rattle.goo_spec_tables.specs.Records.{correction_of};
 ghost use Rattle.goo_store_audit.specs.Summing.{AreTakenBy};
-ghost use Rattle.goo_store_lookups.specs.Moments.{moment};
-ghost use Rattle.goo_store_lookups.specs.StoreFaults.{BlamesStore};
 ghost use Rattle.goo_store_values.specs.Passing.{Accepts, Passes};
 ghost use Rattle.goo_tables_rows.specs.Rows.{correction_in};
+ghost use Rattle.goo_store.specs.Seen.{Blames, seen_by};
 
 use crate::corrections::read_all;
 use crate::sql_shelf::SqlShelf;
@@ -25,8 +23,10 @@ use std::alloc::Global;
 
 /// What the corrections in rows did to devices.
 fn read_taken(alloc: Global, found: Result<Vec<CorrectionRow>, Error>) -> Result<Taken, Trouble>
-    ensures value { Passes found result (λ rows. AreTakenBy (map correction_of (map correction_in rows.items))) }
-    ensures accepts { Accepts found result (λ rows. list_all (λ row. is_correction (correction_in row)) rows.items ≡ true) }
+    ensures value { Passes found result
+        (λ rows. AreTakenBy (map correction_of (map correction_in rows.items))) }
+    ensures accepts { Accepts found result
+        (λ rows. list_all (λ row. is_correction (correction_in row)) rows.items ≡ true) }
 {
     let corrections = read_all(alloc, found)?;
     taken_by(alloc, &corrections)
@@ -35,8 +35,9 @@ fn read_taken(alloc: Global, found: Result<Vec<CorrectionRow>, Error>) -> Result
 impl<S: Alter> SqlShelf<S> {
     /// What all corrections did to devices.
     pub(crate) fn taken(&mut self, alloc: Global) -> Result<Taken, Fault>
-        ensures looks { Looks (moment (view S.Store self.old.conn) self.old.refused) (moment (view S.Store self.new.conn) self.new.refused) result (AreTakenBy (moment (view S.Store self.old.conn) self.old.refused).state.corrections) }
-        ensures store { BlamesStore (view S.Store self.old.conn) (view S.Store self.new.conn) self.old.refused result }
+        ensures looks { Looks (seen_by self.old) (seen_by self.new) result
+            (AreTakenBy (seen_by self.old).state.corrections) }
+        ensures store { Blames self.old self.new result }
     {
         if self.refused {
             return Err(Fault::Store);

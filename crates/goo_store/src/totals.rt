@@ -1,18 +1,17 @@
 //! The energy and the certificates of each device.
 //!
-//! An audit goes through the tables in the order of their keys, a page at a time. Of what it read it keeps sums by device alone, so its
-//! memory follows the devices, and not the declarations or the rows.
+//! An audit goes through the tables in the order of their keys, a page at a time. Of what it read
+//! it keeps sums by device alone, so its memory follows the devices, and not the declarations or
+//! the rows.
 
 ghost use Rattle.std.specs.Prelude.{◌≡◌, ◌≤◌, List, IfOk};
 ghost use Rattle.std.specs.FinMap.{keys as keys_of};
-ghost use Rattle.sqlite.specs.Held.{state as view};
 ghost use Rattle.goo_core_shelf.specs.Shelf.{Looks, totals_of};
 ghost use Rattle.goo_spec.specs.State.{Correction};
 ghost use Rattle.goo_store_audit.specs.Counting.{IsBelow, IsPageAdded, IsTallyOf, all_numbers};
-ghost use Rattle.goo_store_audit.specs.Summing.{AreDeclaredBy, AreTakenBy};
-ghost use Rattle.goo_store_lookups.specs.Moments.{moment};
-ghost use Rattle.goo_store_lookups.specs.StoreFaults.{BlamesStore};
+ghost use Rattle.goo_store_audit.specs.Summing.{AreTakenBy};
 ghost use Rattle.goo_store_rules.specs.Correcting.{AreTakenBack};
+ghost use Rattle.goo_store.specs.Seen.{Blames, seen_by};
 
 use crate::sql_shelf::SqlShelf;
 use goo_core_shelf::found::DeviceTotals;
@@ -39,8 +38,10 @@ impl<S: Alter> SqlShelf<S> {
         tally: &mut Tally,
     ) -> Result<u64, Fault>
         requires { IsBelow low tally.old }
-        ensures looks { Looks (moment (view S.Store self.old.conn) self.old.refused) (moment (view S.Store self.new.conn) self.new.refused) result (λ next. IsPageAdded own withdrawals.now (moment (view S.Store self.old.conn) self.old.refused).rows low next tally.old tally.new) }
-        ensures store { BlamesStore (view S.Store self.old.conn) (view S.Store self.new.conn) self.old.refused result }
+        ensures looks { Looks (seen_by self.old) (seen_by self.new) result
+            (λ next. IsPageAdded own withdrawals.now (seen_by self.old).rows low next
+            tally.old tally.new) }
+        ensures store { Blames self.old self.new result }
         ensures below { IfOk result (λ next. (low ≤ next) × IsBelow next tally.new) }
     {
         if self.refused {
@@ -59,8 +60,10 @@ impl<S: Alter> SqlShelf<S> {
         own: RegistryCode,
         withdrawals: &BTreeSet<(Gsrn, u32)>,
     ) -> Result<Tally, Fault>
-        ensures looks { Looks (moment (view S.Store self.old.conn) self.old.refused) (moment (view S.Store self.new.conn) self.new.refused) result (λ tally. (cs : List Correction) → AreTakenBack cs withdrawals.now → IsTallyOf own cs (moment (view S.Store self.old.conn) self.old.refused).rows tally) }
-        ensures store { BlamesStore (view S.Store self.old.conn) (view S.Store self.new.conn) self.old.refused result }
+        ensures looks { Looks (seen_by self.old) (seen_by self.new) result
+            (λ tally. (cs : List Correction) → AreTakenBack cs withdrawals.now
+            → IsTallyOf own cs (seen_by self.old).rows tally) }
+        ensures store { Blames self.old self.new result }
         ensures below { IfOk result (IsBelow all_numbers) }
     {
         let mut tally = Tally::none(alloc);
@@ -81,8 +84,12 @@ impl<S: Alter> SqlShelf<S> {
         devices: &[Gsrn],
         taken: &Taken,
     ) -> Result<Vec<DeviceTotals>, Fault>
-        ensures looks { Looks (moment (view S.Store self.old.conn) self.old.refused) (moment (view S.Store self.new.conn) self.new.refused) result (λ totals. own ≡ (moment (view S.Store self.old.conn) self.old.refused).state.own → devices.now ≡ keys_of (moment (view S.Store self.old.conn) self.old.refused).state.devices → AreTakenBy (moment (view S.Store self.old.conn) self.old.refused).state.corrections taken.now → totals.items ≡ totals_of (moment (view S.Store self.old.conn) self.old.refused).state) }
-        ensures store { BlamesStore (view S.Store self.old.conn) (view S.Store self.new.conn) self.old.refused result }
+        ensures looks { Looks (seen_by self.old) (seen_by self.new) result
+            (λ totals. own ≡ (seen_by self.old).state.own
+            → devices.now ≡ keys_of (seen_by self.old).state.devices
+            → AreTakenBy (seen_by self.old).state.corrections taken.now
+            → totals.items ≡ totals_of (seen_by self.old).state) }
+        ensures store { Blames self.old self.new result }
     {
         let declared = self.net_energy(alloc)?;
         let tally = self.count_pages(alloc, own, &taken.withdrawals)?;
@@ -97,8 +104,11 @@ impl<S: Alter> SqlShelf<S> {
         own: RegistryCode,
         devices: &[Gsrn],
     ) -> Result<Vec<DeviceTotals>, Fault>
-        ensures looks { Looks (moment (view S.Store self.old.conn) self.old.refused) (moment (view S.Store self.new.conn) self.new.refused) result (λ totals. own ≡ (moment (view S.Store self.old.conn) self.old.refused).state.own → devices.now ≡ keys_of (moment (view S.Store self.old.conn) self.old.refused).state.devices → totals.items ≡ totals_of (moment (view S.Store self.old.conn) self.old.refused).state) }
-        ensures store { BlamesStore (view S.Store self.old.conn) (view S.Store self.new.conn) self.old.refused result }
+        ensures looks { Looks (seen_by self.old) (seen_by self.new) result
+            (λ totals. own ≡ (seen_by self.old).state.own
+            → devices.now ≡ keys_of (seen_by self.old).state.devices
+            → totals.items ≡ totals_of (seen_by self.old).state) }
+        ensures store { Blames self.old self.new result }
     {
         let taken = self.taken(alloc)?;
         self.totals_beside(alloc, own, devices, &taken)
@@ -106,8 +116,10 @@ impl<S: Alter> SqlShelf<S> {
 
     /// The totals of all devices, of the registry of this code.
     fn totals_by(&mut self, alloc: Global, own: RegistryCode) -> Result<Vec<DeviceTotals>, Fault>
-        ensures looks { Looks (moment (view S.Store self.old.conn) self.old.refused) (moment (view S.Store self.new.conn) self.new.refused) result (λ totals. own ≡ (moment (view S.Store self.old.conn) self.old.refused).state.own → totals.items ≡ totals_of (moment (view S.Store self.old.conn) self.old.refused).state) }
-        ensures store { BlamesStore (view S.Store self.old.conn) (view S.Store self.new.conn) self.old.refused result }
+        ensures looks { Looks (seen_by self.old) (seen_by self.new) result
+            (λ totals. own ≡ (seen_by self.old).state.own
+            → totals.items ≡ totals_of (seen_by self.old).state) }
+        ensures store { Blames self.old self.new result }
     {
         let devices = self.device_numbers(alloc)?;
         self.totals_of_devices(alloc, own, &devices)
@@ -115,8 +127,9 @@ impl<S: Alter> SqlShelf<S> {
 
     /// The energy and the certificates of each device, by device.
     pub(crate) fn look_up_totals(&mut self, alloc: Global) -> Result<Vec<DeviceTotals>, Fault>
-        ensures looks { Looks (moment (view S.Store self.old.conn) self.old.refused) (moment (view S.Store self.new.conn) self.new.refused) result (λ totals. totals.items ≡ totals_of (moment (view S.Store self.old.conn) self.old.refused).state) }
-        ensures store { BlamesStore (view S.Store self.old.conn) (view S.Store self.new.conn) self.old.refused result }
+        ensures looks { Looks (seen_by self.old) (seen_by self.new) result
+            (λ totals. totals.items ≡ totals_of (seen_by self.old).state) }
+        ensures store { Blames self.old self.new result }
     {
         let own = self.look_up_code()?;
         self.totals_by(alloc, own)

@@ -1,5 +1,5 @@
 -- The declarations are added up page by page.
-use Rattle.std.proofs.Common.{◌≡◌, ◌≤◌, ◌<◌, ◌+◌, ◌*◌, ◌-◌, ◌^◌, ◌++◌, ◌<ℤ◌, ℕ, ℤ, pos, Bool, true, false, cond, IsTrue, All, List, [], ◌∷◌, map, take, refl, sym, ap, subst, ◌∙◌, arith}
+use Rattle.std.proofs.Common.{◌≡◌, ◌≤◌, ◌<◌, ◌+◌, ◌*◌, ◌-◌, ◌^◌, ◌++◌, ◌<ℤ◌, ℕ, ℤ, pos, Bool, true, cond, IsTrue, All, List, [], ◌∷◌, map, take, refl, sym, ap, subst, ◌∙◌, arith}
 use Rattle.std.specs.Prelude.{sum_by}
 use Rattle.std.specs.BTreeMap.{BTreeMap}
 use Rattle.std.specs.List.{AllByRecursion, list_all}
@@ -15,11 +15,10 @@ use Rattle.goo_spec.specs.Energy.{net_of}
 use Rattle.goo_spec_tables.specs.Devices.{declaration_of}
 use Rattle.goo_spec_tables.specs.Readable.{reads, is_declaration}
 use Rattle.goo_spec_tables.specs.States.{state_of}
-use Rattle.goo_store_audit.specs.NetCounting.{net_by, number_after, AreNets, IsNet, end_of_nets, IsSumBelow, AreNetsAdded, declared_from, net_of_row, IsNetPageAdded, IsDeclaredTo}
+use Rattle.goo_store_audit.specs.NetCounting.{net_by, AreNets, end_of_nets, AreNetsAdded, declared_from, net_of_row, IsNetPageAdded, IsDeclaredTo}
 use Rattle.goo_store_audit.specs.Summing.{AreDeclaredBy}
 use Rattle.goo_store_audit.proofs.CountingLemmas.{cond_most}
 use Rattle.goo_store_audit.proofs.Paging.{IsSpacedFrom, above, ending, from_spaced, none_left, page_sum, sum_by-map, taken_spaced}
-use Rattle.goo_store_open.specs.Reading.{CanBeRead}
 use Rattle.goo_store_rules.specs.Summing.{sum_at}
 use Rattle.goo_tables_pages.specs.NetRows.{Net, net_in, net_part, net_columns, net_readable}
 use Rattle.goo_tables_pages.specs.declared.net.NetRow.{NetRow}

@@ -1,7 +1,6 @@
 -- What sums by device come to.
 use Rattle.std.specs.Prelude.{◌≡◌, ℕ, ◌-◌, ◌%◌, List, sum_by}
 use Rattle.std.specs.BTreeMap.{BTreeMap}
-use Rattle.std.specs.BTreeSet.{BTreeSet}
 use Rattle.goo_types.specs.declared.command.Declare.{Declare}
 use Rattle.goo_types.specs.declared.piece.Piece.{Piece}
 use Rattle.goo_spec.specs.Energy.{certificate, net_of, less_of}
@@ -10,7 +9,6 @@ use Rattle.goo_core_shelf.specs.declared.found.DeviceTotals.{DeviceTotals}
 use Rattle.goo_ranges_rows.specs.Certificates.{issued_in, corrected_in}
 use Rattle.goo_store_rules.specs.Correcting.{AreTakenBack}
 use Rattle.goo_store_rules.specs.Summing.{sum_at}
-use Rattle.goo_store_audit.specs.Counting.{IsTallyOf}
 use Rattle.goo_store_audit.specs.declared.taken.Taken.{Taken}
 use Rattle.goo_store_audit.specs.declared.tallies.Tally.{Tally}
 

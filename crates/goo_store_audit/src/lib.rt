@@ -1,4 +1,5 @@
-//! What an audit adds up: certificates, net energy and what corrections took off, by device, from a page of rows at a time.
+//! What an audit adds up: certificates, net energy and what corrections took off, by device, from a
+//! page of rows at a time.
 #![tactic(auto)]
 
 pub mod nets;

@@ -16,7 +16,8 @@ use std::collections::BTreeMap;
 
 /// The number of a row, which must be `low` or a later one.
 fn number_beyond(row: &NetRow, low: u64) -> Result<u64, Trouble>
-    ensures value { IfOk result (λ n. (number_after row.now.id ≡ n + 1) × (low ≤ n) × (n < 2 ^ 63)) }
+    ensures value { IfOk result
+        (λ n. (number_after row.now.id ≡ n + 1) × (low ≤ n) × (n < 2 ^ 63)) }
     ensures accepts { low + 1 ≤ number_after row.now.id → IsOk result }
 {
     if row.id < 0 || (row.id as u64) < low {
@@ -25,10 +26,12 @@ fn number_beyond(row: &NetRow, low: u64) -> Result<u64, Trouble>
     Ok(row.id as u64)
 }
 
-/// Adds the net energy of a row, whose number must be `low` or a later one; the number after its own.
+/// Adds the net energy of a row, whose number must be `low` or a later one; the number after its
+/// own.
 fn add_row(row: &NetRow, low: u64, sums: &mut BTreeMap<Gsrn, u128>) -> Result<u64, Trouble>
     requires { IsSumBelow low sums.old }
-    ensures next { IfOk result (λ next. (next ≡ number_after row.now.id) × (low + 1 ≤ next) × IsSumBelow next sums.new) }
+    ensures next { IfOk result
+        (λ next. (next ≡ number_after row.now.id) × (low + 1 ≤ next) × IsSumBelow next sums.new) }
     ensures added { OnOk result (AreNetsAdded (net_in row.now ∷ []) sums.old sums.new) }
     ensures accepts { IsNet low (net_in row.now) → IsOkUnless result Memory }
 {
@@ -39,7 +42,8 @@ fn add_row(row: &NetRow, low: u64, sums: &mut BTreeMap<Gsrn, u128>) -> Result<u6
     Ok(number + 1)
 }
 
-/// Adds the net energy of rows, whose numbers must rise from `low` on; the number after the last of them.
+/// Adds the net energy of rows, whose numbers must rise from `low` on; the number after the last of
+/// them.
 fn add_rows(rows: &[NetRow], low: u64, sums: &mut BTreeMap<Gsrn, u128>) -> Result<u64, Trouble>
     requires { IsSumBelow low sums.old }
     ensures next { IfOk result (λ next. next ≡ end_of_nets low (map net_in rows.now)) }
@@ -54,18 +58,22 @@ fn add_rows(rows: &[NetRow], low: u64, sums: &mut BTreeMap<Gsrn, u128>) -> Resul
     Ok(next)
 }
 
-/// Adds the net energy of the rows that were found, whose numbers must rise from `low` on; the number after the last of them.
+/// Adds the net energy of the rows that were found, whose numbers must rise from `low` on; the
+/// number after the last of them.
 ///
 /// # Errors
 ///
-/// `Refused` where the rows could not be read or break the rules of the tables, `Memory` where memory was refused.
+/// `Refused` where the rows could not be read or break the rules of the tables, `Memory` where
+/// memory was refused.
 pub fn add_found(
     found: Result<Vec<NetRow>, Error>,
     low: u64,
     sums: &mut BTreeMap<Gsrn, u128>,
 ) -> Result<u64, Trouble>
     requires { IsSumBelow low sums.old }
-    ensures value { Passes found result (λ rows next. (next ≡ end_of_nets low (map net_in rows.items)) × AreNetsAdded (map net_in rows.items) sums.old sums.new) }
+    ensures value { Passes found result
+        (λ rows next. (next ≡ end_of_nets low (map net_in rows.items))
+        × AreNetsAdded (map net_in rows.items) sums.old sums.new) }
     ensures below { IfOk result (λ next. (low ≤ next) × IsSumBelow next sums.new) }
     ensures accepts { Accepts found result (λ rows. AreNets low (map net_in rows.items)) }
 {

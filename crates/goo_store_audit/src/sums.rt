@@ -1,7 +1,8 @@
-//! What each device declared, what was taken off it, and what it was issued, by sums that are kept by device.
+//! What each device declared, what was taken off it, and what it was issued, by sums that are kept
+//! by device.
 //!
-//! Sums of energy have 128 bits: with corrections the certificates no longer bound what was declared, and 73,000 periods of
-//! 10^15 Wh pass 64 bits.
+//! Sums of energy have 128 bits: with corrections the certificates no longer bound what was
+//! declared, and 73,000 periods of 10^15 Wh pass 64 bits.
 
 ghost use Rattle.std.specs.Prelude.{◌≡◌, ℕ, ◌≤◌, ◌%◌, List, map, IfOk, IsOkUnless};
 ghost use Rattle.goo_spec.specs.Energy.{certificate};
@@ -65,7 +66,8 @@ pub fn totals_over(
     tally: &Tally,
 ) -> Result<Vec<DeviceTotals>, Trouble>
     requires { IsBelow all_numbers tally.now }
-    ensures value { IfOk result (λ totals. totals.items ≡ map (total_in declared.now lowered.now tally.now) devices.now) }
+    ensures value { IfOk result
+        (λ totals. totals.items ≡ map (total_in declared.now lowered.now tally.now) devices.now) }
     ensures memory { IsOkUnless result Memory }
 {
     let mut totals = Vec::new(alloc);

@@ -56,8 +56,11 @@ impl Tally {
 
 /// The number after the last of a row, which must be a range that begins at `low` or later.
 fn number_after(piece: &PieceRow, low: u64) -> Result<u64, Trouble>
-    ensures value { IfOk result (λ next. (next ≡ piece.now.last + 1) × (low ≤ piece.now.first) × (piece.now.first ≤ piece.now.last) × (next ≤ all_numbers)) }
-    ensures accepts { low ≤ piece.now.first → piece.now.first ≤ piece.now.last → piece.now.last < all_numbers → IsOk result }
+    ensures value { IfOk result
+        (λ next. (next ≡ piece.now.last + 1) × (low ≤ piece.now.first)
+        × (piece.now.first ≤ piece.now.last) × (next ≤ all_numbers)) }
+    ensures accepts { low ≤ piece.now.first → piece.now.first ≤ piece.now.last
+        → piece.now.last < all_numbers → IsOk result }
 {
     if piece.first < low || piece.last < piece.first || piece.last >= ALL_NUMBERS {
         return Err(Trouble::Refused);
@@ -65,7 +68,8 @@ fn number_after(piece: &PieceRow, low: u64) -> Result<u64, Trouble>
     Ok(piece.last + 1)
 }
 
-/// How many certificates of a row are a registry's own ones, where `next` is the number after the last.
+/// How many certificates of a row are a registry's own ones, where `next` is the number after the
+/// last.
 fn own_count(own: RegistryCode, piece: &PieceRow, next: u64) -> u64
     ensures value { result ≡ cond (code_of piece.now.first == own) (next - piece.now.first) 0 }
     ensures most { piece.now.first ≤ next → piece.now.first + result ≤ next }
@@ -77,8 +81,8 @@ fn own_count(own: RegistryCode, piece: &PieceRow, next: u64) -> u64
     }
 }
 
-/// How many certificates of a row of the device are a registry's own ones that its corrections withdrew, where `next` is the number
-/// after the last.
+/// How many certificates of a row of the device are a registry's own ones that its corrections
+/// withdrew, where `next` is the number after the last.
 fn back_count(
     own: RegistryCode,
     withdrawals: &BTreeSet<(Gsrn, u32)>,
@@ -87,7 +91,8 @@ fn back_count(
     next: u64,
 ) -> u64
     ensures value { (cs : List Correction) → AreTakenBack cs withdrawals.now
-        → result ≡ cond ((piece.now.kind == 4) && list_any (withdrew device.now piece.now.act) cs) (cond (code_of piece.now.first == own) (next - piece.now.first) 0) 0 }
+        → result ≡ cond ((piece.now.kind == 4) && list_any (withdrew device.now piece.now.act) cs)
+        (cond (code_of piece.now.first == own) (next - piece.now.first) 0) 0 }
     ensures most { piece.now.first ≤ next → piece.now.first + result ≤ next }
 {
     if piece.kind == WITHDRAWN && is_taken(withdrawals, device, piece.act) {
@@ -106,8 +111,11 @@ fn count_row(
     tally: &mut Tally,
 ) -> Result<u64, Trouble>
     requires { IsBelow low tally.old }
-    ensures next { IfOk result (λ next. (next ≡ row.now.piece.last + 1) × (low + 1 ≤ next) × IsBelow next tally.new) }
-    ensures added { OnOk result (AreAdded own withdrawals.now (share_of (device_piece_in row.now) ∷ []) tally.old tally.new) }
+    ensures next { IfOk result
+        (λ next. (next ≡ row.now.piece.last + 1) × (low + 1 ≤ next) × IsBelow next tally.new) }
+    ensures added { OnOk result
+        (AreAdded own withdrawals.now (share_of (device_piece_in row.now) ∷ [])
+        tally.old tally.new) }
     ensures accepts { IsShare low (device_piece_in row.now) → IsOkUnless result Memory }
 {
     let device = texts::gsrn(&row.device)?;
@@ -119,7 +127,8 @@ fn count_row(
     Ok(next)
 }
 
-/// Counts rows, which must be ranges that rise and begin at `low` or later; the number after the last of them.
+/// Counts rows, which must be ranges that rise and begin at `low` or later; the number after the
+/// last of them.
 fn count_rows(
     own: RegistryCode,
     withdrawals: &BTreeSet<(Gsrn, u32)>,
@@ -129,7 +138,8 @@ fn count_rows(
 ) -> Result<u64, Trouble>
     requires { IsBelow low tally.old }
     ensures next { IfOk result (λ next. next ≡ end_of low (shares_of rows.now)) }
-    ensures added { OnOk result (AreAdded own withdrawals.now (shares_of rows.now) tally.old tally.new) }
+    ensures added { OnOk result
+        (AreAdded own withdrawals.now (shares_of rows.now) tally.old tally.new) }
     ensures below { IfOk result (λ next. (low ≤ next) × IsBelow next tally.new) }
     ensures accepts { AreCountable low (map device_piece_in rows.now) → IsOkUnless result Memory }
 {
@@ -140,7 +150,8 @@ fn count_rows(
     Ok(next)
 }
 
-/// Counts the rows that were found, which must be ranges that rise and begin at `low` or later; the number after the last of them.
+/// Counts the rows that were found, which must be ranges that rise and begin at `low` or later; the
+/// number after the last of them.
 pub fn count_found(
     own: RegistryCode,
     withdrawals: &BTreeSet<(Gsrn, u32)>,
@@ -149,9 +160,12 @@ pub fn count_found(
     tally: &mut Tally,
 ) -> Result<u64, Trouble>
     requires { IsBelow low tally.old }
-    ensures value { Passes found result (λ rows next. (next ≡ end_of low (shares_of rows.items)) × AreAdded own withdrawals.now (shares_of rows.items) tally.old tally.new) }
+    ensures value { Passes found result
+        (λ rows next. (next ≡ end_of low (shares_of rows.items))
+        × AreAdded own withdrawals.now (shares_of rows.items) tally.old tally.new) }
     ensures below { IfOk result (λ next. (low ≤ next) × IsBelow next tally.new) }
-    ensures accepts { Accepts found result (λ rows. AreCountable low (map device_piece_in rows.items)) }
+    ensures accepts { Accepts found result
+        (λ rows. AreCountable low (map device_piece_in rows.items)) }
 {
     count_rows(own, withdrawals, &found?, low, tally)
 }

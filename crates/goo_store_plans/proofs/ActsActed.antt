@@ -1,7 +1,6 @@
 -- What commands change that give the next number of a kind, and the one that sets the date.
 use Rattle.std.proofs.Common.{◌≡◌, ℕ, ◌+◌, ◌≤◌, List, true, false, map, refl, ap, ◌∙◌, arith}
 use Rattle.std.specs.FinMap.{get, insert, from_entries}
-use Rattle.std.specs.List.{list_all}
 use Rattle.sqlite_keyed.specs.Keyed.{insert_by}
 use Rattle.goo_types.specs.Day.{day_reading}
 use Rattle.goo_types.specs.declared.command.Advance.{Advance}
@@ -13,8 +12,7 @@ use Rattle.goo_spec.specs.Advance.{with_day}
 use Rattle.goo_spec.specs.Cancel.{with_cancellation, cancellation_of}
 use Rattle.goo_spec.specs.Export.{with_export, notice_of}
 use Rattle.goo_spec.specs.OpenAccount.{with_account}
-use Rattle.goo_spec.specs.Sound.{IsSound}
-use Rattle.goo_spec.specs.State.{State, last_act}
+use Rattle.goo_spec.specs.State.{last_act}
 use Rattle.goo_spec.specs.Withdraw.{with_withdrawal, withdrawal_of}
 use Rattle.goo_ranges_rows.specs.Certificates.{beside}
 use Rattle.goo_tables_rows.specs.Rows.{Tables, account_key, cancellation_key, withdrawal_key, notice_out_key}

@@ -1,12 +1,11 @@
 -- What commands change beside the certificates.
 use Rattle.std.proofs.Common.{◌≡◌, ℕ, ℤ, pos, ◌≤◌, List, true, map, None, refl, ap, sym, subst, ◌∙◌}
-use Rattle.std.specs.FinMap.{FinMap, get, contains_key, insert, from_entries, IsAntisymmetric, slice_cmp-IsAntisymmetric, nat_cmp-IsAntisymmetric}
+use Rattle.std.specs.FinMap.{get, insert, from_entries, IsAntisymmetric, slice_cmp-IsAntisymmetric, nat_cmp-IsAntisymmetric}
 use Rattle.std.specs.Cmp.{nat_cmp_total}
 use Rattle.std.specs.Cmp.Lexicographic.{nat_list_cmp_total}
-use Rattle.std.specs.Ordering.{int_eq, nat_cmp}
+use Rattle.std.specs.Ordering.{nat_cmp}
 use Rattle.std.specs.List.{list_all, list_any}
-use Rattle.std.specs.Option.{option_or}
-use Rattle.sqlite_keyed.specs.Keyed.{IsKeyedBy, next_key, has_key, insert_by}
+use Rattle.sqlite_keyed.specs.Keyed.{IsKeyedBy, next_key, has_key}
 use Rattle.sqlite_keyed.proofs.KeyedLemmas.{next_key_is_free}
 use Rattle.sqlite_typed.specs.Tests.{bytes_eq}
 use Rattle.goo_types.specs.declared.command.OpenHolder.{OpenHolder}
@@ -20,7 +19,7 @@ use Rattle.goo_spec.specs.State.{State, text_cmp}
 use Rattle.goo_spec.specs.Transfer.{with_transfer}
 use Rattle.goo_core_shelf.specs.Shelf.{progress_of}
 use Rattle.goo_ranges_rows.specs.Certificates.{beside}
-use Rattle.goo_tables_rows.specs.Rows.{Tables, Kept, kept_key, lot_key}
+use Rattle.goo_tables_rows.specs.Rows.{Tables, kept_key, lot_key}
 use Rattle.goo_tables_rows.specs.Rows as row
 use Rattle.goo_tables_rows.specs.declared.peer.PeerRow.{PeerRow}
 use Rattle.goo_tables_holdings.specs.Changes as change

@@ -21,7 +21,7 @@ use Rattle.goo_spec.proofs.Again.{accepted_reply}
 use Rattle.goo_spec.proofs.Stepping.{accepted_passes}
 use Rattle.goo_tables_rows.specs.Once.{IsOnce}
 use Rattle.goo_tables_rows.specs.Rows as row
-use Rattle.goo_tables_rows.specs.Rows.{Tables, Lot, lot_key, lot_in, declaration_key, declaration_in, meta_in}
+use Rattle.goo_tables_rows.specs.Rows.{Tables, Lot, lot_key, lot_in, declaration_key, declaration_in}
 use Rattle.goo_tables_rows.specs.declared.meta.MetaRow.{MetaRow}
 use Rattle.goo_tables_holdings.specs.Changes as change
 use Rattle.goo_tables_holdings.specs.declared.counters.CountersRow.{CountersRow}

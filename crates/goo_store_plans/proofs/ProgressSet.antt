@@ -16,7 +16,7 @@ use Rattle.goo_spec.specs.Energy.{carry, remaining, lowered, net, net_of, certif
 use Rattle.goo_spec.specs.State.{State}
 use Rattle.goo_spec.proofs.Declaring.{total_with}
 use Rattle.goo_core_shelf.specs.Shelf.{progress_of}
-use Rattle.goo_tables_rows.specs.Rows.{Tables, Kept, Lot, lot_key, declaration_key}
+use Rattle.goo_tables_rows.specs.Rows.{Kept}
 use Rattle.goo_tables_rows.specs.Rows as row
 use Rattle.goo_tables_holdings.specs.Changes.{progressed}
 use Rattle.goo_spec_tables.specs.Devices.{progress_in}

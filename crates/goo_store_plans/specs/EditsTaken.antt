@@ -1,10 +1,7 @@
 -- What the changes of edits need of the tables.
-use Rattle.std.specs.Prelude.{◌≡◌, ◌<◌, ◌^◌, List, All, Some}
-use Rattle.std.specs.FinMap.{get}
+use Rattle.std.specs.Prelude.{◌<◌, ◌^◌, List, All}
 use Rattle.goo_types.specs.Piece.{IsForward}
 use Rattle.goo_types.specs.declared.piece.Piece.{Piece}
-use Rattle.goo_spec.specs.Lots.{key_of}
-use Rattle.goo_spec.specs.State.{State}
 use Rattle.goo_ranges.specs.declared.edits.Edit.{Edit}
 use Rattle.goo_tables_rows.specs.Rows.{Tables, Lot}
 use Rattle.goo_store_plans.specs.AtHand.{IsAtHand}

@@ -2,7 +2,6 @@
 use Rattle.std.specs.Prelude.{length, Option}
 use Rattle.goo_types.specs.declared.command.Command.{Command}
 use Rattle.goo_types.specs.declared.command.Command.TheVariants.{OpenAccount, Declare, Correct, Cancel, Withdraw, Export, Import}
-use Rattle.goo_spec.specs.Step.{accept}
 use Rattle.goo_core_shelf.specs.Plan.{Fits}
 use Rattle.goo_core_shelf.specs.declared.plan.Plan.{Plan}
 use Rattle.goo_tables_rows.specs.Rows.{Tables, declaration_key, lot_key, correction_key}

@@ -9,7 +9,6 @@ use Rattle.goo_store.proofs.CommitBlamed.{blamed, blamed_before}
 use Rattle.goo_store.proofs.CommitLemmas.{basis_after, lasts_after, so_after, well_after, committed}
 use Rattle.goo_store.proofs.Found.{known_after}
 use Rattle.goo_store.proofs.CommitsAfter.{not_refused, not_committed, as_err, fits_still, commits_after}
-use Rattle.goo_spec_tables.specs.States.{state_of}
 use Rattle.goo_store.specs.Outlasting.{IsLasting}
 use Rattle.goo_tables_rows.specs.Rows.{Tables}
 use Rattle.goo_store.proofs.sql_shelf.SqlShelf.carry_out.Goals as goal

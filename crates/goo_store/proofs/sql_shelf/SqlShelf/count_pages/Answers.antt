@@ -4,7 +4,7 @@ use Rattle.goo_core_shelf.proofs.Looking as shelf
 use Rattle.goo_spec.specs.State.{State}
 use Rattle.goo_spec_tables.specs.Places.{rows_of}
 use Rattle.goo_types.specs.declared.piece.Piece.{Piece}
-use Rattle.goo_store_audit.specs.Counting.{IsBelow, IsPageAdded, IsCountedTo}
+use Rattle.goo_store_audit.specs.Counting.{IsPageAdded}
 use Rattle.goo_store_audit.proofs.CountingLemmas.{counting_begins, counting_goes, counting_ends, weaker_below}
 use Rattle.goo_store_lookups.specs.Moments.{moment, tables_in}
 use Rattle.goo_store_lookups.proofs.Looking.{failed_then}

@@ -1,4 +1,4 @@
-use Rattle.std.proofs.Common.{◌≤◌, ◌-◌, Ok}
+use Rattle.std.proofs.Common.{◌-◌, Ok}
 use Rattle.sqlite.specs.Held.{state as view}
 use Rattle.goo_core_shelf.specs.Shelf.{Looks}
 use Rattle.goo_spec_tables.specs.Places.{rows_of}

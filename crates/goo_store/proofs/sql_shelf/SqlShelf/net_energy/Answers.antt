@@ -1,7 +1,6 @@
-use Rattle.std.proofs.Common.{◌≡◌, ◌∙◌, refl, subst, sym, List, Err, Ok, arith, rules}
+use Rattle.std.proofs.Common.{◌≡◌, ◌∙◌, subst, List, Err, Ok, arith, rules}
 use Rattle.sqlite.specs.Held.{state as view}
 use Rattle.goo_core_shelf.proofs.Looking as shelf
-use Rattle.goo_core_shelf.specs.Shelf.{Looks}
 use Rattle.goo_spec.specs.State.{State}
 use Rattle.goo_types.specs.declared.piece.Piece.{Piece}
 use Rattle.goo_store_audit.specs.NetCounting.{IsDeclaredTo, IsNetPageAdded}

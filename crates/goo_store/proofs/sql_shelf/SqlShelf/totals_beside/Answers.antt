@@ -1,4 +1,4 @@
-use Rattle.std.proofs.Common.{◌≡◌, ◌∙◌, ap, map, rules, sym, subst, Err}
+use Rattle.std.proofs.Common.{◌≡◌, ◌∙◌, map, rules, subst, Err}
 use Rattle.sqlite.specs.Held.{state as view}
 use Rattle.goo_tables_rows.proofs.Results.{if_ok}
 use Rattle.goo_store_lookups.specs.Moments.{tables_in}
