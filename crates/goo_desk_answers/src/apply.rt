@@ -4,6 +4,7 @@ ghost use Rattle.goo_desk_body.specs.Body.{body_of};
 ghost use Rattle.goo_desk_lines.specs.Lines.{body_reading};
 ghost use Rattle.goo_desk_lines.specs.Reading.{Reads};
 ghost use Rattle.goo_core_shelf.specs.Shelf.{IsTold};
+ghost use Rattle.goo_registry_desk.specs.Desk.{StaysSure};
 ghost use Rattle.goo_desk_answers.specs.Responds.{Does, applied, state_applied, status_of_refusal, status_of_outcome, status_of_answer};
 ghost use Rattle.goo_desk_routes.specs.declared.task.Task.TheVariants.{Apply};
 
@@ -74,6 +75,8 @@ fn apply_body<D: Counter>(
     ensures told { (D.seen desk.old).refusals ≡ 0 → IsTold result (D.seen desk.new).refusals }
     ensures works { (D.seen desk.new).lies ≡ 0 → (D.seen desk.old).doubts ≡ 0
         → OnOk result ((D.seen desk.new).doubts ≡ 0) }
+    ensures stays { (D.seen desk.new).lies ≡ 0 → (D.seen desk.old).doubts ≡ 0
+        → StaysSure (D.seen desk.old) (D.seen desk.new) }
 {
     match read_body(alloc, caller, body) {
         Ok(request) => Ok(Given::Decided(desk.apply(alloc, &request)?)),
@@ -109,6 +112,8 @@ pub(crate) fn answer_apply<D: Counter>(
     ensures told { (D.seen desk.old).refusals ≡ 0 → IsTold result (D.seen desk.new).refusals }
     ensures works { (D.seen desk.new).lies ≡ 0 → (D.seen desk.old).doubts ≡ 0
         → OnOk result ((D.seen desk.new).doubts ≡ 0) }
+    ensures stays { (D.seen desk.new).lies ≡ 0 → (D.seen desk.old).doubts ≡ 0
+        → StaysSure (D.seen desk.old) (D.seen desk.new) }
 {
     let room = Vec::with_capacity(alloc, ROOM)?;
     let given = apply_body(alloc, desk, caller, body)?;

@@ -3,6 +3,7 @@ ghost use Rattle.std.specs.Prelude.{◌≡◌, ◌⊎◌, IfOk, OnErr, OnOk};
 ghost use Rattle.goo_desk_heads.specs.Requests.{seen as parts_seen, parts_of};
 ghost use Rattle.goo_desk_responses.specs.Responses.{response_text, fixed};
 ghost use Rattle.goo_core_shelf.specs.Shelf.{IsTold};
+ghost use Rattle.goo_registry_desk.specs.Desk.{StaysSure};
 ghost use Rattle.goo_spec.specs.Sound.{IsSound};
 ghost use Rattle.goo_desk_counter.specs.Tables.{ImportsAreRuns};
 ghost use Rattle.goo_desk_answers.specs.Brought.{KeepsPromise};
@@ -62,6 +63,8 @@ fn answer_task<D: Counter>(
     ensures told { (D.seen desk.old).refusals ≡ 0 → IsTold result (D.seen desk.new).refusals }
     ensures works { (D.seen desk.new).lies ≡ 0 → (D.seen desk.old).doubts ≡ 0
         → OnOk result ((D.seen desk.new).doubts ≡ 0) }
+    ensures stays { (D.seen desk.new).lies ≡ 0 → (D.seen desk.old).doubts ≡ 0
+        → StaysSure (D.seen desk.old) (D.seen desk.new) }
 {
     match task {
         Task::Apply => answer_apply(alloc, desk, caller, body),
@@ -84,6 +87,8 @@ fn answer_handled<D: Counter>(
     ensures told { (D.seen desk.old).refusals ≡ 0 → IsTold result (D.seen desk.new).refusals }
     ensures works { (D.seen desk.new).lies ≡ 0 → (D.seen desk.old).doubts ≡ 0
         → OnOk result ((D.seen desk.new).doubts ≡ 0) }
+    ensures stays { (D.seen desk.new).lies ≡ 0 → (D.seen desk.old).doubts ≡ 0
+        → StaysSure (D.seen desk.old) (D.seen desk.new) }
 {
     match handling {
         Handling::Fixed(status, allow) => {
@@ -107,6 +112,8 @@ fn answer_request<D: Counter>(
     ensures told { (D.seen desk.old).refusals ≡ 0 → IsTold result (D.seen desk.new).refusals }
     ensures works { (D.seen desk.new).lies ≡ 0 → (D.seen desk.old).doubts ≡ 0
         → OnOk result ((D.seen desk.new).doubts ≡ 0) }
+    ensures stays { (D.seen desk.new).lies ≡ 0 → (D.seen desk.old).doubts ≡ 0
+        → StaysSure (D.seen desk.old) (D.seen desk.new) }
 {
     match request {
         Err(refused) => {
@@ -139,6 +146,8 @@ pub fn answer_by_routes<D: Counter>(
     ensures promised { ImportsAreRuns D.imports D.begins → IsSound (D.seen desk.old).state → (D.seen desk.new).lies ≡ 0 → KeepsPromise bytes.now (D.seen desk.old).state (D.seen desk.new) result }
     ensures works { (D.seen desk.new).lies ≡ 0 → (D.seen desk.old).doubts ≡ 0
         → OnOk result ((D.seen desk.new).doubts ≡ 0) }
+    ensures stays { (D.seen desk.new).lies ≡ 0 → (D.seen desk.old).doubts ≡ 0
+        → StaysSure (D.seen desk.old) (D.seen desk.new) }
 {
     answer_request(alloc, routes, desk, &read_request(bytes))
 }
@@ -147,6 +156,9 @@ pub fn answer_by_routes<D: Counter>(
 ///
 /// `promised`: what a registry promises after any list of requests holds of the requests that the bytes bring, and after a fault of those
 /// that stand. Its first premise is that the desk's imports are runs, as a registry's are ([`imports_are_runs`](goo_desk_counter::imports_are_runs)).
+///
+/// `stays`: nothing is in doubt unless a call below failed. So after a `Memory` with no failed call
+/// the state is known, and a crash finds it.
 ///
 /// # Errors
 ///
@@ -161,6 +173,8 @@ pub fn answer<D: Counter>(alloc: Global, desk: &mut D, bytes: &[u8]) -> Result<A
     ensures promised { ImportsAreRuns D.imports D.begins → IsSound (D.seen desk.old).state → (D.seen desk.new).lies ≡ 0 → KeepsPromise bytes.now (D.seen desk.old).state (D.seen desk.new) result }
     ensures works { (D.seen desk.new).lies ≡ 0 → (D.seen desk.old).doubts ≡ 0
         → OnOk result ((D.seen desk.new).doubts ≡ 0) }
+    ensures stays { (D.seen desk.new).lies ≡ 0 → (D.seen desk.old).doubts ≡ 0
+        → StaysSure (D.seen desk.old) (D.seen desk.new) }
 {
     let request = read_request(bytes);
     let routes = Routes::new(alloc)?;

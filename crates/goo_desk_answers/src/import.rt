@@ -2,6 +2,7 @@
 ghost use Rattle.std.specs.Prelude.{◌≡◌, IfOk, OnErr, OnOk};
 ghost use Rattle.goo_desk_counter.specs.Counters.{report_of};
 ghost use Rattle.goo_core_shelf.specs.Shelf.{IsTold};
+ghost use Rattle.goo_registry_desk.specs.Desk.{StaysSure};
 ghost use Rattle.goo_desk_answers.specs.Responds.{Does, Stopped, IsGiven, import_response};
 ghost use Rattle.goo_desk_routes.specs.declared.task.Task.TheVariants.{Import};
 
@@ -43,6 +44,8 @@ pub(crate) fn answer_import<D: Counter>(
     ensures told { (D.seen desk.old).refusals ≡ 0 → IsTold result (D.seen desk.new).refusals }
     ensures works { (D.seen desk.new).lies ≡ 0 → (D.seen desk.old).doubts ≡ 0
         → OnOk result ((D.seen desk.new).doubts ≡ 0) }
+    ensures stays { (D.seen desk.new).lies ≡ 0 → (D.seen desk.old).doubts ≡ 0
+        → StaysSure (D.seen desk.old) (D.seen desk.new) }
 {
     let imported = desk.import(alloc, caller, body)?;
     Ok(answer_imported(alloc, &imported)?)

@@ -2,6 +2,7 @@
 ghost use Rattle.std.specs.Prelude.{◌≡◌, IfOk, OnErr, OnOk};
 ghost use Rattle.goo_desk_counter.specs.Counters.{text_shown};
 ghost use Rattle.goo_core_shelf.specs.Shelf.{IsTold};
+ghost use Rattle.goo_registry_desk.specs.Desk.{StaysSure};
 ghost use Rattle.goo_desk_answers.specs.Responds.{Does, IsGiven, content_of as content_stated, status_of_denial, show_response};
 ghost use Rattle.goo_desk_routes.specs.declared.task.Task.TheVariants.{Show};
 
@@ -66,6 +67,8 @@ pub(crate) fn answer_show<D: Counter>(
     ensures told { (D.seen desk.old).refusals ≡ 0 → IsTold result (D.seen desk.new).refusals }
     ensures works { (D.seen desk.new).lies ≡ 0 → (D.seen desk.old).doubts ≡ 0
         → OnOk result ((D.seen desk.new).doubts ≡ 0) }
+    ensures stays { (D.seen desk.new).lies ≡ 0 → (D.seen desk.old).doubts ≡ 0
+        → StaysSure (D.seen desk.old) (D.seen desk.new) }
 {
     let shown = desk.show(alloc, caller, subject)?;
     Ok(answer_shown(alloc, &subject, &shown)?)

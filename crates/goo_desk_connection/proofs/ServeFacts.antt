@@ -1,11 +1,11 @@
 -- What is sent, by what was answered.
-use Rattle.std.proofs.Common.{◌≡◌, ℕ, List, [], Option, Some, None, Result, Ok, Err, IfErr, IfOk, IfSome, OnOk, OnErr, refl, inl, inr}
+use Rattle.std.proofs.Common.{◌≡◌, arith, ℕ, List, [], Option, Some, None, Result, Ok, Err, IfErr, IfOk, IfSome, OnOk, OnErr, refl, inl, inr}
 use Rattle.std.proofs.lemmas.List.{append-nil}
 use Rattle.std.specs.Io.KnownBytes.{Appends, Consumes, IsAtEnd}
 use Rattle.goo_files_streams.specs.Streams.{AppendsPrefix, IsWholeOf}
 use Rattle.goo_files_streams.proofs.AppendsFacts.{prefix-whole}
 use Rattle.goo_spec.specs.State.{State}
-use Rattle.goo_registry_desk.specs.Desk.{Seen}
+use Rattle.goo_registry_desk.specs.Desk.{Seen, StaysSure}
 use Rattle.goo_desk_heads.specs.Requests.{IsSure}
 use Rattle.goo_desk_responses.specs.declared.status.Status.{Status}
 use Rattle.goo_desk_responses.specs.declared.status.Status.TheVariants.{Unavailable}
@@ -77,8 +77,12 @@ module _ (shows : Showing) (imports : Importing) (begins : Beginning) where
   leaves-stands (Some input) s bytes new stands (status, text, served) = (input, refl, (status, text, served-stands s bytes input status text new stands served))
 
   pub bytes-connect : (known : Option (List ℕ)) (bytes : List ℕ) (old new : Seen) → StandsFor known bytes → Leaves shows imports begins old.state bytes new → (new.doubts ≡ 0 → old.doubts ≡ 0) → (new.lies ≡ 0 → old.lies ≡ 0)
-      → Connects shows imports begins known old new
-  bytes-connect known bytes old new stands leaves doubted lied = record { leaves = inr (leaves-stands known old.state bytes new stands leaves); doubted = doubted; lied = lied }
+      → (new.lies ≡ 0 → old.doubts ≡ 0 → StaysSure old new) → Connects shows imports begins known old new
+  bytes-connect known bytes old new stands leaves doubted lied stays = record { leaves = inr (leaves-stands known old.state bytes new stands leaves); doubted = doubted; lied = lied; stays = stays }
+
+  -- nothing was read
+  pub none-connect : (known : Option (List ℕ)) (m : Seen) → Connects shows imports begins known m m
+  none-connect known m = record { leaves = inl refl; doubted = λ none. none; lied = λ none. none; stays = λ none sure. record { counts = omega arith; sure = λ _. sure } }
 
   pub sends-stands : {E : Type 0} (r : Result Served E) (known : Option (List ℕ)) (s : State) (bytes : List ℕ) (new : Seen) (had has : Option (List ℕ)) → StandsFor known bytes
       → IfOk r (λ served. Sends shows imports begins s bytes served.status new had has) → IfSome known (λ input. IfOk r (λ served. Sends shows imports begins s input served.status new had has))

@@ -3,7 +3,7 @@ use Rattle.std.specs.Prelude.{◌≡◌, ◌⊎◌, ℕ, Bool, List, None, Optio
 use Rattle.std.specs.Io.KnownBytes.{Appends}
 use Rattle.goo_files_streams.specs.Streams.{AppendsPrefix, IsWholeOf}
 use Rattle.goo_spec.specs.State.{State}
-use Rattle.goo_registry_desk.specs.Desk.{Seen}
+use Rattle.goo_registry_desk.specs.Desk.{Seen, StaysSure}
 use Rattle.goo_desk_heads.specs.Requests.{Decides, Parts, is_for_head}
 use Rattle.goo_desk_heads.specs.declared.request.RefusedHead.{RefusedHead}
 use Rattle.goo_desk_responses.specs.Responses.{response_text, fixed}
@@ -40,11 +40,12 @@ module _ (shows : Showing) (imports : Importing) (begins : Beginning) where
   Leaves s bytes new = (status : Status) × (text : List ℕ) × IsServed s bytes status text new
 
   -- What a connection leaves, whatever its client does: all as it was, or what answering its bytes leaves, which are those that its reader had, where
-  -- it tells them. No doubt and no lie is forgotten.
+  -- it tells them. No doubt and no lie is forgotten. Only a failed call brings a doubt.
   pub record Connects (known : Option (List ℕ)) (old new : Seen) : Type 0 where
     pub leaves : (new ≡ old) ⊎ ((bytes : List ℕ) × IsWholeOf known bytes × Leaves old.state bytes new)
     pub doubted : new.doubts ≡ 0 → old.doubts ≡ 0
     pub lied : new.lies ≡ 0 → old.lies ≡ 0
+    pub stays : new.lies ≡ 0 → old.doubts ≡ 0 → StaysSure old new
 
   -- all of what is answered was written
   abbrev pub Sends : State → List ℕ → Status → Seen → Option (List ℕ) → Option (List ℕ) → Type 0

@@ -3,6 +3,7 @@ ghost use Rattle.std.specs.Prelude.{◌≡◌, IfOk, IfErr, IfSome};
 ghost use Rattle.std.specs.Io.KnownBytes.{Keeps};
 ghost use Rattle.goo_desk_connection.specs.Durable.{SendsFound};
 ghost use Rattle.goo_desk_connection.specs.Serving.{Connects, Leaves, Sends, SendsPart, SendsExcuse};
+ghost use Rattle.goo_registry_desk.specs.Desk.{StaysSure};
 ghost use Rattle.goo_spec.specs.Sound.{IsSound};
 ghost use Rattle.goo_desk_counter.specs.Tables.{ImportsAreRuns};
 ghost use Rattle.goo_desk_connection.specs.Promised.{KeepsPromise};
@@ -40,6 +41,8 @@ fn serve_bytes<D: Counter, W: Write>(
     ensures found { (D.seen desk.new).lies ≡ 0 → (D.seen desk.old).doubts ≡ 0
         → SendsFound D.shows D.imports (D.seen desk.old).state bytes.now (D.seen desk.new).state
         (W.contents writer.old) (W.contents writer.new) (D.leaves desk.new) }
+    ensures stays { (D.seen desk.new).lies ≡ 0 → (D.seen desk.old).doubts ≡ 0
+        → StaysSure (D.seen desk.old) (D.seen desk.new) }
 {
     match answer_by_routes(alloc, routes, desk, bytes) {
         Ok(answer) => {
@@ -64,6 +67,8 @@ fn serve_bytes<D: Counter, W: Write>(
 /// Reads a request until it is decided, and answers it by the routes of the registry. The caller closes the connection.
 ///
 /// Want of memory in answering is answered 503. `found`: an answer is sent only once a crash finds what it tells.
+/// `connects`: nothing is in doubt unless a call below failed (`stays`), so after a 503 with no
+/// failed call the state is known, and a crash finds it.
 ///
 /// # Errors
 ///
@@ -96,6 +101,8 @@ pub fn serve_by_routes<D: Counter, R: Read, W: Write>(
 /// Makes the routes, reads a request until it is decided, and answers it. The caller closes the connection.
 ///
 /// Want of memory in answering is answered 503. `found`: an answer is sent only once a crash finds what it tells.
+/// `connects`: nothing is in doubt unless a call below failed (`stays`), so after a 503 with no
+/// failed call the state is known, and a crash finds it.
 ///
 /// # Errors
 ///

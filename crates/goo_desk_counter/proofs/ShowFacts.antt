@@ -1,7 +1,8 @@
 -- A text that was written in memory, as it is shown.
 use Rattle.std.proofs.Common.{◌≡◌, ℕ, List, [], ◌++◌, Option, Some, None, Result, Ok, Err, Vec, sym, subst}
 use Rattle.std.specs.Global.{Global}
-use Rattle.goo_core_shelf.specs.Shelf.{Moment}
+use Rattle.goo_core_shelf.specs.Shelf.{Moment, StaysSure}
+use Rattle.goo_registry_desk.specs.Desk as desk
 use Rattle.goo_registry.specs.Desks.{seen_of}
 use Rattle.goo_core_answers.specs.declared.denial.Denial.{Denial}
 use Rattle.goo_core_answers.specs.declared.denial.Denial.TheVariants as denied
@@ -12,6 +13,10 @@ use Rattle.goo_desk_routes.specs.declared.task.Subject.{Subject}
 use Rattle.goo_desk_counter.specs.Counters.{Shows}
 use Rattle.goo_desk_counter.specs.Made.{shown_as}
 use Rattle.goo_desk_counter.specs.Showing.{shown_by, IsTextUnless}
+
+-- a registry's moments, as a desk's
+pub stays_seen : (old new : Moment) → StaysSure old new → desk.StaysSure (seen_of old) (seen_of new)
+stays_seen old new stays = record { counts = stays.counts; sure = stays.sure }
 
 pub shows-text : (old new : Moment) (caller : List ℕ) (subject : Subject) (bytes : Vec ℕ Global) (before : List ℕ) (written : Result (Unit {0}) ShowFault) (denial : Option Denial) (right : List ℕ → Type 0)
     → before ≡ []
@@ -25,6 +30,7 @@ shows-text old new caller subject bytes before (Ok u) denial right none is w = r
   doubted = w.looks.doubted;
   lied = w.looks.lied;
   told = w.looks.told;
+  stays = λ honest sure. stays_seen old new (w.looks.stays honest sure);
 }
 shows-text old new caller subject bytes before (Err fault.NotAllowed) denial right none is w = record {
   text = λ fine. is (Err denied.NotAllowed) (w.denied fine);
@@ -33,6 +39,7 @@ shows-text old new caller subject bytes before (Err fault.NotAllowed) denial rig
   doubted = w.looks.doubted;
   lied = w.looks.lied;
   told = w.looks.told;
+  stays = λ honest sure. stays_seen old new (w.looks.stays honest sure);
 }
 shows-text old new caller subject bytes before (Err fault.Unknown) denial right none is w = record {
   text = λ fine. is (Err denied.Unknown) (w.denied fine);
@@ -41,6 +48,7 @@ shows-text old new caller subject bytes before (Err fault.Unknown) denial right 
   doubted = w.looks.doubted;
   lied = w.looks.lied;
   told = w.looks.told;
+  stays = λ honest sure. stays_seen old new (w.looks.stays honest sure);
 }
 shows-text old new caller subject bytes before (Err fault.Write) denial right none is w = record {
   text = λ fine. tt;
@@ -49,6 +57,7 @@ shows-text old new caller subject bytes before (Err fault.Write) denial right no
   doubted = w.looks.doubted;
   lied = w.looks.lied;
   told = w.looks.told;
+  stays = λ honest sure. stays_seen old new (w.looks.stays honest sure);
 }
 shows-text old new caller subject bytes before (Err fault.Store) denial right none is w = record {
   text = λ fine. tt;
@@ -57,6 +66,7 @@ shows-text old new caller subject bytes before (Err fault.Store) denial right no
   doubted = w.looks.doubted;
   lied = w.looks.lied;
   told = w.looks.told;
+  stays = λ honest sure. stays_seen old new (w.looks.stays honest sure);
 }
 shows-text old new caller subject bytes before (Err fault.Memory) denial right none is w = record {
   text = λ fine. tt;
@@ -65,4 +75,5 @@ shows-text old new caller subject bytes before (Err fault.Memory) denial right n
   doubted = w.looks.doubted;
   lied = w.looks.lied;
   told = w.looks.told;
+  stays = λ honest sure. stays_seen old new (w.looks.stays honest sure);
 }

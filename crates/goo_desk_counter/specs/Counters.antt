@@ -3,7 +3,7 @@ use Rattle.std.specs.Prelude.{◌≡◌, ℕ, List, Option, Some, None, Result, 
 use Rattle.goo_types.specs.declared.fault.Fault.{Fault}
 use Rattle.goo_core_shelf.specs.Shelf.{IsTold}
 use Rattle.goo_spec.specs.State.{State}
-use Rattle.goo_registry_desk.specs.Desk.{Seen}
+use Rattle.goo_registry_desk.specs.Desk.{Seen, StaysSure}
 use Rattle.goo_desk_routes.specs.declared.task.Subject.{Subject}
 use Rattle.goo_core_answers.specs.declared.denial.Denial.{Denial}
 use Rattle.goo_desk_counter.specs.declared.counter.Shown.{Shown}
@@ -28,7 +28,7 @@ abbrev pub report_of : Imported → Option (List ℕ)
 report_of (imported.Report report) = Some report.items
 report_of imported.NoHeader = None
 
--- what is shown is right, and nothing changes; no doubt and no lie is forgotten
+-- what is shown is right, and nothing changes; no doubt and no lie is forgotten, and only a failed call brings a doubt
 pub record Shows (shows : Showing) (old new : Seen) (caller : List ℕ) (subject : Subject) (result : Result Shown Fault) : Type 0 where
   pub text : new.doubts ≡ 0 → IfOk result (λ given. shows old.state caller subject (text_shown given))
   pub same : new.doubts ≡ 0 → new.state ≡ old.state
@@ -36,8 +36,10 @@ pub record Shows (shows : Showing) (old new : Seen) (caller : List ℕ) (subject
   pub doubted : new.doubts ≡ 0 → old.doubts ≡ 0
   pub lied : new.lies ≡ 0 → old.lies ≡ 0
   pub told : IsTold result new.refusals
+  pub stays : new.lies ≡ 0 → old.doubts ≡ 0 → StaysSure old new
 
--- the report and the state are right, where nothing lied and while nothing is in doubt; after a fault the first rows stand
+-- The report and the state are right, where nothing lied and while nothing is in doubt; after a fault the first rows stand. Only a
+-- failed call brings a doubt.
 pub record Imports (imports : Importing) (begins : Beginning) (old new : Seen) (caller rows : List ℕ) (result : Result Imported Fault) : Type 0 where
   pub report : new.lies ≡ 0 → IfOk result (λ given. imports old.state caller rows (report_of given) new.state)
   pub sure : new.doubts ≡ 0 → IfOk result (λ given. imports old.state caller rows (report_of given) new.state)
@@ -46,6 +48,7 @@ pub record Imports (imports : Importing) (begins : Beginning) (old new : Seen) (
   pub lied : new.lies ≡ 0 → old.lies ≡ 0
   pub told : old.refusals ≡ 0 → IsTold result new.refusals
   pub works : new.lies ≡ 0 → old.doubts ≡ 0 → OnOk result (new.doubts ≡ 0)
+  pub stays : new.lies ≡ 0 → old.doubts ≡ 0 → StaysSure old new
 
 -- a subject is shown in one way
 abbrev pub ShowsOne : Showing → Type 0

@@ -1,7 +1,7 @@
 -- What all the bytes of a stream come to.
-use Rattle.std.specs.Prelude.{◌≡◌, ℕ, ◌<◌, ◌⊎◌, Bool, false, nat_le, List, ◌++◌, length, take, codes, Option, option_map, Result, Ok, Err, if◌then◌else◌}
+use Rattle.std.specs.Prelude.{◌≡◌, ℕ, ◌+◌, ◌<◌, ◌⊎◌, Bool, false, nat_le, List, ◌++◌, length, take, codes, Option, option_map, Result, Ok, Err, if◌then◌else◌}
 use Rattle.std.specs.Str.{bytes_eq}
-use Rattle.httparse.specs.Grammar.{RequestHead}
+use Rattle.httparse.specs.Grammar.{RequestHead, print_request}
 use Rattle.goo_desk_heads.specs.Heads.{most_head, HasNoHead, HasHead, after_head, caller_of, length_of}
 use Rattle.goo_desk_heads.specs.declared.refusal.HeadFault.{HeadFault}
 use Rattle.goo_desk_heads.specs.declared.refusal.HeadFault.TheVariants.{BadRequest}
@@ -52,8 +52,8 @@ abbrev pub seen : Result Received RefusedHead → Result Parts RefusedHead
 seen (Ok r) = Ok (parts_of r)
 seen (Err e) = Err e
 
--- there is no head so far, or its body has not come
-abbrev pub IsWaiting : List ℕ → Type 0
-IsWaiting bytes =
-    (HasNoHead bytes × (length bytes < most_head))
-    ⊎ ((h : RequestHead) × (count : ℕ) × HasHead bytes h × (length_of h ≡ Ok count) × (length (after_head bytes h) < count))
+-- There is no head so far, and the next byte may end it; or its body has not come. Nothing is decided before there are so many bytes.
+abbrev pub IsWaiting : List ℕ → ℕ → Type 0
+IsWaiting bytes wanted =
+    (HasNoHead bytes × (length bytes < most_head) × (wanted ≡ length bytes + 1))
+    ⊎ ((h : RequestHead) × (count : ℕ) × HasHead bytes h × (length_of h ≡ Ok count) × (length (after_head bytes h) < count) × (wanted ≡ length (print_request h) + count))

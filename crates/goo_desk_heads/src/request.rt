@@ -1,5 +1,5 @@
 //! The request that all the bytes of a stream are, or why they are refused.
-ghost use Rattle.std.specs.Prelude.{◌≡◌, ◌<◌, ◌+◌, false, length, IsTrue, option_map};
+ghost use Rattle.std.specs.Prelude.{◌≡◌, ◌<◌, ◌≤◌, ◌+◌, length, IfNone, IfSome, option_map};
 ghost use Rattle.goo_desk_heads.specs.Requests.{Decides, seen, IsSure, IsWaiting, refused_as, whole_request, is_for_head as is_for_head_stated};
 ghost use Rattle.goo_desk_heads.specs.Heads.{most_head};
 ghost use Rattle.goo_desk_heads.specs.Fields.{most_body};
@@ -85,20 +85,30 @@ pub fn read_request(bytes: &[u8]) -> Result<Received<'_>, RefusedHead>
     }
 }
 
-/// Whether the bytes that may follow these change nothing: all bytes that begin with these are then read, or refused, as these
-/// are. Where they may change it, no head has come yet or not all of its body, and there are fewer bytes than the most of both
-/// together.
-pub fn is_decided(bytes: &[u8]) -> bool
-    ensures sure { IsTrue result → IsSure bytes.now }
-    ensures waits { result ≡ false → IsWaiting bytes.now }
-    ensures small { result ≡ false → length bytes.now < most_head + most_body }
+/// At how many bytes those of a stream that begins with these are looked at next. `None` where the
+/// bytes that may follow these change nothing: all bytes that begin with these are then read, or
+/// refused, as these are.
+///
+/// - `waits`: where they may change it, no head has come yet, and a byte more may end it; or not
+///   all of its body, which ends at this length.
+pub fn bytes_wanted(bytes: &[u8]) -> Option<usize>
+    ensures sure { IfNone result (IsSure bytes.now) }
+    ensures waits { IfSome result (λ wanted. IsWaiting bytes.now wanted) }
+    ensures later { IfSome result (λ wanted. length bytes.now < wanted) }
+    ensures small { IfSome result (λ wanted. wanted ≤ most_head + most_body) }
 {
     match front_of(bytes) {
-        Front::Unfinished => false,
-        Front::Refused => true,
+        Front::Unfinished => Some(bytes.len() + 1),
+        Front::Refused => None,
         Front::Head(head) => match head.length {
-            Ok(length) => length <= head.rest.len() as u64,
-            Err(_) => true,
+            Ok(length) => {
+                if length <= head.rest.len() as u64 {
+                    None
+                } else {
+                    Some(bytes.len() - head.rest.len() + length as usize)
+                }
+            }
+            Err(_) => None,
         },
     }
 }

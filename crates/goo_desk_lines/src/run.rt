@@ -8,6 +8,7 @@ ghost use Rattle.goo_desk_lines.specs.Lines.{request_in};
 ghost use Rattle.goo_desk_lines.specs.Fold.{counted, with_line, lines};
 ghost use Rattle.goo_core_shelf.specs.Shelf.{IsTold};
 ghost use Rattle.goo_registry_desk.specs.Crash.{FindsOnly, FindsEither};
+ghost use Rattle.goo_registry_desk.specs.Desk.{StaysSure};
 ghost use Rattle.goo_spec.specs.Sound.{IsSound};
 ghost use Rattle.goo_desk_lines.specs.Promised.{KeepsPromise};
 ghost use Rattle.goo_desk_lines.specs.Stops.{AnswersLine, IsAfterReading, IsBetweenLines, IsToldIn, IsTurnedDown, StandsWhole, StandsInPart};
@@ -42,6 +43,8 @@ fn answer_line<D: Desk>(alloc: Global, desk: &mut D, line: &[u8]) -> Result<Line
     ensures crash { (D.seen desk.new).lies ≡ 0 → (D.seen desk.old).doubts ≡ 0
         → FindsEither (D.leaves desk.new) (D.seen desk.old).state
         (state_after (D.seen desk.old).state line.now) }
+    ensures stays { (D.seen desk.new).lies ≡ 0 → (D.seen desk.old).doubts ≡ 0
+        → StaysSure (D.seen desk.old) (D.seen desk.new) }
 {
     match read_line(alloc, line) {
         Ok(request) => Ok(LineAnswer::Decided(desk.apply(alloc, &request)?)),
@@ -83,6 +86,8 @@ fn answer_next<D: Desk, W: Write>(
     ensures found { (D.seen desk.new).lies ≡ 0 → (D.seen desk.old).doubts ≡ 0
         → FindsLine (D.seen desk.old).state line.now (D.seen desk.new)
         (W.contents writer.old) (W.contents writer.new) (D.leaves desk.new) }
+    ensures stays { (D.seen desk.new).lies ≡ 0 → (D.seen desk.old).doubts ≡ 0
+        → StaysSure (D.seen desk.old) (D.seen desk.new) }
 {
     if line.is_empty() {
         return Ok(());
@@ -117,6 +122,8 @@ fn answer_lines<D: Desk, W: Write>(
     ensures found { (D.seen desk.new).lies ≡ 0 → (D.seen desk.old).doubts ≡ 0
         → FindsAnswered input.now (D.seen desk.old).state (D.seen desk.new)
         (W.contents writer.old) (W.contents writer.new) (D.leaves desk.new) }
+    ensures stays { (D.seen desk.new).lies ≡ 0 → (D.seen desk.old).doubts ≡ 0
+        → StaysSure (D.seen desk.old) (D.seen desk.new) }
 {
     let mut tally = Tally { good: 0, bad: 0 };
     for line in Lines(Some(input)) {
@@ -138,6 +145,8 @@ fn answer_lines<D: Desk, W: Write>(
 /// `promised`: what a registry promises after any list of requests holds of the requests of the lines that were answered, all of them or
 /// the first ones ([`lines_are_a_run`](crate::lines_are_a_run) says that lines are a run of their requests).
 /// `found`: however it ends, all that is written are answers to first lines that a crash finds carried out, and at most one line more.
+/// `stays`: however it ends, nothing is in doubt unless a call below failed. So after a `Memory`
+/// with no failed call the state is known, and a crash finds it.
 ///
 /// # Example
 ///
@@ -171,6 +180,8 @@ pub fn run_lines<D: Desk, R: Read, W: Write>(
         → IfSome (R.remaining reader.old) (λ input.
         FindsAnswered input (D.seen desk.old).state (D.seen desk.new)
         (W.contents writer.old) (W.contents writer.new) (D.leaves desk.new)) }
+    ensures stays { (D.seen desk.new).lies ≡ 0 → (D.seen desk.old).doubts ≡ 0
+        → StaysSure (D.seen desk.old) (D.seen desk.new) }
 {
     let input = read_whole(alloc, reader, MOST_INPUT)?;
     answer_lines(alloc, desk, &input, writer)

@@ -1,7 +1,7 @@
 -- Rows imported in turn.
-use Rattle.std.proofs.Common.{◌≡◌, ◌∙◌, ℕ, List, [], ◌∷◌, ◌++◌, Option, Some, None, IfSome, refl, ap, sym}
+use Rattle.std.proofs.Common.{◌≡◌, ◌∙◌, ℕ, List, [], ◌∷◌, ◌++◌, Option, Some, None, IfSome, refl, ap, sym, arith}
 use Rattle.goo_spec.specs.State.{State}
-use Rattle.goo_registry_desk.specs.Desk.{Seen}
+use Rattle.goo_registry_desk.specs.Desk.{Seen, StaysSure}
 use Rattle.goo_files_import.specs.Import.{Imported, with_row, with_rows, importing, nothing_imported, row_result, state_after}
 use Rattle.goo_files_import.specs.Table.{AreFirstRows, AreRows}
 use Rattle.goo_files_import.specs.Stands.{IsImported, StandsInPart}
@@ -34,6 +34,17 @@ imported_more old mid new caller done lines more row so added state =
       state = state ∙ ap (λ (s : State). state_after s caller row) so.state ∙ ap (λ (a : Imported). a.state) (sym last);
     }
 
+-- nothing was called
+pub stays_still : (m : Seen) → m.doubts ≡ 0 → StaysSure m m
+stays_still m none = record { counts = omega arith; sure = λ _. none }
+
+-- one call after another
+pub stays_both : (a b c : Seen) → StaysSure a b → StaysSure b c → StaysSure a c
+stays_both a b c one two = record {
+  counts = omega (arith, one.counts, two.counts);
+  sure = λ unfailed. two.sure (λ failed. unfailed (omega (arith, one.counts, failed)));
+}
+
 -- these rows were applied, and no others
 pub record IsImporting (old mid : Seen) (caller : List ℕ) (done : List Fields) (lines : List RowResult) : Type 0 where
   pub lied : mid.lies ≡ 0 → old.lies ≡ 0
@@ -42,24 +53,34 @@ pub record IsImporting (old mid : Seen) (caller : List ℕ) (done : List Fields)
   pub honest : mid.lies ≡ 0 → AreImported old.state mid.state caller done lines
   pub sure : mid.doubts ≡ 0 → AreImported old.state mid.state caller done lines
   pub works : mid.lies ≡ 0 → old.doubts ≡ 0 → mid.doubts ≡ 0
+  pub stays : mid.lies ≡ 0 → old.doubts ≡ 0 → StaysSure old mid
 
 pub importing_start : (m : Seen) (caller : List ℕ) → IsImporting m m caller [] []
-importing_start m caller = record { lied = λ none. none; doubted = λ none. none; told = λ none. none; honest = λ none. imported_none m.state caller; sure = λ none. imported_none m.state caller; works = λ none sure. sure }
+importing_start m caller = record {
+  lied = λ none. none;
+  doubted = λ none. none;
+  told = λ none. none;
+  honest = λ none. imported_none m.state caller;
+  sure = λ none. imported_none m.state caller;
+  works = λ none sure. sure;
+  stays = λ none sure. stays_still m sure;
+}
 
 -- one more row
 pub importing_on : (old mid new : Seen) (caller : List ℕ) (done : List Fields) (lines more : List RowResult) (row : Fields) → IsImporting old mid caller done lines
     → (new.lies ≡ 0 → mid.lies ≡ 0) → (new.doubts ≡ 0 → mid.doubts ≡ 0) → (mid.refusals ≡ 0 → new.refusals ≡ 0)
     → (new.lies ≡ 0 → more ≡ lines ++ row_result mid.state caller row ∷ []) → (new.lies ≡ 0 → new.state ≡ state_after mid.state caller row)
     → (new.doubts ≡ 0 → more ≡ lines ++ row_result mid.state caller row ∷ []) → (new.doubts ≡ 0 → new.state ≡ state_after mid.state caller row)
-    → (new.lies ≡ 0 → mid.doubts ≡ 0 → new.doubts ≡ 0)
+    → (new.lies ≡ 0 → mid.doubts ≡ 0 → new.doubts ≡ 0) → (new.lies ≡ 0 → mid.doubts ≡ 0 → StaysSure mid new)
     → IsImporting old new caller (done ++ row ∷ []) more
-importing_on old mid new caller done lines more row so lied doubted told added state sure_added sure_state works = record {
+importing_on old mid new caller done lines more row so lied doubted told added state sure_added sure_state works stays = record {
   lied = λ none. so.lied (lied none);
   doubted = λ none. so.doubted (doubted none);
   told = λ none. told (so.told none);
   honest = λ none. imported_more old.state mid.state new.state caller done lines more row (so.honest (lied none)) (added none) (state none);
   sure = λ none. imported_more old.state mid.state new.state caller done lines more row (so.sure (doubted none)) (sure_added none) (sure_state none);
   works = λ none sure. works none (so.works (lied none) sure);
+  stays = λ none sure. stays_both old mid new (so.stays (lied none) sure) (stays none (so.works (lied none) sure));
 }
 
 -- all rows were

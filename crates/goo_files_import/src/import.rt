@@ -6,6 +6,7 @@ ghost use Rattle.goo_files_import.specs.Import.{row_result, state_after};
 ghost use Rattle.goo_files_import.specs.Table.{LacksHeader};
 ghost use Rattle.goo_core_shelf.specs.Shelf.{IsTold};
 ghost use Rattle.goo_registry_desk.specs.Crash.{FindsEither};
+ghost use Rattle.goo_registry_desk.specs.Desk.{StaysSure};
 ghost use Rattle.goo_files_import.specs.Durable.{FindsReported, reported};
 ghost use Rattle.goo_spec.specs.Sound.{IsSound};
 ghost use Rattle.goo_files_import.specs.Promised.{KeepsPromise};
@@ -49,6 +50,8 @@ fn apply_row<D: Desk>(
     ensures crash { (D.seen desk.new).lies ≡ 0 → (D.seen desk.old).doubts ≡ 0
         → FindsEither (D.leaves desk.new) (D.seen desk.old).state
         (state_after (D.seen desk.old).state caller.now (fields_of row.now)) }
+    ensures stays { (D.seen desk.new).lies ≡ 0 → (D.seen desk.old).doubts ≡ 0
+        → StaysSure (D.seen desk.old) (D.seen desk.new) }
 {
     match read_row(caller, row) {
         Some(request) => Ok(RowResult::of(desk.apply(alloc, &request)?)),
@@ -78,6 +81,8 @@ fn import_row<D: Desk>(
     ensures crash { (D.seen desk.new).lies ≡ 0 → (D.seen desk.old).doubts ≡ 0
         → FindsEither (D.leaves desk.new) (D.seen desk.old).state
         (state_after (D.seen desk.old).state caller.now (fields_of row.now)) }
+    ensures stays { (D.seen desk.new).lies ≡ 0 → (D.seen desk.old).doubts ≡ 0
+        → StaysSure (D.seen desk.old) (D.seen desk.new) }
 {
     if lines.try_reserve(1).is_err() {
         return Err(Fault::Memory);
@@ -151,6 +156,8 @@ pub fn import_bytes<D: Desk, P: ImportWatcher>(
     ensures found { (D.seen desk.new).lies ≡ 0 → (D.seen desk.old).doubts ≡ 0
         → FindsReported caller.now input.now (D.seen desk.old).state (D.seen desk.new)
         (reported result) (D.leaves desk.new) }
+    ensures stays { (D.seen desk.new).lies ≡ 0 → (D.seen desk.old).doubts ≡ 0
+        → StaysSure (D.seen desk.old) (D.seen desk.new) }
 {
     announce(alloc, input, progress);
     let reader = ReaderBuilder::new()
@@ -187,6 +194,8 @@ pub fn import_bytes<D: Desk, P: ImportWatcher>(
 /// `promised`: what a registry promises after any list of requests holds of the requests of the rows that were applied, all of them or the
 /// first ones ([`import_is_a_run`](crate::import_is_a_run) says that an import is a run of its rows' requests).
 /// `found`: however it ends, the rows of the report are first rows that a crash finds applied, and at most one row more.
+/// `stays`: however it ends, nothing is in doubt unless a call below failed. So after a `Memory`
+/// with no failed call the state is known, and a crash finds it.
 ///
 /// # Errors
 ///
@@ -212,6 +221,8 @@ pub fn import_declarations<D: Desk, R: Read, P: ImportWatcher>(
         → IfSome (R.remaining reader.old) (λ input.
         FindsReported caller.now input (D.seen desk.old).state (D.seen desk.new)
         (reported result) (D.leaves desk.new)) }
+    ensures stays { (D.seen desk.new).lies ≡ 0 → (D.seen desk.old).doubts ≡ 0
+        → StaysSure (D.seen desk.old) (D.seen desk.new) }
 {
     match read_whole(alloc, reader, MOST_INPUT) {
         Ok(input) => import_bytes(alloc, desk, caller, &input, progress),

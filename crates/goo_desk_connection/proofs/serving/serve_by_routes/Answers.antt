@@ -1,5 +1,5 @@
 use Rattle.goo_desk_connection.specs.declared.serve_fault.ServeFault.TheVariants.{Write, Store}
-use Rattle.goo_desk_connection.proofs.ServeFacts.{bytes-connect, sends-stands, part-stands, excuse-stands}
+use Rattle.goo_desk_connection.proofs.ServeFacts.{bytes-connect, none-connect, sends-stands, part-stands, excuse-stands}
 use Rattle.goo_desk_connection.proofs.PromiseFacts.{leaves_promised, none_promised}
 use Rattle.goo_desk_connection.proofs.DurableFacts.{all-found, none-sent}
 use Rattle.goo_desk_connection.proofs.serving.serve_by_routes.Goals as goal
@@ -22,7 +22,7 @@ returns-clause-excuse g c =
 pub returns-clause-connects : goal.returns-clause-connects
 returns-clause-connects g c =
     bytes-connect g.D.Counter.shows g.D.Counter.imports g.D.Counter.begins (g.R.Read.remaining c.args.reader.now) c.in_ok-bytes.bytes.items (g.D.Desk.seen c.args.desk.now) (g.D.Desk.seen c.serve_bytes.new.desk)
-    c.in_ok-bytes.ensures (rw c.deref.ensures.value at c.serve_bytes.ensures.leaves) c.serve_bytes.ensures.doubted c.serve_bytes.ensures.lied
+    c.in_ok-bytes.ensures (rw c.deref.ensures.value at c.serve_bytes.ensures.leaves) c.serve_bytes.ensures.doubted c.serve_bytes.ensures.lied c.serve_bytes.ensures.stays
 
 pub returns-in_err-bytes-clause-promised : goal.returns-in_err-bytes-clause-promised
 returns-in_err-bytes-clause-promised g c runs sound honest sure = none_promised (g.R.Read.remaining c.args.reader.now) (g.D.Desk.seen c.args.desk.now).state sound
@@ -41,3 +41,6 @@ returns-clause-found g c lies sure =
     all-found g.D.Counter.shows g.D.Counter.imports (g.R.Read.remaining c.args.reader.now) (g.D.Desk.seen c.args.desk.now).state c.in_ok-bytes.bytes.items (g.D.Desk.seen c.serve_bytes.new.desk).state
     (g.W.Write.contents c.args.writer.now) (g.W.Write.contents c.serve_bytes.new.writer) (g.D.Desk.leaves c.serve_bytes.new.desk)
     c.in_ok-bytes.ensures (rw c.deref.ensures.value at (c.serve_bytes.ensures.found lies sure))
+
+pub returns-in_err-bytes-clause-connects : goal.returns-in_err-bytes-clause-connects
+returns-in_err-bytes-clause-connects g c = none-connect g.D.Counter.shows g.D.Counter.imports g.D.Counter.begins (g.R.Read.remaining c.args.reader.now) (g.D.Desk.seen c.args.desk.now)

@@ -1,4 +1,5 @@
 use Rattle.goo_desk_connection.proofs.PromiseFacts.{none_promised}
+use Rattle.goo_desk_connection.proofs.ServeFacts.{none-connect}
 use Rattle.goo_desk_connection.proofs.DurableFacts.{none-sent}
 use Rattle.goo_desk_connection.proofs.serving.serve_one.Goals as goal
 
@@ -8,3 +9,6 @@ returns-in_default-clause-promised g c runs sound honest sure = none_promised (g
 pub returns-in_default-clause-found : goal.returns-in_default-clause-found
 returns-in_default-clause-found g c lies sure =
     none-sent g.D.Counter.shows g.D.Counter.imports (g.R.Read.remaining c.args.reader.now) (g.D.Desk.seen c.args.desk.now).state (g.D.Desk.seen c.args.desk.now).state (g.W.Write.contents c.args.writer.now) (g.D.Desk.leaves c.args.desk.now)
+
+pub returns-in_default-clause-connects : goal.returns-in_default-clause-connects
+returns-in_default-clause-connects g c = none-connect g.D.Counter.shows g.D.Counter.imports g.D.Counter.begins (g.R.Read.remaining c.args.reader.now) (g.D.Desk.seen c.args.desk.now)

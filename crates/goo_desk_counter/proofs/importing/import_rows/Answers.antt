@@ -11,4 +11,4 @@ returns-in-Err g c =
     let new = seen_of (g.S.Shelf.seen c.import_bytes.new.desk.shelf) in
     let made = c.in-Err.ensures in
     subst (λ r. Imports imported_by begun_by old new c.args.caller.now c.args.rows.now r) (sym c.stopped.ensures)
-    (imports-stopped old new c.args.caller.now c.args.rows.now c.in-Err.fault.cause c.in-Err.fault.report.lines.items made.kinds made.header made.before made.sure_part made.doubted made.lied made.told)
+    (imports-stopped old new c.args.caller.now c.args.rows.now c.in-Err.fault.cause c.in-Err.fault.report.lines.items made.kinds made.header made.before made.sure_part made.doubted made.lied made.told made.stays)

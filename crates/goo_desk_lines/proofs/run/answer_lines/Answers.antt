@@ -3,6 +3,7 @@ use Rattle.std.proofs.lemmas.List.{map-append, length-map}
 use Rattle.goo_desk_lines.specs.Lines.{lines_left}
 use Rattle.goo_desk_lines.proofs.AnswerFacts.{lines-bound, none-stand, on-same-err, part-at, stands-next}
 use Rattle.goo_desk_lines.proofs.DurableFacts.{found_last, found_next}
+use Rattle.goo_desk_lines.proofs.Staying.{stays_still, stays_both}
 use Rattle.goo_desk_lines.proofs.run.answer_lines.Goals as goal
 
 pub loop-line-init : goal.loop-line-init
@@ -12,6 +13,7 @@ loop-line-init g c = rw c.into_iter-line-iterator.ensures.into_iter_gives (recor
   lied = λ below. below;
   told = λ none. none;
   works = λ below sure. sure;
+  stays = λ below sure. stays_still (g.D.Desk.seen c.args.desk.now) sure;
   answered = λ below. none-stand (g.D.Desk.seen c.args.desk.now).state (g.W.Write.contents c.args.writer.now);
 })
 
@@ -33,6 +35,8 @@ loop-line-preserved g c =
       lied = λ below. i.lied (made.lied below);
       told = λ none. c.in_ok-answer_next.ensures.told (i.told none);
       works = λ below sure. made.works below (i.works (made.lied below) sure);
+      stays = λ below sure. stays_both (g.D.Desk.seen c.args.desk.now) (g.D.Desk.seen c.loop-line.desk) (g.D.Desk.seen c.answer_next.new.desk)
+          (i.stays (made.lied below) sure) (made.stays below (i.works (made.lied below) sure));
       answered = λ below. stands-next (g.D.Desk.seen c.args.desk.now).state (g.D.Desk.seen c.loop-line.desk).state (g.D.Desk.seen c.answer_next.new.desk).state
           (g.W.Write.contents c.args.writer.now) (g.W.Write.contents c.loop-line.writer) (g.W.Write.contents c.answer_next.new.writer)
           done c.in-Some.line.now c.loop-line.tally c.answer_next.new.tally
@@ -69,3 +73,13 @@ returns-clause-found g c below sure =
     found_last (g.D.Desk.seen c.args.desk.now).state (g.D.Desk.seen c.loop-line.desk) (g.W.Write.contents c.args.writer.now) (g.W.Write.contents c.loop-line.writer)
     c.args.input.now (map (λ (line : Bor (List ℕ)). line.now) c.loop-line.yielded) (lines_left c.loop-line.line-iterator.0) c.loop-line.tally (g.D.Desk.leaves c.loop-line.desk)
     i.order (i.answered below) (g.met.D.Desk.settled c.loop-line.desk (i.works below sure))
+
+pub returns-in_err-answer_next-clause-stays : goal.returns-in_err-answer_next-clause-stays
+returns-in_err-answer_next-clause-stays g c below sure =
+    let i = c.loop-line.invariant in
+    let stopped = c.in_err-answer_next.ensures in
+    stays_both (g.D.Desk.seen c.args.desk.now) (g.D.Desk.seen c.loop-line.desk) (g.D.Desk.seen c.answer_next.new.desk)
+    (i.stays (stopped.lied below) sure) (stopped.stays below (i.works (stopped.lied below) sure))
+
+pub returns-clause-stays : goal.returns-clause-stays
+returns-clause-stays g c = c.loop-line.invariant.stays

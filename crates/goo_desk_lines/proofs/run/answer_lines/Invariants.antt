@@ -1,4 +1,5 @@
 use Rattle.std.proofs.Common.{◌≡◌, ◌≤◌, ◌+◌, ◌++◌, length, map}
+use Rattle.goo_registry_desk.specs.Desk.{StaysSure}
 use Rattle.goo_desk_lines.specs.Lines.{lines_of, lines_left}
 use Rattle.goo_desk_lines.proofs.AnswerFacts.{Stands}
 use Rattle.goo_desk_lines.proofs.run.answer_lines.Given as goal
@@ -10,6 +11,8 @@ invariant-loop-line g l = record {
   lied : (g.D.Desk.seen l.desk).lies ≡ 0 → (g.D.Desk.seen l.initial.desk).lies ≡ 0;
   told : (g.D.Desk.seen l.initial.desk).refusals ≡ 0 → (g.D.Desk.seen l.desk).refusals ≡ 0;
   works : (g.D.Desk.seen l.desk).lies ≡ 0 → (g.D.Desk.seen l.initial.desk).doubts ≡ 0 → (g.D.Desk.seen l.desk).doubts ≡ 0;
+  stays : (g.D.Desk.seen l.desk).lies ≡ 0 → (g.D.Desk.seen l.initial.desk).doubts ≡ 0
+      → StaysSure (g.D.Desk.seen l.initial.desk) (g.D.Desk.seen l.desk);
   answered : (g.D.Desk.seen l.desk).lies ≡ 0
       → Stands (g.D.Desk.seen l.initial.desk).state (g.D.Desk.seen l.desk).state (g.W.Write.contents l.initial.writer) (g.W.Write.contents l.writer) (map (λ line. line.now) l.yielded) l.tally;
 }

@@ -5,6 +5,7 @@ use Rattle.goo_desk_lines.specs.declared.answer.LineAnswer.{LineAnswer}
 use Rattle.goo_desk_lines.proofs.AnswerFacts.{answers-good, answers-bad, writes-part, on-any-err, told_by_desk}
 use Rattle.goo_files_streams.proofs.AppendsFacts.{prefix-whole}
 use Rattle.goo_desk_lines.proofs.DurableFacts.{begun_after, unanswered, untouched}
+use Rattle.goo_desk_lines.proofs.Staying.{stays_still}
 use Rattle.goo_desk_lines.proofs.run.answer_next.Goals as goal
 
 pub returns-then-is_good-clause-answered : goal.returns-then-is_good-clause-answered
@@ -71,3 +72,18 @@ returns-else-is_good-clause-found g c lies sure =
     (c.in_ok-answer.ensures.answer lies) (c.in_ok-answer.ensures.state lies)
     (prefix-whole (g.W.Write.contents c.args.writer.now) (g.W.Write.contents c.write_line.new.writer) (answer_text c.in_ok-answer.answer ++ 10 ∷ []) (search rules))
     (g.met.D.Desk.settled c.answer_line.new.desk (c.in_ok-answer.ensures.works lies sure))
+
+pub returns-then-is_empty-clause-stays : goal.returns-then-is_empty-clause-stays
+returns-then-is_empty-clause-stays g c lies sure = stays_still (g.D.Desk.seen c.args.desk.now) sure
+
+pub returns-in_err-answer-clause-stays : goal.returns-in_err-answer-clause-stays
+returns-in_err-answer-clause-stays g c = c.answer_line.ensures.stays
+
+pub returns-in_err-write_line-clause-stays : goal.returns-in_err-write_line-clause-stays
+returns-in_err-write_line-clause-stays g c = c.answer_line.ensures.stays
+
+pub returns-then-is_good-clause-stays : goal.returns-then-is_good-clause-stays
+returns-then-is_good-clause-stays g c = c.answer_line.ensures.stays
+
+pub returns-else-is_good-clause-stays : goal.returns-else-is_good-clause-stays
+returns-else-is_good-clause-stays g c = c.answer_line.ensures.stays

@@ -4,6 +4,7 @@ use Rattle.goo_desk_lines.specs.Faults.{of_reading}
 use Rattle.goo_desk_lines.proofs.AnswerFacts.{whole-unread, told_by_reader, down-unread, within-limit}
 use Rattle.goo_desk_lines.proofs.PromiseFacts.{answered_promised, unread_promised}
 use Rattle.goo_desk_lines.proofs.DurableFacts.{read_found, unread_found}
+use Rattle.goo_desk_lines.proofs.Staying.{stays_still}
 use Rattle.goo_desk_lines.proofs.run.run_lines.Goals as goal
 
 pub returns-in_err-input-clause-whole : goal.returns-in_err-input-clause-whole
@@ -46,3 +47,9 @@ returns-clause-found g c below sure =
     let whole : IsWholeOf (g.R.Read.remaining c.args.reader.now) c.deref.result.now = search rules in
     read_found (g.R.Read.remaining c.args.reader.now) c.deref.result.now (g.D.Desk.seen c.args.desk.now).state (g.D.Desk.seen c.answer_lines.new.desk)
     (g.W.Write.contents c.args.writer.now) (g.W.Write.contents c.answer_lines.new.writer) (g.D.Desk.leaves c.answer_lines.new.desk) whole (c.answer_lines.ensures.found below sure)
+
+pub returns-in_err-input-clause-stays : goal.returns-in_err-input-clause-stays
+returns-in_err-input-clause-stays g c below sure = stays_still (g.D.Desk.seen c.args.desk.now) sure
+
+pub returns-clause-stays : goal.returns-clause-stays
+returns-clause-stays g c = c.answer_lines.ensures.stays

@@ -3,7 +3,7 @@ use Rattle.csv.specs.Records.{fields_of}
 use Rattle.goo_files_csv.specs.Rows.{header, is_header}
 use Rattle.goo_files_csv.proofs.Header.{header_is, header_passes}
 use Rattle.goo_files_import.proofs.OneTable.{begins_or_lacks}
-use Rattle.goo_files_import.proofs.Importing.{importing_start, importing_on, importing_ends, importing_ends_sure, importing_stops, importing_stops_sure}
+use Rattle.goo_files_import.proofs.Importing.{importing_start, importing_on, importing_ends, importing_ends_sure, importing_stops, importing_stops_sure, stays_still, stays_both}
 use Rattle.goo_files_import.proofs.Reading.{IsAt, at_start, at_more, at_end, at_begins}
 use Rattle.goo_files_import.proofs.DurableFacts.{found_next, found_none, found_rows}
 use Rattle.goo_files_import.proofs.import.import_bytes.Goals as goal
@@ -69,7 +69,7 @@ loop-row-preserved g c =
     let now = at_more c.loop-row.row-iterator.rdr c.next-in-loop-row.new.self.rdr c.loop-row.row-iterator.left c.next-in-loop-row.new.self.left c.args.input.now (header ∷ inv.0) c.in-Ok.row inv.1 step in (
       inv.0 ++ fields_of c.in-Ok.row ∷ [],
       now,
-      importing_on old mid new c.args.caller.now inv.0 c.loop-row.lines.items c.import_row.new.lines.items (fields_of c.in-Ok.row) inv.2 c.import_row.ensures.lied c.import_row.ensures.doubted (search rules) (search rules) (search rules) (search rules) (search rules) (search rules),
+      importing_on old mid new c.args.caller.now inv.0 c.loop-row.lines.items c.import_row.new.lines.items (fields_of c.in-Ok.row) inv.2 c.import_row.ensures.lied c.import_row.ensures.doubted (search rules) (search rules) (search rules) (search rules) (search rules) (search rules) c.import_row.ensures.stays,
     )
 
 pub returns-clause-whole : goal.returns-clause-whole
@@ -129,3 +129,25 @@ returns-clause-found g c lies sure =
     let inv = c.loop-row.invariant in
     found_rows (g.D.Desk.seen c.args.desk.now).state (g.D.Desk.seen c.loop-row.desk) c.args.caller.now c.args.input.now inv.0 c.loop-row.lines.items c.loop-row.lines.items (g.D.Desk.leaves c.loop-row.desk)
     (inv.2.honest lies) (inr (at_begins c.loop-row.row-iterator.rdr c.loop-row.row-iterator.left c.args.input.now (header ∷ inv.0) inv.1)) refl (g.met.D.Desk.settled c.loop-row.desk (inv.2.works lies sure))
+
+pub returns-then-not-is_header-clause-stays : goal.returns-then-not-is_header-clause-stays
+returns-then-not-is_header-clause-stays g c lies sure = stays_still (g.D.Desk.seen c.args.desk.now) sure
+
+pub returns-in-Some-Err-clause-stays : goal.returns-in-Some-Err-clause-stays
+returns-in-Some-Err-clause-stays g c lies sure = stays_still (g.D.Desk.seen c.args.desk.now) sure
+
+pub returns-in-None-clause-stays : goal.returns-in-None-clause-stays
+returns-in-None-clause-stays g c lies sure = stays_still (g.D.Desk.seen c.args.desk.now) sure
+
+pub returns-in_default-clause-stays : goal.returns-in_default-clause-stays
+returns-in_default-clause-stays g c = c.loop-row.invariant.2.stays
+
+pub returns-in-Err-clause-stays : goal.returns-in-Err-clause-stays
+returns-in-Err-clause-stays g c lies sure =
+    let inv = c.loop-row.invariant in
+    let before = c.import_row.ensures.lied lies in
+    stays_both (g.D.Desk.seen c.args.desk.now) (g.D.Desk.seen c.loop-row.desk) (g.D.Desk.seen c.import_row.new.desk)
+    (inv.2.stays before sure) (c.import_row.ensures.stays lies (inv.2.works before sure))
+
+pub returns-clause-stays : goal.returns-clause-stays
+returns-clause-stays g c = c.loop-row.invariant.2.stays

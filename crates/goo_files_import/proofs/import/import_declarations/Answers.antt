@@ -1,5 +1,5 @@
 use Rattle.std.proofs.Common.{rules, ◌∙◌, refl, inl, []}
-use Rattle.goo_files_import.proofs.Importing.{importing_start, importing_stops, some_all}
+use Rattle.goo_files_import.proofs.Importing.{importing_start, importing_stops, some_all, stays_still}
 use Rattle.goo_files_streams.specs.Streams.{IsWholeOf}
 use Rattle.goo_files_import.proofs.PromiseFacts.{imported_promised, unread_promised, lacking_known}
 use Rattle.goo_files_import.proofs.DurableFacts.{read_found, unread_found}
@@ -43,3 +43,12 @@ pub returns-in-Err-Memory-clause-found : goal.returns-in-Err-Memory-clause-found
 returns-in-Err-Memory-clause-found g c lies sure =
     unread_found (g.R.Read.remaining c.args.reader.now) c.args.caller.now (g.D.Desk.seen c.args.desk.now) c.stopped-in-Err-Memory.result.report.lines.items (g.D.Desk.leaves c.args.desk.now)
     (c.stopped-in-Err-Memory.ensures.lines ∙ c.new-in-Err-Memory.ensures.items) (g.met.D.Desk.settled c.args.desk.now sure)
+
+pub returns-in-Ok-clause-stays : goal.returns-in-Ok-clause-stays
+returns-in-Ok-clause-stays g c = c.import_bytes.ensures.stays
+
+pub returns-in-Err-Read-clause-stays : goal.returns-in-Err-Read-clause-stays
+returns-in-Err-Read-clause-stays g c lies sure = stays_still (g.D.Desk.seen c.args.desk.now) sure
+
+pub returns-in-Err-Memory-clause-stays : goal.returns-in-Err-Memory-clause-stays
+returns-in-Err-Memory-clause-stays g c lies sure = stays_still (g.D.Desk.seen c.args.desk.now) sure
