@@ -5,7 +5,6 @@ use Rattle.goo_cli_ending.specs.Endings.{status_of}
 use Rattle.goo_cli_ending.specs.declared.ending.Ending.{Ending}
 use Rattle.goo_cli_ending.specs.declared.ending.Ending.TheVariants.{Failed}
 use Rattle.goo_cli_ending.specs.declared.ending.Failure.{Failure}
-use Rattle.goo_cli_ending.specs.declared.ending.Failure.TheVariants as failure
 use Rattle.goo_cli_http.specs.Endings.{ending_of_server, IsCounted}
 use Rattle.goo_desk_server.specs.Runs.{KeepsPromise}
 use Rattle.goo_desk_server.specs.Serving as server

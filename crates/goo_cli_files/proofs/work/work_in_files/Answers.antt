@@ -1,4 +1,4 @@
-use Rattle.std.proofs.Common.{◌≡◌, rules}
+use Rattle.std.proofs.Common.{rules}
 use Rattle.goo_store.specs.Versions.{state_held}
 use Rattle.goo_cli_files.proofs.Works.{answered, audited, imported, served, stated}
 use Rattle.goo_cli_files.proofs.work.work_in_files.Goals as goal
