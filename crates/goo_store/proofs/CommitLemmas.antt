@@ -141,7 +141,7 @@ module _ (old new : State) (it : IsWell old) (changes : List TableChange) (plan 
         kept = omega (arith, ap count not_yet);
         told = is;
         works = tt;
-        stays = λ late none. survived old new a b (Holds (made_all (tables_in old) changes)) (crash (tables_in old) (it.stands none) (planned none).for) late none;
+        stays = λ late none. survived old new a b (HoldsOurs old.is_open (made_all (tables_in old) changes)) (crash (tables_in old) (it.stands none) (planned none).for) late none;
         crash = λ late none. found law late none b;
       }
 
@@ -158,7 +158,7 @@ module _ (old new : State) (it : IsWell old) (changes : List TableChange) (plan 
         kept = omega (arith, ap count not_yet);
         told = ap count (tells.1 ∙ not_yet);
         works = live;
-        stays = λ late none. survived old new a b (Holds (made_all (tables_in old) changes)) (crash (tables_in old) (it.stands none) (planned none).for) late none;
+        stays = λ late none. survived old new a b (HoldsOurs old.is_open (made_all (tables_in old) changes)) (crash (tables_in old) (it.stands none) (planned none).for) late none;
         crash = λ late none. found law late none b;
       })
       go (Ok x) (Err f) p tells ok err live = absurd (true≢false (sym p))

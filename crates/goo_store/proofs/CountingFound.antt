@@ -1,5 +1,5 @@
 -- The rows of a page are rows that can be counted.
-use Rattle.std.proofs.Common.{◌≡◌, ◌≤◌, ◌<◌, ◌&&◌, ℕ, Bool, true, false, nat_le, All, List, [], ◌∷◌, map, filter, take, refl, sym, ap, subst, ◌∙◌, arith}
+use Rattle.std.proofs.Common.{◌≡◌, ◌≤◌, ◌<◌, ◌+◌, ◌&&◌, ℕ, Bool, true, false, nat_le, All, List, [], ◌∷◌, map, filter, take, refl, sym, ap, subst, ◌∙◌, arith}
 use Rattle.std.proofs.lemmas.Bool.{leb-true}
 use Rattle.std.proofs.lemmas.List.{take-map}
 use Rattle.std.proofs.lemmas.List.Elements.{All-head, All-tail, All-map, All-filter, All-take}
@@ -10,7 +10,7 @@ use Rattle.goo_types.specs.Gsrn.{gsrn_reading}
 use Rattle.goo_types.specs.Number.{code_of, is_number, serial_of}
 use Rattle.goo_spec_tables.specs.Kept.{AreKept}
 use Rattle.goo_spec_tables.specs.Places.{piece_of, rows_of}
-use Rattle.goo_spec_tables.specs.Readable.{reads, are_ends, is_piece}
+use Rattle.goo_spec_tables.specs.Readable.{reads, are_ends, is_code, is_piece}
 use Rattle.goo_store.specs.Reading.{IsReadablePiece}
 use Rattle.goo_store.proofs.RowsRead.{each_beside, pieces_kept, unmapped}
 use Rattle.goo_store_audit.specs.Counting.{AreCountable, rows_from}
@@ -38,12 +38,12 @@ small p good =
     omega (arith, code)
 
 countable_of : (low : ℕ) (xs : List (PieceRow × Lot)) → All IsReadablePiece xs → IsSpacedFrom from_first to_last low (map piece_of xs) → AreCountable low (map of_device xs)
-countable_of low [] all spaced = tt
-countable_of low (x ∷ xs) all spaced =
+countable_of low [] all rises = tt
+countable_of low (x ∷ xs) all rises =
     let it = All-head IsReadablePiece x xs all in
-    let account = second_of_both _ _ it.lot.values in (
-      (first_of_both (reads (gsrn_reading x.1.device)) _ account, spaced.0, spaced.1, small x.0 it.values),
-      countable_of (x.0.last + 1) xs (All-tail IsReadablePiece x xs all) spaced.2,
+    let account = second_of_both (is_code x.1.origin) _ it.lot.values in (
+      (first_of_both (reads (gsrn_reading x.1.device)) _ account, rises.0, rises.1, small x.0 it.values),
+      countable_of (x.0.last + 1) xs (All-tail IsReadablePiece x xs all) rises.2,
     )
 
 pub countable_shown : (db : Database) (t : Tables) → Stands db t → AreKept t → (low : ℕ) (rows : List DevicePieceRow) → map device_piece_in rows ≡ map of_device (take 256 (filter (begins low) (pieces_beside t)))

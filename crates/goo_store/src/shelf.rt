@@ -31,7 +31,6 @@ use sqlite::Alter;
 use std::alloc::Global;
 
 impl<S: Alter> Shelf for SqlShelf<S> {
-    ghost use Rattle.sqlite.specs.Held.{state as view};
     ghost use Rattle.std.specs.Prelude.{◌≡◌, IfOk, IfSome};
     ghost use Rattle.std.specs.FinMap.{get, contains_key};
     ghost use Rattle.std.specs.List.{list_any};
@@ -47,7 +46,7 @@ impl<S: Alter> Shelf for SqlShelf<S> {
     ghost use Rattle.goo_core_shelf.specs.Plan.{Fits, Commits};
     ghost use Rattle.goo_store.specs.Gathering.{CanCarryOut};
     ghost use Rattle.goo_store_lookups.specs.Holding.{safe, sure};
-    ghost use Rattle.goo_store.specs.Seen.{Blames, BlamesPlan, seen_by};
+    ghost use Rattle.goo_store.specs.Seen.{Blames, BlamesPlan, database_of, seen_by};
 
     ghost seen = { λ s. seen_by s };
 
@@ -261,5 +260,5 @@ impl<S: Alter> Shelf for SqlShelf<S> {
 
     ghost settled = { λ s none. safe _ s.well (λ live db may. S.settled s.conn.store db live may) none s.refused };
 
-    ghost unlied = { λ s none. (sure (view S.Store s.conn) none).0 };
+    ghost unlied = { λ s none. (sure (database_of s) none).0 };
 }

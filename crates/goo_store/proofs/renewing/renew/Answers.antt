@@ -3,8 +3,10 @@ use Rattle.sqlite.specs.Held.{state as view}
 use Rattle.goo_store.proofs.FirstTables.{still_first, not_judged_first, renewed_first, not_renewed}
 use Rattle.goo_store.proofs.renewing.renew.Goals as goal
 
-pub requires-in-Ok-begins-first : goal.requires-in-Ok-begins-first
-requires-in-Ok-begins-first g c = still_first (λ pieces. pieces.items) (view g.S.Store c.args.conn.now) (view g.S.Store c.judge.new.conn) c.in-Ok.pieces c.in-Ok.ensures.judges c.requires.met
+pub begins-requires : goal.begins-requires
+begins-requires g c =
+    let mid = view g.S.Store c.judge.new.conn in
+    record { first = still_first (λ pieces. pieces.items) (view g.S.Store c.args.conn.now) mid mid c.in-Ok.pieces c.in-Ok.ensures.judges c.requires.met }
 
 pub returns-in-Ok-rewrite : goal.returns-in-Ok-rewrite
 returns-in-Ok-rewrite g c =
