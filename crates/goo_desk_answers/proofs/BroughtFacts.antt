@@ -39,7 +39,7 @@ none_lead are s t none is = ([], none, All-nil (λ q. Obeys q.command), is)
 
 -- ---- a body's request
 
-state_if_any : (s : State) (r : Result Request Unreadable) → state_by s r ≡ final s (request_if_any r)
+pub state_if_any : (s : State) (r : Result Request Unreadable) → state_by s r ≡ final s (request_if_any r)
 state_if_any s (Ok q) = refl
 state_if_any s (Err reason) = refl
 

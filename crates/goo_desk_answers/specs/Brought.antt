@@ -1,8 +1,9 @@
 -- The requests that bytes bring.
-use Rattle.std.specs.Prelude.{◌≡◌, ◌⊎◌, ℕ, List, [], ◌∷◌, Result, Ok, Err}
+use Rattle.std.specs.Prelude.{◌≡◌, ◌⊎◌, ℕ, List, [], ◌∷◌, Option, Some, Result, Ok, Err}
 use Rattle.goo_types.specs.declared.fault.Fault.{Fault}
 use Rattle.goo_types.specs.declared.request.Request.{Request}
 use Rattle.goo_spec.specs.Promise.{IsPromised}
+use Rattle.goo_spec.specs.Run.{final}
 use Rattle.goo_spec.specs.State.{State}
 use Rattle.goo_registry_desk.specs.Desk.{Seen}
 use Rattle.goo_desk_body.specs.Body.{body_of}
@@ -34,6 +35,10 @@ BringsFirst caller body Apply qs = qs ≡ []
 BringsFirst caller body Import qs = BeginTable caller body qs
 BringsFirst caller body (Show subject) qs = qs ≡ []
 
+-- all of it, or what stands of it after a fault
+abbrev pub MayBring : List ℕ → List ℕ → Task → List Request → Type 0
+MayBring caller body task qs = Brings caller body task qs ⊎ BringsFirst caller body task qs
+
 -- only a whole request of a known caller brings any
 abbrev pub BringsBy : (List ℕ → List ℕ → Task → List Request → Type 0) → Parts → Handling → List Request → Type 0
 BringsBy of_task p (Fixed why allow) qs = qs ≡ []
@@ -59,3 +64,11 @@ KeepsPromise bytes old new (Err fault) = new.doubts ≡ 0 → (qs : List Request
 -- the requests of its bytes that a connection leaves applied, whatever its client does: all, or those that stand after a fault
 abbrev pub AreLeft : List ℕ → List Request → Type 0
 AreLeft bytes qs = AreBrought bytes qs ⊎ AreFirstBrought bytes qs
+
+-- whatever a crash leaves, the next opening finds the state that some such requests lead to
+abbrev pub FindsLed : (Option State → Type 0) → State → (List Request → Type 0) → Type 0
+FindsLed leaves s are = (o : Option State) → leaves o → (qs : List Request) × are qs × (o ≡ Some (final s qs))
+
+-- it finds the state that some of the requests of these bytes lead to: all, or those that stand after a fault
+abbrev pub FindsLeft : (Option State → Type 0) → State → List ℕ → Type 0
+FindsLeft leaves s bytes = FindsLed leaves s (AreLeft bytes)

@@ -4,6 +4,7 @@ ghost use Rattle.goo_desk_body.specs.Body.{body_of};
 ghost use Rattle.goo_desk_lines.specs.Lines.{body_reading};
 ghost use Rattle.goo_desk_lines.specs.Reading.{Reads};
 ghost use Rattle.goo_core_shelf.specs.Shelf.{IsTold};
+ghost use Rattle.goo_registry_desk.specs.Crash.{FindsEither};
 ghost use Rattle.goo_registry_desk.specs.Desk.{StaysSure};
 ghost use Rattle.goo_desk_answers.specs.Responds.{Does, applied, state_applied, status_of_refusal, status_of_outcome, status_of_answer};
 ghost use Rattle.goo_desk_routes.specs.declared.task.Task.TheVariants.{Apply};
@@ -77,6 +78,9 @@ fn apply_body<D: Counter>(
         → OnOk result ((D.seen desk.new).doubts ≡ 0) }
     ensures stays { (D.seen desk.new).lies ≡ 0 → (D.seen desk.old).doubts ≡ 0
         → StaysSure (D.seen desk.old) (D.seen desk.new) }
+    ensures crash { (D.seen desk.new).lies ≡ 0 → (D.seen desk.old).doubts ≡ 0
+        → FindsEither (D.leaves desk.new) (D.seen desk.old).state
+        (state_applied (D.seen desk.old).state caller.now body.now) }
 {
     match read_body(alloc, caller, body) {
         Ok(request) => Ok(Given::Decided(desk.apply(alloc, &request)?)),
@@ -114,6 +118,9 @@ pub(crate) fn answer_apply<D: Counter>(
         → OnOk result ((D.seen desk.new).doubts ≡ 0) }
     ensures stays { (D.seen desk.new).lies ≡ 0 → (D.seen desk.old).doubts ≡ 0
         → StaysSure (D.seen desk.old) (D.seen desk.new) }
+    ensures crash { (D.seen desk.new).lies ≡ 0 → (D.seen desk.old).doubts ≡ 0
+        → FindsEither (D.leaves desk.new) (D.seen desk.old).state
+        (state_applied (D.seen desk.old).state caller.now body.now) }
 {
     let room = Vec::with_capacity(alloc, ROOM)?;
     let given = apply_body(alloc, desk, caller, body)?;

@@ -6,7 +6,7 @@ ghost use Rattle.goo_core_shelf.specs.Shelf.{IsTold};
 ghost use Rattle.goo_registry_desk.specs.Desk.{StaysSure};
 ghost use Rattle.goo_spec.specs.Sound.{IsSound};
 ghost use Rattle.goo_desk_counter.specs.Tables.{ImportsAreRuns};
-ghost use Rattle.goo_desk_answers.specs.Brought.{KeepsPromise};
+ghost use Rattle.goo_desk_answers.specs.Brought.{BringsBy, BringsIn, FindsLed, FindsLeft, KeepsPromise, MayBring};
 ghost use Rattle.goo_desk_answers.specs.Responds.{Does, Handles, RespondsTo, Responds, Stops, StopsIn, StopsAt, Fails, status_of_head};
 
 use crate::answered::Answer;
@@ -65,6 +65,9 @@ fn answer_task<D: Counter>(
         → OnOk result ((D.seen desk.new).doubts ≡ 0) }
     ensures stays { (D.seen desk.new).lies ≡ 0 → (D.seen desk.old).doubts ≡ 0
         → StaysSure (D.seen desk.old) (D.seen desk.new) }
+    ensures crash { ImportsAreRuns D.imports D.begins → (D.seen desk.new).lies ≡ 0
+        → (D.seen desk.old).doubts ≡ 0
+        → FindsLed (D.leaves desk.new) (D.seen desk.old).state (MayBring caller.now body.now task) }
 {
     match task {
         Task::Apply => answer_apply(alloc, desk, caller, body),
@@ -89,6 +92,10 @@ fn answer_handled<D: Counter>(
         → OnOk result ((D.seen desk.new).doubts ≡ 0) }
     ensures stays { (D.seen desk.new).lies ≡ 0 → (D.seen desk.old).doubts ≡ 0
         → StaysSure (D.seen desk.old) (D.seen desk.new) }
+    ensures crash { ImportsAreRuns D.imports D.begins → (D.seen desk.new).lies ≡ 0
+        → (D.seen desk.old).doubts ≡ 0
+        → FindsLed (D.leaves desk.new) (D.seen desk.old).state
+        (BringsBy MayBring (parts_of request.now) handling) }
 {
     match handling {
         Handling::Fixed(status, allow) => {
@@ -114,6 +121,10 @@ fn answer_request<D: Counter>(
         → OnOk result ((D.seen desk.new).doubts ≡ 0) }
     ensures stays { (D.seen desk.new).lies ≡ 0 → (D.seen desk.old).doubts ≡ 0
         → StaysSure (D.seen desk.old) (D.seen desk.new) }
+    ensures crash { ImportsAreRuns D.imports D.begins → (D.seen desk.new).lies ≡ 0
+        → (D.seen desk.old).doubts ≡ 0
+        → FindsLed (D.leaves desk.new) (D.seen desk.old).state
+        (BringsIn MayBring (parts_seen request.now)) }
 {
     match request {
         Err(refused) => {
@@ -148,6 +159,9 @@ pub fn answer_by_routes<D: Counter>(
         → OnOk result ((D.seen desk.new).doubts ≡ 0) }
     ensures stays { (D.seen desk.new).lies ≡ 0 → (D.seen desk.old).doubts ≡ 0
         → StaysSure (D.seen desk.old) (D.seen desk.new) }
+    ensures crash { ImportsAreRuns D.imports D.begins → (D.seen desk.new).lies ≡ 0
+        → (D.seen desk.old).doubts ≡ 0
+        → FindsLeft (D.leaves desk.new) (D.seen desk.old).state bytes.now }
 {
     answer_request(alloc, routes, desk, &read_request(bytes))
 }
@@ -159,6 +173,7 @@ pub fn answer_by_routes<D: Counter>(
 ///
 /// `stays`: nothing is in doubt unless a call below failed. So after a `Memory` with no failed call
 /// the state is known, and a crash finds it.
+/// `crash`: whatever is answered, a crash finds the state that some of the bytes' requests lead to.
 ///
 /// # Errors
 ///
@@ -175,6 +190,9 @@ pub fn answer<D: Counter>(alloc: Global, desk: &mut D, bytes: &[u8]) -> Result<A
         → OnOk result ((D.seen desk.new).doubts ≡ 0) }
     ensures stays { (D.seen desk.new).lies ≡ 0 → (D.seen desk.old).doubts ≡ 0
         → StaysSure (D.seen desk.old) (D.seen desk.new) }
+    ensures crash { ImportsAreRuns D.imports D.begins → (D.seen desk.new).lies ≡ 0
+        → (D.seen desk.old).doubts ≡ 0
+        → FindsLeft (D.leaves desk.new) (D.seen desk.old).state bytes.now }
 {
     let request = read_request(bytes);
     let routes = Routes::new(alloc)?;

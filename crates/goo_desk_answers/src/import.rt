@@ -1,6 +1,7 @@
 //! An import of declarations.
 ghost use Rattle.std.specs.Prelude.{◌≡◌, IfOk, OnErr, OnOk};
 ghost use Rattle.goo_desk_counter.specs.Counters.{report_of};
+ghost use Rattle.goo_desk_counter.specs.Durable.{FindsAmong};
 ghost use Rattle.goo_core_shelf.specs.Shelf.{IsTold};
 ghost use Rattle.goo_registry_desk.specs.Desk.{StaysSure};
 ghost use Rattle.goo_desk_answers.specs.Responds.{Does, Stopped, IsGiven, import_response};
@@ -46,6 +47,8 @@ pub(crate) fn answer_import<D: Counter>(
         → OnOk result ((D.seen desk.new).doubts ≡ 0) }
     ensures stays { (D.seen desk.new).lies ≡ 0 → (D.seen desk.old).doubts ≡ 0
         → StaysSure (D.seen desk.old) (D.seen desk.new) }
+    ensures crash { (D.seen desk.new).lies ≡ 0 → (D.seen desk.old).doubts ≡ 0
+        → FindsAmong (D.leaves desk.new) (D.begins (D.seen desk.old).state caller.now body.now) }
 {
     let imported = desk.import(alloc, caller, body)?;
     Ok(answer_imported(alloc, &imported)?)

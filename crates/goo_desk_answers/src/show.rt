@@ -2,6 +2,7 @@
 ghost use Rattle.std.specs.Prelude.{◌≡◌, IfOk, OnErr, OnOk};
 ghost use Rattle.goo_desk_counter.specs.Counters.{text_shown};
 ghost use Rattle.goo_core_shelf.specs.Shelf.{IsTold};
+ghost use Rattle.goo_registry_desk.specs.Crash.{FindsOnly};
 ghost use Rattle.goo_registry_desk.specs.Desk.{StaysSure};
 ghost use Rattle.goo_desk_answers.specs.Responds.{Does, IsGiven, content_of as content_stated, status_of_denial, show_response};
 ghost use Rattle.goo_desk_routes.specs.declared.task.Task.TheVariants.{Show};
@@ -69,6 +70,8 @@ pub(crate) fn answer_show<D: Counter>(
         → OnOk result ((D.seen desk.new).doubts ≡ 0) }
     ensures stays { (D.seen desk.new).lies ≡ 0 → (D.seen desk.old).doubts ≡ 0
         → StaysSure (D.seen desk.old) (D.seen desk.new) }
+    ensures crash { (D.seen desk.new).lies ≡ 0 → (D.seen desk.old).doubts ≡ 0
+        → FindsOnly (D.leaves desk.new) (D.seen desk.old).state }
 {
     let shown = desk.show(alloc, caller, subject)?;
     Ok(answer_shown(alloc, &subject, &shown)?)

@@ -1,14 +1,17 @@
 -- What is sent, and what a crash finds then.
-use Rattle.std.proofs.Common.{ℕ, List, Option, Some, None, Result, Ok, Err, IfSome, OnOk, OnErr, refl, inl, inr}
+use Rattle.std.proofs.Common.{ℕ, List, [], Option, Some, None, Result, Ok, Err, IfSome, OnOk, OnErr, refl, inl, inr}
 use Rattle.std.specs.Io.KnownBytes.{Appends, Keeps}
 use Rattle.goo_files_streams.specs.Streams.{AppendsPrefix}
 use Rattle.goo_files_streams.proofs.AppendsFacts.{prefix-whole}
+use Rattle.goo_types.specs.declared.request.Request.{Request}
 use Rattle.goo_spec.specs.State.{State}
 use Rattle.goo_registry_desk.specs.Crash.{FindsOnly}
 use Rattle.goo_desk_responses.specs.declared.status.Status.{Status}
 use Rattle.goo_desk_counter.specs.Counters.{Showing, Importing}
+use Rattle.goo_desk_answers.specs.Brought.{AreLeft, FindsLeft}
 use Rattle.goo_desk_answers.specs.Responds.{Responds}
-use Rattle.goo_desk_connection.specs.Durable.{SendsFound}
+use Rattle.goo_desk_answers.proofs.DurableFacts.{nothing_left}
+use Rattle.goo_desk_connection.specs.Durable.{FindsHeard, SendsFound}
 use Rattle.goo_desk_connection.specs.Reading.{StandsFor}
 use Rattle.goo_desk_connection.specs.Serving.{IsApology}
 
@@ -52,3 +55,18 @@ module _ (shows : Showing) (imports : Importing) where
   pub none-sent : (known : Option (List ℕ)) (s new : State) (w : Option (List ℕ)) (leaves : Option State → Type 0) → IfSome known (λ input. SendsFound shows imports s input new w w leaves)
   none-sent None s new w leaves = tt
   none-sent (Some input) s new w leaves = inl (keeps-same w)
+
+left_stands : (input bytes : List ℕ) (qs : List Request) → StandsFor (Some input) bytes → AreLeft bytes qs → AreLeft input qs
+left_stands input bytes qs stands (inl (d, decides, are)) = inl (d, stands d decides, are)
+left_stands input bytes qs stands (inr (inl none)) = inr (inl none)
+left_stands input bytes qs stands (inr (inr (d, decides, are))) = inr (inr (d, stands d decides, are))
+
+-- what was read stands for all that the reader had
+pub heard_found : (known : Option (List ℕ)) (bytes : List ℕ) (s : State) (leaves : Option State → Type 0) → StandsFor known bytes → FindsLeft leaves s bytes → FindsHeard known leaves s
+heard_found None bytes s leaves stands found = (bytes, tt, found)
+heard_found (Some input) bytes s leaves stands found = (input, refl, λ o may. let (qs, are, is) = found o may in (qs, left_stands input bytes qs stands are, is))
+
+-- nothing was done
+pub none_heard : (known : Option (List ℕ)) (s : State) (leaves : Option State → Type 0) → FindsOnly leaves s → FindsHeard known leaves s
+none_heard None s leaves only = ([], tt, nothing_left leaves s [] only)
+none_heard (Some input) s leaves only = (input, refl, nothing_left leaves s input only)

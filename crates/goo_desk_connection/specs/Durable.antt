@@ -1,11 +1,12 @@
 -- A connection is sent an answer only once a crash finds what it tells.
 use Rattle.std.specs.Prelude.{◌⊎◌, ℕ, List, Option}
 use Rattle.std.specs.Io.KnownBytes.{Keeps}
-use Rattle.goo_files_streams.specs.Streams.{AppendsPrefix}
+use Rattle.goo_files_streams.specs.Streams.{AppendsPrefix, IsWholeOf}
 use Rattle.goo_spec.specs.State.{State}
 use Rattle.goo_registry_desk.specs.Crash.{FindsOnly}
 use Rattle.goo_desk_responses.specs.declared.status.Status.{Status}
 use Rattle.goo_desk_counter.specs.Counters.{Showing, Importing}
+use Rattle.goo_desk_answers.specs.Brought.{FindsLeft}
 use Rattle.goo_desk_answers.specs.Responds.{Responds}
 use Rattle.goo_desk_connection.specs.Serving.{IsApology}
 
@@ -27,3 +28,7 @@ module _ (shows : Showing) (imports : Importing) (s : State) (bytes : List ℕ) 
   -- all that is written: nothing, an excuse, or an answer that a crash finds
   abbrev pub SendsFound : Type 0
   SendsFound = Keeps had has ⊎ (IsExcusedOnly ⊎ IsAcknowledged)
+
+-- whatever its client does, a crash finds the state that some of a connection's requests lead to: of the bytes that its reader had, where it tells them
+abbrev pub FindsHeard : Option (List ℕ) → (Option State → Type 0) → State → Type 0
+FindsHeard known leaves s = (bytes : List ℕ) × IsWholeOf known bytes × FindsLeft leaves s bytes

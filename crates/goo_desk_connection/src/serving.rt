@@ -1,7 +1,8 @@
 //! Serving one connection.
 ghost use Rattle.std.specs.Prelude.{◌≡◌, IfOk, IfErr, IfSome};
 ghost use Rattle.std.specs.Io.KnownBytes.{Keeps};
-ghost use Rattle.goo_desk_connection.specs.Durable.{SendsFound};
+ghost use Rattle.goo_desk_answers.specs.Brought.{FindsLeft};
+ghost use Rattle.goo_desk_connection.specs.Durable.{FindsHeard, SendsFound};
 ghost use Rattle.goo_desk_connection.specs.Serving.{Connects, Leaves, Sends, SendsPart, SendsExcuse};
 ghost use Rattle.goo_registry_desk.specs.Desk.{StaysSure};
 ghost use Rattle.goo_spec.specs.Sound.{IsSound};
@@ -43,6 +44,9 @@ fn serve_bytes<D: Counter, W: Write>(
         (W.contents writer.old) (W.contents writer.new) (D.leaves desk.new) }
     ensures stays { (D.seen desk.new).lies ≡ 0 → (D.seen desk.old).doubts ≡ 0
         → StaysSure (D.seen desk.old) (D.seen desk.new) }
+    ensures crash { ImportsAreRuns D.imports D.begins → (D.seen desk.new).lies ≡ 0
+        → (D.seen desk.old).doubts ≡ 0
+        → FindsLeft (D.leaves desk.new) (D.seen desk.old).state bytes.now }
 {
     match answer_by_routes(alloc, routes, desk, bytes) {
         Ok(answer) => {
@@ -69,6 +73,7 @@ fn serve_bytes<D: Counter, W: Write>(
 /// Want of memory in answering is answered 503. `found`: an answer is sent only once a crash finds what it tells.
 /// `connects`: nothing is in doubt unless a call below failed (`stays`), so after a 503 with no
 /// failed call the state is known, and a crash finds it.
+/// `crash`: however it ends, a crash finds the state that some of the client's requests lead to.
 ///
 /// # Errors
 ///
@@ -93,6 +98,9 @@ pub fn serve_by_routes<D: Counter, R: Read, W: Write>(
         → IfSome (R.remaining reader.old) (λ input.
         SendsFound D.shows D.imports (D.seen desk.old).state input (D.seen desk.new).state
         (W.contents writer.old) (W.contents writer.new) (D.leaves desk.new)) }
+    ensures crash { ImportsAreRuns D.imports D.begins → (D.seen desk.new).lies ≡ 0
+        → (D.seen desk.old).doubts ≡ 0
+        → FindsHeard (R.remaining reader.old) (D.leaves desk.new) (D.seen desk.old).state }
 {
     let bytes = read_decided(alloc, reader)?;
     serve_bytes(alloc, routes, desk, &bytes, writer)
@@ -103,6 +111,7 @@ pub fn serve_by_routes<D: Counter, R: Read, W: Write>(
 /// Want of memory in answering is answered 503. `found`: an answer is sent only once a crash finds what it tells.
 /// `connects`: nothing is in doubt unless a call below failed (`stays`), so after a 503 with no
 /// failed call the state is known, and a crash finds it.
+/// `crash`: however it ends, a crash finds the state that some of the client's requests lead to.
 ///
 /// # Errors
 ///
@@ -126,6 +135,9 @@ pub fn serve_one<D: Counter, R: Read, W: Write>(
         → IfSome (R.remaining reader.old) (λ input.
         SendsFound D.shows D.imports (D.seen desk.old).state input (D.seen desk.new).state
         (W.contents writer.old) (W.contents writer.new) (D.leaves desk.new)) }
+    ensures crash { ImportsAreRuns D.imports D.begins → (D.seen desk.new).lies ≡ 0
+        → (D.seen desk.old).doubts ≡ 0
+        → FindsHeard (R.remaining reader.old) (D.leaves desk.new) (D.seen desk.old).state }
 {
     let Ok(routes) = Routes::new(alloc) else {
         return Err(ServeFault::Memory);

@@ -2,3 +2,4 @@ pub mod ShowFacts
 pub mod ImportFacts
 pub mod OneShown
 pub mod TableFacts
+pub mod DurableFacts

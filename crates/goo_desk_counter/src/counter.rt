@@ -25,11 +25,13 @@ pub enum Imported {
 
 /// A desk that also shows what its registry knows, as texts, and takes in declarations.
 pub trait Counter: Desk {
-    ghost use Rattle.std.specs.Prelude.{ℕ, List, Option, Result};
+    ghost use Rattle.std.specs.Prelude.{◌≡◌, ℕ, List, Option, Result};
     ghost use Rattle.goo_spec.specs.State.{State};
     ghost use Rattle.goo_desk_routes.specs.declared.task.Subject.{Subject};
     ghost use Rattle.goo_core_answers.specs.declared.denial.Denial.{Denial};
+    ghost use Rattle.goo_registry_desk.specs.Crash.{FindsOnly};
     ghost use Rattle.goo_desk_counter.specs.Counters.{Shows, Imports};
+    ghost use Rattle.goo_desk_counter.specs.Durable.{FindsAmong};
 
     /// Whether a caller is shown this of a subject.
     ghost shows: { State → List ℕ → Subject → Result (List ℕ) Denial → Type 0 };
@@ -40,11 +42,17 @@ pub trait Counter: Desk {
     /// Whether the first rows of an import come to this state.
     ghost begins: { State → List ℕ → List ℕ → State → Type 0 };
 
-    /// What a caller is shown of a subject. It changes nothing.
+    /// What a caller is shown of a subject. It changes nothing, and a crash finds what was there.
     fn show(&mut self, alloc: Global, caller: &HolderCode, subject: Subject) -> Result<Shown, Fault>
-        ensures { Shows shows (Self.seen self.old) (Self.seen self.new) caller.now subject result };
+        ensures shows { Shows shows (Self.seen self.old) (Self.seen self.new) caller.now subject result }
+        ensures crash { (Self.seen self.new).lies ≡ 0 → (Self.seen self.old).doubts ≡ 0
+            → FindsOnly (Self.leaves self.new) (Self.seen self.old).state };
 
-    /// Takes in declarations in CSV. After a fault the rows before it stand.
+    /// Takes in declarations in CSV. After a fault the rows before it stand. Whatever is answered, a
+    /// crash finds some first rows applied; after an answer it finds all of them (`settled`).
     fn import(&mut self, alloc: Global, caller: &HolderCode, rows: &[u8]) -> Result<Imported, Fault>
-        ensures { Imports imports begins (Self.seen self.old) (Self.seen self.new) caller.now rows.now result };
+        ensures imports { Imports imports begins (Self.seen self.old) (Self.seen self.new) caller.now rows.now result }
+        ensures crash { (Self.seen self.new).lies ≡ 0 → (Self.seen self.old).doubts ≡ 0
+            → FindsAmong (Self.leaves self.new)
+            (begins (Self.seen self.old).state caller.now rows.now) };
 }

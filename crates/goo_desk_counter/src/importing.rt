@@ -4,6 +4,7 @@ ghost use Rattle.goo_types.specs.declared.fault.Fault.TheVariants.{Memory};
 ghost use Rattle.goo_registry.specs.Desks.{seen_of};
 ghost use Rattle.goo_files_import.specs.Report.{report_text};
 ghost use Rattle.goo_desk_counter.specs.Counters.{Imports, report_of};
+ghost use Rattle.goo_desk_counter.specs.Durable.{FindsAmong};
 ghost use Rattle.goo_desk_counter.specs.Made.{stopped_as};
 ghost use Rattle.goo_desk_counter.specs.Showing.{imported_by, begun_by};
 
@@ -45,7 +46,10 @@ pub(crate) fn import_rows<S: Shelf>(
     caller: &HolderCode,
     rows: &[u8],
 ) -> Result<Imported, Fault>
-    ensures { Imports imported_by begun_by (seen_of (S.seen registry.old.shelf)) (seen_of (S.seen registry.new.shelf)) caller.now rows.now result }
+    ensures imports { Imports imported_by begun_by (seen_of (S.seen registry.old.shelf)) (seen_of (S.seen registry.new.shelf)) caller.now rows.now result }
+    ensures crash { (S.seen registry.new.shelf).lies ≡ 0 → (S.seen registry.old.shelf).doubts ≡ 0
+        → FindsAmong (S.seen registry.new.shelf).leaves
+        (begun_by (S.seen registry.old.shelf).state caller.now rows.now) }
 {
     match import_bytes(alloc, registry, caller, rows, &mut Unwatched) {
         Ok(report) => reported(alloc, &report),

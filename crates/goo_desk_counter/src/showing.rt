@@ -1,5 +1,6 @@
 //! What a registry shows, as texts.
 ghost use Rattle.std.specs.Prelude.{◌≡◌};
+ghost use Rattle.goo_registry_desk.specs.Crash.{FindsOnly};
 ghost use Rattle.goo_registry.specs.Desks.{seen_of};
 ghost use Rattle.goo_registry.specs.Shown.{apart as apart_stated};
 ghost use Rattle.goo_desk_routes.specs.declared.task.Subject.TheVariants.{Statement, Certificate, Cancellation, Notice as SentNotice, Audit};
@@ -55,7 +56,9 @@ fn show_statement<S: Shelf>(
     caller: &HolderCode,
     account: AccountNo,
 ) -> Result<Shown, Fault>
-    ensures { Shows shown_by (seen_of (S.seen registry.old.shelf)) (seen_of (S.seen registry.new.shelf)) caller.now (Statement account) result }
+    ensures shows { Shows shown_by (seen_of (S.seen registry.old.shelf)) (seen_of (S.seen registry.new.shelf)) caller.now (Statement account) result }
+    ensures crash { (S.seen registry.new.shelf).lies ≡ 0 → (S.seen registry.old.shelf).doubts ≡ 0
+        → FindsOnly (S.seen registry.new.shelf).leaves (S.seen registry.old.shelf).state }
 {
     let mut text = Vec::new(alloc);
     let written = write_statement(registry, caller, account, &mut text);
@@ -69,7 +72,9 @@ fn show_certificate<S: Shelf>(
     caller: &HolderCode,
     number: Number,
 ) -> Result<Shown, Fault>
-    ensures { Shows shown_by (seen_of (S.seen registry.old.shelf)) (seen_of (S.seen registry.new.shelf)) caller.now (Certificate number) result }
+    ensures shows { Shows shown_by (seen_of (S.seen registry.old.shelf)) (seen_of (S.seen registry.new.shelf)) caller.now (Certificate number) result }
+    ensures crash { (S.seen registry.new.shelf).lies ≡ 0 → (S.seen registry.old.shelf).doubts ≡ 0
+        → FindsOnly (S.seen registry.new.shelf).leaves (S.seen registry.old.shelf).state }
 {
     match apart(registry.place_of(alloc, caller, number))? {
         Ok((lot, place)) => Ok(Shown::Text(certificate_text(alloc, number, &lot, &place)?)),
@@ -84,7 +89,9 @@ fn show_cancellation<S: Shelf>(
     caller: &HolderCode,
     act: ActNo,
 ) -> Result<Shown, Fault>
-    ensures { Shows shown_by (seen_of (S.seen registry.old.shelf)) (seen_of (S.seen registry.new.shelf)) caller.now (Cancellation act) result }
+    ensures shows { Shows shown_by (seen_of (S.seen registry.old.shelf)) (seen_of (S.seen registry.new.shelf)) caller.now (Cancellation act) result }
+    ensures crash { (S.seen registry.new.shelf).lies ≡ 0 → (S.seen registry.old.shelf).doubts ≡ 0
+        → FindsOnly (S.seen registry.new.shelf).leaves (S.seen registry.old.shelf).state }
 {
     let mut text = Vec::new(alloc);
     let written = write_cancellation(alloc, registry, caller, act, &mut text);
@@ -98,7 +105,9 @@ fn show_notice<S: Shelf>(
     caller: &HolderCode,
     act: ActNo,
 ) -> Result<Shown, Fault>
-    ensures { Shows shown_by (seen_of (S.seen registry.old.shelf)) (seen_of (S.seen registry.new.shelf)) caller.now (SentNotice act) result }
+    ensures shows { Shows shown_by (seen_of (S.seen registry.old.shelf)) (seen_of (S.seen registry.new.shelf)) caller.now (SentNotice act) result }
+    ensures crash { (S.seen registry.new.shelf).lies ≡ 0 → (S.seen registry.old.shelf).doubts ≡ 0
+        → FindsOnly (S.seen registry.new.shelf).leaves (S.seen registry.old.shelf).state }
 {
     match apart(registry.notice(alloc, caller, act))? {
         Ok(notice) => Ok(Shown::Text(write(alloc, &notice)?)),
@@ -112,7 +121,9 @@ fn show_audit<S: Shelf>(
     registry: &mut Registry<S>,
     caller: &HolderCode,
 ) -> Result<Shown, Fault>
-    ensures { Shows shown_by (seen_of (S.seen registry.old.shelf)) (seen_of (S.seen registry.new.shelf)) caller.now Audit result }
+    ensures shows { Shows shown_by (seen_of (S.seen registry.old.shelf)) (seen_of (S.seen registry.new.shelf)) caller.now Audit result }
+    ensures crash { (S.seen registry.new.shelf).lies ≡ 0 → (S.seen registry.old.shelf).doubts ≡ 0
+        → FindsOnly (S.seen registry.new.shelf).leaves (S.seen registry.old.shelf).state }
 {
     let mut text = Vec::new(alloc);
     let written = write_audit(alloc, registry, caller, &mut text);
@@ -126,7 +137,9 @@ pub(crate) fn show_subject<S: Shelf>(
     caller: &HolderCode,
     subject: Subject,
 ) -> Result<Shown, Fault>
-    ensures { Shows shown_by (seen_of (S.seen registry.old.shelf)) (seen_of (S.seen registry.new.shelf)) caller.now subject result }
+    ensures shows { Shows shown_by (seen_of (S.seen registry.old.shelf)) (seen_of (S.seen registry.new.shelf)) caller.now subject result }
+    ensures crash { (S.seen registry.new.shelf).lies ≡ 0 → (S.seen registry.old.shelf).doubts ≡ 0
+        → FindsOnly (S.seen registry.new.shelf).leaves (S.seen registry.old.shelf).state }
 {
     match subject {
         Subject::Statement(account) => show_statement(alloc, registry, caller, account),

@@ -1,2 +1,3 @@
 pub mod Connecting
 pub mod Running
+pub mod Finding

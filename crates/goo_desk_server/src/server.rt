@@ -1,9 +1,12 @@
 //! A listener's connections, one after another.
-ghost use Rattle.std.specs.Prelude.{◌≡◌, ◌++◌, codes, decimal, OnOk};
+ghost use Rattle.std.specs.Prelude.{◌≡◌, ◌++◌, ℕ, codes, decimal, OnOk};
 ghost use Rattle.std.specs.Io.KnownBytes.{Appends};
 ghost use Rattle.goo_spec.specs.Sound.{IsSound};
+ghost use Rattle.goo_registry_desk.specs.Desk.{Seen};
+ghost use Rattle.goo_desk_connection.specs.Durable.{FindsHeard};
 ghost use Rattle.goo_desk_connection.specs.Serving.{Connects};
 ghost use Rattle.goo_desk_counter.specs.Tables.{ImportsAreRuns};
+ghost use Rattle.goo_desk_server.specs.Durable.{FindsServed};
 ghost use Rattle.goo_desk_server.specs.Runs.{KeepsPromise};
 ghost use Rattle.goo_desk_server.specs.Serving.{IsCounted, IsOneCounted, IsServed, IsToldIn, StepsTo};
 
@@ -55,6 +58,9 @@ fn serve_accepted<D: Counter, R: Read, W: Write>(
     ensures ends { IsServed result }
     ensures lied { (D.seen desk.new).lies ≡ 0 → (D.seen desk.old).lies ≡ 0 }
     ensures told { (D.seen desk.old).refusals ≡ 0 → IsToldIn result (D.seen desk.new).refusals }
+    ensures crash { ImportsAreRuns D.imports D.begins → (D.seen desk.new).lies ≡ 0
+        → (D.seen desk.old).doubts ≡ 0
+        → FindsHeard (R.remaining reader.old) (D.leaves desk.new) (D.seen desk.old).state }
 {
     match serve_by_routes(alloc, routes, desk, reader, writer) {
         Err(ServeFault::Store) => Err(ServerFault::Store),
@@ -74,6 +80,13 @@ fn serve_next<D: Counter, L: Listener>(
     ensures steps { StepsTo D.shows D.imports D.begins (L.sends listener.old) (L.accepted listener.old) (L.accepted listener.new) (D.seen desk.old) (D.seen desk.new) }
     ensures lied { (D.seen desk.new).lies ≡ 0 → (D.seen desk.old).lies ≡ 0 }
     ensures told { (D.seen desk.old).refusals ≡ 0 → IsToldIn result (D.seen desk.new).refusals }
+    ensures found { (was : ℕ) (first : Seen) → ImportsAreRuns D.imports D.begins
+        → StepsTo D.shows D.imports D.begins (L.sends listener.old) was (L.accepted listener.old)
+        first (D.seen desk.old)
+        → FindsServed D.shows D.imports D.begins (L.sends listener.old) was
+        (L.accepted listener.old) first (D.seen desk.old) (D.leaves desk.old)
+        → FindsServed D.shows D.imports D.begins (L.sends listener.old) was
+        (L.accepted listener.new) first (D.seen desk.new) (D.leaves desk.new) }
 {
     let Ok((mut reader, mut writer)) = listener.accept() else {
         return Err(ServerFault::Accept);
@@ -94,6 +107,9 @@ fn serve_all<D: Counter, L: Listener>(
     ensures steps { StepsTo D.shows D.imports D.begins (L.sends listener.old) (L.accepted listener.old) (L.accepted listener.new) (D.seen desk.old) (D.seen desk.new) }
     ensures lied { (D.seen desk.new).lies ≡ 0 → (D.seen desk.old).lies ≡ 0 }
     ensures told { (D.seen desk.old).refusals ≡ 0 → IsToldIn result (D.seen desk.new).refusals }
+    ensures found { ImportsAreRuns D.imports D.begins
+        → FindsServed D.shows D.imports D.begins (L.sends listener.old) (L.accepted listener.old)
+        (L.accepted listener.new) (D.seen desk.old) (D.seen desk.new) (D.leaves desk.new) }
 {
     for _ in 0..count {
         serve_next(alloc, routes, desk, listener)?;
@@ -117,6 +133,9 @@ fn announce_and_serve<D: Counter, L: Listener, W: Write>(
     ensures steps { StepsTo D.shows D.imports D.begins (L.sends listener.old) (L.accepted listener.old) (L.accepted listener.new) (D.seen desk.old) (D.seen desk.new) }
     ensures lied { (D.seen desk.new).lies ≡ 0 → (D.seen desk.old).lies ≡ 0 }
     ensures told { (D.seen desk.old).refusals ≡ 0 → IsToldIn result (D.seen desk.new).refusals }
+    ensures found { ImportsAreRuns D.imports D.begins
+        → FindsServed D.shows D.imports D.begins (L.sends listener.old) (L.accepted listener.old)
+        (L.accepted listener.new) (D.seen desk.old) (D.seen desk.new) (D.leaves desk.new) }
 {
     match announce(port, writer) {
         Ok(()) => serve_all(alloc, routes, desk, listener, count),
@@ -131,6 +150,9 @@ fn announce_and_serve<D: Counter, L: Listener, W: Write>(
 /// - `counted`: it ends well only once as many connections were accepted as asked for. After a fault fewer were, or the records failed at the last one.
 /// - `promised`: what a registry promises after any list of requests holds of those that the connections left applied. The bytes of each connection are
 ///   those that its client sent, where the listener tells them.
+/// - `found`: however it ends, a crash finds what the connections leave; of the last one's requests
+///   perhaps those alone that stand after a fault. So each answer that was sent is of a request that a
+///   crash finds, unless a call had failed before the last connection and left a doubt.
 ///
 /// # Errors
 ///
@@ -150,6 +172,9 @@ pub fn serve<D: Counter, L: Listener, W: Write>(
     ensures lied { (D.seen desk.new).lies ≡ 0 → (D.seen desk.old).lies ≡ 0 }
     ensures told { (D.seen desk.old).refusals ≡ 0 → IsToldIn result (D.seen desk.new).refusals }
     ensures promised { ImportsAreRuns D.imports D.begins → IsSound (D.seen desk.old).state → (D.seen desk.new).lies ≡ 0 → (D.seen desk.new).doubts ≡ 0 → KeepsPromise (L.sends listener.old) (L.accepted listener.old) (L.accepted listener.new) (D.seen desk.old).state (D.seen desk.new).state }
+    ensures found { ImportsAreRuns D.imports D.begins
+        → FindsServed D.shows D.imports D.begins (L.sends listener.old) (L.accepted listener.old)
+        (L.accepted listener.new) (D.seen desk.old) (D.seen desk.new) (D.leaves desk.new) }
 {
     // Before it tells that it listens: want of memory ends it here, and no connection waits.
     let Ok(routes) = Routes::new(alloc) else {

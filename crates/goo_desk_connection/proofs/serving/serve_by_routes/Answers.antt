@@ -1,7 +1,7 @@
 use Rattle.goo_desk_connection.specs.declared.serve_fault.ServeFault.TheVariants.{Write, Store}
 use Rattle.goo_desk_connection.proofs.ServeFacts.{bytes-connect, none-connect, sends-stands, part-stands, excuse-stands}
 use Rattle.goo_desk_connection.proofs.PromiseFacts.{leaves_promised, none_promised}
-use Rattle.goo_desk_connection.proofs.DurableFacts.{all-found, none-sent}
+use Rattle.goo_desk_connection.proofs.DurableFacts.{all-found, heard_found, none-sent, none_heard}
 use Rattle.goo_desk_connection.proofs.serving.serve_by_routes.Goals as goal
 
 pub returns-clause-served : goal.returns-clause-served
@@ -44,3 +44,12 @@ returns-clause-found g c lies sure =
 
 pub returns-in_err-bytes-clause-connects : goal.returns-in_err-bytes-clause-connects
 returns-in_err-bytes-clause-connects g c = none-connect g.D.Counter.shows g.D.Counter.imports g.D.Counter.begins (g.R.Read.remaining c.args.reader.now) (g.D.Desk.seen c.args.desk.now)
+
+pub returns-in_err-bytes-clause-crash : goal.returns-in_err-bytes-clause-crash
+returns-in_err-bytes-clause-crash g c runs lies sure =
+    none_heard (g.R.Read.remaining c.args.reader.now) (g.D.Desk.seen c.args.desk.now).state (g.D.Desk.leaves c.args.desk.now) (g.met.D.Desk.settled c.args.desk.now sure)
+
+pub returns-clause-crash : goal.returns-clause-crash
+returns-clause-crash g c runs lies sure =
+    heard_found (g.R.Read.remaining c.args.reader.now) c.in_ok-bytes.bytes.items (g.D.Desk.seen c.args.desk.now).state (g.D.Desk.leaves c.serve_bytes.new.desk)
+    c.in_ok-bytes.ensures (rw c.deref.ensures.value at (c.serve_bytes.ensures.crash runs lies sure))

@@ -1,6 +1,6 @@
 use Rattle.goo_desk_connection.proofs.PromiseFacts.{none_promised}
 use Rattle.goo_desk_connection.proofs.ServeFacts.{none-connect}
-use Rattle.goo_desk_connection.proofs.DurableFacts.{none-sent}
+use Rattle.goo_desk_connection.proofs.DurableFacts.{none-sent, none_heard}
 use Rattle.goo_desk_connection.proofs.serving.serve_one.Goals as goal
 
 pub returns-in_default-clause-promised : goal.returns-in_default-clause-promised
@@ -12,3 +12,7 @@ returns-in_default-clause-found g c lies sure =
 
 pub returns-in_default-clause-connects : goal.returns-in_default-clause-connects
 returns-in_default-clause-connects g c = none-connect g.D.Counter.shows g.D.Counter.imports g.D.Counter.begins (g.R.Read.remaining c.args.reader.now) (g.D.Desk.seen c.args.desk.now)
+
+pub returns-in_default-clause-crash : goal.returns-in_default-clause-crash
+returns-in_default-clause-crash g c runs lies sure =
+    none_heard (g.R.Read.remaining c.args.reader.now) (g.D.Desk.seen c.args.desk.now).state (g.D.Desk.leaves c.args.desk.now) (g.met.D.Desk.settled c.args.desk.now sure)

@@ -1,6 +1,7 @@
 use Rattle.std.proofs.Common.{refl}
 use Rattle.goo_desk_server.proofs.Connecting.{no_steps}
 use Rattle.goo_desk_server.proofs.Running.{steps_promised}
+use Rattle.goo_desk_server.proofs.Finding.{none_served}
 use Rattle.goo_desk_server.proofs.server.serve.Goals as goal
 
 pub returns-in_default-clause-steps : goal.returns-in_default-clause-steps
@@ -19,3 +20,12 @@ pub returns-clause-promised : goal.returns-clause-promised
 returns-clause-promised g c runs sound honest sure =
     steps_promised g.D.Counter.shows g.D.Counter.imports g.D.Counter.begins runs (g.L.Listener.sends c.args.listener.now) (g.L.Listener.accepted c.args.listener.now) (g.L.Listener.accepted c.announce_and_serve.new.listener)
     (g.D.Desk.seen c.args.desk.now) (g.D.Desk.seen c.announce_and_serve.new.desk) c.announce_and_serve.ensures.steps sound honest sure
+
+pub returns-in_default-clause-found : goal.returns-in_default-clause-found
+returns-in_default-clause-found g c runs honest sure =
+    let was = g.L.Listener.accepted c.args.listener.now in
+    none_served g.D.Counter.shows g.D.Counter.imports g.D.Counter.begins (g.L.Listener.sends c.args.listener.now) was was (g.D.Desk.seen c.args.desk.now) (g.D.Desk.leaves c.args.desk.now) refl
+    (g.met.D.Desk.settled c.args.desk.now sure)
+
+pub returns-clause-found : goal.returns-clause-found
+returns-clause-found g c = c.announce_and_serve.ensures.found

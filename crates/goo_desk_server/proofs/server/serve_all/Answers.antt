@@ -1,6 +1,7 @@
 use Rattle.std.proofs.Common.{◌≡◌, ◌∙◌, ◌+◌, ℕ, List, Option, arith, rules, refl, subst}
 use Rattle.goo_desk_server.specs.Serving.{StepsTo}
 use Rattle.goo_desk_server.proofs.Connecting.{counted_err, no_steps, steps_on}
+use Rattle.goo_desk_server.proofs.Finding.{none_served, served_as}
 use Rattle.goo_desk_server.proofs.server.serve_all.Goals as goal
 
 pub loop-init : goal.loop-init
@@ -11,6 +12,8 @@ loop-init g c =
       no_steps g.D.Counter.shows g.D.Counter.imports g.D.Counter.begins (g.L.Listener.sends c.args.listener.now) was was (g.D.Desk.seen c.args.desk.now) refl,
       let e : was ≡ was + 0 = omega arith in e,
       refl,
+      λ runs honest sure. none_served g.D.Counter.shows g.D.Counter.imports g.D.Counter.begins (g.L.Listener.sends c.args.listener.now) was was (g.D.Desk.seen c.args.desk.now) (g.D.Desk.leaves c.args.desk.now) refl
+          (g.met.D.Desk.settled c.args.desk.now sure),
     )
 
 pub returns-in_err-serve_next-clause-steps : goal.returns-in_err-serve_next-clause-steps
@@ -33,4 +36,18 @@ loop-preserved g c = (
       c.loop.invariant.4 c.serve_next.ensures.steps),
   omega (arith, c.loop.invariant.3, c.in_ok-serve_next.ensures.counted),
   c.serve_next.ensures.same ∙ c.loop.invariant.4,
+  λ runs. served_as g.D.Counter.shows g.D.Counter.imports g.D.Counter.begins (g.L.Listener.sends c.args.listener.now) (g.L.Listener.sends c.loop.listener) c.loop.invariant.4 (g.L.Listener.accepted c.args.listener.now)
+      (g.L.Listener.accepted c.loop.listener) (g.L.Listener.accepted c.serve_next.new.listener) (g.D.Desk.seen c.args.desk.now) (g.D.Desk.seen c.loop.desk) (g.D.Desk.seen c.serve_next.new.desk)
+      (g.D.Desk.leaves c.loop.desk) (g.D.Desk.leaves c.serve_next.new.desk)
+      (c.serve_next.ensures.found (g.L.Listener.accepted c.args.listener.now) (g.D.Desk.seen c.args.desk.now) runs) c.loop.invariant.2 (c.loop.invariant.5 runs),
 )
+
+pub returns-in_err-serve_next-clause-found : goal.returns-in_err-serve_next-clause-found
+returns-in_err-serve_next-clause-found g c runs =
+    served_as g.D.Counter.shows g.D.Counter.imports g.D.Counter.begins (g.L.Listener.sends c.args.listener.now) (g.L.Listener.sends c.loop.listener) c.loop.invariant.4 (g.L.Listener.accepted c.args.listener.now)
+    (g.L.Listener.accepted c.loop.listener) (g.L.Listener.accepted c.serve_next.new.listener) (g.D.Desk.seen c.args.desk.now) (g.D.Desk.seen c.loop.desk) (g.D.Desk.seen c.serve_next.new.desk)
+    (g.D.Desk.leaves c.loop.desk) (g.D.Desk.leaves c.serve_next.new.desk)
+    (c.serve_next.ensures.found (g.L.Listener.accepted c.args.listener.now) (g.D.Desk.seen c.args.desk.now) runs) c.loop.invariant.2 (c.loop.invariant.5 runs)
+
+pub returns-clause-found : goal.returns-clause-found
+returns-clause-found g c = c.loop.invariant.5

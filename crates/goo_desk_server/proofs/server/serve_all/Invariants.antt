@@ -1,4 +1,6 @@
 use Rattle.std.proofs.Common.{◌≡◌, ◌+◌}
+use Rattle.goo_desk_counter.specs.Tables.{ImportsAreRuns}
+use Rattle.goo_desk_server.specs.Durable.{FindsServed}
 use Rattle.goo_desk_server.specs.Serving.{StepsTo}
 use Rattle.goo_desk_server.proofs.server.serve_all.Given as goal
 
@@ -9,3 +11,5 @@ invariant-loop g l =
     × StepsTo g.D.Counter.shows g.D.Counter.imports g.D.Counter.begins (g.L.Listener.sends l.initial.listener) (g.L.Listener.accepted l.initial.listener) (g.L.Listener.accepted l.listener) (g.D.Desk.seen l.initial.desk) (g.D.Desk.seen l.desk)
     × (g.L.Listener.accepted l.listener ≡ g.L.Listener.accepted l.initial.listener + l.counter)
     × (g.L.Listener.sends l.listener ≡ g.L.Listener.sends l.initial.listener)
+    × (ImportsAreRuns g.D.Counter.imports g.D.Counter.begins
+    → FindsServed g.D.Counter.shows g.D.Counter.imports g.D.Counter.begins (g.L.Listener.sends l.initial.listener) (g.L.Listener.accepted l.initial.listener) (g.L.Listener.accepted l.listener) (g.D.Desk.seen l.initial.desk) (g.D.Desk.seen l.desk) (g.D.Desk.leaves l.desk))

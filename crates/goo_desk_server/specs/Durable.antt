@@ -1,0 +1,31 @@
+-- What a crash finds once a server's connections were served.
+use Rattle.std.specs.Prelude.{◌≡◌, ◌+◌, ℕ, zero, suc, List, Option}
+use Rattle.goo_spec.specs.State.{State}
+use Rattle.goo_registry_desk.specs.Crash.{FindsOnly}
+use Rattle.goo_registry_desk.specs.Desk.{Seen, HasFailed}
+use Rattle.goo_desk_counter.specs.Counters.{Showing, Importing, Beginning}
+use Rattle.goo_desk_connection.specs.Durable.{FindsHeard}
+use Rattle.goo_desk_connection.specs.Serving.{Connects}
+use Rattle.goo_desk_server.specs.Serving.{Steps}
+
+module _ (shows : Showing) (imports : Importing) (begins : Beginning) (sends : ℕ → Option (List ℕ)) (was : ℕ) where
+  -- no call failed while these connections were served
+  abbrev pub NoneFailed : (count : ℕ) (first last : Seen) → Steps shows imports begins sends was count first last → Type 0
+  NoneFailed zero first last steps = Unit {0}
+  NoneFailed (suc count) first last (mid, steps, connects) = NoneFailed count first mid steps × ¬ HasFailed mid last
+
+  -- A crash after so many connections finds what all of them leave, but of the last one's requests perhaps those alone that stand after a fault.
+  -- That is so unless something was in doubt before the last one, which only a failed call brings.
+  abbrev pub FindsAfter : ℕ → Seen → Seen → (Option State → Type 0) → Type 0
+  FindsAfter zero first last leaves = FindsOnly leaves first.state
+  FindsAfter (suc count) first last leaves =
+      (mid : Seen) × (steps : Steps shows imports begins sends was count first mid) × Connects shows imports begins (sends (was + count)) mid last
+      × (NoneFailed count first mid steps → mid.doubts ≡ 0) × (mid.doubts ≡ 0 → FindsHeard (sends (was + count)) leaves mid.state)
+
+  -- as many as were accepted meanwhile
+  abbrev pub FindsTo : ℕ → Seen → Seen → (Option State → Type 0) → Type 0
+  FindsTo now first last leaves = (count : ℕ) × (now ≡ was + count) × FindsAfter count first last leaves
+
+  -- where nothing lied, and nothing was in doubt at first
+  abbrev pub FindsServed : ℕ → Seen → Seen → (Option State → Type 0) → Type 0
+  FindsServed now first last leaves = last.lies ≡ 0 → first.doubts ≡ 0 → FindsTo now first last leaves
