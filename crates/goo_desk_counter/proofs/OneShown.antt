@@ -1,5 +1,5 @@
 -- A subject is shown in one way, and an import comes to one report and one state.
-use Rattle.std.proofs.Common.{◌≡◌, ◌∙◌, ℕ, List, ◌∷◌, Option, Some, None, Result, Ok, Err, sym, ap, refl, subst}
+use Rattle.std.proofs.Common.{◌≡◌, ◌∙◌, ℕ, List, ◌∷◌, Option, Some, None, Result, Ok, Err, sym, ap, refl}
 use Rattle.std.specs.FinMap.{get}
 use Rattle.goo_spec.proofs.Mapping.{none_some}
 use Rattle.goo_spec.specs.State.{State}
@@ -11,7 +11,6 @@ use Rattle.goo_files_csv.specs.Rows.{header}
 use Rattle.goo_files_import.proofs.OneTable.{one_table, header_or_rows}
 use Rattle.goo_files_import.specs.Import.{importing}
 use Rattle.goo_files_import.specs.Report.{report_text}
-use Rattle.goo_desk_routes.specs.declared.task.Subject.{Subject}
 use Rattle.goo_desk_routes.specs.declared.task.Subject.TheVariants.{Statement, Certificate, Cancellation, Notice, Audit}
 use Rattle.goo_desk_counter.specs.Counters.{ShowsOne, ImportsOne}
 use Rattle.goo_desk_counter.specs.Showing.{shown_by, imported_by, IsTextUnless}

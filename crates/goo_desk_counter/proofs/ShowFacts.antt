@@ -1,5 +1,5 @@
 -- A text that was written in memory, as it is shown.
-use Rattle.std.proofs.Common.{◌≡◌, ℕ, List, [], ◌++◌, Option, Some, None, Result, Ok, Err, Vec, sym, subst}
+use Rattle.std.proofs.Common.{◌≡◌, ℕ, List, [], Option, Some, Result, Ok, Err, Vec, sym, subst}
 use Rattle.std.specs.Global.{Global}
 use Rattle.goo_core_shelf.specs.Shelf.{Moment, StaysSure}
 use Rattle.goo_registry_desk.specs.Desk as desk

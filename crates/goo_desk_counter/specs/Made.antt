@@ -1,9 +1,8 @@
 -- What comes of the calls that write the texts of a registry, and of an import.
-use Rattle.std.specs.Prelude.{List, Option, Result, Ok, Err, Vec, ℕ}
+use Rattle.std.specs.Prelude.{Result, Ok, Err, Vec, ℕ}
 use Rattle.std.specs.Global.{Global}
 use Rattle.goo_types.specs.declared.fault.Fault.{Fault}
 use Rattle.goo_types.specs.declared.fault.Fault.TheVariants as fault
-use Rattle.goo_core_answers.specs.declared.denial.Denial.{Denial}
 use Rattle.goo_core_answers.specs.declared.denial.Denial.TheVariants as denial
 use Rattle.goo_files.specs.declared.text_fault.ShowFault.{ShowFault}
 use Rattle.goo_files.specs.declared.text_fault.ShowFault.TheVariants as text
