@@ -27,7 +27,7 @@ use Rattle.goo_desk_server.specs.Runs as serving
 use Rattle.goo_desk_lines.specs.Fold.{lines}
 use Rattle.goo_cli_ending.specs.Endings.{status_of}
 use Rattle.goo_cli_files.specs.Imports.{DeclaredIn}
-use Rattle.goo_cli_files.specs.Durable.{FindsImported}
+use Rattle.goo_cli_files.specs.Durable.{FindsConnections, FindsImported}
 use Rattle.goo_cli_files.specs.Stopped as stopping
 use Rattle.goo_cli_files.specs.Works.{AreAnswered, AreImported, IsAudited, IsServed, IsStated}
 
@@ -107,8 +107,8 @@ pub audited : {D : Type 0} {g : Ghosts D} (s : State) (read had has : Option (Li
 audited s read had has told rest shown silent kept = record { shown = shown; silent = silent; kept = kept }
 
 pub served : {D : Type 0} {g : Ghosts D} (s : State) (read had has : Option (List ℕ)) (told : Ending) (rest : Left D g) (sends : ℕ → Option (List ℕ)) (was now port count : ℕ) → (status_of told ≡ 0 → Appends had has (listening_text port))
-    → IsCounted told was now count → HoldsSome rest (serving.KeepsPromise sends was now s) → IsServed s read had has told rest sends was now port count
-served s read had has told rest sends was now port count announced counted promised = record { announced = announced; counted = counted; promised = promised }
+    → IsCounted told was now count → HoldsSome rest (serving.KeepsPromise sends was now s) → IfParts rest (FindsConnections sends was now s) → IsServed s read had has told rest sends was now port count
+served s read had has told rest sends was now port count announced counted promised found = record { announced = announced; counted = counted; promised = promised; found = found }
 
 -- a registry that was not opened
 pub undeclared : {D : Type 0} {g : Ghosts D} (rest : Leftover D g) (read : Option (List ℕ)) (had has : Option (List ℕ)) (why : Failure) (begun : State) → IfSome read (λ input. DeclaredIn {g = g} begun input had has (Failed why) (Refused rest))

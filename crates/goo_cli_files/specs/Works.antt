@@ -14,11 +14,11 @@ use Rattle.goo_cli_ending.specs.Endings.{status_of}
 use Rattle.goo_cli_ending.specs.Promised as answered
 use Rattle.goo_cli_registry.specs.declared.closing.Left.{Left}
 use Rattle.goo_cli_registry.specs.Closings.{HoldState, HoldsSome, IfWhole}
-use Rattle.goo_cli_registry.specs.Finds.{HasState}
+use Rattle.goo_cli_registry.specs.Finds.{HasState, IfParts}
 use Rattle.goo_cli_registry.specs.Durable.{FindsAcknowledged}
 use Rattle.goo_cli_registry.specs.Stopped.{HoldsStopped, IfOpened}
 use Rattle.goo_cli_http.specs.Endings.{IsCounted, listening_text}
-use Rattle.goo_cli_files.specs.Durable.{FindsImported}
+use Rattle.goo_cli_files.specs.Durable.{FindsConnections, FindsImported}
 use Rattle.goo_cli_files.specs.Imports.{DeclaredIn}
 use Rattle.goo_cli_files.specs.MemoryWorks.{asked_in_memory}
 use Rattle.goo_cli_files.specs.Stopped as rows
@@ -73,11 +73,13 @@ module _ {D : Type 0} {g : Ghosts D} (s : State) (read had has : Option (List �
     pub silent : status_of told ≡ 1 → Keeps had has
     pub kept : HasState s rest
 
-  -- it was told at which port, as many connections were accepted as asked for, and what is promised holds of the requests that they left applied
+  -- it was told at which port, as many connections were accepted as asked for, and what is promised holds of the requests that they left applied;
+  -- the next opening finds what they leave
   pub record IsServed (sends : ℕ → Option (List ℕ)) (was now port count : ℕ) : Type 0 where
     pub announced : status_of told ≡ 0 → Appends had has (listening_text port)
     pub counted : IsCounted told was now count
     pub promised : HoldsSome rest (served.KeepsPromise sends was now s)
+    pub found : IfParts rest (FindsConnections sends was now s)
 
   -- what this work comes to, from the state that the files held, with the connections that were accepted meanwhile
   abbrev pub IsWorked : (ℕ → Option (List ℕ)) → ℕ → ℕ → Work → Type 0
