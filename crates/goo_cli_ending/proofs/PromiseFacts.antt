@@ -19,7 +19,7 @@ use Rattle.goo_cli_ending.specs.declared.ending.Ending.{Ending}
 use Rattle.goo_cli_ending.specs.declared.ending.Ending.TheVariants as ending
 use Rattle.goo_cli_ending.specs.declared.ending.Failure.{Failure}
 use Rattle.goo_cli_ending.specs.declared.ending.Failure.TheVariants as failure
-use Rattle.goo_cli_ending.specs.Endings.{ending_of, failure_of, status_of}
+use Rattle.goo_cli_ending.specs.Endings.{ending_of, status_of}
 use Rattle.goo_cli_ending.specs.Promised.{KeepsPromise}
 use Rattle.goo_cli_ending.proofs.EndingLemmas.{kept}
 

@@ -1,7 +1,7 @@
 -- What a run of lines leaves that a fault stopped.
 use Rattle.std.proofs.Common.{◌≡◌, ◌∙◌, ◌==◌, ◌++◌, ◌∷◌, append-nil, append_assoc, sym, refl, ℕ, List, [], Bool, true, false, Option, Some, None, IfSome, Result, Ok, Err, IfErr, OnOk}
 use Rattle.std.specs.Prelude.{if◌then◌else◌}
-use Rattle.std.specs.Io.KnownBytes.{Appends, Keeps}
+use Rattle.std.specs.Io.KnownBytes.{Keeps}
 use Rattle.goo_spec.specs.State.{State}
 use Rattle.goo_desk_lines.specs.Fold.{lines}
 use Rattle.goo_desk_lines.specs.Lines.{lines_of}

@@ -1,3 +1,4 @@
 mod Works
 mod Stopping
 mod MemoryLemmas
+mod DurableLemmas

@@ -50,7 +50,7 @@ module _ {D : Type 0} {g : Ghosts D} (rest : Left D g) (input : List ℕ) (old n
   stopped_in (ending.Words error) it = tt
   stopped_in (ending.Misused reason) it = tt
 
-opened : {D : Type 0} {g : Ghosts D} (rest : Left D g) (Holds : Type 0) → Holds → IfOpened rest Holds
+pub opened : {D : Type 0} {g : Ghosts D} (rest : Left D g) (Holds : Type 0) → Holds → IfOpened rest Holds
 opened (Whole files) Holds holds = holds
 opened (Refused rest) Holds holds = tt
 opened (Parts rest) Holds holds = holds
@@ -62,8 +62,3 @@ pub rows_stopped : {D : Type 0} {g : Ghosts D} (rest : Left D g) (read : Option 
 rows_stopped rest None told seen new begun had has same before it held sure kept = tt
 rows_stopped rest (Some input) told seen new begun had has same before it held sure kept =
     opened rest _ (subst (λ (s : State). HoldsStopped rest input s had has told) same (stopped_in rest input seen new had has held sure kept before told it))
-
--- the rows of an input, by both that is said of them
-pub both_said : (read : Option (List ℕ)) (P Q : List ℕ → Type 0) → IfSome read P → IfSome read Q → IfSome read (λ input. P input × Q input)
-both_said None P Q p q = tt
-both_said (Some input) P Q p q = (p, q)

@@ -27,7 +27,9 @@ use Rattle.goo_desk_server.specs.Runs as serving
 use Rattle.goo_desk_lines.specs.Fold.{lines}
 use Rattle.goo_cli_ending.specs.Endings.{status_of}
 use Rattle.goo_cli_files.specs.Imports.{DeclaredIn}
-use Rattle.goo_cli_files.specs.Works.{AreAnswered, IsAudited, IsServed, IsStated}
+use Rattle.goo_cli_files.specs.Durable.{FindsConnections, FindsImported}
+use Rattle.goo_cli_files.specs.Stopped as stopping
+use Rattle.goo_cli_files.specs.Works.{AreAnswered, AreImported, IsAudited, IsServed, IsStated}
 
 pub wrote_begun : (right : State → List ℕ → Type 0) (had has : Option (List ℕ)) (seen begun : State) → seen ≡ begun → Wrote had has (right seen) → Wrote had has (right begun)
 wrote_begun right had has seen begun same told = subst (λ (s : State). Wrote had has (right s)) same told
@@ -89,6 +91,13 @@ answered s None had has told rest all_done not_all_done written kept stopped pro
 answered s (Some input) had has told rest all_done not_all_done written kept stopped promised found =
     record { all_done = all_done; not_all_done = not_all_done; written = written; kept = kept; stopped = stopped; promised = promised; found = found }
 
+-- the rows of an input, by what an import of them says
+pub imported : {D : Type 0} {g : Ghosts D} (s : State) (read had has : Option (List ℕ)) (told : Ending) (rest : Left D g) → IfSome read (λ input. DeclaredIn s input had has told rest)
+    → IfSome read (λ input. IfOpened rest (stopping.HoldsStopped rest input s had has told)) → IfSome read (λ input. IfOpened rest (FindsImported rest input s had has))
+    → IfSome read (AreImported s read had has told rest)
+imported s None had has told rest declared stopped found = tt
+imported s (Some input) had has told rest declared stopped found = record { declared = declared; stopped = stopped; found = found }
+
 pub stated : {D : Type 0} {g : Ghosts D} (s : State) (read had has : Option (List ℕ)) (told : Ending) (rest : Left D g) (account : ℕ) → (status_of told ≡ 0 → Wrote had has (IsStatement s account)) → (status_of told ≡ 1 → get s.accounts account ≡ None)
     → (status_of told ≡ 1 → Keeps had has) → HasState s rest → IsStated s read had has told rest account
 stated s read had has told rest account shown unknown silent kept = record { shown = shown; unknown = unknown; silent = silent; kept = kept }
@@ -98,8 +107,8 @@ pub audited : {D : Type 0} {g : Ghosts D} (s : State) (read had has : Option (Li
 audited s read had has told rest shown silent kept = record { shown = shown; silent = silent; kept = kept }
 
 pub served : {D : Type 0} {g : Ghosts D} (s : State) (read had has : Option (List ℕ)) (told : Ending) (rest : Left D g) (sends : ℕ → Option (List ℕ)) (was now port count : ℕ) → (status_of told ≡ 0 → Appends had has (listening_text port))
-    → IsCounted told was now count → HoldsSome rest (serving.KeepsPromise sends was now s) → IsServed s read had has told rest sends was now port count
-served s read had has told rest sends was now port count announced counted promised = record { announced = announced; counted = counted; promised = promised }
+    → IsCounted told was now count → HoldsSome rest (serving.KeepsPromise sends was now s) → IfParts rest (FindsConnections sends was now s) → IsServed s read had has told rest sends was now port count
+served s read had has told rest sends was now port count announced counted promised found = record { announced = announced; counted = counted; promised = promised; found = found }
 
 -- a registry that was not opened
 pub undeclared : {D : Type 0} {g : Ghosts D} (rest : Leftover D g) (read : Option (List ℕ)) (had has : Option (List ℕ)) (why : Failure) (begun : State) → IfSome read (λ input. DeclaredIn {g = g} begun input had has (Failed why) (Refused rest))

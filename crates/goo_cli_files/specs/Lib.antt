@@ -2,3 +2,4 @@ pub mod Imports
 pub mod Works
 pub mod Stopped
 pub mod MemoryWorks
+pub mod Durable

@@ -14,10 +14,11 @@ use Rattle.goo_cli_ending.specs.Endings.{status_of}
 use Rattle.goo_cli_ending.specs.Promised as answered
 use Rattle.goo_cli_registry.specs.declared.closing.Left.{Left}
 use Rattle.goo_cli_registry.specs.Closings.{HoldState, HoldsSome, IfWhole}
-use Rattle.goo_cli_registry.specs.Finds.{HasState}
+use Rattle.goo_cli_registry.specs.Finds.{HasState, IfParts}
 use Rattle.goo_cli_registry.specs.Durable.{FindsAcknowledged}
 use Rattle.goo_cli_registry.specs.Stopped.{HoldsStopped, IfOpened}
 use Rattle.goo_cli_http.specs.Endings.{IsCounted, listening_text}
+use Rattle.goo_cli_files.specs.Durable.{FindsConnections, FindsImported}
 use Rattle.goo_cli_files.specs.Imports.{DeclaredIn}
 use Rattle.goo_cli_files.specs.MemoryWorks.{asked_in_memory}
 use Rattle.goo_cli_files.specs.Stopped as rows
@@ -52,6 +53,13 @@ module _ {D : Type 0} {g : Ghosts D} (s : State) (read had has : Option (List �
     pub promised : IfOpened rest (answered.KeepsPromise told input s had has (λ t. IfWhole rest (λ files. HoldState g files t)))
     pub found : IfOpened rest (FindsAcknowledged rest input s had has)
 
+  -- the rows of a table were imported, all of them or the first ones after a fault. All that is written is of the report of rows that the next
+  -- opening finds imported.
+  pub record AreImported (input : List ℕ) : Type 0 where
+    pub declared : DeclaredIn s input had has told rest
+    pub stopped : IfOpened rest (rows.HoldsStopped rest input s had has told)
+    pub found : IfOpened rest (FindsImported rest input s had has)
+
   -- the statement of an account is shown, or there is no such account and nothing is written; the registry stays as it was
   pub record IsStated (account : ℕ) : Type 0 where
     pub shown : status_of told ≡ 0 → Wrote had has (IsStatement s account)
@@ -65,16 +73,18 @@ module _ {D : Type 0} {g : Ghosts D} (s : State) (read had has : Option (List �
     pub silent : status_of told ≡ 1 → Keeps had has
     pub kept : HasState s rest
 
-  -- it was told at which port, as many connections were accepted as asked for, and what is promised holds of the requests that they left applied
+  -- it was told at which port, as many connections were accepted as asked for, and what is promised holds of the requests that they left applied;
+  -- the next opening finds what they leave
   pub record IsServed (sends : ℕ → Option (List ℕ)) (was now port count : ℕ) : Type 0 where
     pub announced : status_of told ≡ 0 → Appends had has (listening_text port)
     pub counted : IsCounted told was now count
     pub promised : HoldsSome rest (served.KeepsPromise sends was now s)
+    pub found : IfParts rest (FindsConnections sends was now s)
 
   -- what this work comes to, from the state that the files held, with the connections that were accepted meanwhile
   abbrev pub IsWorked : (ℕ → Option (List ℕ)) → ℕ → ℕ → Work → Type 0
   IsWorked sends was now work.Run = IfSome read AreAnswered
-  IsWorked sends was now work.Declare = IfSome read (λ input. DeclaredIn s input had has told rest × IfOpened rest (rows.HoldsStopped rest input s had has told))
+  IsWorked sends was now work.Declare = IfSome read AreImported
   IsWorked sends was now (work.Statement account) = IsStated account
   IsWorked sends was now work.Audit = IsAudited
   IsWorked sends was now (work.Serve serving) = IsServed sends was now serving.port serving.count

@@ -13,6 +13,7 @@ ghost use Rattle.goo_cli_registry.specs.Closings.{HasSpareLog, HoldsSome, IfRefu
 ghost use Rattle.goo_cli_registry.specs.Finds.{HasState};
 ghost use Rattle.goo_cli_registry.specs.Stopped.{IfOpened};
 ghost use Rattle.goo_cli_texts.specs.Promised.{KeepsPromise};
+ghost use Rattle.goo_cli_files.specs.Durable.{FindsImported};
 ghost use Rattle.goo_cli_files.specs.Imports.{DeclaredIn};
 ghost use Rattle.goo_cli_files.specs.Stopped.{HoldsStopped};
 
@@ -41,6 +42,8 @@ use std::io::{BufWriter, Read, Write};
 /// - `unharmed`: where there is no registry, no harm came to what the files held, after a crash too: but for a registry of version 1, the same
 ///   registry in version 2 may be found then.
 /// - `copied`: a log that is said to be copied into the database file is.
+/// - `found`: whatever the status, the rows whose report is written, whole or in part, are first rows, and the next opening finds them
+///   imported, after a crash too, and at most one row more where the log could not be copied.
 pub fn declare_in_files<D: Disk + Drop, R: Read, W: Write + Drop, T: Write, E: Write>(
     alloc: Global,
     files: Files<D>,
@@ -58,6 +61,10 @@ pub fn declare_in_files<D: Disk + Drop, R: Read, W: Write + Drop, T: Write, E: W
     ensures promised { IsClean result.1 → (db : Trees) → HoldsDatabase (image_of D.Disk files) db → IfSome (R.remaining reader.old) (λ input. HoldsSome result.1 (KeepsPromise result.0 input (state_held db))) }
     ensures unharmed { IsClean result.1 → IfRefused result.1 (LeavesRegistry files) }
     ensures copied { HasSpareLog result.1 }
+    ensures found { IsClean result.1 → (db : Trees) → HoldsDatabase (image_of D.Disk files) db
+        → IfSome (R.remaining reader.old) (λ input. IfOpened result.1
+        (FindsImported result.1 input (state_held db)
+        (writer_contents W.contents writer.old) (writer_contents W.contents writer.new))) }
 {
     match open_registry(alloc, files, seed, line) {
         Ok(shelf) => {

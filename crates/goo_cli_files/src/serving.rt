@@ -14,7 +14,9 @@ ghost use Rattle.goo_desk_server.specs.Runs.{KeepsPromise};
 ghost use Rattle.goo_cli_ending.specs.Endings.{status_of};
 ghost use Rattle.goo_cli_http.specs.Endings.{IsCounted, listening_text};
 ghost use Rattle.goo_cli_registry.specs.Closings.{HasSpareLog, HoldsSome, IfRefused, IsClean, LeavesRegistry};
+ghost use Rattle.goo_cli_registry.specs.Finds.{IfParts};
 ghost use Rattle.goo_cli_registry.specs.Openings.{IsRun};
+ghost use Rattle.goo_cli_files.specs.Durable.{FindsConnections};
 
 use goo_cli::{Opening, Serving};
 use goo_cli_ending::Ending;
@@ -90,6 +92,8 @@ pub fn serve_in_memory<W: Write + Drop>(
 /// - `unharmed`: where there is no registry, no harm came to what the files held, after a crash too: but for a registry of version 1, the same
 ///   registry in version 2 may be found then.
 /// - `copied`: a log that is said to be copied into the database file is.
+/// - `found`: where the log could not be copied, the next opening finds, after a crash too, what the
+///   connections leave; of the last one's requests perhaps those alone that stand after a fault.
 pub fn serve_in_files<D: Disk + Drop, L: Listener, W: Write + Drop, E: Write>(
     alloc: Global,
     files: Files<D>,
@@ -106,6 +110,9 @@ pub fn serve_in_files<D: Disk + Drop, L: Listener, W: Write + Drop, E: Write>(
     ensures promised { IsClean result.1 → (db : Trees) → HoldsDatabase (image_of D.Disk files) db → HoldsSome result.1 (KeepsPromise (L.sends listener.old) (L.accepted listener.old) (L.accepted listener.new) (state_held db)) }
     ensures unharmed { IsClean result.1 → IfRefused result.1 (LeavesRegistry files) }
     ensures copied { HasSpareLog result.1 }
+    ensures found { IsClean result.1 → (db : Trees) → HoldsDatabase (image_of D.Disk files) db
+        → IfParts result.1 (FindsConnections (L.sends listener.old) (L.accepted listener.old)
+        (L.accepted listener.new) (state_held db)) }
 {
     match open_registry(alloc, files, seed, line) {
         Ok(shelf) => {

@@ -1,13 +1,16 @@
 -- A server that ended well.
-use Rattle.std.proofs.Common.{◌≡◌, ℕ, arith, refl, sym, subst, List, Option, Result, Ok, Err, OnOk}
+use Rattle.std.proofs.Common.{◌≡◌, ℕ, zero, suc, arith, refl, sym, subst, List, Option, Result, Ok, Err, OnOk}
 use Rattle.goo_spec.specs.State.{State}
 use Rattle.goo_cli_ending.specs.Endings.{status_of}
 use Rattle.goo_cli_ending.specs.declared.ending.Ending.{Ending}
 use Rattle.goo_cli_ending.specs.declared.ending.Ending.TheVariants.{Failed}
 use Rattle.goo_cli_ending.specs.declared.ending.Failure.{Failure}
-use Rattle.goo_cli_ending.specs.declared.ending.Failure.TheVariants as failure
+use Rattle.goo_registry_desk.specs.Desk.{Seen}
+use Rattle.goo_cli_http.specs.Durable.{FindsServed, FindsTo}
 use Rattle.goo_cli_http.specs.Endings.{ending_of_server, IsCounted}
 use Rattle.goo_desk_server.specs.Runs.{KeepsPromise}
+use Rattle.goo_desk_server.specs.Durable.{FindsAfter}
+use Rattle.goo_desk_counter.specs.Showing.{begun_by, imported_by, shown_by}
 use Rattle.goo_desk_server.specs.Serving as server
 use Rattle.goo_desk_server.specs.declared.server_fault.ServerFault.{ServerFault}
 use Rattle.goo_desk_server.specs.declared.server_fault.ServerFault.TheVariants.{Accept, Memory, Store, Write}
@@ -38,3 +41,17 @@ kept_from sends before was mid now old new same is keeps = subst (λ (f : ℕ �
 pub counted_from : (told : Ending) (served : Result (Unit {0}) ServerFault) (was mid now asked : ℕ) → told ≡ ending_of_server served → mid ≡ was → server.IsCounted served mid now asked → IsCounted told was now asked
 counted_from told served was mid now asked ends is counted =
     subst (λ (e : Ending). IsCounted e was now asked) (sym ends) (counted_by served was now asked (subst (λ n. server.IsCounted served n now asked) is counted))
+
+pub found_from : (sends before : ℕ → Option (List ℕ)) (was mid now : ℕ) (first last : Seen) (leaves : Option State → Type 0) → before ≡ sends → mid ≡ was → FindsServed before mid now first last leaves → FindsServed sends was now first last leaves
+found_from sends before was mid now first last leaves same is found =
+    subst (λ (f : ℕ → Option (List ℕ)). FindsServed f was now first last leaves) same (subst (λ n. FindsServed before n now first last leaves) is found)
+
+-- whatever is found in the end is among what a crash may find
+module _ (sends : ℕ → Option (List ℕ)) (was : ℕ) (leaves less : Option State → Type 0) (among : (o : Option State) → less o → leaves o) where
+  found_among : (count : ℕ) (first last : Seen) → FindsAfter shown_by imported_by begun_by sends was count first last leaves → FindsAfter shown_by imported_by begun_by sends was count first last less
+  found_among zero first last only = λ o may. only o (among o may)
+  found_among (suc count) first last (mid, steps, connects, sure, heard) =
+      (mid, steps, connects, sure, λ fine. let it = heard fine in (it.0, it.1, λ o may. it.2 o (among o may)))
+
+  pub found_to : (now : ℕ) (first last : Seen) → FindsTo sends was now first last leaves → FindsTo sends was now first last less
+  found_to now first last (count, at, after) = (count, at, found_among count first last after)

@@ -5,6 +5,8 @@ ghost use Rattle.std.specs.Io.KnownBytes.{Appends};
 ghost use Rattle.goo_cli_ending.specs.Endings.{status_of};
 ghost use Rattle.goo_spec.specs.Sound.{IsSound};
 ghost use Rattle.goo_desk_server.specs.Runs.{KeepsPromise};
+ghost use Rattle.goo_registry.specs.Desks.{seen_of};
+ghost use Rattle.goo_cli_http.specs.Durable.{FindsServed};
 ghost use Rattle.goo_cli_http.specs.Endings.{ending_of_server, IsCounted, listening_text};
 
 use goo_cli::Serving;
@@ -36,6 +38,8 @@ fn ending_of(served: Result<(), ServerFault>) -> Ending
 /// - `promised`: what a registry promises after any list of requests holds of those that the connections left applied. The bytes of each connection are
 ///   those that its client sent, where the listener tells them.
 /// - `lied`: what keeps the records returned what was written before, where it did so to the end.
+/// - `found`: however it ends, a crash finds what the connections leave; of the last one's requests perhaps
+///   those alone that stand after a fault.
 pub fn serve_registry<S: Shelf, L: Listener, W: Write + Drop>(
     alloc: Global,
     registry: &mut Registry<S>,
@@ -48,6 +52,9 @@ pub fn serve_registry<S: Shelf, L: Listener, W: Write + Drop>(
     ensures counted { IsCounted result (L.accepted listener.old) (L.accepted listener.new) serving.count }
     ensures promised { IsSound (S.seen registry.old.shelf).state → (S.seen registry.new.shelf).lies ≡ 0 → (S.seen registry.new.shelf).doubts ≡ 0 → KeepsPromise (L.sends listener.old) (L.accepted listener.old) (L.accepted listener.new) (S.seen registry.old.shelf).state (S.seen registry.new.shelf).state }
     ensures lied { (S.seen registry.new.shelf).lies ≡ 0 → (S.seen registry.old.shelf).lies ≡ 0 }
+    ensures found { FindsServed (L.sends listener.old) (L.accepted listener.old) (L.accepted listener.new)
+        (seen_of (S.seen registry.old.shelf)) (seen_of (S.seen registry.new.shelf))
+        (S.seen registry.new.shelf).leaves }
 {
     if listener.listen(serving.port).is_err() {
         return Ending::Failed(Failure::Read);

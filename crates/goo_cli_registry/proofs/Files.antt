@@ -1,6 +1,6 @@
 -- What files that were opened and closed tell of the database.
 use Rattle.std.proofs.Common.{◌≡◌, ◌⊎◌, ◌≤◌, ◌∙◌, inl, inr, refl, sym, ap, subst, cond, ℕ, List, Option, Some, None, IfSome, arith, Bool, true, false}
-use Rattle.std.specs.Prelude.{IsTrue}
+use Rattle.std.specs.Prelude.{◌==◌, ◌||◌, IsTrue}
 use Rattle.sqlite_disk.specs.declared.Disk.{Ghosts}
 use Rattle.sqlite_disk.specs.declared.Files.{Files}
 use Rattle.sqlite.specs.declared.file.Leftover.{Leftover}
@@ -49,7 +49,7 @@ use Rattle.goo_cli_ending.specs.Endings.{failure_of_desk, status_of}
 use Rattle.goo_types.specs.declared.fault.Fault.{Fault}
 use Rattle.goo_types.specs.declared.fault.Fault.TheVariants as desk
 use Rattle.goo_desk_lines.specs.Fold.{lines}
-use Rattle.goo_cli_registry.specs.Openings.{ending_of_opening, failure_of_opening, IsBlamed, MayBegin}
+use Rattle.goo_cli_registry.specs.Openings.{ending_of_opening, failure_of_opening, IsBlamed, IsRun, MayBegin}
 use Rattle.goo_cli_registry.specs.Closings.{HoldRegistry, HoldState, IfRefused, IfWhole, IsClean, IsKept, IsThere, LeavesOr, LeavesRegistry, SparesOrMakes, WasRenewed}
 use Rattle.goo_cli.specs.declared.task.Opening.{Opening}
 use Rattle.goo_cli_registry.specs.declared.start.Start.TheVariants.{New, Kept}
@@ -67,6 +67,20 @@ blamed files left e (inl memory) other = absurd (other memory)
 blamed files left e (inr (inl refused)) other = inl refused.1
 blamed files left e (inr (inr (inl fault))) other = inr (inl fault.1)
 blamed files left e (inr (inr (inr full))) other = inr (inr full.1)
+
+-- tables that are none of their version's, and tables of another version
+not_run_either : (b : Bool) (version : ℕ) → IsRun (Failed (cond b failure.Damaged (failure.Version version))) → ⊥
+not_run_either true version told = told
+not_run_either false version told = told
+
+-- no fault of opening is told as an end of lines that were answered
+pub not_run : (fault : OpenFault) → IsRun (Failed (failure_of_opening fault)) → ⊥
+not_run opening.Memory told = told
+not_run opening.AlreadyThere told = told
+not_run opening.NotARegistry told = told
+not_run (opening.Version version) told = not_run_either ((version == 1) || (version == 2)) version told
+not_run opening.Damaged told = told
+not_run opening.Store told = told
 
 -- what told no lie in the end told none before
 pub clean_before : (a b : Bool) → doubt a ≤ doubt b → b ≡ true → doubt a ≡ 0

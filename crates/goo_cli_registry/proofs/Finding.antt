@@ -34,4 +34,4 @@ kept_has (left.Whole files) s kept = kept
 kept_has (left.Refused rest) s kept = tt
 kept_has (left.Parts (rest.Files files)) s kept = kept
 kept_has (left.Parts (rest.Unopened files)) s kept = kept
-kept_has (left.Parts (rest.Store it)) s kept = λ db recovered found opens. let it = kept db recovered in opens_so db found it.0 it.1 opens ∙ ap Some (sym it.2)
+kept_has (left.Parts (rest.Store it)) s kept = λ db recovered found opens. let it = kept db recovered in opens_so db found it.0 it.1.0 it.1.1 opens ∙ ap Some (sym it.1.2)

@@ -1,6 +1,6 @@
 pub mod Files
 mod RunLemmas
-mod DurableLemmas
+pub mod DurableLemmas
 mod SpareLogs
 mod StoppedLemmas
 pub mod Finding

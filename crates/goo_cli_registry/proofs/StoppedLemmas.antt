@@ -8,10 +8,10 @@ use Rattle.goo_cli_ending.specs.declared.ending.Ending.{Ending}
 use Rattle.goo_cli_ending.specs.declared.ending.Ending.TheVariants as ending
 use Rattle.goo_cli_ending.specs.declared.ending.Failure.TheVariants as failure
 use Rattle.goo_cli_ending.specs.Promised.{KeepsPromise}
-use Rattle.goo_cli_ending.specs.Stopped.{FirstAnswered, FirstStand, IsStopped}
+use Rattle.goo_cli_ending.specs.Stopped.{IsStopped}
 use Rattle.goo_cli_ending.proofs.PromiseFacts.{promised_as}
 use Rattle.goo_cli_registry.specs.Closings.{HoldRegistry, HoldState, IfWhole}
-use Rattle.goo_cli_registry.specs.Stopped.{HoldsAnswered, HoldsFirst, HoldsStopped, IfOpened}
+use Rattle.goo_cli_registry.specs.Stopped.{HoldsStopped, IfOpened}
 use Rattle.goo_cli_registry.specs.declared.closing.Left.{Left}
 use Rattle.goo_cli_registry.specs.declared.closing.Left.TheVariants as left
 

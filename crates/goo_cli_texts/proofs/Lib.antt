@@ -2,3 +2,4 @@ mod Texts
 mod Callers
 mod PromiseFacts
 mod Stopping
+mod DurableFacts

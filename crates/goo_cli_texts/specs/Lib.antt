@@ -3,3 +3,4 @@ pub mod Declaring
 pub mod Progress
 pub mod Promised
 pub mod Stopped
+pub mod Durable

@@ -8,6 +8,7 @@ ghost use Rattle.goo_registry.specs.Desks.{seen_of};
 ghost use Rattle.goo_cli_ending.specs.Endings.{status_of};
 ghost use Rattle.goo_cli_texts.specs.Endings.{all_stand, ending_of_import, stands};
 ghost use Rattle.goo_cli_texts.specs.Declaring.{EndsBy, Finishes, IsDeclared};
+ghost use Rattle.goo_cli_texts.specs.Durable.{FindsDeclared};
 ghost use Rattle.goo_cli_texts.specs.Stopped.{IsStopped};
 ghost use Rattle.goo_cli_texts.specs.Promised.{KeepsPromise};
 ghost use Rattle.goo_spec.specs.Sound.{IsSound};
@@ -87,6 +88,8 @@ fn finish<W: Write + Drop>(
 /// - `promised`: what a registry promises after any list of requests holds of the requests of the rows that were applied, after a fault of the
 ///   first ones.
 /// - `lied`: what keeps the records returned what was written before, where it did so to the end.
+/// - `found`: however it ends, the rows whose report is written, whole or in part, are first rows, and a crash finds them imported, and at
+///   most one row more.
 pub fn declare<S: Shelf, R: Read, W: Write + Drop, T: Write>(
     alloc: Global,
     registry: &mut Registry<S>,
@@ -99,6 +102,12 @@ pub fn declare<S: Shelf, R: Read, W: Write + Drop, T: Write>(
     ensures promised { IsSound (S.seen registry.old.shelf).state → (S.seen registry.new.shelf).lies ≡ 0 → (S.seen registry.new.shelf).doubts ≡ 0 → IfSome (R.remaining reader.old) (λ input. KeepsPromise result input (S.seen registry.old.shelf).state (S.seen registry.new.shelf).state) }
     ensures lied { (S.seen registry.new.shelf).lies ≡ 0 → (S.seen registry.old.shelf).lies ≡ 0 }
     ensures flushed { status_of result ≡ 0 → writer_buffer writer.new ≡ [] }
+    ensures found { (S.seen registry.new.shelf).lies ≡ 0 → (S.seen registry.old.shelf).doubts ≡ 0
+        → IfSome (R.remaining reader.old) (λ input.
+        FindsDeclared input (S.seen registry.old.shelf).state
+        (seen_of (S.seen registry.new.shelf))
+        (writer_contents W.contents writer.old) (writer_contents W.contents writer.new)
+        (S.seen registry.new.shelf).leaves) }
 {
     let imported = import_declarations_watched(alloc, registry, &issuer(), reader, line);
     line.end();

@@ -7,6 +7,8 @@ use Rattle.goo_store.specs.Versions.{state_held}
 use Rattle.goo_store_lookups.specs.Moments.{moment}
 use Rattle.goo_registry.specs.Desks.{seen_of}
 use Rattle.goo_cli_registry.specs.Closings.{HoldState, IfWhole, IsKept}
+use Rattle.goo_cli_registry.specs.Finds.{FindsRight, IfParts}
+use Rattle.goo_cli_files.proofs.DurableLemmas.{rows_found}
 use Rattle.goo_cli_files.proofs.Stopping.{rows_stopped}
 use Rattle.goo_cli_files.proofs.Works.{declared_begun, not_refused, rows_promised, undeclared, unopened}
 use Rattle.goo_cli_files.proofs.in_files.declare_in_files.Goals as goal
@@ -59,3 +61,19 @@ returns-in-Err-clause-promised g c = λ clean db holds. unopened (g.R.Read.remai
 
 pub returns-in-Ok-clause-unharmed : goal.returns-in-Ok-clause-unharmed
 returns-in-Ok-clause-unharmed g c clean = not_refused c.close_registry.result _ c.close_registry.ensures.opened
+
+pub returns-in-Ok-clause-found : goal.returns-in-Ok-clause-found
+returns-in-Ok-clause-found g c = λ clean db holds.
+    let low = subst (λ shelf. doubt (file_state shelf.conn).is_clean ≡ 0) c.into_shelf.ensures (c.close_registry.ensures.clean clean) in
+    let before = subst (λ shelf. doubt (file_state shelf.conn).is_clean ≡ 0) c.new-registry.ensures (c.declare-ending.ensures.lied low) in
+    let none = c.in-Ok.ensures.ready.works before in
+    rows_found c.close_registry.result (moment (file_state c.declare-ending.new.registry.shelf.conn) c.declare-ending.new.registry.shelf.refused)
+    (subst (λ shelf. IfWhole c.close_registry.result (λ files. HoldState g.D.Disk files (moment (file_state shelf.conn) shelf.refused).state)) c.into_shelf.ensures c.close_registry.ensures.whole)
+    (subst (λ shelf. IfWhole c.close_registry.result (λ files. AreClean g.D.Disk files.log files.db → (moment (file_state shelf.conn) shelf.refused).doubts ≡ 0)) c.into_shelf.ensures c.close_registry.ensures.sure)
+    (subst (λ shelf. IfParts c.close_registry.result (FindsRight (moment (file_state shelf.conn) shelf.refused).leaves)) c.into_shelf.ensures c.close_registry.ensures.found)
+    (g.R.Read.remaining c.args.reader.now) _ _ _ _
+    (subst (λ shelf. (moment (file_state shelf.conn) shelf.refused).state ≡ state_held db) (sym c.new-registry.ensures) (c.in-Ok.ensures.state db holds none))
+    (c.declare-ending.ensures.found low (subst (λ shelf. (moment (file_state shelf.conn) shelf.refused).doubts ≡ 0) (sym c.new-registry.ensures) none))
+
+pub returns-in-Err-clause-found : goal.returns-in-Err-clause-found
+returns-in-Err-clause-found g c = λ clean db holds. unopened (g.R.Read.remaining c.args.reader.now)

@@ -6,7 +6,10 @@ use Rattle.goo_spec.specs.Sound.{IsSound}
 use Rattle.goo_store.specs.Versions.{state_held}
 use Rattle.goo_store_lookups.specs.Moments.{moment}
 use Rattle.goo_cli_http.proofs.Served.{none_counted}
+use Rattle.goo_registry.specs.Desks.{seen_of}
 use Rattle.goo_cli_registry.specs.Closings.{HoldState, IfWhole}
+use Rattle.goo_cli_registry.specs.Finds.{FindsRight, IfParts}
+use Rattle.goo_cli_files.proofs.DurableLemmas.{connections_found}
 use Rattle.goo_cli_files.proofs.Works.{not_refused, served_promised}
 use Rattle.goo_cli_files.proofs.serving.serve_in_files.Goals as goal
 
@@ -26,3 +29,15 @@ returns-in-Ok-clause-unharmed g c clean = not_refused c.close_registry.result _ 
 -- nothing is accepted where there is no registry
 pub returns-in-Err-clause-counted : goal.returns-in-Err-clause-counted
 returns-in-Err-clause-counted g c = none_counted _ (g.L.Listener.accepted c.args.listener.now) (g.L.Listener.accepted c.args.listener.now) c.args.serving.count refl
+
+pub returns-in-Ok-clause-found : goal.returns-in-Ok-clause-found
+returns-in-Ok-clause-found g c = λ clean db holds.
+    let low = subst (λ shelf. doubt (file_state shelf.conn).is_clean ≡ 0) c.into_shelf.ensures (c.close_registry.ensures.clean clean) in
+    let before = subst (λ shelf. doubt (file_state shelf.conn).is_clean ≡ 0) c.new-registry.ensures (c.serve_registry-ending.ensures.lied low) in
+    let none = c.in-Ok.ensures.ready.works before in
+    connections_found c.close_registry.result _ _ _ (seen_of (moment (file_state c.new-registry.result.shelf.conn) c.new-registry.result.shelf.refused))
+    (moment (file_state c.serve_registry-ending.new.registry.shelf.conn) c.serve_registry-ending.new.registry.shelf.refused) (state_held db)
+    (subst (λ shelf. (moment (file_state shelf.conn) shelf.refused).state ≡ state_held db) (sym c.new-registry.ensures) (c.in-Ok.ensures.state db holds none))
+    (subst (λ shelf. (moment (file_state shelf.conn) shelf.refused).doubts ≡ 0) (sym c.new-registry.ensures) none)
+    low c.serve_registry-ending.ensures.found
+    (subst (λ shelf. IfParts c.close_registry.result (FindsRight (moment (file_state shelf.conn) shelf.refused).leaves)) c.into_shelf.ensures c.close_registry.ensures.found)

@@ -1,7 +1,6 @@
-use Rattle.std.proofs.Common.{◌≡◌, rules}
+use Rattle.std.proofs.Common.{rules}
 use Rattle.goo_store.specs.Versions.{state_held}
-use Rattle.goo_cli_files.proofs.Stopping.{both_said}
-use Rattle.goo_cli_files.proofs.Works.{answered, audited, served, stated}
+use Rattle.goo_cli_files.proofs.Works.{answered, audited, imported, served, stated}
 use Rattle.goo_cli_files.proofs.work.work_in_files.Goals as goal
 
 pub returns-in-Run-clause-worked : goal.returns-in-Run-clause-worked
@@ -13,7 +12,9 @@ returns-in-Run-clause-worked g c = λ clean db holds.
 
 pub returns-in-Declare-clause-worked : goal.returns-in-Declare-clause-worked
 returns-in-Declare-clause-worked g c = λ clean db holds.
-    rw c.in-Declare.is (both_said (g.R.Read.remaining c.args.reader.now) _ _ (c.declare_in_files.ensures.done clean db holds) (c.declare_in_files.ensures.stopped clean db holds))
+    let it = c.declare_in_files.ensures in
+    rw c.in-Declare.is (imported (state_held db) (g.R.Read.remaining c.args.reader.now) _ _ c.declare_in_files.result.0 c.declare_in_files.result.1
+    (it.done clean db holds) (it.stopped clean db holds) (it.found clean db holds))
 
 -- by search, so that a statement that is the audit is refused by this goal
 pub returns-in-Statement-clause-worked : goal.returns-in-Statement-clause-worked
@@ -27,4 +28,4 @@ returns-in-Audit-clause-worked g c = λ clean db holds.
 pub returns-in-Serve-clause-worked : goal.returns-in-Serve-clause-worked
 returns-in-Serve-clause-worked g c = λ clean db holds.
     let it = c.serve_in_files.ensures in
-    rw c.in-Serve.is (served (state_held db) (g.R.Read.remaining c.args.reader.now) _ _ c.serve_in_files.result.0 c.serve_in_files.result.1 _ _ _ _ _ it.announced it.counted (it.promised clean db holds))
+    rw c.in-Serve.is (served (state_held db) (g.R.Read.remaining c.args.reader.now) _ _ c.serve_in_files.result.0 c.serve_in_files.result.1 _ _ _ _ _ it.announced it.counted (it.promised clean db holds) (it.found clean db holds))

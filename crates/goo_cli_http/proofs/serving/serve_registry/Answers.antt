@@ -3,7 +3,8 @@ use Rattle.goo_desk_counter.specs.Showing.{begun_by, imported_by, shown_by}
 use Rattle.goo_desk_counter.proofs.TableFacts.{imports_are_runs}
 use Rattle.goo_desk_server.proofs.Connecting.{no_steps}
 use Rattle.goo_desk_server.proofs.Running.{steps_promised}
-use Rattle.goo_cli_http.proofs.Served.{counted_from, kept_from, none_counted}
+use Rattle.goo_desk_server.proofs.Finding.{none_served}
+use Rattle.goo_cli_http.proofs.Served.{counted_from, found_from, kept_from, none_counted}
 use Rattle.goo_cli_http.proofs.serving.serve_registry.Goals as goal
 
 pub returns-clause-promised : goal.returns-clause-promised
@@ -27,3 +28,15 @@ returns-then-is_err-clause-promised g c sound honest sure =
 
 pub returns-then-is_err-clause-counted : goal.returns-then-is_err-clause-counted
 returns-then-is_err-clause-counted g c = none_counted _ (g.L.Listener.accepted c.args.listener.now) (g.L.Listener.accepted c.listen.new.self) c.args.serving.count c.listen.ensures.counted
+
+pub returns-clause-found : goal.returns-clause-found
+returns-clause-found g c =
+    found_from (g.L.Listener.sends c.args.listener.now) (g.L.Listener.sends c.listen.new.self) (g.L.Listener.accepted c.args.listener.now) (g.L.Listener.accepted c.listen.new.self) (g.L.Listener.accepted c.serve-served.new.listener)
+    (seen_of (g.S.Shelf.seen c.args.registry.now.shelf)) (seen_of (g.S.Shelf.seen c.serve-served.new.desk.shelf)) (g.S.Shelf.seen c.serve-served.new.desk.shelf).leaves
+    c.listen.ensures.same c.listen.ensures.counted (c.serve-served.ensures.found imports_are_runs)
+
+pub returns-then-is_err-clause-found : goal.returns-then-is_err-clause-found
+returns-then-is_err-clause-found g c honest sure =
+    let shelf = c.args.registry.now.shelf in
+    none_served shown_by imported_by begun_by (g.L.Listener.sends c.args.listener.now) (g.L.Listener.accepted c.args.listener.now) (g.L.Listener.accepted c.listen.new.self) (seen_of (g.S.Shelf.seen shelf)) (g.S.Shelf.seen shelf).leaves
+    c.listen.ensures.counted (g.met.S.Shelf.settled shelf sure)

@@ -24,5 +24,5 @@ pub returns-in-Kept-clause-crash : goal.returns-in-Kept-clause-crash
 returns-in-Kept-clause-crash g c =
     rw c.in-Kept.is (IfErr-weaker c.open.result _ _ (λ e left. kept_or_renewed (view g.S.Store c.args.conn) (view g.S.Store e.0) left) c.open.ensures.left)
 
-pub open-requires-in-Kept-clause-ordered : goal.open-requires-in-Kept-clause-ordered
-open-requires-in-Kept-clause-ordered g c = λ none. c.requires.ordered (sure (view g.S.Store c.args.conn) none).0
+pub open-requires-clause-ordered : goal.open-requires-clause-ordered
+open-requires-clause-ordered g c = λ none. c.requires.ordered (sure (view g.S.Store c.args.conn) none).0

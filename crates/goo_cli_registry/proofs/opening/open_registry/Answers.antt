@@ -8,8 +8,8 @@ use Rattle.sqlite.specs.Tree.{Trees}
 use Rattle.goo_cli_registry.proofs.Files.{clean_before, leaves_registry, leaves_same, outside_failure, fault_failure}
 use Rattle.goo_cli_registry.proofs.opening.open_registry.Goals as goal
 
-pub open_telling-requires-in-Ok-clause-ordered : goal.open_telling-requires-in-Ok-clause-ordered
-open_telling-requires-in-Ok-clause-ordered g c = λ none. c.in-Ok.ensures.ordered (sure (file_state c.in-Ok.conn) none).0
+pub open_telling-requires-clause-ordered : goal.open_telling-requires-clause-ordered
+open_telling-requires-clause-ordered g c = λ none. c.in-Ok.ensures.ordered (sure (file_state c.in-Ok.conn) none).0
 
 pub returns-in-Ok-open_telling-clause-state : goal.returns-in-Ok-open_telling-clause-state
 returns-in-Ok-open_telling-clause-state g c = λ db holds none.
