@@ -6,10 +6,10 @@ pub returns-in-Run : goal.returns-in-Run
 returns-in-Run g c =
     let it = c.run_in_memory.ensures in
     let new = created c.args.opening.code c.args.opening.today c.args.opening.next_serial in
-    rw c.in-Run.is (answered_in_memory new (g.R.Read.remaining c.args.reader.now) _ _ c.run_in_memory.result it.all_done it.not_all_done it.written it.promised)
+    record { worked = rw c.in-Run.is (answered_in_memory new (g.R.Read.remaining c.args.reader.now) _ _ c.run_in_memory.result it.all_done it.not_all_done it.written it.promised) }
 
 pub returns-in-Serve : goal.returns-in-Serve
 returns-in-Serve g c =
     let it = c.serve_in_memory.ensures in
     let new = created c.args.opening.code c.args.opening.today c.args.opening.next_serial in
-    rw c.in-Serve.is (served_in_memory new (g.R.Read.remaining c.args.reader.now) _ _ c.serve_in_memory.result _ _ _ _ it.announced it.counted)
+    record { worked = rw c.in-Serve.is (served_in_memory new (g.R.Read.remaining c.args.reader.now) _ _ c.serve_in_memory.result _ _ _ _ it.announced it.counted) }
