@@ -29,7 +29,7 @@ returns-in-Ok-clause-promised g c run =
     (λ low none.
     let before = subst (λ shelf. doubt (view g.S.Store shelf.conn).is_clean ≡ 0) c.new-registry.ensures (c.serve_registry-ending.ensures.lied low) in
     let ready = c.in-Ok.ensures.ready.works before in
-    subst (λ (s : State). KeepsPromise sends was now s _) (subst (λ shelf. (moment (view g.S.Store shelf.conn) shelf.refused).state ≡ new) (sym c.new-registry.ensures) (c.in-Ok.ensures.state ready))
+    subst (λ (s : State). KeepsPromise sends was now s (moment (view g.S.Store c.serve_registry-ending.new.registry.shelf.conn) false).state) (subst (λ shelf. (moment (view g.S.Store shelf.conn) shelf.refused).state ≡ new) (sym c.new-registry.ensures) (c.in-Ok.ensures.state ready))
     (c.serve_registry-ending.ensures.promised (subst (λ shelf. IsSound (moment (view g.S.Store shelf.conn) shelf.refused).state) (sym c.new-registry.ensures) (c.in-Ok.ensures.sound ready)) low none)))
 
 -- a fault of opening is told of no connection

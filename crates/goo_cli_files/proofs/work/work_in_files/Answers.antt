@@ -1,4 +1,3 @@
-use Rattle.std.proofs.Common.{rules}
 use Rattle.goo_store.specs.Versions.{state_held}
 use Rattle.goo_cli_files.proofs.Works.{answered, audited, imported, served, stated}
 use Rattle.goo_cli_files.proofs.work.work_in_files.Goals as goal
@@ -16,14 +15,17 @@ returns-in-Declare-clause-worked g c = λ clean db holds.
     rw c.in-Declare.is (imported (state_held db) (g.R.Read.remaining c.args.reader.now) _ _ c.declare_in_files.result.0 c.declare_in_files.result.1
     (it.done clean db holds) (it.stopped clean db holds) (it.found clean db holds))
 
--- by search, so that a statement that is the audit is refused by this goal
 pub returns-in-Statement-clause-worked : goal.returns-in-Statement-clause-worked
 returns-in-Statement-clause-worked g c = λ clean db holds.
-    rw c.in-Statement.is (stated (state_held db) (g.R.Read.remaining c.args.reader.now) _ _ _ _ _ (search (rules, clean, holds)) (search (rules, clean, holds)) (search (rules, clean)) (search (rules, clean, holds)))
+    let it = c.statement_in_files.ensures in
+    rw c.in-Statement.is (stated (state_held db) (g.R.Read.remaining c.args.reader.now) _ _ c.statement_in_files.result.0 c.statement_in_files.result.1 _
+    (it.shown clean db holds) (it.unknown clean db holds) (it.silent clean) (it.kept clean db holds))
 
 pub returns-in-Audit-clause-worked : goal.returns-in-Audit-clause-worked
 returns-in-Audit-clause-worked g c = λ clean db holds.
-    rw c.in-Audit.is (audited (state_held db) (g.R.Read.remaining c.args.reader.now) _ _ _ _ (search (rules, clean, holds)) (search (rules, clean)) (search (rules, clean, holds)))
+    let it = c.audit_in_files.ensures in
+    rw c.in-Audit.is (audited (state_held db) (g.R.Read.remaining c.args.reader.now) _ _ c.audit_in_files.result.0 c.audit_in_files.result.1
+    (it.shown clean db holds) (it.silent clean) (it.kept clean db holds))
 
 pub returns-in-Serve-clause-worked : goal.returns-in-Serve-clause-worked
 returns-in-Serve-clause-worked g c = λ clean db holds.
