@@ -26,8 +26,7 @@ module _ (shows : Showing) (imports : Importing) (begins : Beginning) where
       → StepsTo shows imports begins sends was half first mid → Connects shows imports begins known mid last → (last.lies ≡ 0 → mid.doubts ≡ 0 → FindsHeard known leaves mid.state)
       → FindsServed shows imports begins sends was now first last leaves
   one_served sends known was half now first mid last leaves heard is (count, at, steps) connects found honest sure =
-      let same : known ≡ sends (was + count) = heard ∙ ap sends at in
-      (
+      let same : known ≡ sends (was + count) = heard ∙ ap sends at in (
         suc count,
         let e : now ≡ was + suc count = omega (arith, is, at) in e,
         (
