@@ -1,6 +1,8 @@
-//! Where the files of a registry lie: the database file at its path, and its log beside it while it is open.
+//! Where the files of a registry lie: the database file at its path, and its log beside it while it
+//! is open.
 //!
-//! No contract can say what a file system holds, so this is short, and only tried (`tools/on-a-file`). `S` stands for what the files held.
+//! No contract can say what a file system holds, so this is short, and only tried
+//! (`tools/on-a-file`). `S` stands for what the files held.
 ghost use Rattle.std.specs.Prelude.{IfOk, IsTrue};
 ghost use Rattle.goo_cli_registry.specs.Closings.{HasSpareLog};
 ghost use Rattle.sqlite_std_file.specs.File.{file_is_usable};
@@ -32,8 +34,9 @@ pub struct Opened<S: Start> {
 ///
 /// # Errors
 ///
-/// `NotARegistry` where there is no file, or one that holds no database; nothing is made then. `Store` where it can't be opened, as
-/// where another program has it open; `Memory` where memory was refused.
+/// `NotARegistry` where there is no file, or one that holds no database; nothing is made then.
+/// `Store` where it can't be opened, as where another program has it open; `Memory` where memory
+/// was refused.
 pub fn open_kept<S: Start>(
     rt: &HostRuntime,
     path: &str,
@@ -82,13 +85,14 @@ pub fn open_new<S: Start>(
     }
 }
 
-/// Makes a database of small pages at a path where nothing is: it is written whole under another name, and then gets its own, so that
-/// no crash leaves half of it.
+/// Makes a database of small pages at a path where nothing is: it is written whole under another
+/// name, and then gets its own, so that no crash leaves half of it.
 ///
 /// # Errors
 ///
-/// `AlreadyExists` where somebody else has put a file there meanwhile, which stays as it is. After any other error, as on a disk that
-/// knows no second name of a file, nothing is there, and the database is made where it is opened, with pages of the usual size.
+/// `AlreadyExists` where somebody else has put a file there meanwhile, which stays as it is. After
+/// any other error, as on a disk that knows no second name of a file, nothing is there, and the
+/// database is made where it is opened, with pages of the usual size.
 fn begin_database(rt: &HostRuntime, path: &str) -> io::Result<()> {
     let seed = RandomState::new(rt)?.hash_one(&1u8);
     let draft = format!(in rt.alloc(); "{path}-begun-{seed}")?;
@@ -129,8 +133,8 @@ fn refusal_at(rt: &HostRuntime, path: &str, error: OpenError) -> OpeningFailure 
     }
 }
 
-/// Lets the files go, and tells what the system named where one of them failed. A log that may go is removed before anyone else can
-/// open the files. Where that fails, what is left does no harm.
+/// Lets the files go, and tells what the system named where one of them failed. A log that may go
+/// is removed before anyone else can open the files. Where that fails, what is left does no harm.
 pub fn let_go<S: Start>(rt: &HostRuntime, log: &str, left: Left<FileFrom<S>>) -> Option<Reason>
     requires copied { HasSpareLog left }
 {

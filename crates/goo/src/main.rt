@@ -1,5 +1,6 @@
-//! The registry's program. Its exit status is 0 where all was done, 1 where something was refused or unreadable, 2 where
-//! the command line asks for nothing that it does, and 3 after a fault. What it says of these goes to standard error.
+//! The registry's program. Its exit status is 0 where all was done, 1 where something was refused
+//! or unreadable, 2 where the command line asks for nothing that it does, and 3 after a fault. What
+//! it says of these goes to standard error.
 #![tactic(auto)]
 
 mod files;
@@ -25,7 +26,8 @@ fn main(rt: HostRuntime) -> ExitCode {
     ExitCode::from(perform(&rt))
 }
 
-/// Does what the command line asks for, says on standard error what isn't all right, and tells the exit status.
+/// Does what the command line asks for, says on standard error what isn't all right, and tells the
+/// exit status.
 fn perform(rt: &HostRuntime) -> u8 {
     match env::args(rt) {
         Ok(words) => match words.collect::<Vec<String>>(rt.alloc()) {
@@ -65,7 +67,8 @@ fn perform_words(rt: &HostRuntime, words: &[String]) -> u8 {
     }
 }
 
-/// Names what the line before speaks of: the file of a store fault always, and all else where a person reads it.
+/// Names what the line before speaks of: the file of a store fault always, and all else where a
+/// person reads it.
 fn tell_object(rt: &HostRuntime, job: &Job<'_>, ending: &Ending, reason: Option<Reason>) {
     let is_always_named = matches!(ending, Ending::Failed(Failure::Store));
     if is_always_named || rt.stderr().is_terminal() {
@@ -76,7 +79,8 @@ fn tell_object(rt: &HostRuntime, job: &Job<'_>, ending: &Ending, reason: Option<
     }
 }
 
-/// Does a job, and tells what the system named where its files failed. What it shows goes to the writer.
+/// Does a job, and tells what the system named where its files failed. What it shows goes to the
+/// writer.
 fn perform_job<W: Write + Drop>(
     rt: &HostRuntime,
     job: &Job<'_>,

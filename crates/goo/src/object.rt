@@ -42,7 +42,8 @@ impl<'a> fmt::Display for Object<'a> {
 }
 
 impl<'a> Object<'a> {
-    /// What the ending of a job speaks of. `None` where all was done, or where the line says it all.
+    /// What the ending of a job speaks of. `None` where all was done, or where the line says it
+    /// all.
     pub fn of(job: &Job<'a>, ending: &Ending, reason: Option<Reason>) -> Option<Object<'a>> {
         match ending {
             Ending::Failed(Failure::Read) => Some(Object::read_by(job)),

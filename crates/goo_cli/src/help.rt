@@ -11,8 +11,9 @@ Example:
 Exit status: 0 all was done; 1 something was refused or unreadable, an account is unknown, or a registry is there
 already; 2 the command line asks for nothing that can be done; 3 a fault, told on standard error.";
 
-/// What `--version` prints after the name: the version of the program, and the line of the toolchain that it is proved with. Which commit
-/// it was built from, no proved source can say: the note that lies beside a package does.
+/// What `--version` prints after the name: the version of the program, and the line of the
+/// toolchain that it is proved with. Which commit it was built from, no proved source can say: the
+/// note that lies beside a package does.
 pub const VERSION: &str = "0.37.0, proved with rattle-kit-13f";
 
 pub const INIT: &str = "Makes a new registry in a file";

@@ -1,7 +1,7 @@
 //! The command line of the program: from its words to the task that they ask for.
 //!
-//! `clap` cuts the words into a command and its options; which of them stand together, and what a value may be, is
-//! decided here.
+//! `clap` cuts the words into a command and its options; which of them stand together, and what a
+//! value may be, is decided here.
 #![tactic(auto)]
 
 mod given;

@@ -2,7 +2,11 @@
 ghost use Rattle.std.specs.Prelude.{◌≡◌};
 ghost use Rattle.goo_cli.specs.Options.{values_of};
 ghost use Rattle.goo_cli.specs.Asked.{asked, asked_place};
-ghost use Rattle.goo_cli.specs.Readings.{code_reading, today_reading, serial_reading, opening_given, names_opening, place_given, account_reading, port_reading, count_reading, serving_given, init_given, statement_given, serve_given, run_given, declare_given, audit_given, task_by};
+ghost use Rattle.goo_cli.specs.Readings.{code_reading, today_reading, serial_reading};
+ghost use Rattle.goo_cli.specs.Readings.{opening_given, names_opening, place_given};
+ghost use Rattle.goo_cli.specs.Readings.{account_reading, port_reading, count_reading};
+ghost use Rattle.goo_cli.specs.Readings.{serving_given, init_given, statement_given, serve_given};
+ghost use Rattle.goo_cli.specs.Readings.{run_given, declare_given, audit_given, task_by};
 
 use crate::given::Given;
 use crate::line_fault::LineFault;

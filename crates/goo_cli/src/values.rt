@@ -2,7 +2,8 @@
 ghost use Rattle.std.specs.Prelude.{◌≡◌, ◌≤◌, ◌<◌, ◌^◌, IfSome};
 ghost use Rattle.std.specs.Result.{result_ok};
 ghost use Rattle.goo_types.specs.Day.{day_reading};
-ghost use Rattle.goo_cli.specs.Values.{is_number, number_in, code_in, serial_in, account_in, port_in, count_in};
+ghost use Rattle.goo_cli.specs.Values.{is_number, number_in, code_in, serial_in, account_in};
+ghost use Rattle.goo_cli.specs.Values.{port_in, count_in};
 
 use goo_types::account_no::AccountNo;
 use goo_types::day::Day;

@@ -1,12 +1,16 @@
 //! The words, by `clap`.
 //!
-//! `clap` gets plain commands without a rule of one option on another, so that its matches are a function of the words. This
-//! crate reads the options.
+//! `clap` gets plain commands without a rule of one option on another, so that its matches are a
+//! function of the words. This crate reads the options.
 ghost use Rattle.std.specs.Prelude.{◌≡◌, Some, None, false, codes, map, IfOk, IfErr};
 ghost use Rattle.clap.specs.Words.{app_of, subcommand_rows_of, with_rule, with_subcommand};
 ghost use Rattle.clap.specs.declared.builder.command.Command.TheViews.{out-Command as fields_of};
 ghost use Rattle.goo_cli.specs.Asked.{asked, asked_by};
-ghost use Rattle.goo_cli.specs.Line.{option_rule, flag_rule, word_rule, with_version, with_opening, with_place, with_init, with_run, with_declare, with_statement, with_audit, with_serve, init_app, run_app, declare_app, statement_app, audit_app, serve_app, goo_app, task_named, task_in, NoTask, FaultIn};
+ghost use Rattle.goo_cli.specs.Line.{option_rule, flag_rule, word_rule, with_version, with_opening};
+ghost use Rattle.goo_cli.specs.Line.{with_place, with_init, with_run, with_declare, with_statement};
+ghost use Rattle.goo_cli.specs.Line.{with_audit, with_serve, init_app, run_app, declare_app};
+ghost use Rattle.goo_cli.specs.Line.{statement_app, audit_app, serve_app, goo_app, task_named};
+ghost use Rattle.goo_cli.specs.Line.{task_in, NoTask, FaultIn};
 
 use crate::given::read_options;
 use crate::help;
@@ -41,8 +45,10 @@ fn with_option<'a>(
     name: &'a str,
     about: &'a str,
 ) -> Result<Command<'a>, AllocError>
-    ensures app { IfOk result (λ r. app_of r ≡ with_rule (app_of command.entry) (option_rule name.now)) }
-    ensures local { IfOk result (λ r. (fields_of r).has_globals ≡ (fields_of command.entry).has_globals) }
+    ensures app { IfOk result
+        (λ r. app_of r ≡ with_rule (app_of command.entry) (option_rule name.now)) }
+    ensures local { IfOk result
+        (λ r. (fields_of r).has_globals ≡ (fields_of command.entry).has_globals) }
 {
     let option = Arg::new(alloc, name).long(name).action(ArgAction::Set);
     command.arg(option.help(about))
@@ -55,8 +61,10 @@ fn with_flag<'a>(
     name: &'a str,
     about: &'a str,
 ) -> Result<Command<'a>, AllocError>
-    ensures app { IfOk result (λ r. app_of r ≡ with_rule (app_of command.entry) (flag_rule name.now)) }
-    ensures local { IfOk result (λ r. (fields_of r).has_globals ≡ (fields_of command.entry).has_globals) }
+    ensures app { IfOk result
+        (λ r. app_of r ≡ with_rule (app_of command.entry) (flag_rule name.now)) }
+    ensures local { IfOk result
+        (λ r. (fields_of r).has_globals ≡ (fields_of command.entry).has_globals) }
 {
     let flag = Arg::new(alloc, name).long(name).action(ArgAction::SetTrue);
     command.arg(flag.help(about))
@@ -69,8 +77,10 @@ fn with_word<'a>(
     name: &'a str,
     about: &'a str,
 ) -> Result<Command<'a>, AllocError>
-    ensures app { IfOk result (λ r. app_of r ≡ with_rule (app_of command.entry) (word_rule name.now)) }
-    ensures local { IfOk result (λ r. (fields_of r).has_globals ≡ (fields_of command.entry).has_globals) }
+    ensures app { IfOk result
+        (λ r. app_of r ≡ with_rule (app_of command.entry) (word_rule name.now)) }
+    ensures local { IfOk result
+        (λ r. (fields_of r).has_globals ≡ (fields_of command.entry).has_globals) }
 {
     let word = Arg::new(alloc, name).action(ArgAction::Set);
     command.arg(word.help(about))
@@ -78,8 +88,10 @@ fn with_word<'a>(
 
 /// The command with the option that names the file.
 fn with_file<'a>(alloc: Global, command: Command<'a>) -> Result<Command<'a>, AllocError>
-    ensures app { IfOk result (λ r. app_of r ≡ with_rule (app_of command.entry) (option_rule (codes "db"))) }
-    ensures local { IfOk result (λ r. (fields_of r).has_globals ≡ (fields_of command.entry).has_globals) }
+    ensures app { IfOk result
+        (λ r. app_of r ≡ with_rule (app_of command.entry) (option_rule (codes "db"))) }
+    ensures local { IfOk result
+        (λ r. (fields_of r).has_globals ≡ (fields_of command.entry).has_globals) }
 {
     with_option(alloc, command, "db", help::FILE)
 }
@@ -87,7 +99,8 @@ fn with_file<'a>(alloc: Global, command: Command<'a>) -> Result<Command<'a>, All
 /// The command with the options that a new registry begins with.
 fn with_opening<'a>(alloc: Global, command: Command<'a>) -> Result<Command<'a>, AllocError>
     ensures app { IfOk result (λ r. app_of r ≡ with_opening (app_of command.entry)) }
-    ensures local { IfOk result (λ r. (fields_of r).has_globals ≡ (fields_of command.entry).has_globals) }
+    ensures local { IfOk result
+        (λ r. (fields_of r).has_globals ≡ (fields_of command.entry).has_globals) }
 {
     let command = with_option(alloc, command, "code", help::CODE)?;
     let command = with_option(alloc, command, "today", help::TODAY)?;
@@ -97,7 +110,8 @@ fn with_opening<'a>(alloc: Global, command: Command<'a>) -> Result<Command<'a>, 
 /// The command with the options that say where the records are.
 fn with_place<'a>(alloc: Global, command: Command<'a>) -> Result<Command<'a>, AllocError>
     ensures app { IfOk result (λ r. app_of r ≡ with_place (app_of command.entry)) }
-    ensures local { IfOk result (λ r. (fields_of r).has_globals ≡ (fields_of command.entry).has_globals) }
+    ensures local { IfOk result
+        (λ r. (fields_of r).has_globals ≡ (fields_of command.entry).has_globals) }
 {
     let command = with_file(alloc, command)?;
     let command = with_flag(alloc, command, "memory", help::MEMORY)?;
@@ -180,7 +194,8 @@ fn serve_command<'a>(alloc: Global) -> Result<Command<'a>, AllocError>
 
 /// The program with the commands that make and fill a registry.
 fn with_makers<'a>(alloc: Global, program: Command<'a>) -> Result<Command<'a>, AllocError>
-    ensures { IfOk result (λ r. app_of r ≡ with_declare (with_run (with_init (app_of program.entry)))) }
+    ensures { IfOk result
+        (λ r. app_of r ≡ with_declare (with_run (with_init (app_of program.entry)))) }
 {
     let program = program.subcommand(init_command(alloc)?)?;
     let program = program.subcommand(run_command(alloc)?)?;
@@ -189,7 +204,8 @@ fn with_makers<'a>(alloc: Global, program: Command<'a>) -> Result<Command<'a>, A
 
 /// The program with the commands that show a registry.
 fn with_viewers<'a>(alloc: Global, program: Command<'a>) -> Result<Command<'a>, AllocError>
-    ensures { IfOk result (λ r. app_of r ≡ with_serve (with_audit (with_statement (app_of program.entry)))) }
+    ensures { IfOk result
+        (λ r. app_of r ≡ with_serve (with_audit (with_statement (app_of program.entry)))) }
 {
     let program = program.subcommand(statement_command(alloc)?)?;
     let program = program.subcommand(audit_command(alloc)?)?;
@@ -223,8 +239,8 @@ fn task_named<'a>(matches: &ArgMatches<'a>) -> Result<Invocation<'a>, LineFault>
 ///
 /// # Errors
 ///
-/// Where the words aren't a command of the program with its options, a value is missing or refused, or they ask for help or the version;
-/// and `Memory`, where there is no room to read them.
+/// Where the words aren't a command of the program with its options, a value is missing or refused,
+/// or they ask for help or the version; and `Memory`, where there is no room to read them.
 pub fn read_task<'a, S: AsStr>(alloc: Global, words: &'a [S]) -> Result<Invocation<'a>, LineFault>
     ensures task { IfOk result (λ task. task_in (map S.text words.now) ≡ Some (asked_by task)) }
     ensures none { IfErr result (NoTask (task_in (map S.text words.now))) }

@@ -19,35 +19,52 @@ use std::io::{BufWriter, Read, Write};
 ///
 /// - `all_done`: status 0 only where no line was refused or unreadable.
 /// - `not_all_done`: status 1 only where some line was refused or unreadable.
-/// - `written`, `flushed`: with status 0 and 1, all outcomes of the lines are written after what the writer had, and nothing
-///   is left in its buffer.
-/// - `words`, `read`: it ends as a run of lines does, and a fault of the output or of the records is told only once the
-///   whole input was read.
+/// - `written`, `flushed`: with status 0 and 1, all outcomes of the lines are written after what
+///   the writer had, and nothing is left in its buffer.
+/// - `words`, `read`: it ends as a run of lines does, and a fault of the output or of the records
+///   is told only once the whole input was read.
 /// - `told`: a fault of the records is told just where what keeps them refused a call.
 /// - `kept`: with status 0 and 1 the desk knows what the lines come to.
-/// - `stopped`: after a fault of the records, and where memory was refused, the first lines stand and just their outcomes are written;
-///   after one of the output the first lines stand; after one of the input nothing has changed.
-/// - `promised`: what a registry promises after any list of requests holds of the requests of the lines that were answered, with status 0 and 1
-///   of all lines, and their outcomes are what was written.
+/// - `stopped`: after a fault of the records, and where memory was refused, the first lines stand
+///   and just their outcomes are written; after one of the output the first lines stand; after one
+///   of the input nothing has changed.
+/// - `promised`: what a registry promises after any list of requests holds of the requests of the
+///   lines that were answered, with status 0 and 1 of all lines, and their outcomes are what was
+///   written.
 /// - `lied`: what lies below the desk returned what was written before, where it did so to the end.
-/// - `found`: however it ends, all that was handed to the writer, flushed or not, are answers to first lines that a crash finds carried out,
-///   and at most one line more.
+/// - `found`: however it ends, all that was handed to the writer, flushed or not, are answers to
+///   first lines that a crash finds carried out, and at most one line more.
 pub fn answer_input<D: Desk, R: Read, W: Write + Drop>(
     alloc: Global,
     desk: &mut D,
     reader: &mut R,
     writer: &mut BufWriter<W>,
 ) -> Ending
-    ensures all_done { (D.seen desk.new).lies ≡ 0 → status_of result ≡ 0 → IfSome (R.remaining reader.old) (λ input. (lines (D.seen desk.old).state input).bad ≡ 0) }
-    ensures not_all_done { (D.seen desk.new).lies ≡ 0 → status_of result ≡ 1 → IfSome (R.remaining reader.old) (λ input. (lines (D.seen desk.old).state input).bad ≢ 0) }
-    ensures written { (D.seen desk.new).lies ≡ 0 → status_of result < 2 → IfSome (R.remaining reader.old) (λ input. Appends (writer_contents W.contents writer.old) (writer_contents W.contents writer.new) (lines (D.seen desk.old).state input).text) }
-    ensures kept { (D.seen desk.new).lies ≡ 0 → status_of result < 2 → IfSome (R.remaining reader.old) (λ input. (D.seen desk.new).state ≡ (lines (D.seen desk.old).state input).state) }
-    ensures stopped { (D.seen desk.new).lies ≡ 0 → IfSome (R.remaining reader.old) (λ input. IsStopped result input (D.seen desk.old).state (D.seen desk.new).state (D.seen desk.new).doubts (writer_contents W.contents writer.old) (writer_contents W.contents writer.new)) }
+    ensures all_done { (D.seen desk.new).lies ≡ 0 → status_of result ≡ 0
+        → IfSome (R.remaining reader.old) (λ input. (lines (D.seen desk.old).state input).bad ≡ 0) }
+    ensures not_all_done { (D.seen desk.new).lies ≡ 0 → status_of result ≡ 1
+        → IfSome (R.remaining reader.old) (λ input. (lines (D.seen desk.old).state input).bad ≢ 0) }
+    ensures written { (D.seen desk.new).lies ≡ 0 → status_of result < 2
+        → IfSome (R.remaining reader.old)
+        (λ input. Appends (writer_contents W.contents writer.old)
+        (writer_contents W.contents writer.new) (lines (D.seen desk.old).state input).text) }
+    ensures kept { (D.seen desk.new).lies ≡ 0 → status_of result < 2
+        → IfSome (R.remaining reader.old)
+        (λ input. (D.seen desk.new).state ≡ (lines (D.seen desk.old).state input).state) }
+    ensures stopped { (D.seen desk.new).lies ≡ 0
+        → IfSome (R.remaining reader.old)
+        (λ input. IsStopped result input (D.seen desk.old).state (D.seen desk.new).state
+        (D.seen desk.new).doubts (writer_contents W.contents writer.old)
+        (writer_contents W.contents writer.new)) }
     ensures flushed { status_of result < 2 → writer_buffer writer.new ≡ [] }
     ensures words { IsOfLines result }
     ensures read { IsAfterInput result → IsAtEnd (R.remaining reader.new) }
     ensures told { (D.seen desk.old).refusals ≡ 0 → IsToldOf result (D.seen desk.new).refusals }
-    ensures promised { IsSound (D.seen desk.old).state → (D.seen desk.new).lies ≡ 0 → IfSome (R.remaining reader.old) (λ input. KeepsPromise result input (D.seen desk.old).state (writer_contents W.contents writer.old) (writer_contents W.contents writer.new) (λ t. (D.seen desk.new).doubts ≡ 0 → (D.seen desk.new).state ≡ t)) }
+    ensures promised { IsSound (D.seen desk.old).state → (D.seen desk.new).lies ≡ 0
+        → IfSome (R.remaining reader.old)
+        (λ input. KeepsPromise result input (D.seen desk.old).state
+        (writer_contents W.contents writer.old) (writer_contents W.contents writer.new)
+        (λ t. (D.seen desk.new).doubts ≡ 0 → (D.seen desk.new).state ≡ t)) }
     ensures lied { (D.seen desk.new).lies ≡ 0 → (D.seen desk.old).lies ≡ 0 }
     ensures found { (D.seen desk.new).lies ≡ 0 → (D.seen desk.old).doubts ≡ 0
         → IfSome (R.remaining reader.old) (λ input.

@@ -1,6 +1,7 @@
 //! How the program ends: its exit status, and what it says on standard error.
 ghost use Rattle.std.specs.Prelude.{◌≡◌, Some};
-ghost use Rattle.goo_cli_ending.specs.Endings.{status_of, failure_text, denial_text, failure_of, failure_of_desk, ending_of, reason_of, TellsLine};
+ghost use Rattle.goo_cli_ending.specs.Endings.{status_of, failure_text, denial_text, failure_of};
+ghost use Rattle.goo_cli_ending.specs.Endings.{failure_of_desk, ending_of, reason_of, TellsLine};
 
 use crate::settings::{missing_text, wrong_text};
 use clap::Error;
@@ -153,7 +154,8 @@ impl Ending {
         }
     }
 
-    /// Says on standard error what isn't all right. Where that fails too, the exit status alone tells it.
+    /// Says on standard error what isn't all right. Where that fails too, the exit status alone
+    /// tells it.
     pub fn tell(&self, rt: &HostRuntime) {
         let _ = match self {
             Ending::Done | Ending::PartlyDone => Ok(()),

@@ -1,5 +1,6 @@
-//! The commands `declare`, `statement`, `audit` and `serve` over files: the registry that they hold is opened, worked with, and closed;
-//! and which of them, or of `init` and `run`, a command line asks for.
+//! The commands `declare`, `statement`, `audit` and `serve` over files: the registry that they hold
+//! is opened, worked with, and closed; and which of them, or of `init` and `run`, a command line
+//! asks for.
 #![tactic(auto)]
 
 mod in_files;

@@ -23,7 +23,8 @@ pub enum MemoryWork {
 
 /// Does this with a new registry in memory, which is gone when the program ends.
 ///
-/// - `worked`: what is done is what was asked for: for lines what they come to, for connections that as many were accepted as asked for.
+/// - `worked`: what is done is what was asked for: for lines what they come to, for connections
+///   that as many were accepted as asked for.
 pub fn work_in_memory<R: Read, W: Write + Drop>(
     alloc: Global,
     opening: Opening,
@@ -32,7 +33,10 @@ pub fn work_in_memory<R: Read, W: Write + Drop>(
     reader: &mut R,
     writer: &mut BufWriter<W>,
 ) -> Ending
-    ensures worked { IsWorkedInMemory (created opening.code opening.today opening.next_serial) (R.remaining reader.old) (writer_contents W.contents writer.old) (writer_contents W.contents writer.new) result listener.old.accepted listener.new.accepted work.now }
+    ensures worked { IsWorkedInMemory (created opening.code opening.today opening.next_serial)
+        (R.remaining reader.old) (writer_contents W.contents writer.old)
+        (writer_contents W.contents writer.new) result listener.old.accepted listener.new.accepted
+        work.now }
 {
     match work {
         MemoryWork::Run => run_in_memory(alloc, opening, reader, writer),

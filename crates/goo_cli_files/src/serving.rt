@@ -13,7 +13,8 @@ ghost use Rattle.goo_store_lookups.specs.Moments.{moment};
 ghost use Rattle.goo_desk_server.specs.Runs.{KeepsPromise};
 ghost use Rattle.goo_cli_ending.specs.Endings.{status_of};
 ghost use Rattle.goo_cli_http.specs.Endings.{IsCounted, listening_text};
-ghost use Rattle.goo_cli_registry.specs.Closings.{HasSpareLog, HoldsSome, IfRefused, IsClean, LeavesRegistry};
+ghost use Rattle.goo_cli_registry.specs.Closings.{HasSpareLog, HoldsSome, IfRefused, IsClean};
+ghost use Rattle.goo_cli_registry.specs.Closings.{LeavesRegistry};
 ghost use Rattle.goo_cli_registry.specs.Finds.{IfParts};
 ghost use Rattle.goo_cli_registry.specs.Openings.{IsRun};
 ghost use Rattle.goo_cli_files.specs.Durable.{FindsConnections};
@@ -32,10 +33,12 @@ use sqlite_disk::Disk;
 use std::alloc::Global;
 use std::io::{BufWriter, Write};
 
-/// Serves so many connections by a new registry in a database that is empty, and hands the database back.
+/// Serves so many connections by a new registry in a database that is empty, and hands the database
+/// back.
 ///
-/// - `promised`: what a registry promises after any list of requests holds of the new registry, the requests that the connections left applied, and what the
-///   database holds then. A fault of the records, and want of memory, may have kept the registry from being made.
+/// - `promised`: what a registry promises after any list of requests holds of the new registry, the
+///   requests that the connections left applied, and what the database holds then. A fault of the
+///   records, and want of memory, may have kept the registry from being made.
 fn serve_new<S: Alter, L: Listener, W: Write + Drop>(
     alloc: Global,
     conn: Connection<S>,
@@ -46,9 +49,16 @@ fn serve_new<S: Alter, L: Listener, W: Write + Drop>(
 ) -> (Ending, Connection<S>)
     requires outside { conn.in_transaction ≡ false }
     requires ordered { HasCleanDisk (view S.Store conn) → IsInKeyOrder (view S.Store conn).now }
-    ensures announced { status_of result.0 ≡ 0 → Appends (writer_contents W.contents writer.old) (writer_contents W.contents writer.new) (listening_text serving.port) }
-    ensures counted { IsCounted result.0 (L.accepted listener.old) (L.accepted listener.new) serving.count }
-    ensures promised { IsRun result.0 → (moment (view S.Store result.1) false).lies ≡ 0 → (moment (view S.Store result.1) false).doubts ≡ 0 → KeepsPromise (L.sends listener.old) (L.accepted listener.old) (L.accepted listener.new) (created opening.code opening.today opening.next_serial) (moment (view S.Store result.1) false).state }
+    ensures announced { status_of result.0 ≡ 0
+        → Appends (writer_contents W.contents writer.old) (writer_contents W.contents writer.new)
+        (listening_text serving.port) }
+    ensures counted { IsCounted result.0 (L.accepted listener.old)
+        (L.accepted listener.new) serving.count }
+    ensures promised { IsRun result.0 → (moment (view S.Store result.1) false).lies ≡ 0
+        → (moment (view S.Store result.1) false).doubts ≡ 0
+        → KeepsPromise (L.sends listener.old) (L.accepted listener.old) (L.accepted listener.new)
+        (created opening.code opening.today opening.next_serial)
+        (moment (view S.Store result.1) false).state }
 {
     match begin(alloc, conn, Start::New(opening)) {
         Ok(shelf) => {
@@ -60,10 +70,12 @@ fn serve_new<S: Alter, L: Listener, W: Write + Drop>(
     }
 }
 
-/// Serves so many connections on 127.0.0.1 by a new registry whose records are tables in memory, and are gone when the program ends.
+/// Serves so many connections on 127.0.0.1 by a new registry whose records are tables in memory,
+/// and are gone when the program ends.
 ///
 /// - `announced`: status 0 only where the line is written that tells at which port.
-/// - `counted`: status 0 just where as many connections were accepted as asked for, unless the records failed at the last one; never more are.
+/// - `counted`: status 0 just where as many connections were accepted as asked for, unless the
+///   records failed at the last one; never more are.
 pub fn serve_in_memory<W: Write + Drop>(
     alloc: Global,
     opening: Opening,
@@ -71,7 +83,9 @@ pub fn serve_in_memory<W: Write + Drop>(
     listener: &mut LocalListener<'_>,
     writer: &mut BufWriter<W>,
 ) -> Ending
-    ensures announced { status_of result ≡ 0 → Appends (writer_contents W.contents writer.old) (writer_contents W.contents writer.new) (listening_text serving.port) }
+    ensures announced { status_of result ≡ 0
+        → Appends (writer_contents W.contents writer.old) (writer_contents W.contents writer.new)
+        (listening_text serving.port) }
     ensures counted { IsCounted result listener.old.accepted listener.new.accepted serving.count }
 {
     let conn = match open_in_memory(alloc) {
@@ -82,18 +96,21 @@ pub fn serve_in_memory<W: Write + Drop>(
     ending
 }
 
-/// Serves so many connections of a listener by the registry that files hold, and closes it; `line` tells if it is of version 1. What is said holds so long as the
-/// files returned what was written, and `db` is the database that they held.
+/// Serves so many connections of a listener by the registry that files hold, and closes it; `line`
+/// tells if it is of version 1. What is said holds so long as the files returned what was written,
+/// and `db` is the database that they held.
 ///
 /// - `announced`, `counted`: as for [`serve_in_memory`].
-/// - `promised`: what a registry promises after any list of requests holds of what the files held, the requests that the connections left
-///   applied, and what the file alone holds then, where the log could be copied. The bytes of each connection are those that its client sent, where the
+/// - `promised`: what a registry promises after any list of requests holds of what the files held,
+///   the requests that the connections left applied, and what the file alone holds then, where the
+///   log could be copied. The bytes of each connection are those that its client sent, where the
 ///   listener tells them.
-/// - `unharmed`: where there is no registry, no harm came to what the files held, after a crash too: but for a registry of version 1, the same
-///   registry in version 2 may be found then.
+/// - `unharmed`: where there is no registry, no harm came to what the files held, after a crash
+///   too: but for a registry of version 1, the same registry in version 2 may be found then.
 /// - `copied`: a log that is said to be copied into the database file is.
-/// - `found`: where the log could not be copied, the next opening finds, after a crash too, what the
-///   connections leave; of the last one's requests perhaps those alone that stand after a fault.
+/// - `found`: where the log could not be copied, the next opening finds, after a crash too, what
+///   the connections leave; of the last one's requests perhaps those alone that stand after a
+///   fault.
 pub fn serve_in_files<D: Disk + Drop, L: Listener, W: Write + Drop, E: Write>(
     alloc: Global,
     files: Files<D>,
@@ -105,9 +122,15 @@ pub fn serve_in_files<D: Disk + Drop, L: Listener, W: Write + Drop, E: Write>(
 ) -> (Ending, Left<D>)
     requires log { IsTrue (D.Disk.is_usable files.log) }
     requires db { IsTrue (D.Disk.is_usable files.db) }
-    ensures announced { status_of result.0 ≡ 0 → Appends (writer_contents W.contents writer.old) (writer_contents W.contents writer.new) (listening_text serving.port) }
-    ensures counted { IsCounted result.0 (L.accepted listener.old) (L.accepted listener.new) serving.count }
-    ensures promised { IsClean result.1 → (db : Trees) → HoldsDatabase (image_of D.Disk files) db → HoldsSome result.1 (KeepsPromise (L.sends listener.old) (L.accepted listener.old) (L.accepted listener.new) (state_held db)) }
+    ensures announced { status_of result.0 ≡ 0
+        → Appends (writer_contents W.contents writer.old) (writer_contents W.contents writer.new)
+        (listening_text serving.port) }
+    ensures counted { IsCounted result.0 (L.accepted listener.old)
+        (L.accepted listener.new) serving.count }
+    ensures promised { IsClean result.1 → (db : Trees) → HoldsDatabase (image_of D.Disk files) db
+        → HoldsSome result.1
+        (KeepsPromise (L.sends listener.old) (L.accepted listener.old) (L.accepted listener.new)
+        (state_held db)) }
     ensures unharmed { IsClean result.1 → IfRefused result.1 (LeavesRegistry files) }
     ensures copied { HasSpareLog result.1 }
     ensures found { IsClean result.1 → (db : Trees) → HoldsDatabase (image_of D.Disk files) db

@@ -31,15 +31,18 @@ fn ending_of(served: Result<(), ServerFault>) -> Ending
     }
 }
 
-/// Serves so many connections of a listener by a registry, one after another. Where the port can't be had, that is a fault of what is read.
+/// Serves so many connections of a listener by a registry, one after another. Where the port can't
+/// be had, that is a fault of what is read.
 ///
 /// - `announced`: status 0 only where the line is written that tells at which port.
-/// - `counted`: status 0 just where as many connections were accepted as asked for, unless the records failed at the last one; never more are.
-/// - `promised`: what a registry promises after any list of requests holds of those that the connections left applied. The bytes of each connection are
-///   those that its client sent, where the listener tells them.
+/// - `counted`: status 0 just where as many connections were accepted as asked for, unless the
+///   records failed at the last one; never more are.
+/// - `promised`: what a registry promises after any list of requests holds of those that the
+///   connections left applied. The bytes of each connection are those that its client sent, where
+///   the listener tells them.
 /// - `lied`: what keeps the records returned what was written before, where it did so to the end.
-/// - `found`: however it ends, a crash finds what the connections leave; of the last one's requests perhaps
-///   those alone that stand after a fault.
+/// - `found`: however it ends, a crash finds what the connections leave; of the last one's requests
+///   perhaps those alone that stand after a fault.
 pub fn serve_registry<S: Shelf, L: Listener, W: Write + Drop>(
     alloc: Global,
     registry: &mut Registry<S>,
@@ -48,11 +51,18 @@ pub fn serve_registry<S: Shelf, L: Listener, W: Write + Drop>(
     writer: &mut BufWriter<W>,
 ) -> Ending
     ensures words { status_of result ≢ 2 }
-    ensures announced { status_of result ≡ 0 → Appends (writer_contents W.contents writer.old) (writer_contents W.contents writer.new) (listening_text serving.port) }
-    ensures counted { IsCounted result (L.accepted listener.old) (L.accepted listener.new) serving.count }
-    ensures promised { IsSound (S.seen registry.old.shelf).state → (S.seen registry.new.shelf).lies ≡ 0 → (S.seen registry.new.shelf).doubts ≡ 0 → KeepsPromise (L.sends listener.old) (L.accepted listener.old) (L.accepted listener.new) (S.seen registry.old.shelf).state (S.seen registry.new.shelf).state }
+    ensures announced { status_of result ≡ 0
+        → Appends (writer_contents W.contents writer.old) (writer_contents W.contents writer.new)
+        (listening_text serving.port) }
+    ensures counted { IsCounted result (L.accepted listener.old)
+        (L.accepted listener.new) serving.count }
+    ensures promised { IsSound (S.seen registry.old.shelf).state
+        → (S.seen registry.new.shelf).lies ≡ 0 → (S.seen registry.new.shelf).doubts ≡ 0
+        → KeepsPromise (L.sends listener.old) (L.accepted listener.old) (L.accepted listener.new)
+        (S.seen registry.old.shelf).state (S.seen registry.new.shelf).state }
     ensures lied { (S.seen registry.new.shelf).lies ≡ 0 → (S.seen registry.old.shelf).lies ≡ 0 }
-    ensures found { FindsServed (L.sends listener.old) (L.accepted listener.old) (L.accepted listener.new)
+    ensures found { FindsServed (L.sends listener.old) (L.accepted listener.old)
+        (L.accepted listener.new)
         (seen_of (S.seen registry.old.shelf)) (seen_of (S.seen registry.new.shelf))
         (S.seen registry.new.shelf).leaves }
 {

@@ -4,7 +4,8 @@ ghost use Rattle.sqlite.specs.Files.{file_state};
 ghost use Rattle.sqlite.specs.State.{HasCleanDisk};
 ghost use Rattle.goo_store_lookups.specs.Moments.{moment};
 ghost use Rattle.sqlite_wal.specs.Reads.{AreClean};
-ghost use Rattle.goo_cli_registry.specs.Closings.{is_whole, files_in, HasSpareLog, IfWhole, IfRefused, IsClean, IsKept, HoldState, NeedNoLog};
+ghost use Rattle.goo_cli_registry.specs.Closings.{is_whole, files_in, HasSpareLog, IfWhole};
+ghost use Rattle.goo_cli_registry.specs.Closings.{IfRefused, IsClean, IsKept, HoldState, NeedNoLog};
 ghost use Rattle.goo_cli_registry.specs.Finds.{FindsRight, IfParts};
 
 use crate::settling::{Settled, settle_files};
@@ -18,7 +19,8 @@ pub enum Left<D: Disk> {
     Whole(Files<D>),
     /// No registry was opened, and nothing was committed.
     Refused(Leftover<D>),
-    /// The log was not copied: it belongs to the database file, and the next opening finds what both hold.
+    /// The log was not copied: it belongs to the database file, and the next opening finds what
+    /// both hold.
     Parts(Leftover<D>),
 }
 
@@ -44,14 +46,16 @@ impl<D: Disk> Left<D> {
         }
     }
 
-    /// The files, and whether the log may be removed: where it is copied into the database file, and where nothing of it is used. What was
-    /// there before the files were opened says nothing of that, as another program may have committed to the log since.
+    /// The files, and whether the log may be removed: where it is copied into the database file,
+    /// and where nothing of it is used. What was there before the files were opened says nothing of
+    /// that, as another program may have committed to the log since.
     ///
-    /// - `spare`: the log may go only where the database file alone holds what both hold, after a crash too, so long as the files
-    ///   returned what was written.
+    /// - `spare`: the log may go only where the database file alone holds what both hold, after a
+    ///   crash too, so long as the files returned what was written.
     pub fn settle(self) -> Settled<D>
         requires copied { HasSpareLog self }
-        ensures spare { IsTrue result.is_log_spare → AreClean D.Disk result.files.log result.files.db → NeedNoLog D.Disk result.files }
+        ensures spare { IsTrue result.is_log_spare
+            → AreClean D.Disk result.files.log result.files.db → NeedNoLog D.Disk result.files }
     {
         match self {
             Left::Whole(files) => Settled {
@@ -63,7 +67,8 @@ impl<D: Disk> Left<D> {
         }
     }
 
-    /// The log and the database file, as the command left them. Nothing is read or written any more.
+    /// The log and the database file, as the command left them. Nothing is read or written any
+    /// more.
     pub fn into_files(self) -> Files<D>
         ensures { (result.log, result.db) ≡ files_in self }
     {
@@ -75,20 +80,28 @@ impl<D: Disk> Left<D> {
     }
 }
 
-/// Copies the log into the database file and closes the database. Where that fails, what was committed stands, and the next
-/// opening finds it.
+/// Copies the log into the database file and closes the database. Where that fails, what was
+/// committed stands, and the next opening finds it.
 ///
-/// - `whole`, `copied`, `sure`: where the log was copied, the database file alone holds the registry, which is in no doubt, and the log may go.
-/// - `kept`: while nothing was in doubt, the state is kept, in the database file alone or in the file and its log.
-/// - `found`: where the log was not copied, the next opening finds what a crash before the close might have left, and nothing else.
+/// - `whole`, `copied`, `sure`: where the log was copied, the database file alone holds the
+///   registry, which is in no doubt, and the log may go.
+/// - `kept`: while nothing was in doubt, the state is kept, in the database file alone or in the
+///   file and its log.
+/// - `found`: where the log was not copied, the next opening finds what a crash before the close
+///   might have left, and nothing else.
 pub fn close_registry<D: Disk + Drop>(shelf: SqlShelf<FileStore<D>>) -> Left<D>
     ensures clean { IsClean result → HasCleanDisk (file_state shelf.conn) }
-    ensures whole { IfWhole result (λ files. HoldState D.Disk files (moment (file_state shelf.conn) shelf.refused).state) }
+    ensures whole { IfWhole result
+        (λ files. HoldState D.Disk files (moment (file_state shelf.conn) shelf.refused).state) }
     ensures copied { HasSpareLog result }
-    ensures sure { IfWhole result (λ files. AreClean D.Disk files.log files.db → (moment (file_state shelf.conn) shelf.refused).doubts ≡ 0) }
+    ensures sure { IfWhole result
+        (λ files. AreClean D.Disk files.log files.db
+        → (moment (file_state shelf.conn) shelf.refused).doubts ≡ 0) }
     ensures opened { IfRefused result (λ _. ⊥) }
-    ensures kept { (moment (file_state shelf.conn) shelf.refused).doubts ≡ 0 → IsKept (moment (file_state shelf.conn) shelf.refused).state result }
-    ensures found { IfParts result (FindsRight (moment (file_state shelf.conn) shelf.refused).leaves) }
+    ensures kept { (moment (file_state shelf.conn) shelf.refused).doubts ≡ 0
+        → IsKept (moment (file_state shelf.conn) shelf.refused).state result }
+    ensures found { IfParts result
+        (FindsRight (moment (file_state shelf.conn) shelf.refused).leaves) }
 {
     match shelf.into_connection().close_files() {
         Ok(files) => Left::Whole(files),

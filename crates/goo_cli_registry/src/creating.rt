@@ -5,7 +5,8 @@ ghost use Rattle.std.specs.Io.KnownBytes.{Appends, Keeps};
 ghost use Rattle.goo_spec.specs.Created.{created};
 ghost use Rattle.goo_cli_ending.specs.Endings.{status_of};
 ghost use Rattle.goo_cli_registry.specs.Openings.{ending_of_opening, ready_text};
-ghost use Rattle.goo_cli_registry.specs.Closings.{HasSpareLog, HoldState, IfWhole, IsClean, IsMade, Spares, SparesOrMakes, is_whole};
+ghost use Rattle.goo_cli_registry.specs.Closings.{HasSpareLog, HoldState, IfWhole, IsClean, IsMade};
+ghost use Rattle.goo_cli_registry.specs.Closings.{Spares, SparesOrMakes, is_whole};
 
 use crate::closing::{Left, close_registry};
 use crate::opening::{begin, failure_of, file_options, open_database};
@@ -42,11 +43,19 @@ fn create_registry<D: Disk + Drop>(
 ) -> Result<Left<D>, (Ending, Left<D>)>
     requires log { IsTrue (D.Disk.is_usable files.log) }
     requires db { IsTrue (D.Disk.is_usable files.db) }
-    ensures made { IfOk result (λ left. IfWhole left (λ files. HoldState D.Disk files (created opening.code opening.today opening.next_serial))) }
+    ensures made { IfOk result
+        (λ left. IfWhole left
+        (λ files. HoldState D.Disk files
+        (created opening.code opening.today opening.next_serial))) }
     ensures words { IfErr result (λ e. (fault : OpenFault) × (e.0 ≡ ending_of_opening fault)) }
-    ensures held { IfOk result (λ left. IsClean left → SparesOrMakes files (created opening.code opening.today opening.next_serial) left) }
-    ensures left { IfErr result (λ e. IsClean e.1 → SparesOrMakes files (created opening.code opening.today opening.next_serial) e.1) }
-    ensures there { IfErr result (λ e. e.0 ≡ Ending.Denied NotDone.AlreadyThere → IsClean e.1 → Spares files e.1) }
+    ensures held { IfOk result
+        (λ left. IsClean left
+        → SparesOrMakes files (created opening.code opening.today opening.next_serial) left) }
+    ensures left { IfErr result
+        (λ e. IsClean e.1
+        → SparesOrMakes files (created opening.code opening.today opening.next_serial) e.1) }
+    ensures there { IfErr result
+        (λ e. e.0 ≡ Ending.Denied NotDone.AlreadyThere → IsClean e.1 → Spares files e.1) }
     ensures copied { IfOk result HasSpareLog }
     ensures uncopied { IfErr result (λ e. HasSpareLog e.1) }
 {
@@ -70,7 +79,9 @@ fn create_registry<D: Disk + Drop>(
 
 /// Says that a registry of this code is ready.
 fn say_ready<W: Write + Drop>(writer: &mut BufWriter<W>, code: RegistryCode) -> io::Result<()>
-    ensures said { OnOk result (Appends (writer_contents W.contents writer.old) (writer_contents W.contents writer.new) (ready_text code)) }
+    ensures said { OnOk result
+        (Appends (writer_contents W.contents writer.old) (writer_contents W.contents writer.new)
+        (ready_text code)) }
     ensures flushed { OnOk result (writer_buffer writer.new ≡ []) }
 {
     let code = code.get();
@@ -87,8 +98,11 @@ fn announce<D: Disk + Drop, W: Write + Drop>(
 ) -> (Ending, Left<D>)
     ensures left { result.1 ≡ left }
     ensures whole { status_of result.0 ≡ 0 → IsTrue (is_whole left) }
-    ensures unready { IsTrue (is_whole left) ⊎ Keeps (writer_contents W.contents writer.old) (writer_contents W.contents writer.new) }
-    ensures said { status_of result.0 ≡ 0 → Appends (writer_contents W.contents writer.old) (writer_contents W.contents writer.new) (ready_text code) }
+    ensures unready { IsTrue (is_whole left)
+        ⊎ Keeps (writer_contents W.contents writer.old) (writer_contents W.contents writer.new) }
+    ensures said { status_of result.0 ≡ 0
+        → Appends (writer_contents W.contents writer.old) (writer_contents W.contents writer.new)
+        (ready_text code) }
     ensures flushed { status_of result.0 ≡ 0 → writer_buffer writer.new ≡ [] }
     ensures words { status_of result.0 ≢ 1 }
 {
@@ -104,12 +118,15 @@ fn announce<D: Disk + Drop, W: Write + Drop>(
 
 /// Makes a new registry in files that hold none, closes it, and says that it is ready.
 ///
-/// - `made`: status 0 only where the database file alone holds a new registry with this code, this date and this next serial,
-///   after a crash too.
-/// - `said`, `flushed`: with status 0 `ready` and the code are written, and nothing is left in the writer's buffer.
+/// - `made`: status 0 only where the database file alone holds a new registry with this code, this
+///   date and this next serial, after a crash too.
+/// - `said`, `flushed`: with status 0 `ready` and the code are written, and nothing is left in the
+///   writer's buffer.
 /// - `unready`: nothing is written before the registry is there.
-/// - `there`: status 1 only where a registry is there already, and then no harm came to what the files held.
-/// - `left`: whatever the status, no harm came to what the files held, or a new registry with these three values is there.
+/// - `there`: status 1 only where a registry is there already, and then no harm came to what the
+///   files held.
+/// - `left`: whatever the status, no harm came to what the files held, or a new registry with these
+///   three values is there.
 /// - `copied`: a log that is said to be copied into the database file is.
 ///
 /// What is said of the files holds so long as they returned what was written.
@@ -122,12 +139,18 @@ pub fn init_in_files<D: Disk + Drop, W: Write + Drop>(
 ) -> (Ending, Left<D>)
     requires log { IsTrue (D.Disk.is_usable files.log) }
     requires db { IsTrue (D.Disk.is_usable files.db) }
-    ensures made { status_of result.0 ≡ 0 → IsMade result.1 (created opening.code opening.today opening.next_serial) }
-    ensures unready { IsMade result.1 (created opening.code opening.today opening.next_serial) ⊎ Keeps (writer_contents W.contents writer.old) (writer_contents W.contents writer.new) }
-    ensures said { status_of result.0 ≡ 0 → Appends (writer_contents W.contents writer.old) (writer_contents W.contents writer.new) (ready_text opening.code) }
+    ensures made { status_of result.0 ≡ 0
+        → IsMade result.1 (created opening.code opening.today opening.next_serial) }
+    ensures unready { IsMade result.1 (created opening.code opening.today opening.next_serial)
+        ⊎ Keeps (writer_contents W.contents writer.old) (writer_contents W.contents writer.new) }
+    ensures said { status_of result.0 ≡ 0
+        → Appends (writer_contents W.contents writer.old) (writer_contents W.contents writer.new)
+        (ready_text opening.code) }
     ensures flushed { status_of result.0 ≡ 0 → writer_buffer writer.new ≡ [] }
-    ensures there { status_of result.0 ≡ 1 → (result.0 ≡ Ending.Denied NotDone.AlreadyThere) × (IsClean result.1 → Spares files result.1) }
-    ensures left { IsClean result.1 → SparesOrMakes files (created opening.code opening.today opening.next_serial) result.1 }
+    ensures there { status_of result.0 ≡ 1 → (result.0 ≡ Ending.Denied NotDone.AlreadyThere)
+        × (IsClean result.1 → Spares files result.1) }
+    ensures left { IsClean result.1
+        → SparesOrMakes files (created opening.code opening.today opening.next_serial) result.1 }
     ensures copied { HasSpareLog result.1 }
 {
     let code = opening.code;

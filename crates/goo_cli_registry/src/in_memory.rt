@@ -12,7 +12,8 @@ use goo_store_memory::MemoryFile;
 use sqlite::{Connection, FileStore, Files, Options};
 use std::alloc::{AllocError, Global};
 
-/// The number that the salts of the log in memory begin with. Nobody but this process reads it, so any number does.
+/// The number that the salts of the log in memory begin with. Nobody but this process reads it, so
+/// any number does.
 const SALT: u64 = 7;
 
 /// An empty log, and a database file that holds the first page.
@@ -34,7 +35,8 @@ fn make_files(alloc: Global) -> Result<Files<MemoryFile>, AllocError> {
 /// `Memory` where memory was refused, and `Store` where a file in memory could not grow.
 pub fn open_in_memory(alloc: Global) -> Result<Connection<FileStore<MemoryFile>>, Failure>
     ensures fresh { IfOk result IsNew }
-    ensures ordered { IfOk result (λ conn. HasCleanDisk (file_state conn) → IsInKeyOrder (file_state conn).now) }
+    ensures ordered { IfOk result
+        (λ conn. HasCleanDisk (file_state conn) → IsInKeyOrder (file_state conn).now) }
 {
     let files = make_files(alloc).map_err(|_| Failure::Memory)?;
     match open_database(alloc, files, Options::new(SALT)) {

@@ -1,6 +1,7 @@
 //! A registry opened, over a database or over files.
 ghost use Rattle.std.specs.Prelude.{◌≡◌, ◌≢◌, ◌⊎◌, false, IsTrue, IfOk, IfErr, Err};
-ghost use Rattle.sqlite.specs.Files.{file_state, image_of, Finds, HoldsDatabase, IsCleanLeft, IsOpened, LeavesFiles};
+ghost use Rattle.sqlite.specs.Files.{file_state, image_of, Finds, HoldsDatabase, IsCleanLeft};
+ghost use Rattle.sqlite.specs.Files.{IsOpened, LeavesFiles};
 ghost use Rattle.sqlite.specs.Held.{IsNew, state as view};
 ghost use Rattle.sqlite.specs.State.{HasCleanDisk};
 ghost use Rattle.sqlite.specs.Tree.{Trees};
@@ -27,8 +28,8 @@ use sqlite_disk::Disk;
 use std::alloc::Global;
 use std::io::Write;
 
-/// How many pages the log of a file takes before they go to the database. Of 1,024 bytes each they are as many bytes as the thousand
-/// pages of 4,096 bytes after which SQLite does so by itself.
+/// How many pages the log of a file takes before they go to the database. Of 1,024 bytes each they
+/// are as many bytes as the thousand pages of 4,096 bytes after which SQLite does so by itself.
 const LOG_PAGES: usize = 4_000;
 
 /// How a registry in files is kept. `seed` is what the salts of a new log begin with.
@@ -58,8 +59,8 @@ fn word_for(error: Error) -> Fault
 ///
 /// # Errors
 ///
-/// What is left of the files, with `Memory` where memory was refused, and `Store` where a call of a file failed or they hold
-/// no database.
+/// What is left of the files, with `Memory` where memory was refused, and `Store` where a call of a
+/// file failed or they hold no database.
 pub fn open_database<D: Disk + Drop>(
     alloc: Global,
     files: Files<D>,
@@ -68,7 +69,8 @@ pub fn open_database<D: Disk + Drop>(
     requires log { IsTrue (D.Disk.is_usable files.log) }
     requires db { IsTrue (D.Disk.is_usable files.db) }
     ensures fresh { IfOk result IsNew }
-    ensures ordered { IfOk result (λ conn. HasCleanDisk (file_state conn) → IsInKeyOrder (file_state conn).now) }
+    ensures ordered { IfOk result
+        (λ conn. HasCleanDisk (file_state conn) → IsInKeyOrder (file_state conn).now) }
     ensures opened { IfOk result (λ conn. HasCleanDisk (file_state conn) → IsOpened conn) }
     ensures found { IfOk result (λ conn. HasCleanDisk (file_state conn) → Finds files conn) }
     ensures store { IfErr result (λ e. e.0 ≡ Fault.Store → IsCleanLeft e.1 → IsBlamed files e.1) }
@@ -80,8 +82,9 @@ pub fn open_database<D: Disk + Drop>(
     }
 }
 
-/// Why there is no registry to run. A new one is made in an empty database alone, so none is there already. The number of a version that
-/// is read here is told only of tables that are not those of that version.
+/// Why there is no registry to run. A new one is made in an empty database alone, so none is there
+/// already. The number of a version that is read here is told only of tables that are not those of
+/// that version.
 pub fn failure_of(fault: OpenFault) -> Failure
     ensures { result ≡ failure_of_opening fault }
 {
@@ -99,7 +102,8 @@ pub fn failure_of(fault: OpenFault) -> Failure
 ///
 /// # Errors
 ///
-/// As `SqlShelf::create` and `SqlShelf::open`: the database, unchanged. After a crash that follows, a new registry may be there.
+/// As `SqlShelf::create` and `SqlShelf::open`: the database, unchanged. After a crash that follows,
+/// a new registry may be there.
 pub fn begin<S: Alter>(
     alloc: Global,
     conn: Connection<S>,
@@ -107,15 +111,29 @@ pub fn begin<S: Alter>(
 ) -> Result<SqlShelf<S>, (Connection<S>, OpenFault)>
     requires outside { conn.in_transaction ≡ false }
     requires ordered { HasCleanDisk (view S.Store conn) → IsInKeyOrder (view S.Store conn).now }
-    ensures state { IfOk result (λ shelf. (moment (view S.Store shelf.conn) shelf.refused).doubts ≡ 0 → (moment (view S.Store shelf.conn) shelf.refused).state ≡ begun start (view S.Store conn)) }
-    ensures sound { IfOk result (λ shelf. (moment (view S.Store shelf.conn) shelf.refused).doubts ≡ 0 → IsSound (moment (view S.Store shelf.conn) shelf.refused).state) }
-    ensures rows_fit { IfOk result (λ shelf. (moment (view S.Store shelf.conn) shelf.refused).doubts ≡ 0 → AreRowsOf (moment (view S.Store shelf.conn) shelf.refused).state.at (moment (view S.Store shelf.conn) shelf.refused).rows) }
-    ensures ready { IfOk result (λ shelf. IsReady (moment (view S.Store shelf.conn) shelf.refused)) }
-    ensures lacking { start ≡ Start.Kept → LacksMeta (view S.Store conn).now.schema → result ≡ Err (conn, OpenFault.NotARegistry) }
+    ensures state { IfOk result
+        (λ shelf. (moment (view S.Store shelf.conn) shelf.refused).doubts ≡ 0
+        → (moment (view S.Store shelf.conn) shelf.refused).state
+        ≡ begun start (view S.Store conn)) }
+    ensures sound { IfOk result
+        (λ shelf. (moment (view S.Store shelf.conn) shelf.refused).doubts ≡ 0
+        → IsSound (moment (view S.Store shelf.conn) shelf.refused).state) }
+    ensures rows_fit { IfOk result
+        (λ shelf. (moment (view S.Store shelf.conn) shelf.refused).doubts ≡ 0
+        → AreRowsOf (moment (view S.Store shelf.conn) shelf.refused).state.at
+        (moment (view S.Store shelf.conn) shelf.refused).rows) }
+    ensures ready { IfOk result
+        (λ shelf. IsReady (moment (view S.Store shelf.conn) shelf.refused)) }
+    ensures lacking { start ≡ Start.Kept → LacksMeta (view S.Store conn).now.schema
+        → result ≡ Err (conn, OpenFault.NotARegistry) }
     ensures outside { IfErr result (λ e. e.0.in_transaction ≡ false) }
-    ensures there { IfErr result (λ e. e.1 ≡ OpenFault.AlreadyThere → start ≢ Start.Kept → e.0 ≡ conn) }
-    ensures clean { IfErr result (λ e. HasCleanDisk (view S.Store e.0) → HasCleanDisk (view S.Store conn)) }
-    ensures crash { IfErr result (λ e. HasCleanDisk (view S.Store e.0) → (db : Trees) → (view S.Store e.0).may_leave db → (view S.Store conn).may_leave db ⊎ MayBegin start (view S.Store conn) db) }
+    ensures there { IfErr result
+        (λ e. e.1 ≡ OpenFault.AlreadyThere → start ≢ Start.Kept → e.0 ≡ conn) }
+    ensures clean { IfErr result
+        (λ e. HasCleanDisk (view S.Store e.0) → HasCleanDisk (view S.Store conn)) }
+    ensures crash { IfErr result
+        (λ e. HasCleanDisk (view S.Store e.0) → (db : Trees) → (view S.Store e.0).may_leave db
+        → (view S.Store conn).may_leave db ⊎ MayBegin start (view S.Store conn) db) }
 {
     match start {
         Start::New(opening) => {
@@ -134,16 +152,17 @@ pub fn begin<S: Alter>(
     }
 }
 
-/// The registry that files hold. One of version 1 becomes one of version 2, which `line` tells before. `seed` is what the salts of a
-/// new log begin with.
+/// The registry that files hold. One of version 1 becomes one of version 2, which `line` tells
+/// before. `seed` is what the salts of a new log begin with.
 ///
 /// # Errors
 ///
-/// What is left of the files, with why there is no registry. What they held is unharmed; where a fault came in the course of a renewal, a
-/// crash that follows may find the registry renewed.
+/// What is left of the files, with why there is no registry. What they held is unharmed; where a
+/// fault came in the course of a renewal, a crash that follows may find the registry renewed.
 ///
-/// `again`, `never_foreign`: files that hold what a crash left of a registry are opened with the state that a shelf says a crash finds, one of two
-/// at most, or refused for a fault of the store or want of memory: never as another word on them.
+/// `again`, `never_foreign`: files that hold what a crash left of a registry are opened with the
+/// state that a shelf says a crash finds, one of two at most, or refused for a fault of the store
+/// or want of memory: never as another word on them.
 pub fn open_registry<D: Disk + Drop, T: Write>(
     alloc: Global,
     files: Files<D>,
@@ -152,15 +171,25 @@ pub fn open_registry<D: Disk + Drop, T: Write>(
 ) -> Result<SqlShelf<FileStore<D>>, (Failure, Leftover<D>)>
     requires log { IsTrue (D.Disk.is_usable files.log) }
     requires db { IsTrue (D.Disk.is_usable files.db) }
-    ensures state { IfOk result (λ shelf. (db : Trees) → HoldsDatabase (image_of D.Disk files) db → (moment (file_state shelf.conn) shelf.refused).doubts ≡ 0 → (moment (file_state shelf.conn) shelf.refused).state ≡ state_held db) }
-    ensures sound { IfOk result (λ shelf. (moment (file_state shelf.conn) shelf.refused).doubts ≡ 0 → IsSound (moment (file_state shelf.conn) shelf.refused).state) }
-    ensures rows_fit { IfOk result (λ shelf. (moment (file_state shelf.conn) shelf.refused).doubts ≡ 0 → AreRowsOf (moment (file_state shelf.conn) shelf.refused).state.at (moment (file_state shelf.conn) shelf.refused).rows) }
+    ensures state { IfOk result
+        (λ shelf. (db : Trees) → HoldsDatabase (image_of D.Disk files) db
+        → (moment (file_state shelf.conn) shelf.refused).doubts ≡ 0
+        → (moment (file_state shelf.conn) shelf.refused).state ≡ state_held db) }
+    ensures sound { IfOk result
+        (λ shelf. (moment (file_state shelf.conn) shelf.refused).doubts ≡ 0
+        → IsSound (moment (file_state shelf.conn) shelf.refused).state) }
+    ensures rows_fit { IfOk result
+        (λ shelf. (moment (file_state shelf.conn) shelf.refused).doubts ≡ 0
+        → AreRowsOf (moment (file_state shelf.conn) shelf.refused).state.at
+        (moment (file_state shelf.conn) shelf.refused).rows) }
     ensures ready { IfOk result (λ shelf. IsReady (moment (file_state shelf.conn) shelf.refused)) }
-    ensures again { IfOk result (λ shelf. (db : Trees) → HoldsDatabase (image_of D.Disk files) db → (s t : State)
+    ensures again { IfOk result
+        (λ shelf. (db : Trees) → HoldsDatabase (image_of D.Disk files) db → (s t : State)
         → OpensAsEither db s t → (moment (file_state shelf.conn) shelf.refused).doubts ≡ 0
         → ((moment (file_state shelf.conn) shelf.refused).state ≡ s)
         ⊎ ((moment (file_state shelf.conn) shelf.refused).state ≡ t)) }
-    ensures never_foreign { IfErr result (λ e. IsCleanLeft e.1 → (db : Trees) → HoldsDatabase (image_of D.Disk files) db
+    ensures never_foreign { IfErr result
+        (λ e. IsCleanLeft e.1 → (db : Trees) → HoldsDatabase (image_of D.Disk files) db
         → (s t : State) → OpensAsEither db s t → (e.0 ≡ Failure.Store) ⊎ (e.0 ≡ Failure.Memory)) }
     ensures unharmed { IfErr result (λ e. IsCleanLeft e.1 → LeavesRegistry files e.1) }
 {

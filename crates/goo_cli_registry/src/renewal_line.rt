@@ -4,8 +4,8 @@ use goo_store::renewal::Renewal;
 use sqlite::{Alter, Connection};
 use std::io::Write;
 
-/// The line on standard error that tells whose records are about to be changed, and into what. A write that fails is passed over:
-/// what becomes of the registry doesn't hang on who looks.
+/// The line on standard error that tells whose records are about to be changed, and into what. A
+/// write that fails is passed over: what becomes of the registry doesn't hang on who looks.
 #[derive(Drop)]
 pub struct RenewalLine<'a, T> {
     /// Where the registry lies.

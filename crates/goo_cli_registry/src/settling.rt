@@ -8,7 +8,8 @@ ghost use Rattle.goo_cli_registry.specs.Closings.{IsSpare, NeedNoLog};
 use sqlite::Files;
 use sqlite_disk::Disk;
 
-/// How many bytes the head of a log and that of a frame have. Recovery takes nothing from a shorter log.
+/// How many bytes the head of a log and that of a frame have. Recovery takes nothing from a shorter
+/// log.
 const LEAST_LOG: usize = 56;
 
 /// The files of a registry that nobody works with any more, while nobody else can open them.
@@ -21,7 +22,9 @@ pub struct Settled<D: Disk> {
 
 /// How long a log is, now and after a crash; None where a call fails.
 fn lasting_len<D: Disk>(log: &mut D) -> Option<usize>
-    ensures left { IfSome result (λ len. IsTrue (D.Disk.is_clean log.new) → (bytes : List ℕ) → D.Disk.may_leave log.new bytes → length bytes ≡ len) }
+    ensures left { IfSome result
+        (λ len. IsTrue (D.Disk.is_clean log.new) → (bytes : List ℕ) → D.Disk.may_leave log.new bytes
+        → length bytes ≡ len) }
 {
     if !log.may_be_used() {
         return None;
@@ -33,7 +36,8 @@ fn lasting_len<D: Disk>(log: &mut D) -> Option<usize>
 
 /// Whether a database file has its first byte, which is written last, after a crash too.
 fn is_begun<D: Disk>(db: &mut D) -> bool
-    ensures left { IsTrue result → IsTrue (D.Disk.is_clean db.new) → (bytes : List ℕ) → D.Disk.may_leave db.new bytes → slice_index bytes 0 ≡ 83 }
+    ensures left { IsTrue result → IsTrue (D.Disk.is_clean db.new) → (bytes : List ℕ)
+        → D.Disk.may_leave db.new bytes → slice_index bytes 0 ≡ 83 }
 {
     if !db.may_be_used() {
         return false;
@@ -47,7 +51,8 @@ fn is_begun<D: Disk>(db: &mut D) -> bool
 
 /// Whether nothing of a log is used that lies beside this database file, after a crash too.
 fn is_unused<D: Disk>(log: &mut D, db: &mut D) -> bool
-    ensures spare { IsTrue result → AreClean D.Disk log.new db.new → (image : Image) → outcomes D.Disk log.new db.new image → IsSpare image }
+    ensures spare { IsTrue result → AreClean D.Disk log.new db.new → (image : Image)
+        → outcomes D.Disk log.new db.new image → IsSpare image }
 {
     let Some(len) = lasting_len(log) else {
         return false;
@@ -60,7 +65,8 @@ fn is_unused<D: Disk>(log: &mut D, db: &mut D) -> bool
 
 /// The files, and whether nothing of their log is used.
 pub(crate) fn settle_files<D: Disk>(files: Files<D>) -> Settled<D>
-    ensures spare { IsTrue result.is_log_spare → AreClean D.Disk result.files.log result.files.db → NeedNoLog D.Disk result.files }
+    ensures spare { IsTrue result.is_log_spare → AreClean D.Disk result.files.log result.files.db
+        → NeedNoLog D.Disk result.files }
 {
     let Files { mut log, mut db } = files;
     let is_log_spare = is_unused(&mut log, &mut db);

@@ -56,8 +56,11 @@ fn ending_of(cause: Option<Cause>, all_stand: bool, flushed: bool) -> Ending
 
 /// Writes a report whole, or tells that it could not.
 fn send_report<W: Write + Drop>(report: &Report, writer: &mut BufWriter<W>) -> bool
-    ensures written { IsTrue result → Appends (writer_contents W.contents writer.old) (writer_contents W.contents writer.new) (report_text report.now.lines.items) }
-    ensures begun { AppendsPrefix (writer_contents W.contents writer.old) (writer_contents W.contents writer.new) (report_text report.now.lines.items) }
+    ensures written { IsTrue result
+        → Appends (writer_contents W.contents writer.old) (writer_contents W.contents writer.new)
+        (report_text report.now.lines.items) }
+    ensures begun { AppendsPrefix (writer_contents W.contents writer.old)
+        (writer_contents W.contents writer.new) (report_text report.now.lines.items) }
     ensures flushed { IsTrue result → writer_buffer writer.new ≡ [] }
 {
     write_report(report, writer).is_ok() && writer.flush().is_ok()
@@ -70,26 +73,31 @@ fn finish<W: Write + Drop>(
     writer: &mut BufWriter<W>,
 ) -> Ending
     ensures ends { EndsBy cause result }
-    ensures begun { AppendsPrefix (writer_contents W.contents writer.old) (writer_contents W.contents writer.new) (report_text report.now.lines.items) }
-    ensures finished { Finishes cause report.now.lines.items (writer_contents W.contents writer.old) (writer_contents W.contents writer.new) result }
+    ensures begun { AppendsPrefix (writer_contents W.contents writer.old)
+        (writer_contents W.contents writer.new) (report_text report.now.lines.items) }
+    ensures finished { Finishes cause report.now.lines.items (writer_contents W.contents writer.old)
+        (writer_contents W.contents writer.new) result }
     ensures flushed { status_of result ≡ 0 → writer_buffer writer.new ≡ [] }
 {
     let flushed = send_report(report, writer);
     ending_of(cause, all_stand(&report.lines), flushed)
 }
 
-/// Imports the declarations of a CSV file, writes the report of it, after a fault that of the rows that stand, and tells how that
-/// ends. The output is flushed. `line` tells how far the import is, and is ended before the report is written.
+/// Imports the declarations of a CSV file, writes the report of it, after a fault that of the rows
+/// that stand, and tells how that ends. The output is flushed. `line` tells how far the import is,
+/// and is ended before the report is written.
 ///
-/// - `done`: with status 0 each row was imported and its declaration stands; with status 1 too, but for a file without its header,
-///   and some declaration doesn't stand. The whole report is written.
-/// - `stopped`: after a fault of the records, and where memory was refused, the first rows stand; after one of the output all rows do. What was
-///   written is a beginning of their report. After one of the input, and where the header is missing, nothing has changed and nothing is written.
-/// - `promised`: what a registry promises after any list of requests holds of the requests of the rows that were applied, after a fault of the
-///   first ones.
+/// - `done`: with status 0 each row was imported and its declaration stands; with status 1 too, but
+///   for a file without its header, and some declaration doesn't stand. The whole report is
+///   written.
+/// - `stopped`: after a fault of the records, and where memory was refused, the first rows stand;
+///   after one of the output all rows do. What was written is a beginning of their report. After
+///   one of the input, and where the header is missing, nothing has changed and nothing is written.
+/// - `promised`: what a registry promises after any list of requests holds of the requests of the
+///   rows that were applied, after a fault of the first ones.
 /// - `lied`: what keeps the records returned what was written before, where it did so to the end.
-/// - `found`: however it ends, the rows whose report is written, whole or in part, are first rows, and a crash finds them imported, and at
-///   most one row more.
+/// - `found`: however it ends, the rows whose report is written, whole or in part, are first rows,
+///   and a crash finds them imported, and at most one row more.
 pub fn declare<S: Shelf, R: Read, W: Write + Drop, T: Write>(
     alloc: Global,
     registry: &mut Registry<S>,
@@ -97,9 +105,21 @@ pub fn declare<S: Shelf, R: Read, W: Write + Drop, T: Write>(
     writer: &mut BufWriter<W>,
     line: &mut ProgressLine<T>,
 ) -> Ending
-    ensures done { (S.seen registry.new.shelf).lies ≡ 0 → IfSome (R.remaining reader.old) (λ input. IsDeclared input (S.seen registry.old.shelf).state (S.seen registry.new.shelf).state (writer_contents W.contents writer.old) (writer_contents W.contents writer.new) result) }
-    ensures stopped { (S.seen registry.new.shelf).lies ≡ 0 → IfSome (R.remaining reader.old) (λ input. IsStopped result input (seen_of (S.seen registry.old.shelf)) (seen_of (S.seen registry.new.shelf)) (writer_contents W.contents writer.old) (writer_contents W.contents writer.new)) }
-    ensures promised { IsSound (S.seen registry.old.shelf).state → (S.seen registry.new.shelf).lies ≡ 0 → (S.seen registry.new.shelf).doubts ≡ 0 → IfSome (R.remaining reader.old) (λ input. KeepsPromise result input (S.seen registry.old.shelf).state (S.seen registry.new.shelf).state) }
+    ensures done { (S.seen registry.new.shelf).lies ≡ 0
+        → IfSome (R.remaining reader.old)
+        (λ input. IsDeclared input (S.seen registry.old.shelf).state
+        (S.seen registry.new.shelf).state (writer_contents W.contents writer.old)
+        (writer_contents W.contents writer.new) result) }
+    ensures stopped { (S.seen registry.new.shelf).lies ≡ 0
+        → IfSome (R.remaining reader.old)
+        (λ input. IsStopped result input (seen_of (S.seen registry.old.shelf))
+        (seen_of (S.seen registry.new.shelf)) (writer_contents W.contents writer.old)
+        (writer_contents W.contents writer.new)) }
+    ensures promised { IsSound (S.seen registry.old.shelf).state
+        → (S.seen registry.new.shelf).lies ≡ 0 → (S.seen registry.new.shelf).doubts ≡ 0
+        → IfSome (R.remaining reader.old)
+        (λ input. KeepsPromise result input (S.seen registry.old.shelf).state
+        (S.seen registry.new.shelf).state) }
     ensures lied { (S.seen registry.new.shelf).lies ≡ 0 → (S.seen registry.old.shelf).lies ≡ 0 }
     ensures flushed { status_of result ≡ 0 → writer_buffer writer.new ≡ [] }
     ensures found { (S.seen registry.new.shelf).lies ≡ 0 → (S.seen registry.old.shelf).doubts ≡ 0

@@ -1,5 +1,5 @@
-//! What the program does for the issuing body with a registry that is open: it imports declarations, and writes statements and
-//! the audit.
+//! What the program does for the issuing body with a registry that is open: it imports
+//! declarations, and writes statements and the audit.
 #![tactic(auto)]
 
 mod declaring;

@@ -19,8 +19,9 @@ const PARTS: u64 = 100;
 /// Room for what is told at once.
 const ROOM: usize = 64;
 
-/// The line of a terminal on which an import of a hundred rows or more tells how many of them stand, and of how many. It is
-/// written over itself, at most at each further hundredth of the rows. A write that fails is passed over.
+/// The line of a terminal on which an import of a hundred rows or more tells how many of them
+/// stand, and of how many. It is written over itself, at most at each further hundredth of the
+/// rows. A write that fails is passed over.
 #[derive(Drop)]
 pub struct ProgressLine<T> {
     /// None where nobody looks.
@@ -58,7 +59,8 @@ fn progress_text(done: u64, rows: u64) -> ArrayString<ROOM>
 
 /// Writes over the line that so many rows of so many stand.
 fn tell<T: Write>(terminal: &mut T, done: u64, rows: u64) -> Result<(), WriteFault>
-    ensures { OnOk result (Appends (T.contents terminal.old) (T.contents terminal.new) (progress_text done rows)) }
+    ensures { OnOk result
+        (Appends (T.contents terminal.old) (T.contents terminal.new) (progress_text done rows)) }
 {
     write_whole(terminal, progress_text(done, rows).as_str().as_bytes())
 }

@@ -34,7 +34,8 @@ fn ending_of(written: Result<(), ShowFault>, flushed: bool) -> Ending
 
 /// Writes the statement of an account, and tells how that ends. The output is flushed.
 ///
-/// - `shown`, `flushed`: status 0 only where the whole statement is written after what the writer had, and nothing is left in its buffer.
+/// - `shown`, `flushed`: status 0 only where the whole statement is written after what the writer
+///   had, and nothing is left in its buffer.
 /// - `unknown`: status 1 only where there is no such account, and nothing is written then.
 /// - `rests`: the registry stays as it is.
 /// - `safe`: a crash that follows finds it as it was, and finds nothing else, whatever the status.
@@ -44,12 +45,18 @@ pub fn show_statement<S: Shelf, W: Write + Drop>(
     account: AccountNo,
     writer: &mut BufWriter<W>,
 ) -> Ending
-    ensures shown { (S.seen registry.new.shelf).lies ≡ 0 → status_of result ≡ 0 → Wrote (writer_contents W.contents writer.old) (writer_contents W.contents writer.new) (IsStatement (S.seen registry.old.shelf).state account) }
-    ensures unknown { (S.seen registry.new.shelf).lies ≡ 0 → status_of result ≡ 1 → get (S.seen registry.old.shelf).state.accounts account ≡ None }
-    ensures silent { (S.seen registry.new.shelf).lies ≡ 0 → status_of result ≡ 1 → Keeps (writer_contents W.contents writer.old) (writer_contents W.contents writer.new) }
+    ensures shown { (S.seen registry.new.shelf).lies ≡ 0 → status_of result ≡ 0
+        → Wrote (writer_contents W.contents writer.old) (writer_contents W.contents writer.new)
+        (IsStatement (S.seen registry.old.shelf).state account) }
+    ensures unknown { (S.seen registry.new.shelf).lies ≡ 0 → status_of result ≡ 1
+        → get (S.seen registry.old.shelf).state.accounts account ≡ None }
+    ensures silent { (S.seen registry.new.shelf).lies ≡ 0 → status_of result ≡ 1
+        → Keeps (writer_contents W.contents writer.old) (writer_contents W.contents writer.new) }
     ensures flushed { status_of result ≡ 0 → writer_buffer writer.new ≡ [] }
-    ensures rests { (S.seen registry.new.shelf).doubts ≡ 0 → (S.seen registry.new.shelf).state ≡ (S.seen registry.old.shelf).state }
-    ensures safe { (S.seen registry.new.shelf).lies ≡ 0 → (S.seen registry.old.shelf).doubts ≡ 0 → IsSafe (S.seen registry.new.shelf) (S.seen registry.old.shelf).state }
+    ensures rests { (S.seen registry.new.shelf).doubts ≡ 0
+        → (S.seen registry.new.shelf).state ≡ (S.seen registry.old.shelf).state }
+    ensures safe { (S.seen registry.new.shelf).lies ≡ 0 → (S.seen registry.old.shelf).doubts ≡ 0
+        → IsSafe (S.seen registry.new.shelf) (S.seen registry.old.shelf).state }
     ensures lied { (S.seen registry.new.shelf).lies ≡ 0 → (S.seen registry.old.shelf).lies ≡ 0 }
 {
     let written = write_statement(registry, &issuer(), account, writer);
@@ -59,7 +66,8 @@ pub fn show_statement<S: Shelf, W: Write + Drop>(
 
 /// Writes the audit of all devices, and tells how that ends. The output is flushed.
 ///
-/// - `shown`, `flushed`: status 0 only where the whole audit is written after what the writer had, and nothing is left in its buffer.
+/// - `shown`, `flushed`: status 0 only where the whole audit is written after what the writer had,
+///   and nothing is left in its buffer.
 /// - `silent`: with status 1 nothing is written.
 /// - `rests`: the registry stays as it is.
 /// - `safe`: a crash that follows finds it as it was, and finds nothing else, whatever the status.
@@ -69,11 +77,16 @@ pub fn show_audit<S: Shelf, W: Write + Drop>(
     registry: &mut Registry<S>,
     writer: &mut BufWriter<W>,
 ) -> Ending
-    ensures shown { (S.seen registry.new.shelf).lies ≡ 0 → status_of result ≡ 0 → Wrote (writer_contents W.contents writer.old) (writer_contents W.contents writer.new) (IsAuditText (S.seen registry.old.shelf).state) }
-    ensures silent { (S.seen registry.new.shelf).lies ≡ 0 → status_of result ≡ 1 → Keeps (writer_contents W.contents writer.old) (writer_contents W.contents writer.new) }
+    ensures shown { (S.seen registry.new.shelf).lies ≡ 0 → status_of result ≡ 0
+        → Wrote (writer_contents W.contents writer.old) (writer_contents W.contents writer.new)
+        (IsAuditText (S.seen registry.old.shelf).state) }
+    ensures silent { (S.seen registry.new.shelf).lies ≡ 0 → status_of result ≡ 1
+        → Keeps (writer_contents W.contents writer.old) (writer_contents W.contents writer.new) }
     ensures flushed { status_of result ≡ 0 → writer_buffer writer.new ≡ [] }
-    ensures rests { (S.seen registry.new.shelf).doubts ≡ 0 → (S.seen registry.new.shelf).state ≡ (S.seen registry.old.shelf).state }
-    ensures safe { (S.seen registry.new.shelf).lies ≡ 0 → (S.seen registry.old.shelf).doubts ≡ 0 → IsSafe (S.seen registry.new.shelf) (S.seen registry.old.shelf).state }
+    ensures rests { (S.seen registry.new.shelf).doubts ≡ 0
+        → (S.seen registry.new.shelf).state ≡ (S.seen registry.old.shelf).state }
+    ensures safe { (S.seen registry.new.shelf).lies ≡ 0 → (S.seen registry.old.shelf).doubts ≡ 0
+        → IsSafe (S.seen registry.new.shelf) (S.seen registry.old.shelf).state }
     ensures lied { (S.seen registry.new.shelf).lies ≡ 0 → (S.seen registry.old.shelf).lies ≡ 0 }
 {
     let written = write_audit(alloc, registry, &issuer(), writer);

@@ -6,7 +6,8 @@ ghost use Rattle.goo_types.specs.Piece.{at_of, IsRising};
 ghost use Rattle.goo_types.specs.declared.fault.Fault.TheVariants.{Memory};
 ghost use Rattle.goo_types.specs.declared.reply.Reply.TheVariants as reply;
 ghost use Rattle.goo_spec.specs.Checks.{first_refusal};
-ghost use Rattle.goo_spec.specs.Correct.{correct_refusal, correct_reply, with_correction, count_in, is_lot_of as lot_test};
+ghost use Rattle.goo_spec.specs.Correct.{correct_refusal, correct_reply, with_correction, count_in};
+ghost use Rattle.goo_spec.specs.Correct.{is_lot_of as lot_test};
 ghost use Rattle.goo_spec.specs.Maps.{each, count_of, least_failing};
 ghost use Rattle.goo_spec.specs.Sound.{IsSound};
 ghost use Rattle.goo_ranges_rows.specs.Rows.{AreRowsOf};
@@ -50,7 +51,8 @@ fn count_of_any(range: Option<Range>) -> u64
     }
 }
 
-/// The carry that a correction leaves a device with this carry, whose declaration has so much left; or why it is refused.
+/// The carry that a correction leaves a device with this carry, whose declaration has so much left;
+/// or why it is refused.
 fn carry_left(carry: Wh, left: Option<Wh>, correct: &Correct) -> Result<u64, Refusal>
     ensures { result ≡ entry_by carry left correct.now }
 {
@@ -68,7 +70,8 @@ fn carry_left(carry: Wh, left: Option<Wh>, correct: &Correct) -> Result<u64, Ref
     }
 }
 
-/// The carry that a correction leaves its device, or the first check that fails of those before the ones over its range.
+/// The carry that a correction leaves its device, or the first check that fails of those before the
+/// ones over its range.
 fn enter<S: Shelf>(
     shelf: &mut S,
     caller: &HolderCode,
@@ -76,7 +79,8 @@ fn enter<S: Shelf>(
 ) -> Result<Result<u64, Refusal>, Fault>
     requires ready { IsReady (S.seen shelf.old) }
     requires sound { (S.seen shelf.old).doubts ≡ 0 → IsSound (S.seen shelf.old).state }
-    ensures { Looks (S.seen shelf.old) (S.seen shelf.new) result (IsEntry (S.seen shelf.old).state caller.now correct.now) }
+    ensures { Looks (S.seen shelf.old) (S.seen shelf.new) result
+        (IsEntry (S.seen shelf.old).state caller.now correct.now) }
 {
     if !is_issuer(caller) {
         return Ok(Err(Refusal::NotAllowed));
@@ -97,7 +101,8 @@ fn is_lot_of(own: RegistryCode, device: &Gsrn, lot: &Lot) -> bool
 
 /// The least number of the range that is there and whose lot isn't an own one of the device.
 fn least_other(book: &Book, range: Range, own: RegistryCode, device: Gsrn) -> Option<Number>
-    ensures { result ≡ least_failing (λ lot place. lot_test own device lot) (at_of book.now) (each range) }
+    ensures { result
+        ≡ least_failing (λ lot place. lot_test own device lot) (at_of book.now) (each range) }
 {
     book.least_not(
         range,
@@ -117,7 +122,13 @@ fn correct_certificates(
     carry: u64,
 ) -> Result<Ruling, Fault>
     requires { IsRising met.items }
-    ensures ruling { IfOk result (IsChangeRuling (first_refusal (range_checks (at_of met.items) meta.code meta.counters.withdrawal device.now range)) (reply.Corrected carry (count_of range) (Some meta.counters.withdrawal)) None range (withdrawn range meta.counters.withdrawal) (account_runs (at_of met.items) range) met.items) }
+    ensures ruling { IfOk result
+        (IsChangeRuling
+        (first_refusal
+        (range_checks (at_of met.items) meta.code meta.counters.withdrawal device.now range))
+        (reply.Corrected carry (count_of range) (Some meta.counters.withdrawal)) None range
+        (withdrawn range meta.counters.withdrawal)
+        (account_runs (at_of met.items) range) met.items) }
     ensures memory { IfErr result (λ fault. fault ≡ Memory) }
 {
     let book = Book::of_rows(met);
@@ -166,7 +177,8 @@ fn unranged(alloc: Global, carry: u64) -> Change
 ///
 /// # Errors
 ///
-/// `Store` where the shelf answers it, `Memory` where memory was refused. State and rows stay as they are.
+/// `Store` where the shelf answers it, `Memory` where memory was refused. State and rows stay as
+/// they are.
 pub fn judge_correct<S: Shelf>(
     alloc: Global,
     shelf: &mut S,
@@ -175,8 +187,15 @@ pub fn judge_correct<S: Shelf>(
 ) -> Result<Ruling, Fault>
     requires ready { IsReady (S.seen shelf.old) }
     requires sound { (S.seen shelf.old).doubts ≡ 0 → IsSound (S.seen shelf.old).state }
-    requires rows { (S.seen shelf.old).doubts ≡ 0 → AreRowsOf (S.seen shelf.old).state.at (S.seen shelf.old).rows }
-    ensures { Looks (S.seen shelf.old) (S.seen shelf.new) result (IsRuling (plain_meaning (correct_refusal (S.seen shelf.old).state caller.now correct.now) (correct_reply (S.seen shelf.old).state correct.now) (with_correction (S.seen shelf.old).state correct.now).at (λ rows. runs_in (get (S.seen shelf.old).state.at) correct.now.range) (option_to_list correct.now.range)) (S.seen shelf.old).rows) }
+    requires rows { (S.seen shelf.old).doubts ≡ 0
+        → AreRowsOf (S.seen shelf.old).state.at (S.seen shelf.old).rows }
+    ensures { Looks (S.seen shelf.old) (S.seen shelf.new) result
+        (IsRuling
+        (plain_meaning (correct_refusal (S.seen shelf.old).state caller.now correct.now)
+        (correct_reply (S.seen shelf.old).state correct.now)
+        (with_correction (S.seen shelf.old).state correct.now).at
+        (λ rows. runs_in (get (S.seen shelf.old).state.at) correct.now.range)
+        (option_to_list correct.now.range)) (S.seen shelf.old).rows) }
 {
     let carry = match enter(shelf, caller, correct)? {
         Ok(carry) => carry,

@@ -54,8 +54,11 @@ fn judge<S: Shelf>(
 ) -> Result<Ruling, Fault>
     requires ready { IsReady (S.seen shelf.old) }
     requires sound { (S.seen shelf.old).doubts ≡ 0 → IsSound (S.seen shelf.old).state }
-    requires rows { (S.seen shelf.old).doubts ≡ 0 → AreRowsOf (S.seen shelf.old).state.at (S.seen shelf.old).rows }
-    ensures { Looks (S.seen shelf.old) (S.seen shelf.new) result (IsRuling (meaning_of (S.seen shelf.old).state caller.now command.now) (S.seen shelf.old).rows) }
+    requires rows { (S.seen shelf.old).doubts ≡ 0
+        → AreRowsOf (S.seen shelf.old).state.at (S.seen shelf.old).rows }
+    ensures { Looks (S.seen shelf.old) (S.seen shelf.new) result
+        (IsRuling (meaning_of (S.seen shelf.old).state caller.now command.now)
+        (S.seen shelf.old).rows) }
 {
     match command {
         Command::OpenHolder(x) => Ok(quiet(alloc, judge_open_holder(shelf, caller, x)?)),
@@ -82,9 +85,12 @@ fn decide_fresh<S: Shelf>(
 ) -> Result<Decision, Fault>
     requires ready { IsReady (S.seen shelf.old) }
     requires sound { (S.seen shelf.old).doubts ≡ 0 → IsSound (S.seen shelf.old).state }
-    requires rows { (S.seen shelf.old).doubts ≡ 0 → AreRowsOf (S.seen shelf.old).state.at (S.seen shelf.old).rows }
-    requires fresh { (S.seen shelf.old).doubts ≡ 0 → get (S.seen shelf.old).state.receipts (request.now.caller, request.now.key) ≡ None }
-    ensures { Looks (S.seen shelf.old) (S.seen shelf.new) result (IsDecision (S.seen shelf.old).state (S.seen shelf.old).rows request.now) }
+    requires rows { (S.seen shelf.old).doubts ≡ 0
+        → AreRowsOf (S.seen shelf.old).state.at (S.seen shelf.old).rows }
+    requires fresh { (S.seen shelf.old).doubts ≡ 0
+        → get (S.seen shelf.old).state.receipts (request.now.caller, request.now.key) ≡ None }
+    ensures { Looks (S.seen shelf.old) (S.seen shelf.new) result
+        (IsDecision (S.seen shelf.old).state (S.seen shelf.old).rows request.now) }
 {
     // A request in hand is within its limits: its command comes with that fact.
     let _ = request.command();
@@ -92,15 +98,16 @@ fn decide_fresh<S: Shelf>(
     decision_by(alloc, request, ruling)
 }
 
-/// Decides on a request. It changes nothing: an accepted request is carried out by committing its plan. A key that is
-/// kept answers first, then the command's checks in their order. A plan edits the rows once at most, but once for each
-/// run of one account that is withdrawn, for each part that is imported, and for each row that expires. An edit of a
-/// range deletes and inserts at most two rows more than meet it.
+/// Decides on a request. It changes nothing: an accepted request is carried out by committing its
+/// plan. A key that is kept answers first, then the command's checks in their order. A plan edits
+/// the rows once at most, but once for each run of one account that is withdrawn, for each part
+/// that is imported, and for each row that expires. An edit of a range deletes and inserts at most
+/// two rows more than meet it.
 ///
 /// # Errors
 ///
-/// `Store` where the shelf answers it, `Memory` where memory was refused: a fault takes the place of any answer. State
-/// and rows stay as they are.
+/// `Store` where the shelf answers it, `Memory` where memory was refused: a fault takes the place
+/// of any answer. State and rows stay as they are.
 ///
 /// # Example
 ///
@@ -116,8 +123,10 @@ fn decide_fresh<S: Shelf>(
 /// ```
 pub fn decide<S: Shelf>(alloc: Global, shelf: &mut S, request: &Request) -> Result<Decision, Fault>
     requires sound { (S.seen shelf.old).doubts ≡ 0 → IsSound (S.seen shelf.old).state }
-    requires rows { (S.seen shelf.old).doubts ≡ 0 → AreRowsOf (S.seen shelf.old).state.at (S.seen shelf.old).rows }
-    ensures { Looks (S.seen shelf.old) (S.seen shelf.new) result (IsDecision (S.seen shelf.old).state (S.seen shelf.old).rows request.now) }
+    requires rows { (S.seen shelf.old).doubts ≡ 0
+        → AreRowsOf (S.seen shelf.old).state.at (S.seen shelf.old).rows }
+    ensures { Looks (S.seen shelf.old) (S.seen shelf.new) result
+        (IsDecision (S.seen shelf.old).state (S.seen shelf.old).rows request.now) }
 {
     let receipt = shelf.receipt(alloc, &request.caller, &request.key, &request.command)?;
     match kept_decision(receipt) {

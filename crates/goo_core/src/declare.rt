@@ -1,4 +1,5 @@
-//! Declarations: their checks, and the certificates that they earn (Directive (EU) 2018/2001, Article 19(2)).
+//! Declarations: their checks, and the certificates that they earn (Directive (EU) 2018/2001,
+//! Article 19(2)).
 ghost use Rattle.std.specs.Prelude.{◌≡◌, ◌+◌, ◌-◌, ◌≤◌, ◌*◌, ◌/◌, ◌%◌, ◌||◌, true, false, nat_lt};
 ghost use Rattle.std.specs.Option.{option_to_list};
 ghost use Rattle.goo_types.specs.declared.refusal.Refusal.TheVariants.{NumbersExhausted};
@@ -7,14 +8,17 @@ ghost use Rattle.goo_spec.specs.Checks.{is_shut as shut_test};
 ghost use Rattle.goo_spec.specs.Checks.{first_refusal, when};
 ghost use Rattle.goo_spec.specs.Days.{is_before as before_test, are_in_one_month as one_month_test};
 ghost use Rattle.goo_spec.specs.State.{State, serials};
-ghost use Rattle.goo_spec.specs.Declare.{device_checks, earned, next_number, range_of, lot_of as lot_def, begins_too_early as early_test, most_energy as most};
+ghost use Rattle.goo_spec.specs.Declare.{device_checks, earned, next_number, range_of};
+ghost use Rattle.goo_spec.specs.Declare.{lot_of as lot_def, begins_too_early as early_test};
+ghost use Rattle.goo_spec.specs.Declare.{most_energy as most};
 ghost use Rattle.goo_spec.specs.Declare.{declare_refusal, declare_reply, with_issue};
 ghost use Rattle.goo_spec.specs.Energy.{lowered, total};
 ghost use Rattle.goo_spec.specs.Sound.{IsSound};
 ghost use Rattle.goo_ranges_rows.specs.Rows.{AreRowsOf};
 ghost use Rattle.goo_core_shelf.specs.Shelf.{Looks, IsReady};
 ghost use Rattle.goo_core.specs.Ruling.{IsRuling, plain_meaning};
-ghost use Rattle.goo_core.specs.Issue.{IsStandingIf, IsStanding, appraisal_of, appraisal_with, terms_of, energy_checks};
+ghost use Rattle.goo_core.specs.Issue.{IsStandingIf, IsStanding, appraisal_of, appraisal_with};
+ghost use Rattle.goo_core.specs.Issue.{terms_of, energy_checks};
 
 use crate::issue::{Appraisal, Terms, issue_edits, issue_of, issued_range, numbers_from};
 use goo_core_answers::callers::is_issuer;
@@ -82,8 +86,10 @@ fn lot_of(declaration: &Declare, standing: &Standing) -> Lot
     requires period { before_test declaration.now.last_day declaration.now.first_day ≡ false }
     requires month { one_month_test declaration.now.first_day declaration.now.last_day ≡ true }
     requires past { before_test declaration.now.last_day standing.now.meta.today ≡ true }
-    requires commissioned { before_test declaration.now.first_day standing.now.device.commissioned ≡ false }
-    ensures { (s : State) → IsStanding s declaration.now.device standing.now → result ≡ lot_def s declaration.now standing.now.device }
+    requires commissioned { before_test declaration.now.first_day standing.now.device.commissioned
+        ≡ false }
+    ensures { (s : State) → IsStanding s declaration.now.device standing.now
+        → result ≡ lot_def s declaration.now standing.now.device }
 {
     let fields = standing
         .device
@@ -103,7 +109,8 @@ fn most_energy(device: &Device, declaration: &Declare) -> u128
 
 /// What a declaration is judged by, if its device is known.
 fn read_standing<S: Shelf>(shelf: &mut S, device: &Gsrn) -> Result<Option<Standing>, Fault>
-    ensures { Looks (S.seen shelf.old) (S.seen shelf.new) result (λ standing. IsStandingIf (S.seen shelf.old).state device.now standing) }
+    ensures { Looks (S.seen shelf.old) (S.seen shelf.new) result
+        (λ standing. IsStandingIf (S.seen shelf.old).state device.now standing) }
 {
     let Some(found) = shelf.device_record(device)? else {
         return Ok(None);
@@ -118,12 +125,18 @@ fn read_standing<S: Shelf>(shelf: &mut S, device: &Gsrn) -> Result<Option<Standi
     }))
 }
 
-/// What a declaration earns: a certificate for each whole MWh of the net energy with the carry (Directive (EU) 2018/2001,
-/// Article 19(2)).
+/// What a declaration earns: a certificate for each whole MWh of the net energy with the carry
+/// (Directive (EU) 2018/2001, Article 19(2)).
 #[tactic(auto, using(goo_spec::proofs::Balancing::earned_from_carry, goo_spec::proofs::Balancing::carry_from_carry))]
 fn settle(declaration: &Declare, standing: &Standing, lot: &Lot) -> Appraisal
     requires { declaration.now.aux ≤ declaration.now.gross }
-    ensures { (s : State) → lowered s declaration.now.device ≤ total s declaration.now.device → IsStanding s declaration.now.device standing.now → lot.now ≡ lot_def s declaration.now standing.now.device → result ≡ appraisal_with (when (nat_lt serials (s.next_serial + earned s declaration.now)) NumbersExhausted) (terms_of s declaration.now standing.now.device) }
+    ensures { (s : State) → lowered s declaration.now.device ≤ total s declaration.now.device
+        → IsStanding s declaration.now.device standing.now
+        → lot.now ≡ lot_def s declaration.now standing.now.device
+        → result
+        ≡ appraisal_with
+        (when (nat_lt serials (s.next_serial + earned s declaration.now)) NumbersExhausted)
+        (terms_of s declaration.now standing.now.device) }
 {
     let Earnings { count, carry } = earn(standing.progress.carry, declaration);
     let serial = standing.meta.counters.serial();
@@ -137,11 +150,17 @@ fn settle(declaration: &Declare, standing: &Standing, lot: &Lot) -> Appraisal
     })
 }
 
-/// The appraisal of a declaration, by the checks against its device's earlier ones and its capacity.
+/// The appraisal of a declaration, by the checks against its device's earlier ones and its
+/// capacity.
 #[tactic(auto, unfolding(goo_spec::specs::Days::is_over))]
 fn appraise_energy(declaration: &Declare, standing: &Standing, lot: &Lot) -> Appraisal
     requires { before_test declaration.now.last_day declaration.now.first_day ≡ false }
-    ensures { (s : State) → lowered s declaration.now.device ≤ total s declaration.now.device → IsStanding s declaration.now.device standing.now → lot.now ≡ lot_def s declaration.now standing.now.device → result ≡ appraisal_with (first_refusal (energy_checks s declaration.now standing.now.device)) (terms_of s declaration.now standing.now.device) }
+    ensures { (s : State) → lowered s declaration.now.device ≤ total s declaration.now.device
+        → IsStanding s declaration.now.device standing.now
+        → lot.now ≡ lot_def s declaration.now standing.now.device
+        → result
+        ≡ appraisal_with (first_refusal (energy_checks s declaration.now standing.now.device))
+        (terms_of s declaration.now standing.now.device) }
 {
     if begins_too_early(standing.progress.last_day, declaration.first_day) {
         return Appraisal::Fails(Refusal::PeriodOrder);
@@ -161,7 +180,11 @@ fn appraise_energy(declaration: &Declare, standing: &Standing, lot: &Lot) -> App
 
 /// The appraisal of a declaration, by the checks that ask for its device.
 fn appraise_standing(declaration: &Declare, standing: &Standing) -> Appraisal
-    ensures { (s : State) → lowered s declaration.now.device ≤ total s declaration.now.device → IsStanding s declaration.now.device standing.now → result ≡ appraisal_with (first_refusal (device_checks s declaration.now standing.now.device)) (terms_of s declaration.now standing.now.device) }
+    ensures { (s : State) → lowered s declaration.now.device ≤ total s declaration.now.device
+        → IsStanding s declaration.now.device standing.now
+        → result
+        ≡ appraisal_with (first_refusal (device_checks s declaration.now standing.now.device))
+        (terms_of s declaration.now standing.now.device) }
 {
     if is_shut(standing.account) {
         return Appraisal::Fails(Refusal::AccountClosed);
@@ -185,7 +208,8 @@ fn appraise_standing(declaration: &Declare, standing: &Standing) -> Appraisal
 ///
 /// # Errors
 ///
-/// `Store` where the shelf answers it, `Memory` where memory was refused. State and rows stay as they are.
+/// `Store` where the shelf answers it, `Memory` where memory was refused. State and rows stay as
+/// they are.
 #[tactic(auto, unfolding(crate::specs::Issue::appraisal_of))]
 pub fn appraise<S: Shelf>(
     shelf: &mut S,
@@ -194,7 +218,9 @@ pub fn appraise<S: Shelf>(
 ) -> Result<Appraisal, Fault>
     requires ready { IsReady (S.seen shelf.old) }
     requires sound { (S.seen shelf.old).doubts ≡ 0 → IsSound (S.seen shelf.old).state }
-    ensures { Looks (S.seen shelf.old) (S.seen shelf.new) result (λ appraisal. appraisal ≡ appraisal_of (S.seen shelf.old).state caller.now declaration.now) }
+    ensures { Looks (S.seen shelf.old) (S.seen shelf.new) result
+        (λ appraisal. appraisal
+        ≡ appraisal_of (S.seen shelf.old).state caller.now declaration.now) }
 {
     if !is_issuer(caller) {
         return Ok(Appraisal::Fails(Refusal::NotAllowed));
@@ -209,7 +235,8 @@ pub fn appraise<S: Shelf>(
 ///
 /// # Errors
 ///
-/// `Store` where the shelf answers it, `Memory` where memory was refused. State and rows stay as they are.
+/// `Store` where the shelf answers it, `Memory` where memory was refused. State and rows stay as
+/// they are.
 pub fn judge_declare<S: Shelf>(
     alloc: Global,
     shelf: &mut S,
@@ -218,8 +245,17 @@ pub fn judge_declare<S: Shelf>(
 ) -> Result<Ruling, Fault>
     requires ready { IsReady (S.seen shelf.old) }
     requires sound { (S.seen shelf.old).doubts ≡ 0 → IsSound (S.seen shelf.old).state }
-    requires rows { (S.seen shelf.old).doubts ≡ 0 → AreRowsOf (S.seen shelf.old).state.at (S.seen shelf.old).rows }
-    ensures { Looks (S.seen shelf.old) (S.seen shelf.new) result (IsRuling (plain_meaning (declare_refusal (S.seen shelf.old).state caller.now declaration.now) (declare_reply (S.seen shelf.old).state declaration.now) (with_issue (S.seen shelf.old).state declaration.now).at (λ rows. 1) (option_to_list (range_of (next_number (S.seen shelf.old).state) (earned (S.seen shelf.old).state declaration.now)))) (S.seen shelf.old).rows) }
+    requires rows { (S.seen shelf.old).doubts ≡ 0
+        → AreRowsOf (S.seen shelf.old).state.at (S.seen shelf.old).rows }
+    ensures { Looks (S.seen shelf.old) (S.seen shelf.new) result
+        (IsRuling
+        (plain_meaning (declare_refusal (S.seen shelf.old).state caller.now declaration.now)
+        (declare_reply (S.seen shelf.old).state declaration.now)
+        (with_issue (S.seen shelf.old).state declaration.now).at
+        (λ rows. 1)
+        (option_to_list
+        (range_of (next_number (S.seen shelf.old).state)
+        (earned (S.seen shelf.old).state declaration.now)))) (S.seen shelf.old).rows) }
 {
     match appraise(shelf, caller, declaration)? {
         Appraisal::Fails(refusal) => Ok(Ruling::Refused(refusal)),

@@ -1,7 +1,7 @@
 //! Decisions over any shelf: [`decide`] decides on a request and changes nothing.
 //!
-//! What keeps a registry is a [`Shelf`]; [`ListShelf`] is one of plain lists. A [`Decision`] that accepts a request hands out the
-//! [`Plan`] of its change, which the shelf commits.
+//! What keeps a registry is a [`Shelf`]; [`ListShelf`] is one of plain lists. A [`Decision`] that
+//! accepts a request hands out the [`Plan`] of its change, which the shelf commits.
 #![tactic(auto)]
 
 mod add_peer;

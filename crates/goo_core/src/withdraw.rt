@@ -1,5 +1,6 @@
 //! Withdrawals: their checks, and the certificates that they take back.
-ghost use Rattle.std.specs.Prelude.{◌≡◌, ℕ, ◌+◌, ◌≤◌, None, List, [], ◌∷◌, length, count_by, Option, IfOk, IfErr, OnOk};
+ghost use Rattle.std.specs.Prelude.{◌≡◌, ℕ, ◌+◌, ◌≤◌, None, List, [], ◌∷◌, length, count_by};
+ghost use Rattle.std.specs.Prelude.{Option, IfOk, IfErr, OnOk};
 ghost use Rattle.std.specs.FinMap.{get};
 ghost use Rattle.goo_types.specs.Piece.{Label, at_of, IsForward, IsRising};
 ghost use Rattle.goo_types.specs.declared.fault.Fault.TheVariants.{Memory};
@@ -16,7 +17,8 @@ ghost use Rattle.goo_core_checks.specs.Changes.{AreEditsFor};
 ghost use Rattle.goo_core.specs.Changes.{AreMade};
 ghost use Rattle.goo_core.specs.Moves.{IsChangeRuling};
 ghost use Rattle.goo_core.specs.Ruling.{IsRuling, plain_meaning};
-ghost use Rattle.goo_core.specs.Withdraw.{range_checks, withdrawn, run_withdrawn, runs_withdrawn, AreCommon};
+ghost use Rattle.goo_core.specs.Withdraw.{range_checks, withdrawn, run_withdrawn, runs_withdrawn};
+ghost use Rattle.goo_core.specs.Withdraw.{AreCommon};
 
 use crate::change::push_edit;
 use crate::range_checks::least_not_held;
@@ -56,8 +58,14 @@ fn withdraw_run(
 ) -> Result<(), Fault>
     requires forward { IsForward run.now }
     requires rising { IsRising book.old }
-    ensures made { OnOk result ((met : List piece.Piece) (change : ℕ → Option Label → Option Label) → AreMade range met change book.old edits.old.items → AreMade range met (λ n o. run_withdrawn range act run.now n (change n o)) book.new edits.new.items) }
-    ensures one { OnOk result (length edits.new.items ≡ length edits.old.items + one_if (meets range.first range.last run.now)) }
+    ensures made { OnOk result
+        ((met : List piece.Piece) (change : ℕ → Option Label → Option Label)
+        → AreMade range met change book.old edits.old.items
+        → AreMade range met
+        (λ n o. run_withdrawn range act run.now n (change n o)) book.new edits.new.items) }
+    ensures one { OnOk result
+        (length edits.new.items
+        ≡ length edits.old.items + one_if (meets range.first range.last run.now)) }
     ensures stays { OnOk result (IsRising book.new) }
     ensures memory { IfErr result (λ fault. fault ≡ Memory) }
 {
@@ -79,8 +87,10 @@ fn withdraw_runs(
 ) -> Result<Vec<Edit>, Fault>
     requires runs_rise { IsRising runs.now }
     requires book_rises { IsRising book.old }
-    ensures made { IfOk result (λ edits. AreMade range book.old (runs_withdrawn range act runs.now) book.new edits.items) }
-    ensures one_each { IfOk result (λ edits. length edits.items ≡ count_by (meets range.first range.last) runs.now) }
+    ensures made { IfOk result
+        (λ edits. AreMade range book.old (runs_withdrawn range act runs.now) book.new edits.items) }
+    ensures one_each { IfOk result
+        (λ edits. length edits.items ≡ count_by (meets range.first range.last) runs.now) }
     ensures memory { IfErr result (λ fault. fault ≡ Memory) }
 {
     let mut edits = Vec::new(alloc);
@@ -90,15 +100,17 @@ fn withdraw_runs(
     Ok(edits)
 }
 
-/// The edits that withdraw the certificates of a range, from a book of the rows that it meets: one for
-/// each run of numbers of one account.
+/// The edits that withdraw the certificates of a range, from a book of the rows that it meets: one
+/// for each run of numbers of one account.
 pub(crate) fn withdraw_met(
     alloc: Global,
     mut book: Book,
     range: Range,
     act: ActNo,
 ) -> Result<Vec<Edit>, Fault>
-    ensures edits { IfOk result (λ edits. (range.first ≤ range.last) × AreEditsFor range book (withdrawn range act) edits.items) }
+    ensures edits { IfOk result
+        (λ edits. (range.first ≤ range.last)
+        × AreEditsFor range book (withdrawn range act) edits.items) }
     ensures few { IfOk result (λ edits. length edits.items ≤ account_runs (at_of book) range) }
     ensures memory { IfErr result (λ fault. fault ≡ Memory) }
 {
@@ -115,7 +127,12 @@ fn withdraw_certificates(
     counters: Counters,
 ) -> Result<Ruling, Fault>
     requires { IsRising met.items }
-    ensures ruling { IfOk result (IsChangeRuling (first_refusal (range_checks (at_of met.items) counters.withdrawal withdraw.now)) (reply.Withdrawn counters.withdrawal (count_of withdraw.now.range)) None withdraw.now.range (withdrawn withdraw.now.range counters.withdrawal) (account_runs (at_of met.items) withdraw.now.range) met.items) }
+    ensures ruling { IfOk result
+        (IsChangeRuling
+        (first_refusal (range_checks (at_of met.items) counters.withdrawal withdraw.now))
+        (reply.Withdrawn counters.withdrawal (count_of withdraw.now.range)) None withdraw.now.range
+        (withdrawn withdraw.now.range counters.withdrawal)
+        (account_runs (at_of met.items) withdraw.now.range) met.items) }
     ensures memory { IfErr result (λ fault. fault ≡ Memory) }
 {
     let range = withdraw.range;
@@ -144,7 +161,8 @@ fn withdraw_certificates(
 ///
 /// # Errors
 ///
-/// `Store` where the shelf answers it, `Memory` where memory was refused. State and rows stay as they are.
+/// `Store` where the shelf answers it, `Memory` where memory was refused. State and rows stay as
+/// they are.
 #[tactic(auto, unfolding(goo_spec::specs::Withdraw::withdraw_refusal))]
 pub fn judge_withdraw<S: Shelf>(
     alloc: Global,
@@ -153,8 +171,15 @@ pub fn judge_withdraw<S: Shelf>(
     withdraw: &Withdraw,
 ) -> Result<Ruling, Fault>
     requires ready { IsReady (S.seen shelf.old) }
-    requires rows { (S.seen shelf.old).doubts ≡ 0 → AreRowsOf (S.seen shelf.old).state.at (S.seen shelf.old).rows }
-    ensures { Looks (S.seen shelf.old) (S.seen shelf.new) result (IsRuling (plain_meaning (withdraw_refusal (S.seen shelf.old).state caller.now withdraw.now) (withdraw_reply (S.seen shelf.old).state withdraw.now) (with_withdrawal (S.seen shelf.old).state withdraw.now).at (λ rows. account_runs (get (S.seen shelf.old).state.at) withdraw.now.range) (withdraw.now.range ∷ [])) (S.seen shelf.old).rows) }
+    requires rows { (S.seen shelf.old).doubts ≡ 0
+        → AreRowsOf (S.seen shelf.old).state.at (S.seen shelf.old).rows }
+    ensures { Looks (S.seen shelf.old) (S.seen shelf.new) result
+        (IsRuling
+        (plain_meaning (withdraw_refusal (S.seen shelf.old).state caller.now withdraw.now)
+        (withdraw_reply (S.seen shelf.old).state withdraw.now)
+        (with_withdrawal (S.seen shelf.old).state withdraw.now).at
+        (λ rows. account_runs (get (S.seen shelf.old).state.at) withdraw.now.range)
+        (withdraw.now.range ∷ [])) (S.seen shelf.old).rows) }
 {
     if !is_issuer(caller) {
         return Ok(Ruling::Refused(Refusal::NotAllowed));

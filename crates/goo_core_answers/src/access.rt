@@ -17,8 +17,8 @@ pub fn may_see(caller: &HolderCode, account: &Option<Account>) -> bool
     is_issuer(caller) || is_holder(caller, account)
 }
 
-/// A certificate as it is shown to a caller, by the account that its place names: one that he may not
-/// see is unknown to him.
+/// A certificate as it is shown to a caller, by the account that its place names: one that he may
+/// not see is unknown to him.
 ///
 /// # Errors
 ///

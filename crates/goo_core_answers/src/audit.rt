@@ -17,14 +17,15 @@ use std::alloc::Global;
 ///
 /// # Errors
 ///
-/// `Store` where the shelf answers it, `Memory` where memory was refused. State and rows stay as they are. Within
-/// an answer, `NotAllowed` to every caller but the issuing body.
+/// `Store` where the shelf answers it, `Memory` where memory was refused. State and rows stay as
+/// they are. Within an answer, `NotAllowed` to every caller but the issuing body.
 pub fn find_totals<S: Shelf>(
     alloc: Global,
     shelf: &mut S,
     caller: &HolderCode,
 ) -> Result<Result<Vec<DeviceTotals>, Denial>, Fault>
-    ensures { Looks (S.seen shelf.old) (S.seen shelf.new) result (IsAudit (S.seen shelf.old).state caller.now) }
+    ensures { Looks (S.seen shelf.old) (S.seen shelf.new) result
+        (IsAudit (S.seen shelf.old).state caller.now) }
 {
     let _code = shelf.code()?;
     if !is_issuer(caller) {

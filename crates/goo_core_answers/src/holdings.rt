@@ -32,15 +32,19 @@ pub fn runs_of(rows: Vec<Piece>) -> Result<Vec<Piece>, Fault>
 ///
 /// # Errors
 ///
-/// `Store` where the shelf answers it, `Memory` where memory was refused. State and rows stay as they are.
+/// `Store` where the shelf answers it, `Memory` where memory was refused. State and rows stay as
+/// they are.
 #[tactic(auto, using(crate::proofs::Keeping::named_runs))]
 pub fn runs_naming<S: Shelf>(
     alloc: Global,
     shelf: &mut S,
     account: AccountNo,
 ) -> Result<Vec<Piece>, Fault>
-    requires { (S.seen shelf.old).doubts ≡ 0 → AreRowsOf (S.seen shelf.old).state.at (S.seen shelf.old).rows }
-    ensures { Looks (S.seen shelf.old) (S.seen shelf.new) result (λ runs. AreRunsOf (kept_where (names account) (get (S.seen shelf.old).state.at)) runs.items) }
+    requires { (S.seen shelf.old).doubts ≡ 0
+        → AreRowsOf (S.seen shelf.old).state.at (S.seen shelf.old).rows }
+    ensures { Looks (S.seen shelf.old) (S.seen shelf.new) result
+        (λ runs. AreRunsOf
+        (kept_where (names account) (get (S.seen shelf.old).state.at)) runs.items) }
 {
     let rows = shelf.pieces_of(alloc, account)?;
     let runs = runs_of(rows)?;

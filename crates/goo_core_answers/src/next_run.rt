@@ -1,4 +1,5 @@
-//! The certificates of an account, run by run, so that no more than a few of their rows are held at a time.
+//! The certificates of an account, run by run, so that no more than a few of their rows are held at
+//! a time.
 
 ghost use Rattle.std.specs.Prelude.{◌≡◌, ◌≤◌, ◌<◌, Some, None, IfOk, IfSome, OnErr};
 ghost use Rattle.std.specs.Option.{ForSome};
@@ -50,18 +51,24 @@ fn follower(run: &Piece, ahead: &Option<Piece>) -> Option<Piece>
     }
 }
 
-/// The run that begins with a row, or with what of it lies after a number, and the place after it: the run goes on for as
-/// long as rows follow, and the row that doesn't is the one ahead.
+/// The run that begins with a row, or with what of it lies after a number, and the place after it:
+/// the run goes on for as long as rows follow, and the row that doesn't is the one ahead.
 fn reach<S: Shelf>(
     shelf: &mut S,
     account: AccountNo,
     row: &Piece,
     after: &Option<Number>,
 ) -> Result<(Piece, RunPlace), Fault>
-    requires rows { (S.seen shelf.old).doubts ≡ 0 → AreRowsOf (S.seen shelf.old).state.at (S.seen shelf.old).rows }
+    requires rows { (S.seen shelf.old).doubts ≡ 0
+        → AreRowsOf (S.seen shelf.old).state.at (S.seen shelf.old).rows }
     requires sound { (S.seen shelf.old).doubts ≡ 0 → IsSound (S.seen shelf.old).state }
     requires ahead { EndsFrom (from_of after.now) row.now }
-    ensures looks { Looks (S.seen shelf.old) (S.seen shelf.new) result (λ found. (Some row.now ≡ next_row account after.now (S.seen shelf.old).rows → IsNextRun (kept_where (names account) (get (S.seen shelf.old).state.at)) (from_of after.now) (Some found.0)) × IsSeen account (Some found.0.last) (S.seen shelf.old).rows found.1.ahead) }
+    ensures looks { Looks (S.seen shelf.old) (S.seen shelf.new) result
+        (λ found.
+        (Some row.now ≡ next_row account after.now (S.seen shelf.old).rows
+        → IsNextRun (kept_where (names account) (get (S.seen shelf.old).state.at))
+        (from_of after.now) (Some found.0))
+        × IsSeen account (Some found.0.last) (S.seen shelf.old).rows found.1.ahead) }
     ensures begins { IfOk result (λ found. BeginsFrom (from_of after.now) found.0) }
     ensures place { IfOk result (λ found. found.1.after ≡ Some found.0.last) }
 {
@@ -76,45 +83,62 @@ fn reach<S: Shelf>(
     Ok((run, RunPlace::before(run.last, ahead)))
 }
 
-/// The run that begins with a row, or with what of it lies after a place. The place then lies after the run.
+/// The run that begins with a row, or with what of it lies after a place. The place then lies after
+/// the run.
 fn read_from<S: Shelf>(
     shelf: &mut S,
     account: AccountNo,
     row: &Piece,
     place: &mut RunPlace,
 ) -> Result<Option<Piece>, Fault>
-    requires rows { (S.seen shelf.old).doubts ≡ 0 → AreRowsOf (S.seen shelf.old).state.at (S.seen shelf.old).rows }
+    requires rows { (S.seen shelf.old).doubts ≡ 0
+        → AreRowsOf (S.seen shelf.old).state.at (S.seen shelf.old).rows }
     requires sound { (S.seen shelf.old).doubts ≡ 0 → IsSound (S.seen shelf.old).state }
     requires ahead { EndsFrom (from_of place.old.after) row.now }
-    ensures looks { Looks (S.seen shelf.old) (S.seen shelf.new) result (λ found. Some row.now ≡ next_row account place.old.after (S.seen shelf.old).rows → IsNextRun (kept_where (names account) (get (S.seen shelf.old).state.at)) (from_of place.old.after) found) }
+    ensures looks { Looks (S.seen shelf.old) (S.seen shelf.new) result
+        (λ found. Some row.now ≡ next_row account place.old.after (S.seen shelf.old).rows
+        → IsNextRun (kept_where (names account) (get (S.seen shelf.old).state.at))
+        (from_of place.old.after) found) }
     ensures begins { IfOk result (λ found. IfSome found (BeginsFrom (from_of place.old.after))) }
     ensures place { IfOk result (λ found. IsPlaceAfter place.old found place.new) }
     ensures stays { OnErr result (place.new ≡ place.old) }
-    ensures ahead { (S.seen shelf.new).doubts ≡ 0 → IfOk result (λ found. IfSome found (λ run. IsSeen account (Some run.last) (S.seen shelf.old).rows place.new.ahead)) }
+    ensures ahead { (S.seen shelf.new).doubts ≡ 0
+        → IfOk result
+        (λ found. IfSome found
+        (λ run. IsSeen account (Some run.last) (S.seen shelf.old).rows place.new.ahead)) }
 {
     let (run, next) = reach(shelf, account, row, &place.after)?;
     *place = next;
     Ok(Some(run))
 }
 
-/// The first of the maximal runs of the certificates after what was read whose place names an account; None where there
-/// are none. The place then lies after it, and where it lay if there are none.
+/// The first of the maximal runs of the certificates after what was read whose place names an
+/// account; None where there are none. The place then lies after it, and where it lay if there are
+/// none.
 ///
 /// # Errors
 ///
-/// `Store` where the shelf answers it, `Memory` where memory was refused. State, rows and place stay as they are.
+/// `Store` where the shelf answers it, `Memory` where memory was refused. State, rows and place
+/// stay as they are.
 pub fn next_run_naming<S: Shelf>(
     shelf: &mut S,
     account: AccountNo,
     place: &mut RunPlace,
 ) -> Result<Option<Piece>, Fault>
-    requires rows { (S.seen shelf.old).doubts ≡ 0 → AreRowsOf (S.seen shelf.old).state.at (S.seen shelf.old).rows }
+    requires rows { (S.seen shelf.old).doubts ≡ 0
+        → AreRowsOf (S.seen shelf.old).state.at (S.seen shelf.old).rows }
     requires sound { (S.seen shelf.old).doubts ≡ 0 → IsSound (S.seen shelf.old).state }
-    ensures looks { Looks (S.seen shelf.old) (S.seen shelf.new) result (λ found. IsSeen account place.old.after (S.seen shelf.old).rows place.old.ahead → IsNextRun (kept_where (names account) (get (S.seen shelf.old).state.at)) (from_of place.old.after) found) }
+    ensures looks { Looks (S.seen shelf.old) (S.seen shelf.new) result
+        (λ found. IsSeen account place.old.after (S.seen shelf.old).rows place.old.ahead
+        → IsNextRun (kept_where (names account) (get (S.seen shelf.old).state.at))
+        (from_of place.old.after) found) }
     ensures begins { IfOk result (λ found. IfSome found (BeginsFrom (from_of place.old.after))) }
     ensures place { IfOk result (λ found. IsPlaceAfter place.old found place.new) }
     ensures stays { OnErr result (place.new ≡ place.old) }
-    ensures ahead { (S.seen shelf.new).doubts ≡ 0 → IfOk result (λ found. IfSome found (λ run. IsSeen account (Some run.last) (S.seen shelf.old).rows place.new.ahead)) }
+    ensures ahead { (S.seen shelf.new).doubts ≡ 0
+        → IfOk result
+        (λ found. IfSome found
+        (λ run. IsSeen account (Some run.last) (S.seen shelf.old).rows place.new.ahead)) }
 {
     if let Some(row) = place.ahead {
         return read_from(shelf, account, &row, place);

@@ -5,7 +5,8 @@ ghost use Rattle.goo_core_answers.specs.Requests.{IsNoted};
 
 use goo_types::fault::Fault;
 
-/// Adds the outcome of a request of a run, for which there is room, to those of the requests before it.
+/// Adds the outcome of a request of a run, for which there is room, to those of the requests before
+/// it.
 ///
 /// # Errors
 ///

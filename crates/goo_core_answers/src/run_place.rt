@@ -8,8 +8,8 @@ ghost use Rattle.goo_core_shelf.specs.Rows.{EndsFrom};
 use goo_types::number::Number;
 use goo_types::piece::Piece;
 
-/// How far the runs of an account were read, and the row that showed where the last of them ends: the next run
-/// begins with it, so that no row is looked up twice.
+/// How far the runs of an account were read, and the row that showed where the last of them ends:
+/// the next run begins with it, so that no row is looked up twice.
 #[derive(Drop)]
 pub struct RunPlace {
     /// The last number that was read, if any was.

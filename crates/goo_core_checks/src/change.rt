@@ -37,7 +37,10 @@ pub fn move_met(
     place: Place,
 ) -> Result<Vec<Edit>, Fault>
     requires { IsRising book }
-    ensures edits { IfOk result (λ edits. (range.first ≤ range.last) × AreEditsFor range book (moved range.first range.last place) edits.items × (length edits.items ≤ 1)) }
+    ensures edits { IfOk result
+        (λ edits. (range.first ≤ range.last)
+        × AreEditsFor range book (moved range.first range.last place) edits.items
+        × (length edits.items ≤ 1)) }
     ensures small { IfOk result (λ edits. AreSmall (range ∷ []) book edits.items) }
     ensures memory { IfErr result (λ fault. fault ≡ Memory) }
 {

@@ -15,8 +15,8 @@ pub struct Lowering {
     pub carry: u64,
 }
 
-/// What taking so much off leaves of a device with this carry: a certificate is in excess for each MWh
-/// that the carry doesn't cover, a part of one counted whole.
+/// What taking so much off leaves of a device with this carry: a certificate is in excess for each
+/// MWh that the carry doesn't cover, a part of one counted whole.
 pub fn lower(carry: Wh, less: Wh) -> Lowering
     ensures count { result.count ≡ (less + 999_999 - carry) / certificate }
     ensures carry { result.carry ≡ carry + result.count * certificate - less }

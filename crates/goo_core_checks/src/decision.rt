@@ -23,7 +23,8 @@ pub enum Decision {
     Accept(Plan, Reply),
 }
 
-/// The decision on a request, by the ruling on its command. One that passes may be carried out by the plan of its change.
+/// The decision on a request, by the ruling on its command. One that passes may be carried out by
+/// the plan of its change.
 ///
 /// # Errors
 ///

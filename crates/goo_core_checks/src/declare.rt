@@ -16,8 +16,8 @@ pub struct Earnings {
     pub carry: u64,
 }
 
-/// What a declaration earns of a device with this carry: a certificate for each whole MWh of the net energy with the carry
-/// (Directive (EU) 2018/2001, Article 19(2)).
+/// What a declaration earns of a device with this carry: a certificate for each whole MWh of the
+/// net energy with the carry (Directive (EU) 2018/2001, Article 19(2)).
 pub fn earn(carry: Wh, declaration: &Declare) -> Earnings
     requires { declaration.now.aux ≤ declaration.now.gross }
     ensures count { result.count ≡ (carry + net declaration.now) / certificate }

@@ -27,7 +27,11 @@ pub fn sending_edits(
     number: ActNo,
 ) -> Result<Vec<Edit>, Fault>
     requires { IsRising book }
-    ensures edits { IfOk result (λ edits. (export.now.range.first ≤ export.now.range.last) × AreEditsFor export.now.range book (moved export.now.range.first export.now.range.last (Exported export.now.giver number)) edits.items × (length edits.items ≤ 1)) }
+    ensures edits { IfOk result
+        (λ edits. (export.now.range.first ≤ export.now.range.last)
+        × AreEditsFor export.now.range book
+        (moved export.now.range.first export.now.range.last (Exported export.now.giver number))
+        edits.items × (length edits.items ≤ 1)) }
     ensures memory { IfErr result (λ fault. fault ≡ Memory) }
 {
     let place = Place::Exported(export.giver, number);

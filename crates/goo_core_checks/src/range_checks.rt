@@ -29,7 +29,8 @@ pub fn is_held_by(account: AccountNo, place: Place) -> bool
 
 /// The least number of the range that is there and that the account doesn't hold.
 pub fn least_not_held_by(book: &Book, range: Range, account: AccountNo) -> Option<Number>
-    ensures { result ≡ least_failing (λ lot place. held_by_test account place) (at_of book.now) (each range) }
+    ensures { result
+        ≡ least_failing (λ lot place. held_by_test account place) (at_of book.now) (each range) }
 {
     book.least_not(
         range,
@@ -41,7 +42,8 @@ pub fn least_not_held_by(book: &Book, range: Range, account: AccountNo) -> Optio
 
 /// The least number of the range that is there and whose trade is closed.
 pub fn least_closed(book: &Book, range: Range, today: Day) -> Option<Number>
-    ensures { result ≡ least_failing (λ lot place. not (closed_test lot today)) (at_of book.now) (each range) }
+    ensures { result
+        ≡ least_failing (λ lot place. not (closed_test lot today)) (at_of book.now) (each range) }
 {
     book.least_not(
         range,
@@ -58,8 +60,8 @@ fn least_missing(book: &Book, range: Range) -> Option<Number>
     book.least_missing(range)
 }
 
-/// The first check that fails of those over a range whose certificates an account gives away: each is
-/// there, it holds each, and the trade in none is closed.
+/// The first check that fails of those over a range whose certificates an account gives away: each
+/// is there, it holds each, and the trade in none is closed.
 pub fn trade_refusal(book: &Book, range: Range, giver: AccountNo, today: Day) -> Option<Refusal>
     ensures { result ≡ first_refusal (trade_checks (at_of book.now) range giver today) }
 {

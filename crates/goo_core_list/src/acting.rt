@@ -26,7 +26,8 @@ impl ListShelf {
     #[tactic(auto, unfolding(crate::specs::States::state_of, goo_spec::specs::Cancel::with_cancellation))]
     pub(crate) fn add_cancellation(&mut self, accepted: &Cancel) -> Result<(), Fault>
         requires { (state_of self.old).next_cancellation ≤ last_act }
-        ensures { Changes self.old self.new result (beside (state_of self.old).at (with_cancellation (state_of self.old) accepted.now)) }
+        ensures { Changes self.old self.new result
+            (beside (state_of self.old).at (with_cancellation (state_of self.old) accepted.now)) }
     {
         let number = ActNo::new(self.counters.cancellation()).unwrap();
         let record = CancelRecord::of(accepted, self.today);
@@ -39,7 +40,8 @@ impl ListShelf {
     #[tactic(auto, unfolding(crate::specs::States::state_of, goo_spec::specs::Withdraw::with_withdrawal))]
     pub(crate) fn add_withdrawal(&mut self, accepted: &Withdraw) -> Result<(), Fault>
         requires { (state_of self.old).next_withdrawal ≤ last_act }
-        ensures { Changes self.old self.new result (beside (state_of self.old).at (with_withdrawal (state_of self.old) accepted.now)) }
+        ensures { Changes self.old self.new result
+            (beside (state_of self.old).at (with_withdrawal (state_of self.old) accepted.now)) }
     {
         let number = ActNo::new(self.counters.withdrawal()).unwrap();
         let record = WithdrawRecord::of(accepted, self.today);
@@ -58,7 +60,8 @@ impl ListShelf {
     ) -> Result<(), Fault>
         requires numbers_left { (state_of self.old).next_notice ≤ last_act }
         requires sent { notice.now ≡ notice_of (state_of self.old) accepted.now }
-        ensures { Changes self.old self.new result (beside (state_of self.old).at (with_export (state_of self.old) accepted.now)) }
+        ensures { Changes self.old self.new result
+            (beside (state_of self.old).at (with_export (state_of self.old) accepted.now)) }
     {
         let number = ActNo::new(self.counters.notice()).unwrap();
         let copy = notice.copy(alloc)?;
@@ -70,7 +73,8 @@ impl ListShelf {
     /// Keeps a copy of an imported notice, and its lots.
     #[tactic(auto, unfolding(crate::specs::States::state_of, goo_spec::specs::Import::with_import))]
     pub(crate) fn add_import(&mut self, alloc: Global, accepted: &Import) -> Result<(), Fault>
-        ensures { Changes self.old self.new result (beside (state_of self.old).at (with_import (state_of self.old) accepted.now)) }
+        ensures { Changes self.old self.new result
+            (beside (state_of self.old).at (with_import (state_of self.old) accepted.now)) }
     {
         let notice = &accepted.notice;
         let copy = notice.copy(alloc)?;

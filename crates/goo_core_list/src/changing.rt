@@ -15,9 +15,11 @@ impl ListShelf {
     /// Keeps what an accepted command changes, but for the certificates and the receipt.
     #[tactic(auto, unfolding(crate::specs::States::state_of, goo_spec::specs::Transfer::with_transfer, goo_spec::specs::Advance::with_day))]
     pub(crate) fn change(&mut self, alloc: Global, plan: &Plan) -> Result<(), Fault>
-        requires allowed { refusal (state_of self.old) plan.now.request.caller plan.now.request.command ≡ None }
+        requires allowed { refusal (state_of self.old) plan.now.request.caller
+            plan.now.request.command ≡ None }
         requires sent { plan.now.notice ≡ notice_sent (state_of self.old) plan.now.request.command }
-        ensures { Changes self.old self.new result (beside (state_of self.old).at (changed (state_of self.old) plan.now.request.command)) }
+        ensures { Changes self.old self.new result
+            (beside (state_of self.old).at (changed (state_of self.old) plan.now.request.command)) }
     {
         match &plan.request.command {
             Command::OpenHolder(command) => self.add_holder(command),

@@ -21,7 +21,8 @@ impl ListShelf {
     fn keep(&mut self, alloc: Global, plan: &Plan) -> Result<(), Fault>
         requires accepted { outcome (state_of self.old) plan.now.request ≡ Accepted plan.now.reply }
         requires sent { plan.now.notice ≡ notice_sent (state_of self.old) plan.now.request.command }
-        ensures { Changes self.old self.new result (beside (state_of self.old).at (accept (state_of self.old) plan.now.request)) }
+        ensures { Changes self.old self.new result
+            (beside (state_of self.old).at (accept (state_of self.old) plan.now.request)) }
     {
         let request = &plan.request;
         let kept = Kept::new(request.command.copy(alloc)?, plan.reply);
@@ -33,12 +34,14 @@ impl ListShelf {
         Ok(())
     }
 
-    /// Carries out the whole change of a plan, or none for want of memory: room for the rows is made
-    /// first, and the edits of the rows come last.
+    /// Carries out the whole change of a plan, or none for want of memory: room for the rows is
+    /// made first, and the edits of the rows come last.
     pub(crate) fn carry_out(&mut self, alloc: Global, plan: &Plan) -> Result<(), Fault>
         requires { Fits (state_of self.old) self.old.rows.pieces plan.now }
-        ensures done { OnOk result (state_of self.new ≡ accept (state_of self.old) plan.now.request) }
-        ensures rows_done { OnOk result (self.new.rows.pieces ≡ edited_all plan.now.edits.items self.old.rows.pieces) }
+        ensures done { OnOk result
+            (state_of self.new ≡ accept (state_of self.old) plan.now.request) }
+        ensures rows_done { OnOk result
+            (self.new.rows.pieces ≡ edited_all plan.now.edits.items self.old.rows.pieces) }
         ensures undone { OnErr result (state_of self.new ≡ state_of self.old) }
         ensures rows_undone { OnErr result (self.new.rows.pieces ≡ self.old.rows.pieces) }
         ensures memory { IfErr result (λ fault. fault ≡ Memory) }

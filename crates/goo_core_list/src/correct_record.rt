@@ -34,7 +34,14 @@ impl Model for CorrectRecord {
 impl CorrectRecord {
     /// The record that a correction leaves, with the number of its withdrawal, if it made one.
     pub fn of(correction: &Correct, withdrawal: Option<ActNo>) -> CorrectRecord
-        ensures { result ≡ record { device = correction.now.device; first_day = correction.now.first_day; less = correction.now.less; withdrawal = withdrawal } }
+        ensures { result
+            ≡ record {
+              device = correction.now.device;
+              first_day = correction.now.first_day;
+              less =
+                  correction.now.less;
+              withdrawal = withdrawal;
+            } }
     {
         CorrectRecord {
             device: correction.device,

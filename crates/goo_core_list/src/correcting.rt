@@ -16,11 +16,14 @@ use goo_types::command::{Correct, Withdraw};
 use goo_types::fault::Fault;
 
 impl ListShelf {
-    /// Keeps a correction, and the record of the withdrawal of the certificates in excess, if there are any.
+    /// Keeps a correction, and the record of the withdrawal of the certificates in excess, if there
+    /// are any.
     #[tactic(auto, unfolding(crate::specs::States::state_of, goo_spec::specs::Withdraw::with_withdrawal, goo_spec::specs::Correct::with_correction))]
     pub(crate) fn add_correction(&mut self, accepted: &Correct) -> Result<(), Fault>
-        requires { (range : Numbers) → accepted.now.range ≡ Some range → (state_of self.old).next_withdrawal ≤ last_act }
-        ensures { Changes self.old self.new result (beside (state_of self.old).at (with_correction (state_of self.old) accepted.now)) }
+        requires { (range : Numbers) → accepted.now.range ≡ Some range
+            → (state_of self.old).next_withdrawal ≤ last_act }
+        ensures { Changes self.old self.new result
+            (beside (state_of self.old).at (with_correction (state_of self.old) accepted.now)) }
     {
         let Some(range) = accepted.range else {
             return self.corrections.add(CorrectRecord::of(accepted, None));

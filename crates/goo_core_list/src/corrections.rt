@@ -2,7 +2,8 @@
 ghost use Rattle.std.specs.Prelude.{◌≡◌, ◌-◌, [], ◌∷◌, ◌++◌, find, sum_by, IfErr, OnOk, OnErr};
 ghost use Rattle.std.specs.List.{list_any};
 ghost use Rattle.goo_types.specs.declared.fault.Fault.TheVariants.{Memory};
-ghost use Rattle.goo_spec.specs.Energy.{less_of, withdrew as withdrew_by, lowered_by as lowered_for, begins, net};
+ghost use Rattle.goo_spec.specs.Energy.{less_of, withdrew as withdrew_by};
+ghost use Rattle.goo_spec.specs.Energy.{lowered_by as lowered_for, begins, net};
 ghost use Rattle.goo_spec.specs.Correct.{left_of};
 
 use crate::correct_record::CorrectRecord;
@@ -80,7 +81,8 @@ impl Corrections {
         Wh::new(u64::try_from(left).unwrap()).unwrap()
     }
 
-    /// What can still be taken off a device's declaration that begins on a day, in Wh; None where there is no such declaration.
+    /// What can still be taken off a device's declaration that begins on a day, in Wh; None where
+    /// there is no such declaration.
     pub fn left(&self, declarations: &[Declare], device: &Gsrn, first_day: Day) -> Option<Wh>
         ensures { result ≡ left_of self.now (find (begins device.now first_day) declarations.now) }
     {

@@ -33,7 +33,8 @@ impl ListShelf {
         u64::try_from(self.remaining(device) % CERTIFICATE).unwrap()
     }
 
-    /// What can still be taken off a device's declaration that begins on a day, in Wh; None where there is no such declaration.
+    /// What can still be taken off a device's declaration that begins on a day, in Wh; None where
+    /// there is no such declaration.
     #[tactic(auto, unfolding(crate::specs::States::state_of, goo_spec::specs::Correct::correctable))]
     pub(crate) fn correctable_for(&self, device: &Gsrn, first_day: Day) -> Option<Wh>
         ensures { result ≡ lowerable (state_of self.now) device.now first_day }

@@ -18,8 +18,8 @@ use goo_types::fault::Fault;
 use goo_types::lot::Lot;
 
 impl ListShelf {
-    /// How many certificates a declaration makes due: one for each further MWh that is left of what the device declared
-    /// (Directive (EU) 2018/2001, Article 19(2)).
+    /// How many certificates a declaration makes due: one for each further MWh that is left of what
+    /// the device declared (Directive (EU) 2018/2001, Article 19(2)).
     fn earned(&self, declared: &Declare) -> u64
         ensures { result ≡ due_for (state_of self.now) declared.now }
     {
@@ -44,9 +44,13 @@ impl ListShelf {
     /// Keeps a declaration, and the lot of the certificates that are issued for it.
     #[tactic(auto, unfolding(crate::specs::States::state_of, goo_spec::specs::Declare::with_issue, goo_spec::specs::Declare::with_declaration))]
     pub(crate) fn add_declaration(&mut self, declared: &Declare) -> Result<(), Fault>
-        requires lot { (device : Known) → get (state_of self.old).devices declared.now.device ≡ Some device → IsLot (lot_stated (state_of self.old) declared.now device) }
-        requires numbers_left { (state_of self.old).next_serial + due_for (state_of self.old) declared.now ≤ serials }
-        ensures { Changes self.old self.new result (beside (state_of self.old).at (with_issue (state_of self.old) declared.now)) }
+        requires lot { (device : Known)
+            → get (state_of self.old).devices declared.now.device ≡ Some device
+            → IsLot (lot_stated (state_of self.old) declared.now device) }
+        requires numbers_left { (state_of self.old).next_serial + due_for
+            (state_of self.old) declared.now ≤ serials }
+        ensures { Changes self.old self.new result
+            (beside (state_of self.old).at (with_issue (state_of self.old) declared.now)) }
     {
         let Some(device) = find(&self.devices, &declared.device) else {
             return Ok(());

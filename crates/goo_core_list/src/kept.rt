@@ -45,7 +45,8 @@ impl Kept {
     }
 }
 
-/// What a key answers to a command: nothing is kept, the same command with its reply, or another command.
+/// What a key answers to a command: nothing is kept, the same command with its reply, or another
+/// command.
 pub fn receipt_for(kept: Option<&Kept>, command: &Command) -> Receipt
     ensures { result ≡ receipt_of (option_copied kept.entry) command.now }
 {

@@ -54,8 +54,8 @@ pub struct ListShelf {
 }
 
 impl ListShelf {
-    /// The shelf of a new registry, which knows nothing but its code, its date and its next serial. It keeps `alloc`
-    /// for what comes.
+    /// The shelf of a new registry, which knows nothing but its code, its date and its next serial.
+    /// It keeps `alloc` for what comes.
     ///
     /// # Example
     ///

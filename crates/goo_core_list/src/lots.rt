@@ -26,7 +26,8 @@ pub fn key_of_lot(lot: &Lot) -> LotKey
 ///
 /// `Memory` where an allocation was refused; none of the lots is made known then.
 pub fn add_lots(lots: &mut BTreeMap<LotKey, Lot>, parts: &[Part]) -> Result<(), Fault>
-    ensures done { OnOk result (map_of text_cmp lots.new ≡ with_lots parts.now (map_of text_cmp lots.old)) }
+    ensures done { OnOk result
+        (map_of text_cmp lots.new ≡ with_lots parts.now (map_of text_cmp lots.old)) }
     ensures undone { OnErr result (map_of text_cmp lots.new ≡ map_of text_cmp lots.old) }
     ensures memory { IfErr result (λ fault. fault ≡ Memory) }
 {

@@ -49,7 +49,8 @@ pub fn put<K: MapKey, V: Drop>(
 /// Puts back what stood under a key before a value was put there.
 pub fn put_back<K: MapKey, V: Drop>(map: &mut BTreeMap<K, V>, key: K, before: Option<V>)
     requires { IsTrue (contains_key (map_of K.cmp map.old) key) }
-    ensures { (m : FinMap K.cmp V) (value : V) → map_of K.cmp map.old ≡ insert m key value → before ≡ get m key → map_of K.cmp map.new ≡ m }
+    ensures { (m : FinMap K.cmp V) (value : V) → map_of K.cmp map.old ≡ insert m key value
+        → before ≡ get m key → map_of K.cmp map.new ≡ m }
 {
     match before {
         Some(value) => {

@@ -63,7 +63,8 @@ impl ListShelf {
     /// Keeps a device.
     #[tactic(auto, unfolding(crate::specs::States::state_of, goo_spec::specs::RegisterDevice::with_device))]
     pub(crate) fn add_device(&mut self, registered: &RegisterDevice) -> Result<(), Fault>
-        ensures { Changes self.old self.new result (with_device (state_of self.old) registered.now) }
+        ensures { Changes self.old self.new result
+            (with_device (state_of self.old) registered.now) }
     {
         put(&mut self.devices, registered.device, Device::of(registered))?;
         Ok(())

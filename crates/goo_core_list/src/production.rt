@@ -84,7 +84,8 @@ impl Production {
 
     /// The net energy that a device will have declared with one more declaration, in Wh.
     pub fn net_with(&self, declaration: &Declare) -> u128
-        ensures value { result ≡ net_by declaration.now.device self.now + net_of_one declaration.now }
+        ensures value { result
+            ≡ net_by declaration.now.device self.now + net_of_one declaration.now }
         ensures limit { result ≤ net_by declaration.now.device self.now + 10 ^ 15 }
     {
         let more = declaration

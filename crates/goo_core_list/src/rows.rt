@@ -1,5 +1,6 @@
 //! The rows of a registry's certificates.
-ghost use Rattle.std.specs.Prelude.{◌≡◌, ◌+◌, ◌^◌, ◌<◌, ◌≤◌, [], ◌++◌, cond, count_by, sum_by, IfOk, IfErr, IfSome, OnOk};
+ghost use Rattle.std.specs.Prelude.{◌≡◌, ◌+◌, ◌^◌, ◌<◌, ◌≤◌, [], ◌++◌, cond, count_by, sum_by};
+ghost use Rattle.std.specs.Prelude.{IfOk, IfErr, IfSome, OnOk};
 ghost use Rattle.std.specs.FinMap.{entries};
 ghost use Rattle.goo_types.specs.declared.fault.Fault.TheVariants.{Memory};
 ghost use Rattle.goo_types.specs.Piece.{IsForward, IsRising};
@@ -44,9 +45,11 @@ fn issued_in_row(row: &Piece, own: RegistryCode, device: &Gsrn) -> u64
     }
 }
 
-/// How many of a row's certificates a device's corrections withdrew, of so many that were issued to it.
+/// How many of a row's certificates a device's corrections withdrew, of so many that were issued to
+/// it.
 fn corrected_in_row(row: &Piece, issued: u64, device: &Gsrn, corrections: &Corrections) -> u64
-    ensures value { result ≡ cond (is_taken_back device.now corrections.now row.now.place) issued 0 }
+    ensures value { result
+        ≡ cond (is_taken_back device.now corrections.now row.now.place) issued 0 }
     ensures limit { result ≤ issued }
 {
     match row.place {
@@ -61,7 +64,8 @@ fn corrected_in_row(row: &Piece, issued: u64, device: &Gsrn, corrections: &Corre
     }
 }
 
-/// How many of a registry's own certificates were issued to a device, and how many of them its corrections withdrew.
+/// How many of a registry's own certificates were issued to a device, and how many of them its
+/// corrections withdrew.
 #[derive(Clone, Copy)]
 pub struct Counted {
     /// Those that were issued.
@@ -79,7 +83,8 @@ fn counted_in_rows(
 ) -> Counted
     requires { IsRising rows.now }
     ensures issued { result.issued ≡ sum_by (issued_in own device.now) rows.now }
-    ensures corrected { result.corrected ≡ sum_by (corrected_in own device.now corrections.now) rows.now }
+    ensures corrected { result.corrected
+        ≡ sum_by (corrected_in own device.now corrections.now) rows.now }
 {
     let mut issued = 0;
     let mut corrected = 0;
@@ -196,7 +201,8 @@ impl Rows {
 
     /// The first row that a look-up is for and that ends at a number or after it.
     pub fn next_from(&self, sought: &Sought, from: u64) -> Option<Piece>
-        ensures found { result ≡ first_of (ending_from from (filter (is_sought sought.now) self.now.pieces)) }
+        ensures found { result
+            ≡ first_of (ending_from from (filter (is_sought sought.now) self.now.pieces)) }
         ensures ahead { IfSome result (EndsFrom from) }
     {
         for page in self.pieces.pages() {
@@ -208,10 +214,14 @@ impl Rows {
         None
     }
 
-    /// How many of a registry's own certificates were issued to a device, and how many of them its corrections withdrew.
+    /// How many of a registry's own certificates were issued to a device, and how many of them its
+    /// corrections withdrew.
     pub fn counted(&self, own: RegistryCode, device: &Gsrn, corrections: &Corrections) -> Counted
-        ensures issued { result.issued ≡ count_by (is_issued_to own device.now) (entries (certificates_of self.now.pieces)) }
-        ensures corrected { result.corrected ≡ count_by (is_corrected own device.now corrections.now) (entries (certificates_of self.now.pieces)) }
+        ensures issued { result.issued
+            ≡ count_by (is_issued_to own device.now) (entries (certificates_of self.now.pieces)) }
+        ensures corrected { result.corrected
+            ≡ count_by (is_corrected own device.now corrections.now)
+            (entries (certificates_of self.now.pieces)) }
     {
         let _code = own.get();
         let mut issued = 0;

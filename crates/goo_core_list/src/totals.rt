@@ -21,17 +21,20 @@ impl ListShelf {
         let counted = self.rows.counted(self.own, device, &self.corrections);
         DeviceTotals {
             device: *device,
-            declared: self.production.net(device),
+            declared_wh: self.production.net(device),
             corrected_wh: self.corrections.lowered(device),
             issued: counted.issued,
-            corrected: counted.corrected,
-            carry: self.carry(device),
+            withdrawn_certificates: counted.corrected,
+            carry_wh: self.carry(device),
         }
     }
 
-    /// The energy and the certificates of each device, by device. It fails for want of memory alone.
+    /// The energy and the certificates of each device, by device. It fails for want of memory
+    /// alone.
     pub(crate) fn all_totals(&self, alloc: Global) -> Result<Vec<DeviceTotals>, Fault>
-        ensures keyed { IfOk result (λ totals. totals.items ≡ map (totals_stated (state_of self.now)) (keys self.now.devices)) }
+        ensures keyed { IfOk result
+            (λ totals. totals.items
+            ≡ map (totals_stated (state_of self.now)) (keys self.now.devices)) }
         ensures ordered { IsOrdered text_cmp self.now.devices }
         ensures memory { IfErr result (λ fault. fault ≡ Memory) }
     {

@@ -28,7 +28,8 @@ impl Model for WithdrawRecord {
 impl WithdrawRecord {
     /// The record that a withdrawal leaves, accepted on a day.
     pub fn of(withdrawal: &Withdraw, day: Day) -> WithdrawRecord
-        ensures { result ≡ record { range = withdrawal.now.range; reason = withdrawal.now.reason; day = day } }
+        ensures { result
+            ≡ record { range = withdrawal.now.range; reason = withdrawal.now.reason; day = day } }
     {
         WithdrawRecord {
             range: withdrawal.range,

@@ -1,5 +1,6 @@
 //! A page of rows.
-ghost use Rattle.std.specs.Prelude.{◌≡◌, ◌↔◌, ◌==◌, ◌<◌, ◌≤◌, nat_lt, length, take, drop, [], IfOk, IsTrue, ◌∷◌};
+ghost use Rattle.std.specs.Prelude.{◌≡◌, ◌↔◌, ◌==◌, ◌<◌, ◌≤◌, nat_lt, length, take, drop, [], IfOk};
+ghost use Rattle.std.specs.Prelude.{IsTrue, ◌∷◌};
 ghost use Rattle.goo_ranges_rows.specs.Rows.{without, with};
 ghost use Rattle.goo_core_pages.specs.Paging.{InOrder, last_begin, BeginAfter};
 
@@ -9,8 +10,8 @@ use goo_types::piece::Piece;
 use std::alloc::{AllocError, Global};
 use std::marker::Model;
 
-/// Rows by rising first numbers, at most 64: there is room for as many, so that no edit of a page asks
-/// for memory.
+/// Rows by rising first numbers, at most 64: there is room for as many, so that no edit of a page
+/// asks for memory.
 #[derive(Drop)]
 pub struct RowPage {
     rows: Vec<Piece>,
@@ -63,7 +64,8 @@ impl RowPage {
         self.rows.len() == 64
     }
 
-    /// Whether its last row begins before a number. Where there is none, whether the number is above 0.
+    /// Whether its last row begins before a number. Where there is none, whether the number is
+    /// above 0.
     pub fn ends_before(&self, number: u64) -> bool
         ensures { result ≡ nat_lt (last_begin 0 self.now) number }
     {
@@ -101,8 +103,8 @@ impl RowPage {
         put.unwrap();
     }
 
-    /// Leaves the lower half of its rows, where it is full, and puts the upper one into another page, in the
-    /// place of that page's rows.
+    /// Leaves the lower half of its rows, where it is full, and puts the upper one into another
+    /// page, in the place of that page's rows.
     pub fn halve(&mut self, other: &mut RowPage)
         requires { length self.old ≡ 64 }
         ensures lower { self.new ≡ take 32 self.old }

@@ -1,10 +1,12 @@
 //! Rows in pages.
-ghost use Rattle.std.specs.Prelude.{◌≡◌, ◌+◌, ◌*◌, ◌<◌, ◌≤◌, [], ◌∷◌, length, take, set, get_or, IfOk, OnOk};
+ghost use Rattle.std.specs.Prelude.{◌≡◌, ◌+◌, ◌*◌, ◌<◌, ◌≤◌, [], ◌∷◌, length, take, set, get_or};
+ghost use Rattle.std.specs.Prelude.{IfOk, OnOk};
 ghost use Rattle.std.specs.List.{remove};
 ghost use Rattle.std.specs.Vec.{vec_len, vec_capacity};
 ghost use Rattle.goo_types.specs.Piece.{IsRising};
 ghost use Rattle.goo_ranges_rows.specs.Rows.{without, with, meeting};
-ghost use Rattle.goo_core_pages.specs.Paging.{joined, AreFit, Below, InOrder, IsHome, beyond_halves, cut_at, last_begin, room_in};
+ghost use Rattle.goo_core_pages.specs.Paging.{joined, AreFit, Below, InOrder, IsHome};
+ghost use Rattle.goo_core_pages.specs.Paging.{beyond_halves, cut_at, last_begin, room_in};
 
 use crate::near::near;
 use crate::page::RowPage;
@@ -20,7 +22,8 @@ fn count_before(pages: &[RowPage], number: u64) -> usize
     requires order { InOrder 0 (joined pages.now) }
     ensures bound { result ≤ length pages.now }
     ensures below { Below number (joined (take result pages.now)) }
-    ensures reaches { result < length pages.now → number ≤ last_begin 0 (get_or pages.now result []) }
+    ensures reaches { result < length pages.now
+        → number ≤ last_begin 0 (get_or pages.now result []) }
 {
     pages.partition_point(|page| page.ends_before(number))
 }
@@ -39,7 +42,8 @@ fn home(pages: &[RowPage], number: Number) -> usize
 fn take_out_at(pages: &mut Vec<RowPage>, at: usize, first: Number)
     requires bound { at < length pages.old.items }
     requires order { InOrder 0 (get_or pages.old.items at []) }
-    ensures pages { pages.new.items ≡ set pages.old.items at (without first (get_or pages.old.items at [])) }
+    ensures pages { pages.new.items
+        ≡ set pages.old.items at (without first (get_or pages.old.items at [])) }
     ensures capacity { vec_capacity pages.new ≡ vec_capacity pages.old }
 {
     let page = &mut pages[at];
@@ -51,7 +55,8 @@ fn put_in_at(pages: &mut Vec<RowPage>, at: usize, row: Piece)
     requires bound { at < length pages.old.items }
     requires order { InOrder 0 (get_or pages.old.items at []) }
     requires room { length (get_or pages.old.items at []) < 64 }
-    ensures pages { pages.new.items ≡ set pages.old.items at (with row (get_or pages.old.items at [])) }
+    ensures pages { pages.new.items
+        ≡ set pages.old.items at (with row (get_or pages.old.items at [])) }
     ensures capacity { vec_capacity pages.new ≡ vec_capacity pages.old }
 {
     let page = &mut pages[at];
@@ -114,7 +119,8 @@ fn lay_aside_empty(pages: &mut Vec<RowPage>, spare: &mut Vec<RowPage>, at: usize
     requires room { vec_len pages.old + vec_len spare.old ≤ vec_capacity spare.old }
     ensures fit { AreFit pages.new.items }
     ensures rows { joined pages.new.items ≡ joined pages.old.items }
-    ensures room { room_in pages.old.items (vec_len spare.old) ≤ room_in pages.new.items (vec_len spare.new) }
+    ensures room { room_in pages.old.items (vec_len spare.old)
+        ≤ room_in pages.new.items (vec_len spare.new) }
     ensures count { vec_len pages.new + vec_len spare.new ≡ vec_len pages.old + vec_len spare.old }
     ensures capacity { vec_capacity pages.new ≡ vec_capacity pages.old }
     ensures spare_capacity { vec_capacity spare.old ≤ vec_capacity spare.new }
@@ -133,7 +139,8 @@ fn cut_full(pages: &mut Vec<RowPage>, spare: &mut Vec<RowPage>, at: usize)
     requires room { vec_len pages.old + vec_len spare.old ≤ vec_capacity pages.old }
     ensures fit { AreFit pages.new.items }
     ensures rows { joined pages.new.items ≡ joined pages.old.items }
-    ensures paid { 32 * vec_len spare.old + beyond_halves pages.new.items ≡ 32 * vec_len spare.new + beyond_halves pages.old.items }
+    ensures paid { 32 * vec_len spare.old + beyond_halves pages.new.items
+        ≡ 32 * vec_len spare.new + beyond_halves pages.old.items }
     ensures spare { vec_len spare.old ≤ vec_len spare.new + 1 }
     ensures count { vec_len pages.new + vec_len spare.new ≡ vec_len pages.old + vec_len spare.old }
     ensures many { 1 ≤ length pages.new.items }
@@ -145,7 +152,8 @@ fn cut_full(pages: &mut Vec<RowPage>, spare: &mut Vec<RowPage>, at: usize)
     }
 }
 
-/// Adds pages without rows, for which there is room in the list. Where memory is refused, some may be there.
+/// Adds pages without rows, for which there is room in the list. Where memory is refused, some may
+/// be there.
 fn add_pages(spare: &mut Vec<RowPage>, alloc: Global, count: usize) -> Result<(), AllocError>
     requires { vec_len spare.old + count ≤ vec_capacity spare.old }
     ensures some { vec_len spare.old ≤ vec_len spare.new }
@@ -175,9 +183,9 @@ fn near_in(alloc: Global, pages: &[RowPage], range: Range) -> Result<Vec<Piece>,
     Ok(met)
 }
 
-/// Rows by rising first numbers, in pages. What it is seen as is the list of the rows, and for how many
-/// more there is room wherever they go. Taking a row out or putting one in moves the rows of one page at
-/// most, and, where a page is cut or gets empty, the list of pages.
+/// Rows by rising first numbers, in pages. What it is seen as is the list of the rows, and for how
+/// many more there is room wherever they go. Taking a row out or putting one in moves the rows of
+/// one page at most, and, where a page is cut or gets empty, the list of pages.
 #[derive(Drop)]
 pub struct Pages {
     pages: Vec<RowPage>,

@@ -119,11 +119,11 @@ cancellation_on day x = record {
 abbrev pub totals_for : State → List ℕ → DeviceTotals
 totals_for s device = record {
   device = device;
-  declared = total s device;
+  declared_wh = total s device;
   corrected_wh = lowered s device;
   issued = issued s device;
-  corrected = corrected s device;
-  carry = carry s device;
+  withdrawn_certificates = corrected s device;
+  carry_wh = carry s device;
 }
 
 -- the energy of each device, by device

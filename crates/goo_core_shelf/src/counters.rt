@@ -58,8 +58,10 @@ impl Counters {
         withdrawal: u32,
         notice: u32,
     ) -> Option<Counters>
-        ensures valid { IsSome result ↔ AreNumbers (next_numbers serial account cancellation withdrawal notice) }
-        ensures value { IfSome result (λ c. c ≡ next_numbers serial account cancellation withdrawal notice) }
+        ensures valid { IsSome result
+            ↔ AreNumbers (next_numbers serial account cancellation withdrawal notice) }
+        ensures value { IfSome result
+            (λ c. c ≡ next_numbers serial account cancellation withdrawal notice) }
     {
         if serial < 1 || serial > SERIALS {
             return None;

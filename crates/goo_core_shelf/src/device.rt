@@ -143,7 +143,8 @@ impl Device {
         self.carrier
     }
 
-    /// What the certificates that a declaration earns have in common, of a registry that issues them on a day.
+    /// What the certificates that a declaration earns have in common, of a registry that issues
+    /// them on a day.
     pub fn lot_fields(&self, own: RegistryCode, declared: &Declare, today: Day) -> LotFields
         ensures { result ≡ lot_on own today declared.now self.now }
     {

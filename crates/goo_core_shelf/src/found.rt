@@ -52,13 +52,13 @@ pub struct DeviceTotals {
     /// The device.
     pub device: Gsrn,
     /// Its declared net energy in Wh.
-    pub declared: u128,
+    pub declared_wh: u128,
     /// What corrections took off it, in Wh.
     pub corrected_wh: u128,
     /// How many certificates were issued for it.
     pub issued: u64,
     /// How many of them corrections withdrew.
-    pub corrected: u64,
+    pub withdrawn_certificates: u64,
     /// The energy in Wh that is left and that no certificate stands for.
-    pub carry: u64,
+    pub carry_wh: u64,
 }

@@ -4,19 +4,20 @@ ghost use Rattle.goo_desk_counter.specs.Showing.{shown_by, imported_by, begun_by
 ghost use Rattle.goo_desk_server.specs.Runs.{StepsAreARun};
 ghost use Rattle.goo_desk.specs.Denied.{DeniedSeeNothing};
 
-/// A registry answers the same bytes in the same state in one way: with one status, one text and one state after it.
+/// A registry answers the same bytes in the same state in one way: with one status, one text and
+/// one state after it.
 pub fn one_response()
     ensures { IsOneResponse shown_by imported_by }
 {}
 
-/// Connections to a registry, one after another, come to the state of a run of the requests that their bytes bring, or of those of them
-/// that stand after a fault, and of no others.
+/// Connections to a registry, one after another, come to the state of a run of the requests that
+/// their bytes bring, or of those of them that stand after a fault, and of no others.
 pub fn connections_are_a_run()
     ensures { StepsAreARun shown_by imported_by begun_by }
 {}
 
-/// A caller who asks a registry to be shown something and is denied it is sent the denial or that a fault came, and no byte of it, however
-/// the call ends.
+/// A caller who asks a registry to be shown something and is denied it is sent the denial or that a
+/// fault came, and no byte of it, however the call ends.
 pub fn denied_see_nothing()
     ensures { DeniedSeeNothing }
 {}

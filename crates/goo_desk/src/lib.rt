@@ -1,8 +1,10 @@
 //! The desk: what an issuing body's registry answers over HTTP and over lines of text.
 //!
-//! [`answer`] is the response to all the bytes of a stream; [`serve_one`] reads a request from a stream until it is decided, and answers it;
-//! [`serve`] does so for a listener's connections, one after another. [`run_lines`] answers an input line by line, and [`read_command`] reads
-//! the body of one request. Each goes by any desk (`goo_desk_counter::Counter`, `goo_registry_desk::Desk`), which a registry over any shelf is.
+//! [`answer`] is the response to all the bytes of a stream; [`serve_one`] reads a request from a
+//! stream until it is decided, and answers it; [`serve`] does so for a listener's connections, one
+//! after another. [`run_lines`] answers an input line by line, and [`read_command`] reads the body
+//! of one request. Each goes by any desk (`goo_desk_counter::Counter`, `goo_registry_desk::Desk`),
+//! which a registry over any shelf is.
 #![tactic(auto)]
 
 mod law;

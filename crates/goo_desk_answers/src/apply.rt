@@ -6,7 +6,8 @@ ghost use Rattle.goo_desk_lines.specs.Reading.{Reads};
 ghost use Rattle.goo_core_shelf.specs.Shelf.{IsTold};
 ghost use Rattle.goo_registry_desk.specs.Crash.{FindsEither};
 ghost use Rattle.goo_registry_desk.specs.Desk.{StaysSure};
-ghost use Rattle.goo_desk_answers.specs.Responds.{Does, applied, state_applied, status_of_refusal, status_of_outcome, status_of_answer};
+ghost use Rattle.goo_desk_answers.specs.Responds.{Does, applied, state_applied, status_of_refusal};
+ghost use Rattle.goo_desk_answers.specs.Responds.{status_of_outcome, status_of_answer};
 ghost use Rattle.goo_desk_routes.specs.declared.task.Task.TheVariants.{Apply};
 
 use crate::answered::Answer;
@@ -68,9 +69,13 @@ fn apply_body<D: Counter>(
     caller: &HolderCode,
     body: &[u8],
 ) -> Result<Given, Fault>
-    ensures given { (D.seen desk.new).lies ≡ 0 → IfOk result (λ given. given ≡ applied (D.seen desk.old).state caller.now body.now) }
-    ensures state { (D.seen desk.new).lies ≡ 0 → OnOk result ((D.seen desk.new).state ≡ state_applied (D.seen desk.old).state caller.now body.now) }
-    ensures unchanged { (D.seen desk.new).doubts ≡ 0 → OnErr result ((D.seen desk.new).state ≡ (D.seen desk.old).state) }
+    ensures given { (D.seen desk.new).lies ≡ 0
+        → IfOk result (λ given. given ≡ applied (D.seen desk.old).state caller.now body.now) }
+    ensures state { (D.seen desk.new).lies ≡ 0
+        → OnOk result
+        ((D.seen desk.new).state ≡ state_applied (D.seen desk.old).state caller.now body.now) }
+    ensures unchanged { (D.seen desk.new).doubts ≡ 0
+        → OnErr result ((D.seen desk.new).state ≡ (D.seen desk.old).state) }
     ensures doubted { (D.seen desk.new).doubts ≡ 0 → (D.seen desk.old).doubts ≡ 0 }
     ensures lied { (D.seen desk.new).lies ≡ 0 → (D.seen desk.old).lies ≡ 0 }
     ensures told { (D.seen desk.old).refusals ≡ 0 → IsTold result (D.seen desk.new).refusals }
@@ -102,15 +107,21 @@ fn filled(mut room: Vec<u8>, text: &ArrayString<ROOM>) -> Vec<u8>
     }
 }
 
-/// The answer to a caller's request. Room for it is taken before the request is applied, so a fault means that nothing changed.
+/// The answer to a caller's request. Room for it is taken before the request is applied, so a fault
+/// means that nothing changed.
 pub(crate) fn answer_apply<D: Counter>(
     alloc: Global,
     desk: &mut D,
     caller: &HolderCode,
     body: &[u8],
 ) -> Result<Answer, Fault>
-    ensures answered { (D.seen desk.new).lies ≡ 0 → IfOk result (λ answer. Does D.shows D.imports (D.seen desk.old).state caller.now body.now Apply answer.status answer.bytes.items (D.seen desk.new).state) }
-    ensures unchanged { (D.seen desk.new).doubts ≡ 0 → OnErr result ((D.seen desk.new).state ≡ (D.seen desk.old).state) }
+    ensures answered { (D.seen desk.new).lies ≡ 0
+        → IfOk result
+        (λ answer. Does D.shows D.imports
+        (D.seen desk.old).state caller.now body.now Apply answer.status answer.bytes.items
+        (D.seen desk.new).state) }
+    ensures unchanged { (D.seen desk.new).doubts ≡ 0
+        → OnErr result ((D.seen desk.new).state ≡ (D.seen desk.old).state) }
     ensures doubted { (D.seen desk.new).doubts ≡ 0 → (D.seen desk.old).doubts ≡ 0 }
     ensures lied { (D.seen desk.new).lies ≡ 0 → (D.seen desk.old).lies ≡ 0 }
     ensures told { (D.seen desk.old).refusals ≡ 0 → IsTold result (D.seen desk.new).refusals }

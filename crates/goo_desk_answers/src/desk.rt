@@ -6,8 +6,10 @@ ghost use Rattle.goo_core_shelf.specs.Shelf.{IsTold};
 ghost use Rattle.goo_registry_desk.specs.Desk.{StaysSure};
 ghost use Rattle.goo_spec.specs.Sound.{IsSound};
 ghost use Rattle.goo_desk_counter.specs.Tables.{ImportsAreRuns};
-ghost use Rattle.goo_desk_answers.specs.Brought.{BringsBy, BringsIn, FindsLed, FindsLeft, KeepsPromise, MayBring};
-ghost use Rattle.goo_desk_answers.specs.Responds.{Does, Handles, RespondsTo, Responds, Stops, StopsIn, StopsAt, Fails, status_of_head};
+ghost use Rattle.goo_desk_answers.specs.Brought.{BringsBy, BringsIn, FindsLed, FindsLeft};
+ghost use Rattle.goo_desk_answers.specs.Brought.{KeepsPromise, MayBring};
+ghost use Rattle.goo_desk_answers.specs.Responds.{Does, Handles, RespondsTo, Responds, Stops};
+ghost use Rattle.goo_desk_answers.specs.Responds.{StopsIn, StopsAt, Fails, status_of_head};
 
 use crate::answered::Answer;
 use crate::apply::answer_apply;
@@ -41,7 +43,8 @@ pub(crate) fn answer_fixed(
     for_head: bool,
 ) -> Result<Answer, AllocError>
     ensures status { IfOk result (λ answer. answer.status ≡ status) }
-    ensures bytes { IfOk result (λ answer. answer.bytes.items ≡ response_text for_head (fixed status allow)) }
+    ensures bytes { IfOk result
+        (λ answer. answer.bytes.items ≡ response_text for_head (fixed status allow)) }
 {
     let text = fixed_response(status, allow, for_head);
     let bytes = Vec::from_slice(alloc, text.as_str().as_bytes())?;
@@ -56,8 +59,15 @@ fn answer_task<D: Counter>(
     body: &[u8],
     task: Task,
 ) -> Result<Answer, Fault>
-    ensures answered { (D.seen desk.new).lies ≡ 0 → IfOk result (λ answer. Does D.shows D.imports (D.seen desk.old).state caller.now body.now task answer.status answer.bytes.items (D.seen desk.new).state) }
-    ensures stopped { (D.seen desk.new).doubts ≡ 0 → OnErr result (Stops D.imports D.begins (D.seen desk.old).state caller.now body.now task (D.seen desk.new).state) }
+    ensures answered { (D.seen desk.new).lies ≡ 0
+        → IfOk result
+        (λ answer. Does D.shows D.imports
+        (D.seen desk.old).state caller.now body.now task answer.status answer.bytes.items
+        (D.seen desk.new).state) }
+    ensures stopped { (D.seen desk.new).doubts ≡ 0
+        → OnErr result
+        (Stops D.imports D.begins (D.seen desk.old).state caller.now body.now task
+        (D.seen desk.new).state) }
     ensures doubted { (D.seen desk.new).doubts ≡ 0 → (D.seen desk.old).doubts ≡ 0 }
     ensures lied { (D.seen desk.new).lies ≡ 0 → (D.seen desk.old).lies ≡ 0 }
     ensures told { (D.seen desk.old).refusals ≡ 0 → IsTold result (D.seen desk.new).refusals }
@@ -83,8 +93,14 @@ fn answer_handled<D: Counter>(
     request: &Received<'_>,
     handling: Handling,
 ) -> Result<Answer, Fault>
-    ensures answered { (D.seen desk.new).lies ≡ 0 → IfOk result (λ answer. Handles D.shows D.imports (D.seen desk.old).state (parts_of request.now) handling answer.status answer.bytes.items (D.seen desk.new).state) }
-    ensures stopped { (D.seen desk.new).doubts ≡ 0 → OnErr result (StopsIn D.imports D.begins (D.seen desk.old).state (parts_of request.now) handling (D.seen desk.new).state) }
+    ensures answered { (D.seen desk.new).lies ≡ 0
+        → IfOk result
+        (λ answer. Handles D.shows D.imports (D.seen desk.old).state
+        (parts_of request.now) handling answer.status answer.bytes.items (D.seen desk.new).state) }
+    ensures stopped { (D.seen desk.new).doubts ≡ 0
+        → OnErr result
+        (StopsIn D.imports D.begins (D.seen desk.old).state (parts_of request.now) handling
+        (D.seen desk.new).state) }
     ensures doubted { (D.seen desk.new).doubts ≡ 0 → (D.seen desk.old).doubts ≡ 0 }
     ensures lied { (D.seen desk.new).lies ≡ 0 → (D.seen desk.old).lies ≡ 0 }
     ensures told { (D.seen desk.old).refusals ≡ 0 → IsTold result (D.seen desk.new).refusals }
@@ -112,8 +128,14 @@ fn answer_request<D: Counter>(
     desk: &mut D,
     request: &Result<Received<'_>, RefusedHead>,
 ) -> Result<Answer, Fault>
-    ensures answered { (D.seen desk.new).lies ≡ 0 → IfOk result (λ answer. RespondsTo D.shows D.imports (D.seen desk.old).state (parts_seen request.now) answer.status answer.bytes.items (D.seen desk.new).state) }
-    ensures stopped { (D.seen desk.new).doubts ≡ 0 → OnErr result (StopsAt D.imports D.begins (D.seen desk.old).state (parts_seen request.now) (D.seen desk.new).state) }
+    ensures answered { (D.seen desk.new).lies ≡ 0
+        → IfOk result
+        (λ answer. RespondsTo D.shows D.imports (D.seen desk.old).state
+        (parts_seen request.now) answer.status answer.bytes.items (D.seen desk.new).state) }
+    ensures stopped { (D.seen desk.new).doubts ≡ 0
+        → OnErr result
+        (StopsAt D.imports D.begins (D.seen desk.old).state (parts_seen request.now)
+        (D.seen desk.new).state) }
     ensures doubted { (D.seen desk.new).doubts ≡ 0 → (D.seen desk.old).doubts ≡ 0 }
     ensures lied { (D.seen desk.new).lies ≡ 0 → (D.seen desk.old).lies ≡ 0 }
     ensures told { (D.seen desk.old).refusals ≡ 0 → IsTold result (D.seen desk.new).refusals }
@@ -149,12 +171,20 @@ pub fn answer_by_routes<D: Counter>(
     desk: &mut D,
     bytes: &[u8],
 ) -> Result<Answer, Fault>
-    ensures answered { (D.seen desk.new).lies ≡ 0 → IfOk result (λ answer. Responds D.shows D.imports (D.seen desk.old).state bytes.now answer.status answer.bytes.items (D.seen desk.new).state) }
-    ensures stopped { (D.seen desk.new).doubts ≡ 0 → OnErr result (Fails D.imports D.begins (D.seen desk.old).state bytes.now (D.seen desk.new).state) }
+    ensures answered { (D.seen desk.new).lies ≡ 0
+        → IfOk result
+        (λ answer. Responds D.shows D.imports
+        (D.seen desk.old).state bytes.now answer.status answer.bytes.items
+        (D.seen desk.new).state) }
+    ensures stopped { (D.seen desk.new).doubts ≡ 0
+        → OnErr result
+        (Fails D.imports D.begins (D.seen desk.old).state bytes.now (D.seen desk.new).state) }
     ensures doubted { (D.seen desk.new).doubts ≡ 0 → (D.seen desk.old).doubts ≡ 0 }
     ensures lied { (D.seen desk.new).lies ≡ 0 → (D.seen desk.old).lies ≡ 0 }
     ensures told { (D.seen desk.old).refusals ≡ 0 → IsTold result (D.seen desk.new).refusals }
-    ensures promised { ImportsAreRuns D.imports D.begins → IsSound (D.seen desk.old).state → (D.seen desk.new).lies ≡ 0 → KeepsPromise bytes.now (D.seen desk.old).state (D.seen desk.new) result }
+    ensures promised { ImportsAreRuns D.imports D.begins → IsSound (D.seen desk.old).state
+        → (D.seen desk.new).lies ≡ 0
+        → KeepsPromise bytes.now (D.seen desk.old).state (D.seen desk.new) result }
     ensures works { (D.seen desk.new).lies ≡ 0 → (D.seen desk.old).doubts ≡ 0
         → OnOk result ((D.seen desk.new).doubts ≡ 0) }
     ensures stays { (D.seen desk.new).lies ≡ 0 → (D.seen desk.old).doubts ≡ 0
@@ -168,8 +198,9 @@ pub fn answer_by_routes<D: Counter>(
 
 /// The answer to all the bytes that a stream holds. The routes are made for it alone.
 ///
-/// `promised`: what a registry promises after any list of requests holds of the requests that the bytes bring, and after a fault of those
-/// that stand. Its first premise is that the desk's imports are runs, as a registry's are ([`imports_are_runs`](goo_desk_counter::imports_are_runs)).
+/// `promised`: what a registry promises after any list of requests holds of the requests that the
+/// bytes bring, and after a fault of those that stand. Its first premise is that the desk's imports
+/// are runs, as a registry's are ([`imports_are_runs`](goo_desk_counter::imports_are_runs)).
 ///
 /// `stays`: nothing is in doubt unless a call below failed. So after a `Memory` with no failed call
 /// the state is known, and a crash finds it.
@@ -177,15 +208,24 @@ pub fn answer_by_routes<D: Counter>(
 ///
 /// # Errors
 ///
-/// `Store` where what keeps the records failed, `Memory` where there was no room. Nothing changed then, but for an import of
-/// declarations: the rows before the fault stand, and the file is to be sent again.
+/// `Store` where what keeps the records failed, `Memory` where there was no room. Nothing changed
+/// then, but for an import of declarations: the rows before the fault stand, and the file is to be
+/// sent again.
 pub fn answer<D: Counter>(alloc: Global, desk: &mut D, bytes: &[u8]) -> Result<Answer, Fault>
-    ensures answered { (D.seen desk.new).lies ≡ 0 → IfOk result (λ answer. Responds D.shows D.imports (D.seen desk.old).state bytes.now answer.status answer.bytes.items (D.seen desk.new).state) }
-    ensures stopped { (D.seen desk.new).doubts ≡ 0 → OnErr result (Fails D.imports D.begins (D.seen desk.old).state bytes.now (D.seen desk.new).state) }
+    ensures answered { (D.seen desk.new).lies ≡ 0
+        → IfOk result
+        (λ answer. Responds D.shows D.imports
+        (D.seen desk.old).state bytes.now answer.status answer.bytes.items
+        (D.seen desk.new).state) }
+    ensures stopped { (D.seen desk.new).doubts ≡ 0
+        → OnErr result
+        (Fails D.imports D.begins (D.seen desk.old).state bytes.now (D.seen desk.new).state) }
     ensures doubted { (D.seen desk.new).doubts ≡ 0 → (D.seen desk.old).doubts ≡ 0 }
     ensures lied { (D.seen desk.new).lies ≡ 0 → (D.seen desk.old).lies ≡ 0 }
     ensures told { (D.seen desk.old).refusals ≡ 0 → IsTold result (D.seen desk.new).refusals }
-    ensures promised { ImportsAreRuns D.imports D.begins → IsSound (D.seen desk.old).state → (D.seen desk.new).lies ≡ 0 → KeepsPromise bytes.now (D.seen desk.old).state (D.seen desk.new) result }
+    ensures promised { ImportsAreRuns D.imports D.begins → IsSound (D.seen desk.old).state
+        → (D.seen desk.new).lies ≡ 0
+        → KeepsPromise bytes.now (D.seen desk.old).state (D.seen desk.new) result }
     ensures works { (D.seen desk.new).lies ≡ 0 → (D.seen desk.old).doubts ≡ 0
         → OnOk result ((D.seen desk.new).doubts ≡ 0) }
     ensures stays { (D.seen desk.new).lies ≡ 0 → (D.seen desk.old).doubts ≡ 0

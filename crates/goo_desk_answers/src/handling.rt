@@ -1,7 +1,8 @@
 //! What a whole request is to be answered with.
 ghost use Rattle.std.specs.Prelude.{◌≡◌, option_map};
 ghost use Rattle.goo_desk_heads.specs.Requests.{parts_of};
-ghost use Rattle.goo_desk_answers.specs.Handling.{handling_of, caller_by, handling_by_caller, handling_by_route, handling_by_task};
+ghost use Rattle.goo_desk_answers.specs.Handling.{handling_of, caller_by, handling_by_caller};
+ghost use Rattle.goo_desk_answers.specs.Handling.{handling_by_route, handling_by_task};
 
 use goo_desk_heads::{Method, Received};
 use goo_desk_responses::Status;
@@ -11,7 +12,8 @@ use goo_types::holder_code::HolderCode;
 /// What a whole request is to be answered with.
 #[derive(Clone, Copy)]
 pub enum Handling {
-    /// A response that says no more than this status, and the method of the route where the request has another.
+    /// A response that says no more than this status, and the method of the route where the request
+    /// has another.
     Fixed(Status, Option<Method>),
     /// What comes of a caller's task.
     Own(HolderCode, Task),
@@ -36,7 +38,9 @@ fn for_task(caller: HolderCode, task: Option<Task>) -> Handling
 
 /// What a request that meets a route by its method is answered with.
 fn for_caller(request: &Received<'_>, met: &Met<'_>) -> Handling
-    ensures { result ≡ handling_by_caller (met.now.route, met.now.part.now) (caller_by (parts_of request.now).caller) }
+    ensures { result
+        ≡ handling_by_caller (met.now.route, met.now.part.now)
+        (caller_by (parts_of request.now).caller) }
 {
     match caller_in(request.caller) {
         Some(caller) => for_task(caller, task_of(met.route, met.part)),
@@ -46,7 +50,9 @@ fn for_caller(request: &Received<'_>, met: &Met<'_>) -> Handling
 
 /// What a request is answered with, by the route that it meets.
 fn for_route(request: &Received<'_>, met: &Option<Met<'_>>) -> Handling
-    ensures { result ≡ handling_by_route (parts_of request.now) (option_map (λ m. (m.route, m.part.now)) met.now) }
+    ensures { result
+        ≡ handling_by_route (parts_of request.now)
+        (option_map (λ m. (m.route, m.part.now)) met.now) }
 {
     match met {
         None => Handling::Fixed(Status::NotFound, None),

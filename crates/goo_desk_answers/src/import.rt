@@ -17,7 +17,9 @@ use std::alloc::{AllocError, Global};
 
 /// The answer that reports an import.
 fn answer_imported(alloc: Global, imported: &Imported) -> Result<Answer, AllocError>
-    ensures { IfOk result (λ answer. IsGiven (import_response (report_of imported.now)) answer.status answer.bytes.items) }
+    ensures { IfOk result
+        (λ answer. IsGiven
+        (import_response (report_of imported.now)) answer.status answer.bytes.items) }
 {
     match imported {
         Imported::Report(report) => {
@@ -38,8 +40,15 @@ pub(crate) fn answer_import<D: Counter>(
     caller: &HolderCode,
     body: &[u8],
 ) -> Result<Answer, Fault>
-    ensures answered { (D.seen desk.new).lies ≡ 0 → IfOk result (λ answer. Does D.shows D.imports (D.seen desk.old).state caller.now body.now Import answer.status answer.bytes.items (D.seen desk.new).state) }
-    ensures stopped { (D.seen desk.new).doubts ≡ 0 → OnErr result (Stopped D.imports D.begins (D.seen desk.old).state caller.now body.now (D.seen desk.new).state) }
+    ensures answered { (D.seen desk.new).lies ≡ 0
+        → IfOk result
+        (λ answer. Does D.shows D.imports
+        (D.seen desk.old).state caller.now body.now Import answer.status answer.bytes.items
+        (D.seen desk.new).state) }
+    ensures stopped { (D.seen desk.new).doubts ≡ 0
+        → OnErr result
+        (Stopped D.imports D.begins (D.seen desk.old).state caller.now body.now
+        (D.seen desk.new).state) }
     ensures doubted { (D.seen desk.new).doubts ≡ 0 → (D.seen desk.old).doubts ≡ 0 }
     ensures lied { (D.seen desk.new).lies ≡ 0 → (D.seen desk.old).lies ≡ 0 }
     ensures told { (D.seen desk.old).refusals ≡ 0 → IsTold result (D.seen desk.new).refusals }

@@ -4,7 +4,8 @@ ghost use Rattle.goo_desk_counter.specs.Counters.{text_shown};
 ghost use Rattle.goo_core_shelf.specs.Shelf.{IsTold};
 ghost use Rattle.goo_registry_desk.specs.Crash.{FindsOnly};
 ghost use Rattle.goo_registry_desk.specs.Desk.{StaysSure};
-ghost use Rattle.goo_desk_answers.specs.Responds.{Does, IsGiven, content_of as content_stated, status_of_denial, show_response};
+ghost use Rattle.goo_desk_answers.specs.Responds.{Does, IsGiven, content_of as content_stated};
+ghost use Rattle.goo_desk_answers.specs.Responds.{status_of_denial, show_response};
 ghost use Rattle.goo_desk_routes.specs.declared.task.Task.TheVariants.{Show};
 
 use crate::answered::Answer;
@@ -39,7 +40,9 @@ fn status_of(denial: Denial) -> Status
 
 /// The answer that shows something.
 fn answer_shown(alloc: Global, subject: &Subject, shown: &Shown) -> Result<Answer, AllocError>
-    ensures { IfOk result (λ answer. IsGiven (show_response subject.now (text_shown shown.now)) answer.status answer.bytes.items) }
+    ensures { IfOk result
+        (λ answer. IsGiven
+        (show_response subject.now (text_shown shown.now)) answer.status answer.bytes.items) }
 {
     match shown {
         Shown::Text(text) => {
@@ -61,8 +64,12 @@ pub(crate) fn answer_show<D: Counter>(
     body: &[u8],
     subject: Subject,
 ) -> Result<Answer, Fault>
-    ensures answered { (D.seen desk.new).lies ≡ 0 → IfOk result (λ answer. Does D.shows D.imports (D.seen desk.old).state caller.now body.now (Show subject) answer.status answer.bytes.items (D.seen desk.new).state) }
-    ensures unchanged { (D.seen desk.new).doubts ≡ 0 → OnErr result ((D.seen desk.new).state ≡ (D.seen desk.old).state) }
+    ensures answered { (D.seen desk.new).lies ≡ 0
+        → IfOk result
+        (λ answer. Does D.shows D.imports (D.seen desk.old).state caller.now body.now
+        (Show subject) answer.status answer.bytes.items (D.seen desk.new).state) }
+    ensures unchanged { (D.seen desk.new).doubts ≡ 0
+        → OnErr result ((D.seen desk.new).state ≡ (D.seen desk.old).state) }
     ensures doubted { (D.seen desk.new).doubts ≡ 0 → (D.seen desk.old).doubts ≡ 0 }
     ensures lied { (D.seen desk.new).lies ≡ 0 → (D.seen desk.old).lies ≡ 0 }
     ensures told { (D.seen desk.old).refusals ≡ 0 → IsTold result (D.seen desk.new).refusals }

@@ -1,6 +1,7 @@
 //! The bodies of requests, JSON texts (RFC 8259): which request the bytes of a body state.
 //!
-//! There is one reader for each command. The definition in goo_notice says what the command's JSON object states.
+//! There is one reader for each command. The definition in goo_notice says what the command's JSON
+//! object states.
 #![tactic(auto)]
 
 mod add_peer;

@@ -4,7 +4,8 @@ ghost use Rattle.serde_json.specs.Find.{get, as_object};
 ghost use Rattle.serde_json.specs.View.{view};
 ghost use Rattle.goo_notice_json.specs.Faults.{Gives};
 ghost use Rattle.goo_notice_json.specs.Members.{of_size as of_size_stated};
-ghost use Rattle.goo_notice.specs.RegisterDevice.{carrier_text as carrier_stated, members_with, device_of_members, register_device_of};
+ghost use Rattle.goo_notice.specs.RegisterDevice.{carrier_text as carrier_stated, members_with};
+ghost use Rattle.goo_notice.specs.RegisterDevice.{device_of_members, register_device_of};
 
 use goo_notice_json::fields::{account_no, watts};
 use goo_notice_json::members::{integer_at, of_size, string_at};
@@ -33,7 +34,10 @@ fn device_of_members(
     support: &str,
     tech: &str,
 ) -> Result<RegisterDevice, ValueFault>
-    ensures { Gives (λ c. c) result (device_of_members account capacity_w carrier.now commissioned.now country.now device.now site.now source.now support.now tech.now) }
+    ensures { Gives
+        (λ c. c) result
+        (device_of_members account capacity_w carrier.now commissioned.now country.now device.now
+        site.now source.now support.now tech.now) }
 {
     Ok(RegisterDevice {
         device: Gsrn::read(device.as_bytes())?,
@@ -58,7 +62,10 @@ fn states_carrier(body: &Value) -> bool
 
 /// The count of a body's members, where it is that of a registration with its carrier or without.
 fn of_device_size(body: &Value) -> Result<usize, ValueFault>
-    ensures { Gives (λ n. n) result (of_size_stated (members_with (is_some (get (codes "carrier") (view body.now))) + 1) (as_object (view body.now))) }
+    ensures { Gives
+        (λ n. n) result
+        (of_size_stated (members_with (is_some (get (codes "carrier") (view body.now))) + 1)
+        (as_object (view body.now))) }
 {
     if states_carrier(body) {
         of_size(body, 12)
@@ -69,7 +76,9 @@ fn of_device_size(body: &Value) -> Result<usize, ValueFault>
 
 /// The word for what carries the energy: `electricity` where the body doesn't state it.
 fn carrier_text(body: &Value) -> Result<&str, ValueFault>
-    ensures { Gives (λ text. text.now) result (carrier_stated (is_some (get (codes "carrier") (view body.now))) (view body.now)) }
+    ensures { Gives
+        (λ text. text.now) result
+        (carrier_stated (is_some (get (codes "carrier") (view body.now))) (view body.now)) }
 {
     if states_carrier(body) {
         string_at(body, "carrier")

@@ -35,10 +35,10 @@ fn request(alloc: Global, caller: &HolderCode, body: &Value) -> Result<Request, 
 ///
 /// # Errors
 ///
-/// The first of these that holds: `NotJson` where the bytes are no JSON text; `Shape` where a key is missing or
-/// too many, the command isn't one of the thirteen, or a value anywhere (also in the notice of an import)
-/// is of another kind; `Field` where a value is refused by its reader, a range isn't one, or a notice breaks its
-/// rules. `Memory` where an allocation is refused.
+/// The first of these that holds: `NotJson` where the bytes are no JSON text; `Shape` where a key
+/// is missing or too many, the command isn't one of the thirteen, or a value anywhere (also in the
+/// notice of an import) is of another kind; `Field` where a value is refused by its reader, a range
+/// isn't one, or a notice breaks its rules. `Memory` where an allocation is refused.
 ///
 /// # Example
 ///

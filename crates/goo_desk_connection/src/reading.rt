@@ -27,8 +27,8 @@ fn next_wanted(bytes: &[u8], wanted: usize) -> Option<usize>
     bytes_wanted(bytes)
 }
 
-/// Reads until what was read is decided, whatever the reader still has, or to its end. What was read comes to the same as all
-/// that the reader has.
+/// Reads until what was read is decided, whatever the reader still has, or to its end. What was
+/// read comes to the same as all that the reader has.
 ///
 /// A body that is short is waited for, also where the target is unknown or the caller has no code.
 /// The head is parsed as its bytes come, and once more when all of the body is there.

@@ -13,7 +13,8 @@ pub enum ServeFault {
     Write,
     /// What keeps the records failed, whether or not that could be answered.
     Store,
-    /// There was no room to read the request, or for the routes. Nothing was applied, and nothing is answered.
+    /// There was no room to read the request, or for the routes. Nothing was applied, and nothing
+    /// is answered.
     Memory,
 }
 

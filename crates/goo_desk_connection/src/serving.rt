@@ -3,13 +3,15 @@ ghost use Rattle.std.specs.Prelude.{◌≡◌, IfOk, IfErr, IfSome};
 ghost use Rattle.std.specs.Io.KnownBytes.{Keeps};
 ghost use Rattle.goo_desk_answers.specs.Brought.{FindsLeft};
 ghost use Rattle.goo_desk_connection.specs.Durable.{FindsHeard, SendsFound};
-ghost use Rattle.goo_desk_connection.specs.Serving.{Connects, Leaves, Sends, SendsPart, SendsExcuse};
+ghost use Rattle.goo_desk_connection.specs.Serving.{Connects, Leaves, Sends, SendsPart};
+ghost use Rattle.goo_desk_connection.specs.Serving.{SendsExcuse};
 ghost use Rattle.goo_registry_desk.specs.Desk.{StaysSure};
 ghost use Rattle.goo_spec.specs.Sound.{IsSound};
 ghost use Rattle.goo_desk_counter.specs.Tables.{ImportsAreRuns};
 ghost use Rattle.goo_desk_connection.specs.Promised.{KeepsPromise};
 ghost use Rattle.goo_desk_connection.specs.Faults.{IsAfterReading, IsBeforeAnswer, IsToldIn};
-ghost use Rattle.goo_desk_connection.specs.declared.serve_fault.ServeFault.TheVariants.{Write as Writing, Store};
+ghost use Rattle.goo_desk_connection.specs.declared.serve_fault.ServeFault.TheVariants.{Write as Writing};
+ghost use Rattle.goo_desk_connection.specs.declared.serve_fault.ServeFault.TheVariants.{Store};
 
 use crate::reading::read_decided;
 use crate::sending::{Served, apology};
@@ -31,10 +33,19 @@ fn serve_bytes<D: Counter, W: Write>(
     bytes: &[u8],
     writer: &mut W,
 ) -> Result<Served, ServeFault>
-    ensures served { IfOk result (λ served. Sends D.shows D.imports D.begins (D.seen desk.old).state bytes.now served.status (D.seen desk.new) (W.contents writer.old) (W.contents writer.new)) }
-    ensures part { IfErr result (λ fault. fault ≡ Writing → SendsPart D.shows D.imports D.begins (D.seen desk.old).state bytes.now (D.seen desk.new) (W.contents writer.old) (W.contents writer.new)) }
-    ensures excuse { IfErr result (λ fault. fault ≡ Store → SendsExcuse D.shows D.imports D.begins (D.seen desk.old).state bytes.now (D.seen desk.new) (W.contents writer.old) (W.contents writer.new)) }
-    ensures leaves { Leaves D.shows D.imports D.begins (D.seen desk.old).state bytes.now (D.seen desk.new) }
+    ensures served { IfOk result
+        (λ served. Sends D.shows D.imports D.begins (D.seen desk.old).state bytes.now served.status
+        (D.seen desk.new) (W.contents writer.old) (W.contents writer.new)) }
+    ensures part { IfErr result
+        (λ fault. fault ≡ Writing
+        → SendsPart D.shows D.imports D.begins (D.seen desk.old).state bytes.now (D.seen desk.new)
+        (W.contents writer.old) (W.contents writer.new)) }
+    ensures excuse { IfErr result
+        (λ fault. fault ≡ Store
+        → SendsExcuse D.shows D.imports D.begins (D.seen desk.old).state bytes.now (D.seen desk.new)
+        (W.contents writer.old) (W.contents writer.new)) }
+    ensures leaves { Leaves D.shows D.imports D.begins (D.seen desk.old).state bytes.now
+        (D.seen desk.new) }
     ensures kinds { IfErr result IsAfterReading }
     ensures doubted { (D.seen desk.new).doubts ≡ 0 → (D.seen desk.old).doubts ≡ 0 }
     ensures lied { (D.seen desk.new).lies ≡ 0 → (D.seen desk.old).lies ≡ 0 }
@@ -68,12 +79,13 @@ fn serve_bytes<D: Counter, W: Write>(
     }
 }
 
-/// Reads a request until it is decided, and answers it by the routes of the registry. The caller closes the connection.
+/// Reads a request until it is decided, and answers it by the routes of the registry. The caller
+/// closes the connection.
 ///
-/// Want of memory in answering is answered 503. `found`: an answer is sent only once a crash finds what it tells.
-/// `connects`: nothing is in doubt unless a call below failed (`stays`), so after a 503 with no
-/// failed call the state is known, and a crash finds it.
-/// `crash`: however it ends, a crash finds the state that some of the client's requests lead to.
+/// Want of memory in answering is answered 503. `found`: an answer is sent only once a crash finds
+/// what it tells. `connects`: nothing is in doubt unless a call below failed (`stays`), so after a
+/// 503 with no failed call the state is known, and a crash finds it. `crash`: however it ends, a
+/// crash finds the state that some of the client's requests lead to.
 ///
 /// # Errors
 ///
@@ -85,15 +97,32 @@ pub fn serve_by_routes<D: Counter, R: Read, W: Write>(
     reader: &mut R,
     writer: &mut W,
 ) -> Result<Served, ServeFault>
-    ensures served { IfSome (R.remaining reader.old) (λ input. IfOk result (λ served. Sends D.shows D.imports D.begins (D.seen desk.old).state input served.status (D.seen desk.new) (W.contents writer.old) (W.contents writer.new))) }
-    ensures part { IfSome (R.remaining reader.old) (λ input. IfErr result (λ fault. fault ≡ Writing → SendsPart D.shows D.imports D.begins (D.seen desk.old).state input (D.seen desk.new) (W.contents writer.old) (W.contents writer.new))) }
-    ensures excuse { IfSome (R.remaining reader.old) (λ input. IfErr result (λ fault. fault ≡ Store → SendsExcuse D.shows D.imports D.begins (D.seen desk.old).state input (D.seen desk.new) (W.contents writer.old) (W.contents writer.new))) }
-    ensures connects { Connects D.shows D.imports D.begins (R.remaining reader.old) (D.seen desk.old) (D.seen desk.new) }
-    ensures unapplied { IfErr result (λ fault. IsBeforeAnswer fault → (D.seen desk.new).state ≡ (D.seen desk.old).state) }
-    ensures silent { IfErr result (λ fault. IsBeforeAnswer fault → Keeps (W.contents writer.old) (W.contents writer.new)) }
+    ensures served { IfSome (R.remaining reader.old)
+        (λ input. IfOk result
+        (λ served. Sends D.shows D.imports D.begins (D.seen desk.old).state input served.status
+        (D.seen desk.new) (W.contents writer.old) (W.contents writer.new))) }
+    ensures part { IfSome (R.remaining reader.old)
+        (λ input. IfErr result
+        (λ fault. fault ≡ Writing
+        → SendsPart D.shows D.imports D.begins (D.seen desk.old).state input (D.seen desk.new)
+        (W.contents writer.old) (W.contents writer.new))) }
+    ensures excuse { IfSome (R.remaining reader.old)
+        (λ input. IfErr result
+        (λ fault. fault ≡ Store
+        → SendsExcuse D.shows D.imports D.begins (D.seen desk.old).state input (D.seen desk.new)
+        (W.contents writer.old) (W.contents writer.new))) }
+    ensures connects { Connects D.shows D.imports D.begins (R.remaining reader.old)
+        (D.seen desk.old) (D.seen desk.new) }
+    ensures unapplied { IfErr result
+        (λ fault. IsBeforeAnswer fault → (D.seen desk.new).state ≡ (D.seen desk.old).state) }
+    ensures silent { IfErr result
+        (λ fault. IsBeforeAnswer fault → Keeps (W.contents writer.old) (W.contents writer.new)) }
     ensures lied { (D.seen desk.new).lies ≡ 0 → (D.seen desk.old).lies ≡ 0 }
     ensures told { (D.seen desk.old).refusals ≡ 0 → IsToldIn result (D.seen desk.new).refusals }
-    ensures promised { ImportsAreRuns D.imports D.begins → IsSound (D.seen desk.old).state → (D.seen desk.new).lies ≡ 0 → (D.seen desk.new).doubts ≡ 0 → IfSome (R.remaining reader.old) (λ input. KeepsPromise input (D.seen desk.old).state (D.seen desk.new).state) }
+    ensures promised { ImportsAreRuns D.imports D.begins → IsSound (D.seen desk.old).state
+        → (D.seen desk.new).lies ≡ 0 → (D.seen desk.new).doubts ≡ 0
+        → IfSome (R.remaining reader.old)
+        (λ input. KeepsPromise input (D.seen desk.old).state (D.seen desk.new).state) }
     ensures found { (D.seen desk.new).lies ≡ 0 → (D.seen desk.old).doubts ≡ 0
         → IfSome (R.remaining reader.old) (λ input.
         SendsFound D.shows D.imports (D.seen desk.old).state input (D.seen desk.new).state
@@ -106,12 +135,13 @@ pub fn serve_by_routes<D: Counter, R: Read, W: Write>(
     serve_bytes(alloc, routes, desk, &bytes, writer)
 }
 
-/// Makes the routes, reads a request until it is decided, and answers it. The caller closes the connection.
+/// Makes the routes, reads a request until it is decided, and answers it. The caller closes the
+/// connection.
 ///
-/// Want of memory in answering is answered 503. `found`: an answer is sent only once a crash finds what it tells.
-/// `connects`: nothing is in doubt unless a call below failed (`stays`), so after a 503 with no
-/// failed call the state is known, and a crash finds it.
-/// `crash`: however it ends, a crash finds the state that some of the client's requests lead to.
+/// Want of memory in answering is answered 503. `found`: an answer is sent only once a crash finds
+/// what it tells. `connects`: nothing is in doubt unless a call below failed (`stays`), so after a
+/// 503 with no failed call the state is known, and a crash finds it. `crash`: however it ends, a
+/// crash finds the state that some of the client's requests lead to.
 ///
 /// # Errors
 ///
@@ -122,15 +152,32 @@ pub fn serve_one<D: Counter, R: Read, W: Write>(
     reader: &mut R,
     writer: &mut W,
 ) -> Result<Served, ServeFault>
-    ensures served { IfSome (R.remaining reader.old) (λ input. IfOk result (λ served. Sends D.shows D.imports D.begins (D.seen desk.old).state input served.status (D.seen desk.new) (W.contents writer.old) (W.contents writer.new))) }
-    ensures part { IfSome (R.remaining reader.old) (λ input. IfErr result (λ fault. fault ≡ Writing → SendsPart D.shows D.imports D.begins (D.seen desk.old).state input (D.seen desk.new) (W.contents writer.old) (W.contents writer.new))) }
-    ensures excuse { IfSome (R.remaining reader.old) (λ input. IfErr result (λ fault. fault ≡ Store → SendsExcuse D.shows D.imports D.begins (D.seen desk.old).state input (D.seen desk.new) (W.contents writer.old) (W.contents writer.new))) }
-    ensures connects { Connects D.shows D.imports D.begins (R.remaining reader.old) (D.seen desk.old) (D.seen desk.new) }
-    ensures unapplied { IfErr result (λ fault. IsBeforeAnswer fault → (D.seen desk.new).state ≡ (D.seen desk.old).state) }
-    ensures silent { IfErr result (λ fault. IsBeforeAnswer fault → Keeps (W.contents writer.old) (W.contents writer.new)) }
+    ensures served { IfSome (R.remaining reader.old)
+        (λ input. IfOk result
+        (λ served. Sends D.shows D.imports D.begins (D.seen desk.old).state input served.status
+        (D.seen desk.new) (W.contents writer.old) (W.contents writer.new))) }
+    ensures part { IfSome (R.remaining reader.old)
+        (λ input. IfErr result
+        (λ fault. fault ≡ Writing
+        → SendsPart D.shows D.imports D.begins (D.seen desk.old).state input (D.seen desk.new)
+        (W.contents writer.old) (W.contents writer.new))) }
+    ensures excuse { IfSome (R.remaining reader.old)
+        (λ input. IfErr result
+        (λ fault. fault ≡ Store
+        → SendsExcuse D.shows D.imports D.begins (D.seen desk.old).state input (D.seen desk.new)
+        (W.contents writer.old) (W.contents writer.new))) }
+    ensures connects { Connects D.shows D.imports D.begins (R.remaining reader.old)
+        (D.seen desk.old) (D.seen desk.new) }
+    ensures unapplied { IfErr result
+        (λ fault. IsBeforeAnswer fault → (D.seen desk.new).state ≡ (D.seen desk.old).state) }
+    ensures silent { IfErr result
+        (λ fault. IsBeforeAnswer fault → Keeps (W.contents writer.old) (W.contents writer.new)) }
     ensures lied { (D.seen desk.new).lies ≡ 0 → (D.seen desk.old).lies ≡ 0 }
     ensures told { (D.seen desk.old).refusals ≡ 0 → IsToldIn result (D.seen desk.new).refusals }
-    ensures promised { ImportsAreRuns D.imports D.begins → IsSound (D.seen desk.old).state → (D.seen desk.new).lies ≡ 0 → (D.seen desk.new).doubts ≡ 0 → IfSome (R.remaining reader.old) (λ input. KeepsPromise input (D.seen desk.old).state (D.seen desk.new).state) }
+    ensures promised { ImportsAreRuns D.imports D.begins → IsSound (D.seen desk.old).state
+        → (D.seen desk.new).lies ≡ 0 → (D.seen desk.new).doubts ≡ 0
+        → IfSome (R.remaining reader.old)
+        (λ input. KeepsPromise input (D.seen desk.old).state (D.seen desk.new).state) }
     ensures found { (D.seen desk.new).lies ≡ 0 → (D.seen desk.old).doubts ≡ 0
         → IfSome (R.remaining reader.old) (λ input.
         SendsFound D.shows D.imports (D.seen desk.old).state input (D.seen desk.new).state

@@ -44,14 +44,16 @@ pub trait Counter: Desk {
 
     /// What a caller is shown of a subject. It changes nothing, and a crash finds what was there.
     fn show(&mut self, alloc: Global, caller: &HolderCode, subject: Subject) -> Result<Shown, Fault>
-        ensures shows { Shows shows (Self.seen self.old) (Self.seen self.new) caller.now subject result }
+        ensures shows { Shows shows (Self.seen self.old)
+            (Self.seen self.new) caller.now subject result }
         ensures crash { (Self.seen self.new).lies ≡ 0 → (Self.seen self.old).doubts ≡ 0
             → FindsOnly (Self.leaves self.new) (Self.seen self.old).state };
 
-    /// Takes in declarations in CSV. After a fault the rows before it stand. Whatever is answered, a
-    /// crash finds some first rows applied; after an answer it finds all of them (`settled`).
+    /// Takes in declarations in CSV. After a fault the rows before it stand. Whatever is answered,
+    /// a crash finds some first rows applied; after an answer it finds all of them (`settled`).
     fn import(&mut self, alloc: Global, caller: &HolderCode, rows: &[u8]) -> Result<Imported, Fault>
-        ensures imports { Imports imports begins (Self.seen self.old) (Self.seen self.new) caller.now rows.now result }
+        ensures imports { Imports imports begins (Self.seen self.old)
+            (Self.seen self.new) caller.now rows.now result }
         ensures crash { (Self.seen self.new).lies ≡ 0 → (Self.seen self.old).doubts ≡ 0
             → FindsAmong (Self.leaves self.new)
             (begins (Self.seen self.old).state caller.now rows.now) };

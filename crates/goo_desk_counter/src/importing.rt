@@ -18,7 +18,8 @@ use std::alloc::Global;
 
 /// The report of an import, as a text.
 fn reported(alloc: Global, report: &Report) -> Result<Imported, Fault>
-    ensures text { IfOk result (λ imported. report_of imported ≡ Some (report_text report.now.lines.items)) }
+    ensures text { IfOk result
+        (λ imported. report_of imported ≡ Some (report_text report.now.lines.items)) }
     ensures fault { IfErr result (λ fault. fault ≡ Memory) }
 {
     let mut text = Vec::new(alloc);
@@ -46,7 +47,8 @@ pub(crate) fn import_rows<S: Shelf>(
     caller: &HolderCode,
     rows: &[u8],
 ) -> Result<Imported, Fault>
-    ensures imports { Imports imported_by begun_by (seen_of (S.seen registry.old.shelf)) (seen_of (S.seen registry.new.shelf)) caller.now rows.now result }
+    ensures imports { Imports imported_by begun_by (seen_of (S.seen registry.old.shelf))
+        (seen_of (S.seen registry.new.shelf)) caller.now rows.now result }
     ensures crash { (S.seen registry.new.shelf).lies ≡ 0 → (S.seen registry.old.shelf).doubts ≡ 0
         → FindsAmong (S.seen registry.new.shelf).leaves
         (begun_by (S.seen registry.old.shelf).state caller.now rows.now) }

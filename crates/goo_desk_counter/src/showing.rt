@@ -3,7 +3,10 @@ ghost use Rattle.std.specs.Prelude.{◌≡◌};
 ghost use Rattle.goo_registry_desk.specs.Crash.{FindsOnly};
 ghost use Rattle.goo_registry.specs.Desks.{seen_of};
 ghost use Rattle.goo_registry.specs.Shown.{apart as apart_stated};
-ghost use Rattle.goo_desk_routes.specs.declared.task.Subject.TheVariants.{Statement, Certificate, Cancellation, Notice as SentNotice, Audit};
+ghost use Rattle.goo_desk_routes.specs.declared.task.Subject.TheVariants.{Statement, Certificate};
+ghost use Rattle.goo_desk_routes.specs.declared.task.Subject.TheVariants.{Cancellation};
+ghost use Rattle.goo_desk_routes.specs.declared.task.Subject.TheVariants.{Notice as SentNotice};
+ghost use Rattle.goo_desk_routes.specs.declared.task.Subject.TheVariants.{Audit};
 ghost use Rattle.goo_desk_counter.specs.Counters.{Shows};
 ghost use Rattle.goo_desk_counter.specs.Made.{shown_as};
 ghost use Rattle.goo_desk_counter.specs.Showing.{shown_by};
@@ -56,7 +59,8 @@ fn show_statement<S: Shelf>(
     caller: &HolderCode,
     account: AccountNo,
 ) -> Result<Shown, Fault>
-    ensures shows { Shows shown_by (seen_of (S.seen registry.old.shelf)) (seen_of (S.seen registry.new.shelf)) caller.now (Statement account) result }
+    ensures shows { Shows shown_by (seen_of (S.seen registry.old.shelf))
+        (seen_of (S.seen registry.new.shelf)) caller.now (Statement account) result }
     ensures crash { (S.seen registry.new.shelf).lies ≡ 0 → (S.seen registry.old.shelf).doubts ≡ 0
         → FindsOnly (S.seen registry.new.shelf).leaves (S.seen registry.old.shelf).state }
 {
@@ -72,7 +76,8 @@ fn show_certificate<S: Shelf>(
     caller: &HolderCode,
     number: Number,
 ) -> Result<Shown, Fault>
-    ensures shows { Shows shown_by (seen_of (S.seen registry.old.shelf)) (seen_of (S.seen registry.new.shelf)) caller.now (Certificate number) result }
+    ensures shows { Shows shown_by (seen_of (S.seen registry.old.shelf))
+        (seen_of (S.seen registry.new.shelf)) caller.now (Certificate number) result }
     ensures crash { (S.seen registry.new.shelf).lies ≡ 0 → (S.seen registry.old.shelf).doubts ≡ 0
         → FindsOnly (S.seen registry.new.shelf).leaves (S.seen registry.old.shelf).state }
 {
@@ -89,7 +94,8 @@ fn show_cancellation<S: Shelf>(
     caller: &HolderCode,
     act: ActNo,
 ) -> Result<Shown, Fault>
-    ensures shows { Shows shown_by (seen_of (S.seen registry.old.shelf)) (seen_of (S.seen registry.new.shelf)) caller.now (Cancellation act) result }
+    ensures shows { Shows shown_by (seen_of (S.seen registry.old.shelf))
+        (seen_of (S.seen registry.new.shelf)) caller.now (Cancellation act) result }
     ensures crash { (S.seen registry.new.shelf).lies ≡ 0 → (S.seen registry.old.shelf).doubts ≡ 0
         → FindsOnly (S.seen registry.new.shelf).leaves (S.seen registry.old.shelf).state }
 {
@@ -105,7 +111,8 @@ fn show_notice<S: Shelf>(
     caller: &HolderCode,
     act: ActNo,
 ) -> Result<Shown, Fault>
-    ensures shows { Shows shown_by (seen_of (S.seen registry.old.shelf)) (seen_of (S.seen registry.new.shelf)) caller.now (SentNotice act) result }
+    ensures shows { Shows shown_by (seen_of (S.seen registry.old.shelf))
+        (seen_of (S.seen registry.new.shelf)) caller.now (SentNotice act) result }
     ensures crash { (S.seen registry.new.shelf).lies ≡ 0 → (S.seen registry.old.shelf).doubts ≡ 0
         → FindsOnly (S.seen registry.new.shelf).leaves (S.seen registry.old.shelf).state }
 {
@@ -121,7 +128,8 @@ fn show_audit<S: Shelf>(
     registry: &mut Registry<S>,
     caller: &HolderCode,
 ) -> Result<Shown, Fault>
-    ensures shows { Shows shown_by (seen_of (S.seen registry.old.shelf)) (seen_of (S.seen registry.new.shelf)) caller.now Audit result }
+    ensures shows { Shows shown_by (seen_of (S.seen registry.old.shelf))
+        (seen_of (S.seen registry.new.shelf)) caller.now Audit result }
     ensures crash { (S.seen registry.new.shelf).lies ≡ 0 → (S.seen registry.old.shelf).doubts ≡ 0
         → FindsOnly (S.seen registry.new.shelf).leaves (S.seen registry.old.shelf).state }
 {
@@ -137,7 +145,8 @@ pub(crate) fn show_subject<S: Shelf>(
     caller: &HolderCode,
     subject: Subject,
 ) -> Result<Shown, Fault>
-    ensures shows { Shows shown_by (seen_of (S.seen registry.old.shelf)) (seen_of (S.seen registry.new.shelf)) caller.now subject result }
+    ensures shows { Shows shown_by (seen_of (S.seen registry.old.shelf))
+        (seen_of (S.seen registry.new.shelf)) caller.now subject result }
     ensures crash { (S.seen registry.new.shelf).lies ≡ 0 → (S.seen registry.old.shelf).doubts ≡ 0
         → FindsOnly (S.seen registry.new.shelf).leaves (S.seen registry.old.shelf).state }
 {

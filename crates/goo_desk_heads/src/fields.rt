@@ -1,10 +1,13 @@
-//! The fields of a head that tell how long the body is and who calls. A request of HTTP/1.1 without `Host`, and any with two, is
-//! refused (RFC 9112, section 3.2), and so is a transfer coding (section 6.1).
+//! The fields of a head that tell how long the body is and who calls. A request of HTTP/1.1 without
+//! `Host`, and any with two, is refused (RFC 9112, section 3.2), and so is a transfer coding
+//! (section 6.1).
 ghost use Rattle.std.specs.Prelude.{◌≡◌, ◌≤◌, length, map, All, option_map, IfOk};
 ghost use Rattle.std.specs.List.{list_all};
 ghost use Rattle.std.specs.Char.{is_ascii_digit};
 ghost use Rattle.httparse.specs.Spans.{IsHeaderWithin, header_bytes};
-ghost use Rattle.goo_desk_heads.specs.Fields.{Occurs, values_of, same_name, length_in as length_stated, body_length as body_length_stated, sole, most_body};
+ghost use Rattle.goo_desk_heads.specs.Fields.{Occurs, values_of, same_name};
+ghost use Rattle.goo_desk_heads.specs.Fields.{length_in as length_stated};
+ghost use Rattle.goo_desk_heads.specs.Fields.{body_length as body_length_stated, sole, most_body};
 
 use crate::occurrence::Occurrence;
 use crate::refusal::HeadFault;
@@ -46,7 +49,8 @@ pub(crate) fn sole_value<'b>(
     wanted: &str,
 ) -> Option<&'b [u8]>
     requires { All (IsHeaderWithin (length buf.now)) headers.now }
-    ensures { option_map (λ value. value.now) result ≡ sole (values_of wanted.now (map (header_bytes buf.now) headers.now)) }
+    ensures { option_map (λ value. value.now) result
+        ≡ sole (values_of wanted.now (map (header_bytes buf.now) headers.now)) }
 {
     match field_value(buf, headers, wanted) {
         Occurrence::Absent => None,

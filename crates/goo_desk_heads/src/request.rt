@@ -1,6 +1,7 @@
 //! The request that all the bytes of a stream are, or why they are refused.
 ghost use Rattle.std.specs.Prelude.{◌≡◌, ◌<◌, ◌≤◌, ◌+◌, length, IfNone, IfSome, option_map};
-ghost use Rattle.goo_desk_heads.specs.Requests.{Decides, seen, IsSure, IsWaiting, refused_as, whole_request, is_for_head as is_for_head_stated};
+ghost use Rattle.goo_desk_heads.specs.Requests.{Decides, seen, IsSure, IsWaiting, refused_as};
+ghost use Rattle.goo_desk_heads.specs.Requests.{whole_request, is_for_head as is_for_head_stated};
 ghost use Rattle.goo_desk_heads.specs.Heads.{most_head};
 ghost use Rattle.goo_desk_heads.specs.Fields.{most_body};
 
@@ -48,7 +49,9 @@ pub fn is_for_head(method: &[u8]) -> bool
 
 /// The request of a head, once its body has come.
 fn whole<'b>(head: &Head<'b>) -> Result<Received<'b>, RefusedHead>
-    ensures { seen result ≡ whole_request head.now.method.now head.now.target.now (option_map (λ value. value.now) head.now.caller) head.now.rest.now head.now.length }
+    ensures { seen result
+        ≡ whole_request head.now.method.now head.now.target.now
+        (option_map (λ value. value.now) head.now.caller) head.now.rest.now head.now.length }
 {
     let length = match head.length {
         Ok(length) => length,
@@ -69,10 +72,11 @@ fn whole<'b>(head: &Head<'b>) -> Result<Received<'b>, RefusedHead>
 ///
 /// # Errors
 ///
-/// `BadRequest` where the bytes don't begin with a head. Else the first of these that holds: `BadRequest` for
-/// HTTP/1.1 without `Host` or for a second `Host` (RFC 9112, section 3.2), `NotImplemented` for a
-/// `Transfer-Encoding`, `BadRequest` for a second `Content-Length` or one that isn't 1 to 19 digits, `TooLarge` for
-/// a length above [`MOST_BODY`](crate::MOST_BODY), `BadRequest` where fewer bytes follow than the length.
+/// `BadRequest` where the bytes don't begin with a head. Else the first of these that holds:
+/// `BadRequest` for HTTP/1.1 without `Host` or for a second `Host` (RFC 9112, section 3.2),
+/// `NotImplemented` for a `Transfer-Encoding`, `BadRequest` for a second `Content-Length` or one
+/// that isn't 1 to 19 digits, `TooLarge` for a length above [`MOST_BODY`](crate::MOST_BODY),
+/// `BadRequest` where fewer bytes follow than the length.
 pub fn read_request(bytes: &[u8]) -> Result<Received<'_>, RefusedHead>
     ensures { Decides bytes.now (seen result) }
 {

@@ -30,8 +30,8 @@ fn cut_line(line: &[u8]) -> Option<(&[u8], &[u8])>
 ///
 /// # Errors
 ///
-/// `Unreadable`, where there is no space, the caller is no holder's code, or the body states no request; `Memory`, where
-/// there is no room to read the body.
+/// `Unreadable`, where there is no space, the caller is no holder's code, or the body states no
+/// request; `Memory`, where there is no room to read the body.
 #[tactic(auto, unfolding(crate::specs::Lines::request_in))]
 pub fn read_line(alloc: Global, line: &[u8]) -> Result<Request, Unread>
     ensures { Reads result (request_in line.now) }

@@ -20,8 +20,8 @@ fn split_line(text: &[u8]) -> (&[u8], Option<&[u8]>)
     }
 }
 
-/// The lines of what is left of an input, without their line feeds. Where the input ends with a line feed, an
-/// empty line comes last.
+/// The lines of what is left of an input, without their line feeds. Where the input ends with a
+/// line feed, an empty line comes last.
 #[derive(Drop)]
 pub struct Lines<'a>(pub Option<&'a [u8]>);
 

@@ -11,7 +11,8 @@ use goo_types::fault::Fault;
 pub enum LinesFault {
     /// The reader failed or held more than the limit. No line was answered.
     Read,
-    /// The writer failed. The request of the line stands, and a beginning of its outcome may be written.
+    /// The writer failed. The request of the line stands, and a beginning of its outcome may be
+    /// written.
     Write,
     /// What keeps the records failed. The lines before stand, and their outcomes are written.
     Store,

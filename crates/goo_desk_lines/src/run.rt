@@ -1,5 +1,6 @@
 //! The lines of an input, answered in turn.
-ghost use Rattle.std.specs.Prelude.{◌≡◌, ◌≢◌, ◌≤◌, ◌<◌, ◌+◌, ◌^◌, ◌++◌, ◌∷◌, [], length, IfOk, IfErr, IfSome, OnOk, OnErr, Err};
+ghost use Rattle.std.specs.Prelude.{◌≡◌, ◌≢◌, ◌≤◌, ◌<◌, ◌+◌, ◌^◌, ◌++◌, ◌∷◌, [], length, IfOk};
+ghost use Rattle.std.specs.Prelude.{IfErr, IfSome, OnOk, OnErr, Err};
 ghost use Rattle.std.specs.Io.KnownBytes.{Appends, IsAtEnd, Keeps};
 ghost use Rattle.goo_files_streams.specs.Streams.{AppendsPrefix};
 ghost use Rattle.goo_desk_lines.specs.Answers.{answer_to, state_after};
@@ -11,8 +12,10 @@ ghost use Rattle.goo_registry_desk.specs.Crash.{FindsOnly, FindsEither};
 ghost use Rattle.goo_registry_desk.specs.Desk.{StaysSure};
 ghost use Rattle.goo_spec.specs.Sound.{IsSound};
 ghost use Rattle.goo_desk_lines.specs.Promised.{KeepsPromise};
-ghost use Rattle.goo_desk_lines.specs.Stops.{AnswersLine, IsAfterReading, IsBetweenLines, IsToldIn, IsTurnedDown, StandsWhole, StandsInPart};
-ghost use Rattle.goo_desk_lines.specs.declared.lines_fault.LinesFault.TheVariants.{Read as Reading, Write as Writing};
+ghost use Rattle.goo_desk_lines.specs.Stops.{AnswersLine, IsAfterReading, IsBetweenLines, IsToldIn};
+ghost use Rattle.goo_desk_lines.specs.Stops.{IsTurnedDown, StandsWhole, StandsInPart};
+ghost use Rattle.goo_desk_lines.specs.declared.lines_fault.LinesFault.TheVariants.{Read as Reading};
+ghost use Rattle.goo_desk_lines.specs.declared.lines_fault.LinesFault.TheVariants.{Write as Writing};
 
 use crate::answer::LineAnswer;
 use crate::line::read_line;
@@ -32,11 +35,15 @@ pub const MOST_INPUT: usize = 16_777_216;
 /// The answer to one line.
 #[tactic(auto, unfolding(crate::specs::Answers::answer_to, crate::specs::Answers::state_after))]
 fn answer_line<D: Desk>(alloc: Global, desk: &mut D, line: &[u8]) -> Result<LineAnswer, Fault>
-    ensures answer { (D.seen desk.new).lies ≡ 0 → IfOk result (λ given. given ≡ answer_to (D.seen desk.old).state line.now) }
-    ensures state { (D.seen desk.new).lies ≡ 0 → OnOk result ((D.seen desk.new).state ≡ state_after (D.seen desk.old).state line.now) }
-    ensures unchanged { (D.seen desk.new).doubts ≡ 0 → OnErr result ((D.seen desk.new).state ≡ (D.seen desk.old).state) }
+    ensures answer { (D.seen desk.new).lies ≡ 0
+        → IfOk result (λ given. given ≡ answer_to (D.seen desk.old).state line.now) }
+    ensures state { (D.seen desk.new).lies ≡ 0
+        → OnOk result ((D.seen desk.new).state ≡ state_after (D.seen desk.old).state line.now) }
+    ensures unchanged { (D.seen desk.new).doubts ≡ 0
+        → OnErr result ((D.seen desk.new).state ≡ (D.seen desk.old).state) }
     ensures lied { (D.seen desk.new).lies ≡ 0 → (D.seen desk.old).lies ≡ 0 }
-    ensures unasked { (reason : _) → request_in line.now ≡ Err reason → IfErr result (λ fault. fault ≡ Fault.Memory) }
+    ensures unasked { (reason : _) → request_in line.now ≡ Err reason
+        → IfErr result (λ fault. fault ≡ Fault.Memory) }
     ensures told { (D.seen desk.old).refusals ≡ 0 → IsTold result (D.seen desk.new).refusals }
     ensures works { (D.seen desk.new).lies ≡ 0 → (D.seen desk.old).doubts ≡ 0
         → OnOk result ((D.seen desk.new).doubts ≡ 0) }
@@ -55,8 +62,10 @@ fn answer_line<D: Desk>(alloc: Global, desk: &mut D, line: &[u8]) -> Result<Line
 
 /// Writes a text and a line feed.
 fn write_line<W: Write>(writer: &mut W, text: &[u8]) -> Result<(), WriteFault>
-    ensures written { OnOk result (Appends (W.contents writer.old) (W.contents writer.new) (text.now ++ 10 ∷ [])) }
-    ensures prefix { OnErr result (AppendsPrefix (W.contents writer.old) (W.contents writer.new) (text.now ++ 10 ∷ [])) }
+    ensures written { OnOk result
+        (Appends (W.contents writer.old) (W.contents writer.new) (text.now ++ 10 ∷ [])) }
+    ensures prefix { OnErr result
+        (AppendsPrefix (W.contents writer.old) (W.contents writer.new) (text.now ++ 10 ∷ [])) }
 {
     write_whole(writer, text)?;
     write_whole(writer, b"\n")
@@ -71,15 +80,29 @@ fn answer_next<D: Desk, W: Write>(
     line: &[u8],
 ) -> Result<(), LinesFault>
     requires { tally.old.good + tally.old.bad + 1 < 2 ^ 64 }
-    ensures answered { (D.seen desk.new).lies ≡ 0 → OnOk result (AnswersLine line.now (D.seen desk.old).state (D.seen desk.new).state tally.old tally.new (W.contents writer.old) (W.contents writer.new)) }
-    ensures count { OnOk result (tally.new.good + tally.new.bad ≤ tally.old.good + tally.old.bad + 1) }
+    ensures answered { (D.seen desk.new).lies ≡ 0
+        → OnOk result
+        (AnswersLine line.now (D.seen desk.old).state (D.seen desk.new).state tally.old tally.new
+        (W.contents writer.old) (W.contents writer.new)) }
+    ensures count { OnOk result
+        (tally.new.good + tally.new.bad ≤ tally.old.good + tally.old.bad + 1) }
     ensures kinds { IfErr result (λ fault. fault ≢ Reading) }
-    ensures unchanged { IfErr result (λ fault. IsBetweenLines fault → (D.seen desk.new).doubts ≡ 0 → (D.seen desk.new).state ≡ (D.seen desk.old).state) }
-    ensures unwritten { IfErr result (λ fault. IsBetweenLines fault → Keeps (W.contents writer.old) (W.contents writer.new)) }
-    ensures stands { IfErr result (λ fault. fault ≡ Writing → (D.seen desk.new).lies ≡ 0 → (D.seen desk.new).state ≡ (with_line (counted (D.seen desk.old).state tally.old) line.now).state) }
-    ensures prefix { IfErr result (λ fault. fault ≡ Writing → (D.seen desk.new).lies ≡ 0 → AppendsPrefix (W.contents writer.old) (W.contents writer.new) (with_line (counted (D.seen desk.old).state tally.old) line.now).text) }
+    ensures unchanged { IfErr result
+        (λ fault. IsBetweenLines fault → (D.seen desk.new).doubts ≡ 0
+        → (D.seen desk.new).state ≡ (D.seen desk.old).state) }
+    ensures unwritten { IfErr result
+        (λ fault. IsBetweenLines fault → Keeps (W.contents writer.old) (W.contents writer.new)) }
+    ensures stands { IfErr result
+        (λ fault. fault ≡ Writing → (D.seen desk.new).lies ≡ 0
+        → (D.seen desk.new).state
+        ≡ (with_line (counted (D.seen desk.old).state tally.old) line.now).state) }
+    ensures prefix { IfErr result
+        (λ fault. fault ≡ Writing → (D.seen desk.new).lies ≡ 0
+        → AppendsPrefix (W.contents writer.old) (W.contents writer.new)
+        (with_line (counted (D.seen desk.old).state tally.old) line.now).text) }
     ensures lied { (D.seen desk.new).lies ≡ 0 → (D.seen desk.old).lies ≡ 0 }
-    ensures unasked { (reason : _) → request_in line.now ≡ Err reason → IfErr result (λ fault. fault ≢ LinesFault.Store) }
+    ensures unasked { (reason : _) → request_in line.now ≡ Err reason
+        → IfErr result (λ fault. fault ≢ LinesFault.Store) }
     ensures told { (D.seen desk.old).refusals ≡ 0 → IsToldIn result (D.seen desk.new).refusals }
     ensures works { (D.seen desk.new).lies ≡ 0 → (D.seen desk.old).doubts ≡ 0
         → OnOk result ((D.seen desk.new).doubts ≡ 0) }
@@ -110,13 +133,25 @@ fn answer_lines<D: Desk, W: Write>(
     writer: &mut W,
 ) -> Result<Tally, LinesFault>
     requires { length input.now + 3 < 2 ^ 64 }
-    ensures state { (D.seen desk.new).lies ≡ 0 → OnOk result ((D.seen desk.new).state ≡ (lines (D.seen desk.old).state input.now).state) }
-    ensures text { (D.seen desk.new).lies ≡ 0 → OnOk result (Appends (W.contents writer.old) (W.contents writer.new) (lines (D.seen desk.old).state input.now).text) }
-    ensures good { (D.seen desk.new).lies ≡ 0 → IfOk result (λ tally. tally.good ≡ (lines (D.seen desk.old).state input.now).good) }
-    ensures bad { (D.seen desk.new).lies ≡ 0 → IfOk result (λ tally. tally.bad ≡ (lines (D.seen desk.old).state input.now).bad) }
+    ensures state { (D.seen desk.new).lies ≡ 0
+        → OnOk result ((D.seen desk.new).state ≡ (lines (D.seen desk.old).state input.now).state) }
+    ensures text { (D.seen desk.new).lies ≡ 0
+        → OnOk result
+        (Appends (W.contents writer.old) (W.contents writer.new)
+        (lines (D.seen desk.old).state input.now).text) }
+    ensures good { (D.seen desk.new).lies ≡ 0
+        → IfOk result (λ tally. tally.good ≡ (lines (D.seen desk.old).state input.now).good) }
+    ensures bad { (D.seen desk.new).lies ≡ 0
+        → IfOk result (λ tally. tally.bad ≡ (lines (D.seen desk.old).state input.now).bad) }
     ensures kinds { IfErr result (λ fault. fault ≢ Reading) }
-    ensures whole { IfErr result (λ fault. IsBetweenLines fault → (D.seen desk.new).lies ≡ 0 → StandsWhole input.now (D.seen desk.old).state (D.seen desk.new) (W.contents writer.old) (W.contents writer.new)) }
-    ensures part { IfErr result (λ fault. fault ≡ Writing → (D.seen desk.new).lies ≡ 0 → StandsInPart input.now (D.seen desk.old).state (D.seen desk.new).state (W.contents writer.old) (W.contents writer.new)) }
+    ensures whole { IfErr result
+        (λ fault. IsBetweenLines fault → (D.seen desk.new).lies ≡ 0
+        → StandsWhole input.now (D.seen desk.old).state (D.seen desk.new) (W.contents writer.old)
+        (W.contents writer.new)) }
+    ensures part { IfErr result
+        (λ fault. fault ≡ Writing → (D.seen desk.new).lies ≡ 0
+        → StandsInPart input.now (D.seen desk.old).state (D.seen desk.new).state
+        (W.contents writer.old) (W.contents writer.new)) }
     ensures lied { (D.seen desk.new).lies ≡ 0 → (D.seen desk.old).lies ≡ 0 }
     ensures told { (D.seen desk.old).refusals ≡ 0 → IsToldIn result (D.seen desk.new).refusals }
     ensures found { (D.seen desk.new).lies ≡ 0 → (D.seen desk.old).doubts ≡ 0
@@ -132,21 +167,25 @@ fn answer_lines<D: Desk, W: Write>(
     Ok(tally)
 }
 
-/// Reads the whole of an input and then answers its lines in turn, each that isn't empty with one line. A line is a
-/// holder's code, one space and the body of a request, and ends with a line feed, which the last may lack.
+/// Reads the whole of an input and then answers its lines in turn, each that isn't empty with one
+/// line. A line is a holder's code, one space and the body of a request, and ends with a line feed,
+/// which the last may lack.
 ///
 /// # Errors
 ///
-/// See [`LinesFault`]: after `Read` nothing was done; after `Store` and `Memory` the lines before stand and their
-/// outcomes are written whole; after `Write` the request of that line stands too, and a beginning of the outcomes is
-/// written. `Store` is answered exactly where the store refused a call. An input of more than [`MOST_INPUT`] bytes is a
-/// `Read`, or a `Memory` where there is no room for what is read of it, and none of its lines is applied. Nothing is flushed.
+/// See [`LinesFault`]: after `Read` nothing was done; after `Store` and `Memory` the lines before
+/// stand and their outcomes are written whole; after `Write` the request of that line stands too,
+/// and a beginning of the outcomes is written. `Store` is answered exactly where the store refused
+/// a call. An input of more than [`MOST_INPUT`] bytes is a `Read`, or a `Memory` where there is no
+/// room for what is read of it, and none of its lines is applied. Nothing is flushed.
 ///
-/// `promised`: what a registry promises after any list of requests holds of the requests of the lines that were answered, all of them or
-/// the first ones ([`lines_are_a_run`](crate::lines_are_a_run) says that lines are a run of their requests).
-/// `found`: however it ends, all that is written are answers to first lines that a crash finds carried out, and at most one line more.
-/// `stays`: however it ends, nothing is in doubt unless a call below failed. So after a `Memory`
-/// with no failed call the state is known, and a crash finds it.
+/// `promised`: what a registry promises after any list of requests holds of the requests of the
+/// lines that were answered, all of them or the first ones
+/// ([`lines_are_a_run`](crate::lines_are_a_run) says that lines are a run of their requests).
+/// `found`: however it ends, all that is written are answers to first lines that a crash finds
+/// carried out, and at most one line more. `stays`: however it ends, nothing is in doubt unless a
+/// call below failed. So after a `Memory` with no failed call the state is known, and a crash finds
+/// it.
 ///
 /// # Example
 ///
@@ -162,20 +201,48 @@ pub fn run_lines<D: Desk, R: Read, W: Write>(
     reader: &mut R,
     writer: &mut W,
 ) -> Result<Tally, LinesFault>
-    ensures state { (D.seen desk.new).lies ≡ 0 → IfSome (R.remaining reader.old) (λ input. OnOk result ((D.seen desk.new).state ≡ (lines (D.seen desk.old).state input).state)) }
-    ensures text { (D.seen desk.new).lies ≡ 0 → IfSome (R.remaining reader.old) (λ input. OnOk result (Appends (W.contents writer.old) (W.contents writer.new) (lines (D.seen desk.old).state input).text)) }
-    ensures good { (D.seen desk.new).lies ≡ 0 → IfSome (R.remaining reader.old) (λ input. IfOk result (λ tally. tally.good ≡ (lines (D.seen desk.old).state input).good)) }
-    ensures bad { (D.seen desk.new).lies ≡ 0 → IfSome (R.remaining reader.old) (λ input. IfOk result (λ tally. tally.bad ≡ (lines (D.seen desk.old).state input).bad)) }
-    ensures unread { IfErr result (λ fault. fault ≡ Reading → (D.seen desk.new).state ≡ (D.seen desk.old).state) }
-    ensures silent { IfErr result (λ fault. fault ≡ Reading → Keeps (W.contents writer.old) (W.contents writer.new)) }
-    ensures whole { (D.seen desk.new).lies ≡ 0 → IfSome (R.remaining reader.old) (λ input. IfErr result (λ fault. IsBetweenLines fault → StandsWhole input (D.seen desk.old).state (D.seen desk.new) (W.contents writer.old) (W.contents writer.new))) }
-    ensures part { (D.seen desk.new).lies ≡ 0 → IfSome (R.remaining reader.old) (λ input. IfErr result (λ fault. fault ≡ Writing → StandsInPart input (D.seen desk.old).state (D.seen desk.new).state (W.contents writer.old) (W.contents writer.new))) }
+    ensures state { (D.seen desk.new).lies ≡ 0
+        → IfSome (R.remaining reader.old)
+        (λ input. OnOk result
+        ((D.seen desk.new).state ≡ (lines (D.seen desk.old).state input).state)) }
+    ensures text { (D.seen desk.new).lies ≡ 0
+        → IfSome (R.remaining reader.old)
+        (λ input. OnOk result
+        (Appends (W.contents writer.old) (W.contents writer.new)
+        (lines (D.seen desk.old).state input).text)) }
+    ensures good { (D.seen desk.new).lies ≡ 0
+        → IfSome (R.remaining reader.old)
+        (λ input. IfOk result (λ tally. tally.good ≡ (lines (D.seen desk.old).state input).good)) }
+    ensures bad { (D.seen desk.new).lies ≡ 0
+        → IfSome (R.remaining reader.old)
+        (λ input. IfOk result (λ tally. tally.bad ≡ (lines (D.seen desk.old).state input).bad)) }
+    ensures unread { IfErr result
+        (λ fault. fault ≡ Reading → (D.seen desk.new).state ≡ (D.seen desk.old).state) }
+    ensures silent { IfErr result
+        (λ fault. fault ≡ Reading → Keeps (W.contents writer.old) (W.contents writer.new)) }
+    ensures whole { (D.seen desk.new).lies ≡ 0
+        → IfSome (R.remaining reader.old)
+        (λ input. IfErr result
+        (λ fault. IsBetweenLines fault
+        → StandsWhole input (D.seen desk.old).state (D.seen desk.new) (W.contents writer.old)
+        (W.contents writer.new))) }
+    ensures part { (D.seen desk.new).lies ≡ 0
+        → IfSome (R.remaining reader.old)
+        (λ input. IfErr result
+        (λ fault. fault ≡ Writing
+        → StandsInPart input (D.seen desk.old).state (D.seen desk.new).state (W.contents writer.old)
+        (W.contents writer.new))) }
     ensures lied { (D.seen desk.new).lies ≡ 0 → (D.seen desk.old).lies ≡ 0 }
     ensures told { (D.seen desk.old).refusals ≡ 0 → IsToldIn result (D.seen desk.new).refusals }
-    ensures limit { IfSome (R.remaining reader.old) (λ input. 16_777_216 < length input → IsTurnedDown result (D.seen desk.old) (D.seen desk.new) (W.contents writer.old) (W.contents writer.new)) }
+    ensures limit { IfSome (R.remaining reader.old)
+        (λ input. 16_777_216 < length input
+        → IsTurnedDown result (D.seen desk.old) (D.seen desk.new) (W.contents writer.old)
+        (W.contents writer.new)) }
     ensures end { OnOk result (IsAtEnd (R.remaining reader.new)) }
     ensures read { IfErr result (λ fault. IsAfterReading fault → IsAtEnd (R.remaining reader.new)) }
-    ensures promised { IsSound (D.seen desk.old).state → (D.seen desk.new).lies ≡ 0 → IfSome (R.remaining reader.old) (λ input. KeepsPromise input (D.seen desk.old).state (D.seen desk.new) result) }
+    ensures promised { IsSound (D.seen desk.old).state → (D.seen desk.new).lies ≡ 0
+        → IfSome (R.remaining reader.old)
+        (λ input. KeepsPromise input (D.seen desk.old).state (D.seen desk.new) result) }
     ensures found { (D.seen desk.new).lies ≡ 0 → (D.seen desk.old).doubts ≡ 0
         → IfSome (R.remaining reader.old) (λ input.
         FindsAnswered input (D.seen desk.old).state (D.seen desk.new)

@@ -1,4 +1,5 @@
-//! The texts of outcomes: compact JSON (RFC 8259) of at most 256 bytes, made in place without memory.
+//! The texts of outcomes: compact JSON (RFC 8259) of at most 256 bytes, made in place without
+//! memory.
 #![tactic(auto)]
 
 mod outcome;

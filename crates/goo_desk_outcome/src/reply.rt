@@ -44,8 +44,10 @@ fn push_one(out: &mut ArrayString<ROOM>, head: &str, integer: u64)
 fn push_two(out: &mut ArrayString<ROOM>, head: &str, first: u64, between: &str, second: u64)
     requires { array_string_len out.old + length head.now + length between.now + 41 ≤ 256 }
     ensures bytes { out.new.bytes
-        ≡ out.old.bytes ++ (head.now ++ decimal first ++ between.now ++ decimal second ++ codes "}") }
-    ensures len { array_string_len out.new ≤ array_string_len out.old + length head.now + length between.now + 41 }
+        ≡ out.old.bytes
+        ++ (head.now ++ decimal first ++ between.now ++ decimal second ++ codes "}") }
+    ensures len { array_string_len out.new
+        ≤ array_string_len out.old + length head.now + length between.now + 41 }
 {
     out.push_str(head);
     push_integer(out, first);

@@ -1,7 +1,9 @@
 //! Responses, written at the end of a text that takes no memory.
-ghost use Rattle.std.specs.Prelude.{◌≡◌, ◌++◌, ◌∷◌, [], ◌+◌, ◌≤◌, ◌<◌, ◌^◌, codes, decimal, length, false, IfOk};
+ghost use Rattle.std.specs.Prelude.{◌≡◌, ◌++◌, ◌∷◌, [], ◌+◌, ◌≤◌, ◌<◌, ◌^◌, codes, decimal, length};
+ghost use Rattle.std.specs.Prelude.{false, IfOk};
 ghost use Rattle.arrayvec.specs.ArrayString.{array_string_len};
-ghost use Rattle.goo_desk_responses.specs.Responses.{Response, allow_line as allow_line_stated, head_text, response_text, fixed, response_of};
+ghost use Rattle.goo_desk_responses.specs.Responses.{Response, allow_line as allow_line_stated};
+ghost use Rattle.goo_desk_responses.specs.Responses.{head_text, response_text, fixed, response_of};
 
 use crate::content::Content;
 use crate::status::Status;
@@ -39,7 +41,8 @@ fn push_integer(out: &mut ArrayString<ROOM>, integer: u64)
 fn push_line(out: &mut ArrayString<ROOM>, before: &str, text: &str)
     requires { array_string_len out.old + length before.now + length text.now + 2 ≤ 512 }
     ensures bytes { out.new.bytes ≡ out.old.bytes ++ (before.now ++ text.now ++ codes "\r\n") }
-    ensures len { array_string_len out.new ≤ array_string_len out.old + length before.now + length text.now + 2 }
+    ensures len { array_string_len out.new
+        ≤ array_string_len out.old + length before.now + length text.now + 2 }
 {
     out.push_str(before);
     out.push_str(text);
@@ -50,7 +53,8 @@ fn push_line(out: &mut ArrayString<ROOM>, before: &str, text: &str)
 fn push_counted(out: &mut ArrayString<ROOM>, before: &str, number: u64, after: &str)
     requires { array_string_len out.old + length before.now + 20 + length after.now ≤ 512 }
     ensures bytes { out.new.bytes ≡ out.old.bytes ++ (before.now ++ decimal number ++ after.now) }
-    ensures len { array_string_len out.new ≤ array_string_len out.old + length before.now + 20 + length after.now }
+    ensures len { array_string_len out.new
+        ≤ array_string_len out.old + length before.now + 20 + length after.now }
 {
     out.push_str(before);
     push_integer(out, number);
@@ -87,8 +91,8 @@ pub fn short_response(status: Status, content: Content, body: &str) -> ArrayStri
     out
 }
 
-/// A response that says no more than its status, and where `allow` is given, the method of the route. The body is left off
-/// where it is asked for its head alone. It takes no memory.
+/// A response that says no more than its status, and where `allow` is given, the method of the
+/// route. The body is left off where it is asked for its head alone. It takes no memory.
 pub fn fixed_response(status: Status, allow: Option<Method>, for_head: bool) -> ArrayString<ROOM>
     ensures { result.bytes ≡ response_text for_head (fixed status allow) }
 {
@@ -112,7 +116,8 @@ pub fn long_response(
     content: Content,
     body: &[u8],
 ) -> Result<Vec<u8>, AllocError>
-    ensures { IfOk result (λ bytes. bytes.items ≡ response_text false (response_of status content body.now)) }
+    ensures { IfOk result
+        (λ bytes. bytes.items ≡ response_text false (response_of status content body.now)) }
 {
     let head = head(status, content, None, body.len() as u64);
     let mut bytes = Vec::from_slice(alloc, head.as_str().as_bytes())?;

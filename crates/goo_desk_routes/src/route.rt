@@ -1,6 +1,7 @@
 //! The routes, each with its method and its path.
 ghost use Rattle.std.specs.Prelude.{◌≡◌};
-ghost use Rattle.goo_desk_routes.specs.Routes.{method_of, before as before_part, after as after_part, part_of};
+ghost use Rattle.goo_desk_routes.specs.Routes.{method_of, before as before_part};
+ghost use Rattle.goo_desk_routes.specs.Routes.{after as after_part, part_of};
 
 use goo_desk_heads::Method;
 

@@ -1,7 +1,8 @@
 //! The table of routes.
 ghost use Rattle.std.specs.Prelude.{◌≡◌, ◌==◌, option_map, IfOk};
 ghost use Rattle.std.specs.List.{list_any};
-ghost use Rattle.goo_desk_routes.specs.Routes.{goo_desk_routes, met_by as met, found_by, is_path as is_path_stated};
+ghost use Rattle.goo_desk_routes.specs.Routes.{goo_desk_routes, met_by as met, found_by};
+ghost use Rattle.goo_desk_routes.specs.Routes.{is_path as is_path_stated};
 
 use crate::route::Route;
 use matchit::{InsertError, Router};
@@ -16,7 +17,8 @@ pub struct Met<'p> {
     pub part: &'p [u8],
 }
 
-/// The routes of the registry, in a router that finds them. They are made once, and serve any number of requests.
+/// The routes of the registry, in a router that finds them. They are made once, and serve any
+/// number of requests.
 #[derive(Drop)]
 pub struct Routes {
     router: Router<Route>,
@@ -58,8 +60,8 @@ fn has_question_mark(text: &[u8]) -> bool
     text.iter().any(|byte| *byte == b'?')
 }
 
-/// Whether a target is a path: it begins with a slash and has no question mark (the origin form of RFC 9112, section 3.2.1,
-/// without a query).
+/// Whether a target is a path: it begins with a slash and has no question mark (the origin form of
+/// RFC 9112, section 3.2.1, without a query).
 fn is_path(target: &[u8]) -> bool
     ensures { result ≡ is_path_stated target.now }
 {

@@ -1,6 +1,8 @@
 //! What a route and the part of a path that it names ask for.
 ghost use Rattle.std.specs.Prelude.{◌≡◌};
-ghost use Rattle.goo_desk_routes.specs.Tasks.{account_in as account_stated, act_in as act_stated, certificate_in as certificate_stated, task_of as task_stated};
+ghost use Rattle.goo_desk_routes.specs.Tasks.{account_in as account_stated, act_in as act_stated};
+ghost use Rattle.goo_desk_routes.specs.Tasks.{certificate_in as certificate_stated};
+ghost use Rattle.goo_desk_routes.specs.Tasks.{task_of as task_stated};
 
 use crate::number::number_in;
 use crate::route::Route;
@@ -61,7 +63,8 @@ fn certificate_in(part: &[u8]) -> Option<Number>
     Number::read(part).ok()
 }
 
-/// What a route and the part of a path that it names ask for; None where the reader of the part refuses it.
+/// What a route and the part of a path that it names ask for; None where the reader of the part
+/// refuses it.
 #[tactic(auto, unfolding(crate::specs::Tasks::task_of))]
 pub fn task_of(route: Route, part: &[u8]) -> Option<Task>
     ensures { result ≡ task_stated route part.now }

@@ -1,4 +1,5 @@
-//! The HTTP desk on a listener: one connection after another, each with a deadline to send its request and one to take its answer.
+//! The HTTP desk on a listener: one connection after another, each with a deadline to send its
+//! request and one to take its answer.
 #![tactic(auto)]
 
 mod deadline;

@@ -7,8 +7,9 @@ use crate::sender::Sender;
 use std::io::{Error, ErrorKind, Result};
 use std::net::TcpListener;
 
-/// A listener on 127.0.0.1. Each client has ten seconds to send a request and ten to take the answer, in all and not for each call. What a socket gives
-/// is not known, so it tells of no connection what its client sends.
+/// A listener on 127.0.0.1. Each client has ten seconds to send a request and ten to take the
+/// answer, in all and not for each call. What a socket gives is not known, so it tells of no
+/// connection what its client sends.
 #[derive(Drop)]
 pub struct LocalListener<'a> {
     rt: &'a HostRuntime,

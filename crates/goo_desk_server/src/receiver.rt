@@ -3,8 +3,9 @@ use std::io::{Read, Result};
 use std::net::TcpStream;
 use std::time::{Clock, Instant};
 
-/// What a client sends, until a moment that the first read sets. After that each read fails, and before each the stream is told how long
-/// it may wait: a client that sends a byte now and then has no more time than one that is silent.
+/// What a client sends, until a moment that the first read sets. After that each read fails, and
+/// before each the stream is told how long it may wait: a client that sends a byte now and then has
+/// no more time than one that is silent.
 #[derive(Drop)]
 pub struct Receiver<'a, C: Clock> {
     pub(crate) clock: &'a C,

@@ -3,8 +3,8 @@ use std::io::{Result, Write};
 use std::net::TcpStream;
 use std::time::{Clock, Instant};
 
-/// What a client takes, until a moment that the first write sets. After that each write fails, and before each the stream is told
-/// how long it may wait.
+/// What a client takes, until a moment that the first write sets. After that each write fails, and
+/// before each the stream is told how long it may wait.
 #[derive(Drop)]
 pub struct Sender<'a, C: Clock> {
     pub(crate) clock: &'a C,

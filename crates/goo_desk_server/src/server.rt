@@ -8,7 +8,8 @@ ghost use Rattle.goo_desk_connection.specs.Serving.{Connects};
 ghost use Rattle.goo_desk_counter.specs.Tables.{ImportsAreRuns};
 ghost use Rattle.goo_desk_server.specs.Durable.{FindsServed};
 ghost use Rattle.goo_desk_server.specs.Runs.{KeepsPromise};
-ghost use Rattle.goo_desk_server.specs.Serving.{IsCounted, IsOneCounted, IsServed, IsToldIn, StepsTo};
+ghost use Rattle.goo_desk_server.specs.Serving.{IsCounted, IsOneCounted, IsServed, IsToldIn};
+ghost use Rattle.goo_desk_server.specs.Serving.{StepsTo};
 
 use crate::listener::Listener;
 use crate::server_fault::ServerFault;
@@ -35,7 +36,9 @@ fn listening(port: u16) -> ArrayString<64>
 
 /// Tells where a server listens, at once.
 fn announce<W: Write>(port: u16, writer: &mut W) -> Result<(), WriteFault>
-    ensures { OnOk result (Appends (W.contents writer.old) (W.contents writer.new) (codes "listening 127.0.0.1:" ++ (decimal port ++ codes "\n"))) }
+    ensures { OnOk result
+        (Appends (W.contents writer.old) (W.contents writer.new)
+        (codes "listening 127.0.0.1:" ++ (decimal port ++ codes "\n"))) }
 {
     write_whole(writer, listening(port).as_str().as_bytes())?;
     match writer.flush() {
@@ -44,9 +47,11 @@ fn announce<W: Write>(port: u16, writer: &mut W) -> Result<(), WriteFault>
     }
 }
 
-/// Serves a connection that was accepted. Whatever is wrong with the client ends this connection alone.
+/// Serves a connection that was accepted. Whatever is wrong with the client ends this connection
+/// alone.
 ///
-/// - `heard`: the registry is as it was, or as answering what the client sent leaves it, whatever the client does.
+/// - `heard`: the registry is as it was, or as answering what the client sent leaves it, whatever
+///   the client does.
 fn serve_accepted<D: Counter, R: Read, W: Write>(
     alloc: Global,
     routes: &Routes,
@@ -54,7 +59,8 @@ fn serve_accepted<D: Counter, R: Read, W: Write>(
     reader: &mut R,
     writer: &mut W,
 ) -> Result<(), ServerFault>
-    ensures heard { Connects D.shows D.imports D.begins (R.remaining reader.old) (D.seen desk.old) (D.seen desk.new) }
+    ensures heard { Connects D.shows D.imports D.begins (R.remaining reader.old) (D.seen desk.old)
+        (D.seen desk.new) }
     ensures ends { IsServed result }
     ensures lied { (D.seen desk.new).lies ≡ 0 → (D.seen desk.old).lies ≡ 0 }
     ensures told { (D.seen desk.old).refusals ≡ 0 → IsToldIn result (D.seen desk.new).refusals }
@@ -77,7 +83,8 @@ fn serve_next<D: Counter, L: Listener>(
 ) -> Result<(), ServerFault>
     ensures counted { IsOneCounted result (L.accepted listener.old) (L.accepted listener.new) }
     ensures same { L.sends listener.new ≡ L.sends listener.old }
-    ensures steps { StepsTo D.shows D.imports D.begins (L.sends listener.old) (L.accepted listener.old) (L.accepted listener.new) (D.seen desk.old) (D.seen desk.new) }
+    ensures steps { StepsTo D.shows D.imports D.begins (L.sends listener.old)
+        (L.accepted listener.old) (L.accepted listener.new) (D.seen desk.old) (D.seen desk.new) }
     ensures lied { (D.seen desk.new).lies ≡ 0 → (D.seen desk.old).lies ≡ 0 }
     ensures told { (D.seen desk.old).refusals ≡ 0 → IsToldIn result (D.seen desk.new).refusals }
     ensures found { (was : ℕ) (first : Seen) → ImportsAreRuns D.imports D.begins
@@ -104,7 +111,8 @@ fn serve_all<D: Counter, L: Listener>(
 ) -> Result<(), ServerFault>
     ensures counted { IsCounted result (L.accepted listener.old) (L.accepted listener.new) count }
     ensures same { L.sends listener.new ≡ L.sends listener.old }
-    ensures steps { StepsTo D.shows D.imports D.begins (L.sends listener.old) (L.accepted listener.old) (L.accepted listener.new) (D.seen desk.old) (D.seen desk.new) }
+    ensures steps { StepsTo D.shows D.imports D.begins (L.sends listener.old)
+        (L.accepted listener.old) (L.accepted listener.new) (D.seen desk.old) (D.seen desk.new) }
     ensures lied { (D.seen desk.new).lies ≡ 0 → (D.seen desk.old).lies ≡ 0 }
     ensures told { (D.seen desk.old).refusals ≡ 0 → IsToldIn result (D.seen desk.new).refusals }
     ensures found { ImportsAreRuns D.imports D.begins
@@ -127,10 +135,13 @@ fn announce_and_serve<D: Counter, L: Listener, W: Write>(
     count: u32,
     writer: &mut W,
 ) -> Result<(), ServerFault>
-    ensures announced { OnOk result (Appends (W.contents writer.old) (W.contents writer.new) (codes "listening 127.0.0.1:" ++ (decimal port ++ codes "\n"))) }
+    ensures announced { OnOk result
+        (Appends (W.contents writer.old) (W.contents writer.new)
+        (codes "listening 127.0.0.1:" ++ (decimal port ++ codes "\n"))) }
     ensures counted { IsCounted result (L.accepted listener.old) (L.accepted listener.new) count }
     ensures same { L.sends listener.new ≡ L.sends listener.old }
-    ensures steps { StepsTo D.shows D.imports D.begins (L.sends listener.old) (L.accepted listener.old) (L.accepted listener.new) (D.seen desk.old) (D.seen desk.new) }
+    ensures steps { StepsTo D.shows D.imports D.begins (L.sends listener.old)
+        (L.accepted listener.old) (L.accepted listener.new) (D.seen desk.old) (D.seen desk.new) }
     ensures lied { (D.seen desk.new).lies ≡ 0 → (D.seen desk.old).lies ≡ 0 }
     ensures told { (D.seen desk.old).refusals ≡ 0 → IsToldIn result (D.seen desk.new).refusals }
     ensures found { ImportsAreRuns D.imports D.begins
@@ -143,16 +154,19 @@ fn announce_and_serve<D: Counter, L: Listener, W: Write>(
     }
 }
 
-/// Tells on `writer` at which port of 127.0.0.1 it listens, and flushes that; then serves `count` connections of a listener, one after
-/// another. A connection that fails, or that a deadline cuts off, ends alone. Each connection leaves the registry as answering its bytes
-/// leaves it, or as it was.
+/// Tells on `writer` at which port of 127.0.0.1 it listens, and flushes that; then serves `count`
+/// connections of a listener, one after another. A connection that fails, or that a deadline cuts
+/// off, ends alone. Each connection leaves the registry as answering its bytes leaves it, or as it
+/// was.
 ///
-/// - `counted`: it ends well only once as many connections were accepted as asked for. After a fault fewer were, or the records failed at the last one.
-/// - `promised`: what a registry promises after any list of requests holds of those that the connections left applied. The bytes of each connection are
-///   those that its client sent, where the listener tells them.
+/// - `counted`: it ends well only once as many connections were accepted as asked for. After a
+///   fault fewer were, or the records failed at the last one.
+/// - `promised`: what a registry promises after any list of requests holds of those that the
+///   connections left applied. The bytes of each connection are those that its client sent, where
+///   the listener tells them.
 /// - `found`: however it ends, a crash finds what the connections leave; of the last one's requests
-///   perhaps those alone that stand after a fault. So each answer that was sent is of a request that a
-///   crash finds, unless a call had failed before the last connection and left a doubt.
+///   perhaps those alone that stand after a fault. So each answer that was sent is of a request
+///   that a crash finds, unless a call had failed before the last connection and left a doubt.
 ///
 /// # Errors
 ///
@@ -165,13 +179,19 @@ pub fn serve<D: Counter, L: Listener, W: Write>(
     count: u32,
     writer: &mut W,
 ) -> Result<(), ServerFault>
-    ensures announced { OnOk result (Appends (W.contents writer.old) (W.contents writer.new) (codes "listening 127.0.0.1:" ++ (decimal port ++ codes "\n"))) }
+    ensures announced { OnOk result
+        (Appends (W.contents writer.old) (W.contents writer.new)
+        (codes "listening 127.0.0.1:" ++ (decimal port ++ codes "\n"))) }
     ensures counted { IsCounted result (L.accepted listener.old) (L.accepted listener.new) count }
     ensures same { L.sends listener.new ≡ L.sends listener.old }
-    ensures steps { StepsTo D.shows D.imports D.begins (L.sends listener.old) (L.accepted listener.old) (L.accepted listener.new) (D.seen desk.old) (D.seen desk.new) }
+    ensures steps { StepsTo D.shows D.imports D.begins (L.sends listener.old)
+        (L.accepted listener.old) (L.accepted listener.new) (D.seen desk.old) (D.seen desk.new) }
     ensures lied { (D.seen desk.new).lies ≡ 0 → (D.seen desk.old).lies ≡ 0 }
     ensures told { (D.seen desk.old).refusals ≡ 0 → IsToldIn result (D.seen desk.new).refusals }
-    ensures promised { ImportsAreRuns D.imports D.begins → IsSound (D.seen desk.old).state → (D.seen desk.new).lies ≡ 0 → (D.seen desk.new).doubts ≡ 0 → KeepsPromise (L.sends listener.old) (L.accepted listener.old) (L.accepted listener.new) (D.seen desk.old).state (D.seen desk.new).state }
+    ensures promised { ImportsAreRuns D.imports D.begins → IsSound (D.seen desk.old).state
+        → (D.seen desk.new).lies ≡ 0 → (D.seen desk.new).doubts ≡ 0
+        → KeepsPromise (L.sends listener.old) (L.accepted listener.old) (L.accepted listener.new)
+        (D.seen desk.old).state (D.seen desk.new).state }
     ensures found { ImportsAreRuns D.imports D.begins
         → FindsServed D.shows D.imports D.begins (L.sends listener.old) (L.accepted listener.old)
         (L.accepted listener.new) (D.seen desk.old) (D.seen desk.new) (D.leaves desk.new) }

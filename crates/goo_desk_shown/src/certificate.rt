@@ -3,7 +3,9 @@ ghost use Rattle.std.specs.Prelude.{◌≡◌, IfOk, codes};
 ghost use Rattle.serde_json.specs.Data.{Members, put as with_member};
 ghost use Rattle.serde_json.specs.View.{view, members_view};
 ghost use Rattle.goo_notice_json.specs.Lot.{is_other as other_test, lot_data};
-ghost use Rattle.goo_desk_shown.specs.Certificates.{act_of as act_stated, place_word as word_stated, certificate_data, certificate_text as text_stated};
+ghost use Rattle.goo_desk_shown.specs.Certificates.{act_of as act_stated};
+ghost use Rattle.goo_desk_shown.specs.Certificates.{place_word as word_stated, certificate_data};
+ghost use Rattle.goo_desk_shown.specs.Certificates.{certificate_text as text_stated};
 
 use goo_notice_json::carriers::is_other;
 use goo_notice_json::lot_value::lot_value;
@@ -40,13 +42,17 @@ fn place_word(place: &Place) -> &'static str
     }
 }
 
-/// The members with one more, the certificate's lot, which states its carrier unless that is electricity.
+/// The members with one more, the certificate's lot, which states its carrier unless that is
+/// electricity.
 fn with_lot(
     alloc: Global,
     members: Result<Map<String, Value>, AllocError>,
     lot: &Lot,
 ) -> Result<Map<String, Value>, AllocError>
-    ensures { (ms : Members) → IfOk members (λ old. members_view old.entries ≡ ms) → IfOk result (λ new. members_view new.entries ≡ with_member (codes "lot") (lot_data (other_test lot.now.carrier) lot.now) ms) }
+    ensures { (ms : Members) → IfOk members (λ old. members_view old.entries ≡ ms)
+        → IfOk result
+        (λ new. members_view new.entries
+        ≡ with_member (codes "lot") (lot_data (other_test lot.now.carrier) lot.now) ms) }
 {
     let mut members = members?;
     put(
@@ -78,7 +84,8 @@ fn certificate_value(
     object_of(members)
 }
 
-/// The compact JSON text of a certificate: its account and its act, its lot, its number and its place.
+/// The compact JSON text of a certificate: its account and its act, its lot, its number and its
+/// place.
 ///
 /// # Errors
 ///

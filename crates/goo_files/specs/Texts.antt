@@ -8,7 +8,6 @@ use Rattle.goo_spec.specs.Lots.{is_held}
 use Rattle.goo_spec.specs.Runs.{AreRunsOf}
 use Rattle.goo_spec.specs.State.{State, Account, Cancellation}
 use Rattle.goo_core_shelf.specs.Shelf.{totals_of}
-use Rattle.goo_core_shelf.specs.declared.found.DeviceTotals.{DeviceTotals}
 use Rattle.goo_core_answers.specs.Reads.{kept_where, names}
 use Rattle.goo_core_answers.specs.declared.denial.Denial.{Denial}
 use Rattle.goo_core_answers.specs.declared.denial.Denial.TheVariants.{NotAllowed}
@@ -63,11 +62,8 @@ pub record IsDocument (s : State) (act : ℕ) (text : List ℕ) : Type 0 where
   pub is : text ≡ cancellation_text (head_of s act cancellation row.holder) runs
 
 -- the audit: a line a device
-abbrev pub device_line : DeviceTotals → List ℕ
-device_line d = audit_line d.device d.declared d.corrected_wh d.issued d.corrected d.carry
-
 abbrev pub IsAuditText : State → List ℕ → Type 0
-IsAuditText s text = text ≡ flat_map device_line (totals_of s)
+IsAuditText s text = text ≡ flat_map audit_line (totals_of s)
 
 -- why the audit isn't shown; None where it is
 abbrev pub audit_denial : List ℕ → Option Denial

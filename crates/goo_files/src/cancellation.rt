@@ -3,7 +3,9 @@ ghost use Rattle.std.specs.Prelude.{◌≡◌, OnOk, OnErr, IfErr, flat_map};
 ghost use Rattle.std.specs.Io.KnownBytes.{Appends};
 ghost use Rattle.goo_files_streams.specs.Streams.{AppendsPrefix};
 ghost use Rattle.goo_types.specs.Piece.{IsRising};
-ghost use Rattle.goo_files_documents.specs.Cancellation.{cancellation_foot as foot_text, certificates_in as count_in, cancellation_text};
+ghost use Rattle.goo_files_documents.specs.Cancellation.{cancellation_foot as foot_text};
+ghost use Rattle.goo_files_documents.specs.Cancellation.{certificates_in as count_in};
+ghost use Rattle.goo_files_documents.specs.Cancellation.{cancellation_text};
 ghost use Rattle.goo_files_documents.specs.Runs.{document_line as document_text};
 ghost use Rattle.goo_files.specs.Writes.{Writes};
 ghost use Rattle.goo_files.specs.declared.text_fault.ShowFault.TheVariants.{Write as Unwritten};
@@ -55,8 +57,12 @@ fn head_of_document(
 
 /// Writes a line for each run.
 fn write_runs<W: Write>(writer: &mut W, runs: &[Piece]) -> Result<(), WriteFault>
-    ensures written { OnOk result (Appends (W.contents writer.old) (W.contents writer.new) (flat_map document_text runs.now)) }
-    ensures prefix { OnErr result (AppendsPrefix (W.contents writer.old) (W.contents writer.new) (flat_map document_text runs.now)) }
+    ensures written { OnOk result
+        (Appends (W.contents writer.old) (W.contents writer.new)
+        (flat_map document_text runs.now)) }
+    ensures prefix { OnErr result
+        (AppendsPrefix (W.contents writer.old) (W.contents writer.new)
+        (flat_map document_text runs.now)) }
 {
     for run in runs {
         write_line(writer, &document_line(run))?;
@@ -66,8 +72,13 @@ fn write_runs<W: Write>(writer: &mut W, runs: &[Piece]) -> Result<(), WriteFault
 
 /// Writes the lines after them.
 fn write_foot<W: Write>(writer: &mut W, runs: &[Piece]) -> Result<(), WriteFault>
-    ensures written { OnOk result (IsRising runs.now → Appends (W.contents writer.old) (W.contents writer.new) (foot_text (count_in runs.now))) }
-    ensures prefix { OnErr result (IsRising runs.now → AppendsPrefix (W.contents writer.old) (W.contents writer.new) (foot_text (count_in runs.now))) }
+    ensures written { OnOk result
+        (IsRising runs.now
+        → Appends (W.contents writer.old) (W.contents writer.new) (foot_text (count_in runs.now))) }
+    ensures prefix { OnErr result
+        (IsRising runs.now
+        → AppendsPrefix (W.contents writer.old) (W.contents writer.new)
+        (foot_text (count_in runs.now))) }
 {
     write_line(writer, &cancellation_foot(certificates_in(runs)))
 }
@@ -78,8 +89,14 @@ fn write_document<W: Write>(
     head: &CancellationHead,
     runs: &[Piece],
 ) -> Result<(), ShowFault>
-    ensures written { OnOk result (IsRising runs.now → Appends (W.contents writer.old) (W.contents writer.new) (cancellation_text head.now runs.now)) }
-    ensures prefix { OnErr result (IsRising runs.now → AppendsPrefix (W.contents writer.old) (W.contents writer.new) (cancellation_text head.now runs.now)) }
+    ensures written { OnOk result
+        (IsRising runs.now
+        → Appends (W.contents writer.old) (W.contents writer.new)
+        (cancellation_text head.now runs.now)) }
+    ensures prefix { OnErr result
+        (IsRising runs.now
+        → AppendsPrefix (W.contents writer.old) (W.contents writer.new)
+        (cancellation_text head.now runs.now)) }
     ensures kinds { IfErr result (λ fault. fault ≡ Unwritten) }
 {
     write_line(writer, &cancellation_head(head))?;
@@ -92,8 +109,8 @@ fn write_document<W: Write>(
 ///
 /// # Errors
 ///
-/// See [`ShowFault`]: after `NotAllowed` and `Unknown` nothing was written, after the others a beginning of the text. A caller who is denied it gets no byte,
-/// however the call ends (`unseen`).
+/// See [`ShowFault`]: after `NotAllowed` and `Unknown` nothing was written, after the others a
+/// beginning of the text. A caller who is denied it gets no byte, however the call ends (`unseen`).
 pub fn write_cancellation<S: Shelf, W: Write>(
     alloc: Global,
     registry: &mut Registry<S>,
@@ -101,7 +118,10 @@ pub fn write_cancellation<S: Shelf, W: Write>(
     act: ActNo,
     writer: &mut W,
 ) -> Result<(), ShowFault>
-    ensures { Writes (S.seen registry.old.shelf) (S.seen registry.new.shelf) (W.contents writer.old) (W.contents writer.new) result (cancellation_denial (S.seen registry.old.shelf).state caller.now act) (λ u text. IsDocument (S.seen registry.old.shelf).state act text) }
+    ensures { Writes (S.seen registry.old.shelf) (S.seen registry.new.shelf) (W.contents writer.old)
+        (W.contents writer.new) result
+        (cancellation_denial (S.seen registry.old.shelf).state caller.now act)
+        (λ u text. IsDocument (S.seen registry.old.shelf).state act text) }
 {
     let found = match registry.cancellation(alloc, caller, act) {
         Ok(found) => found,

@@ -35,8 +35,10 @@ fn is_held(place: Place) -> bool
 
 /// Writes a row that was made, or tells that there was no room for it.
 fn write_made<W: Write>(writer: &mut W, made: Result<Vec<u8>, NoRoom>) -> Result<(), ShowFault>
-    ensures written { (text : _) → IfOk made (λ row. row.items ≡ text) → OnOk result (Appends (W.contents writer.old) (W.contents writer.new) text) }
-    ensures prefix { (text : _) → IfOk made (λ row. row.items ≡ text) → OnErr result (AppendsPrefix (W.contents writer.old) (W.contents writer.new) text) }
+    ensures written { (text : _) → IfOk made (λ row. row.items ≡ text)
+        → OnOk result (Appends (W.contents writer.old) (W.contents writer.new) text) }
+    ensures prefix { (text : _) → IfOk made (λ row. row.items ≡ text)
+        → OnErr result (AppendsPrefix (W.contents writer.old) (W.contents writer.new) text) }
     ensures kinds { IfErr result IsRowFault }
 {
     match made {
@@ -50,8 +52,10 @@ fn write_made<W: Write>(writer: &mut W, made: Result<Vec<u8>, NoRoom>) -> Result
 
 /// Writes the row of a run that is held, and nothing for another.
 fn write_row<W: Write>(alloc: Global, writer: &mut W, run: &Piece) -> Result<(), ShowFault>
-    ensures written { OnOk result (Appends (W.contents writer.old) (W.contents writer.new) (held_row run.now)) }
-    ensures prefix { OnErr result (AppendsPrefix (W.contents writer.old) (W.contents writer.new) (held_row run.now)) }
+    ensures written { OnOk result
+        (Appends (W.contents writer.old) (W.contents writer.new) (held_row run.now)) }
+    ensures prefix { OnErr result
+        (AppendsPrefix (W.contents writer.old) (W.contents writer.new) (held_row run.now)) }
     ensures kinds { IfErr result IsRowFault }
 {
     if is_held(run.place) {
@@ -63,8 +67,10 @@ fn write_row<W: Write>(alloc: Global, writer: &mut W, run: &Piece) -> Result<(),
 
 /// Writes the row of the names of the fields.
 fn write_header<W: Write>(alloc: Global, writer: &mut W) -> Result<(), ShowFault>
-    ensures written { OnOk result (Appends (W.contents writer.old) (W.contents writer.new) header_row) }
-    ensures prefix { OnErr result (AppendsPrefix (W.contents writer.old) (W.contents writer.new) header_row) }
+    ensures written { OnOk result
+        (Appends (W.contents writer.old) (W.contents writer.new) header_row) }
+    ensures prefix { OnErr result
+        (AppendsPrefix (W.contents writer.old) (W.contents writer.new) header_row) }
     ensures kinds { IfErr result IsRowFault }
 {
     write_made(writer, holdings_header(alloc))
@@ -79,8 +85,12 @@ fn write_rows<S: Shelf, W: Write>(
     writer: &mut W,
 ) -> Result<(), ShowFault>
     requires ready { IsReady (S.seen registry.old.shelf) }
-    requires shown { (S.seen registry.old.shelf).doubts ≡ 0 → account_denial caller.now (get (S.seen registry.old.shelf).state.accounts account) ≡ None }
-    ensures { Writes (S.seen registry.old.shelf) (S.seen registry.new.shelf) (W.contents writer.old) (W.contents writer.new) result None (AreHeldRows (S.seen registry.old.shelf).state account) }
+    requires shown { (S.seen registry.old.shelf).doubts ≡ 0
+        → account_denial caller.now (get (S.seen registry.old.shelf).state.accounts account)
+        ≡ None }
+    ensures { Writes (S.seen registry.old.shelf) (S.seen registry.new.shelf) (W.contents writer.old)
+        (W.contents writer.new) result None
+        (AreHeldRows (S.seen registry.old.shelf).state account) }
 {
     let mut place = RunPlace::after(None);
     loop {
@@ -98,13 +108,13 @@ fn write_rows<S: Shelf, W: Write>(
     }
 }
 
-/// Writes the holdings of an account as CSV, those of its runs that are held: to the issuing body and to the account's holder. Its
-/// runs are read and written one at a time.
+/// Writes the holdings of an account as CSV, those of its runs that are held: to the issuing body
+/// and to the account's holder. Its runs are read and written one at a time.
 ///
 /// # Errors
 ///
-/// See [`ShowFault`]: after `NotAllowed` and `Unknown` nothing was written, after the others a beginning of the text. A caller who is denied it gets no byte,
-/// however the call ends (`unseen`).
+/// See [`ShowFault`]: after `NotAllowed` and `Unknown` nothing was written, after the others a
+/// beginning of the text. A caller who is denied it gets no byte, however the call ends (`unseen`).
 pub fn write_holdings_csv<S: Shelf, W: Write>(
     alloc: Global,
     registry: &mut Registry<S>,
@@ -112,7 +122,10 @@ pub fn write_holdings_csv<S: Shelf, W: Write>(
     account: AccountNo,
     writer: &mut W,
 ) -> Result<(), ShowFault>
-    ensures { Writes (S.seen registry.old.shelf) (S.seen registry.new.shelf) (W.contents writer.old) (W.contents writer.new) result (account_denial caller.now (get (S.seen registry.old.shelf).state.accounts account)) (λ u text. IsHoldingsCsv (S.seen registry.old.shelf).state account text) }
+    ensures { Writes (S.seen registry.old.shelf) (S.seen registry.new.shelf) (W.contents writer.old)
+        (W.contents writer.new) result
+        (account_denial caller.now (get (S.seen registry.old.shelf).state.accounts account))
+        (λ u text. IsHoldingsCsv (S.seen registry.old.shelf).state account text) }
 {
     let _heading = match registry.heading(caller, account) {
         Ok(heading) => heading,

@@ -6,7 +6,8 @@ ghost use Rattle.goo_registry.specs.Desks.{seen_of};
 ghost use Rattle.goo_files_import.specs.Durable.{FindsReported, reported};
 ghost use Rattle.goo_files_import.specs.Report.{report_text};
 ghost use Rattle.goo_files_import.specs.Table.{LacksHeader};
-ghost use Rattle.goo_files_import.specs.Stands.{IsImported, StandsInPart, IsBeforeRows, IsBetweenRows, IsToldIn};
+ghost use Rattle.goo_files_import.specs.Stands.{IsImported, StandsInPart, IsBeforeRows};
+ghost use Rattle.goo_files_import.specs.Stands.{IsBetweenRows, IsToldIn};
 ghost use Rattle.goo_files_import.specs.declared.cause.Cause.TheVariants.{Header as NoHeader};
 ghost use Rattle.goo_files.specs.declared.text_fault.ShowFault.TheVariants.{Write as Unwritten};
 
@@ -18,7 +19,8 @@ use goo_types::holder_code::HolderCode;
 use std::alloc::Global;
 use std::io::{Read, Write};
 
-/// Imports declarations from CSV into a registry as [`import_declarations`] does, and tells how far it is.
+/// Imports declarations from CSV into a registry as [`import_declarations`] does, and tells how far
+/// it is.
 ///
 /// # Errors
 ///
@@ -30,13 +32,27 @@ pub fn import_declarations_watched<S: Shelf, R: Read, P: ImportWatcher>(
     reader: &mut R,
     progress: &mut P,
 ) -> Result<Report, ImportFault>
-    ensures whole { (S.seen registry.new.shelf).lies ≡ 0 → IfSome (R.remaining reader.old) (λ input. IfOk result (λ report. IsImported caller.now input (S.seen registry.old.shelf).state (S.seen registry.new.shelf).state report.lines.items)) }
-    ensures header { IfSome (R.remaining reader.old) (λ input. IfErr result (λ fault. fault.cause ≡ NoHeader → LacksHeader input)) }
-    ensures before { IfErr result (λ fault. IsBeforeRows fault.cause → seen_of (S.seen registry.new.shelf) ≡ seen_of (S.seen registry.old.shelf)) }
-    ensures before_lines { IfErr result (λ fault. IsBeforeRows fault.cause → fault.report.lines.items ≡ []) }
-    ensures part { (S.seen registry.new.shelf).lies ≡ 0 → IfSome (R.remaining reader.old) (λ input. IfErr result (λ fault. IsBetweenRows fault.cause → StandsInPart caller.now input (S.seen registry.old.shelf).state (seen_of (S.seen registry.new.shelf)) fault.report.lines.items)) }
+    ensures whole { (S.seen registry.new.shelf).lies ≡ 0
+        → IfSome (R.remaining reader.old)
+        (λ input. IfOk result
+        (λ report. IsImported caller.now input (S.seen registry.old.shelf).state
+        (S.seen registry.new.shelf).state report.lines.items)) }
+    ensures header { IfSome (R.remaining reader.old)
+        (λ input. IfErr result (λ fault. fault.cause ≡ NoHeader → LacksHeader input)) }
+    ensures before { IfErr result
+        (λ fault. IsBeforeRows fault.cause
+        → seen_of (S.seen registry.new.shelf) ≡ seen_of (S.seen registry.old.shelf)) }
+    ensures before_lines { IfErr result
+        (λ fault. IsBeforeRows fault.cause → fault.report.lines.items ≡ []) }
+    ensures part { (S.seen registry.new.shelf).lies ≡ 0
+        → IfSome (R.remaining reader.old)
+        (λ input. IfErr result
+        (λ fault. IsBetweenRows fault.cause
+        → StandsInPart caller.now input (S.seen registry.old.shelf).state
+        (seen_of (S.seen registry.new.shelf)) fault.report.lines.items)) }
     ensures lied { (S.seen registry.new.shelf).lies ≡ 0 → (S.seen registry.old.shelf).lies ≡ 0 }
-    ensures told { (S.seen registry.old.shelf).refusals ≡ 0 → IsToldIn result (S.seen registry.new.shelf).refusals }
+    ensures told { (S.seen registry.old.shelf).refusals ≡ 0
+        → IsToldIn result (S.seen registry.new.shelf).refusals }
     ensures end { OnOk result (IsAtEnd (R.remaining reader.new)) }
     ensures found { (S.seen registry.new.shelf).lies ≡ 0 → (S.seen registry.old.shelf).doubts ≡ 0
         → IfSome (R.remaining reader.old) (λ input.
@@ -47,26 +63,41 @@ pub fn import_declarations_watched<S: Shelf, R: Read, P: ImportWatcher>(
     goo_files_import::import_declarations(alloc, registry, caller, reader, progress)
 }
 
-/// Imports declarations from CSV into a registry. The input is read whole, and then each row after the header is one declaration of
-/// the caller, under the row's key. A row whose key is kept is repeated, so a file may come twice.
+/// Imports declarations from CSV into a registry. The input is read whole, and then each row after
+/// the header is one declaration of the caller, under the row's key. A row whose key is kept is
+/// repeated, so a file may come twice.
 ///
 /// # Errors
 ///
-/// See [`Cause`](crate::Cause): after `Header` and `Read` nothing was applied; after `Store` and `Memory` the rows of the report
-/// stand, and no others.
+/// See [`Cause`](crate::Cause): after `Header` and `Read` nothing was applied; after `Store` and
+/// `Memory` the rows of the report stand, and no others.
 pub fn import_declarations<S: Shelf, R: Read>(
     alloc: Global,
     registry: &mut Registry<S>,
     caller: &HolderCode,
     reader: &mut R,
 ) -> Result<Report, ImportFault>
-    ensures whole { (S.seen registry.new.shelf).lies ≡ 0 → IfSome (R.remaining reader.old) (λ input. IfOk result (λ report. IsImported caller.now input (S.seen registry.old.shelf).state (S.seen registry.new.shelf).state report.lines.items)) }
-    ensures header { IfSome (R.remaining reader.old) (λ input. IfErr result (λ fault. fault.cause ≡ NoHeader → LacksHeader input)) }
-    ensures before { IfErr result (λ fault. IsBeforeRows fault.cause → seen_of (S.seen registry.new.shelf) ≡ seen_of (S.seen registry.old.shelf)) }
-    ensures before_lines { IfErr result (λ fault. IsBeforeRows fault.cause → fault.report.lines.items ≡ []) }
-    ensures part { (S.seen registry.new.shelf).lies ≡ 0 → IfSome (R.remaining reader.old) (λ input. IfErr result (λ fault. IsBetweenRows fault.cause → StandsInPart caller.now input (S.seen registry.old.shelf).state (seen_of (S.seen registry.new.shelf)) fault.report.lines.items)) }
+    ensures whole { (S.seen registry.new.shelf).lies ≡ 0
+        → IfSome (R.remaining reader.old)
+        (λ input. IfOk result
+        (λ report. IsImported caller.now input (S.seen registry.old.shelf).state
+        (S.seen registry.new.shelf).state report.lines.items)) }
+    ensures header { IfSome (R.remaining reader.old)
+        (λ input. IfErr result (λ fault. fault.cause ≡ NoHeader → LacksHeader input)) }
+    ensures before { IfErr result
+        (λ fault. IsBeforeRows fault.cause
+        → seen_of (S.seen registry.new.shelf) ≡ seen_of (S.seen registry.old.shelf)) }
+    ensures before_lines { IfErr result
+        (λ fault. IsBeforeRows fault.cause → fault.report.lines.items ≡ []) }
+    ensures part { (S.seen registry.new.shelf).lies ≡ 0
+        → IfSome (R.remaining reader.old)
+        (λ input. IfErr result
+        (λ fault. IsBetweenRows fault.cause
+        → StandsInPart caller.now input (S.seen registry.old.shelf).state
+        (seen_of (S.seen registry.new.shelf)) fault.report.lines.items)) }
     ensures lied { (S.seen registry.new.shelf).lies ≡ 0 → (S.seen registry.old.shelf).lies ≡ 0 }
-    ensures told { (S.seen registry.old.shelf).refusals ≡ 0 → IsToldIn result (S.seen registry.new.shelf).refusals }
+    ensures told { (S.seen registry.old.shelf).refusals ≡ 0
+        → IsToldIn result (S.seen registry.new.shelf).refusals }
     ensures end { OnOk result (IsAtEnd (R.remaining reader.new)) }
     ensures found { (S.seen registry.new.shelf).lies ≡ 0 → (S.seen registry.old.shelf).doubts ≡ 0
         → IfSome (R.remaining reader.old) (λ input.
@@ -83,8 +114,12 @@ pub fn import_declarations<S: Shelf, R: Read>(
 ///
 /// `Write`, where a write fails: a beginning of the text was written then.
 pub fn write_report<W: Write>(report: &Report, writer: &mut W) -> Result<(), ShowFault>
-    ensures written { OnOk result (Appends (W.contents writer.old) (W.contents writer.new) (report_text report.now.lines.items)) }
-    ensures prefix { OnErr result (AppendsPrefix (W.contents writer.old) (W.contents writer.new) (report_text report.now.lines.items)) }
+    ensures written { OnOk result
+        (Appends (W.contents writer.old) (W.contents writer.new)
+        (report_text report.now.lines.items)) }
+    ensures prefix { OnErr result
+        (AppendsPrefix (W.contents writer.old) (W.contents writer.new)
+        (report_text report.now.lines.items)) }
     ensures kind { IfErr result (λ fault. fault ≡ Unwritten) }
 {
     goo_files_import::write_report(report, writer)?;

@@ -1,6 +1,8 @@
-//! What a registry gives out as files: statements of accounts, documents of cancellations, holdings as CSV, audits; and imports of declarations from CSV.
+//! What a registry gives out as files: statements of accounts, documents of cancellations, holdings
+//! as CSV, audits; and imports of declarations from CSV.
 //!
-//! Statements and holdings are written run by run as these are read, so that no call holds all runs of an account.
+//! Statements and holdings are written run by run as these are read, so that no call holds all runs
+//! of an account.
 #![tactic(auto)]
 
 mod audit;

@@ -28,8 +28,12 @@ fn write_runs<S: Shelf, W: Write>(
     writer: &mut W,
 ) -> Result<Counts, ShowFault>
     requires ready { IsReady (S.seen registry.old.shelf) }
-    requires shown { (S.seen registry.old.shelf).doubts ≡ 0 → account_denial caller.now (get (S.seen registry.old.shelf).state.accounts account) ≡ None }
-    ensures { Writes (S.seen registry.old.shelf) (S.seen registry.new.shelf) (W.contents writer.old) (W.contents writer.new) result None (AreRunLines (S.seen registry.old.shelf).state account) }
+    requires shown { (S.seen registry.old.shelf).doubts ≡ 0
+        → account_denial caller.now (get (S.seen registry.old.shelf).state.accounts account)
+        ≡ None }
+    ensures { Writes (S.seen registry.old.shelf) (S.seen registry.new.shelf) (W.contents writer.old)
+        (W.contents writer.new) result None
+        (AreRunLines (S.seen registry.old.shelf).state account) }
 {
     let mut counts = Counts::none();
     let mut place = RunPlace::after(None);
@@ -51,8 +55,14 @@ fn write_runs<S: Shelf, W: Write>(
 
 /// Writes the lines before them.
 fn write_head<W: Write>(writer: &mut W, heading: &Heading) -> Result<(), WriteFault>
-    ensures written { OnOk result (Appends (W.contents writer.old) (W.contents writer.new) (head_text heading.now.code heading.now.today heading.now.account heading.now.holder heading.now.closed)) }
-    ensures prefix { OnErr result (AppendsPrefix (W.contents writer.old) (W.contents writer.new) (head_text heading.now.code heading.now.today heading.now.account heading.now.holder heading.now.closed)) }
+    ensures written { OnOk result
+        (Appends (W.contents writer.old) (W.contents writer.new)
+        (head_text heading.now.code heading.now.today heading.now.account heading.now.holder
+        heading.now.closed)) }
+    ensures prefix { OnErr result
+        (AppendsPrefix (W.contents writer.old) (W.contents writer.new)
+        (head_text heading.now.code heading.now.today heading.now.account heading.now.holder
+        heading.now.closed)) }
 {
     let head = statement_head(
         heading.code,
@@ -64,20 +74,24 @@ fn write_head<W: Write>(writer: &mut W, heading: &Heading) -> Result<(), WriteFa
     write_line(writer, &head)
 }
 
-/// Writes the statement of an account: to the issuing body and to the account's holder. Its runs are read and written one at
-/// a time, so it holds no more than two of them, and it takes no memory of its own.
+/// Writes the statement of an account: to the issuing body and to the account's holder. Its runs
+/// are read and written one at a time, so it holds no more than two of them, and it takes no memory
+/// of its own.
 ///
 /// # Errors
 ///
-/// See [`ShowFault`]: after `NotAllowed` and `Unknown` nothing was written, after the others a beginning of the text. A caller who is denied it gets no byte,
-/// however the call ends (`unseen`).
+/// See [`ShowFault`]: after `NotAllowed` and `Unknown` nothing was written, after the others a
+/// beginning of the text. A caller who is denied it gets no byte, however the call ends (`unseen`).
 pub fn write_statement<S: Shelf, W: Write>(
     registry: &mut Registry<S>,
     caller: &HolderCode,
     account: AccountNo,
     writer: &mut W,
 ) -> Result<(), ShowFault>
-    ensures { Writes (S.seen registry.old.shelf) (S.seen registry.new.shelf) (W.contents writer.old) (W.contents writer.new) result (account_denial caller.now (get (S.seen registry.old.shelf).state.accounts account)) (λ u text. IsStatement (S.seen registry.old.shelf).state account text) }
+    ensures { Writes (S.seen registry.old.shelf) (S.seen registry.new.shelf) (W.contents writer.old)
+        (W.contents writer.new) result
+        (account_denial caller.now (get (S.seen registry.old.shelf).state.accounts account))
+        (λ u text. IsStatement (S.seen registry.old.shelf).state account text) }
 {
     let heading = match registry.heading(caller, account) {
         Ok(heading) => heading,

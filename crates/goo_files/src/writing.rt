@@ -13,8 +13,10 @@ pub(crate) fn write_line<W: Write>(
     writer: &mut W,
     line: &ArrayString<ROOM>,
 ) -> Result<(), WriteFault>
-    ensures written { OnOk result (Appends (W.contents writer.old) (W.contents writer.new) line.now.bytes) }
-    ensures prefix { OnErr result (AppendsPrefix (W.contents writer.old) (W.contents writer.new) line.now.bytes) }
+    ensures written { OnOk result
+        (Appends (W.contents writer.old) (W.contents writer.new) line.now.bytes) }
+    ensures prefix { OnErr result
+        (AppendsPrefix (W.contents writer.old) (W.contents writer.new) line.now.bytes) }
 {
     write_whole(writer, line.as_str().as_bytes())
 }

@@ -14,7 +14,8 @@ pub struct NoRoom;
 
 /// The text of one record of the default writer.
 fn row_bytes(alloc: Global, fields: &[&[u8]]) -> Result<Vec<u8>, Error>
-    ensures { IfOk result (λ row. row.items ≡ row_text default_writer (map (λ field. field.now) fields.now)) }
+    ensures { IfOk result
+        (λ row. row.items ≡ row_text default_writer (map (λ field. field.now) fields.now)) }
 {
     let mut writer = WriterBuilder::new().from_writer(Vec::new(alloc));
     writer.write_fields(fields)?;
@@ -24,9 +25,11 @@ fn row_bytes(alloc: Global, fields: &[&[u8]]) -> Result<Vec<u8>, Error>
     }
 }
 
-/// The text of one record of the default writer. It is written to a list, which fails only for want of memory.
+/// The text of one record of the default writer. It is written to a list, which fails only for want
+/// of memory.
 fn row(alloc: Global, fields: &[&[u8]]) -> Result<Vec<u8>, NoRoom>
-    ensures { IfOk result (λ row. row.items ≡ row_text default_writer (map (λ field. field.now) fields.now)) }
+    ensures { IfOk result
+        (λ row. row.items ≡ row_text default_writer (map (λ field. field.now) fields.now)) }
 {
     match row_bytes(alloc, fields) {
         Ok(row) => Ok(row),

@@ -1,7 +1,9 @@
 //! The rows of a CSV of declarations.
 ghost use Rattle.std.specs.Prelude.{◌≡◌, ◌==◌, length};
 ghost use Rattle.csv.specs.Records.{fields_of};
-ghost use Rattle.goo_files_csv.specs.Rows.{field_in, declaration_in, request_in, has_names as names_test, has_amounts as amounts_test, is_header as header_test};
+ghost use Rattle.goo_files_csv.specs.Rows.{field_in, declaration_in, request_in};
+ghost use Rattle.goo_files_csv.specs.Rows.{has_names as names_test, has_amounts as amounts_test};
+ghost use Rattle.goo_files_csv.specs.Rows.{is_header as header_test};
 
 use crate::digits::wh_in;
 use csv::ByteRecord;
@@ -41,8 +43,8 @@ fn read_declaration(row: &ByteRecord) -> Option<Declare>
     })
 }
 
-/// The request that a row states: a declaration of the caller, under the row's key. None where the row has not six
-/// fields that their readers accept.
+/// The request that a row states: a declaration of the caller, under the row's key. None where the
+/// row has not six fields that their readers accept.
 #[tactic(auto, unfolding(crate::specs::Rows::request_in))]
 pub fn read_row(caller: &HolderCode, row: &ByteRecord) -> Option<Request>
     ensures { result ≡ request_in caller.now (fields_of row.now) }

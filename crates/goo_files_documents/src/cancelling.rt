@@ -1,7 +1,9 @@
 //! The first and the last lines of the document of a cancellation.
 ghost use Rattle.std.specs.Prelude.{◌≡◌, ◌++◌, ◌+◌, ◌≤◌, length};
 ghost use Rattle.arrayvec.specs.ArrayString.{array_string_len};
-ghost use Rattle.goo_files_documents.specs.Cancellation.{registry_lines, owner_lines, cancellation_head as head_text, cancellation_foot as foot_text};
+ghost use Rattle.goo_files_documents.specs.Cancellation.{registry_lines, owner_lines};
+ghost use Rattle.goo_files_documents.specs.Cancellation.{cancellation_head as head_text};
+ghost use Rattle.goo_files_documents.specs.Cancellation.{cancellation_foot as foot_text};
 
 use crate::cancellation::CancellationHead;
 use crate::pushes::{ROOM, push_code, push_day, push_holder, push_integer, push_name, push_period};

@@ -1,6 +1,7 @@
 //! Writing at the end of a line.
 
-ghost use Rattle.std.specs.Prelude.{◌≡◌, ◌++◌, ◌+◌, ◌*◌, ◌-◌, ◌≤◌, ◌<◌, length, replicate, cond, nat_lt, [], codes, decimal};
+ghost use Rattle.std.specs.Prelude.{◌≡◌, ◌++◌, ◌+◌, ◌*◌, ◌-◌, ◌≤◌, ◌<◌, length, replicate, cond};
+ghost use Rattle.std.specs.Prelude.{nat_lt, [], codes, decimal};
 ghost use Rattle.arrayvec.specs.ArrayString.{array_string_len};
 ghost use Rattle.goo_types.specs.Texts.{number_text, day_text};
 ghost use Rattle.goo_files_documents.specs.Words.{right_aligned, code_text, period_text};

@@ -3,7 +3,9 @@
 ghost use Rattle.std.specs.Prelude.{◌≡◌, ◌++◌, ◌+◌, ◌≤◌, length};
 ghost use Rattle.arrayvec.specs.ArrayString.{array_string_len};
 ghost use Rattle.goo_files_documents.specs.Words.{place_text};
-ghost use Rattle.goo_files_documents.specs.Runs.{numbers_text, lot_text, certificates_text, statement_line as statement_line_text, document_line as document_line_text};
+ghost use Rattle.goo_files_documents.specs.Runs.{numbers_text, lot_text, certificates_text};
+ghost use Rattle.goo_files_documents.specs.Runs.{statement_line as statement_line_text};
+ghost use Rattle.goo_files_documents.specs.Runs.{document_line as document_line_text};
 
 use crate::pushes::{
     ROOM, push_aligned, push_device, push_integer, push_number, push_period, push_source, push_tech,

@@ -1,7 +1,8 @@
 //! The first and the last lines of a statement.
 ghost use Rattle.std.specs.Prelude.{◌≡◌, ◌++◌, ◌+◌, ◌≤◌, cond, codes, length};
 ghost use Rattle.arrayvec.specs.ArrayString.{array_string_len};
-ghost use Rattle.goo_files_documents.specs.Statement.{statement_head as head_text, statement_foot as foot_text};
+ghost use Rattle.goo_files_documents.specs.Statement.{statement_head as head_text};
+ghost use Rattle.goo_files_documents.specs.Statement.{statement_foot as foot_text};
 
 use crate::counts::Counts;
 use crate::pushes::{ROOM, push_code, push_day, push_holder, push_integer};

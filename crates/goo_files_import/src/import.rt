@@ -10,8 +10,11 @@ ghost use Rattle.goo_registry_desk.specs.Desk.{StaysSure};
 ghost use Rattle.goo_files_import.specs.Durable.{FindsReported, reported};
 ghost use Rattle.goo_spec.specs.Sound.{IsSound};
 ghost use Rattle.goo_files_import.specs.Promised.{KeepsPromise};
-ghost use Rattle.goo_files_import.specs.Stands.{IsImported, StandsInPart, IsBeforeRows, IsBetweenRows, IsToldIn};
-ghost use Rattle.goo_files_import.specs.declared.cause.Cause.TheVariants.{Header as NoHeader, Read as Unread, Store as Refused};
+ghost use Rattle.goo_files_import.specs.Stands.{IsImported, StandsInPart, IsBeforeRows};
+ghost use Rattle.goo_files_import.specs.Stands.{IsBetweenRows, IsToldIn};
+ghost use Rattle.goo_files_import.specs.declared.cause.Cause.TheVariants.{Header as NoHeader};
+ghost use Rattle.goo_files_import.specs.declared.cause.Cause.TheVariants.{Read as Unread};
+ghost use Rattle.goo_files_import.specs.declared.cause.Cause.TheVariants.{Store as Refused};
 
 use crate::cause::{Cause, ImportFault};
 use crate::progress::ImportWatcher;
@@ -37,11 +40,22 @@ fn apply_row<D: Desk>(
     caller: &HolderCode,
     row: &ByteRecord,
 ) -> Result<RowResult, Fault>
-    ensures answer { (D.seen desk.new).lies ≡ 0 → IfOk result (λ line. line ≡ row_result (D.seen desk.old).state caller.now (fields_of row.now)) }
-    ensures state { (D.seen desk.new).lies ≡ 0 → OnOk result ((D.seen desk.new).state ≡ state_after (D.seen desk.old).state caller.now (fields_of row.now)) }
-    ensures sure_answer { (D.seen desk.new).doubts ≡ 0 → IfOk result (λ line. line ≡ row_result (D.seen desk.old).state caller.now (fields_of row.now)) }
-    ensures sure_state { (D.seen desk.new).doubts ≡ 0 → OnOk result ((D.seen desk.new).state ≡ state_after (D.seen desk.old).state caller.now (fields_of row.now)) }
-    ensures unchanged { (D.seen desk.new).doubts ≡ 0 → OnErr result ((D.seen desk.new).state ≡ (D.seen desk.old).state) }
+    ensures answer { (D.seen desk.new).lies ≡ 0
+        → IfOk result
+        (λ line. line ≡ row_result (D.seen desk.old).state caller.now (fields_of row.now)) }
+    ensures state { (D.seen desk.new).lies ≡ 0
+        → OnOk result
+        ((D.seen desk.new).state
+        ≡ state_after (D.seen desk.old).state caller.now (fields_of row.now)) }
+    ensures sure_answer { (D.seen desk.new).doubts ≡ 0
+        → IfOk result
+        (λ line. line ≡ row_result (D.seen desk.old).state caller.now (fields_of row.now)) }
+    ensures sure_state { (D.seen desk.new).doubts ≡ 0
+        → OnOk result
+        ((D.seen desk.new).state
+        ≡ state_after (D.seen desk.old).state caller.now (fields_of row.now)) }
+    ensures unchanged { (D.seen desk.new).doubts ≡ 0
+        → OnErr result ((D.seen desk.new).state ≡ (D.seen desk.old).state) }
     ensures doubted { (D.seen desk.new).doubts ≡ 0 → (D.seen desk.old).doubts ≡ 0 }
     ensures lied { (D.seen desk.new).lies ≡ 0 → (D.seen desk.old).lies ≡ 0 }
     ensures told { (D.seen desk.old).refusals ≡ 0 → IsTold result (D.seen desk.new).refusals }
@@ -67,12 +81,27 @@ fn import_row<D: Desk>(
     lines: &mut Vec<RowResult>,
     row: &ByteRecord,
 ) -> Result<(), Fault>
-    ensures lines { (D.seen desk.new).lies ≡ 0 → OnOk result (lines.new.items ≡ lines.old.items ++ row_result (D.seen desk.old).state caller.now (fields_of row.now) ∷ []) }
-    ensures state { (D.seen desk.new).lies ≡ 0 → OnOk result ((D.seen desk.new).state ≡ state_after (D.seen desk.old).state caller.now (fields_of row.now)) }
-    ensures sure_lines { (D.seen desk.new).doubts ≡ 0 → OnOk result (lines.new.items ≡ lines.old.items ++ row_result (D.seen desk.old).state caller.now (fields_of row.now) ∷ []) }
-    ensures sure_state { (D.seen desk.new).doubts ≡ 0 → OnOk result ((D.seen desk.new).state ≡ state_after (D.seen desk.old).state caller.now (fields_of row.now)) }
+    ensures lines { (D.seen desk.new).lies ≡ 0
+        → OnOk result
+        (lines.new.items
+        ≡ lines.old.items
+        ++ row_result (D.seen desk.old).state caller.now (fields_of row.now) ∷ []) }
+    ensures state { (D.seen desk.new).lies ≡ 0
+        → OnOk result
+        ((D.seen desk.new).state
+        ≡ state_after (D.seen desk.old).state caller.now (fields_of row.now)) }
+    ensures sure_lines { (D.seen desk.new).doubts ≡ 0
+        → OnOk result
+        (lines.new.items
+        ≡ lines.old.items
+        ++ row_result (D.seen desk.old).state caller.now (fields_of row.now) ∷ []) }
+    ensures sure_state { (D.seen desk.new).doubts ≡ 0
+        → OnOk result
+        ((D.seen desk.new).state
+        ≡ state_after (D.seen desk.old).state caller.now (fields_of row.now)) }
     ensures kept { OnErr result (lines.new.items ≡ lines.old.items) }
-    ensures unchanged { (D.seen desk.new).doubts ≡ 0 → OnErr result ((D.seen desk.new).state ≡ (D.seen desk.old).state) }
+    ensures unchanged { (D.seen desk.new).doubts ≡ 0
+        → OnErr result ((D.seen desk.new).state ≡ (D.seen desk.old).state) }
     ensures doubted { (D.seen desk.new).doubts ≡ 0 → (D.seen desk.old).doubts ≡ 0 }
     ensures lied { (D.seen desk.new).lies ≡ 0 → (D.seen desk.old).lies ≡ 0 }
     ensures told { (D.seen desk.old).refusals ≡ 0 → IsTold result (D.seen desk.new).refusals }
@@ -127,11 +156,13 @@ fn announce<P: ImportWatcher>(alloc: Global, input: &[u8], progress: &mut P) {
     }
 }
 
-/// Applies the rows of a CSV in turn, after its header: what [`import_declarations`] does with an input once it is read.
+/// Applies the rows of a CSV in turn, after its header: what [`import_declarations`] does with an
+/// input once it is read.
 ///
 /// # Errors
 ///
-/// See [`Cause`]: after `Header` nothing was applied; after `Store` and `Memory` the rows of the report stand. `Read` never comes.
+/// See [`Cause`]: after `Header` nothing was applied; after `Store` and `Memory` the rows of the
+/// report stand. `Read` never comes.
 pub fn import_bytes<D: Desk, P: ImportWatcher>(
     alloc: Global,
     desk: &mut D,
@@ -139,15 +170,31 @@ pub fn import_bytes<D: Desk, P: ImportWatcher>(
     input: &[u8],
     progress: &mut P,
 ) -> Result<Report, ImportFault>
-    ensures whole { (D.seen desk.new).lies ≡ 0 → IfOk result (λ report. IsImported caller.now input.now (D.seen desk.old).state (D.seen desk.new).state report.lines.items) }
-    ensures sure_whole { (D.seen desk.new).doubts ≡ 0 → IfOk result (λ report. IsImported caller.now input.now (D.seen desk.old).state (D.seen desk.new).state report.lines.items) }
+    ensures whole { (D.seen desk.new).lies ≡ 0
+        → IfOk result
+        (λ report. IsImported caller.now input.now (D.seen desk.old).state
+        (D.seen desk.new).state report.lines.items) }
+    ensures sure_whole { (D.seen desk.new).doubts ≡ 0
+        → IfOk result
+        (λ report. IsImported caller.now input.now (D.seen desk.old).state
+        (D.seen desk.new).state report.lines.items) }
     ensures kinds { IfErr result (λ fault. fault.cause ≢ Unread) }
     ensures header { IfErr result (λ fault. fault.cause ≡ NoHeader → LacksHeader input.now) }
     ensures lacking { LacksHeader input.now → IfErr result (λ fault. fault.cause ≢ Refused) }
-    ensures before { IfErr result (λ fault. IsBeforeRows fault.cause → (D.seen desk.new ≡ D.seen desk.old)) }
-    ensures before_lines { IfErr result (λ fault. IsBeforeRows fault.cause → fault.report.lines.items ≡ []) }
-    ensures part { (D.seen desk.new).lies ≡ 0 → IfErr result (λ fault. IsBetweenRows fault.cause → StandsInPart caller.now input.now (D.seen desk.old).state (D.seen desk.new) fault.report.lines.items) }
-    ensures sure_part { (D.seen desk.new).doubts ≡ 0 → IfErr result (λ fault. IsBetweenRows fault.cause → StandsInPart caller.now input.now (D.seen desk.old).state (D.seen desk.new) fault.report.lines.items) }
+    ensures before { IfErr result
+        (λ fault. IsBeforeRows fault.cause → (D.seen desk.new ≡ D.seen desk.old)) }
+    ensures before_lines { IfErr result
+        (λ fault. IsBeforeRows fault.cause → fault.report.lines.items ≡ []) }
+    ensures part { (D.seen desk.new).lies ≡ 0
+        → IfErr result
+        (λ fault. IsBetweenRows fault.cause
+        → StandsInPart caller.now input.now (D.seen desk.old).state
+        (D.seen desk.new) fault.report.lines.items) }
+    ensures sure_part { (D.seen desk.new).doubts ≡ 0
+        → IfErr result
+        (λ fault. IsBetweenRows fault.cause
+        → StandsInPart caller.now input.now (D.seen desk.old).state
+        (D.seen desk.new) fault.report.lines.items) }
     ensures doubted { (D.seen desk.new).doubts ≡ 0 → (D.seen desk.old).doubts ≡ 0 }
     ensures lied { (D.seen desk.new).lies ≡ 0 → (D.seen desk.old).lies ≡ 0 }
     ensures told { (D.seen desk.old).refusals ≡ 0 → IsToldIn result (D.seen desk.new).refusals }
@@ -187,19 +234,22 @@ pub fn import_bytes<D: Desk, P: ImportWatcher>(
     Ok(Report { lines })
 }
 
-/// Reads the whole of a CSV and then applies each row as one declaration of the caller, under the row's key. Room for the line of
-/// a row is taken before the row is applied, so the rows of the report stand and no others, whatever happens. A row whose
-/// key is kept is repeated, so a file may come twice. `progress` is told how far it is.
+/// Reads the whole of a CSV and then applies each row as one declaration of the caller, under the
+/// row's key. Room for the line of a row is taken before the row is applied, so the rows of the
+/// report stand and no others, whatever happens. A row whose key is kept is repeated, so a file may
+/// come twice. `progress` is told how far it is.
 ///
-/// `promised`: what a registry promises after any list of requests holds of the requests of the rows that were applied, all of them or the
-/// first ones ([`import_is_a_run`](crate::import_is_a_run) says that an import is a run of its rows' requests).
-/// `found`: however it ends, the rows of the report are first rows that a crash finds applied, and at most one row more.
-/// `stays`: however it ends, nothing is in doubt unless a call below failed. So after a `Memory`
-/// with no failed call the state is known, and a crash finds it.
+/// `promised`: what a registry promises after any list of requests holds of the requests of the
+/// rows that were applied, all of them or the first ones
+/// ([`import_is_a_run`](crate::import_is_a_run) says that an import is a run of its rows'
+/// requests). `found`: however it ends, the rows of the report are first rows that a crash finds
+/// applied, and at most one row more. `stays`: however it ends, nothing is in doubt unless a call
+/// below failed. So after a `Memory` with no failed call the state is known, and a crash finds it.
 ///
 /// # Errors
 ///
-/// See [`Cause`]: after `Header` and `Read` nothing was applied; after `Store` and `Memory` the rows of the report stand.
+/// See [`Cause`]: after `Header` and `Read` nothing was applied; after `Store` and `Memory` the
+/// rows of the report stand.
 pub fn import_declarations<D: Desk, R: Read, P: ImportWatcher>(
     alloc: Global,
     desk: &mut D,
@@ -207,16 +257,31 @@ pub fn import_declarations<D: Desk, R: Read, P: ImportWatcher>(
     reader: &mut R,
     progress: &mut P,
 ) -> Result<Report, ImportFault>
-    ensures whole { (D.seen desk.new).lies ≡ 0 → IfSome (R.remaining reader.old) (λ input. IfOk result (λ report. IsImported caller.now input (D.seen desk.old).state (D.seen desk.new).state report.lines.items)) }
-    ensures header { IfSome (R.remaining reader.old) (λ input. IfErr result (λ fault. fault.cause ≡ NoHeader → LacksHeader input)) }
-    ensures lacking { IfSome (R.remaining reader.old) (λ input. LacksHeader input → IfErr result (λ fault. fault.cause ≢ Refused)) }
-    ensures before { IfErr result (λ fault. IsBeforeRows fault.cause → (D.seen desk.new ≡ D.seen desk.old)) }
-    ensures before_lines { IfErr result (λ fault. IsBeforeRows fault.cause → fault.report.lines.items ≡ []) }
-    ensures part { (D.seen desk.new).lies ≡ 0 → IfSome (R.remaining reader.old) (λ input. IfErr result (λ fault. IsBetweenRows fault.cause → StandsInPart caller.now input (D.seen desk.old).state (D.seen desk.new) fault.report.lines.items)) }
+    ensures whole { (D.seen desk.new).lies ≡ 0
+        → IfSome (R.remaining reader.old)
+        (λ input. IfOk result
+        (λ report. IsImported caller.now input (D.seen desk.old).state
+        (D.seen desk.new).state report.lines.items)) }
+    ensures header { IfSome (R.remaining reader.old)
+        (λ input. IfErr result (λ fault. fault.cause ≡ NoHeader → LacksHeader input)) }
+    ensures lacking { IfSome (R.remaining reader.old)
+        (λ input. LacksHeader input → IfErr result (λ fault. fault.cause ≢ Refused)) }
+    ensures before { IfErr result
+        (λ fault. IsBeforeRows fault.cause → (D.seen desk.new ≡ D.seen desk.old)) }
+    ensures before_lines { IfErr result
+        (λ fault. IsBeforeRows fault.cause → fault.report.lines.items ≡ []) }
+    ensures part { (D.seen desk.new).lies ≡ 0
+        → IfSome (R.remaining reader.old)
+        (λ input. IfErr result
+        (λ fault. IsBetweenRows fault.cause
+        → StandsInPart caller.now input (D.seen desk.old).state
+        (D.seen desk.new) fault.report.lines.items)) }
     ensures lied { (D.seen desk.new).lies ≡ 0 → (D.seen desk.old).lies ≡ 0 }
     ensures told { (D.seen desk.old).refusals ≡ 0 → IsToldIn result (D.seen desk.new).refusals }
     ensures end { OnOk result (IsAtEnd (R.remaining reader.new)) }
-    ensures promised { IsSound (D.seen desk.old).state → (D.seen desk.new).lies ≡ 0 → IfSome (R.remaining reader.old) (λ input. KeepsPromise caller.now input (D.seen desk.old).state (D.seen desk.new) result) }
+    ensures promised { IsSound (D.seen desk.old).state → (D.seen desk.new).lies ≡ 0
+        → IfSome (R.remaining reader.old)
+        (λ input. KeepsPromise caller.now input (D.seen desk.old).state (D.seen desk.new) result) }
     ensures found { (D.seen desk.new).lies ≡ 0 → (D.seen desk.old).doubts ≡ 0
         → IfSome (R.remaining reader.old) (λ input.
         FindsReported caller.now input (D.seen desk.old).state (D.seen desk.new)

@@ -1,8 +1,8 @@
 //! An import is a run.
 ghost use Rattle.goo_files_import.specs.Laws.{HeaderOrRows, IsARun, OneTable};
 
-/// Rows, applied in turn, come to what a run of the requests of the readable ones comes to: its state, and a report of its outcomes with
-/// each other row in its place.
+/// Rows, applied in turn, come to what a run of the requests of the readable ones comes to: its
+/// state, and a report of its outcomes with each other row in its place.
 pub fn import_is_a_run()
     ensures { IsARun }
 {}

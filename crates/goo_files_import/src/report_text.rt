@@ -3,7 +3,8 @@ ghost use Rattle.std.specs.Prelude.{◌≡◌, ◌++◌, ◌+◌, ◌≤◌, dec
 ghost use Rattle.std.specs.Io.KnownBytes.{Appends};
 ghost use Rattle.arrayvec.specs.ArrayString.{array_string_len};
 ghost use Rattle.goo_files_streams.specs.Streams.{AppendsPrefix};
-ghost use Rattle.goo_files_import.specs.Report.{result_text, report_line as line_text, report_from, report_text};
+ghost use Rattle.goo_files_import.specs.Report.{result_text, report_line as line_text, report_from};
+ghost use Rattle.goo_files_import.specs.Report.{report_text};
 
 use crate::report::Report;
 use crate::row_result::RowResult;
@@ -62,8 +63,12 @@ fn report_line(number: u64, row: RowResult) -> ArrayString<ROOM>
 ///
 /// `WriteFault` where a write fails. A beginning of the text was written then.
 pub fn write_report<W: Write>(report: &Report, writer: &mut W) -> Result<(), WriteFault>
-    ensures written { OnOk result (Appends (W.contents writer.old) (W.contents writer.new) (report_text report.now.lines.items)) }
-    ensures prefix { OnErr result (AppendsPrefix (W.contents writer.old) (W.contents writer.new) (report_text report.now.lines.items)) }
+    ensures written { OnOk result
+        (Appends (W.contents writer.old) (W.contents writer.new)
+        (report_text report.now.lines.items)) }
+    ensures prefix { OnErr result
+        (AppendsPrefix (W.contents writer.old) (W.contents writer.new)
+        (report_text report.now.lines.items)) }
 {
     for (index, row) in report.lines.iter().enumerate() {
         let line = report_line(index as u64 + 1, *row);

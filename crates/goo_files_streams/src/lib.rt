@@ -1,11 +1,12 @@
 //! Reading a whole input and writing a whole text, each within fixed bounds.
 //!
-//! A stream that a signal interrupts is asked again, a thousand times in a row at most, so each of these calls
-//! ends whatever the stream answers.
-//! The loops of std ask such a stream 2^64 times, and say nothing of what was written before a fault.
+//! A stream that a signal interrupts is asked again, a thousand times in a row at most, so each of
+//! these calls ends whatever the stream answers. The loops of std ask such a stream 2^64 times, and
+//! say nothing of what was written before a fault.
 #![tactic(auto)]
 
-ghost use Rattle.std.specs.Prelude.{◌≡◌, ◌≤◌, ◌<◌, ℕ, List, length, take, IfOk, OnOk, OnErr, vec_len};
+ghost use Rattle.std.specs.Prelude.{◌≡◌, ◌≤◌, ◌<◌, ℕ, List, length, take, IfOk, OnOk, OnErr};
+ghost use Rattle.std.specs.Prelude.{vec_len};
 ghost use Rattle.std.specs.Io.{ReadsAtMost, WritesAtMost};
 ghost use Rattle.std.specs.Io.KnownBytes.{Appends, Consumes, Keeps, IsAtEnd};
 ghost use Rattle.goo_files_streams.specs.Streams.{AppendsPrefix, IsWholeOf};
@@ -38,15 +39,20 @@ impl From<AllocError> for InputFault {
 #[derive(Debug, Clone, Copy, PartialEq, Eq, Drop)]
 pub struct WriteFault;
 
-/// One read into `buffer`, tried again after each interruption: how many bytes came, 0 at the end of the input.
+/// One read into `buffer`, tried again after each interruption: how many bytes came, 0 at the end
+/// of the input.
 ///
 /// # Errors
 ///
-/// `Read` where the reader fails or is interrupted 1,001 times in a row. The reader has given no byte then.
+/// `Read` where the reader fails or is interrupted 1,001 times in a row. The reader has given no
+/// byte then.
 pub fn read_some<R: Read>(reader: &mut R, buffer: &mut [u8]) -> Result<usize, InputFault>
     ensures bound { ReadsAtMost result buffer.new }
-    ensures bytes { IfOk result (λ count. Consumes (R.remaining reader.old) (R.remaining reader.new) (take count buffer.new)) }
-    ensures end { IfOk result (λ count. count ≡ 0 → 0 < length buffer.old → IsAtEnd (R.remaining reader.new)) }
+    ensures bytes { IfOk result
+        (λ count. Consumes (R.remaining reader.old) (R.remaining reader.new)
+        (take count buffer.new)) }
+    ensures end { IfOk result
+        (λ count. count ≡ 0 → 0 < length buffer.old → IsAtEnd (R.remaining reader.new)) }
     ensures fault { OnErr result (Keeps (R.remaining reader.old) (R.remaining reader.new)) }
 {
     for _ in 0..=MOST_INTERRUPTIONS {
@@ -62,14 +68,17 @@ pub fn read_some<R: Read>(reader: &mut R, buffer: &mut [u8]) -> Result<usize, In
     Err(InputFault::Read)
 }
 
-/// One write, tried again after each interruption: how many bytes of `text` were taken, at least one.
+/// One write, tried again after each interruption: how many bytes of `text` were taken, at least
+/// one.
 ///
 /// # Errors
 ///
-/// Where the writer fails, takes no byte, or is interrupted 1,001 times in a row. Nothing was written then.
+/// Where the writer fails, takes no byte, or is interrupted 1,001 times in a row. Nothing was
+/// written then.
 pub fn write_some<W: Write>(writer: &mut W, text: &[u8]) -> Result<usize, WriteFault>
     ensures bound { WritesAtMost result text.now }
-    ensures bytes { IfOk result (λ count. Appends (W.contents writer.old) (W.contents writer.new) (take count text.now)) }
+    ensures bytes { IfOk result
+        (λ count. Appends (W.contents writer.old) (W.contents writer.new) (take count text.now)) }
     ensures progress { IfOk result (λ count. 0 < count) }
     ensures fault { OnErr result (Keeps (W.contents writer.old) (W.contents writer.new)) }
 {
@@ -91,8 +100,8 @@ pub fn write_some<W: Write>(writer: &mut W, text: &[u8]) -> Result<usize, WriteF
 ///
 /// # Errors
 ///
-/// `Read` where a read fails (see [`read_some`]) or there is a byte more than `limit`; `Memory` where there is no
-/// room. What was read up to then is lost.
+/// `Read` where a read fails (see [`read_some`]) or there is a byte more than `limit`; `Memory`
+/// where there is no room. What was read up to then is lost.
 pub fn read_whole<R: Read>(
     alloc: Global,
     reader: &mut R,
@@ -122,8 +131,10 @@ pub fn read_whole<R: Read>(
 ///
 /// Where a write fails (see [`write_some`]). A beginning of the text was written then.
 pub fn write_whole<W: Write>(writer: &mut W, text: &[u8]) -> Result<(), WriteFault>
-    ensures written { OnOk result (Appends (W.contents writer.old) (W.contents writer.new) text.now) }
-    ensures prefix { OnErr result (AppendsPrefix (W.contents writer.old) (W.contents writer.new) text.now) }
+    ensures written { OnOk result
+        (Appends (W.contents writer.old) (W.contents writer.new) text.now) }
+    ensures prefix { OnErr result
+        (AppendsPrefix (W.contents writer.old) (W.contents writer.new) text.now) }
 {
     let mut written = 0;
     while written < text.len() {

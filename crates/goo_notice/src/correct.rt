@@ -1,7 +1,8 @@
 //! The JSON object of a correction.
 ghost use Rattle.std.specs.Prelude.{◌≡◌, IfOk};
 ghost use Rattle.serde_json.specs.View.{view};
-ghost use Rattle.goo_notice.specs.Correct.{first_text, last_text, correct_data, IsRangeIfAny, IsCorrect};
+ghost use Rattle.goo_notice.specs.Correct.{first_text, last_text, correct_data, IsRangeIfAny};
+ghost use Rattle.goo_notice.specs.Correct.{IsCorrect};
 
 use arrayvec::ArrayString;
 use goo_notice_json::object::{nothing, object_of, with_integer, with_text};

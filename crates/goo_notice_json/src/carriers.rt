@@ -31,7 +31,8 @@ pub fn with_carrier(
     carried: bool,
     carrier: Carrier,
 ) -> Result<Map<String, Value>, AllocError>
-    ensures { (ms : Members) → IfOk members (λ old. members_view old.entries ≡ ms) → IfOk result (λ new. members_view new.entries ≡ carrier_put carried carrier ms) }
+    ensures { (ms : Members) → IfOk members (λ old. members_view old.entries ≡ ms)
+        → IfOk result (λ new. members_view new.entries ≡ carrier_put carried carrier ms) }
 {
     if carried {
         with_text(alloc, members, "carrier", carrier.word())

@@ -3,7 +3,10 @@
 ghost use Rattle.std.specs.Prelude.{◌≡◌};
 ghost use Rattle.serde_json.specs.View.{view};
 ghost use Rattle.goo_notice_json.specs.Faults.{Gives};
-ghost use Rattle.goo_notice_json.specs.LotMembers.{origin_at, device_at, country_at, site_at, tech_at, source_at, capacity_at, support_at, commissioned_at, first_day_at, last_day_at, issued_on_at, carrier_at};
+ghost use Rattle.goo_notice_json.specs.LotMembers.{origin_at, device_at, country_at, site_at};
+ghost use Rattle.goo_notice_json.specs.LotMembers.{tech_at, source_at, capacity_at, support_at};
+ghost use Rattle.goo_notice_json.specs.LotMembers.{commissioned_at, first_day_at, last_day_at};
+ghost use Rattle.goo_notice_json.specs.LotMembers.{issued_on_at, carrier_at};
 
 use crate::fields::{registry_code, watts};
 use crate::members::{integer_at, string_at};

@@ -3,7 +3,9 @@ ghost use Rattle.std.specs.Prelude.{◌≡◌, ◌↔◌, IfOk, IsTrue};
 ghost use Rattle.serde_json.specs.View.{view};
 ghost use Rattle.goo_types.specs.Lot.{IsLot};
 ghost use Rattle.goo_notice_json.specs.Faults.{Gives};
-ghost use Rattle.goo_notice_json.specs.Lot.{lot_data, IsStatedLot, carrier_shape, plant_shape, lot_shape, carrier_of, lot_rest_of, lot_fields_of, lot_of};
+ghost use Rattle.goo_notice_json.specs.Lot.{lot_data, IsStatedLot, carrier_shape, plant_shape};
+ghost use Rattle.goo_notice_json.specs.Lot.{lot_shape, carrier_of, lot_rest_of, lot_fields_of};
+ghost use Rattle.goo_notice_json.specs.Lot.{lot_of};
 
 use crate::carriers::with_carrier;
 use crate::lot_members::{
@@ -64,7 +66,8 @@ pub fn lot_value(alloc: Global, lot: &Lot, carried: bool) -> Result<Value, Alloc
     fields_value(alloc, lot.fields(), carried)
 }
 
-/// Checks that a value has the keys that tell of the plant, with their kinds, and gives how many these are.
+/// Checks that a value has the keys that tell of the plant, with their kinds, and gives how many
+/// these are.
 #[tactic(auto, unfolding(crate::specs::Lot::plant_shape))]
 fn check_plant(value: &Value) -> Result<usize, ValueFault>
     ensures { Gives (λ n. n) result (plant_shape (view value.now)) }
@@ -79,7 +82,8 @@ fn check_plant(value: &Value) -> Result<usize, ValueFault>
     Ok(7)
 }
 
-/// Checks that a value has the carrier's key, where lots state it, and gives how many keys a lot has.
+/// Checks that a value has the carrier's key, where lots state it, and gives how many keys a lot
+/// has.
 #[tactic(auto, unfolding(crate::specs::Lot::carrier_shape))]
 fn check_carrier(value: &Value, carried: bool) -> Result<usize, ValueFault>
     ensures { Gives (λ n. n) result (carrier_shape carried (view value.now)) }
@@ -91,8 +95,8 @@ fn check_carrier(value: &Value, carried: bool) -> Result<usize, ValueFault>
     Ok(13)
 }
 
-/// Checks that a value has the keys of a lot, with their kinds, and gives how many these are. Lots state their
-/// carrier where `carried` says so.
+/// Checks that a value has the keys of a lot, with their kinds, and gives how many these are. Lots
+/// state their carrier where `carried` says so.
 #[tactic(auto, unfolding(crate::specs::Lot::lot_shape))]
 pub(crate) fn check_lot(value: &Value, carried: bool) -> Result<usize, ValueFault>
     ensures { Gives (λ n. n) result (lot_shape carried (view value.now)) }

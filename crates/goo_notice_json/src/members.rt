@@ -4,7 +4,8 @@ ghost use Rattle.std.specs.Prelude.{◌≡◌, ℕ, ℤ};
 ghost use Rattle.serde_json.specs.Find.{as_object};
 ghost use Rattle.serde_json.specs.View.{view, items_view};
 ghost use Rattle.goo_notice_json.specs.Faults.{Gives};
-ghost use Rattle.goo_notice_json.specs.Members.{string_at, integer_at, items_at, member_at, of_size};
+ghost use Rattle.goo_notice_json.specs.Members.{string_at, integer_at, items_at, member_at};
+ghost use Rattle.goo_notice_json.specs.Members.{of_size};
 
 use crate::value_fault::ValueFault;
 use serde_json::{Number, Value};
@@ -23,7 +24,8 @@ pub fn string_at<'a>(value: &'a Value, key: &str) -> Result<&'a str, ValueFault>
         .ok_or(ValueFault::Shape)
 }
 
-/// The integer at a key: a number that `serde_json` reads as a whole one, so not `1.0`, `1e0` or `-0`.
+/// The integer at a key: a number that `serde_json` reads as a whole one, so not `1.0`, `1e0` or
+/// `-0`.
 ///
 /// # Errors
 ///
@@ -44,7 +46,8 @@ pub fn integer_at(value: &Value, key: &str) -> Result<i128, ValueFault>
 ///
 /// `Shape` where the value is no object, lacks the key, or has no array there.
 pub fn items_at<'a>(value: &'a Value, key: &str) -> Result<&'a Vec<Value>, ValueFault>
-    ensures { Gives (λ items. items_view items.now.items) result (items_at key.now (view value.now)) }
+    ensures { Gives
+        (λ items. items_view items.now.items) result (items_at key.now (view value.now)) }
 {
     value
         .get(key)
@@ -63,8 +66,8 @@ pub fn member_at<'a>(value: &'a Value, key: &str) -> Result<&'a Value, ValueFaul
     value.get(key).ok_or(ValueFault::Shape)
 }
 
-/// The count of an object's members, where it is `size`. An object of `size` members that has `size` given keys has no
-/// others.
+/// The count of an object's members, where it is `size`. An object of `size` members that has
+/// `size` given keys has no others.
 ///
 /// # Errors
 ///

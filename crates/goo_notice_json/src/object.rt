@@ -1,8 +1,10 @@
-//! The members of an object that is being written. Each step takes them by value and hands them back with one more, and where
-//! memory was refused it hands that on, so a writer is one straight line.
+//! The members of an object that is being written. Each step takes them by value and hands them
+//! back with one more, and where memory was refused it hands that on, so a writer is one straight
+//! line.
 
 ghost use Rattle.std.specs.Prelude.{◌≡◌, IfOk};
-ghost use Rattle.serde_json.specs.Data.{number, unsigned, string, array, object, no_members, Members, put as with_member};
+ghost use Rattle.serde_json.specs.Data.{number, unsigned, string, array, object, no_members};
+ghost use Rattle.serde_json.specs.Data.{Members, put as with_member};
 ghost use Rattle.serde_json.specs.View.{view, items_view, members_view};
 
 use serde_json::{Map, Value, put};
@@ -30,7 +32,8 @@ pub fn with_text(
     key: &str,
     text: &str,
 ) -> Result<Map<String, Value>, AllocError>
-    ensures { (ms : Members) → IfOk members (λ old. members_view old.entries ≡ ms) → IfOk result (λ new. members_view new.entries ≡ with_member key.now (string text.now) ms) }
+    ensures { (ms : Members) → IfOk members (λ old. members_view old.entries ≡ ms)
+        → IfOk result (λ new. members_view new.entries ≡ with_member key.now (string text.now) ms) }
 {
     let mut members = members?;
     put(&mut members, alloc, key, Value::try_from_str(alloc, text)?)?;
@@ -48,7 +51,9 @@ pub fn with_integer(
     key: &str,
     integer: u64,
 ) -> Result<Map<String, Value>, AllocError>
-    ensures { (ms : Members) → IfOk members (λ old. members_view old.entries ≡ ms) → IfOk result (λ new. members_view new.entries ≡ with_member key.now (number (unsigned integer)) ms) }
+    ensures { (ms : Members) → IfOk members (λ old. members_view old.entries ≡ ms)
+        → IfOk result
+        (λ new. members_view new.entries ≡ with_member key.now (number (unsigned integer)) ms) }
 {
     let mut members = members?;
     put(&mut members, alloc, key, Value::from(integer))?;
@@ -66,7 +71,10 @@ pub fn with_items(
     key: &str,
     items: Vec<Value>,
 ) -> Result<Map<String, Value>, AllocError>
-    ensures { (ms : Members) → IfOk members (λ old. members_view old.entries ≡ ms) → IfOk result (λ new. members_view new.entries ≡ with_member key.now (array (items_view items.items)) ms) }
+    ensures { (ms : Members) → IfOk members (λ old. members_view old.entries ≡ ms)
+        → IfOk result
+        (λ new. members_view new.entries
+        ≡ with_member key.now (array (items_view items.items)) ms) }
 {
     let mut members = members?;
     put(&mut members, alloc, key, Value::Array(items))?;
@@ -79,7 +87,8 @@ pub fn with_items(
 ///
 /// `AllocError` where memory was refused at a step before.
 pub fn object_of(members: Result<Map<String, Value>, AllocError>) -> Result<Value, AllocError>
-    ensures { (ms : Members) → IfOk members (λ old. members_view old.entries ≡ ms) → IfOk result (λ value. view value ≡ object ms) }
+    ensures { (ms : Members) → IfOk members (λ old. members_view old.entries ≡ ms)
+        → IfOk result (λ value. view value ≡ object ms) }
 {
     Ok(Value::Object(members?))
 }

@@ -2,7 +2,8 @@
 ghost use Rattle.std.specs.Prelude.{◌≡◌, All, IfOk, map};
 ghost use Rattle.serde_json.specs.View.{view, items_view};
 ghost use Rattle.goo_notice_json.specs.Faults.{Gives};
-ghost use Rattle.goo_notice_json.specs.Parts.{part_data, IsStatedPart, part_shape, parts_shape, part_of, parts_of};
+ghost use Rattle.goo_notice_json.specs.Parts.{part_data, IsStatedPart, part_shape, parts_shape};
+ghost use Rattle.goo_notice_json.specs.Parts.{part_of, parts_of};
 
 use crate::carriers::is_carried;
 use crate::fields::range;
@@ -35,7 +36,8 @@ fn part_value(alloc: Global, part: &Part, carried: bool) -> Result<Value, AllocE
 ///
 /// `AllocError` where memory was refused.
 pub fn part_values(alloc: Global, parts: &[Part], carried: bool) -> Result<Vec<Value>, AllocError>
-    ensures values { IfOk result (λ values. map view values.items ≡ map (part_data carried) parts.now) }
+    ensures values { IfOk result
+        (λ values. map view values.items ≡ map (part_data carried) parts.now) }
     ensures limits { IfOk result (λ _. All IsStatedPart parts.now) }
 {
     let mut values = Vec::new(alloc);
@@ -45,7 +47,8 @@ pub fn part_values(alloc: Global, parts: &[Part], carried: bool) -> Result<Vec<V
     Ok(values)
 }
 
-/// Checks that a value has the keys of a part, with their kinds. Lots state their carrier as `carried` says.
+/// Checks that a value has the keys of a part, with their kinds. Lots state their carrier as
+/// `carried` says.
 #[tactic(auto, unfolding(crate::specs::Parts::part_shape))]
 fn check_part(value: &Value, carried: Option<bool>) -> Result<usize, ValueFault>
     ensures { Gives (λ n. n) result (part_shape carried (view value.now)) }
@@ -57,12 +60,14 @@ fn check_part(value: &Value, carried: Option<bool>) -> Result<usize, ValueFault>
     check_lot(lot, is_carried(carried, lot))
 }
 
-/// Checks that each value has the keys of a part, with their kinds. Lots state their carrier as `carried` says, and
-/// where it says nothing, each as it likes. The number that it gives means nothing.
+/// Checks that each value has the keys of a part, with their kinds. Lots state their carrier as
+/// `carried` says, and where it says nothing, each as it likes. The number that it gives means
+/// nothing.
 ///
 /// # Errors
 ///
-/// `Shape` where one is no object with just the keys of a part, or a value in it is of another kind.
+/// `Shape` where one is no object with just the keys of a part, or a value in it is of another
+/// kind.
 pub fn check_parts(values: &[Value], carried: Option<bool>) -> Result<usize, ValueFault>
     ensures { Gives (λ n. n) result (parts_shape carried (items_view values.now)) }
 {
@@ -86,12 +91,14 @@ fn part(value: &Value, carried: bool) -> Result<Part, ValueFault>
     })
 }
 
-/// The parts that values of that shape state; their lots state their carrier where `carried` says so.
+/// The parts that values of that shape state; their lots state their carrier where `carried` says
+/// so.
 ///
 /// # Errors
 ///
-/// `Shape` or `Field`, whichever the first faulty value in order has: `Shape` where a key is missing or its value
-/// of another kind, `Field` where a value is refused by its reader. `Memory` where an allocation was refused.
+/// `Shape` or `Field`, whichever the first faulty value in order has: `Shape` where a key is
+/// missing or its value of another kind, `Field` where a value is refused by its reader. `Memory`
+/// where an allocation was refused.
 pub fn parts(alloc: Global, values: &[Value], carried: bool) -> Result<Vec<Part>, ValueFault>
     ensures { Gives (λ parts. parts.items) result (parts_of carried (items_view values.now)) }
 {

@@ -1,7 +1,8 @@
 //! The JSON value (RFC 8259) of a notice, and its one text: what registries send one another.
 //!
-//! [`write`] makes the text; [`read`] and [`from_value`] give the notice back. No two notices share a text, and no other bytes
-//! are read as a notice: a law of `goo_notice`, over the definitions here.
+//! [`write`] makes the text; [`read`] and [`from_value`] give the notice back. No two notices share
+//! a text, and no other bytes are read as a notice: a law of `goo_notice`, over the definitions
+//! here.
 #![tactic(auto)]
 
 pub mod notice_fault;

@@ -48,10 +48,10 @@ pub fn write(alloc: Global, notice: &Notice) -> Result<Vec<u8>, Fault>
 ///
 /// # Errors
 ///
-/// `Shape` where the value or a part in it isn't an object with just the keys of a notice and values of
-/// their kinds, with a carrier in each lot in version 2 and in none in version 1; else `Field` where a value
-/// is refused by its reader, the version is neither, or the contents are no notice; `Memory` where an allocation
-/// is refused. Never `NotJson` or `Canonical`.
+/// `Shape` where the value or a part in it isn't an object with just the keys of a notice and
+/// values of their kinds, with a carrier in each lot in version 2 and in none in version 1; else
+/// `Field` where a value is refused by its reader, the version is neither, or the contents are no
+/// notice; `Memory` where an allocation is refused. Never `NotJson` or `Canonical`.
 pub fn from_value(alloc: Global, value: &Value) -> Result<Notice, NoticeFault>
     ensures { NoticeGives (λ notice. notice) result (as_notice (notice_of (view value.now))) }
 {
@@ -81,9 +81,9 @@ fn canonical(alloc: Global, notice: Notice, bytes: &[u8]) -> Result<Notice, Noti
 ///
 /// # Errors
 ///
-/// The first of these that holds: `NotJson` where the bytes are no JSON text; `Shape` and `Field` as
-/// [`from_value`] gives them; `Canonical` where the bytes state a notice, and aren't its text, as one of version 2 with
-/// electricity alone. `Memory` where an allocation is refused.
+/// The first of these that holds: `NotJson` where the bytes are no JSON text; `Shape` and `Field`
+/// as [`from_value`] gives them; `Canonical` where the bytes state a notice, and aren't its text,
+/// as one of version 2 with electricity alone. `Memory` where an allocation is refused.
 #[tactic(auto, unfolding(crate::specs::NoticeText::notice_in))]
 pub fn read(alloc: Global, bytes: &[u8]) -> Result<Notice, NoticeFault>
     ensures { NoticeGives (λ notice. notice) result (notice_in bytes.now) }

@@ -7,7 +7,11 @@ ghost use Rattle.goo_notice_json.specs.Faults.{Gives};
 ghost use Rattle.goo_notice_json.specs.Fields.{accepted, integer_in};
 ghost use Rattle.goo_notice_json.specs.Members.{of_size as of_size_stated};
 ghost use Rattle.goo_types.specs.Notice.{notice_contents};
-ghost use Rattle.goo_notice_text.specs.Notice.{are_carried as carried_test, carried_in as carried_by, version_of as version_number, notice_data, IsStatedNotice, is_notice, notice_fields_of, shaped_fields_of, notice_of};
+ghost use Rattle.goo_notice_text.specs.Notice.{are_carried as carried_test};
+ghost use Rattle.goo_notice_text.specs.Notice.{carried_in as carried_by};
+ghost use Rattle.goo_notice_text.specs.Notice.{version_of as version_number, notice_data};
+ghost use Rattle.goo_notice_text.specs.Notice.{IsStatedNotice, is_notice, notice_fields_of};
+ghost use Rattle.goo_notice_text.specs.Notice.{shaped_fields_of, notice_of};
 
 use goo_notice_json::carriers::is_other;
 use goo_notice_json::fields::{account_no, act_no, registry_code};
@@ -29,7 +33,10 @@ fn with_addressee(
     members: Result<Map<String, Value>, AllocError>,
     code: RegistryCode,
 ) -> Result<Map<String, Value>, AllocError>
-    ensures { (ms : Members) → IfOk members (λ old. members_view old.entries ≡ ms) → IfOk result (λ new. members_view new.entries ≡ with_member (codes "addressee") (number (unsigned code)) ms) }
+    ensures { (ms : Members) → IfOk members (λ old. members_view old.entries ≡ ms)
+        → IfOk result
+        (λ new. members_view new.entries
+        ≡ with_member (codes "addressee") (number (unsigned code)) ms) }
 {
     with_integer(alloc, members, "addressee", u64::from(code.get()))
 }
@@ -54,7 +61,10 @@ fn with_version(
     members: Result<Map<String, Value>, AllocError>,
     carried: bool,
 ) -> Result<Map<String, Value>, AllocError>
-    ensures { (ms : Members) → IfOk members (λ old. members_view old.entries ≡ ms) → IfOk result (λ new. members_view new.entries ≡ with_member (codes "version") (number (unsigned (version_number carried))) ms) }
+    ensures { (ms : Members) → IfOk members (λ old. members_view old.entries ≡ ms)
+        → IfOk result
+        (λ new. members_view new.entries
+        ≡ with_member (codes "version") (number (unsigned (version_number carried))) ms) }
 {
     with_integer(alloc, members, "version", version_of(carried))
 }
@@ -167,9 +177,10 @@ fn shaped_fields(
 ///
 /// # Errors
 ///
-/// `Shape` where the value or a part in it isn't an object with just the keys of a notice and values of their
-/// kinds, with a carrier in each lot in version 2 and in none in version 1; else `Field` where a value is refused by its
-/// reader, the version is neither, or the contents are no notice; `Memory` where an allocation was refused.
+/// `Shape` where the value or a part in it isn't an object with just the keys of a notice and
+/// values of their kinds, with a carrier in each lot in version 2 and in none in version 1; else
+/// `Field` where a value is refused by its reader, the version is neither, or the contents are no
+/// notice; `Memory` where an allocation was refused.
 #[tactic(auto, unfolding(crate::specs::Notice::notice_of))]
 pub fn stated_notice(alloc: Global, value: &Value) -> Result<Notice, ValueFault>
     ensures { Gives (λ notice. notice) result (notice_of (view value.now)) }

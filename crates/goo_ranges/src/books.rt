@@ -23,7 +23,8 @@ use std::marker::Model;
 
 mod changes;
 
-/// The pieces of a book: in the list that it was handed, or in pages, from the first edit of a long list on.
+/// The pieces of a book: in the list that it was handed, or in pages, from the first edit of a long
+/// list on.
 #[derive(Drop)]
 enum Kept {
     /// In one list.
@@ -33,8 +34,8 @@ enum Kept {
 }
 
 /// Pieces that rise and have no number in common, seen as the map that they give: from certificate
-/// numbers to lots and places. Look-ups search the pieces by halves; an edit moves the pieces of the pages
-/// that it meets, and the list of pages.
+/// numbers to lots and places. Look-ups search the pieces by halves; an edit moves the pieces of
+/// the pages that it meets, and the list of pages.
 #[derive(Drop)]
 pub struct Book {
     kept: Kept,
@@ -57,8 +58,9 @@ impl Book {
     ///
     /// # Errors
     ///
-    /// At the least index at fault: `Backwards` where that piece runs backwards or has two codes, else `Overlap` where
-    /// it begins at or before the end of the piece before it. The pieces are dropped.
+    /// At the least index at fault: `Backwards` where that piece runs backwards or has two codes,
+    /// else `Overlap` where it begins at or before the end of the piece before it. The pieces are
+    /// dropped.
     pub fn new(pieces: Vec<Piece>) -> Result<Self, BookFault>
         ensures ok { IfOk result (λ book. book ≡ pieces.items) }
         ensures sound { IfOk result IsRising }
@@ -128,8 +130,8 @@ impl Book {
         }
     }
 
-    /// The least number of the range whose lot and place fail the test; None where none fails. Numbers
-    /// that the book lacks are passed over. The test is called at most once a piece.
+    /// The least number of the range whose lot and place fail the test; None where none fails.
+    /// Numbers that the book lacks are passed over. The test is called at most once a piece.
     pub fn least_not<F: Fn(Lot, Place) -> bool + Drop>(
         &self,
         range: Range,
@@ -137,7 +139,8 @@ impl Book {
     ) -> Option<Number>
         requires { F.IsAlwaysCallable test }
         ensures { (passes : LotFields → Place → Bool)
-            → ((lot : LotFields) (place : Place) (answer : Bool) → F.post test lot place answer → answer ≡ passes lot place)
+            → ((lot : LotFields) (place : Place) (answer : Bool) → F.post test lot place answer
+            → answer ≡ passes lot place)
             → result ≡ least_failing passes (at_of self.now) (each range) }
     {
         let (first, last) = (range.first(), range.last());
@@ -147,15 +150,17 @@ impl Book {
         }
     }
 
-    /// The maximal ranges of consecutive numbers with one lot and one place, rising: no list of ranges that gives the
-    /// same map is shorter.
+    /// The maximal ranges of consecutive numbers with one lot and one place, rising: no list of
+    /// ranges that gives the same map is shorter.
     ///
     /// # Errors
     ///
     /// `Memory` where an allocation was refused.
     pub fn runs(&self) -> Result<Vec<Piece>, Fault>
         ensures runs { IfOk result (λ runs. AreRunsOf (at_of self.now) runs.items) }
-        ensures fewest { IfOk result (λ runs. (ranges : List Piece) → Gives ranges (at_of self.now) → length runs.items ≤ length ranges) }
+        ensures fewest { IfOk result
+            (λ runs. (ranges : List Piece) → Gives ranges (at_of self.now)
+            → length runs.items ≤ length ranges) }
         ensures err { IfErr result (λ fault. fault ≡ Fault.Memory) }
     {
         match &self.kept {
@@ -164,8 +169,8 @@ impl Book {
         }
     }
 
-    /// The maximal ranges of consecutive numbers whose places name one account, whatever their lots, rising: each as a
-    /// piece that this account holds. All have one lot, which says nothing.
+    /// The maximal ranges of consecutive numbers whose places name one account, whatever their
+    /// lots, rising: each as a piece that this account holds. All have one lot, which says nothing.
     ///
     /// # Errors
     ///

@@ -51,7 +51,8 @@ fn last_number(pieces: &[Piece], otherwise: u64) -> u64
 /// `AllocError` where memory was refused.
 pub fn set_pieces(alloc: Global, replaced: &[Piece], new: &Piece) -> Result<Vec<Piece>, AllocError>
     requires { IsRising replaced.now }
-    ensures { IfOk result (λ out. IsSet new.now.first new.now.last (label_of new.now) replaced.now out.items) }
+    ensures { IfOk result
+        (λ out. IsSet new.now.first new.now.last (label_of new.now) replaced.now out.items) }
 {
     let first = new.first.get();
     let last = new.last.get();
@@ -63,8 +64,8 @@ pub fn set_pieces(alloc: Global, replaced: &[Piece], new: &Piece) -> Result<Vec<
     Ok(out)
 }
 
-/// Puts other pieces in the place of those from the index `from` on and below `to`. What stands before stays where it
-/// is.
+/// Puts other pieces in the place of those from the index `from` on and below `to`. What stands
+/// before stays where it is.
 ///
 /// # Errors
 ///
@@ -77,7 +78,9 @@ pub fn put_between(
 ) -> Result<(), AllocError>
     requires order { from ≤ to }
     requires bound { to ≤ length pieces.old.items }
-    ensures ok { OnOk result (pieces.new.items ≡ take from pieces.old.items ++ (more.items ++ drop to pieces.old.items)) }
+    ensures ok { OnOk result
+        (pieces.new.items
+        ≡ take from pieces.old.items ++ (more.items ++ drop to pieces.old.items)) }
     ensures err { OnErr result (pieces.new.items ≡ pieces.old.items) }
 {
     pieces.splice(from..to, more)?;

@@ -24,7 +24,8 @@ impl Edit {
     /// `AllocError` where memory was refused.
     pub fn of_move(alloc: Global, row: &Piece, place: Place) -> Result<Edit, AllocError>
         ensures deleted { IfOk result (λ edit. edit.delete.items ≡ row.now.first ∷ []) }
-        ensures inserted { IfOk result (λ edit. edit.insert.items ≡ record row.now { place = place } ∷ []) }
+        ensures inserted { IfOk result
+            (λ edit. edit.insert.items ≡ record row.now { place = place } ∷ []) }
     {
         let mut delete = Vec::new(alloc);
         delete.push(row.first)?;

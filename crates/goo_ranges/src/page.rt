@@ -1,7 +1,8 @@
 //! A page: rising pieces with no number in common in one list, seen as the map that they give.
 
 ghost use Rattle.std.specs.declared.alloc.Global.{Global as Memory};
-ghost use Rattle.std.specs.Prelude.{◌≡◌, List, ◌≤◌, length, nat_le, nat_lt, find, is_some, suc, Bool, IfOk, IfErr};
+ghost use Rattle.std.specs.Prelude.{◌≡◌, List, ◌≤◌, length, nat_le, nat_lt, find, is_some, suc};
+ghost use Rattle.std.specs.Prelude.{Bool, IfOk, IfErr};
 ghost use Rattle.goo_types.specs.declared.lot_fields.LotFields.{LotFields};
 ghost use Rattle.goo_types.specs.declared.piece.Piece.{Piece};
 ghost use Rattle.goo_types.specs.declared.place.Place.{Place};
@@ -27,8 +28,8 @@ use std::marker::Model;
 mod accounts;
 mod changes;
 
-/// Pieces that rise and have no number in common, in one list. Look-ups search the pieces by halves; an
-/// edit moves the pieces behind it.
+/// Pieces that rise and have no number in common, in one list. Look-ups search the pieces by
+/// halves; an edit moves the pieces behind it.
 #[derive(Drop)]
 pub struct Page {
     pieces: Vec<Piece>,
@@ -51,8 +52,9 @@ impl Page {
     ///
     /// # Errors
     ///
-    /// At the least index at fault: `Backwards` where that piece runs backwards or has two codes, else `Overlap` where
-    /// it begins at or before the end of the piece before it. The pieces are dropped.
+    /// At the least index at fault: `Backwards` where that piece runs backwards or has two codes,
+    /// else `Overlap` where it begins at or before the end of the piece before it. The pieces are
+    /// dropped.
     pub fn new(pieces: Vec<Piece>) -> Result<Self, BookFault>
         ensures ok { IfOk result (λ book. book ≡ pieces.items) }
         ensures sound { IfOk result IsRising }
@@ -106,8 +108,8 @@ impl Page {
         *self.pieces.allocator()
     }
 
-    /// Whether its last number and the one behind that are below a number. Where it has no piece, whether the
-    /// number is above 0.
+    /// Whether its last number and the one behind that are below a number. Where it has no piece,
+    /// whether the number is above 0.
     pub fn ends_before(&self, number: u64) -> bool
         ensures { result ≡ nat_lt (end_of 0 self.now) number }
     {
@@ -177,7 +179,8 @@ impl Page {
         requires forward { first ≤ last }
         requires callable { F.IsAlwaysCallable test }
         ensures { (passes : LotFields → Place → Bool)
-            → ((lot : LotFields) (place : Place) (answer : Bool) → F.post test lot place answer → answer ≡ passes lot place)
+            → ((lot : LotFields) (place : Place) (answer : Bool) → F.post test lot place answer
+            → answer ≡ passes lot place)
             → result ≡ least_failing passes (at_of self.now) (span first (suc last)) }
     {
         for piece in self.reaching(first.get()) {
@@ -191,15 +194,17 @@ impl Page {
         None
     }
 
-    /// The maximal ranges of consecutive numbers with one lot and one place, rising: no list of ranges that gives the
-    /// same map is shorter.
+    /// The maximal ranges of consecutive numbers with one lot and one place, rising: no list of
+    /// ranges that gives the same map is shorter.
     ///
     /// # Errors
     ///
     /// `Memory` where an allocation was refused.
     pub fn runs(&self) -> Result<Vec<Piece>, Fault>
         ensures runs { IfOk result (λ runs. AreRunsOf (at_of self.now) runs.items) }
-        ensures fewest { IfOk result (λ runs. (ranges : List Piece) → Gives ranges (at_of self.now) → length runs.items ≤ length ranges) }
+        ensures fewest { IfOk result
+            (λ runs. (ranges : List Piece) → Gives ranges (at_of self.now)
+            → length runs.items ≤ length ranges) }
         ensures err { IfErr result (λ fault. fault ≡ Fault.Memory) }
     {
         let mut runs = Vec::new(*self.pieces.allocator());

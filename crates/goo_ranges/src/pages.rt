@@ -1,6 +1,7 @@
 //! Look-ups in pieces that are kept in pages.
 
-ghost use Rattle.std.specs.Prelude.{◌≡◌, ◌+◌, ◌<◌, ◌≤◌, [], length, take, drop, get_or, find, is_some, suc, Bool, IfOk};
+ghost use Rattle.std.specs.Prelude.{◌≡◌, ◌+◌, ◌<◌, ◌≤◌, [], length, take, drop, get_or, find};
+ghost use Rattle.std.specs.Prelude.{is_some, suc, Bool, IfOk};
 ghost use Rattle.goo_types.specs.declared.lot_fields.LotFields.{LotFields};
 ghost use Rattle.goo_types.specs.declared.place.Place.{Place};
 ghost use Rattle.goo_types.specs.Number.{code_of};
@@ -124,7 +125,8 @@ pub fn least_not_in<F: Fn(Lot, Place) -> bool + Drop>(
     requires forward { first ≤ last }
     requires callable { F.IsAlwaysCallable test }
     ensures { (passes : LotFields → Place → Bool)
-        → ((lot : LotFields) (place : Place) (answer : Bool) → F.post test lot place answer → answer ≡ passes lot place)
+        → ((lot : LotFields) (place : Place) (answer : Bool) → F.post test lot place answer
+        → answer ≡ passes lot place)
         → result ≡ least_failing passes (at_of (joined pages.now)) (span first (suc last)) }
 {
     for page in reaching(pages, first) {

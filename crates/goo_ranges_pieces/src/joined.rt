@@ -44,7 +44,8 @@ pub fn push_joined(pieces: &mut Vec<Piece>, piece: Piece) -> Result<(), AllocErr
 /// `AllocError` where memory was refused.
 pub fn push_part(pieces: &mut Vec<Piece>, part: Option<Piece>) -> Result<(), AllocError>
     requires { IsRising (pieces.old.items ++ option_to_list part) }
-    ensures joined { OnOk result (IsJoining (pieces.old.items ++ option_to_list part) pieces.new.items) }
+    ensures joined { OnOk result
+        (IsJoining (pieces.old.items ++ option_to_list part) pieces.new.items) }
     ensures apart { OnOk result (IsApart pieces.old.items → IsApart pieces.new.items) }
 {
     match part {
@@ -53,7 +54,8 @@ pub fn push_part(pieces: &mut Vec<Piece>, part: Option<Piece>) -> Result<(), All
     }
 }
 
-/// The pieces with those of their numbers that the range has at the place, and neighbours of one lot and place joined.
+/// The pieces with those of their numbers that the range has at the place, and neighbours of one
+/// lot and place joined.
 ///
 /// # Errors
 ///
@@ -67,7 +69,8 @@ pub fn moved_pieces(
 ) -> Result<Vec<Piece>, AllocError>
     requires rising { IsRising touched.now }
     requires forward { first ≤ last }
-    ensures moved { IfOk result (λ out. IsChanged (moved first last place.now) (cuts first last) touched.now out.items) }
+    ensures moved { IfOk result
+        (λ out. IsChanged (moved first last place.now) (cuts first last) touched.now out.items) }
     ensures apart { IfOk result (λ out. IsApart out.items) }
 {
     let first = first.get();

@@ -8,7 +8,8 @@ use goo_types::number::Number;
 use goo_types::piece::Piece;
 use goo_types::place::Place;
 
-/// The part of a piece whose numbers are from `low` to `high`, at a place; None where there is none.
+/// The part of a piece whose numbers are from `low` to `high`, at a place; None where there is
+/// none.
 pub fn part(piece: &Piece, low: u64, high: u64, place: Place) -> Option<Piece>
     requires { IsForward piece.now }
     ensures { IsPart piece.now low high place result }

@@ -24,7 +24,8 @@ fn is_near(row: &Piece, range: &Range) -> bool
 /// Puts in those of some rows that are near the range.
 fn put_in_near(rows: &mut Vec<Piece>, more: &[Piece], range: &Range) -> Result<(), AllocError>
     requires sorted { IsNonDecreasingBy (λ p. p.first) rows.old.items }
-    ensures rows { OnOk result (rows.new.items ≡ with_each (meeting range.now more.now) rows.old.items) }
+    ensures rows { OnOk result
+        (rows.new.items ≡ with_each (meeting range.now more.now) rows.old.items) }
     ensures sorted { OnOk result (IsNonDecreasingBy (λ p. p.first) rows.new.items) }
 {
     for row in more {
@@ -35,8 +36,8 @@ fn put_in_near(rows: &mut Vec<Piece>, more: &[Piece], range: &Range) -> Result<(
     Ok(())
 }
 
-/// The rows near a range as some edits, in their order, leave them, from the rows near it before. It costs the rows of
-/// the edits, each looked at once.
+/// The rows near a range as some edits, in their order, leave them, from the rows near it before.
+/// It costs the rows of the edits, each looked at once.
 ///
 /// # Errors
 ///

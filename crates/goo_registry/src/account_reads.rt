@@ -26,7 +26,8 @@ fn find_account<S: Shelf>(
     caller: &HolderCode,
     account: AccountNo,
 ) -> Result<Result<Account, Denial>, Fault>
-    ensures { Looks (S.seen shelf.old) (S.seen shelf.new) result (IsAccountShown (S.seen shelf.old).state caller.now account) }
+    ensures { Looks (S.seen shelf.old) (S.seen shelf.new) result
+        (IsAccountShown (S.seen shelf.old).state caller.now account) }
 {
     let found = shelf.account(account)?;
     if let Some(denial) = account_denial(caller, &found) {
@@ -42,15 +43,16 @@ fn find_account<S: Shelf>(
 ///
 /// # Errors
 ///
-/// `Store` where the shelf answers it, `Memory` where memory was refused. State and rows stay as they are. Within
-/// an answer, `NotAllowed` to a caller who is neither the issuing body nor the account's holder, and `Unknown` to
-/// the issuing body for an account that isn't there.
+/// `Store` where the shelf answers it, `Memory` where memory was refused. State and rows stay as
+/// they are. Within an answer, `NotAllowed` to a caller who is neither the issuing body nor the
+/// account's holder, and `Unknown` to the issuing body for an account that isn't there.
 pub fn find_heading<S: Shelf>(
     shelf: &mut S,
     caller: &HolderCode,
     account: AccountNo,
 ) -> Result<Result<Heading, Denial>, Fault>
-    ensures { Looks (S.seen shelf.old) (S.seen shelf.new) result (IsHeadingShown (S.seen shelf.old).state caller.now account) }
+    ensures { Looks (S.seen shelf.old) (S.seen shelf.new) result
+        (IsHeadingShown (S.seen shelf.old).state caller.now account) }
 {
     let row = match find_account(shelf, caller, account)? {
         Ok(row) => row,
@@ -66,28 +68,36 @@ pub fn find_heading<S: Shelf>(
     }))
 }
 
-/// The first run of an account's certificates after what was read, or why it isn't shown. The place then lies after it,
-/// and where it lay if there is none.
+/// The first run of an account's certificates after what was read, or why it isn't shown. The place
+/// then lies after it, and where it lay if there is none.
 ///
 /// # Errors
 ///
-/// `Store` where the shelf answers it, `Memory` where memory was refused. State, rows and place stay as they are. Within
-/// an answer, `NotAllowed` to a caller who is neither the issuing body nor the account's holder, and `Unknown` to
-/// the issuing body for an account that isn't there.
+/// `Store` where the shelf answers it, `Memory` where memory was refused. State, rows and place
+/// stay as they are. Within an answer, `NotAllowed` to a caller who is neither the issuing body nor
+/// the account's holder, and `Unknown` to the issuing body for an account that isn't there.
 pub fn find_next_run<S: Shelf>(
     shelf: &mut S,
     caller: &HolderCode,
     account: AccountNo,
     place: &mut RunPlace,
 ) -> Result<Result<Option<Piece>, Denial>, Fault>
-    requires rows { (S.seen shelf.old).doubts ≡ 0 → AreRowsOf (S.seen shelf.old).state.at (S.seen shelf.old).rows }
+    requires rows { (S.seen shelf.old).doubts ≡ 0
+        → AreRowsOf (S.seen shelf.old).state.at (S.seen shelf.old).rows }
     requires sound { (S.seen shelf.old).doubts ≡ 0 → IsSound (S.seen shelf.old).state }
-    ensures looks { Looks (S.seen shelf.old) (S.seen shelf.new) result (IsRunRead (S.seen shelf.old) caller.now account place.old) }
-    ensures begins { IfOk result (λ shown. IfOk shown (λ found. IfSome found (BeginsFrom (from_of place.old.after)))) }
-    ensures place { IfOk result (λ shown. IfOk shown (λ found. IsPlaceAfter place.old found place.new)) }
+    ensures looks { Looks (S.seen shelf.old) (S.seen shelf.new) result
+        (IsRunRead (S.seen shelf.old) caller.now account place.old) }
+    ensures begins { IfOk result
+        (λ shown. IfOk shown (λ found. IfSome found (BeginsFrom (from_of place.old.after)))) }
+    ensures place { IfOk result
+        (λ shown. IfOk shown (λ found. IsPlaceAfter place.old found place.new)) }
     ensures denied { IfOk result (λ shown. OnErr shown (place.new ≡ place.old)) }
     ensures stays { OnErr result (place.new ≡ place.old) }
-    ensures ahead { (S.seen shelf.new).doubts ≡ 0 → IfOk result (λ shown. IfOk shown (λ found. IfSome found (λ run. IsSeen account (Some run.last) (S.seen shelf.old).rows place.new.ahead))) }
+    ensures ahead { (S.seen shelf.new).doubts ≡ 0
+        → IfOk result
+        (λ shown. IfOk shown
+        (λ found. IfSome found
+        (λ run. IsSeen account (Some run.last) (S.seen shelf.old).rows place.new.ahead))) }
 {
     if let Err(denial) = find_account(shelf, caller, account)? {
         return Ok(Err(denial));

@@ -18,8 +18,9 @@ pub trait Desk {
     /// Whether the next opening may find this state, or none, where a crash comes at this moment.
     ghost leaves: { Self → Option State → Type 0 };
 
-    /// Applies one request: the whole of it, or nothing where it is refused or a fault comes. A crash then finds the state before
-    /// the request or the one after it, whatever is answered; after an outcome it finds the one after it (`settled`).
+    /// Applies one request: the whole of it, or nothing where it is refused or a fault comes. A
+    /// crash then finds the state before the request or the one after it, whatever is answered;
+    /// after an outcome it finds the one after it (`settled`).
     fn apply(&mut self, alloc: Global, request: &Request) -> Result<Outcome, Fault>
         ensures applies { Applies (seen self.old) (seen self.new) request.now result }
         ensures crash { (seen self.new).lies ≡ 0 → (seen self.old).doubts ≡ 0

@@ -1,7 +1,8 @@
 //! Certificates counted by class: by technology, by month, by country, or by whatever a lot states.
 //!
-//! `specs/Classes.antt` says of a list of requests that was answered that the own certificates of each class are those that there were and
-//! those that were issued, and that each of them is held, cancelled, expired, withdrawn or exported. It is a clause of `Registry::run`.
+//! `specs/Classes.antt` says of a list of requests that was answered that the own certificates of
+//! each class are those that there were and those that were issued, and that each of them is held,
+//! cancelled, expired, withdrawn or exported. It is a clause of `Registry::run`.
 #![tactic(auto)]
 
 ghost use Rattle.goo_spec_classes.specs.Classes.{AlwaysAddUp};

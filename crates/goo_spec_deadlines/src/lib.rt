@@ -1,7 +1,8 @@
-//! What the dates of a lot rule: nothing is given or exported once trade is closed, nothing is cancelled or held once it is over, and nothing
-//! expires before it is.
+//! What the dates of a lot rule: nothing is given or exported once trade is closed, nothing is
+//! cancelled or held once it is over, and nothing expires before it is.
 //!
-//! `specs/Deadlines.antt` says it of a list of requests that was answered. It is a clause of `Registry::run`.
+//! `specs/Deadlines.antt` says it of a list of requests that was answered. It is a clause of
+//! `Registry::run`.
 #![tactic(auto)]
 
 ghost use Rattle.goo_spec_deadlines.specs.Deadlines.{AlwaysInTime};

@@ -1,6 +1,8 @@
-//! What never changes again: places that are final, serials, lots, receipts and the records of acts.
+//! What never changes again: places that are final, serials, lots, receipts and the records of
+//! acts.
 //!
-//! `specs/Final.antt` says it of a list of requests that was answered. It is a clause of `Registry::run`.
+//! `specs/Final.antt` says it of a list of requests that was answered. It is a clause of
+//! `Registry::run`.
 #![tactic(auto)]
 
 ghost use Rattle.goo_spec_final.specs.Final.{NeverAgain};

@@ -37,11 +37,11 @@ module _ (s : State) (rows : List Piece) (at : s.at ≡ certificates_of rows) (r
   one_device device =
       λ i. record {
         device = device;
-        declared = total s device;
+        declared_wh = total s device;
         corrected_wh = lowered s device;
         issued = were_issued device i;
-        corrected = were_corrected device i;
-        carry = carry s device;
+        withdrawn_certificates = were_corrected device i;
+        carry_wh = carry s device;
       }
 
   -- the sums over the rows are the totals of the state
@@ -58,11 +58,11 @@ module _ (own : ℕ) (ds : List Declare) (cs : List Correction) (rows : List Pie
   told_one : AreDeclaredBy ds declared → AreTakenBy cs taken → IsTallyOf own cs rows tally → (device : List ℕ) → total_in declared taken.lowered tally device ≡ summed_for own ds cs rows device
   told_one are took counts device = λ i. record {
     device = device;
-    declared = are device i;
+    declared_wh = are device i;
     corrected_wh = took.lowered device i;
     issued = counts.issued device i;
-    corrected = counts.corrected device i;
-    carry = (are device i - took.lowered device i) % certificate;
+    withdrawn_certificates = counts.corrected device i;
+    carry_wh = (are device i - took.lowered device i) % certificate;
   }
 
   pub told_each : AreDeclaredBy ds declared → AreTakenBy cs taken → IsTallyOf own cs rows tally → (devices : List (List ℕ)) → map (total_in declared taken.lowered tally) devices ≡ map (summed_for own ds cs rows) devices

@@ -1,6 +1,7 @@
 //! Rows of an account that are read ahead of the look-ups that walk along them.
 
-ghost use Rattle.std.specs.Prelude.{◌≡◌, ◌+◌, ◌&&◌, All, IfOk, IfSome, IsTrue, List, Some, map, nat_lt, take};
+ghost use Rattle.std.specs.Prelude.{◌≡◌, ◌+◌, ◌&&◌, All, IfOk, IfSome, IsTrue, List, Some, map};
+ghost use Rattle.std.specs.Prelude.{nat_lt, take};
 ghost use Rattle.std.specs.List.{filter};
 ghost use Rattle.goo_types.specs.Piece.{IsRising};
 ghost use Rattle.goo_types.specs.declared.piece.Piece.{Piece};

@@ -1,6 +1,7 @@
 //! The numbers of all devices, sorted.
 
-ghost use Rattle.std.specs.Prelude.{◌≡◌, ℕ, ◌++◌, [], ◌∷◌, None, pos, IfOk, IsOkUnless, IsTrue, OnOk, List, map};
+ghost use Rattle.std.specs.Prelude.{◌≡◌, ℕ, ◌++◌, [], ◌∷◌, None, pos, IfOk, IsOkUnless, IsTrue};
+ghost use Rattle.std.specs.Prelude.{OnOk, List, map};
 ghost use Rattle.std.specs.FinMap.{get, from_entries, keys as keys_of};
 ghost use Rattle.std.specs.BTreeMap.{keys as tree_keys, IsOrdered};
 ghost use Rattle.goo_spec.specs.State.{text_cmp, Device as Known};

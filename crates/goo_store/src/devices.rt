@@ -1,6 +1,7 @@
 //! Devices, as they are found.
 
-ghost use Rattle.std.specs.Prelude.{◌≡◌, pos, is_ok, Some, IfOk, IfSome, IsOk, IsTrue, option_map, string_bytes};
+ghost use Rattle.std.specs.Prelude.{◌≡◌, pos, is_ok, Some, IfOk, IfSome, IsOk, IsTrue, option_map};
+ghost use Rattle.std.specs.Prelude.{string_bytes};
 ghost use Rattle.std.specs.FinMap.{get};
 ghost use Rattle.goo_tables_rows.specs.Rows.{device_in};
 ghost use Rattle.goo_core_shelf.specs.Shelf.{Looks, progress_of, IsRecordOf};

@@ -1,7 +1,8 @@
 //! Rows that are looked up one at a time: the next one of an account, and the next one that
 //! expires.
 
-ghost use Rattle.std.specs.Prelude.{◌≡◌, ◌↔◌, ◌⊎◌, ◌+◌, ◌<◌, ◌^◌, All, false, find, map, option_map, IfSome, IsOkAnd, IsSomeAnd, IsTrue, Some, take};
+ghost use Rattle.std.specs.Prelude.{◌≡◌, ◌↔◌, ◌⊎◌, ◌+◌, ◌<◌, ◌^◌, All, false, find, map};
+ghost use Rattle.std.specs.Prelude.{option_map, IfSome, IsOkAnd, IsSomeAnd, IsTrue, Some, take};
 ghost use Rattle.std.specs.List.{filter};
 ghost use Rattle.sqlite.specs.Held.{state as view};
 ghost use Rattle.goo_types.specs.Piece.{IsForward};

@@ -1,6 +1,7 @@
 //! Rows of `piece` beside their lots, as pieces.
 
-ghost use Rattle.std.specs.Prelude.{◌≡◌, ◌+◌, ◌++◌, ◌↔◌, [], ◌∷◌, All, IfErr, IfOk, IfSome, IsOk, IsOkUnless, OnOk, IsTrue, Some, map, option_map};
+ghost use Rattle.std.specs.Prelude.{◌≡◌, ◌+◌, ◌++◌, ◌↔◌, [], ◌∷◌, All, IfErr, IfOk, IfSome, IsOk};
+ghost use Rattle.std.specs.Prelude.{IsOkUnless, OnOk, IsTrue, Some, map, option_map};
 ghost use Rattle.std.specs.List.{cons_option};
 ghost use Rattle.goo_types.specs.Piece.{IsRising};
 ghost use Rattle.goo_core_shelf.specs.Rows.{EndsFrom};

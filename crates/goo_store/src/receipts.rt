@@ -1,6 +1,7 @@
 //! Receipts, as they are found.
 
-ghost use Rattle.std.specs.Prelude.{◌≡◌, ◌==◌, ◌&&◌, ◌||◌, pos, is_ok, IfOk, IfSome, IsOk, IsOkUnless, IsTrue, option_map};
+ghost use Rattle.std.specs.Prelude.{◌≡◌, ◌==◌, ◌&&◌, ◌||◌, pos, is_ok, IfOk, IfSome, IsOk};
+ghost use Rattle.std.specs.Prelude.{IsOkUnless, IsTrue, option_map};
 ghost use Rattle.std.specs.FinMap.{get};
 ghost use Rattle.goo_notice.specs.Law.{command_in};
 ghost use Rattle.goo_spec.specs.Step.{is_kept};

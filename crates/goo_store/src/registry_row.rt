@@ -1,6 +1,7 @@
 //! The registry itself, as its row tells of it.
 
-ghost use Rattle.std.specs.Prelude.{◌≡◌, Some, option_map, IfErr, IfOk, IfSome, IsOk, IsSomeAnd, IsTrue};
+ghost use Rattle.std.specs.Prelude.{◌≡◌, Some, option_map, IfErr, IfOk, IfSome, IsOk, IsSomeAnd};
+ghost use Rattle.std.specs.Prelude.{IsTrue};
 ghost use Rattle.goo_tables_rows.specs.Rows.{Tables, meta_in};
 ghost use Rattle.goo_core_shelf.specs.Counters.{counters_of};
 ghost use Rattle.goo_core_shelf.specs.Meta.{meta_of};

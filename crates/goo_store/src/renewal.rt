@@ -10,7 +10,8 @@ pub trait Renewal {
     ghost use Rattle.sqlite.specs.Held.{state as view};
     ghost use Rattle.goo_store.specs.FirstTables.{HoldsFirst};
 
-    /// It begins: the database holds tables of version 1 which keep the rules of their version, and nothing is changed yet.
+    /// It begins: the database holds tables of version 1 which keep the rules of their version, and
+    /// nothing is changed yet.
     fn begins<S: Alter>(&mut self, conn: &Connection<S>)
         requires first { HoldsFirst (view S.Store conn.now) };
 }

@@ -1,6 +1,7 @@
 //! The rows of a registry's certificates, as they are found.
 
-ghost use Rattle.std.specs.Prelude.{◌≡◌, ◌+◌, ◌<◌, ◌^◌, ◌&&◌, IfOk, IfSome, Some, find, reverse, nat_le, nat_lt};
+ghost use Rattle.std.specs.Prelude.{◌≡◌, ◌+◌, ◌<◌, ◌^◌, ◌&&◌, IfOk, IfSome, Some, find, reverse};
+ghost use Rattle.std.specs.Prelude.{nat_le, nat_lt};
 ghost use Rattle.std.specs.List.{filter};
 ghost use Rattle.goo_types.specs.Piece.{IsRising};
 ghost use Rattle.goo_ranges_rows.specs.Rows.{meeting as near};

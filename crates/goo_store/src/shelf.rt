@@ -41,8 +41,10 @@ impl<S: Alter> Shelf for SqlShelf<S> {
     ghost use Rattle.goo_core_shelf.specs.Counters.{counters_of};
     ghost use Rattle.goo_core_shelf.specs.Meta.{meta_of};
     ghost use Rattle.goo_spec_runs.specs.NextRun.{from_of};
-    ghost use Rattle.goo_core_shelf.specs.Rows.{naming_account, next_row, next_expiring_row, EndsFrom};
-    ghost use Rattle.goo_core_shelf.specs.Shelf.{Looks, progress_of, IsRecordOf, receipt_of, arrival_of, totals_of};
+    ghost use Rattle.goo_core_shelf.specs.Rows.{naming_account, next_row, next_expiring_row};
+    ghost use Rattle.goo_core_shelf.specs.Rows.{EndsFrom};
+    ghost use Rattle.goo_core_shelf.specs.Shelf.{Looks, progress_of, IsRecordOf, receipt_of};
+    ghost use Rattle.goo_core_shelf.specs.Shelf.{arrival_of, totals_of};
     ghost use Rattle.goo_core_shelf.specs.Plan.{Fits, Commits};
     ghost use Rattle.goo_store.specs.Gathering.{CanCarryOut};
     ghost use Rattle.goo_store_lookups.specs.Holding.{safe, sure};

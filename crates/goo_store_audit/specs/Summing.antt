@@ -16,22 +16,22 @@ use Rattle.goo_store_audit.specs.declared.tallies.Tally.{Tally}
 abbrev pub summed_for : ℕ → List Declare → List Correction → List Piece → List ℕ → DeviceTotals
 summed_for own declared corrections rows device = record {
   device = device;
-  declared = sum_by (net_of device) declared;
+  declared_wh = sum_by (net_of device) declared;
   corrected_wh = sum_by (less_of device) corrections;
   issued = sum_by (issued_in own device) rows;
-  corrected = sum_by (corrected_in own device corrections) rows;
-  carry = (sum_by (net_of device) declared - sum_by (less_of device) corrections) % certificate;
+  withdrawn_certificates = sum_by (corrected_in own device corrections) rows;
+  carry_wh = (sum_by (net_of device) declared - sum_by (less_of device) corrections) % certificate;
 }
 
 -- the same as sums that are kept by device tell it: what was declared, what was taken off, and the certificates
 abbrev pub total_in : BTreeMap (List ℕ) ℕ → BTreeMap (List ℕ) ℕ → Tally → List ℕ → DeviceTotals
 total_in declared lowered tally device = record {
   device = device;
-  declared = sum_at declared device;
+  declared_wh = sum_at declared device;
   corrected_wh = sum_at lowered device;
   issued = sum_at tally.issued device;
-  corrected = sum_at tally.corrected device;
-  carry = (sum_at declared device - sum_at lowered device) % certificate;
+  withdrawn_certificates = sum_at tally.corrected device;
+  carry_wh = (sum_at declared device - sum_at lowered device) % certificate;
 }
 
 -- these are the sums of each device's declarations

@@ -1,7 +1,9 @@
 //! The net energy that each device declared, added up row by row.
 
-ghost use Rattle.std.specs.Prelude.{◌≡◌, ◌+◌, ◌≤◌, ◌<◌, ◌^◌, List, [], ◌∷◌, map, IfOk, IsOk, OnOk, IsOkUnless};
-ghost use Rattle.goo_store_audit.specs.NetCounting.{number_after, end_of_nets, AreNets, AreNetsAdded, IsNet, IsSumBelow};
+ghost use Rattle.std.specs.Prelude.{◌≡◌, ◌+◌, ◌≤◌, ◌<◌, ◌^◌, List, [], ◌∷◌, map, IfOk, IsOk, OnOk};
+ghost use Rattle.std.specs.Prelude.{IsOkUnless};
+ghost use Rattle.goo_store_audit.specs.NetCounting.{number_after, end_of_nets, AreNets};
+ghost use Rattle.goo_store_audit.specs.NetCounting.{AreNetsAdded, IsNet, IsSumBelow};
 ghost use Rattle.goo_store_values.specs.Passing.{Accepts, Passes};
 ghost use Rattle.goo_store_values.specs.declared.trouble.Trouble.TheVariants.{Memory};
 ghost use Rattle.goo_tables_pages.specs.NetRows.{net_in};

@@ -45,15 +45,15 @@ fn total_of(
     requires { IsBelow all_numbers tally.now }
     ensures { result ≡ total_in declared.now lowered.now tally.now device.now }
 {
-    let declared = sum_for(declared, device);
+    let declared_wh = sum_for(declared, device);
     let corrected_wh = sum_for(lowered, device);
     DeviceTotals {
         device: *device,
-        declared,
+        declared_wh,
         corrected_wh,
         issued: count_for(&tally.issued, device),
-        corrected: count_for(&tally.corrected, device),
-        carry: left_over(declared.saturating_sub(corrected_wh)),
+        withdrawn_certificates: count_for(&tally.corrected, device),
+        carry_wh: left_over(declared_wh.saturating_sub(corrected_wh)),
     }
 }
 

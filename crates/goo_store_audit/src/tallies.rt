@@ -1,11 +1,13 @@
 //! The certificates that each device was issued, added up row by row.
 
-ghost use Rattle.std.specs.Prelude.{◌≡◌, ℕ, ◌+◌, ◌-◌, ◌≤◌, ◌<◌, ◌==◌, ◌&&◌, cond, List, [], ◌∷◌, map, IfOk, IsOk, OnOk, IsOkUnless};
+ghost use Rattle.std.specs.Prelude.{◌≡◌, ℕ, ◌+◌, ◌-◌, ◌≤◌, ◌<◌, ◌==◌, ◌&&◌, cond, List, [], ◌∷◌};
+ghost use Rattle.std.specs.Prelude.{map, IfOk, IsOk, OnOk, IsOkUnless};
 ghost use Rattle.std.specs.List.{list_any};
 ghost use Rattle.goo_types.specs.Number.{code_of};
 ghost use Rattle.goo_spec.specs.Energy.{withdrew};
 ghost use Rattle.goo_spec.specs.State.{Correction};
-ghost use Rattle.goo_store_audit.specs.Counting.{all_numbers, share_of, shares_of, end_of, AreAdded, AreCountable, IsBelow, IsShare};
+ghost use Rattle.goo_store_audit.specs.Counting.{all_numbers, share_of, shares_of, end_of};
+ghost use Rattle.goo_store_audit.specs.Counting.{AreAdded, AreCountable, IsBelow, IsShare};
 ghost use Rattle.goo_store_rules.specs.Correcting.{AreTakenBack};
 ghost use Rattle.goo_store_rules.specs.Summing.{sum_at};
 ghost use Rattle.goo_store_values.specs.Passing.{Accepts, Passes};

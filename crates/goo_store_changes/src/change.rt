@@ -1,14 +1,18 @@
-//! Changes of the tables, one statement each; a device or a lot of another carrier than electricity takes two.
+//! Changes of the tables, one statement each; a device or a lot of another carrier than electricity
+//! takes two.
 
-ghost use Rattle.std.specs.Prelude.{◌≡◌, ◌⊎◌, ⊤, ◌+◌, ◌<◌, ◌≤◌, None, IfErr, IfOk, IfSome, OnOk, All, get_or, length, take};
+ghost use Rattle.std.specs.Prelude.{◌≡◌, ◌⊎◌, ⊤, ◌+◌, ◌<◌, ◌≤◌, None, IfErr, IfOk, IfSome, OnOk};
+ghost use Rattle.std.specs.Prelude.{All, get_or, length, take};
 ghost use Rattle.sqlite.specs.State.{HasCleanDisk, IsLive, KeepsCommit, Survives};
 ghost use Rattle.sqlite.specs.Held.{state};
 ghost use Rattle.goo_tables_rows.specs.Rows.{Tables, piece_row};
-ghost use Rattle.goo_tables_rows.specs.Refused.{ChangeFailsBy, IsFault, IsSmall, IsTooBig, IsTooBigOrFull};
+ghost use Rattle.goo_tables_rows.specs.Refused.{ChangeFailsBy, IsFault, IsSmall, IsTooBig};
+ghost use Rattle.goo_tables_rows.specs.Refused.{IsTooBigOrFull};
 ghost use Rattle.goo_tables_holdings.specs.Changes.{with_piece, without_piece, PieceFits};
 ghost use Rattle.goo_tables_rows.specs.Lives.{IsAlive, LeavesLive, StaysAlive};
 ghost use Rattle.goo_tables_rows.specs.Stands.{Sees};
-ghost use Rattle.goo_store_changes.specs.Changes.{made, made_all, ChangeFits, IsFor, AreFor, IsFree, AreFree, HasRoom, HaveRoom};
+ghost use Rattle.goo_store_changes.specs.Changes.{made, made_all, ChangeFits, IsFor, AreFor};
+ghost use Rattle.goo_store_changes.specs.Changes.{IsFree, AreFree, HasRoom, HaveRoom};
 
 use crate::once::{keep_counters, keep_notice};
 use goo_tables::cancellation::insert_cancellation;
@@ -74,12 +78,18 @@ pub enum TableChange {
 fn make<S: Alter>(tx: &mut Transaction<'_, S>, change: &TableChange) -> Result<usize, Error>
     requires { ChangeFits change.now }
     ensures same_reference { tx.new.conn.ghost_name ≡ tx.old.conn.ghost_name }
-    ensures changed { HasCleanDisk (state S.Store tx.new.conn.now) → (t : Tables) → Sees (state S.Store tx.old.conn.now) t → IsFor t change.now
+    ensures changed { HasCleanDisk (state S.Store tx.new.conn.now) → (t : Tables)
+        → Sees (state S.Store tx.old.conn.now) t → IsFor t change.now
         → OnOk result (Sees (state S.Store tx.new.conn.now) (made t change.now)) }
-    ensures refused { ChangeFailsBy IsTooBigOrFull (λ t. HasRoom t change.now) (state S.Store tx.old.conn.now) (state S.Store tx.new.conn.now) result (λ t. IsFree t change.now) }
-    ensures live { LeavesLive (state S.Store tx.old.conn.now) (state S.Store tx.new.conn.now) result }
-    ensures uncommitted { HasCleanDisk (state S.Store tx.new.conn.now) → KeepsCommit (state S.Store tx.old.conn.now) (state S.Store tx.new.conn.now) }
-    ensures survives { Survives (state S.Store tx.old.conn.now) (state S.Store tx.new.conn.now) (λ _. ⊥) }
+    ensures refused { ChangeFailsBy IsTooBigOrFull
+        (λ t. HasRoom t change.now) (state S.Store tx.old.conn.now)
+        (state S.Store tx.new.conn.now) result (λ t. IsFree t change.now) }
+    ensures live { LeavesLive (state S.Store tx.old.conn.now)
+        (state S.Store tx.new.conn.now) result }
+    ensures uncommitted { HasCleanDisk (state S.Store tx.new.conn.now)
+        → KeepsCommit (state S.Store tx.old.conn.now) (state S.Store tx.new.conn.now) }
+    ensures survives { Survives (state S.Store tx.old.conn.now) (state S.Store tx.new.conn.now)
+        (λ _. ⊥) }
 {
     match change {
         TableChange::AddHolder(row) => insert_holder(tx, row),
@@ -107,16 +117,27 @@ fn make<S: Alter>(tx: &mut Transaction<'_, S>, change: &TableChange) -> Result<u
     }
 }
 
-/// Takes out the piece that begins with a row's first number, if there is one, and adds the row: by one statement where there is one.
+/// Takes out the piece that begins with a row's first number, if there is one, and adds the row: by
+/// one statement where there is one.
 fn replace_piece<S: Alter>(tx: &mut Transaction<'_, S>, row: &PieceRow) -> Result<(), Error>
     requires { PieceFits row.now }
     ensures same_reference { tx.new.conn.ghost_name ≡ tx.old.conn.ghost_name }
-    ensures changed { HasCleanDisk (state S.Store tx.new.conn.now) → (t : Tables) → Sees (state S.Store tx.old.conn.now) t
-        → OnOk result (Sees (state S.Store tx.new.conn.now) (with_piece (without_piece t row.now.first) row.now)) }
-    ensures refused { ChangeFailsBy IsTooBig (λ _. IsSmall (piece_row row.now)) (state S.Store tx.old.conn.now) (state S.Store tx.new.conn.now) result (λ _. ⊤) }
-    ensures live { HasCleanDisk (state S.Store tx.new.conn.now) → IsLive (state S.Store tx.old.conn.now) → (t : Tables) → Sees (state S.Store tx.old.conn.now) t → OnOk result (IsAlive (state S.Store tx.new.conn.now)) }
-    ensures uncommitted { HasCleanDisk (state S.Store tx.new.conn.now) → KeepsCommit (state S.Store tx.old.conn.now) (state S.Store tx.new.conn.now) }
-    ensures survives { Survives (state S.Store tx.old.conn.now) (state S.Store tx.new.conn.now) (λ _. ⊥) }
+    ensures changed { HasCleanDisk (state S.Store tx.new.conn.now) → (t : Tables)
+        → Sees (state S.Store tx.old.conn.now) t
+        → OnOk result
+        (Sees (state S.Store tx.new.conn.now)
+        (with_piece (without_piece t row.now.first) row.now)) }
+    ensures refused { ChangeFailsBy IsTooBig
+        (λ _. IsSmall (piece_row row.now)) (state S.Store tx.old.conn.now)
+        (state S.Store tx.new.conn.now) result (λ _. ⊤) }
+    ensures live { HasCleanDisk (state S.Store tx.new.conn.now)
+        → IsLive (state S.Store tx.old.conn.now) → (t : Tables)
+        → Sees (state S.Store tx.old.conn.now) t
+        → OnOk result (IsAlive (state S.Store tx.new.conn.now)) }
+    ensures uncommitted { HasCleanDisk (state S.Store tx.new.conn.now)
+        → KeepsCommit (state S.Store tx.old.conn.now) (state S.Store tx.new.conn.now) }
+    ensures survives { Survives (state S.Store tx.old.conn.now) (state S.Store tx.new.conn.now)
+        (λ _. ⊥) }
 {
     if set_piece(tx, row)? == 0 {
         insert_piece(tx, row)?;
@@ -124,10 +145,14 @@ fn replace_piece<S: Alter>(tx: &mut Transaction<'_, S>, row: &PieceRow) -> Resul
     Ok(())
 }
 
-/// The row that comes in the place of another one: the change at this place takes out the piece that begins as it does, and the next one adds it.
+/// The row that comes in the place of another one: the change at this place takes out the piece
+/// that begins as it does, and the next one adds it.
 fn replacing(changes: &[TableChange], at: usize) -> Option<PieceRow>
     requires { at < length changes.now }
-    ensures { IfSome result (λ row. (d : TableChange) → (get_or changes.now at d ≡ TableChange.DeletePiece row.first) × (at + 1 < length changes.now) × (get_or changes.now (at + 1) d ≡ TableChange.InsertPiece row)) }
+    ensures { IfSome result
+        (λ row. (d : TableChange) → (get_or changes.now at d ≡ TableChange.DeletePiece row.first)
+        × (at + 1 < length changes.now)
+        × (get_or changes.now (at + 1) d ≡ TableChange.InsertPiece row)) }
 {
     let TableChange::DeletePiece(first) = &changes[at] else {
         return None;
@@ -138,9 +163,11 @@ fn replacing(changes: &[TableChange], at: usize) -> Option<PieceRow>
     }
 }
 
-/// Makes the change at a place, and the next one too where the two are one statement; how many these are.
+/// Makes the change at a place, and the next one too where the two are one statement; how many
+/// these are.
 ///
-/// One UPDATE in place of a DELETE and an INSERT saves a statement. It leaves the account's index alone where a row is only cut.
+/// One UPDATE in place of a DELETE and an INSERT saves a statement. It leaves the account's index
+/// alone where a row is only cut.
 fn make_at<S: Alter>(
     tx: &mut Transaction<'_, S>,
     changes: &[TableChange],
@@ -150,14 +177,27 @@ fn make_at<S: Alter>(
     requires fits { All ChangeFits changes.now }
     ensures same_reference { tx.new.conn.ghost_name ≡ tx.old.conn.ghost_name }
     ensures step { IfOk result (λ n. (0 < n) × (at + n ≤ length changes.now)) }
-    ensures changed { HasCleanDisk (state S.Store tx.new.conn.now) → (t : Tables) → Sees (state S.Store tx.old.conn.now) (made_all t (take at changes.now)) → AreFor t changes.now
-        → IfOk result (λ n. Sees (state S.Store tx.new.conn.now) (made_all t (take (at + n) changes.now))) }
-    ensures refused { HasCleanDisk (state S.Store tx.new.conn.now) → IsLive (state S.Store tx.old.conn.now) → (state S.Store tx.old.conn.now).step_limit ≡ None → (t : Tables)
-        → Sees (state S.Store tx.old.conn.now) (made_all t (take at changes.now)) → AreFor t changes.now × AreFree t changes.now
-        → IfErr result (λ e. IsFault (state S.Store tx.old.conn.now) (state S.Store tx.new.conn.now) e ⊎ (IsTooBigOrFull e × (HaveRoom t changes.now → ⊥))) }
-    ensures live { HasCleanDisk (state S.Store tx.new.conn.now) → IsLive (state S.Store tx.old.conn.now) → (t : Tables) → Sees (state S.Store tx.old.conn.now) t → OnOk result (IsAlive (state S.Store tx.new.conn.now)) }
-    ensures uncommitted { HasCleanDisk (state S.Store tx.new.conn.now) → KeepsCommit (state S.Store tx.old.conn.now) (state S.Store tx.new.conn.now) }
-    ensures survives { Survives (state S.Store tx.old.conn.now) (state S.Store tx.new.conn.now) (λ _. ⊥) }
+    ensures changed { HasCleanDisk (state S.Store tx.new.conn.now) → (t : Tables)
+        → Sees (state S.Store tx.old.conn.now) (made_all t (take at changes.now))
+        → AreFor t changes.now
+        → IfOk result
+        (λ n. Sees (state S.Store tx.new.conn.now) (made_all t (take (at + n) changes.now))) }
+    ensures refused { HasCleanDisk (state S.Store tx.new.conn.now)
+        → IsLive (state S.Store tx.old.conn.now) → (state S.Store tx.old.conn.now).step_limit ≡ None
+        → (t : Tables)
+        → Sees (state S.Store tx.old.conn.now) (made_all t (take at changes.now))
+        → AreFor t changes.now × AreFree t changes.now
+        → IfErr result
+        (λ e. IsFault (state S.Store tx.old.conn.now) (state S.Store tx.new.conn.now) e
+        ⊎ (IsTooBigOrFull e × (HaveRoom t changes.now → ⊥))) }
+    ensures live { HasCleanDisk (state S.Store tx.new.conn.now)
+        → IsLive (state S.Store tx.old.conn.now) → (t : Tables)
+        → Sees (state S.Store tx.old.conn.now) t
+        → OnOk result (IsAlive (state S.Store tx.new.conn.now)) }
+    ensures uncommitted { HasCleanDisk (state S.Store tx.new.conn.now)
+        → KeepsCommit (state S.Store tx.old.conn.now) (state S.Store tx.new.conn.now) }
+    ensures survives { Survives (state S.Store tx.old.conn.now) (state S.Store tx.new.conn.now)
+        (λ _. ⊥) }
 {
     match replacing(changes, at) {
         Some(row) => {
@@ -178,13 +218,20 @@ pub(crate) fn make_all<S: Alter>(
 ) -> Result<(), Error>
     requires { All ChangeFits changes.now }
     ensures same_reference { tx.new.conn.ghost_name ≡ tx.old.conn.ghost_name }
-    ensures changed { HasCleanDisk (state S.Store tx.new.conn.now) → (t : Tables) → Sees (state S.Store tx.old.conn.now) t → AreFor t changes.now
+    ensures changed { HasCleanDisk (state S.Store tx.new.conn.now) → (t : Tables)
+        → Sees (state S.Store tx.old.conn.now) t → AreFor t changes.now
         → OnOk result (Sees (state S.Store tx.new.conn.now) (made_all t changes.now)) }
-    ensures refused { ChangeFailsBy IsTooBigOrFull (λ t. HaveRoom t changes.now) (state S.Store tx.old.conn.now) (state S.Store tx.new.conn.now) result (λ t. AreFor t changes.now × AreFree t changes.now) }
-    ensures live { HasCleanDisk (state S.Store tx.new.conn.now) → IsLive (state S.Store tx.old.conn.now) → (t : Tables) → Sees (state S.Store tx.old.conn.now) t → AreFor t changes.now
+    ensures refused { ChangeFailsBy IsTooBigOrFull
+        (λ t. HaveRoom t changes.now) (state S.Store tx.old.conn.now)
+        (state S.Store tx.new.conn.now) result (λ t. AreFor t changes.now × AreFree t changes.now) }
+    ensures live { HasCleanDisk (state S.Store tx.new.conn.now)
+        → IsLive (state S.Store tx.old.conn.now) → (t : Tables)
+        → Sees (state S.Store tx.old.conn.now) t → AreFor t changes.now
         → OnOk result (StaysAlive (state S.Store tx.old.conn.now) (state S.Store tx.new.conn.now)) }
-    ensures uncommitted { HasCleanDisk (state S.Store tx.new.conn.now) → KeepsCommit (state S.Store tx.old.conn.now) (state S.Store tx.new.conn.now) }
-    ensures survives { Survives (state S.Store tx.old.conn.now) (state S.Store tx.new.conn.now) (λ _. ⊥) }
+    ensures uncommitted { HasCleanDisk (state S.Store tx.new.conn.now)
+        → KeepsCommit (state S.Store tx.old.conn.now) (state S.Store tx.new.conn.now) }
+    ensures survives { Survives (state S.Store tx.old.conn.now) (state S.Store tx.new.conn.now)
+        (λ _. ⊥) }
 {
     let mut done = 0;
     while done < changes.len() {

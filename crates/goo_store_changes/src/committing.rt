@@ -23,19 +23,34 @@ pub fn commit_changes<S: Alter>(
 ) -> Result<(), Error>
     requires outside { conn.old.in_transaction ≡ false }
     requires fits { All ChangeFits changes.now }
-    ensures clean { doubt (state S.Store conn.old).is_clean ≤ doubt (state S.Store conn.new).is_clean }
+    ensures clean { doubt (state S.Store conn.old).is_clean
+        ≤ doubt (state S.Store conn.new).is_clean }
     ensures outside { conn.new.in_transaction ≡ false }
-    ensures works { OnOk result (HasCleanDisk (state S.Store conn.new) → IsTrue (state S.Store conn.new).is_open) }
-    ensures was_open { HasCleanDisk (state S.Store conn.new) → IsTrue (state S.Store conn.new).is_open → IsTrue (state S.Store conn.old).is_open }
-    ensures done { HasCleanDisk (state S.Store conn.new) → (t : Tables) → Stands (state S.Store conn.old).now t → AreFor t changes.now
+    ensures works { OnOk result
+        (HasCleanDisk (state S.Store conn.new) → IsTrue (state S.Store conn.new).is_open) }
+    ensures was_open { HasCleanDisk (state S.Store conn.new)
+        → IsTrue (state S.Store conn.new).is_open → IsTrue (state S.Store conn.old).is_open }
+    ensures done { HasCleanDisk (state S.Store conn.new) → (t : Tables)
+        → Stands (state S.Store conn.old).now t → AreFor t changes.now
         → OnOk result (Settled (state S.Store conn.new) (made_all t changes.now)) }
-    ensures refused { HasCleanDisk (state S.Store conn.new) → (state S.Store conn.old).step_limit ≡ None → (t : Tables) → Stands (state S.Store conn.old).now t
-        → AreFor t changes.now → AreFree t changes.now → IfErr result (λ e. IsFault (state S.Store conn.old) (state S.Store conn.new) e ⊎ (IsTooBigOrFull e × (HaveRoom t changes.now → ⊥))) }
-    ensures live { HasCleanDisk (state S.Store conn.new) → (t : Tables) → Stands (state S.Store conn.old).now t → AreFor t changes.now → IsLive (state S.Store conn.new) }
-    ensures kept { HasCleanDisk (state S.Store conn.new) → IsTrue (state S.Store conn.new).is_open → (t : Tables) → Stands (state S.Store conn.old).now t → AreFor t changes.now
-        → OnErr result (((state S.Store conn.new).now ≡ (state S.Store conn.old).now) × ((state S.Store conn.new).committed ≡ (state S.Store conn.old).committed)) }
+    ensures refused { HasCleanDisk (state S.Store conn.new)
+        → (state S.Store conn.old).step_limit ≡ None → (t : Tables)
+        → Stands (state S.Store conn.old).now t
+        → AreFor t changes.now → AreFree t changes.now
+        → IfErr result
+        (λ e. IsFault (state S.Store conn.old) (state S.Store conn.new) e
+        ⊎ (IsTooBigOrFull e × (HaveRoom t changes.now → ⊥))) }
+    ensures live { HasCleanDisk (state S.Store conn.new) → (t : Tables)
+        → Stands (state S.Store conn.old).now t → AreFor t changes.now
+        → IsLive (state S.Store conn.new) }
+    ensures kept { HasCleanDisk (state S.Store conn.new) → IsTrue (state S.Store conn.new).is_open
+        → (t : Tables) → Stands (state S.Store conn.old).now t → AreFor t changes.now
+        → OnErr result
+        (((state S.Store conn.new).now ≡ (state S.Store conn.old).now)
+        × ((state S.Store conn.new).committed ≡ (state S.Store conn.old).committed)) }
     ensures crash { (t : Tables) → Stands (state S.Store conn.old).now t → AreFor t changes.now
-        → Survives (state S.Store conn.old) (state S.Store conn.new) (HoldsOurs (state S.Store conn.old).is_open (made_all t changes.now)) }
+        → Survives (state S.Store conn.old) (state S.Store conn.new)
+        (HoldsOurs (state S.Store conn.old).is_open (made_all t changes.now)) }
 {
     commit_together(conn, changes)
 }
@@ -44,19 +59,34 @@ pub fn commit_changes<S: Alter>(
 fn commit_together<S: Alter>(conn: &mut Connection<S>, changes: &[TableChange]) -> Result<(), Error>
     requires outside { conn.old.in_transaction ≡ false }
     requires fits { All ChangeFits changes.now }
-    ensures clean { doubt (state S.Store conn.old).is_clean ≤ doubt (state S.Store conn.new).is_clean }
+    ensures clean { doubt (state S.Store conn.old).is_clean
+        ≤ doubt (state S.Store conn.new).is_clean }
     ensures outside { conn.new.in_transaction ≡ false }
-    ensures works { OnOk result (HasCleanDisk (state S.Store conn.new) → IsTrue (state S.Store conn.new).is_open) }
-    ensures was_open { HasCleanDisk (state S.Store conn.new) → IsTrue (state S.Store conn.new).is_open → IsTrue (state S.Store conn.old).is_open }
-    ensures done { HasCleanDisk (state S.Store conn.new) → (t : Tables) → Stands (state S.Store conn.old).now t → AreFor t changes.now
+    ensures works { OnOk result
+        (HasCleanDisk (state S.Store conn.new) → IsTrue (state S.Store conn.new).is_open) }
+    ensures was_open { HasCleanDisk (state S.Store conn.new)
+        → IsTrue (state S.Store conn.new).is_open → IsTrue (state S.Store conn.old).is_open }
+    ensures done { HasCleanDisk (state S.Store conn.new) → (t : Tables)
+        → Stands (state S.Store conn.old).now t → AreFor t changes.now
         → OnOk result (Settled (state S.Store conn.new) (made_all t changes.now)) }
-    ensures refused { HasCleanDisk (state S.Store conn.new) → (state S.Store conn.old).step_limit ≡ None → (t : Tables) → Stands (state S.Store conn.old).now t
-        → AreFor t changes.now → AreFree t changes.now → IfErr result (λ e. IsFault (state S.Store conn.old) (state S.Store conn.new) e ⊎ (IsTooBigOrFull e × (HaveRoom t changes.now → ⊥))) }
-    ensures live { HasCleanDisk (state S.Store conn.new) → (t : Tables) → Stands (state S.Store conn.old).now t → AreFor t changes.now → IsLive (state S.Store conn.new) }
-    ensures kept { HasCleanDisk (state S.Store conn.new) → IsTrue (state S.Store conn.new).is_open → (t : Tables) → Stands (state S.Store conn.old).now t → AreFor t changes.now
-        → OnErr result (((state S.Store conn.new).now ≡ (state S.Store conn.old).now) × ((state S.Store conn.new).committed ≡ (state S.Store conn.old).committed)) }
+    ensures refused { HasCleanDisk (state S.Store conn.new)
+        → (state S.Store conn.old).step_limit ≡ None → (t : Tables)
+        → Stands (state S.Store conn.old).now t
+        → AreFor t changes.now → AreFree t changes.now
+        → IfErr result
+        (λ e. IsFault (state S.Store conn.old) (state S.Store conn.new) e
+        ⊎ (IsTooBigOrFull e × (HaveRoom t changes.now → ⊥))) }
+    ensures live { HasCleanDisk (state S.Store conn.new) → (t : Tables)
+        → Stands (state S.Store conn.old).now t → AreFor t changes.now
+        → IsLive (state S.Store conn.new) }
+    ensures kept { HasCleanDisk (state S.Store conn.new) → IsTrue (state S.Store conn.new).is_open
+        → (t : Tables) → Stands (state S.Store conn.old).now t → AreFor t changes.now
+        → OnErr result
+        (((state S.Store conn.new).now ≡ (state S.Store conn.old).now)
+        × ((state S.Store conn.new).committed ≡ (state S.Store conn.old).committed)) }
     ensures crash { (t : Tables) → Stands (state S.Store conn.old).now t → AreFor t changes.now
-        → Survives (state S.Store conn.old) (state S.Store conn.new) (HoldsOurs (state S.Store conn.old).is_open (made_all t changes.now)) }
+        → Survives (state S.Store conn.old) (state S.Store conn.new)
+        (HoldsOurs (state S.Store conn.old).is_open (made_all t changes.now)) }
 {
     let _settled = conn.is_autocommit();
     let _known = conn.schema();

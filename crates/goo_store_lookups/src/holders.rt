@@ -24,8 +24,10 @@ use std::alloc::Global;
 
 /// The name in the row of a holder.
 fn name_in(found: Result<Option<HolderRow>, Error>) -> Result<Option<Name>, Trouble>
-    ensures value { Passes found result (λ row name. name ≡ option_map (λ h. h.name) (option_map holder_in row)) }
-    ensures accepts { Accepts found result (λ row. IfSome row (λ r. IsTrue (is_holder (pos 0, holder_in r)))) }
+    ensures value { Passes found result
+        (λ row name. name ≡ option_map (λ h. h.name) (option_map holder_in row)) }
+    ensures accepts { Accepts found result
+        (λ row. IfSome row (λ r. IsTrue (is_holder (pos 0, holder_in r)))) }
 {
     let Some(row) = found? else {
         return Ok(None);
@@ -33,12 +35,13 @@ fn name_in(found: Result<Option<HolderRow>, Error>) -> Result<Option<Name>, Trou
     Ok(Some(texts::name(&row.name)?))
 }
 
-/// The name of a holder, found in the tables of a connection. Once a call was refused for another cause than memory, no
-/// statement is made.
+/// The name of a holder, found in the tables of a connection. Once a call was refused for another
+/// cause than memory, no statement is made.
 ///
 /// # Errors
 ///
-/// `Store` where a call was refused before, or where this one is; `Memory` where memory was refused.
+/// `Store` where a call was refused before, or where this one is; `Memory` where memory was
+/// refused.
 pub fn name_of<S: Alter>(
     alloc: Global,
     conn: &mut Connection<S>,
@@ -46,10 +49,13 @@ pub fn name_of<S: Alter>(
     code: &HolderCode,
 ) -> Result<Option<Name>, Fault>
     requires well { IsWell (view S.Store conn.now) }
-    ensures looks { Looks (moment (view S.Store conn.old) refused.old) (moment (view S.Store conn.new) refused.new) result (λ name. name ≡ get (moment (view S.Store conn.old) refused.old).state.holders code.now) }
+    ensures looks { Looks (moment (view S.Store conn.old) refused.old)
+        (moment (view S.Store conn.new) refused.new) result
+        (λ name. name ≡ get (moment (view S.Store conn.old) refused.old).state.holders code.now) }
     ensures store { BlamesStore (view S.Store conn.old) (view S.Store conn.new) refused.old result }
     ensures well { IsWell (view S.Store conn.new) }
-    ensures same { doubts (view S.Store conn.new) ≡ 0 → (doubts (view S.Store conn.old) ≡ 0) × (tables_in (view S.Store conn.new) ≡ tables_in (view S.Store conn.old)) }
+    ensures same { doubts (view S.Store conn.new) ≡ 0 → (doubts (view S.Store conn.old) ≡ 0)
+        × (tables_in (view S.Store conn.new) ≡ tables_in (view S.Store conn.old)) }
     ensures outside { conn.old.in_transaction ≡ false → conn.new.in_transaction ≡ false }
 {
     if *refused {

@@ -23,7 +23,8 @@ fn pieces_of(found: Found) -> Vec<PieceRow>
     production.pieces
 }
 
-/// The pieces of a database that holds the tables of a registry which keep the rules of their version: `Damaged` where they break one.
+/// The pieces of a database that holds the tables of a registry which keep the rules of their
+/// version: `Damaged` where they break one.
 ///
 /// # Errors
 ///
@@ -33,7 +34,8 @@ pub fn judge<S: Alter>(
     conn: &mut Connection<S>,
     layout: Layout,
 ) -> Result<Vec<PieceRow>, OpenFault>
-    ensures judges { Judges layout (view S.Store conn.old) (view S.Store conn.new) result (λ t pieces. pieces.items ≡ t.pieces) }
+    ensures judges { Judges layout (view S.Store conn.old) (view S.Store conn.new) result
+        (λ t pieces. pieces.items ≡ t.pieces) }
     ensures readable { IfOk result (λ pieces. list_all is_piece pieces.items ≡ true) }
 {
     match find_tables(alloc, conn, layout) {

@@ -1,5 +1,6 @@
 //! A file in memory.
-ghost use Rattle.std.specs.Prelude.{◌≡◌, ◌-◌, ◌++◌, [], refl, is_ok, length, take, replicate, IfErr, OnOk, true, false};
+ghost use Rattle.std.specs.Prelude.{◌≡◌, ◌-◌, ◌++◌, [], refl, is_ok, length, take, replicate};
+ghost use Rattle.std.specs.Prelude.{IfErr, OnOk, true, false};
 ghost use Rattle.std.specs.IoError.{error_kind};
 ghost use Rattle.std.specs.declared.io.ErrorKind.TheVariants.{OutOfMemory};
 ghost use Rattle.sqlite_disk.specs.Disk.{Holds, Torn, Cut, CountsFault};
@@ -9,8 +10,9 @@ use sqlite_disk::{Disk, Tally};
 use std::alloc::{AllocError, Global};
 use std::io;
 
-/// A file in memory. What is written is there at once, so a crash of what is above it leaves what it holds; it never
-/// answers with other bytes than were written, so nothing has to be supposed of it, and a read need not judge digests.
+/// A file in memory. What is written is there at once, so a crash of what is above it leaves what
+/// it holds; it never answers with other bytes than were written, so nothing has to be supposed of
+/// it, and a read need not judge digests.
 #[derive(Drop)]
 pub struct MemoryFile {
     bytes: Vec<u8>,
@@ -91,7 +93,8 @@ impl Disk for MemoryFile {
         Ok(())
     }
 
-    // What the reader knows of the bytes is right, and they are those that were written: there is nothing to judge.
+    // What the reader knows of the bytes is right, and they are those that were written: there is
+    // nothing to judge.
     fn read_checked(&mut self, _key: u64, _want: u64, at: usize, buf: &mut [u8]) -> io::Result<()> {
         self.read_at(at, buf)
     }
@@ -111,7 +114,8 @@ impl Disk for MemoryFile {
 
 /// Counts a call that failed for want of memory.
 ///
-/// A database over this file tells want of memory as a fault of the store: it knows no other word for a disk.
+/// A database over this file tells want of memory as a fault of the store: it knows no other word
+/// for a disk.
 fn count(outcome: Result<(), AllocError>, faults: &mut u64) -> io::Result<()>
     ensures variant { is_ok result ≡ is_ok outcome }
     ensures kind { finds_no_room result ≡ false }
@@ -128,7 +132,8 @@ fn count(outcome: Result<(), AllocError>, faults: &mut u64) -> io::Result<()>
 /// Cuts a file, or fills it up with zeros.
 fn resize(file: &mut Vec<u8>, len: usize) -> Result<(), AllocError>
     ensures len { OnOk result (length file.new.items ≡ len) }
-    ensures zeros { OnOk result (file.new.items ≡ take len file.old.items ++ replicate (len - length file.old.items) 0) }
+    ensures zeros { OnOk result
+        (file.new.items ≡ take len file.old.items ++ replicate (len - length file.old.items) 0) }
     ensures others { Cut len file.old.items file.new.items }
 {
     file.resize(len, 0)

@@ -9,7 +9,8 @@ ghost use Rattle.sqlite.specs.Steps.{IsEmpty, over_memory};
 ghost use Rattle.sqlite.specs.Held.{IsNew, state};
 ghost use Rattle.sqlite.specs.Start.{FindsIn};
 ghost use Rattle.sqlite.specs.Opening.{is_open_error};
-ghost use Rattle.sqlite.specs.Files.{file_state, image_of, IsOpened, IsBlankAs, Finds, IsCleanLeft, FailsToOpenFiles, LeavesFiles};
+ghost use Rattle.sqlite.specs.Files.{file_state, image_of, IsOpened, IsBlankAs, Finds, IsCleanLeft};
+ghost use Rattle.sqlite.specs.Files.{FailsToOpenFiles, LeavesFiles};
 ghost use Rattle.goo_tables_rows.specs.Met.{IsInKeyOrder};
 
 use sqlite::{
@@ -35,7 +36,8 @@ pub fn open_ordered_in_memory(alloc: Global) -> Result<Connection<MemStore>, All
 ///
 /// # Errors
 ///
-/// As `Connection::open_files`: the files hold no database, a call of a file failed, or memory was refused.
+/// As `Connection::open_files`: the files hold no database, a call of a file failed, or memory was
+/// refused.
 pub fn open_ordered<D: Disk + Drop>(
     alloc: Global,
     files: Files<D>,
@@ -43,10 +45,13 @@ pub fn open_ordered<D: Disk + Drop>(
 ) -> Result<Connection<FileStore<D>>, (Error, Leftover<D>)>
     requires log { IsTrue (D.Disk.is_usable files.log) }
     requires db { IsTrue (D.Disk.is_usable files.db) }
-    ensures ordered { IfOk result (λ c. HasCleanDisk (file_state c) → IsInKeyOrder (file_state c).now) }
+    ensures ordered { IfOk result
+        (λ c. HasCleanDisk (file_state c) → IsInKeyOrder (file_state c).now) }
     ensures opened { IfOk result (λ c. HasCleanDisk (file_state c) → IsOpened c) }
     ensures found { IfOk result (λ c. HasCleanDisk (file_state c) → Finds files c) }
-    ensures plain { IfOk result (λ c. HasCleanDisk (file_state c) → IsBlankAs false (image_of D.Disk files) → (view c.store).has_sums ≡ false) }
+    ensures plain { IfOk result
+        (λ c. HasCleanDisk (file_state c) → IsBlankAs false (image_of D.Disk files)
+        → (view c.store).has_sums ≡ false) }
     ensures fresh { IfOk result IsNew }
     ensures guarded { IfOk result (λ c. HasCleanDisk (file_state c) → (file_state c).IsShielded) }
     ensures named { IfErr result (λ e. IsTrue (is_open_error e.0)) }
@@ -60,22 +65,30 @@ pub fn open_ordered<D: Disk + Drop>(
 ///
 /// # Errors
 ///
-/// As `Connection::open_from`: the path can't be opened, or the files are refused as by `open_ordered`.
+/// As `Connection::open_from`: the path can't be opened, or the files are refused as by
+/// `open_ordered`.
 pub fn open_ordered_at<S: Start>(
     rt: &HostRuntime,
     path: &str,
     start: S,
 ) -> Result<Connection<FileStore<FileFrom<S>>>, (Error, Option<Leftover<FileFrom<S>>>)>
-    ensures ordered { IfOk result (λ c. HasCleanDisk (file_state c) → IsInKeyOrder (file_state c).now) }
+    ensures ordered { IfOk result
+        (λ c. HasCleanDisk (file_state c) → IsInKeyOrder (file_state c).now) }
     ensures opened { IfOk result (λ c. HasCleanDisk (file_state c) → IsOpened c) }
-    ensures found { IfOk result (λ c. HasCleanDisk (file_state c) → FindsIn (image_at S.Start) (file_state c)) }
-    ensures plain { IfOk result (λ c. HasCleanDisk (file_state c) → IsBlankAs false (image_at S.Start) → (view c.store).has_sums ≡ false) }
+    ensures found { IfOk result
+        (λ c. HasCleanDisk (file_state c) → FindsIn (image_at S.Start) (file_state c)) }
+    ensures plain { IfOk result
+        (λ c. HasCleanDisk (file_state c) → IsBlankAs false (image_at S.Start)
+        → (view c.store).has_sums ≡ false) }
     ensures fresh { IfOk result IsNew }
     ensures guarded { IfOk result (λ c. HasCleanDisk (file_state c) → (file_state c).IsShielded) }
     ensures named { IfErr result (λ e. IsTrue (is_open_error e.0)) }
     ensures unopened { IfErr result (λ e. e.1 ≡ None
-        → (e.0 ≡ Error.SqliteFailure ErrorCode.CannotOpen) ⊎ ((e.0 ≡ Error.SqliteFailure ErrorCode.OutOfMemory) ⊎ (e.0 ≡ Error.SqliteFailure ErrorCode.DatabaseBusy))) }
-    ensures cause { IfErr result (λ e. IfSome e.1 (λ left. (files : _) × IsFresh true files.log × IsFresh false files.db
+        → (e.0 ≡ Error.SqliteFailure ErrorCode.CannotOpen)
+        ⊎ ((e.0 ≡ Error.SqliteFailure ErrorCode.OutOfMemory)
+        ⊎ (e.0 ≡ Error.SqliteFailure ErrorCode.DatabaseBusy))) }
+    ensures cause { IfErr result
+        (λ e. IfSome e.1 (λ left. (files : _) × IsFresh true files.log × IsFresh false files.db
         × (IsCleanLeft left → FailsToOpenFiles files left e.0 × LeavesFiles files left))) }
 {
     Connection::open_from(rt, path, false, start)

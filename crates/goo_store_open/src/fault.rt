@@ -24,14 +24,16 @@ pub enum OpenFault {
     Memory,
 }
 
-/// The word for the error of a statement; `missing` is the one where the statement's table or a column of it is missing.
+/// The word for the error of a statement; `missing` is the one where the statement's table or a
+/// column of it is missing.
 pub fn fault_of(error: Error, missing: OpenFault) -> OpenFault
     ensures told { result ≡ word_of missing error }
     ensures memory { error ≡ Error.SqliteFailure ErrorCode.OutOfMemory → result ≡ OpenFault.Memory }
     ensures store { IsTrue (is_store_error error) → result ≡ OpenFault.Store }
     ensures unread { IsTrue (is_read_error error) → result ≡ OpenFault.Damaged }
     ensures missing { (cause : _) → error ≡ Error.SqlInputError cause → result ≡ missing }
-    ensures words { ((result ≡ OpenFault.Store) ⊎ (result ≡ OpenFault.Memory)) ⊎ ((result ≡ OpenFault.Damaged) ⊎ (result ≡ missing)) }
+    ensures words { ((result ≡ OpenFault.Store) ⊎ (result ≡ OpenFault.Memory))
+        ⊎ ((result ≡ OpenFault.Damaged) ⊎ (result ≡ missing)) }
 {
     match error {
         Error::SqliteFailure(ErrorCode::OutOfMemory) => OpenFault::Memory,

@@ -28,12 +28,16 @@ pub struct Found {
 
 /// The row of `meta`: the only one, under the number 1, of the version that these tables have.
 fn the_row(rows: Vec<NumberedMeta>, layout: Layout) -> Result<MetaRow, OpenFault>
-    ensures only { IfOk result (λ m. map numbered_in rows.items ≡ record { id = 1; meta = meta_in m } ∷ []) }
+    ensures only { IfOk result
+        (λ m. map numbered_in rows.items ≡ record { id = 1; meta = meta_in m } ∷ []) }
     ensures version { IfOk result (λ m. m.version ≡ number_of layout) }
-    ensures refused { (m : Meta) → map numbered_in rows.items ≡ record { id = 1; meta = m } ∷ [] → m.version ≡ number_of layout → IfErr result (λ _. ⊥) }
+    ensures refused { (m : Meta) → map numbered_in rows.items ≡ record { id = 1; meta = m } ∷ []
+        → m.version ≡ number_of layout → IfErr result (λ _. ⊥) }
     ensures told { IfErr result (λ fault. fault ≡ row_fault (map numbered_in rows.items)) }
     ensures unblamed { IfErr result (λ fault. fault ≡ OpenFault.Store → ⊥) }
-    ensures words { (t : Tables) → map numbered_in rows.items ≡ record { id = 1; meta = t.meta } ∷ [] → IfErr result (IsWord layout t) }
+    ensures words { (t : Tables)
+        → map numbered_in rows.items ≡ record { id = 1; meta = t.meta } ∷ []
+        → IfErr result (IsWord layout t) }
 {
     let mut rows = rows;
     let Some(row) = rows.pop() else {
@@ -54,7 +58,8 @@ fn find_registry<S: Alter>(
     conn: &mut Connection<S>,
     layout: Layout,
 ) -> Result<MetaRow, OpenFault>
-    ensures { Finds layout (state S.Store conn.old) (state S.Store conn.new) result (ShowsMeta layout) }
+    ensures { Finds layout (state S.Store conn.old) (state S.Store conn.new) result
+        (ShowsMeta layout) }
 {
     match all_meta(alloc, conn) {
         Ok(rows) => the_row(rows, layout),
@@ -66,14 +71,15 @@ fn find_registry<S: Alter>(
 ///
 /// # Errors
 ///
-/// `NotARegistry` and `Version` by the row of `meta`, `Damaged` where a table or a column is missing or a value cannot be
-/// read, `Store` and `Memory`.
+/// `NotARegistry` and `Version` by the row of `meta`, `Damaged` where a table or a column is
+/// missing or a value cannot be read, `Store` and `Memory`.
 pub fn find_tables<S: Alter>(
     alloc: Global,
     conn: &mut Connection<S>,
     layout: Layout,
 ) -> Result<Found, OpenFault>
-    ensures { Finds layout (state S.Store conn.old) (state S.Store conn.new) result (ShowsTables layout) }
+    ensures { Finds layout (state S.Store conn.old) (state S.Store conn.new) result
+        (ShowsTables layout) }
 {
     let meta = find_registry(alloc, conn, layout)?;
     match read_rows(alloc, conn, layout) {

@@ -6,7 +6,8 @@ ghost use Rattle.sqlite.specs.Held.{state};
 ghost use Rattle.sqlite.specs.State.{HasCleanDisk};
 ghost use Rattle.sqlite.specs.Tree.{Trees};
 ghost use Rattle.goo_tables_rows.specs.Stands.{Rests, IsSettled};
-ghost use Rattle.goo_store_open.specs.Foreign.{IsMeta, LacksMeta, IsRowWord, TellsVersion, IsForeignWord};
+ghost use Rattle.goo_store_open.specs.Foreign.{IsMeta, LacksMeta, IsRowWord, TellsVersion};
+ghost use Rattle.goo_store_open.specs.Foreign.{IsForeignWord};
 
 use crate::fault::{OpenFault, fault_of};
 use crate::finding::VERSION;
@@ -57,12 +58,15 @@ fn version_fault(rows: &[Row]) -> OpenFault
 
 /// The word for what a foreign `meta` tells.
 fn ask_version<S: Alter>(conn: &mut Connection<S>) -> OpenFault
-    ensures told { HasCleanDisk (state S.Store conn.new) → TellsVersion (state S.Store conn.old) (state S.Store conn.new) result }
+    ensures told { HasCleanDisk (state S.Store conn.new)
+        → TellsVersion (state S.Store conn.old) (state S.Store conn.new) result }
     ensures word { IsForeignWord result }
     ensures clean { HasCleanDisk (state S.Store conn.new) → HasCleanDisk (state S.Store conn.old) }
-    ensures rests { HasCleanDisk (state S.Store conn.new) → IsSettled (state S.Store conn.old) → Rests (state S.Store conn.old) (state S.Store conn.new) }
+    ensures rests { HasCleanDisk (state S.Store conn.new) → IsSettled (state S.Store conn.old)
+        → Rests (state S.Store conn.old) (state S.Store conn.new) }
     ensures outside { conn.old.in_transaction ≡ false → conn.new.in_transaction ≡ false }
-    ensures crash { HasCleanDisk (state S.Store conn.new) → (db : Trees) → (state S.Store conn.new).may_leave db → (state S.Store conn.old).may_leave db }
+    ensures crash { HasCleanDisk (state S.Store conn.new) → (db : Trees)
+        → (state S.Store conn.new).may_leave db → (state S.Store conn.old).may_leave db }
 {
     match conn.query_all("SELECT version FROM meta WHERE id = 1", &[]) {
         Ok(rows) => version_fault(&rows),
@@ -70,17 +74,23 @@ fn ask_version<S: Alter>(conn: &mut Connection<S>) -> OpenFault
     }
 }
 
-/// Why a database is refused whose tables are not those of a registry: `NotARegistry` where none is its `meta`, and then no call
-/// looks at the database; otherwise by the version that the row of `meta` tells, an earlier one of ours too, and `Damaged` for
-/// the version that is read here, whose tables are others. `Store` where a call was refused, and `Memory` where memory was.
+/// Why a database is refused whose tables are not those of a registry: `NotARegistry` where none is
+/// its `meta`, and then no call looks at the database; otherwise by the version that the row of
+/// `meta` tells, an earlier one of ours too, and `Damaged` for the version that is read here, whose
+/// tables are others. `Store` where a call was refused, and `Memory` where memory was.
 pub fn foreign_fault<S: Alter>(conn: &mut Connection<S>) -> OpenFault
-    ensures lacking { LacksMeta (state S.Store conn.old).now.schema → (result ≡ OpenFault.NotARegistry) × (conn.new ≡ conn.old) }
-    ensures told { (LacksMeta (state S.Store conn.old).now.schema → ⊥) → HasCleanDisk (state S.Store conn.new) → TellsVersion (state S.Store conn.old) (state S.Store conn.new) result }
+    ensures lacking { LacksMeta (state S.Store conn.old).now.schema
+        → (result ≡ OpenFault.NotARegistry) × (conn.new ≡ conn.old) }
+    ensures told { (LacksMeta (state S.Store conn.old).now.schema → ⊥)
+        → HasCleanDisk (state S.Store conn.new)
+        → TellsVersion (state S.Store conn.old) (state S.Store conn.new) result }
     ensures word { IsForeignWord result }
     ensures clean { HasCleanDisk (state S.Store conn.new) → HasCleanDisk (state S.Store conn.old) }
-    ensures rests { HasCleanDisk (state S.Store conn.new) → IsSettled (state S.Store conn.old) → Rests (state S.Store conn.old) (state S.Store conn.new) }
+    ensures rests { HasCleanDisk (state S.Store conn.new) → IsSettled (state S.Store conn.old)
+        → Rests (state S.Store conn.old) (state S.Store conn.new) }
     ensures outside { conn.old.in_transaction ≡ false → conn.new.in_transaction ≡ false }
-    ensures crash { HasCleanDisk (state S.Store conn.new) → (db : Trees) → (state S.Store conn.new).may_leave db → (state S.Store conn.old).may_leave db }
+    ensures crash { HasCleanDisk (state S.Store conn.new) → (db : Trees)
+        → (state S.Store conn.new).may_leave db → (state S.Store conn.old).may_leave db }
 {
     if lack_meta(conn.schema().tables.as_slice()) {
         OpenFault::NotARegistry

@@ -15,7 +15,8 @@ pub enum ColumnForm {
     NumberKey(&'static [u8]),
 }
 
-/// A STRICT table with neither CHECK, REFERENCES nor AUTOINCREMENT. Places count the columns from 1, and the rowid is place 0.
+/// A STRICT table with neither CHECK, REFERENCES nor AUTOINCREMENT. Places count the columns from
+/// 1, and the rowid is place 0.
 #[derive(Clone, Copy)]
 pub struct TableForm {
     pub name: &'static [u8],

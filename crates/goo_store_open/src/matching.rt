@@ -3,7 +3,8 @@
 ghost use Rattle.std.specs.Prelude.{◌≡◌, ◌↔◌, IsTrue, map, []};
 ghost use Rattle.sqlite_value.specs.Keys.{plain};
 ghost use Rattle.goo_tables_rows.specs.Columns.{column_of};
-ghost use Rattle.goo_store_open.specs.Forms.{column_meant, places_meant, plain_each, table_meant, index_meant};
+ghost use Rattle.goo_store_open.specs.Forms.{column_meant, places_meant, plain_each, table_meant};
+ghost use Rattle.goo_store_open.specs.Forms.{index_meant};
 
 use crate::forms::{ColumnForm, IndexForm, TableForm};
 use sqlite_items::Items;
@@ -18,7 +19,8 @@ fn is_null(value: &Value) -> bool
     matches!(value, Value::Null)
 }
 
-/// Whether it is a column of a STRICT table, with this name and kind, and with neither DEFAULT nor COLLATE.
+/// Whether it is a column of a STRICT table, with this name and kind, and with neither DEFAULT nor
+/// COLLATE.
 fn is_strict_column(column: &Column, name: &[u8], kind: Kind, is_required: bool) -> bool
     ensures { IsTrue result ↔ (column.now ≡ column_of is_required name.now kind) }
 {

@@ -1,4 +1,5 @@
-//! Whether the tables of a database are those of a registry of either version, which `HasTables` asks for.
+//! Whether the tables of a database are those of a registry of either version, which `HasTables`
+//! asks for.
 
 ghost use Rattle.std.specs.Prelude.{◌≡◌, ◌↔◌, IsTrue, map};
 ghost use Rattle.sqlite.specs.Held.{state};
@@ -11,7 +12,8 @@ use crate::registry_form::{INDEXES, TABLES};
 use sqlite::{Alter, Connection};
 use sqlite_schema::schema::Schema;
 
-/// Whether it has the tables and indexes that `create_tables` makes, as it makes them, and nothing else.
+/// Whether it has the tables and indexes that `create_tables` makes, as it makes them, and nothing
+/// else.
 fn is_registry(schema: &Schema) -> bool
     ensures { IsTrue result ↔ (schema.now ≡ registry_schema) }
 {
@@ -20,7 +22,8 @@ fn is_registry(schema: &Schema) -> bool
         && schema.views.is_empty()
 }
 
-/// Whether it has those of version 1, and nothing else: all but the last three tables and the last index.
+/// Whether it has those of version 1, and nothing else: all but the last three tables and the last
+/// index.
 fn is_first(schema: &Schema) -> bool
     ensures { IsTrue result ↔ (schema.now ≡ first_schema) }
 {
@@ -29,18 +32,22 @@ fn is_first(schema: &Schema) -> bool
         && schema.views.is_empty()
 }
 
-/// Whether the database has the tables and indexes that `create_tables` makes, as it makes them, and nothing else.
+/// Whether the database has the tables and indexes that `create_tables` makes, as it makes them,
+/// and nothing else.
 pub fn has_our_schema<S: Alter>(conn: &Connection<S>) -> bool
     ensures schema { IsTrue result ↔ ((state S.Store conn.now).now.schema ≡ registry_schema) }
-    ensures ours { IsTrue result → IsTrue (state S.Store conn.now).is_open → IsInKeyOrder (state S.Store conn.now).now → HasOurTables (state S.Store conn.now).now }
+    ensures ours { IsTrue result → IsTrue (state S.Store conn.now).is_open
+        → IsInKeyOrder (state S.Store conn.now).now → HasOurTables (state S.Store conn.now).now }
 {
     is_registry(conn.schema())
 }
 
-/// Whether the database has the tables and indexes of version 1, as they were made, and nothing else.
+/// Whether the database has the tables and indexes of version 1, as they were made, and nothing
+/// else.
 pub fn has_first_schema<S: Alter>(conn: &Connection<S>) -> bool
     ensures schema { IsTrue result ↔ ((state S.Store conn.now).now.schema ≡ first_schema) }
-    ensures first { IsTrue result → IsTrue (state S.Store conn.now).is_open → IsInKeyOrder (state S.Store conn.now).now → HasFirstTables (state S.Store conn.now).now }
+    ensures first { IsTrue result → IsTrue (state S.Store conn.now).is_open
+        → IsInKeyOrder (state S.Store conn.now).now → HasFirstTables (state S.Store conn.now).now }
 {
     is_first(conn.schema())
 }

@@ -1,9 +1,12 @@
-//! Reading the tables of either version, whatever they hold: each whole, in the order of its rowids.
+//! Reading the tables of either version, whatever they hold: each whole, in the order of its
+//! rowids.
 
 ghost use Rattle.std.specs.Prelude.{◌≡◌, []};
 ghost use Rattle.sqlite.specs.Held.{state};
 ghost use Rattle.goo_store_open.specs.Reading.{OnlyReads};
-ghost use Rattle.goo_store_open.specs.Shown.{rows_of_both, ShowsMembers, ShowsIssued, ShowsActs, ShowsNotices, ShowsCarriers, ShowsCommon, ShowsLater, ShowsAll};
+ghost use Rattle.goo_store_open.specs.Shown.{rows_of_both, ShowsMembers, ShowsIssued, ShowsActs};
+ghost use Rattle.goo_store_open.specs.Shown.{ShowsNotices, ShowsCarriers, ShowsCommon, ShowsLater};
+ghost use Rattle.goo_store_open.specs.Shown.{ShowsAll};
 
 use crate::layout::Layout;
 use crate::rows::{Acts, AllRows, Carriers, Members, Notices, Production};
@@ -48,7 +51,8 @@ struct Common {
     notices: Notices,
 }
 
-/// The rows of the tables that version 2 has beside them: what was taken off declarations, and carriers.
+/// The rows of the tables that version 2 has beside them: what was taken off declarations, and
+/// carriers.
 #[derive(Drop)]
 struct Later {
     corrections: Vec<CorrectionRow>,
@@ -57,7 +61,8 @@ struct Later {
 
 /// Those that the registry knows.
 fn read_members<S: Alter>(alloc: Global, conn: &mut Connection<S>) -> Result<Members, Error>
-    ensures { (layout : _) → OnlyReads layout (state S.Store conn.old) (state S.Store conn.new) result ShowsMembers }
+    ensures { (layout : _)
+        → OnlyReads layout (state S.Store conn.old) (state S.Store conn.new) result ShowsMembers }
 {
     Ok(Members {
         holders: all_holders(alloc, conn)?,
@@ -68,7 +73,8 @@ fn read_members<S: Alter>(alloc: Global, conn: &mut Connection<S>) -> Result<Mem
 
 /// What was produced, and the certificates for it.
 fn read_issued<S: Alter>(alloc: Global, conn: &mut Connection<S>) -> Result<Issued, Error>
-    ensures { (layout : _) → OnlyReads layout (state S.Store conn.old) (state S.Store conn.new) result ShowsIssued }
+    ensures { (layout : _)
+        → OnlyReads layout (state S.Store conn.old) (state S.Store conn.new) result ShowsIssued }
 {
     Ok(Issued {
         devices: all_devices(alloc, conn)?,
@@ -80,7 +86,8 @@ fn read_issued<S: Alter>(alloc: Global, conn: &mut Connection<S>) -> Result<Issu
 
 /// The requests that were accepted, and the records of acts.
 fn read_acts<S: Alter>(alloc: Global, conn: &mut Connection<S>) -> Result<Acts, Error>
-    ensures { (layout : _) → OnlyReads layout (state S.Store conn.old) (state S.Store conn.new) result ShowsActs }
+    ensures { (layout : _)
+        → OnlyReads layout (state S.Store conn.old) (state S.Store conn.new) result ShowsActs }
 {
     Ok(Acts {
         receipts: all_receipts(alloc, conn)?,
@@ -91,7 +98,8 @@ fn read_acts<S: Alter>(alloc: Global, conn: &mut Connection<S>) -> Result<Acts, 
 
 /// The notices that were sent and that came in.
 fn read_notices<S: Alter>(alloc: Global, conn: &mut Connection<S>) -> Result<Notices, Error>
-    ensures { (layout : _) → OnlyReads layout (state S.Store conn.old) (state S.Store conn.new) result ShowsNotices }
+    ensures { (layout : _)
+        → OnlyReads layout (state S.Store conn.old) (state S.Store conn.new) result ShowsNotices }
 {
     Ok(Notices {
         sent: all_notices_out(alloc, conn)?,
@@ -101,7 +109,8 @@ fn read_notices<S: Alter>(alloc: Global, conn: &mut Connection<S>) -> Result<Not
 
 /// The rows that tables of either version have.
 fn read_common<S: Alter>(alloc: Global, conn: &mut Connection<S>) -> Result<Common, Error>
-    ensures { (layout : _) → OnlyReads layout (state S.Store conn.old) (state S.Store conn.new) result ShowsCommon }
+    ensures { (layout : _)
+        → OnlyReads layout (state S.Store conn.old) (state S.Store conn.new) result ShowsCommon }
 {
     Ok(Common {
         members: read_members(alloc, conn)?,
@@ -113,7 +122,8 @@ fn read_common<S: Alter>(alloc: Global, conn: &mut Connection<S>) -> Result<Comm
 
 /// The carriers that are not electricity.
 fn read_carriers<S: Alter>(alloc: Global, conn: &mut Connection<S>) -> Result<Carriers, Error>
-    ensures { OnlyReads Layout.Ours (state S.Store conn.old) (state S.Store conn.new) result ShowsCarriers }
+    ensures { OnlyReads Layout.Ours (state S.Store conn.old)
+        (state S.Store conn.new) result ShowsCarriers }
 {
     Ok(Carriers {
         devices: all_device_carriers(alloc, conn)?,
@@ -123,7 +133,8 @@ fn read_carriers<S: Alter>(alloc: Global, conn: &mut Connection<S>) -> Result<Ca
 
 /// What was taken off declarations, and the carriers.
 fn read_later<S: Alter>(alloc: Global, conn: &mut Connection<S>) -> Result<Later, Error>
-    ensures { OnlyReads Layout.Ours (state S.Store conn.old) (state S.Store conn.new) result ShowsLater }
+    ensures { OnlyReads Layout.Ours (state S.Store conn.old)
+        (state S.Store conn.new) result ShowsLater }
 {
     Ok(Later {
         corrections: all_corrections(alloc, conn)?,
@@ -184,7 +195,8 @@ fn all_rows(common: Common, later: Later) -> AllRows
 ///
 /// # Errors
 ///
-/// Those of the statements: want of memory, a fault of the store, or a value that its column's reader doesn't take.
+/// Those of the statements: want of memory, a fault of the store, or a value that its column's
+/// reader doesn't take.
 pub fn read_rows<S: Alter>(
     alloc: Global,
     conn: &mut Connection<S>,

@@ -25,9 +25,12 @@ use std::alloc::Global;
 
 /// The record of a cancellation, under the next number.
 pub fn cancel(alloc: Global, meta: &MetaRow, accepted: &Cancel) -> Result<Vec<TableChange>, Trouble>
-    ensures does { IfOk result (λ changes. (t : Tables) → t.meta ≡ meta_in meta.now → Does t (command.Cancel accepted.now) changes.items) }
+    ensures does { IfOk result
+        (λ changes. (t : Tables) → t.meta ≡ meta_in meta.now
+        → Does t (command.Cancel accepted.now) changes.items) }
     ensures fits { IfOk result (λ changes. All ChangeFits changes.items) }
-    ensures memory { IsTrue (is_meta (meta_in meta.now)) → IsTrue (is_act meta.now.next_cancellation) → IsOkUnless result Memory }
+    ensures memory { IsTrue (is_meta (meta_in meta.now))
+        → IsTrue (is_act meta.now.next_cancellation) → IsOkUnless result Memory }
 {
     let number = numbers::act_no(meta.next_cancellation)?;
     let day = texts::day(&meta.today)?;
@@ -48,10 +51,14 @@ pub fn withdraw(
     meta: &MetaRow,
     accepted: &Withdraw,
 ) -> Result<Vec<TableChange>, Trouble>
-    ensures does { IfOk result (λ changes. (t : Tables) → t.meta ≡ meta_in meta.now → Does t (command.Withdraw accepted.now) changes.items) }
-    ensures these { IfOk result (λ changes. (t : Tables) → LeavesThese t (made_all t changes.items)) }
+    ensures does { IfOk result
+        (λ changes. (t : Tables) → t.meta ≡ meta_in meta.now
+        → Does t (command.Withdraw accepted.now) changes.items) }
+    ensures these { IfOk result
+        (λ changes. (t : Tables) → LeavesThese t (made_all t changes.items)) }
     ensures fits { IfOk result (λ changes. All ChangeFits changes.items) }
-    ensures memory { IsTrue (is_meta (meta_in meta.now)) → IsTrue (is_act meta.now.next_withdrawal) → IsOkUnless result Memory }
+    ensures memory { IsTrue (is_meta (meta_in meta.now)) → IsTrue (is_act meta.now.next_withdrawal)
+        → IsOkUnless result Memory }
 {
     let number = numbers::act_no(meta.next_withdrawal)?;
     let day = texts::day(&meta.today)?;
@@ -73,9 +80,13 @@ pub fn export(
     accepted: &Export,
     notice: &Notice,
 ) -> Result<Vec<TableChange>, Trouble>
-    ensures does { IfOk result (λ changes. (t : Tables) → t.meta ≡ meta_in meta.now → notice.now ≡ notice_of (state_of t) accepted.now → Does t (command.Export accepted.now) changes.items) }
+    ensures does { IfOk result
+        (λ changes. (t : Tables) → t.meta ≡ meta_in meta.now
+        → notice.now ≡ notice_of (state_of t) accepted.now
+        → Does t (command.Export accepted.now) changes.items) }
     ensures fits { IfOk result (λ changes. All ChangeFits changes.items) }
-    ensures memory { IsTrue (is_meta (meta_in meta.now)) → IsTrue (is_act meta.now.next_notice) → IsOkUnless result Memory }
+    ensures memory { IsTrue (is_meta (meta_in meta.now)) → IsTrue (is_act meta.now.next_notice)
+        → IsOkUnless result Memory }
 {
     let number = numbers::act_no(meta.next_notice)?;
     let sent = notice_out_row(alloc, number, accepted.giver, notice)?;
@@ -91,7 +102,8 @@ pub fn export(
 
 /// Another date.
 pub fn advance(alloc: Global, accepted: &Advance) -> Result<Vec<TableChange>, Trouble>
-    ensures does { IfOk result (λ changes. (t : Tables) → Does t (command.Advance accepted.now) changes.items) }
+    ensures does { IfOk result
+        (λ changes. (t : Tables) → Does t (command.Advance accepted.now) changes.items) }
     ensures fits { IfOk result (λ changes. All ChangeFits changes.items) }
     ensures memory { IsOkUnless result Memory }
 {

@@ -28,7 +28,8 @@ fn transfer(alloc: Global) -> Vec<TableChange>
 /// The changes of an accepted command that needs nothing of the registry's row and puts no lot in.
 /// Any other command is refused.
 pub fn plain_changes(alloc: Global, plan: &Plan) -> Result<Vec<TableChange>, Trouble>
-    ensures does { IfOk result (λ changes. (t : Tables) → Does t plan.now.request.command changes.items) }
+    ensures does { IfOk result
+        (λ changes. (t : Tables) → Does t plan.now.request.command changes.items) }
     ensures fits { IfOk result (λ changes. All ChangeFits changes.items) }
     ensures memory { IsPlain plan.now.request.command → IsOkUnless result Memory }
 {
@@ -56,9 +57,14 @@ pub fn numbered_changes(
     meta: &MetaRow,
     plan: &Plan,
 ) -> Result<Vec<TableChange>, Trouble>
-    ensures does { IfOk result (λ changes. (t : Tables) → t.meta ≡ meta_in meta.now → plan.now.notice ≡ notice_sent (state_of t) plan.now.request.command → Does t plan.now.request.command changes.items) }
+    ensures does { IfOk result
+        (λ changes. (t : Tables) → t.meta ≡ meta_in meta.now
+        → plan.now.notice ≡ notice_sent (state_of t) plan.now.request.command
+        → Does t plan.now.request.command changes.items) }
     ensures fits { IfOk result (λ changes. All ChangeFits changes.items) }
-    ensures memory { IsTrue (is_meta (meta_in meta.now)) → CanTakeNumber meta.now plan.now.request.command plan.now.notice → IsOkUnless result Memory }
+    ensures memory { IsTrue (is_meta (meta_in meta.now))
+        → CanTakeNumber meta.now plan.now.request.command plan.now.notice
+        → IsOkUnless result Memory }
 {
     match &plan.request.command {
         Command::OpenAccount(command) => open_account(alloc, meta, command),

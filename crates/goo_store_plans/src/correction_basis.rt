@@ -31,7 +31,8 @@ pub struct CorrectionBasis {
 
 /// The number after that of the last row.
 fn number_after(found: Result<Option<CorrectionRow>, Error>) -> Result<u64, Trouble>
-    ensures value { Passes found result (λ row n. n ≡ next_correction (option_map correction_in row)) }
+    ensures value { Passes found result
+        (λ row n. n ≡ next_correction (option_map correction_in row)) }
     ensures accepts { Accepts found result (λ row. IfSome row (λ r. r.id < 2 ^ 63)) }
 {
     let Some(row) = found? else {
@@ -45,8 +46,10 @@ fn number_after(found: Result<Option<CorrectionRow>, Error>) -> Result<u64, Trou
 
 /// The number that the next correction gets.
 fn next_correction_number<S: Alter>(alloc: Global, conn: &mut Connection<S>) -> Result<u64, Trouble>
-    ensures looks { LooksUp (state S.Store conn.old) (state S.Store conn.new) result (λ t n. pos n ≡ next_key correction_key t.corrections) }
-    ensures blames { BlamesDisk (state S.Store conn.old) (state S.Store conn.new) result (λ t. HasRoom 0 correction_key t.corrections) }
+    ensures looks { LooksUp (state S.Store conn.old) (state S.Store conn.new) result
+        (λ t n. pos n ≡ next_key correction_key t.corrections) }
+    ensures blames { BlamesDisk (state S.Store conn.old) (state S.Store conn.new) result
+        (λ t. HasRoom 0 correction_key t.corrections) }
     ensures outside { conn.old.in_transaction ≡ false → conn.new.in_transaction ≡ false }
 {
     let found = last_correction(alloc, conn);
@@ -57,14 +60,17 @@ fn next_correction_number<S: Alter>(alloc: Global, conn: &mut Connection<S>) -> 
 ///
 /// # Errors
 ///
-/// `Refused` where the device isn't registered or has no accepted period, `Memory`, and the errors of the statements.
+/// `Refused` where the device isn't registered or has no accepted period, `Memory`, and the errors
+/// of the statements.
 pub fn find_basis<S: Alter>(
     alloc: Global,
     conn: &mut Connection<S>,
     device: &Gsrn,
 ) -> Result<CorrectionBasis, Trouble>
-    ensures looks { LooksUp (state S.Store conn.old) (state S.Store conn.new) result (λ t basis. IsBasis t device.now basis) }
-    ensures blames { BlamesDisk (state S.Store conn.old) (state S.Store conn.new) result (λ t. HasBasis t device.now) }
+    ensures looks { LooksUp (state S.Store conn.old) (state S.Store conn.new) result
+        (λ t basis. IsBasis t device.now basis) }
+    ensures blames { BlamesDisk (state S.Store conn.old) (state S.Store conn.new) result
+        (λ t. HasBasis t device.now) }
     ensures outside { conn.old.in_transaction ≡ false → conn.new.in_transaction ≡ false }
 {
     let last_day = find_last_day(alloc, conn, device)?;

@@ -1,6 +1,8 @@
-//! The last accepted period of a device and its carry, which its row keeps: how they are found, and how they are set.
+//! The last accepted period of a device and its carry, which its row keeps: how they are found, and
+//! how they are set.
 
-ghost use Rattle.std.specs.Prelude.{◌≡◌, ◌<◌, ◌^◌, false, pos, Some, option_map, string_bytes, IfOk, IsOk, IsOkUnless, IsSome, IsSomeAnd, IsTrue};
+ghost use Rattle.std.specs.Prelude.{◌≡◌, ◌<◌, ◌^◌, false, pos, Some, option_map, string_bytes};
+ghost use Rattle.std.specs.Prelude.{IfOk, IsOk, IsOkUnless, IsSome, IsSomeAnd, IsTrue};
 ghost use Rattle.sqlite.specs.Held.{state};
 ghost use Rattle.goo_tables_rows.specs.Rows.{device_in};
 ghost use Rattle.goo_spec_tables.specs.Devices.{device_row, progress_in};
@@ -49,8 +51,10 @@ pub fn progress_change(
 
 /// A day that must be there.
 fn day_there(text: &Option<String>) -> Result<Day, Trouble>
-    ensures value { IfOk result (λ day. option_map day_of (option_map string_bytes text.now) ≡ Some day) }
-    ensures accepts { IsTrue (is_maybe_day (option_map string_bytes text.now)) → IsSome (option_map string_bytes text.now) → IsOk result }
+    ensures value { IfOk result
+        (λ day. option_map day_of (option_map string_bytes text.now) ≡ Some day) }
+    ensures accepts { IsTrue (is_maybe_day (option_map string_bytes text.now))
+        → IsSome (option_map string_bytes text.now) → IsOk result }
 {
     match text {
         Some(text) => texts::day(text),
@@ -60,8 +64,11 @@ fn day_there(text: &Option<String>) -> Result<Day, Trouble>
 
 /// The last day of the last accepted period, in the row that was found.
 fn last_day_found(found: Result<Option<DeviceRow>, Error>) -> Result<Day, Trouble>
-    ensures value { Passes found result (λ row day. (progress_in (option_map device_in row)).last_day ≡ Some day) }
-    ensures accepts { Accepts found result (λ row. IsSomeAnd row (λ r. IsTrue (is_device (pos 0, device_in r)) × IsSome (device_in r).last_day)) }
+    ensures value { Passes found result
+        (λ row day. (progress_in (option_map device_in row)).last_day ≡ Some day) }
+    ensures accepts { Accepts found result
+        (λ row. IsSomeAnd row
+        (λ r. IsTrue (is_device (pos 0, device_in r)) × IsSome (device_in r).last_day)) }
 {
     let Some(row) = found? else {
         return Err(Trouble::Refused);
@@ -73,14 +80,17 @@ fn last_day_found(found: Result<Option<DeviceRow>, Error>) -> Result<Day, Troubl
 ///
 /// # Errors
 ///
-/// `Refused` where the device isn't registered or has no accepted period, `Memory`, and the errors of the statement.
+/// `Refused` where the device isn't registered or has no accepted period, `Memory`, and the errors
+/// of the statement.
 pub fn find_last_day<S: Alter>(
     alloc: Global,
     conn: &mut Connection<S>,
     device: &Gsrn,
 ) -> Result<Day, Trouble>
-    ensures looks { LooksUp (state S.Store conn.old) (state S.Store conn.new) result (λ t day. (progress_in (device_row t.devices device.now)).last_day ≡ Some day) }
-    ensures blames { BlamesDisk (state S.Store conn.old) (state S.Store conn.new) result (λ t. HasEnded t device.now) }
+    ensures looks { LooksUp (state S.Store conn.old) (state S.Store conn.new) result
+        (λ t day. (progress_in (device_row t.devices device.now)).last_day ≡ Some day) }
+    ensures blames { BlamesDisk (state S.Store conn.old) (state S.Store conn.new) result
+        (λ t. HasEnded t device.now) }
     ensures outside { conn.old.in_transaction ≡ false → conn.new.in_transaction ≡ false }
 {
     let found = find_device(alloc, conn, device.text());

@@ -1,6 +1,8 @@
 //! The changes that carry out the edits of a plan.
 
-ghost use Rattle.std.specs.Prelude.{◌≡◌, ◌↔◌, ◌⊎◌, ◌++◌, ◌-◌, ◌≤◌, ◌<◌, ◌^◌, false, List, All, Some, IfErr, IfOk, IfSome, IsNone, IsOk, IsOkUnless, IsTrue, OnOk, length, map, slice_get};
+ghost use Rattle.std.specs.Prelude.{◌≡◌, ◌↔◌, ◌⊎◌, ◌++◌, ◌-◌, ◌≤◌, ◌<◌, ◌^◌, false, List, All};
+ghost use Rattle.std.specs.Prelude.{Some, IfErr, IfOk, IfSome, IsNone, IsOk, IsOkUnless, IsTrue};
+ghost use Rattle.std.specs.Prelude.{OnOk, length, map, slice_get};
 ghost use Rattle.std.specs.List.{Any, Contains};
 ghost use Rattle.goo_types.specs.declared.lot_fields.LotFields.{LotFields};
 ghost use Rattle.sqlite.specs.Held.{state};
@@ -8,7 +10,8 @@ ghost use Rattle.goo_tables_rows.specs.Rows.{Lot as RowOfLot};
 ghost use Rattle.goo_tables_holdings.specs.Changes.{PieceFits};
 ghost use Rattle.goo_store_changes.specs.Changes.{ChangeFits};
 ghost use Rattle.goo_store_plans.specs.EditChanges.{AreForEdits, AreRowsOf};
-ghost use Rattle.goo_store_plans.specs.EditsGathered.{AddsEdit, CanBeTaken, HasNoNumber, HasRowToBe};
+ghost use Rattle.goo_store_plans.specs.EditsGathered.{AddsEdit, CanBeTaken, HasNoNumber};
+ghost use Rattle.goo_store_plans.specs.EditsGathered.{HasRowToBe};
 ghost use Rattle.goo_store_plans.specs.EditsTaken.{CanTakeEdits};
 ghost use Rattle.goo_store_plans.specs.LookingUp.{LooksUp};
 ghost use Rattle.goo_store_plans.specs.LotNumbers.{AreNumbered, AreWith, IsNumberOf};
@@ -39,9 +42,11 @@ fn is_last(lots: &[Lot], lot: &Lot) -> bool
 
 /// Adds a lot, unless it is the last.
 fn note_lot(lots: &mut Vec<Lot>, lot: &Lot) -> Result<(), Trouble>
-    ensures kept { OnOk result ((x : LotFields) → Contains lots.old.items x → Contains lots.new.items x) }
+    ensures kept { OnOk result
+        ((x : LotFields) → Contains lots.old.items x → Contains lots.new.items x) }
     ensures noted { OnOk result (Contains lots.new.items lot.now) }
-    ensures only { OnOk result ((x : LotFields) → Contains lots.new.items x → Contains lots.old.items x ⊎ (lot.now ≡ x)) }
+    ensures only { OnOk result
+        ((x : LotFields) → Contains lots.new.items x → Contains lots.old.items x ⊎ (lot.now ≡ x)) }
     ensures memory { IsOkUnless result Memory }
 {
     if is_last(lots, lot) {
@@ -53,9 +58,12 @@ fn note_lot(lots: &mut Vec<Lot>, lot: &Lot) -> Result<(), Trouble>
 
 /// Adds the lots of pieces, once for those in a row that have one lot.
 fn note_lots(lots: &mut Vec<Lot>, pieces: &[Piece]) -> Result<(), Trouble>
-    ensures kept { OnOk result ((x : LotFields) → Contains lots.old.items x → Contains lots.new.items x) }
+    ensures kept { OnOk result
+        ((x : LotFields) → Contains lots.old.items x → Contains lots.new.items x) }
     ensures noted { OnOk result (All (λ p. Contains lots.new.items p.lot) pieces.now) }
-    ensures only { OnOk result ((x : LotFields) → Contains lots.new.items x → Contains lots.old.items x ⊎ Any (λ p. p.lot ≡ x) pieces.now) }
+    ensures only { OnOk result
+        ((x : LotFields) → Contains lots.new.items x → Contains lots.old.items x
+        ⊎ Any (λ p. p.lot ≡ x) pieces.now) }
     ensures memory { IsOkUnless result Memory }
 {
     for piece in pieces {
@@ -66,8 +74,11 @@ fn note_lots(lots: &mut Vec<Lot>, pieces: &[Piece]) -> Result<(), Trouble>
 
 /// The lots of the pieces that edits insert, once for those in a row that have one lot.
 fn lots_inserted(alloc: Global, edits: &[Edit]) -> Result<Vec<Lot>, Trouble>
-    ensures noted { IfOk result (λ lots. All (λ e. All (λ p. Contains lots.items p.lot) e.insert.items) edits.now) }
-    ensures only { IfOk result (λ lots. (x : LotFields) → Contains lots.items x → Any (λ e. Any (λ p. p.lot ≡ x) e.insert.items) edits.now) }
+    ensures noted { IfOk result
+        (λ lots. All (λ e. All (λ p. Contains lots.items p.lot) e.insert.items) edits.now) }
+    ensures only { IfOk result
+        (λ lots. (x : LotFields) → Contains lots.items x
+        → Any (λ e. Any (λ p. p.lot ≡ x) e.insert.items) edits.now) }
     ensures memory { IsOkUnless result Memory }
 {
     let mut lots = Vec::new(alloc);
@@ -87,7 +98,9 @@ struct NumberAt {
 /// The number of a lot between two places, the second not counted, and its place.
 fn number_between(found: &[NumberedLot], from: usize, to: usize, lot: &Lot) -> Option<NumberAt>
     requires { to ≤ length found.now }
-    ensures numbers { IfSome result (λ at. (lots : List RowOfLot) → AreNumbered lots found.now → IsNumberOf lots at.number lot.now) }
+    ensures numbers { IfSome result
+        (λ at. (lots : List RowOfLot) → AreNumbered lots found.now
+        → IsNumberOf lots at.number lot.now) }
     ensures fits { IfSome result (λ at. at.number < 2 ^ 63) }
     ensures none { IsNone result → HasNoNumber found.now from to lot.now }
 {
@@ -103,9 +116,12 @@ fn number_between(found: &[NumberedLot], from: usize, to: usize, lot: &Lot) -> O
 
 /// The number of a lot: from a place to the end, and else from the start to that place.
 fn number_from(found: &[NumberedLot], from: usize, lot: &Lot) -> Result<NumberAt, Trouble>
-    ensures numbers { IfOk result (λ at. (lots : List RowOfLot) → AreNumbered lots found.now → IsNumberOf lots at.number lot.now) }
+    ensures numbers { IfOk result
+        (λ at. (lots : List RowOfLot) → AreNumbered lots found.now
+        → IsNumberOf lots at.number lot.now) }
     ensures fits { IfOk result (λ at. at.number < 2 ^ 63) }
-    ensures finds { Any (λ known. (known.lot ≡ lot.now) × (known.number < 2 ^ 63)) found.now → IsOk result }
+    ensures finds { Any (λ known. (known.lot ≡ lot.now) × (known.number < 2 ^ 63)) found.now
+        → IsOk result }
     ensures cause { IfErr result (λ trouble. trouble ≡ Refused) }
 {
     let end = found.len();
@@ -125,7 +141,9 @@ fn piece_rows(
     place: &mut usize,
     pieces: &[Piece],
 ) -> Result<Vec<PieceRow>, Trouble>
-    ensures rows { IfOk result (λ rows. (lots : List RowOfLot) → AreNumbered lots found.now → AreRowsOf lots rows.items pieces.now) }
+    ensures rows { IfOk result
+        (λ rows. (lots : List RowOfLot) → AreNumbered lots found.now
+        → AreRowsOf lots rows.items pieces.now) }
     ensures fits { IfOk result (λ rows. All PieceFits rows.items) }
     ensures memory { All (HasRowToBe found.now) pieces.now → IsOkUnless result Memory }
 {
@@ -141,8 +159,10 @@ fn piece_rows(
 
 /// The deletions of the pieces that begin with these numbers.
 fn push_deletes(changes: &mut Vec<TableChange>, firsts: &[Number]) -> Result<(), Trouble>
-    ensures items { OnOk result (changes.new.items ≡ changes.old.items ++ map (λ k. TableChange.DeletePiece k) firsts.now) }
-    ensures fits { All ChangeFits changes.old.items → OnOk result (All ChangeFits changes.new.items) }
+    ensures items { OnOk result
+        (changes.new.items ≡ changes.old.items ++ map (λ k. TableChange.DeletePiece k) firsts.now) }
+    ensures fits { All ChangeFits changes.old.items
+        → OnOk result (All ChangeFits changes.new.items) }
     ensures memory { IsOkUnless result Memory }
 {
     for first in firsts {
@@ -154,8 +174,10 @@ fn push_deletes(changes: &mut Vec<TableChange>, firsts: &[Number]) -> Result<(),
 /// The insertions of these rows.
 fn push_inserts(changes: &mut Vec<TableChange>, rows: &[PieceRow]) -> Result<(), Trouble>
     requires { All PieceFits rows.now }
-    ensures items { OnOk result (changes.new.items ≡ changes.old.items ++ map (λ x. TableChange.InsertPiece x) rows.now) }
-    ensures fits { All ChangeFits changes.old.items → OnOk result (All ChangeFits changes.new.items) }
+    ensures items { OnOk result
+        (changes.new.items ≡ changes.old.items ++ map (λ x. TableChange.InsertPiece x) rows.now) }
+    ensures fits { All ChangeFits changes.old.items
+        → OnOk result (All ChangeFits changes.new.items) }
     ensures memory { IsOkUnless result Memory }
 {
     for row in rows {
@@ -173,7 +195,8 @@ fn push_edit(
     edit: &Edit,
 ) -> Result<(), Trouble>
     ensures made { OnOk result (AddsEdit found.now edit.now changes.old.items changes.new.items) }
-    ensures fits { All ChangeFits changes.old.items → OnOk result (All ChangeFits changes.new.items) }
+    ensures fits { All ChangeFits changes.old.items
+        → OnOk result (All ChangeFits changes.new.items) }
     ensures memory { CanBeTaken found.now edit.now → IsOkUnless result Memory }
 {
     let rows = piece_rows(alloc, found, place, &edit.insert)?;
@@ -187,7 +210,9 @@ fn edit_changes(
     found: &[NumberedLot],
     edits: &[Edit],
 ) -> Result<Vec<TableChange>, Trouble>
-    ensures made { IfOk result (λ changes. (lots : List RowOfLot) → AreNumbered lots found.now → AreForEdits lots edits.now changes.items) }
+    ensures made { IfOk result
+        (λ changes. (lots : List RowOfLot) → AreNumbered lots found.now
+        → AreForEdits lots edits.now changes.items) }
     ensures fits { IfOk result (λ changes. All ChangeFits changes.items) }
     ensures memory { All (CanBeTaken found.now) edits.now → IsOkUnless result Memory }
 {
@@ -199,8 +224,8 @@ fn edit_changes(
     Ok(changes)
 }
 
-/// The changes that carry out edits in turn. The lots of the pieces that they insert are among those
-/// that are added, or in the table.
+/// The changes that carry out edits in turn. The lots of the pieces that they insert are among
+/// those that are added, or in the table.
 ///
 /// # Errors
 ///
@@ -211,8 +236,11 @@ pub fn changes_of_edits<S: Alter>(
     added: &[NumberedLot],
     edits: &[Edit],
 ) -> Result<Vec<TableChange>, Trouble>
-    ensures looks { LooksUp (state S.Store conn.old) (state S.Store conn.new) result (λ t changes. (lots : List RowOfLot) → AreWith t.lots added.now lots → AreForEdits lots edits.now changes.items) }
-    ensures blames { BlamesDisk (state S.Store conn.old) (state S.Store conn.new) result (λ t. CanTakeEdits added.now t edits.now) }
+    ensures looks { LooksUp (state S.Store conn.old) (state S.Store conn.new) result
+        (λ t changes. (lots : List RowOfLot) → AreWith t.lots added.now lots
+        → AreForEdits lots edits.now changes.items) }
+    ensures blames { BlamesDisk (state S.Store conn.old) (state S.Store conn.new) result
+        (λ t. CanTakeEdits added.now t edits.now) }
     ensures fits { IfOk result (λ changes. All ChangeFits changes.items) }
     ensures outside { conn.old.in_transaction ≡ false → conn.new.in_transaction ≡ false }
 {

@@ -37,8 +37,8 @@ pub struct Edges {
     pub asked: Option<u64>,
 }
 
-/// What look-ups and commits found that a commit needs. All of it is so in the tables; what isn't here, the
-/// commit looks up itself.
+/// What look-ups and commits found that a commit needs. All of it is so in the tables; what isn't
+/// here, the commit looks up itself.
 #[derive(Drop)]
 pub struct Findings {
     /// The registry's row.

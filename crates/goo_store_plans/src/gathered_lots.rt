@@ -1,6 +1,7 @@
 //! The lots that the parts of a notice make known.
 
-ghost use Rattle.std.specs.Prelude.{◌≡◌, ◌≤◌, ◌<◌, ◌+◌, ◌^◌, [], false, pos, All, IfOk, IfSome, IsOkUnless, OnOk, is_some, length, option_map, ⊤};
+ghost use Rattle.std.specs.Prelude.{◌≡◌, ◌≤◌, ◌<◌, ◌+◌, ◌^◌, [], false, pos, All, IfOk, IfSome};
+ghost use Rattle.std.specs.Prelude.{IsOkUnless, OnOk, is_some, length, option_map, ⊤};
 ghost use Rattle.std.specs.FinMap.{contains_key};
 ghost use Rattle.std.specs.Ordering.{eq_by_cmp};
 ghost use Rattle.sqlite.specs.Held.{state};
@@ -57,8 +58,10 @@ fn number_after(found: Result<Option<LotRow>, Error>) -> Result<u64, Trouble>
 
 /// The number that the next lot gets, as the table shows it.
 fn find_lot_number<S: Alter>(alloc: Global, conn: &mut Connection<S>) -> Result<u64, Trouble>
-    ensures looks { LooksUp (state S.Store conn.old) (state S.Store conn.new) result (λ t n. pos n ≡ next_key lot_key t.lots) }
-    ensures blames { BlamesDisk (state S.Store conn.old) (state S.Store conn.new) result (λ t. HasRoom 0 lot_key t.lots) }
+    ensures looks { LooksUp (state S.Store conn.old) (state S.Store conn.new) result
+        (λ t n. pos n ≡ next_key lot_key t.lots) }
+    ensures blames { BlamesDisk (state S.Store conn.old) (state S.Store conn.new) result
+        (λ t. HasRoom 0 lot_key t.lots) }
     ensures outside { conn.old.in_transaction ≡ false → conn.new.in_transaction ≡ false }
 {
     let found = last_lot(alloc, conn);
@@ -71,8 +74,10 @@ pub(crate) fn next_lot_number<S: Alter>(
     conn: &mut Connection<S>,
     known: Option<u64>,
 ) -> Result<u64, Trouble>
-    ensures looks { LooksUp (state S.Store conn.old) (state S.Store conn.new) result (λ t n. IsNext known lot_key t.lots → pos n ≡ next_key lot_key t.lots) }
-    ensures blames { BlamesDisk (state S.Store conn.old) (state S.Store conn.new) result (λ t. HasRoom 0 lot_key t.lots) }
+    ensures looks { LooksUp (state S.Store conn.old) (state S.Store conn.new) result
+        (λ t n. IsNext known lot_key t.lots → pos n ≡ next_key lot_key t.lots) }
+    ensures blames { BlamesDisk (state S.Store conn.old) (state S.Store conn.new) result
+        (λ t. HasRoom 0 lot_key t.lots) }
     ensures outside { conn.old.in_transaction ≡ false → conn.new.in_transaction ≡ false }
 {
     match known {
@@ -95,7 +100,8 @@ fn is_in_table<S: Alter>(
     conn: &mut Connection<S>,
     lot: &Lot,
 ) -> Result<bool, Trouble>
-    ensures looks { LooksUp (state S.Store conn.old) (state S.Store conn.new) result (λ t known. known ≡ contains_key (known_lots t.lots) (key_of lot.now)) }
+    ensures looks { LooksUp (state S.Store conn.old) (state S.Store conn.new) result
+        (λ t known. known ≡ contains_key (known_lots t.lots) (key_of lot.now)) }
     ensures blames { BlamesDisk (state S.Store conn.old) (state S.Store conn.new) result (λ _. ⊤) }
     ensures outside { conn.old.in_transaction ≡ false → conn.new.in_transaction ≡ false }
 {
@@ -124,15 +130,17 @@ fn is_among_lots(lots: &[NumberedLot], lot: &Lot) -> bool
     lots.iter().any(|known| is_known_as(known, lot))
 }
 
-/// Whether a lot of this origin, device and first day is in the table: one that is kept is. Any other
-/// is looked up.
+/// Whether a lot of this origin, device and first day is in the table: one that is kept is. Any
+/// other is looked up.
 fn is_there_already<S: Alter>(
     alloc: Global,
     conn: &mut Connection<S>,
     kept: &[NumberedLot],
     lot: &Lot,
 ) -> Result<bool, Trouble>
-    ensures looks { LooksUp (state S.Store conn.old) (state S.Store conn.new) result (λ t known. AreStated t.lots kept.now → known ≡ contains_key (known_lots t.lots) (key_of lot.now)) }
+    ensures looks { LooksUp (state S.Store conn.old) (state S.Store conn.new) result
+        (λ t known. AreStated t.lots kept.now
+        → known ≡ contains_key (known_lots t.lots) (key_of lot.now)) }
     ensures blames { BlamesDisk (state S.Store conn.old) (state S.Store conn.new) result (λ _. ⊤) }
     ensures outside { conn.old.in_transaction ≡ false → conn.new.in_transaction ≡ false }
 {
@@ -146,7 +154,8 @@ fn is_there_already<S: Alter>(
 /// One lot more, under the next number.
 pub fn add_lot(alloc: Global, gathered: &mut Gathered, lot: &Lot) -> Result<(), Trouble>
     ensures added { OnOk result (AddsLot lot.now gathered.old gathered.new) }
-    ensures fits { All ChangeFits gathered.old.changes.items → OnOk result (All ChangeFits gathered.new.changes.items) }
+    ensures fits { All ChangeFits gathered.old.changes.items
+        → OnOk result (All ChangeFits gathered.new.changes.items) }
     ensures memory { gathered.old.next < 2 ^ 63 → IsOkUnless result Memory }
 {
     let number = gathered.next;
@@ -167,11 +176,14 @@ fn gather_lot<S: Alter>(
     gathered: &mut Gathered,
     part: &Part,
 ) -> Result<(), Trouble>
-    ensures looks { LooksUp (state S.Store conn.old) (state S.Store conn.new) result (λ t _. AreStated t.lots kept.now → Gathers t.lots part.now gathered.old gathered.new) }
-    ensures blames { BlamesDisk (state S.Store conn.old) (state S.Store conn.new) result (λ _. gathered.old.next < 2 ^ 63) }
+    ensures looks { LooksUp (state S.Store conn.old) (state S.Store conn.new) result
+        (λ t _. AreStated t.lots kept.now → Gathers t.lots part.now gathered.old gathered.new) }
+    ensures blames { BlamesDisk (state S.Store conn.old) (state S.Store conn.new) result
+        (λ _. gathered.old.next < 2 ^ 63) }
     ensures counts { OnOk result (gathered.new.next ≤ gathered.old.next + 1) }
     ensures outside { conn.old.in_transaction ≡ false → conn.new.in_transaction ≡ false }
-    ensures fits { All ChangeFits gathered.old.changes.items → OnOk result (All ChangeFits gathered.new.changes.items) }
+    ensures fits { All ChangeFits gathered.old.changes.items
+        → OnOk result (All ChangeFits gathered.new.changes.items) }
 {
     let among = is_among_lots(&gathered.added, &part.lot);
     if among {
@@ -184,8 +196,8 @@ fn gather_lot<S: Alter>(
     add_lot(alloc, gathered, &part.lot)
 }
 
-/// The lots of the parts that aren't known by then, in turn. Those that are kept aren't looked up, nor is the
-/// number of the first where it is known.
+/// The lots of the parts that aren't known by then, in turn. Those that are kept aren't looked up,
+/// nor is the number of the first where it is known.
 pub fn gather_lots<S: Alter>(
     alloc: Global,
     conn: &mut Connection<S>,
@@ -193,8 +205,11 @@ pub fn gather_lots<S: Alter>(
     kept: &[NumberedLot],
     parts: &[Part],
 ) -> Result<Gathered, Trouble>
-    ensures looks { LooksUp (state S.Store conn.old) (state S.Store conn.new) result (λ t gathered. IsNext known lot_key t.lots → AreStated t.lots kept.now → ArePutIn t.lots parts.now [] gathered) }
-    ensures blames { BlamesDisk (state S.Store conn.old) (state S.Store conn.new) result (λ t. IsNext known lot_key t.lots × HasRoom (length parts.now) lot_key t.lots) }
+    ensures looks { LooksUp (state S.Store conn.old) (state S.Store conn.new) result
+        (λ t gathered. IsNext known lot_key t.lots → AreStated t.lots kept.now
+        → ArePutIn t.lots parts.now [] gathered) }
+    ensures blames { BlamesDisk (state S.Store conn.old) (state S.Store conn.new) result
+        (λ t. IsNext known lot_key t.lots × HasRoom (length parts.now) lot_key t.lots) }
     ensures outside { conn.old.in_transaction ≡ false → conn.new.in_transaction ≡ false }
     ensures fits { IfOk result (λ gathered. All ChangeFits gathered.changes.items) }
 {

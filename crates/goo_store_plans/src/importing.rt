@@ -28,7 +28,9 @@ use std::alloc::Global;
 
 /// The row of a notice that came in.
 fn notice_row(alloc: Global, notice: &Notice) -> Result<NoticeInRow, Trouble>
-    ensures states { IfOk result (λ row. known_arrival (pos 0, notice_in_in row) ≡ ((notice.now.sender, notice.now.number), notice.now)) }
+    ensures states { IfOk result
+        (λ row. known_arrival (pos 0, notice_in_in row)
+        ≡ ((notice.now.sender, notice.now.number), notice.now)) }
     ensures reads { IfOk result (λ row. is_notice_in (pos 0, notice_in_in row) ≡ true) }
     ensures memory { IsOkUnless result Memory }
 {
@@ -42,8 +44,9 @@ fn notice_row(alloc: Global, notice: &Notice) -> Result<NoticeInRow, Trouble>
     })
 }
 
-/// The lots of the notice's parts that aren't known yet, and the notice. Of lots that are kept it is
-/// known that they are; `next_lot` is the number that the first of the others gets, where it is known.
+/// The lots of the notice's parts that aren't known yet, and the notice. Of lots that are kept it
+/// is known that they are; `next_lot` is the number that the first of the others gets, where it is
+/// known.
 pub fn import_changes<S: Alter>(
     alloc: Global,
     conn: &mut Connection<S>,
@@ -51,8 +54,13 @@ pub fn import_changes<S: Alter>(
     kept: &[NumberedLot],
     import: &Import,
 ) -> Result<Gathered, Trouble>
-    ensures looks { LooksUp (state S.Store conn.old) (state S.Store conn.new) result (λ t gathered. IsNext next_lot lot_key t.lots → AreStated t.lots kept.now → (q : Request) (reply : Reply) → q.command ≡ Command.Import import.now → IsAccepted t q reply → CarriesOut t q.command gathered) }
-    ensures blames { BlamesDisk (state S.Store conn.old) (state S.Store conn.new) result (λ t. IsNext next_lot lot_key t.lots × HasRoom (length import.now.notice.parts) lot_key t.lots) }
+    ensures looks { LooksUp (state S.Store conn.old) (state S.Store conn.new) result
+        (λ t gathered. IsNext next_lot lot_key t.lots → AreStated t.lots kept.now
+        → (q : Request) (reply : Reply) → q.command ≡ Command.Import import.now
+        → IsAccepted t q reply → CarriesOut t q.command gathered) }
+    ensures blames { BlamesDisk (state S.Store conn.old) (state S.Store conn.new) result
+        (λ t. IsNext next_lot lot_key t.lots
+        × HasRoom (length import.now.notice.parts) lot_key t.lots) }
     ensures fits { IfOk result (λ gathered. All ChangeFits gathered.changes.items) }
     ensures outside { conn.old.in_transaction ≡ false → conn.new.in_transaction ≡ false }
 {

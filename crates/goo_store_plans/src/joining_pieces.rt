@@ -29,7 +29,8 @@ fn join_next(
 ) -> Result<PieceRow, Trouble>
     ensures changes { OnOk result (changes.new.items ≡ changes.old.items ++ step_of row next) }
     ensures row { IfOk result (λ wide. wide ≡ wide_of row next) }
-    ensures fits { All ChangeFits changes.old.items → OnOk result (All ChangeFits changes.new.items) }
+    ensures fits { All ChangeFits changes.old.items
+        → OnOk result (All ChangeFits changes.new.items) }
     ensures low { PieceFits row → IfSome next PieceFits → IfOk result PieceFits }
     ensures memory { PieceFits row → IfSome next PieceFits → IsOkUnless result Memory }
 {
@@ -52,13 +53,16 @@ fn join_next(
     Ok(wide)
 }
 
-/// The changes that join each piece with those that go on where it ends, from the last to the first.
+/// The changes that join each piece with those that go on where it ends, from the last to the
+/// first.
 ///
 /// # Errors
 ///
 /// `Memory`, and `Refused` where a number is too large for its column.
 pub fn joining_changes(alloc: Global, pieces: &[PieceRow]) -> Result<Vec<TableChange>, Trouble>
-    ensures joins { IfOk result (λ changes. (t : Tables) → t.pieces ≡ pieces.now → IsKeyedBy piece_key t.pieces → JoinsPieces t changes.items) }
+    ensures joins { IfOk result
+        (λ changes. (t : Tables) → t.pieces ≡ pieces.now → IsKeyedBy piece_key t.pieces
+        → JoinsPieces t changes.items) }
     ensures fits { IfOk result (λ changes. All ChangeFits changes.items) }
     ensures memory { All PieceFits pieces.now → IsOkUnless result Memory }
 {

@@ -1,4 +1,5 @@
-//! What is known of the basis of a declaration, from one commit to the next: no number is looked up twice.
+//! What is known of the basis of a declaration, from one commit to the next: no number is looked up
+//! twice.
 
 ghost use Rattle.std.specs.Prelude.{◌≡◌, ◌+◌, ◌<◌, ◌^◌, false, Some, IfSome};
 ghost use Rattle.sqlite.specs.Held.{state};
@@ -26,8 +27,10 @@ fn with_next_lot<S: Alter>(
     conn: &mut Connection<S>,
     known: KnownBasis,
 ) -> Result<KnownBasis, Trouble>
-    ensures looks { LooksUp (state S.Store conn.old) (state S.Store conn.new) result (λ t found. IsBasisOf known t → IsBasisOf found t) }
-    ensures blames { BlamesDisk (state S.Store conn.old) (state S.Store conn.new) result (λ t. HasRoom 0 lot_key t.lots) }
+    ensures looks { LooksUp (state S.Store conn.old) (state S.Store conn.new) result
+        (λ t found. IsBasisOf known t → IsBasisOf found t) }
+    ensures blames { BlamesDisk (state S.Store conn.old) (state S.Store conn.new) result
+        (λ t. HasRoom 0 lot_key t.lots) }
     ensures outside { conn.old.in_transaction ≡ false → conn.new.in_transaction ≡ false }
 {
     let next_lot = next_lot_number(alloc, conn, known.next_lot)?;
@@ -44,8 +47,10 @@ fn with_number<S: Alter>(
     conn: &mut Connection<S>,
     known: KnownBasis,
 ) -> Result<KnownBasis, Trouble>
-    ensures looks { LooksUp (state S.Store conn.old) (state S.Store conn.new) result (λ t found. IsBasisOf known t → IsBasisOf found t) }
-    ensures blames { BlamesDisk (state S.Store conn.old) (state S.Store conn.new) result (λ t. HasRoom 0 declaration_key t.declarations) }
+    ensures looks { LooksUp (state S.Store conn.old) (state S.Store conn.new) result
+        (λ t found. IsBasisOf known t → IsBasisOf found t) }
+    ensures blames { BlamesDisk (state S.Store conn.old) (state S.Store conn.new) result
+        (λ t. HasRoom 0 declaration_key t.declarations) }
     ensures outside { conn.old.in_transaction ≡ false → conn.new.in_transaction ≡ false }
 {
     let number = next_declaration_number(alloc, conn, known.number)?;
@@ -62,8 +67,10 @@ fn with_both<S: Alter>(
     conn: &mut Connection<S>,
     known: KnownBasis,
 ) -> Result<KnownBasis, Trouble>
-    ensures looks { LooksUp (state S.Store conn.old) (state S.Store conn.new) result (λ t found. IsBasisOf known t → IsBasisOf found t) }
-    ensures blames { BlamesDisk (state S.Store conn.old) (state S.Store conn.new) result (λ t. HasRoom 0 declaration_key t.declarations × HasRoom 0 lot_key t.lots) }
+    ensures looks { LooksUp (state S.Store conn.old) (state S.Store conn.new) result
+        (λ t found. IsBasisOf known t → IsBasisOf found t) }
+    ensures blames { BlamesDisk (state S.Store conn.old) (state S.Store conn.new) result
+        (λ t. HasRoom 0 declaration_key t.declarations × HasRoom 0 lot_key t.lots) }
     ensures outside { conn.old.in_transaction ≡ false → conn.new.in_transaction ≡ false }
 {
     let known = with_number(alloc, conn, known)?;
@@ -77,8 +84,10 @@ pub(crate) fn with_numbers<S: Alter>(
     known: KnownBasis,
     command: &Command,
 ) -> Result<KnownBasis, Trouble>
-    ensures looks { LooksUp (state S.Store conn.old) (state S.Store conn.new) result (λ t found. IsBasisOf known t → IsBasisOf found t) }
-    ensures blames { BlamesDisk (state S.Store conn.old) (state S.Store conn.new) result (λ t. HasRoomFor t command.now) }
+    ensures looks { LooksUp (state S.Store conn.old) (state S.Store conn.new) result
+        (λ t found. IsBasisOf known t → IsBasisOf found t) }
+    ensures blames { BlamesDisk (state S.Store conn.old) (state S.Store conn.new) result
+        (λ t. HasRoomFor t command.now) }
     ensures outside { conn.old.in_transaction ≡ false → conn.new.in_transaction ≡ false }
 {
     match command {
@@ -101,7 +110,8 @@ fn number_after(known: Option<u64>, taken: u64) -> Option<u64>
 
 /// What is known after a change, of the numbers alone.
 fn after_change(known: KnownBasis, change: &TableChange) -> KnownBasis
-    ensures { (t : Tables) → AreNumbered t → IsBasisOf known t → IsBasisOf result (made t change.now) }
+    ensures { (t : Tables) → AreNumbered t → IsBasisOf known t
+        → IsBasisOf result (made t change.now) }
 {
     match change {
         TableChange::AddDeclaration(row) => KnownBasis {
@@ -124,7 +134,8 @@ fn after_change(known: KnownBasis, change: &TableChange) -> KnownBasis
 
 /// What is known after changes, of the numbers alone.
 pub(crate) fn after_changes(known: &KnownBasis, changes: &[TableChange]) -> KnownBasis
-    ensures { (t : Tables) → AreInOrder t → IsBasisOf known.now t → IsBasisOf result (made_all t changes.now) }
+    ensures { (t : Tables) → AreInOrder t → IsBasisOf known.now t
+        → IsBasisOf result (made_all t changes.now) }
 {
     let mut after = *known;
     for change in changes {

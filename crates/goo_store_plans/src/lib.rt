@@ -1,4 +1,5 @@
-//! What a plan changes in the tables: looked up and gathered over a connection, and nothing of it done yet.
+//! What a plan changes in the tables: looked up and gathered over a connection, and nothing of it
+//! done yet.
 #![tactic(auto)]
 
 mod act_changes;

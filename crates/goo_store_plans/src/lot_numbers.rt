@@ -1,6 +1,7 @@
 //! The numbers of lots in the table.
 
-ghost use Rattle.std.specs.Prelude.{◌≡◌, ◌≢◌, false, All, List, IfOk, IfSome, IsNone, IsSomeAnd, Some, map, option_map};
+ghost use Rattle.std.specs.Prelude.{◌≡◌, ◌≢◌, false, All, List, IfOk, IfSome, IsNone, IsSomeAnd};
+ghost use Rattle.std.specs.Prelude.{Some, map, option_map};
 ghost use Rattle.std.specs.FinMap.{get};
 ghost use Rattle.sqlite.specs.Held.{state};
 ghost use Rattle.goo_tables_rows.specs.Rows.{Lot as RowOfLot, lot_in};
@@ -34,7 +35,8 @@ pub struct NumberedLot {
 /// The number in the row that was found for a lot, which must state what the lot does.
 fn number_found(found: Result<Option<LotRow>, Error>, lot: &Lot) -> Result<u64, Trouble>
     ensures value { Passes found result (λ row n. IsRowOfLot (option_map lot_in row) n lot.now) }
-    ensures accepts { Accepts found result (λ row. IsSomeAnd row (λ r. IsReadableLot (lot_in r) × (lot_of (lot_in r) ≡ lot.now))) }
+    ensures accepts { Accepts found result
+        (λ row. IsSomeAnd row (λ r. IsReadableLot (lot_in r) × (lot_of (lot_in r) ≡ lot.now))) }
 {
     let Some(row) = found? else {
         return Err(Trouble::Refused);
@@ -48,8 +50,10 @@ fn number_found(found: Result<Option<LotRow>, Error>, lot: &Lot) -> Result<u64, 
 
 /// The number of a lot that is in the table.
 fn find_number<S: Alter>(alloc: Global, conn: &mut Connection<S>, lot: &Lot) -> Result<u64, Trouble>
-    ensures looks { LooksUp (state S.Store conn.old) (state S.Store conn.new) result (λ t n. IsNumberOf t.lots n lot.now) }
-    ensures blames { BlamesDisk (state S.Store conn.old) (state S.Store conn.new) result (λ t. get (state_of t).lots (key_of lot.now) ≡ Some lot.now) }
+    ensures looks { LooksUp (state S.Store conn.old) (state S.Store conn.new) result
+        (λ t n. IsNumberOf t.lots n lot.now) }
+    ensures blames { BlamesDisk (state S.Store conn.old) (state S.Store conn.new) result
+        (λ t. get (state_of t).lots (key_of lot.now) ≡ Some lot.now) }
     ensures outside { conn.old.in_transaction ≡ false → conn.new.in_transaction ≡ false }
 {
     let day = lot.first_day().text();
@@ -65,7 +69,8 @@ fn find_number<S: Alter>(alloc: Global, conn: &mut Connection<S>, lot: &Lot) -> 
 
 /// The number of a lot among some.
 fn number_among(numbered: &[NumberedLot], lot: &Lot) -> Option<u64>
-    ensures value { IfSome result (λ n. (lots : List RowOfLot) → AreNumbered lots numbered.now → IsNumberOf lots n lot.now) }
+    ensures value { IfSome result
+        (λ n. (lots : List RowOfLot) → AreNumbered lots numbered.now → IsNumberOf lots n lot.now) }
     ensures none { IsNone result → All (λ known. known.lot ≢ lot.now) numbered.now }
 {
     for known in numbered {
@@ -83,8 +88,11 @@ fn number_of<S: Alter>(
     added: &[NumberedLot],
     lot: &Lot,
 ) -> Result<u64, Trouble>
-    ensures looks { LooksUp (state S.Store conn.old) (state S.Store conn.new) result (λ t n. (lots : List RowOfLot) → AreWith t.lots added.now lots → IsNumberOf lots n lot.now) }
-    ensures blames { BlamesDisk (state S.Store conn.old) (state S.Store conn.new) result (λ t. IsAtHand added.now t lot.now) }
+    ensures looks { LooksUp (state S.Store conn.old) (state S.Store conn.new) result
+        (λ t n. (lots : List RowOfLot) → AreWith t.lots added.now lots
+        → IsNumberOf lots n lot.now) }
+    ensures blames { BlamesDisk (state S.Store conn.old) (state S.Store conn.new) result
+        (λ t. IsAtHand added.now t lot.now) }
     ensures outside { conn.old.in_transaction ≡ false → conn.new.in_transaction ≡ false }
 {
     match number_among(added, lot) {
@@ -105,8 +113,11 @@ pub(crate) fn numbers_of<S: Alter>(
     added: &[NumberedLot],
     lots: &[Lot],
 ) -> Result<Vec<NumberedLot>, Trouble>
-    ensures looks { LooksUp (state S.Store conn.old) (state S.Store conn.new) result (λ t found. (lots : List RowOfLot) → AreWith t.lots added.now lots → AreNumbered lots found.items) }
-    ensures blames { BlamesDisk (state S.Store conn.old) (state S.Store conn.new) result (λ t. All (IsAtHand added.now t) lots.now) }
+    ensures looks { LooksUp (state S.Store conn.old) (state S.Store conn.new) result
+        (λ t found. (lots : List RowOfLot) → AreWith t.lots added.now lots
+        → AreNumbered lots found.items) }
+    ensures blames { BlamesDisk (state S.Store conn.old) (state S.Store conn.new) result
+        (λ t. All (IsAtHand added.now t) lots.now) }
     ensures each { IfOk result (λ found. map (λ x. x.lot) found.items ≡ lots.now) }
     ensures outside { conn.old.in_transaction ≡ false → conn.new.in_transaction ≡ false }
 {

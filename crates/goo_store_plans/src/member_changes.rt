@@ -21,7 +21,8 @@ use std::alloc::Global;
 
 /// A holder more.
 pub fn open_holder(alloc: Global, opened: &OpenHolder) -> Result<Vec<TableChange>, Trouble>
-    ensures does { IfOk result (λ changes. (t : Tables) → Does t (command.OpenHolder opened.now) changes.items) }
+    ensures does { IfOk result
+        (λ changes. (t : Tables) → Does t (command.OpenHolder opened.now) changes.items) }
     ensures fits { IfOk result (λ changes. All ChangeFits changes.items) }
     ensures memory { IsOkUnless result Memory }
 {
@@ -35,9 +36,12 @@ pub fn open_account(
     meta: &MetaRow,
     opened: &OpenAccount,
 ) -> Result<Vec<TableChange>, Trouble>
-    ensures does { IfOk result (λ changes. (t : Tables) → t.meta ≡ meta_in meta.now → Does t (command.OpenAccount opened.now) changes.items) }
+    ensures does { IfOk result
+        (λ changes. (t : Tables) → t.meta ≡ meta_in meta.now
+        → Does t (command.OpenAccount opened.now) changes.items) }
     ensures fits { IfOk result (λ changes. All ChangeFits changes.items) }
-    ensures memory { IsTrue (is_meta (meta_in meta.now)) → IsTrue (is_act meta.now.next_account) → IsOkUnless result Memory }
+    ensures memory { IsTrue (is_meta (meta_in meta.now)) → IsTrue (is_act meta.now.next_account)
+        → IsOkUnless result Memory }
 {
     let number = numbers::account_no(meta.next_account)?;
     let account = account_row(alloc, number, opened)?;
@@ -53,7 +57,8 @@ pub fn open_account(
 
 /// An account that is open no more.
 pub fn close_account(alloc: Global, closed: &CloseAccount) -> Result<Vec<TableChange>, Trouble>
-    ensures does { IfOk result (λ changes. (t : Tables) → Does t (command.CloseAccount closed.now) changes.items) }
+    ensures does { IfOk result
+        (λ changes. (t : Tables) → Does t (command.CloseAccount closed.now) changes.items) }
     ensures fits { IfOk result (λ changes. All ChangeFits changes.items) }
     ensures memory { IsOkUnless result Memory }
 {
@@ -66,7 +71,8 @@ pub fn register_device(
     alloc: Global,
     registered: &RegisterDevice,
 ) -> Result<Vec<TableChange>, Trouble>
-    ensures does { IfOk result (λ changes. (t : Tables) → Does t (command.RegisterDevice registered.now) changes.items) }
+    ensures does { IfOk result
+        (λ changes. (t : Tables) → Does t (command.RegisterDevice registered.now) changes.items) }
     ensures fits { IfOk result (λ changes. All ChangeFits changes.items) }
     ensures memory { IsOkUnless result Memory }
 {
@@ -76,7 +82,8 @@ pub fn register_device(
 
 /// Another registry more.
 pub fn add_peer(alloc: Global, added: &AddPeer) -> Result<Vec<TableChange>, Trouble>
-    ensures does { IfOk result (λ changes. (t : Tables) → Does t (command.AddPeer added.now) changes.items) }
+    ensures does { IfOk result
+        (λ changes. (t : Tables) → Does t (command.AddPeer added.now) changes.items) }
     ensures fits { IfOk result (λ changes. All ChangeFits changes.items) }
     ensures memory { IsOkUnless result Memory }
 {

@@ -1,7 +1,8 @@
-//! What an accepted correction changes in the tables: what withdraws the certificates in excess, if there are some, then the
-//! correction and its device's carry.
+//! What an accepted correction changes in the tables: what withdraws the certificates in excess, if
+//! there are some, then the correction and its device's carry.
 
-ghost use Rattle.std.specs.Prelude.{◌≡◌, ◌<◌, ◌^◌, ℕ, false, true, List, All, IfOk, IsOkUnless, IsTrue};
+ghost use Rattle.std.specs.Prelude.{◌≡◌, ◌<◌, ◌^◌, ℕ, false, true, List, All, IfOk, IsOkUnless};
+ghost use Rattle.std.specs.Prelude.{IsTrue};
 ghost use Rattle.sqlite.specs.Held.{state};
 ghost use Rattle.goo_types.specs.declared.command.Command.TheVariants as command;
 ghost use Rattle.goo_types.specs.declared.reply.Reply.TheVariants.{Corrected};
@@ -14,7 +15,8 @@ ghost use Rattle.goo_spec_tables.specs.Readable.{is_correction, is_meta};
 ghost use Rattle.goo_spec_tables.specs.States.{state_of};
 ghost use Rattle.goo_store_plans.specs.Carried.{AreInOrder, Carry, Does};
 ghost use Rattle.goo_store_changes.specs.Changes.{ChangeFits};
-ghost use Rattle.goo_store_plans.specs.Correcting.{CanBeCorrected, CanTakeOut, IsBasis, Lowers, TakesOut};
+ghost use Rattle.goo_store_plans.specs.Correcting.{CanBeCorrected, CanTakeOut, IsBasis, Lowers};
+ghost use Rattle.goo_store_plans.specs.Correcting.{TakesOut};
 ghost use Rattle.goo_store_plans.specs.LookingUp.{LooksUp};
 ghost use Rattle.goo_store_plans.specs.StoreFaults.{BlamesDisk};
 ghost use Rattle.goo_store_values.specs.declared.trouble.Trouble.TheVariants.{Memory};
@@ -40,7 +42,15 @@ fn correction_row(
     withdrawal: Option<ActNo>,
 ) -> Result<CorrectionRow, Trouble>
     ensures id { IfOk result (λ row. row.id ≡ number) }
-    ensures states { IfOk result (λ row. correction_of (correction_in row) ≡ record { device = accepted.now.device; first_day = accepted.now.first_day; less = accepted.now.less; withdrawal = withdrawal }) }
+    ensures states { IfOk result
+        (λ row. correction_of (correction_in row)
+        ≡ record {
+          device = accepted.now.device;
+          first_day = accepted.now.first_day;
+          less =
+              accepted.now.less;
+          withdrawal = withdrawal;
+        }) }
     ensures reads { IfOk result (λ row. is_correction (correction_in row) ≡ true) }
     ensures fits { IfOk result CorrectionFits }
     ensures memory { number < 2 ^ 63 → IsOkUnless result Memory }
@@ -65,7 +75,8 @@ fn lowering(
     withdrawal: Option<ActNo>,
     basis: &CorrectionBasis,
 ) -> Result<Vec<TableChange>, Trouble>
-    ensures lowers { IfOk result (λ changes. Lowers accepted.now carry withdrawal basis.now changes.items) }
+    ensures lowers { IfOk result
+        (λ changes. Lowers accepted.now carry withdrawal basis.now changes.items) }
     ensures fits { IfOk result (λ changes. All ChangeFits changes.items) }
     ensures memory { basis.now.number < 2 ^ 63 → carry < 2 ^ 63 → IsOkUnless result Memory }
 {
@@ -80,9 +91,13 @@ fn excess_withdrawn(
     meta: &MetaRow,
     accepted: &Correct,
 ) -> Result<Vec<TableChange>, Trouble>
-    ensures takes { IfOk result (λ changes. (t : Tables) → t.meta ≡ meta_in meta.now → AreKept t → AreInOrder t → (caller : List ℕ) → correct_refusal (state_of t) caller accepted.now ≡ None → TakesOut t (taken_out (state_of t) accepted.now accepted.now.range) changes.items) }
+    ensures takes { IfOk result
+        (λ changes. (t : Tables) → t.meta ≡ meta_in meta.now → AreKept t → AreInOrder t
+        → (caller : List ℕ) → correct_refusal (state_of t) caller accepted.now ≡ None
+        → TakesOut t (taken_out (state_of t) accepted.now accepted.now.range) changes.items) }
     ensures fits { IfOk result (λ changes. All ChangeFits changes.items) }
-    ensures memory { IsTrue (is_meta (meta_in meta.now)) → CanTakeOut meta.now accepted.now.range → IsOkUnless result Memory }
+    ensures memory { IsTrue (is_meta (meta_in meta.now)) → CanTakeOut meta.now accepted.now.range
+        → IsOkUnless result Memory }
 {
     match accepted.range {
         None => Ok(Vec::new(alloc)),
@@ -106,9 +121,14 @@ fn corrected_changes(
     withdrawal: Option<ActNo>,
     basis: &CorrectionBasis,
 ) -> Result<Vec<TableChange>, Trouble>
-    ensures does { IfOk result (λ changes. (t : Tables) (count : ℕ) → t.meta ≡ meta_in meta.now → IsBasis t accepted.now.device basis.now → correct_reply (state_of t) accepted.now ≡ Corrected carry count withdrawal → Does t (command.Correct accepted.now) changes.items) }
+    ensures does { IfOk result
+        (λ changes. (t : Tables) (count : ℕ) → t.meta ≡ meta_in meta.now
+        → IsBasis t accepted.now.device basis.now
+        → correct_reply (state_of t) accepted.now ≡ Corrected carry count withdrawal
+        → Does t (command.Correct accepted.now) changes.items) }
     ensures fits { IfOk result (λ changes. All ChangeFits changes.items) }
-    ensures memory { IsTrue (is_meta (meta_in meta.now)) → CanTakeOut meta.now accepted.now.range → basis.now.number < 2 ^ 63 → carry < 2 ^ 63 → IsOkUnless result Memory }
+    ensures memory { IsTrue (is_meta (meta_in meta.now)) → CanTakeOut meta.now accepted.now.range
+        → basis.now.number < 2 ^ 63 → carry < 2 ^ 63 → IsOkUnless result Memory }
 {
     let mut changes = excess_withdrawn(alloc, meta, accepted)?;
     let mut lowered = lowering(alloc, accepted, carry, withdrawal, basis)?;
@@ -116,12 +136,13 @@ fn corrected_changes(
     Ok(changes)
 }
 
-/// What an accepted correction changes, by the carry in Wh and the withdrawal that its reply states.
+/// What an accepted correction changes, by the carry in Wh and the withdrawal that its reply
+/// states.
 ///
 /// # Errors
 ///
-/// `Refused` where the device isn't registered or has no accepted period, or a number is too large, `Memory`, and the errors of
-/// the statements.
+/// `Refused` where the device isn't registered or has no accepted period, or a number is too large,
+/// `Memory`, and the errors of the statements.
 pub fn correct_changes<S: Alter>(
     alloc: Global,
     conn: &mut Connection<S>,
@@ -130,8 +151,12 @@ pub fn correct_changes<S: Alter>(
     carry: u64,
     withdrawal: Option<ActNo>,
 ) -> Result<Vec<TableChange>, Trouble>
-    ensures looks { LooksUp (state S.Store conn.old) (state S.Store conn.new) result (λ t changes. (count : ℕ) → t.meta ≡ meta_in meta.now → correct_reply (state_of t) accepted.now ≡ Corrected carry count withdrawal → Does t (command.Correct accepted.now) changes.items) }
-    ensures blames { BlamesDisk (state S.Store conn.old) (state S.Store conn.new) result (λ t. CanBeCorrected t meta.now accepted.now carry) }
+    ensures looks { LooksUp (state S.Store conn.old) (state S.Store conn.new) result
+        (λ t changes. (count : ℕ) → t.meta ≡ meta_in meta.now
+        → correct_reply (state_of t) accepted.now ≡ Corrected carry count withdrawal
+        → Does t (command.Correct accepted.now) changes.items) }
+    ensures blames { BlamesDisk (state S.Store conn.old) (state S.Store conn.new) result
+        (λ t. CanBeCorrected t meta.now accepted.now carry) }
     ensures fits { IfOk result (λ changes. All ChangeFits changes.items) }
     ensures outside { conn.old.in_transaction ≡ false → conn.new.in_transaction ≡ false }
 {

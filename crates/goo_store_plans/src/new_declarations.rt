@@ -1,6 +1,7 @@
 //! What an accepted declaration changes in the tables, by the rows that were found for it.
 
-ghost use Rattle.std.specs.Prelude.{◌≡◌, ◌+◌, ◌<◌, ◌^◌, false, true, string_bytes, All, IfOk, IsOk, IsOkUnless, IsTrue};
+ghost use Rattle.std.specs.Prelude.{◌≡◌, ◌+◌, ◌<◌, ◌^◌, false, true, string_bytes, All, IfOk, IsOk};
+ghost use Rattle.std.specs.Prelude.{IsOkUnless, IsTrue};
 ghost use Rattle.sqlite.specs.Held.{state};
 ghost use Rattle.goo_types.specs.Lot.{IsLot};
 ghost use Rattle.goo_types.specs.declared.reply.Reply.{Reply};
@@ -15,7 +16,8 @@ ghost use Rattle.goo_spec_tables.specs.Readable.{is_declaration, is_meta};
 ghost use Rattle.goo_spec_tables.specs.Texts.{day_of};
 ghost use Rattle.goo_store_plans.specs.Carrying.{CarriesOut, IsAccepted};
 ghost use Rattle.goo_store_changes.specs.Changes.{ChangeFits};
-ghost use Rattle.goo_store_plans.specs.Declaring.{Begins, CanBeDeclared, IsDue, IsWithinLimits, Issues, count_of, lot_stated};
+ghost use Rattle.goo_store_plans.specs.Declaring.{Begins, CanBeDeclared, IsDue, IsWithinLimits};
+ghost use Rattle.goo_store_plans.specs.Declaring.{Issues, count_of, lot_stated};
 ghost use Rattle.goo_store_plans.specs.Found.{IsBasisOf};
 ghost use Rattle.goo_store_plans.specs.LookingUp.{LooksUp};
 ghost use Rattle.goo_store_plans.specs.StoreFaults.{BlamesDisk};
@@ -66,8 +68,11 @@ fn declaration_row(
 
 /// What the certificates that are issued for a declaration have in common.
 fn issued_lot(meta: &MetaRow, declared: &Declare, device: &Device) -> Result<Lot, Trouble>
-    ensures value { IfOk result (λ lot. (s : State) → s.own ≡ meta.now.code → s.today ≡ day_of (string_bytes meta.now.today) → lot ≡ lot_for s declared.now device.now) }
-    ensures accepts { IsTrue (is_meta (meta_in meta.now)) → IsLot (lot_stated meta.now declared.now device.now) → IsOk result }
+    ensures value { IfOk result
+        (λ lot. (s : State) → s.own ≡ meta.now.code → s.today ≡ day_of (string_bytes meta.now.today)
+        → lot ≡ lot_for s declared.now device.now) }
+    ensures accepts { IsTrue (is_meta (meta_in meta.now))
+        → IsLot (lot_stated meta.now declared.now device.now) → IsOk result }
 {
     let own = numbers::registry_code(meta.code)?;
     let today = texts::day(&meta.today)?;
@@ -108,9 +113,13 @@ fn issue(
     standing: &DeclarationBasis,
     gathered: &mut Gathered,
 ) -> Result<u64, Trouble>
-    ensures issues { IfOk result (Issues meta.now declared.now standing.now issued gathered.old gathered.new) }
-    ensures fits { All ChangeFits gathered.old.changes.items → IfOk result (λ _. All ChangeFits gathered.new.changes.items) }
-    ensures memory { IsTrue (is_meta (meta_in meta.now)) → IsLot (lot_stated meta.now declared.now standing.now.device) → gathered.old.next < 2 ^ 63 → IsOkUnless result Memory }
+    ensures issues { IfOk result
+        (Issues meta.now declared.now standing.now issued gathered.old gathered.new) }
+    ensures fits { All ChangeFits gathered.old.changes.items
+        → IfOk result (λ _. All ChangeFits gathered.new.changes.items) }
+    ensures memory { IsTrue (is_meta (meta_in meta.now))
+        → IsLot (lot_stated meta.now declared.now standing.now.device) → gathered.old.next < 2 ^ 63
+        → IsOkUnless result Memory }
     ensures count { IfOk result (λ count. count ≡ count_of issued) }
 {
     match issued {
@@ -125,7 +134,16 @@ fn issue(
 
 /// The numbers that are given next, after so many serials more.
 fn counters_after(meta: &MetaRow, count: u64) -> Result<CountersRow, Trouble>
-    ensures value { IfOk result (λ c. c ≡ record { next_serial = meta.now.next_serial + count; next_account = meta.now.next_account; next_cancellation = meta.now.next_cancellation; next_withdrawal = meta.now.next_withdrawal; next_notice = meta.now.next_notice }) }
+    ensures value { IfOk result
+        (λ c. c ≡ record {
+          next_serial = meta.now.next_serial + count;
+          next_account =
+              meta.now.next_account;
+          next_cancellation = meta.now.next_cancellation;
+          next_withdrawal =
+              meta.now.next_withdrawal;
+          next_notice = meta.now.next_notice;
+        }) }
     ensures fits { IfOk result CountersFit }
     ensures accepts { meta.now.next_serial + count < 2 ^ 63 → IsOk result }
 {
@@ -153,8 +171,12 @@ fn declared_changes(
     issued: Option<Range>,
     standing: &DeclarationBasis,
 ) -> Result<Gathered, Trouble>
-    ensures carries { IfOk result (λ gathered. (t : Tables) (q : Request) (reply : Reply) → IsDue t q reply meta.now declared.now carry issued standing.now → CarriesOut t q.command gathered) }
-    ensures memory { IsWithinLimits meta.now declared.now carry issued standing.now → IsOkUnless result Memory }
+    ensures carries { IfOk result
+        (λ gathered. (t : Tables) (q : Request) (reply : Reply)
+        → IsDue t q reply meta.now declared.now carry issued standing.now
+        → CarriesOut t q.command gathered) }
+    ensures memory { IsWithinLimits meta.now declared.now carry issued standing.now
+        → IsOkUnless result Memory }
     ensures fits { IfOk result (λ gathered. All ChangeFits gathered.changes.items) }
 {
     let mut gathered = begin(alloc, declared, carry, standing)?;
@@ -164,12 +186,13 @@ fn declared_changes(
     Ok(gathered)
 }
 
-/// What an accepted declaration changes, by the carry in Wh and the certificates that its reply states.
-/// What is known of its basis isn't looked up.
+/// What an accepted declaration changes, by the carry in Wh and the certificates that its reply
+/// states. What is known of its basis isn't looked up.
 ///
 /// # Errors
 ///
-/// `Refused` where the device isn't registered or a number is too large, `Memory`, and the errors of the statements.
+/// `Refused` where the device isn't registered or a number is too large, `Memory`, and the errors
+/// of the statements.
 pub fn declare_changes<S: Alter>(
     alloc: Global,
     conn: &mut Connection<S>,
@@ -179,8 +202,12 @@ pub fn declare_changes<S: Alter>(
     carry: u64,
     issued: Option<Range>,
 ) -> Result<Gathered, Trouble>
-    ensures looks { LooksUp (state S.Store conn.old) (state S.Store conn.new) result (λ t gathered. (q : Request) (reply : Reply) → q.command ≡ Command.Declare declared.now → reply ≡ Declared carry issued → t.meta ≡ meta_in meta.now → IsBasisOf known t → IsAccepted t q reply → CarriesOut t q.command gathered) }
-    ensures blames { BlamesDisk (state S.Store conn.old) (state S.Store conn.new) result (λ t. CanBeDeclared t known meta.now declared.now carry issued) }
+    ensures looks { LooksUp (state S.Store conn.old) (state S.Store conn.new) result
+        (λ t gathered. (q : Request) (reply : Reply) → q.command ≡ Command.Declare declared.now
+        → reply ≡ Declared carry issued → t.meta ≡ meta_in meta.now → IsBasisOf known t
+        → IsAccepted t q reply → CarriesOut t q.command gathered) }
+    ensures blames { BlamesDisk (state S.Store conn.old) (state S.Store conn.new) result
+        (λ t. CanBeDeclared t known meta.now declared.now carry issued) }
     ensures fits { IfOk result (λ gathered. All ChangeFits gathered.changes.items) }
     ensures outside { conn.old.in_transaction ≡ false → conn.new.in_transaction ≡ false }
 {

@@ -33,7 +33,9 @@ fn plant_row(alloc: Global, registered: &RegisterDevice) -> Result<PlantRow, All
 
 /// The row of a new device, which has declared nothing.
 pub fn device_row(alloc: Global, registered: &RegisterDevice) -> Result<DeviceRow, AllocError>
-    ensures states { IfOk result (λ row. known_device (pos 0, device_in row) ≡ (registered.now.device, device_of registered.now)) }
+    ensures states { IfOk result
+        (λ row. known_device (pos 0, device_in row)
+        ≡ (registered.now.device, device_of registered.now)) }
     ensures begins { IfOk result (λ row. progress_in (Some (device_in row)) ≡ progress_in None) }
     ensures reads { IfOk result (λ row. is_device (pos 0, device_in row) ≡ true) }
     ensures fits { IfOk result DeviceFits }

@@ -1,6 +1,7 @@
 //! The rows of lots that become known.
 
-ghost use Rattle.std.specs.Prelude.{◌≡◌, ◌<◌, ◌^◌, true, IfOk, IsOkUnless, option_map, string_bytes};
+ghost use Rattle.std.specs.Prelude.{◌≡◌, ◌<◌, ◌^◌, true, IfOk, IsOkUnless, option_map};
+ghost use Rattle.std.specs.Prelude.{string_bytes};
 ghost use Rattle.goo_types.specs.Texts.{day_text as text_of_day};
 ghost use Rattle.goo_tables_rows.specs.Rows.{lot_in, plant_in};
 ghost use Rattle.goo_spec_tables.specs.Kept.{IsKeptLot};

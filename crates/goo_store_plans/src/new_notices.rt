@@ -21,8 +21,12 @@ pub fn notice_out_row(
     giver: AccountNo,
     notice: &Notice,
 ) -> Result<NoticeOutRow, Trouble>
-    ensures states { IfOk result (λ row. known_sent (notice_out_in row) ≡ (number, record { account = giver; notice = notice.now })) }
-    ensures reads { IfOk result (λ row. notice.now.number ≡ number → is_notice_out notice.now.sender (notice_out_in row) ≡ true) }
+    ensures states { IfOk result
+        (λ row. known_sent (notice_out_in row)
+        ≡ (number, record { account = giver; notice = notice.now })) }
+    ensures reads { IfOk result
+        (λ row. notice.now.number ≡ number
+        → is_notice_out notice.now.sender (notice_out_in row) ≡ true) }
     ensures memory { IsOkUnless result Memory }
 {
     let Ok(body) = write(alloc, notice) else {

@@ -59,7 +59,8 @@ fn place_columns(place: Place) -> PlaceColumns
 pub fn piece_row(piece: &Piece, lot: u64) -> Result<PieceRow, Trouble>
     requires { lot < 2 ^ 63 }
     ensures lot { IfOk result (λ row. row.lot ≡ lot) }
-    ensures states { IfOk result (λ row. (l : LotOf) → lot_of l ≡ piece.now.lot → piece_of (row, l) ≡ piece.now) }
+    ensures states { IfOk result
+        (λ row. (l : LotOf) → lot_of l ≡ piece.now.lot → piece_of (row, l) ≡ piece.now) }
     ensures reads { IfOk result (λ row. is_piece row ≡ true) }
     ensures fits { IfOk result PieceFits }
     ensures accepts { IsForward piece.now → IsOk result }

@@ -1,6 +1,7 @@
 //! The receipts that accepted requests leave.
 
-ghost use Rattle.std.specs.Prelude.{◌≡◌, ◌<◌, ◌≤◌, ◌^◌, true, nat_le, nat_lt, pos, Some, is_ok, IfOk, IsOk, IsOkUnless};
+ghost use Rattle.std.specs.Prelude.{◌≡◌, ◌<◌, ◌≤◌, ◌^◌, true, nat_le, nat_lt, pos, Some, is_ok};
+ghost use Rattle.std.specs.Prelude.{IfOk, IsOk, IsOkUnless};
 ghost use Rattle.goo_types.specs.declared.reply.Reply.TheVariants.{Corrected};
 ghost use Rattle.goo_tables_rows.specs.Rows.{receipt_in};
 ghost use Rattle.goo_tables_holdings.specs.Changes.{ReceiptFits};
@@ -70,7 +71,8 @@ fn corrected_columns(
     count: u64,
     withdrawal: Option<ActNo>,
 ) -> Result<ReplyColumns, Trouble>
-    ensures states { IfOk result (λ c. reply_of c.kind c.n1 c.n2 c.n3 ≡ Corrected carry count withdrawal) }
+    ensures states { IfOk result
+        (λ c. reply_of c.kind c.n1 c.n2 c.n3 ≡ Corrected carry count withdrawal) }
     ensures reads { IfOk result (λ c. is_reply c.kind c.n1 c.n2 c.n3 ≡ true) }
     ensures fits { IfOk result (λ c. (c.n1 < 2 ^ 63) × (c.n2 < 2 ^ 63) × (c.n3 < 2 ^ 63)) }
     ensures accepts { HasKeptNumbers (Corrected carry count withdrawal) → IsOk result }

@@ -5,8 +5,11 @@ ghost use Rattle.goo_types.specs.Day.{day_reading};
 ghost use Rattle.goo_core_shelf.specs.Shelf.{cancellation_on};
 ghost use Rattle.goo_tables_rows.specs.Rows.{account_in, cancellation_in, holder_in, withdrawal_in};
 ghost use Rattle.goo_spec_tables.specs.Records.{act_or_none};
-ghost use Rattle.goo_spec_tables.specs.Readable.{is_account, is_cancellation, is_holder, is_maybe_act, is_maybe_other, is_peer, is_withdrawal, reads};
-ghost use Rattle.goo_spec_tables.specs.States.{known_account, known_cancellation, known_holder, known_peer, known_withdrawal};
+ghost use Rattle.goo_spec_tables.specs.Readable.{is_account, is_cancellation, is_holder};
+ghost use Rattle.goo_spec_tables.specs.Readable.{is_maybe_act, is_maybe_other, is_peer};
+ghost use Rattle.goo_spec_tables.specs.Readable.{is_withdrawal, reads};
+ghost use Rattle.goo_spec_tables.specs.States.{known_account, known_cancellation, known_holder};
+ghost use Rattle.goo_spec_tables.specs.States.{known_peer, known_withdrawal};
 ghost use Rattle.goo_spec_tables.specs.Texts.{carrier_of, day_of};
 
 use goo_notice_json::carriers::is_other;
@@ -57,7 +60,8 @@ pub fn act_or_zero(act: Option<ActNo>) -> u32
 
 /// The row of a new holder.
 pub fn holder_row(alloc: Global, opened: &OpenHolder) -> Result<HolderRow, AllocError>
-    ensures states { IfOk result (λ row. known_holder (pos 0, holder_in row) ≡ (opened.now.holder, opened.now.name)) }
+    ensures states { IfOk result
+        (λ row. known_holder (pos 0, holder_in row) ≡ (opened.now.holder, opened.now.name)) }
     ensures reads { IfOk result (λ row. is_holder (pos 0, holder_in row) ≡ true) }
 {
     Ok(HolderRow {
@@ -72,7 +76,9 @@ pub fn account_row(
     number: AccountNo,
     opened: &OpenAccount,
 ) -> Result<AccountRow, AllocError>
-    ensures states { IfOk result (λ row. known_account (account_in row) ≡ (number, record { holder = opened.now.holder; closed = false })) }
+    ensures states { IfOk result
+        (λ row. known_account (account_in row)
+        ≡ (number, record { holder = opened.now.holder; closed = false })) }
     ensures reads { IfOk result (λ row. is_account (account_in row) ≡ true) }
 {
     Ok(AccountRow {
@@ -99,7 +105,9 @@ pub fn cancellation_row(
     accepted: &Cancel,
     day: Day,
 ) -> Result<CancellationRow, AllocError>
-    ensures states { IfOk result (λ row. known_cancellation (cancellation_in row) ≡ (number, cancellation_on day accepted.now)) }
+    ensures states { IfOk result
+        (λ row. known_cancellation (cancellation_in row)
+        ≡ (number, cancellation_on day accepted.now)) }
     ensures reads { IfOk result (λ row. is_cancellation (cancellation_in row) ≡ true) }
 {
     Ok(CancellationRow {
@@ -121,7 +129,12 @@ pub fn withdrawal_row(
     accepted: &Withdraw,
     day: Day,
 ) -> Result<WithdrawalRow, AllocError>
-    ensures states { IfOk result (λ row. known_withdrawal (withdrawal_in row) ≡ (number, record { range = accepted.now.range; reason = accepted.now.reason; day = day })) }
+    ensures states { IfOk result
+        (λ row. known_withdrawal (withdrawal_in row)
+        ≡ (
+          number,
+          record { range = accepted.now.range; reason = accepted.now.reason; day = day },
+        )) }
     ensures reads { IfOk result (λ row. is_withdrawal (withdrawal_in row) ≡ true) }
 {
     Ok(WithdrawalRow {

@@ -1,4 +1,5 @@
-//! The changes that carry out a plan: those of its command, then those of its edits, and the receipt.
+//! The changes that carry out a plan: those of its command, then those of its edits, and the
+//! receipt.
 
 ghost use Rattle.std.specs.Prelude.{◌≡◌, ◌++◌, [], ◌∷◌, false, All, IfOk, IsOkUnless, IsTrue};
 ghost use Rattle.sqlite.specs.Held.{state};
@@ -70,7 +71,9 @@ fn without_lots(alloc: Global, changes: Vec<TableChange>) -> Gathered
 
 /// The changes of an accepted command that needs nothing of the registry's row.
 fn plain(alloc: Global, plan: &Plan) -> Result<Gathered, Trouble>
-    ensures does { IfOk result (λ gathered. (t : Tables) → AreKept t → AreInOrder t → Fits (state_of t) (rows_of t) plan.now → CarriesOut t plan.now.request.command gathered) }
+    ensures does { IfOk result
+        (λ gathered. (t : Tables) → AreKept t → AreInOrder t
+        → Fits (state_of t) (rows_of t) plan.now → CarriesOut t plan.now.request.command gathered) }
     ensures fits { IfOk result (λ gathered. All ChangeFits gathered.changes.items) }
     ensures memory { IsPlain plan.now.request.command → IsOkUnless result Memory }
 {
@@ -80,9 +83,13 @@ fn plain(alloc: Global, plan: &Plan) -> Result<Gathered, Trouble>
 
 /// The changes of an accepted command that takes the next number of a kind and puts no lot in.
 fn numbered(alloc: Global, meta: &MetaRow, plan: &Plan) -> Result<Gathered, Trouble>
-    ensures does { IfOk result (λ gathered. (t : Tables) → t.meta ≡ meta_in meta.now → AreKept t → AreInOrder t → Fits (state_of t) (rows_of t) plan.now → CarriesOut t plan.now.request.command gathered) }
+    ensures does { IfOk result
+        (λ gathered. (t : Tables) → t.meta ≡ meta_in meta.now → AreKept t → AreInOrder t
+        → Fits (state_of t) (rows_of t) plan.now → CarriesOut t plan.now.request.command gathered) }
     ensures fits { IfOk result (λ gathered. All ChangeFits gathered.changes.items) }
-    ensures memory { IsTrue (is_meta (meta_in meta.now)) → CanTakeNumber meta.now plan.now.request.command plan.now.notice → IsOkUnless result Memory }
+    ensures memory { IsTrue (is_meta (meta_in meta.now))
+        → CanTakeNumber meta.now plan.now.request.command plan.now.notice
+        → IsOkUnless result Memory }
 {
     let changes = numbered_changes(alloc, meta, plan)?;
     Ok(without_lots(alloc, changes))
@@ -97,9 +104,13 @@ fn declaration<S: Alter>(
     declared: &Declare,
     reply: Reply,
 ) -> Result<Gathered, Trouble>
-    ensures looks { LooksUp (state S.Store conn.old) (state S.Store conn.new) result (λ t gathered. (q : Request) → q.command ≡ Command.Declare declared.now → t.meta ≡ meta_in meta.now → IsBasisOf basis t → IsAccepted t q reply → CarriesOut t q.command gathered) }
+    ensures looks { LooksUp (state S.Store conn.old) (state S.Store conn.new) result
+        (λ t gathered. (q : Request) → q.command ≡ Command.Declare declared.now
+        → t.meta ≡ meta_in meta.now → IsBasisOf basis t → IsAccepted t q reply
+        → CarriesOut t q.command gathered) }
     ensures fits { IfOk result (λ gathered. All ChangeFits gathered.changes.items) }
-    ensures blames { BlamesDisk (state S.Store conn.old) (state S.Store conn.new) result (λ t. CanBeAnswered t basis meta.now declared.now reply) }
+    ensures blames { BlamesDisk (state S.Store conn.old) (state S.Store conn.new) result
+        (λ t. CanBeAnswered t basis meta.now declared.now reply) }
     ensures outside { conn.old.in_transaction ≡ false → conn.new.in_transaction ≡ false }
 {
     match reply {
@@ -118,9 +129,13 @@ fn correction<S: Alter>(
     accepted: &Correct,
     reply: Reply,
 ) -> Result<Gathered, Trouble>
-    ensures looks { LooksUp (state S.Store conn.old) (state S.Store conn.new) result (λ t gathered. (q : Request) → q.command ≡ Command.Correct accepted.now → t.meta ≡ meta_in meta.now → AreInOrder t → IsAccepted t q reply → CarriesOut t q.command gathered) }
+    ensures looks { LooksUp (state S.Store conn.old) (state S.Store conn.new) result
+        (λ t gathered. (q : Request) → q.command ≡ Command.Correct accepted.now
+        → t.meta ≡ meta_in meta.now → AreInOrder t → IsAccepted t q reply
+        → CarriesOut t q.command gathered) }
     ensures fits { IfOk result (λ gathered. All ChangeFits gathered.changes.items) }
-    ensures blames { BlamesDisk (state S.Store conn.old) (state S.Store conn.new) result (λ t. CanAnswerCorrection t meta.now accepted.now reply) }
+    ensures blames { BlamesDisk (state S.Store conn.old) (state S.Store conn.new) result
+        (λ t. CanAnswerCorrection t meta.now accepted.now reply) }
     ensures outside { conn.old.in_transaction ≡ false → conn.new.in_transaction ≡ false }
 {
     match reply {
@@ -144,8 +159,11 @@ fn by_own_row<S: Alter>(
     basis: KnownBasis,
     plan: &Plan,
 ) -> Result<Gathered, Trouble>
-    ensures gathers { LooksUp (state S.Store conn.old) (state S.Store conn.new) result (λ t gathered. IsRowOf own t → IsBasisOf basis t → AreKept t → AreInOrder t → Fits (state_of t) (rows_of t) plan.now → CarriesOut t plan.now.request.command gathered) }
-    ensures blames { BlamesDisk (state S.Store conn.old) (state S.Store conn.new) result (λ t. CanGoByRow t own basis plan.now) }
+    ensures gathers { LooksUp (state S.Store conn.old) (state S.Store conn.new) result
+        (λ t gathered. IsRowOf own t → IsBasisOf basis t → AreKept t → AreInOrder t
+        → Fits (state_of t) (rows_of t) plan.now → CarriesOut t plan.now.request.command gathered) }
+    ensures blames { BlamesDisk (state S.Store conn.old) (state S.Store conn.new) result
+        (λ t. CanGoByRow t own basis plan.now) }
     ensures outside { conn.old.in_transaction ≡ false → conn.new.in_transaction ≡ false }
     ensures fits { IfOk result (λ gathered. All ChangeFits gathered.changes.items) }
 {
@@ -157,8 +175,9 @@ fn by_own_row<S: Alter>(
     }
 }
 
-/// What the plan's command changes beside the certificates. The registry's row, the basis of a declaration
-/// and the lots are looked up for those commands alone that need them, where they aren't known.
+/// What the plan's command changes beside the certificates. The registry's row, the basis of a
+/// declaration and the lots are looked up for those commands alone that need them, where they
+/// aren't known.
 fn command_changes<S: Alter>(
     alloc: Global,
     conn: &mut Connection<S>,
@@ -167,8 +186,12 @@ fn command_changes<S: Alter>(
     lots: &[NumberedLot],
     plan: &Plan,
 ) -> Result<Gathered, Trouble>
-    ensures gathers { LooksUp (state S.Store conn.old) (state S.Store conn.new) result (λ t gathered. IsRowOf own t → IsBasisOf basis t → AreStated t.lots lots.now → AreKept t → AreInOrder t → Fits (state_of t) (rows_of t) plan.now → CarriesOut t plan.now.request.command gathered) }
-    ensures blames { BlamesDisk (state S.Store conn.old) (state S.Store conn.new) result (λ t. CanGo t own basis plan.now plan.now.request.command) }
+    ensures gathers { LooksUp (state S.Store conn.old) (state S.Store conn.new) result
+        (λ t gathered. IsRowOf own t → IsBasisOf basis t → AreStated t.lots lots.now → AreKept t
+        → AreInOrder t → Fits (state_of t) (rows_of t) plan.now
+        → CarriesOut t plan.now.request.command gathered) }
+    ensures blames { BlamesDisk (state S.Store conn.old) (state S.Store conn.new) result
+        (λ t. CanGo t own basis plan.now plan.now.request.command) }
     ensures outside { conn.old.in_transaction ≡ false → conn.new.in_transaction ≡ false }
     ensures fits { IfOk result (λ gathered. All ChangeFits gathered.changes.items) }
 {
@@ -193,9 +216,15 @@ fn joined(
 ) -> Result<Vec<TableChange>, Trouble>
     requires act { All ChangeFits act.items }
     requires edits { All ChangeFits edits.items }
-    ensures planned { IfOk result (λ changes. (t : Tables) → AreKept t → AreInOrder t → Fits (state_of t) (rows_of t) plan.now → (gathered : Given) → gathered.changes.items ≡ act.items → CarriesOut t plan.now.request.command gathered → AreForEdits (made_all t act.items).lots plan.now.edits.items edits.items → IsPlanned t changes.items plan.now) }
+    ensures planned { IfOk result
+        (λ changes. (t : Tables) → AreKept t → AreInOrder t → Fits (state_of t) (rows_of t) plan.now
+        → (gathered : Given) → gathered.changes.items ≡ act.items
+        → CarriesOut t plan.now.request.command gathered
+        → AreForEdits (made_all t act.items).lots plan.now.edits.items edits.items
+        → IsPlanned t changes.items plan.now) }
     ensures fits { IfOk result (λ changes. All ChangeFits changes.items) }
-    ensures memory { (Obeys plan.now.request.command → HasKeptNumbers plan.now.reply) → IsOkUnless result Memory }
+    ensures memory { (Obeys plan.now.request.command → HasKeptNumbers plan.now.reply)
+        → IsOkUnless result Memory }
 {
     // A request in hand has a command within its limits: it comes with that fact.
     let _ = plan.request.command();
@@ -214,8 +243,11 @@ fn changes_by<S: Alter>(
     findings: Findings,
     plan: &Plan,
 ) -> Result<Vec<TableChange>, Trouble>
-    ensures gathers { LooksUp (state S.Store conn.old) (state S.Store conn.new) result (λ t changes. AreFindingsOf findings t → AreKept t → AreInOrder t → Fits (state_of t) (rows_of t) plan.now → IsPlanned t changes.items plan.now) }
-    ensures blames { BlamesDisk (state S.Store conn.old) (state S.Store conn.new) result (λ t. CanBePlanned t findings plan.now) }
+    ensures gathers { LooksUp (state S.Store conn.old) (state S.Store conn.new) result
+        (λ t changes. AreFindingsOf findings t → AreKept t → AreInOrder t
+        → Fits (state_of t) (rows_of t) plan.now → IsPlanned t changes.items plan.now) }
+    ensures blames { BlamesDisk (state S.Store conn.old) (state S.Store conn.new) result
+        (λ t. CanBePlanned t findings plan.now) }
     ensures outside { conn.old.in_transaction ≡ false → conn.new.in_transaction ≡ false }
     ensures fits { IfOk result (λ changes. All ChangeFits changes.items) }
 {
@@ -232,21 +264,25 @@ fn changes_by<S: Alter>(
     joined(alloc, act.changes, edits, plan)
 }
 
-/// The changes of the tables that carry out a plan, of which nothing is done yet, and what is known once they are made.
-/// What was found before isn't looked up again.
+/// The changes of the tables that carry out a plan, of which nothing is done yet, and what is known
+/// once they are made. What was found before isn't looked up again.
 ///
 /// # Errors
 ///
-/// `Refused` where the tables lack what the plan needs or a number is used up, `Memory`, and the errors
-/// of the statements.
+/// `Refused` where the tables lack what the plan needs or a number is used up, `Memory`, and the
+/// errors of the statements.
 pub fn plan_changes<S: Alter>(
     alloc: Global,
     conn: &mut Connection<S>,
     findings: Findings,
     plan: &Plan,
 ) -> Result<Planned, Trouble>
-    ensures gathers { LooksUp (state S.Store conn.old) (state S.Store conn.new) result (λ t planned. AreFindingsOf findings t → AreKept t → AreInOrder t → Fits (state_of t) (rows_of t) plan.now → IsPlanned t planned.changes.items plan.now × IsBasisOf planned.after (made_all t planned.changes.items)) }
-    ensures blames { BlamesDisk (state S.Store conn.old) (state S.Store conn.new) result (λ t. CanBePlanned t findings plan.now) }
+    ensures gathers { LooksUp (state S.Store conn.old) (state S.Store conn.new) result
+        (λ t planned. AreFindingsOf findings t → AreKept t → AreInOrder t
+        → Fits (state_of t) (rows_of t) plan.now → IsPlanned t planned.changes.items plan.now
+        × IsBasisOf planned.after (made_all t planned.changes.items)) }
+    ensures blames { BlamesDisk (state S.Store conn.old) (state S.Store conn.new) result
+        (λ t. CanBePlanned t findings plan.now) }
     ensures outside { conn.old.in_transaction ≡ false → conn.new.in_transaction ≡ false }
     ensures fits { IfOk result (λ planned. All ChangeFits planned.changes.items) }
 {

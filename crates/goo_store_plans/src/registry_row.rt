@@ -17,8 +17,10 @@ use std::alloc::Global;
 
 /// The registry's own row.
 fn own_row<S: Alter>(alloc: Global, conn: &mut Connection<S>) -> Result<MetaRow, Trouble>
-    ensures gathers { LooksUp (view S.Store conn.old) (view S.Store conn.new) result (λ t row. t.meta ≡ meta_in row) }
-    ensures works { OnOk result (HasCleanDisk (view S.Store conn.new) → IsTrue (view S.Store conn.new).is_open) }
+    ensures gathers { LooksUp (view S.Store conn.old) (view S.Store conn.new) result
+        (λ t row. t.meta ≡ meta_in row) }
+    ensures works { OnOk result
+        (HasCleanDisk (view S.Store conn.new) → IsTrue (view S.Store conn.new).is_open) }
     ensures blames { BlamesDisk (view S.Store conn.old) (view S.Store conn.new) result (λ _. ⊤) }
     ensures outside { conn.old.in_transaction ≡ false → conn.new.in_transaction ≡ false }
 {
@@ -31,7 +33,8 @@ pub(crate) fn known_row<S: Alter>(
     conn: &mut Connection<S>,
     own: Option<MetaRow>,
 ) -> Result<MetaRow, Trouble>
-    ensures gathers { LooksUp (view S.Store conn.old) (view S.Store conn.new) result (λ t row. IsRowOf own t → t.meta ≡ meta_in row) }
+    ensures gathers { LooksUp (view S.Store conn.old) (view S.Store conn.new) result
+        (λ t row. IsRowOf own t → t.meta ≡ meta_in row) }
     ensures blames { BlamesDisk (view S.Store conn.old) (view S.Store conn.new) result (λ _. ⊤) }
     ensures outside { conn.old.in_transaction ≡ false → conn.new.in_transaction ≡ false }
 {

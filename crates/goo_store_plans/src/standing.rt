@@ -1,6 +1,7 @@
 //! What the tables hold for a declaration, as it is found.
 
-ghost use Rattle.std.specs.Prelude.{◌≡◌, ◌<◌, ◌^◌, false, pos, Some, None, option_map, IfErr, IfOk, IfSome, IsSomeAnd, IsTrue};
+ghost use Rattle.std.specs.Prelude.{◌≡◌, ◌<◌, ◌^◌, false, pos, Some, None, option_map, IfErr, IfOk};
+ghost use Rattle.std.specs.Prelude.{IfSome, IsSomeAnd, IsTrue};
 ghost use Rattle.std.specs.FinMap.{get};
 ghost use Rattle.sqlite.specs.Held.{state};
 ghost use Rattle.sqlite_keyed.specs.Keyed.{next_key};
@@ -43,8 +44,10 @@ pub struct DeclarationBasis {
 
 /// The device in the row that was found.
 fn device_found(found: Result<Option<DeviceRow>, Error>) -> Result<Device, Trouble>
-    ensures value { Passes found result (λ row device. option_map device_of (option_map device_in row) ≡ Some device) }
-    ensures accepts { Accepts found result (λ row. IsSomeAnd row (λ r. IsTrue (is_device (pos 0, device_in r)))) }
+    ensures value { Passes found result
+        (λ row device. option_map device_of (option_map device_in row) ≡ Some device) }
+    ensures accepts { Accepts found result
+        (λ row. IsSomeAnd row (λ r. IsTrue (is_device (pos 0, device_in r)))) }
     ensures missing { IfOk found (λ row. row ≡ None → IfErr result (λ trouble. trouble ≡ Refused)) }
 {
     let Some(row) = found? else {
@@ -59,8 +62,10 @@ fn find_registered<S: Alter>(
     conn: &mut Connection<S>,
     gsrn: &Gsrn,
 ) -> Result<Device, Trouble>
-    ensures looks { LooksUp (state S.Store conn.old) (state S.Store conn.new) result (λ t device. get (state_of t).devices gsrn.now ≡ Some device) }
-    ensures blames { BlamesDisk (state S.Store conn.old) (state S.Store conn.new) result (λ t. IsRegistered t gsrn.now) }
+    ensures looks { LooksUp (state S.Store conn.old) (state S.Store conn.new) result
+        (λ t device. get (state_of t).devices gsrn.now ≡ Some device) }
+    ensures blames { BlamesDisk (state S.Store conn.old) (state S.Store conn.new) result
+        (λ t. IsRegistered t gsrn.now) }
     ensures outside { conn.old.in_transaction ≡ false → conn.new.in_transaction ≡ false }
 {
     let found = find_device(alloc, conn, gsrn.text());
@@ -74,8 +79,10 @@ fn known_registered<S: Alter>(
     kept: Option<KnownDevice>,
     gsrn: &Gsrn,
 ) -> Result<Device, Trouble>
-    ensures looks { LooksUp (state S.Store conn.old) (state S.Store conn.new) result (λ t device. IsDeviceOf kept t → get (state_of t).devices gsrn.now ≡ Some device) }
-    ensures blames { BlamesDisk (state S.Store conn.old) (state S.Store conn.new) result (λ t. IsRegistered t gsrn.now) }
+    ensures looks { LooksUp (state S.Store conn.old) (state S.Store conn.new) result
+        (λ t device. IsDeviceOf kept t → get (state_of t).devices gsrn.now ≡ Some device) }
+    ensures blames { BlamesDisk (state S.Store conn.old) (state S.Store conn.new) result
+        (λ t. IsRegistered t gsrn.now) }
     ensures outside { conn.old.in_transaction ≡ false → conn.new.in_transaction ≡ false }
 {
     match kept {
@@ -86,7 +93,8 @@ fn known_registered<S: Alter>(
 
 /// The number after that of the last row.
 fn number_after(found: Result<Option<DeclarationRow>, Error>) -> Result<u64, Trouble>
-    ensures value { Passes found result (λ row n. n ≡ next_declaration (option_map declaration_in row)) }
+    ensures value { Passes found result
+        (λ row n. n ≡ next_declaration (option_map declaration_in row)) }
     ensures accepts { Accepts found result (λ row. IfSome row (λ r. r.id < 2 ^ 63)) }
 {
     let Some(row) = found? else {
@@ -103,8 +111,10 @@ fn find_declaration_number<S: Alter>(
     alloc: Global,
     conn: &mut Connection<S>,
 ) -> Result<u64, Trouble>
-    ensures looks { LooksUp (state S.Store conn.old) (state S.Store conn.new) result (λ t n. pos n ≡ next_key declaration_key t.declarations) }
-    ensures blames { BlamesDisk (state S.Store conn.old) (state S.Store conn.new) result (λ t. HasRoom 0 declaration_key t.declarations) }
+    ensures looks { LooksUp (state S.Store conn.old) (state S.Store conn.new) result
+        (λ t n. pos n ≡ next_key declaration_key t.declarations) }
+    ensures blames { BlamesDisk (state S.Store conn.old) (state S.Store conn.new) result
+        (λ t. HasRoom 0 declaration_key t.declarations) }
     ensures outside { conn.old.in_transaction ≡ false → conn.new.in_transaction ≡ false }
 {
     let found = last_declaration(alloc, conn);
@@ -117,8 +127,11 @@ pub(crate) fn next_declaration_number<S: Alter>(
     conn: &mut Connection<S>,
     known: Option<u64>,
 ) -> Result<u64, Trouble>
-    ensures looks { LooksUp (state S.Store conn.old) (state S.Store conn.new) result (λ t n. IsNext known declaration_key t.declarations → pos n ≡ next_key declaration_key t.declarations) }
-    ensures blames { BlamesDisk (state S.Store conn.old) (state S.Store conn.new) result (λ t. HasRoom 0 declaration_key t.declarations) }
+    ensures looks { LooksUp (state S.Store conn.old) (state S.Store conn.new) result
+        (λ t n. IsNext known declaration_key t.declarations
+        → pos n ≡ next_key declaration_key t.declarations) }
+    ensures blames { BlamesDisk (state S.Store conn.old) (state S.Store conn.new) result
+        (λ t. HasRoom 0 declaration_key t.declarations) }
     ensures outside { conn.old.in_transaction ≡ false → conn.new.in_transaction ≡ false }
 {
     match known {
@@ -138,8 +151,10 @@ pub fn find_standing<S: Alter>(
     known: KnownBasis,
     gsrn: &Gsrn,
 ) -> Result<DeclarationBasis, Trouble>
-    ensures looks { LooksUp (state S.Store conn.old) (state S.Store conn.new) result (λ t standing. IsBasisOf known t → IsStanding t gsrn.now standing) }
-    ensures blames { BlamesDisk (state S.Store conn.old) (state S.Store conn.new) result (λ t. HasStanding t gsrn.now) }
+    ensures looks { LooksUp (state S.Store conn.old) (state S.Store conn.new) result
+        (λ t standing. IsBasisOf known t → IsStanding t gsrn.now standing) }
+    ensures blames { BlamesDisk (state S.Store conn.old) (state S.Store conn.new) result
+        (λ t. HasStanding t gsrn.now) }
     ensures outside { conn.old.in_transaction ≡ false → conn.new.in_transaction ≡ false }
 {
     let device = known_registered(alloc, conn, known.device, gsrn)?;

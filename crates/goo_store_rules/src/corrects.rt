@@ -57,8 +57,10 @@ pub fn corrects_in(
     alloc: Global,
     rows: &[CorrectionRow],
 ) -> Result<Option<Vec<CorrectRecord>>, AllocError>
-    ensures value { IfOk result (λ o. IfSome o (λ cs. cs.items ≡ map correction_of (map correction_in rows.now))) }
-    ensures readable { list_all (λ row. is_correction (correction_in row)) rows.now ≡ true → IfOk result IsSome }
+    ensures value { IfOk result
+        (λ o. IfSome o (λ cs. cs.items ≡ map correction_of (map correction_in rows.now))) }
+    ensures readable { list_all (λ row. is_correction (correction_in row)) rows.now ≡ true
+        → IfOk result IsSome }
 {
     let mut corrected = Vec::new(alloc);
     for row in rows {

@@ -6,7 +6,8 @@ ghost use Rattle.goo_store_rules.specs.WellKept.{are_joined as have_none_to_join
 
 use goo_tables_rows::piece::PieceRow;
 
-/// Whether a row begins right after another one's end, with the same lot, kind, account and act, so that the two can be one.
+/// Whether a row begins right after another one's end, with the same lot, kind, account and act, so
+/// that the two can be one.
 pub fn joins(before: &PieceRow, row: &PieceRow) -> bool
     ensures { result ≡ goes_on before.now row.now }
 {

@@ -5,7 +5,8 @@ ghost use Rattle.std.specs.List.{list_all};
 ghost use Rattle.std.specs.BTreeSet.{contains};
 ghost use Rattle.std.specs.declared.alloc.Global.{Global as Memory};
 ghost use Rattle.goo_tables_rows.specs.Rows.{declaration_in, lot_in};
-ghost use Rattle.goo_store_rules.specs.WellKept.{has_declaration, text_pair_cmp, bytes_pair, has_pair, is_declared};
+ghost use Rattle.goo_store_rules.specs.WellKept.{has_declaration, text_pair_cmp, bytes_pair};
+ghost use Rattle.goo_store_rules.specs.WellKept.{has_pair, is_declared};
 
 use crate::keys::has;
 use goo_tables_rows::correction::CorrectionRow;
@@ -23,7 +24,11 @@ pub fn declared_periods(
     alloc: Global,
     rows: &[DeclarationRow],
 ) -> Result<BTreeSet<(String, String)>, AllocError>
-    ensures { IfOk result (λ set. (device first_day : Text Memory) → contains (λ a b. text_pair_cmp (bytes_pair a) (bytes_pair b)) set (device, first_day) ≡ has_declaration (map declaration_in rows.now) (string_bytes device) (string_bytes first_day)) }
+    ensures { IfOk result
+        (λ set. (device first_day : Text Memory)
+        → contains (λ a b. text_pair_cmp (bytes_pair a) (bytes_pair b)) set (device, first_day)
+        ≡ has_declaration (map declaration_in rows.now) (string_bytes device)
+        (string_bytes first_day)) }
 {
     let mut set = BTreeSet::new(alloc);
     for row in rows {
@@ -32,7 +37,8 @@ pub fn declared_periods(
     Ok(set)
 }
 
-/// Whether each lot of the registry of this code has a declaration of its device with its first day.
+/// Whether each lot of the registry of this code has a declaration of its device with its first
+/// day.
 ///
 /// # Errors
 ///
@@ -42,7 +48,9 @@ pub fn own_lots_are_declared(
     rows: &[LotRow],
     periods: &BTreeSet<(String, String)>,
 ) -> Result<bool, AllocError>
-    ensures { IfOk result (λ yes. yes ≡ list_all (λ row. is_declared (has_pair periods.now) own (lot_in row)) rows.now) }
+    ensures { IfOk result
+        (λ yes. yes
+        ≡ list_all (λ row. is_declared (has_pair periods.now) own (lot_in row)) rows.now) }
 {
     for row in rows {
         if row.origin == own {
@@ -64,7 +72,11 @@ pub fn corrections_are_declared(
     rows: &[CorrectionRow],
     periods: &BTreeSet<(String, String)>,
 ) -> Result<bool, AllocError>
-    ensures { IfOk result (λ yes. yes ≡ list_all (λ row. has_pair periods.now (string_bytes row.device) (string_bytes row.first_day)) rows.now) }
+    ensures { IfOk result
+        (λ yes. yes
+        ≡ list_all
+        (λ row. has_pair periods.now (string_bytes row.device) (string_bytes row.first_day))
+        rows.now) }
 {
     for row in rows {
         let declaration = (row.device.clone()?, row.first_day.clone()?);

@@ -56,8 +56,10 @@ pub fn declares_in(
     alloc: Global,
     rows: &[DeclarationRow],
 ) -> Result<Option<Vec<Declare>>, AllocError>
-    ensures value { IfOk result (λ o. IfSome o (λ xs. xs.items ≡ map declaration_of (map declaration_in rows.now))) }
-    ensures readable { list_all (λ row. is_declaration (declaration_in row)) rows.now ≡ true → IfOk result IsSome }
+    ensures value { IfOk result
+        (λ o. IfSome o (λ xs. xs.items ≡ map declaration_of (map declaration_in rows.now))) }
+    ensures readable { list_all (λ row. is_declaration (declaration_in row)) rows.now ≡ true
+        → IfOk result IsSome }
 {
     let mut declared = Vec::new(alloc);
     for row in rows {

@@ -1,6 +1,7 @@
 //! What was issued for what devices declared, and what of it their corrections did not withdraw.
 
-ghost use Rattle.std.specs.Prelude.{◌≡◌, ◌+◌, ◌<◌, ◌^◌, ◌-◌, ◌≤◌, ℕ, List, true, cond, map, sum_by, is_some, IsSome, IfSome, IfOk, OnOk};
+ghost use Rattle.std.specs.Prelude.{◌≡◌, ◌+◌, ◌<◌, ◌^◌, ◌-◌, ◌≤◌, ℕ, List, true, cond, map, sum_by};
+ghost use Rattle.std.specs.Prelude.{is_some, IsSome, IfSome, IfOk, OnOk};
 ghost use Rattle.std.specs.BTreeMap.{get};
 ghost use Rattle.std.specs.List.{list_all};
 ghost use Rattle.std.specs.Ordering.{nat_cmp};
@@ -67,7 +68,10 @@ fn count_in(row: &PieceRow) -> u128
 
 /// The same, but for a row that a correction of this device withdrew.
 fn standing_count(row: &PieceRow, device: &Gsrn, taken: &BTreeSet<(Gsrn, u32)>) -> u128
-    ensures value { (cs : List Correction) → AreTakenBack cs taken.now → result ≡ cond (is_taken_back device.now cs (place_of row.now.kind row.now.account row.now.act)) 0 (row.now.last + 1 - row.now.first) }
+    ensures value { (cs : List Correction) → AreTakenBack cs taken.now
+        → result
+        ≡ cond (is_taken_back device.now cs (place_of row.now.kind row.now.account row.now.act)) 0
+        (row.now.last + 1 - row.now.first) }
     ensures small { result ≤ 2 ^ 64 }
 {
     if row.kind == 4 && is_taken(taken, device, row.act) {
@@ -76,8 +80,8 @@ fn standing_count(row: &PieceRow, device: &Gsrn, taken: &BTreeSet<(Gsrn, u32)>) 
     count_in(row)
 }
 
-/// Adds a row's certificates to their device, where they are the own ones of the registry of this code and no correction
-/// withdrew them.
+/// Adds a row's certificates to their device, where they are the own ones of the registry of this
+/// code and no correction withdrew them.
 fn add_issued(
     counts: &mut BTreeMap<Gsrn, u128>,
     own: u32,
@@ -86,8 +90,12 @@ fn add_issued(
     taken: &BTreeSet<(Gsrn, u32)>,
 ) -> Result<(), AllocError>
     requires { (q : List ℕ) → sum_at counts.old q + 2 ^ 64 < 2 ^ 128 }
-    ensures added { OnOk result ((lots : List Lot) → AreDevicesOf lots devices.now → (cs : List Correction) → AreTakenBack cs taken.now → (q : List ℕ) → sum_at counts.new q ≡ sum_at counts.old q + standing_by own lots cs q row.now) }
-    ensures small { OnOk result ((q : List ℕ) → sum_at counts.new q ≤ sum_at counts.old q + 2 ^ 64) }
+    ensures added { OnOk result
+        ((lots : List Lot) → AreDevicesOf lots devices.now → (cs : List Correction)
+        → AreTakenBack cs taken.now → (q : List ℕ)
+        → sum_at counts.new q ≡ sum_at counts.old q + standing_by own lots cs q row.now) }
+    ensures small { OnOk result
+        ((q : List ℕ) → sum_at counts.new q ≤ sum_at counts.old q + 2 ^ 64) }
 {
     if row.first / SERIALS != u64::from(own) {
         return Ok(());
@@ -98,8 +106,8 @@ fn add_issued(
     }
 }
 
-/// How many certificates of the registry of this code were issued to each device, but for those that its corrections
-/// withdrew.
+/// How many certificates of the registry of this code were issued to each device, but for those
+/// that its corrections withdrew.
 ///
 /// # Errors
 ///
@@ -111,7 +119,10 @@ pub fn count_issued(
     devices: &BTreeMap<u64, Gsrn>,
     taken: &BTreeSet<(Gsrn, u32)>,
 ) -> Result<BTreeMap<Gsrn, u128>, AllocError>
-    ensures { IfOk result (λ counts. (lots : List Lot) → AreDevicesOf lots devices.now → (cs : List Correction) → AreTakenBack cs taken.now → (q : List ℕ) → sum_at counts q ≡ sum_by (standing_by own lots cs q) rows.now) }
+    ensures { IfOk result
+        (λ counts. (lots : List Lot) → AreDevicesOf lots devices.now → (cs : List Correction)
+        → AreTakenBack cs taken.now → (q : List ℕ)
+        → sum_at counts q ≡ sum_by (standing_by own lots cs q) rows.now) }
 {
     let mut counts = BTreeMap::new(alloc);
     for row in rows {
@@ -133,7 +144,8 @@ pub fn have_declared_due(
     counts: &BTreeMap<Gsrn, u128>,
     energy: &Energy,
 ) -> bool
-    ensures { result ≡ list_all (λ x. is_due (sum_at counts.now) (left_at energy.now) x.device) declared.now }
+    ensures { result
+        ≡ list_all (λ x. is_due (sum_at counts.now) (left_at energy.now) x.device) declared.now }
 {
     declared.iter().all(|declaration| has_its_due(counts, energy, &declaration.device))
 }
@@ -145,7 +157,9 @@ fn has_lot_due(
     counts: &BTreeMap<Gsrn, u128>,
     energy: &Energy,
 ) -> bool
-    ensures { result ≡ is_lot_due (sum_at counts.now) (left_at energy.now) (get nat_cmp devices.now row.now.lot) }
+    ensures { result
+        ≡ is_lot_due (sum_at counts.now) (left_at energy.now)
+        (get nat_cmp devices.now row.now.lot) }
 {
     match devices.get(&row.lot) {
         Some(device) => has_its_due(counts, energy, device),
@@ -160,7 +174,10 @@ pub fn have_issued_due(
     counts: &BTreeMap<Gsrn, u128>,
     energy: &Energy,
 ) -> bool
-    ensures { result ≡ list_all (λ row. is_lot_due (sum_at counts.now) (left_at energy.now) (get nat_cmp devices.now row.lot)) rows.now }
+    ensures { result
+        ≡ list_all
+        (λ row. is_lot_due (sum_at counts.now) (left_at energy.now)
+        (get nat_cmp devices.now row.lot)) rows.now }
 {
     rows.iter()
         .all(|row| has_lot_due(row, devices, counts, energy))

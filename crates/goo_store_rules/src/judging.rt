@@ -1,7 +1,8 @@
 //! All rules, judged over all that was read of a registry's tables.
 
 ghost use Rattle.std.specs.Prelude.{◌≡◌, ◌↔◌, ◌&&◌, IsTrue, IfOk};
-ghost use Rattle.goo_store_rules.specs.Keeping.{has_good_values, has_good_corrections, has_its_numbers};
+ghost use Rattle.goo_store_rules.specs.Keeping.{has_good_values, has_good_corrections};
+ghost use Rattle.goo_store_rules.specs.Keeping.{has_its_numbers};
 ghost use Rattle.goo_store_rules.specs.Rules.{KeepsValues, KeepsWhole, KeepsNames, KeepsRules};
 
 use crate::cut::are_joined;
@@ -16,7 +17,9 @@ use std::alloc::{AllocError, Global};
 
 /// Whether the values of rows, and their numbers, are right.
 fn are_accepted_and_numbered(found: &Found) -> bool
-    ensures { result ≡ (has_good_values found.now && (has_good_corrections found.now && has_its_numbers found.now)) }
+    ensures { result
+        ≡ (has_good_values found.now &&
+        (has_good_corrections found.now && has_its_numbers found.now)) }
 {
     are_accepted(found) && are_corrections(found) && are_numbered(found)
 }
@@ -52,8 +55,8 @@ fn keeps_names(alloc: Global, found: &Found) -> Result<bool, AllocError>
     )
 }
 
-/// Whether all rules of the version are kept: version 2 has one more than version 1, that no piece is left to join with
-/// the one before it.
+/// Whether all rules of the version are kept: version 2 has one more than version 1, that no piece
+/// is left to join with the one before it.
 ///
 /// # Errors
 ///

@@ -1,7 +1,10 @@
 //! The rules judged here over all that was read of a registry's tables: in parts, each as one test.
 
 ghost use Rattle.std.specs.Prelude.{◌≡◌, IfOk};
-ghost use Rattle.goo_store_rules.specs.Keeping.{has_good_values, has_good_corrections, has_its_numbers, has_its_names, has_its_places, has_its_notices, has_its_declarations, has_its_carriers};
+ghost use Rattle.goo_store_rules.specs.Keeping.{has_good_values, has_good_corrections};
+ghost use Rattle.goo_store_rules.specs.Keeping.{has_its_numbers, has_its_names, has_its_places};
+ghost use Rattle.goo_store_rules.specs.Keeping.{has_its_notices, has_its_declarations};
+ghost use Rattle.goo_store_rules.specs.Keeping.{has_its_carriers};
 
 use crate::apart::are_apart;
 use crate::lists::{
@@ -49,8 +52,9 @@ pub fn are_corrections(found: &Found) -> bool
         && accepts_lot_carriers(&rows.carriers.lots)
 }
 
-/// Whether what was given has a number below the next one, pieces have no number in common, and the issuing body is no
-/// holder, the registry no peer of its own, no auxiliaries more than was produced.
+/// Whether what was given has a number below the next one, pieces have no number in common, and the
+/// issuing body is no holder, the registry no peer of its own, no auxiliaries more than was
+/// produced.
 pub fn are_numbered(found: &Found) -> bool
     ensures { result ≡ has_its_numbers found.now }
 {
@@ -137,7 +141,8 @@ pub fn are_notices(alloc: Global, found: &Found) -> Result<bool, AllocError>
     )
 }
 
-/// Whether own lots and corrections have their declarations, and the withdrawals that corrections name are there.
+/// Whether own lots and corrections have their declarations, and the withdrawals that corrections
+/// name are there.
 ///
 /// # Errors
 ///

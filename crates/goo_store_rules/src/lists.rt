@@ -2,9 +2,17 @@
 
 ghost use Rattle.std.specs.Prelude.{◌≡◌, pos};
 ghost use Rattle.std.specs.List.{list_all};
-ghost use Rattle.goo_tables_rows.specs.Rows.{holder_in, account_in, device_in, declaration_in, lot_in, receipt_in, cancellation_in, withdrawal_in, correction_in, notice_out_in, device_carrier_in, lot_carrier_in};
-ghost use Rattle.goo_spec_tables.specs.Readable.{is_holder, is_account, is_device, is_declaration, is_lot, is_piece, is_peer, is_receipt, is_cancellation, is_withdrawal, is_correction, is_device_carrier, is_lot_carrier};
-ghost use Rattle.goo_store_rules.specs.WellKept.{is_no_issuer, is_another, covers_aux, account_given, cancellation_given, withdrawal_given, notice_given, is_issued};
+ghost use Rattle.goo_tables_rows.specs.Rows.{holder_in, account_in, device_in, declaration_in};
+ghost use Rattle.goo_tables_rows.specs.Rows.{lot_in, receipt_in, cancellation_in, withdrawal_in};
+ghost use Rattle.goo_tables_rows.specs.Rows.{correction_in, notice_out_in, device_carrier_in};
+ghost use Rattle.goo_tables_rows.specs.Rows.{lot_carrier_in};
+ghost use Rattle.goo_spec_tables.specs.Readable.{is_holder, is_account, is_device, is_declaration};
+ghost use Rattle.goo_spec_tables.specs.Readable.{is_lot, is_piece, is_peer, is_receipt};
+ghost use Rattle.goo_spec_tables.specs.Readable.{is_cancellation, is_withdrawal, is_correction};
+ghost use Rattle.goo_spec_tables.specs.Readable.{is_device_carrier, is_lot_carrier};
+ghost use Rattle.goo_store_rules.specs.WellKept.{is_no_issuer, is_another, covers_aux};
+ghost use Rattle.goo_store_rules.specs.WellKept.{account_given, cancellation_given};
+ghost use Rattle.goo_store_rules.specs.WellKept.{withdrawal_given, notice_given, is_issued};
 
 use crate::receipts::accepts_receipt;
 use crate::values::{

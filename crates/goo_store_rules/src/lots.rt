@@ -1,6 +1,7 @@
 //! Lots: their days, and the day after which held certificates expire.
 
-ghost use Rattle.std.specs.Prelude.{◌≡◌, ◌↔◌, true, Some, All, option_map, string_bytes, IsTrue, IsSome, IfSome};
+ghost use Rattle.std.specs.Prelude.{◌≡◌, ◌↔◌, true, Some, All, option_map, string_bytes, IsTrue};
+ghost use Rattle.std.specs.Prelude.{IsSome, IfSome};
 ghost use Rattle.goo_types.specs.Day.{months_after};
 ghost use Rattle.goo_types.specs.Lot.{IsLot};
 ghost use Rattle.goo_types.specs.Texts.{day_text as day_written};
@@ -40,8 +41,8 @@ fn days_in(row: &LotRow) -> Option<LotDays>
     })
 }
 
-/// Whether the device was commissioned on the first day at the latest, the period is in one month, and the issue came
-/// after it.
+/// Whether the device was commissioned on the first day at the latest, the period is in one month,
+/// and the issue came after it.
 fn are_in_order(days: &LotDays) -> bool
     ensures { (l : _) → AreDaysOf l days.now → IsTrue result ↔ IsLot l }
 {
@@ -61,9 +62,11 @@ pub fn has_days_in_order(row: &LotRow) -> bool
     }
 }
 
-/// Whether this is the text of the day 18 months after the period, or nothing where the calendar has no such day.
+/// Whether this is the text of the day 18 months after the period, or nothing where the calendar
+/// has no such day.
 fn is_expiry(text: &Option<String>, last_day: Day) -> bool
-    ensures { IsTrue result ↔ (option_map string_bytes text.now ≡ option_map day_written (months_after last_day 18)) }
+    ensures { IsTrue result
+        ↔ (option_map string_bytes text.now ≡ option_map day_written (months_after last_day 18)) }
 {
     match (text, last_day.add_months(18)) {
         (Some(text), Some(day)) => text.as_bytes() == day.text().as_bytes(),
@@ -75,7 +78,9 @@ fn is_expiry(text: &Option<String>, last_day: Day) -> bool
 /// Whether a lot's expiry is that of its period.
 pub fn has_its_expiry(row: &LotRow) -> bool
     ensures { is_lot (lot_in row.now) ≡ true
-        → IsTrue result ↔ ((lot_in row.now).expires_on ≡ option_map day_written (months_after (day_of (lot_in row.now).last_day) 18)) }
+        → IsTrue result
+        ↔ ((lot_in row.now).expires_on
+        ≡ option_map day_written (months_after (day_of (lot_in row.now).last_day) 18)) }
 {
     match Day::read(row.last_day.as_bytes()) {
         Ok(last_day) => is_expiry(&row.expires_on, last_day),
@@ -83,7 +88,8 @@ pub fn has_its_expiry(row: &LotRow) -> bool
     }
 }
 
-/// Whether a lot's values are accepted, its days are in order, and its expiry is that of its period.
+/// Whether a lot's values are accepted, its days are in order, and its expiry is that of its
+/// period.
 pub fn is_good(row: &LotRow) -> bool
     ensures { IsTrue result ↔ IsGoodLot (lot_in row.now) }
 {

@@ -33,7 +33,10 @@ fn take_off(
     more: u128,
 ) -> Result<(), AllocError>
     requires { taken_at sums.old device first_day + more < 2 ^ 128 }
-    ensures { OnOk result ((d : List ℕ) (first : CalendarDay) → taken_at sums.new d first ≡ taken_at sums.old d first + cond (is_period device first_day d first) more 0) }
+    ensures { OnOk result
+        ((d : List ℕ) (first : CalendarDay)
+        → taken_at sums.new d first
+        ≡ taken_at sums.old d first + cond (is_period device first_day d first) more 0) }
 {
     let sum = taken_off(sums, device, first_day) + more;
     sums.insert((device, first_day), sum)?;
@@ -45,7 +48,9 @@ fn sum_taken_off(
     alloc: Global,
     corrected: &[CorrectRecord],
 ) -> Result<BTreeMap<(Gsrn, Day), u128>, AllocError>
-    ensures { IfOk result (λ sums. (device : List ℕ) (first_day : CalendarDay) → taken_at sums device first_day ≡ sum_by (less_at device first_day) corrected.now) }
+    ensures { IfOk result
+        (λ sums. (device : List ℕ) (first_day : CalendarDay)
+        → taken_at sums device first_day ≡ sum_by (less_at device first_day) corrected.now) }
 {
     let mut sums = BTreeMap::new(alloc);
     for correction in corrected {
@@ -61,14 +66,18 @@ fn sum_taken_off(
 
 /// Whether no more was taken off a declaration than its net energy.
 fn covers(declaration: &Declare, sums: &BTreeMap<(Gsrn, Day), u128>) -> bool
-    ensures { result ≡ nat_le (taken_at sums.now declaration.now.device declaration.now.first_day) (net_energy declaration.now) }
+    ensures { result
+        ≡ nat_le (taken_at sums.now declaration.now.device declaration.now.first_day)
+        (net_energy declaration.now) }
 {
     taken_off(sums, declaration.device, declaration.first_day) <= u128::from(net(declaration))
 }
 
 /// Whether that holds of each.
 fn cover(declared: &[Declare], sums: &BTreeMap<(Gsrn, Day), u128>) -> bool
-    ensures { result ≡ list_all (λ x. nat_le (taken_at sums.now x.device x.first_day) (net_energy x)) declared.now }
+    ensures { result
+        ≡ list_all
+        (λ x. nat_le (taken_at sums.now x.device x.first_day) (net_energy x)) declared.now }
 {
     declared.iter().all(|declaration| covers(declaration, sums))
 }

@@ -4,7 +4,8 @@ ghost use Rattle.std.specs.Prelude.{◌≡◌, ℕ, map, option_map, string_byte
 ghost use Rattle.std.specs.Ordering.{nat_cmp};
 ghost use Rattle.std.specs.BTreeSet.{contains};
 ghost use Rattle.goo_tables_rows.specs.Rows.{account_in, lot_in};
-ghost use Rattle.goo_store_rules.specs.WellKept.{has_closed, has_over, has_lot_of, is_over_at, pair_cmp};
+ghost use Rattle.goo_store_rules.specs.WellKept.{has_closed, has_over, has_lot_of, is_over_at};
+ghost use Rattle.goo_store_rules.specs.WellKept.{pair_cmp};
 
 use goo_tables_rows::account::AccountRow;
 use goo_tables_rows::lot::LotRow;
@@ -17,7 +18,8 @@ use std::collections::BTreeSet;
 ///
 /// Where an allocation is refused.
 pub fn closed_accounts(alloc: Global, rows: &[AccountRow]) -> Result<BTreeSet<u32>, AllocError>
-    ensures { IfOk result (λ set. (n : ℕ) → contains nat_cmp set n ≡ has_closed (map account_in rows.now) n) }
+    ensures { IfOk result
+        (λ set. (n : ℕ) → contains nat_cmp set n ≡ has_closed (map account_in rows.now) n) }
 {
     let mut set = BTreeSet::new(alloc);
     for row in rows {
@@ -44,7 +46,8 @@ fn is_past(day: &Option<String>, today: &str) -> bool
 ///
 /// Where an allocation is refused.
 pub fn lots_over(alloc: Global, today: &str, rows: &[LotRow]) -> Result<BTreeSet<u64>, AllocError>
-    ensures { IfOk result (λ set. (n : ℕ) → contains nat_cmp set n ≡ has_over today.now (map lot_in rows.now) n) }
+    ensures { IfOk result
+        (λ set. (n : ℕ) → contains nat_cmp set n ≡ has_over today.now (map lot_in rows.now) n) }
 {
     let mut set = BTreeSet::new(alloc);
     for row in rows {
@@ -61,7 +64,9 @@ pub fn lots_over(alloc: Global, today: &str, rows: &[LotRow]) -> Result<BTreeSet
 ///
 /// Where an allocation is refused.
 pub fn lot_origins(alloc: Global, rows: &[LotRow]) -> Result<BTreeSet<(u64, u64)>, AllocError>
-    ensures { IfOk result (λ set. (n origin : ℕ) → contains pair_cmp set (n, origin) ≡ has_lot_of origin (map lot_in rows.now) n) }
+    ensures { IfOk result
+        (λ set. (n origin : ℕ)
+        → contains pair_cmp set (n, origin) ≡ has_lot_of origin (map lot_in rows.now) n) }
 {
     let mut set = BTreeSet::new(alloc);
     for row in rows {

@@ -3,8 +3,10 @@
 ghost use Rattle.std.specs.Prelude.{◌≡◌, ℕ, List, map, IfOk};
 ghost use Rattle.std.specs.Ordering.{nat_cmp};
 ghost use Rattle.std.specs.BTreeSet.{contains};
-ghost use Rattle.goo_tables_rows.specs.Rows.{account_in, lot_in, cancellation_in, withdrawal_in, notice_out_in};
-ghost use Rattle.goo_store_rules.specs.WellKept.{has_account, has_lot, has_cancellation, has_withdrawal, has_sent};
+ghost use Rattle.goo_tables_rows.specs.Rows.{account_in, lot_in, cancellation_in, withdrawal_in};
+ghost use Rattle.goo_tables_rows.specs.Rows.{notice_out_in};
+ghost use Rattle.goo_store_rules.specs.WellKept.{has_account, has_lot, has_cancellation};
+ghost use Rattle.goo_store_rules.specs.WellKept.{has_withdrawal, has_sent};
 
 use goo_tables_rows::account::AccountRow;
 use goo_tables_rows::cancellation::CancellationRow;
@@ -20,7 +22,8 @@ use std::collections::BTreeSet;
 ///
 /// Where an allocation is refused.
 pub fn account_numbers(alloc: Global, rows: &[AccountRow]) -> Result<BTreeSet<u32>, AllocError>
-    ensures { IfOk result (λ set. (n : ℕ) → contains nat_cmp set n ≡ has_account (map account_in rows.now) n) }
+    ensures { IfOk result
+        (λ set. (n : ℕ) → contains nat_cmp set n ≡ has_account (map account_in rows.now) n) }
 {
     let mut set = BTreeSet::new(alloc);
     for account in rows {
@@ -35,7 +38,8 @@ pub fn account_numbers(alloc: Global, rows: &[AccountRow]) -> Result<BTreeSet<u3
 ///
 /// Where an allocation is refused.
 pub fn lot_numbers(alloc: Global, rows: &[LotRow]) -> Result<BTreeSet<u64>, AllocError>
-    ensures { IfOk result (λ set. (n : ℕ) → contains nat_cmp set n ≡ has_lot (map lot_in rows.now) n) }
+    ensures { IfOk result
+        (λ set. (n : ℕ) → contains nat_cmp set n ≡ has_lot (map lot_in rows.now) n) }
 {
     let mut set = BTreeSet::new(alloc);
     for lot in rows {
@@ -53,7 +57,9 @@ pub fn cancellation_numbers(
     alloc: Global,
     rows: &[CancellationRow],
 ) -> Result<BTreeSet<u32>, AllocError>
-    ensures { IfOk result (λ set. (n : ℕ) → contains nat_cmp set n ≡ has_cancellation (map cancellation_in rows.now) n) }
+    ensures { IfOk result
+        (λ set. (n : ℕ)
+        → contains nat_cmp set n ≡ has_cancellation (map cancellation_in rows.now) n) }
 {
     let mut set = BTreeSet::new(alloc);
     for cancellation in rows {
@@ -71,7 +77,8 @@ pub fn withdrawal_numbers(
     alloc: Global,
     rows: &[WithdrawalRow],
 ) -> Result<BTreeSet<u32>, AllocError>
-    ensures { IfOk result (λ set. (n : ℕ) → contains nat_cmp set n ≡ has_withdrawal (map withdrawal_in rows.now) n) }
+    ensures { IfOk result
+        (λ set. (n : ℕ) → contains nat_cmp set n ≡ has_withdrawal (map withdrawal_in rows.now) n) }
 {
     let mut set = BTreeSet::new(alloc);
     for withdrawal in rows {
@@ -86,7 +93,8 @@ pub fn withdrawal_numbers(
 ///
 /// Where an allocation is refused.
 pub fn sent_numbers(alloc: Global, rows: &[NoticeOutRow]) -> Result<BTreeSet<u32>, AllocError>
-    ensures { IfOk result (λ set. (n : ℕ) → contains nat_cmp set n ≡ has_sent (map notice_out_in rows.now) n) }
+    ensures { IfOk result
+        (λ set. (n : ℕ) → contains nat_cmp set n ≡ has_sent (map notice_out_in rows.now) n) }
 {
     let mut set = BTreeSet::new(alloc);
     for notice in rows {

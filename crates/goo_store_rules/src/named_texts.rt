@@ -19,7 +19,10 @@ use std::collections::BTreeSet;
 ///
 /// Where an allocation is refused.
 pub fn holder_codes(alloc: Global, rows: &[HolderRow]) -> Result<BTreeSet<String>, AllocError>
-    ensures { IfOk result (λ set. (text : Text Memory) → contains (λ a b. text_cmp (string_bytes a) (string_bytes b)) set text ≡ has_holder (map holder_in rows.now) (string_bytes text)) }
+    ensures { IfOk result
+        (λ set. (text : Text Memory)
+        → contains (λ a b. text_cmp (string_bytes a) (string_bytes b)) set text
+        ≡ has_holder (map holder_in rows.now) (string_bytes text)) }
 {
     let mut set = BTreeSet::new(alloc);
     for row in rows {
@@ -34,7 +37,10 @@ pub fn holder_codes(alloc: Global, rows: &[HolderRow]) -> Result<BTreeSet<String
 ///
 /// Where an allocation is refused.
 pub fn device_gsrns(alloc: Global, rows: &[DeviceRow]) -> Result<BTreeSet<String>, AllocError>
-    ensures { IfOk result (λ set. (text : Text Memory) → contains (λ a b. text_cmp (string_bytes a) (string_bytes b)) set text ≡ has_device (map device_in rows.now) (string_bytes text)) }
+    ensures { IfOk result
+        (λ set. (text : Text Memory)
+        → contains (λ a b. text_cmp (string_bytes a) (string_bytes b)) set text
+        ≡ has_device (map device_in rows.now) (string_bytes text)) }
 {
     let mut set = BTreeSet::new(alloc);
     for row in rows {

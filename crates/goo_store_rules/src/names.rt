@@ -3,8 +3,13 @@
 ghost use Rattle.std.specs.Prelude.{◌≡◌, ◌&&◌, map, string_bytes, IfOk};
 ghost use Rattle.std.specs.List.{list_all};
 ghost use Rattle.goo_types.specs.Number.{code_of};
-ghost use Rattle.goo_tables_rows.specs.Rows.{holder_in, account_in, device_in, declaration_in, lot_in, cancellation_in, withdrawal_in, notice_out_in};
-ghost use Rattle.goo_store_rules.specs.WellKept.{has_holder, has_account, has_device, has_lot, has_cancellation, has_withdrawal, has_sent, has_lot_of, has_over, has_closed, act_in, is_timely, has_declaration, is_declared, is_withdrawn};
+ghost use Rattle.goo_tables_rows.specs.Rows.{holder_in, account_in, device_in, declaration_in};
+ghost use Rattle.goo_tables_rows.specs.Rows.{lot_in, cancellation_in, withdrawal_in, notice_out_in};
+ghost use Rattle.goo_store_rules.specs.WellKept.{has_holder, has_account, has_device, has_lot};
+ghost use Rattle.goo_store_rules.specs.WellKept.{has_cancellation, has_withdrawal, has_sent};
+ghost use Rattle.goo_store_rules.specs.WellKept.{has_lot_of, has_over, has_closed, act_in};
+ghost use Rattle.goo_store_rules.specs.WellKept.{is_timely, has_declaration, is_declared};
+ghost use Rattle.goo_store_rules.specs.WellKept.{is_withdrawn};
 
 use crate::declared::{corrections_are_declared, declared_periods, own_lots_are_declared};
 use crate::marked::{closed_accounts, lot_origins, lots_over};
@@ -42,7 +47,10 @@ pub fn holders_are_there(
     accounts: &[AccountRow],
     holders: &[HolderRow],
 ) -> Result<bool, AllocError>
-    ensures { IfOk result (λ yes. yes ≡ list_all (λ row. has_holder (map holder_in holders.now) (string_bytes row.holder)) accounts.now) }
+    ensures { IfOk result
+        (λ yes. yes
+        ≡ list_all
+        (λ row. has_holder (map holder_in holders.now) (string_bytes row.holder)) accounts.now) }
 {
     let codes = holder_codes(alloc, holders)?;
     Ok(accounts_are_held(accounts, &codes))
@@ -58,7 +66,11 @@ pub fn devices_are_there(
     declarations: &[DeclarationRow],
     devices: &[DeviceRow],
 ) -> Result<bool, AllocError>
-    ensures { IfOk result (λ yes. yes ≡ list_all (λ row. has_device (map device_in devices.now) (string_bytes row.device)) declarations.now) }
+    ensures { IfOk result
+        (λ yes. yes
+        ≡ list_all
+        (λ row. has_device (map device_in devices.now) (string_bytes row.device))
+        declarations.now) }
 {
     let gsrns = device_gsrns(alloc, devices)?;
     Ok(declarations_have_devices(declarations, &gsrns))
@@ -74,7 +86,10 @@ pub fn carried_devices_are_there(
     carriers: &[DeviceCarrierRow],
     devices: &[DeviceRow],
 ) -> Result<bool, AllocError>
-    ensures { IfOk result (λ yes. yes ≡ list_all (λ row. has_device (map device_in devices.now) (string_bytes row.gsrn)) carriers.now) }
+    ensures { IfOk result
+        (λ yes. yes
+        ≡ list_all
+        (λ row. has_device (map device_in devices.now) (string_bytes row.gsrn)) carriers.now) }
 {
     let gsrns = device_gsrns(alloc, devices)?;
     Ok(carriers_have_devices(carriers, &gsrns))
@@ -90,7 +105,8 @@ pub fn carried_lots_are_there(
     carriers: &[LotCarrierRow],
     lots: &[LotRow],
 ) -> Result<bool, AllocError>
-    ensures { IfOk result (λ yes. yes ≡ list_all (λ row. has_lot (map lot_in lots.now) row.lot) carriers.now) }
+    ensures { IfOk result
+        (λ yes. yes ≡ list_all (λ row. has_lot (map lot_in lots.now) row.lot) carriers.now) }
 {
     let numbers = lot_numbers(alloc, lots)?;
     Ok(carriers_have_lots(carriers, &numbers))
@@ -107,7 +123,11 @@ pub fn accounts_are_there(
     devices: &[DeviceRow],
     pieces: &[PieceRow],
 ) -> Result<bool, AllocError>
-    ensures { IfOk result (λ yes. yes ≡ (list_all (λ row. has_account (map account_in accounts.now) row.account) devices.now && list_all (λ row. has_account (map account_in accounts.now) row.account) pieces.now)) }
+    ensures { IfOk result
+        (λ yes. yes
+        ≡ (list_all
+        (λ row. has_account (map account_in accounts.now) row.account) devices.now && list_all
+        (λ row. has_account (map account_in accounts.now) row.account) pieces.now)) }
 {
     let numbers = account_numbers(alloc, accounts)?;
     Ok(devices_have_accounts(devices, &numbers) && pieces_have_accounts(pieces, &numbers))
@@ -124,7 +144,11 @@ pub fn accounts_of_acts_are_there(
     cancellations: &[CancellationRow],
     sent: &[NoticeOutRow],
 ) -> Result<bool, AllocError>
-    ensures { IfOk result (λ yes. yes ≡ (list_all (λ row. has_account (map account_in accounts.now) row.account) cancellations.now && list_all (λ row. has_account (map account_in accounts.now) row.account) sent.now)) }
+    ensures { IfOk result
+        (λ yes. yes
+        ≡ (list_all
+        (λ row. has_account (map account_in accounts.now) row.account) cancellations.now && list_all
+        (λ row. has_account (map account_in accounts.now) row.account) sent.now)) }
 {
     let numbers = account_numbers(alloc, accounts)?;
     Ok(
@@ -145,7 +169,12 @@ pub fn acts_are_there(
     withdrawals: &[WithdrawalRow],
     sent: &[NoticeOutRow],
 ) -> Result<bool, AllocError>
-    ensures { IfOk result (λ yes. yes ≡ list_all (act_in (has_cancellation (map cancellation_in cancellations.now)) (has_withdrawal (map withdrawal_in withdrawals.now)) (has_sent (map notice_out_in sent.now))) pieces.now) }
+    ensures { IfOk result
+        (λ yes. yes
+        ≡ list_all
+        (act_in (has_cancellation (map cancellation_in cancellations.now))
+        (has_withdrawal (map withdrawal_in withdrawals.now))
+        (has_sent (map notice_out_in sent.now))) pieces.now) }
 {
     let acts = ActNumbers {
         cancellations: cancellation_numbers(alloc, cancellations)?,
@@ -165,13 +194,17 @@ pub fn lots_are_there(
     pieces: &[PieceRow],
     lots: &[LotRow],
 ) -> Result<bool, AllocError>
-    ensures { IfOk result (λ yes. yes ≡ list_all (λ row. has_lot_of (code_of row.first) (map lot_in lots.now) row.lot) pieces.now) }
+    ensures { IfOk result
+        (λ yes. yes
+        ≡ list_all
+        (λ row. has_lot_of (code_of row.first) (map lot_in lots.now) row.lot) pieces.now) }
 {
     let origins = lot_origins(alloc, lots)?;
     Ok(pieces_are_of_origins(pieces, &origins))
 }
 
-/// Whether held pieces are of lots that aren't over, in open accounts, and expired ones of lots that are over.
+/// Whether held pieces are of lots that aren't over, in open accounts, and expired ones of lots
+/// that are over.
 ///
 /// # Errors
 ///
@@ -183,14 +216,19 @@ pub fn places_are_in_time(
     lots: &[LotRow],
     accounts: &[AccountRow],
 ) -> Result<bool, AllocError>
-    ensures { IfOk result (λ yes. yes ≡ list_all (is_timely (has_over today.now (map lot_in lots.now)) (has_closed (map account_in accounts.now))) pieces.now) }
+    ensures { IfOk result
+        (λ yes. yes
+        ≡ list_all
+        (is_timely (has_over today.now (map lot_in lots.now))
+        (has_closed (map account_in accounts.now))) pieces.now) }
 {
     let over = lots_over(alloc, today, lots)?;
     let closed = closed_accounts(alloc, accounts)?;
     Ok(pieces_are_in_time(pieces, &over, &closed))
 }
 
-/// Whether each lot of the registry of this code, and each correction, has a declaration of its device with its first day.
+/// Whether each lot of the registry of this code, and each correction, has a declaration of its
+/// device with its first day.
 ///
 /// # Errors
 ///
@@ -202,7 +240,13 @@ pub fn have_declarations(
     corrections: &[CorrectionRow],
     declarations: &[DeclarationRow],
 ) -> Result<bool, AllocError>
-    ensures { IfOk result (λ yes. yes ≡ (list_all (λ row. is_declared (has_declaration (map declaration_in declarations.now)) own (lot_in row)) lots.now && list_all (λ row. has_declaration (map declaration_in declarations.now) (string_bytes row.device) (string_bytes row.first_day)) corrections.now)) }
+    ensures { IfOk result
+        (λ yes. yes
+        ≡ (list_all
+        (λ row. is_declared (has_declaration (map declaration_in declarations.now)) own
+        (lot_in row)) lots.now && list_all
+        (λ row. has_declaration (map declaration_in declarations.now) (string_bytes row.device)
+        (string_bytes row.first_day)) corrections.now)) }
 {
     let periods = declared_periods(alloc, declarations)?;
     Ok(
@@ -221,7 +265,11 @@ pub fn withdrawals_are_there(
     corrections: &[CorrectionRow],
     withdrawals: &[WithdrawalRow],
 ) -> Result<bool, AllocError>
-    ensures { IfOk result (λ yes. yes ≡ list_all (λ row. is_withdrawn (has_withdrawal (map withdrawal_in withdrawals.now)) row.withdrawal) corrections.now) }
+    ensures { IfOk result
+        (λ yes. yes
+        ≡ list_all
+        (λ row. is_withdrawn (has_withdrawal (map withdrawal_in withdrawals.now)) row.withdrawal)
+        corrections.now) }
 {
     let numbers = withdrawal_numbers(alloc, withdrawals)?;
     Ok(corrections_are_withdrawn(corrections, &numbers))

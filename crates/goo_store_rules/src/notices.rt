@@ -60,7 +60,8 @@ pub fn accepts_arrived(alloc: Global, row: &NoticeInRow) -> Result<bool, AllocEr
 ///
 /// Where an allocation is refused.
 pub fn accepts_all_sent(alloc: Global, own: u32, rows: &[NoticeOutRow]) -> Result<bool, AllocError>
-    ensures { IfOk result (λ yes. yes ≡ list_all (λ row. is_notice_out own (notice_out_in row)) rows.now) }
+    ensures { IfOk result
+        (λ yes. yes ≡ list_all (λ row. is_notice_out own (notice_out_in row)) rows.now) }
 {
     for row in rows {
         if !accepts_sent(alloc, own, row)? {
@@ -76,7 +77,8 @@ pub fn accepts_all_sent(alloc: Global, own: u32, rows: &[NoticeOutRow]) -> Resul
 ///
 /// Where an allocation is refused.
 pub fn accepts_all_arrived(alloc: Global, rows: &[NoticeInRow]) -> Result<bool, AllocError>
-    ensures { IfOk result (λ yes. yes ≡ list_all (λ row. is_notice_in (pos 0, notice_in_in row)) rows.now) }
+    ensures { IfOk result
+        (λ yes. yes ≡ list_all (λ row. is_notice_in (pos 0, notice_in_in row)) rows.now) }
 {
     for row in rows {
         if !accepts_arrived(alloc, row)? {

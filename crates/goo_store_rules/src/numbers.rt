@@ -2,7 +2,8 @@
 
 ghost use Rattle.std.specs.Prelude.{◌≡◌};
 ghost use Rattle.goo_types.specs.Number.{is_number as is_certificate};
-ghost use Rattle.goo_spec_tables.specs.Readable.{is_code, is_act, is_maybe_act, is_next, is_wh, are_ends, names_act};
+ghost use Rattle.goo_spec_tables.specs.Readable.{is_code, is_act, is_maybe_act, is_next, is_wh};
+ghost use Rattle.goo_spec_tables.specs.Readable.{are_ends, names_act};
 
 use goo_types::limits::{self, LAST_ACT, LAST_REGISTRY, MOST_WH, SERIALS};
 

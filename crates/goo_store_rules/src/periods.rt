@@ -40,7 +40,9 @@ pub fn last_days(
     alloc: Global,
     declared: &[Declare],
 ) -> Result<Option<BTreeMap<Gsrn, Day>>, AllocError>
-    ensures ends { IfOk result (λ o. IfSome o (λ ends. (q : List ℕ) → get text_cmp ends q ≡ last_end None (declared_by q declared.now))) }
+    ensures ends { IfOk result
+        (λ o. IfSome o
+        (λ ends. (q : List ℕ) → get text_cmp ends q ≡ last_end None (declared_by q declared.now))) }
     ensures rising { IfOk result (λ o. IsSome o ↔ DoPeriodsRise declared.now) }
 {
     let mut ends = BTreeMap::new(alloc);

@@ -7,7 +7,9 @@ ghost use Rattle.goo_tables_rows.specs.Rows.{Lot, device_in, lot_in};
 ghost use Rattle.goo_spec.specs.State.{Correction};
 ghost use Rattle.goo_spec_tables.specs.Places.{piece_of};
 ghost use Rattle.goo_spec_tables.specs.Readable.{is_device, is_lot};
-ghost use Rattle.goo_store_rules.specs.Production.{standing_by, AreDevicesOf, AreIssuedWhenDue, IsProductionAccepted, IsProductionKept, IsCorrectedKept, KeepsProduction, pieces_in};
+ghost use Rattle.goo_store_rules.specs.Production.{standing_by, AreDevicesOf, AreIssuedWhenDue};
+ghost use Rattle.goo_store_rules.specs.Production.{IsProductionAccepted, IsProductionKept};
+ghost use Rattle.goo_store_rules.specs.Production.{IsCorrectedKept, KeepsProduction, pieces_in};
 ghost use Rattle.goo_store_rules.specs.Summing.{sum_at, KeepsEnergy};
 
 use crate::correct_record::CorrectRecord;
@@ -28,7 +30,8 @@ use goo_types::gsrn::Gsrn;
 use std::alloc::{AllocError, Global};
 use std::collections::BTreeMap;
 
-/// Whether each device of these declarations, and of the lots of these rows, was issued what is due.
+/// Whether each device of these declarations, and of the lots of these rows, was issued what is
+/// due.
 fn have_due(
     declared: &[Declare],
     energy: &Energy,
@@ -36,14 +39,17 @@ fn have_due(
     devices: &BTreeMap<u64, Gsrn>,
     counts: &BTreeMap<Gsrn, u128>,
 ) -> bool
-    ensures { (lots : List Lot) → AreDevicesOf lots devices.now → (own : ℕ) → (cs : List Correction) → ((q : List ℕ) → sum_at counts.now q ≡ sum_by (standing_by own lots cs q) pieces.now) → KeepsEnergy declared.now cs energy.now
-        → IsTrue result ↔ AreIssuedWhenDue own declared.now cs (map piece_of (beside lots pieces.now)) }
+    ensures { (lots : List Lot) → AreDevicesOf lots devices.now → (own : ℕ) → (cs : List Correction)
+        → ((q : List ℕ) → sum_at counts.now q ≡ sum_by (standing_by own lots cs q) pieces.now)
+        → KeepsEnergy declared.now cs energy.now
+        → IsTrue result
+        ↔ AreIssuedWhenDue own declared.now cs (map piece_of (beside lots pieces.now)) }
 {
     have_declared_due(declared, counts, energy) && have_issued_due(pieces, devices, counts, energy)
 }
 
-/// Whether each device was issued, by the registry of this code, what is due for its declarations and corrections, whose
-/// sums are these.
+/// Whether each device was issued, by the registry of this code, what is due for its declarations
+/// and corrections, whose sums are these.
 ///
 /// # Errors
 ///
@@ -57,8 +63,12 @@ fn were_issued_when_due(
     lots: &[LotRow],
     pieces: &[PieceRow],
 ) -> Result<bool, AllocError>
-    ensures { KeepsEnergy declared.now corrected.now energy.now → list_all (λ row. is_lot (lot_in row)) lots.now ≡ true
-        → IfOk result (λ yes. IsTrue yes ↔ AreIssuedWhenDue own declared.now corrected.now (map piece_of (beside (map lot_in lots.now) pieces.now))) }
+    ensures { KeepsEnergy declared.now corrected.now energy.now
+        → list_all (λ row. is_lot (lot_in row)) lots.now ≡ true
+        → IfOk result
+        (λ yes. IsTrue yes
+        ↔ AreIssuedWhenDue own declared.now corrected.now
+        (map piece_of (beside (map lot_in lots.now) pieces.now))) }
 {
     let Some(devices) = devices_of_lots(alloc, lots)? else {
         return Ok(false);
@@ -68,7 +78,8 @@ fn were_issued_when_due(
     Ok(have_due(declared, energy, pieces, &devices, &counts))
 }
 
-/// Whether each device's periods rise, its row keeps what they come to, and it was issued what is due.
+/// Whether each device's periods rise, its row keeps what they come to, and it was issued what is
+/// due.
 ///
 /// # Errors
 ///
@@ -82,8 +93,12 @@ fn keeps_declared(
     lots: &[LotRow],
     pieces: &[PieceRow],
 ) -> Result<bool, AllocError>
-    ensures { list_all (λ row. is_device (pos 0, device_in row)) devices.now ≡ true → list_all (λ row. is_lot (lot_in row)) lots.now ≡ true
-        → IfOk result (λ yes. IsTrue yes ↔ IsProductionKept own (map device_in devices.now) declared.now corrected.now (map piece_of (beside (map lot_in lots.now) pieces.now))) }
+    ensures { list_all (λ row. is_device (pos 0, device_in row)) devices.now ≡ true
+        → list_all (λ row. is_lot (lot_in row)) lots.now ≡ true
+        → IfOk result
+        (λ yes. IsTrue yes
+        ↔ IsProductionKept own (map device_in devices.now) declared.now corrected.now
+        (map piece_of (beside (map lot_in lots.now) pieces.now))) }
 {
     let Some(ends) = last_days(alloc, declared)? else {
         return Ok(false);
@@ -108,7 +123,10 @@ fn keeps_corrected(
     rows: &Production,
 ) -> Result<bool, AllocError>
     ensures { IsProductionAccepted rows.now
-        → IfOk result (λ yes. IsTrue yes ↔ IsCorrectedKept own (map device_in rows.now.devices.items) declared.now corrected.now (pieces_in rows.now)) }
+        → IfOk result
+        (λ yes. IsTrue yes
+        ↔ IsCorrectedKept own (map device_in rows.now.devices.items) declared.now corrected.now
+        (pieces_in rows.now)) }
 {
     if !cover_corrections(alloc, declared, corrected)? {
         return Ok(false);
@@ -130,7 +148,8 @@ fn keeps_corrected(
 ///
 /// Where an allocation is refused.
 pub fn keeps_production(alloc: Global, own: u32, rows: &Production) -> Result<bool, AllocError>
-    ensures { IsProductionAccepted rows.now → IfOk result (λ yes. IsTrue yes ↔ KeepsProduction own rows.now) }
+    ensures { IsProductionAccepted rows.now
+        → IfOk result (λ yes. IsTrue yes ↔ KeepsProduction own rows.now) }
 {
     let Some(declared) = declares_in(alloc, &rows.declarations)? else {
         return Ok(false);

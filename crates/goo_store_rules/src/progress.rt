@@ -1,6 +1,7 @@
 //! What the rows of devices keep of their declarations.
 
-ghost use Rattle.std.specs.Prelude.{◌≡◌, ◌↔◌, true, All, map, option_map, string_bytes, IsTrue, pos};
+ghost use Rattle.std.specs.Prelude.{◌≡◌, ◌↔◌, true, All, map, option_map, string_bytes, IsTrue};
+ghost use Rattle.std.specs.Prelude.{pos};
 ghost use Rattle.std.specs.BTreeMap.{get};
 ghost use Rattle.std.specs.List.{list_all};
 ghost use Rattle.goo_tables_rows.specs.Rows.{device_in};
@@ -33,7 +34,8 @@ fn states(text: &str, day: Day) -> bool
 
 /// Whether a text, where there is one, states the day that there is.
 fn states_last(text: &Option<String>, day: Option<Day>) -> bool
-    ensures { is_maybe_day (option_map string_bytes text.now) ≡ true → IsTrue result ↔ (option_map day_of (option_map string_bytes text.now) ≡ day) }
+    ensures { is_maybe_day (option_map string_bytes text.now) ≡ true → IsTrue result
+        ↔ (option_map day_of (option_map string_bytes text.now) ≡ day) }
 {
     match (text, day) {
         (Some(text), Some(day)) => states(text, day),
@@ -42,9 +44,11 @@ fn states_last(text: &Option<String>, day: Option<Day>) -> bool
     }
 }
 
-/// Whether the row of a device keeps the end of its last period and the energy left over, by these ends and sums.
+/// Whether the row of a device keeps the end of its last period and the energy left over, by these
+/// ends and sums.
 fn keeps_progress(row: &DeviceRow, ends: &BTreeMap<Gsrn, Day>, energy: &Energy) -> bool
-    ensures { is_device (pos 0, device_in row.now) ≡ true → IsTrue result ↔ HasProgress (get text_cmp ends.now) (left_at energy.now) (device_in row.now) }
+    ensures { is_device (pos 0, device_in row.now) ≡ true → IsTrue result
+        ↔ HasProgress (get text_cmp ends.now) (left_at energy.now) (device_in row.now) }
 {
     match gsrn_in(&row.gsrn) {
         Some(device) => {
@@ -57,8 +61,13 @@ fn keeps_progress(row: &DeviceRow, ends: &BTreeMap<Gsrn, Day>, energy: &Energy) 
 
 /// Whether each row does.
 pub fn keep_progress(rows: &[DeviceRow], ends: &BTreeMap<Gsrn, Day>, energy: &Energy) -> bool
-    ensures kept { list_all (λ row. is_device (pos 0, device_in row)) rows.now ≡ true → IsTrue result → All (λ row. HasProgress (get text_cmp ends.now) (left_at energy.now) (device_in row)) rows.now }
-    ensures refused { list_all (λ row. is_device (pos 0, device_in row)) rows.now ≡ true → All (λ row. HasProgress (get text_cmp ends.now) (left_at energy.now) (device_in row)) rows.now → IsTrue result }
+    ensures kept { list_all (λ row. is_device (pos 0, device_in row)) rows.now ≡ true
+        → IsTrue result
+        → All (λ row. HasProgress (get text_cmp ends.now) (left_at energy.now) (device_in row))
+        rows.now }
+    ensures refused { list_all (λ row. is_device (pos 0, device_in row)) rows.now ≡ true
+        → All (λ row. HasProgress (get text_cmp ends.now) (left_at energy.now) (device_in row))
+        rows.now → IsTrue result }
 {
     for row in rows {
         if !keeps_progress(row, ends, energy) {

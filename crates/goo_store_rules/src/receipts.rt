@@ -2,13 +2,15 @@
 
 ghost use Rattle.std.specs.Prelude.{◌≡◌, ◌==◌, ◌&&◌, ◌||◌, pos};
 ghost use Rattle.goo_tables_rows.specs.Rows.{receipt_in};
-ghost use Rattle.goo_spec_tables.specs.Readable.{is_reply, is_receipt, is_act, is_maybe_act, are_ends};
+ghost use Rattle.goo_spec_tables.specs.Readable.{is_reply, is_receipt, is_act, is_maybe_act};
+ghost use Rattle.goo_spec_tables.specs.Readable.{are_ends};
 
 use crate::numbers::{is_given_long, is_given_or_none, is_range};
 use crate::texts::{is_code_text, is_key};
 use goo_tables_rows::receipt::ReceiptRow;
 
-/// Whether these are the first and the last number that a declaration issued, or 0 and 0 where it issued none.
+/// Whether these are the first and the last number that a declaration issued, or 0 and 0 where it
+/// issued none.
 fn are_issued(first: u64, last: u64) -> bool
     ensures { result ≡ (((first == 0) && (last == 0)) || are_ends first last) }
 {

@@ -28,7 +28,8 @@ pub fn sum_for(sums: &BTreeMap<Gsrn, u128>, device: &Gsrn) -> u128
 /// Where an allocation is refused.
 pub fn add_to(sums: &mut BTreeMap<Gsrn, u128>, device: Gsrn, more: u128) -> Result<(), AllocError>
     requires { sum_at sums.old device + more < 2 ^ 128 }
-    ensures { OnOk result ((q : List ℕ) → sum_at sums.new q ≡ sum_at sums.old q + cond (bytes_eq device q) more 0) }
+    ensures { OnOk result
+        ((q : List ℕ) → sum_at sums.new q ≡ sum_at sums.old q + cond (bytes_eq device q) more 0) }
 {
     let sum = sum_for(sums, &device) + more;
     sums.insert(device, sum)?;
@@ -67,7 +68,8 @@ pub fn sum_lowered(
     alloc: Global,
     corrected: &[CorrectRecord],
 ) -> Result<BTreeMap<Gsrn, u128>, AllocError>
-    ensures { IfOk result (λ sums. (q : List ℕ) → sum_at sums q ≡ sum_by (less_of q) corrected.now) }
+    ensures { IfOk result
+        (λ sums. (q : List ℕ) → sum_at sums q ≡ sum_by (less_of q) corrected.now) }
 {
     let mut sums = BTreeMap::new(alloc);
     for correction in corrected {

@@ -2,7 +2,8 @@
 
 ghost use Rattle.std.specs.Prelude.{◌≡◌, option_map, string_bytes};
 ghost use Rattle.goo_types.specs.Carrier.{carrier_reading};
-ghost use Rattle.goo_types.specs.Codes.{holder_reading, name_reading, key_reading, country_reading, tech_reading, source_reading};
+ghost use Rattle.goo_types.specs.Codes.{holder_reading, name_reading, key_reading, country_reading};
+ghost use Rattle.goo_types.specs.Codes.{tech_reading, source_reading};
 ghost use Rattle.goo_types.specs.Day.{day_reading};
 ghost use Rattle.goo_types.specs.Gsrn.{gsrn_reading};
 ghost use Rattle.goo_types.specs.Support.{support_reading};

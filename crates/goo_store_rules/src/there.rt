@@ -5,7 +5,8 @@ ghost use Rattle.std.specs.List.{list_all};
 ghost use Rattle.std.specs.Ordering.{nat_cmp};
 ghost use Rattle.goo_types.specs.Number.{code_of};
 ghost use Rattle.std.specs.BTreeSet.{contains};
-ghost use Rattle.goo_store_rules.specs.WellKept.{has_text, act_in, is_timely, pair_cmp, is_withdrawn};
+ghost use Rattle.goo_store_rules.specs.WellKept.{has_text, act_in, is_timely, pair_cmp};
+ghost use Rattle.goo_store_rules.specs.WellKept.{is_withdrawn};
 
 use crate::keys::has;
 use goo_tables_rows::account::AccountRow;
@@ -87,7 +88,9 @@ pub fn notices_have_accounts(rows: &[NoticeOutRow], accounts: &BTreeSet<u32>) ->
 
 /// Whether the act that a piece names, if it names one, is there.
 fn has_act(row: &PieceRow, acts: &ActNumbers) -> bool
-    ensures { result ≡ act_in (contains nat_cmp acts.now.cancellations) (contains nat_cmp acts.now.withdrawals) (contains nat_cmp acts.now.sent) row.now }
+    ensures { result
+        ≡ act_in (contains nat_cmp acts.now.cancellations) (contains nat_cmp acts.now.withdrawals)
+        (contains nat_cmp acts.now.sent) row.now }
 {
     match row.kind {
         2 => has(&acts.cancellations, &row.act),
@@ -99,7 +102,10 @@ fn has_act(row: &PieceRow, acts: &ActNumbers) -> bool
 
 /// Whether each act that pieces name is there.
 pub fn pieces_have_acts(rows: &[PieceRow], acts: &ActNumbers) -> bool
-    ensures { result ≡ list_all (act_in (contains nat_cmp acts.now.cancellations) (contains nat_cmp acts.now.withdrawals) (contains nat_cmp acts.now.sent)) rows.now }
+    ensures { result
+        ≡ list_all
+        (act_in (contains nat_cmp acts.now.cancellations) (contains nat_cmp acts.now.withdrawals)
+        (contains nat_cmp acts.now.sent)) rows.now }
 {
     rows.iter().all(|row| has_act(row, acts))
 }
@@ -115,16 +121,20 @@ fn is_in_time(row: &PieceRow, over: &BTreeSet<u64>, closed: &BTreeSet<u32>) -> b
     }
 }
 
-/// Whether each piece may be in its place today: `over` has the lots that are over, `closed` the accounts that are closed.
+/// Whether each piece may be in its place today: `over` has the lots that are over, `closed` the
+/// accounts that are closed.
 pub fn pieces_are_in_time(rows: &[PieceRow], over: &BTreeSet<u64>, closed: &BTreeSet<u32>) -> bool
-    ensures { result ≡ list_all (is_timely (contains nat_cmp over.now) (contains nat_cmp closed.now)) rows.now }
+    ensures { result
+        ≡ list_all (is_timely (contains nat_cmp over.now) (contains nat_cmp closed.now)) rows.now }
 {
     rows.iter().all(|row| is_in_time(row, over, closed))
 }
 
-/// Whether each piece's certificates have the code of their lot's origin: `lots` has the lots, each with its origin.
+/// Whether each piece's certificates have the code of their lot's origin: `lots` has the lots, each
+/// with its origin.
 pub fn pieces_are_of_origins(rows: &[PieceRow], lots: &BTreeSet<(u64, u64)>) -> bool
-    ensures { result ≡ list_all (λ row. contains pair_cmp lots.now (row.lot, code_of row.first)) rows.now }
+    ensures { result
+        ≡ list_all (λ row. contains pair_cmp lots.now (row.lot, code_of row.first)) rows.now }
 {
     rows.iter()
         .all(|row| has(lots, &(row.lot, row.first / SERIALS)))
@@ -132,7 +142,9 @@ pub fn pieces_are_of_origins(rows: &[PieceRow], lots: &BTreeSet<(u64, u64)>) -> 
 
 /// Whether the withdrawal that each correction names, if it names one, is one of these.
 pub fn corrections_are_withdrawn(rows: &[CorrectionRow], withdrawals: &BTreeSet<u32>) -> bool
-    ensures { result ≡ list_all (λ row. is_withdrawn (contains nat_cmp withdrawals.now) row.withdrawal) rows.now }
+    ensures { result
+        ≡ list_all
+        (λ row. is_withdrawn (contains nat_cmp withdrawals.now) row.withdrawal) rows.now }
 {
     rows.iter().all(|row| row.withdrawal == 0 || has(withdrawals, &row.withdrawal))
 }

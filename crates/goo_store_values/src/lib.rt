@@ -1,5 +1,5 @@
-//! Values that rows and columns of the tables hold, read: numbers, texts, plants, devices, lots, corrections and the registry's own row; why reading
-//! one fails, and what a caller is told of it.
+//! Values that rows and columns of the tables hold, read: numbers, texts, plants, devices, lots,
+//! corrections and the registry's own row; why reading one fails, and what a caller is told of it.
 #![tactic(auto)]
 
 pub mod corrections;

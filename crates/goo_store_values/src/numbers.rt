@@ -3,7 +3,8 @@
 ghost use Rattle.std.specs.Prelude.{◌≡◌, is_ok, nat_le, IfErr, IfOk};
 ghost use Rattle.goo_types.specs.Number.{is_number};
 ghost use Rattle.goo_types.specs.Range.{Numbers};
-ghost use Rattle.goo_spec_tables.specs.Readable.{is_code, is_act, is_maybe_act, is_between, is_wh, are_ends};
+ghost use Rattle.goo_spec_tables.specs.Readable.{is_code, is_act, is_maybe_act, is_between, is_wh};
+ghost use Rattle.goo_spec_tables.specs.Readable.{are_ends};
 ghost use Rattle.goo_spec_tables.specs.Records.{act_or_none as act_in};
 ghost use Rattle.goo_store_values.specs.declared.trouble.Trouble.TheVariants.{Refused};
 

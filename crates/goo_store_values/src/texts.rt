@@ -1,8 +1,11 @@
-//! Texts that columns keep, as values. One that is none such is `Refused`, and a notice may want `Memory`.
+//! Texts that columns keep, as values. One that is none such is `Refused`, and a notice may want
+//! `Memory`.
 
-ghost use Rattle.std.specs.Prelude.{◌≡◌, is_ok, option_map, string_bytes, Some, IfErr, IfOk, IsOkUnless, IsTrue};
+ghost use Rattle.std.specs.Prelude.{◌≡◌, is_ok, option_map, string_bytes, Some, IfErr, IfOk};
+ghost use Rattle.std.specs.Prelude.{IsOkUnless, IsTrue};
 ghost use Rattle.goo_types.specs.Carrier.{carrier_reading};
-ghost use Rattle.goo_types.specs.Codes.{holder_reading, name_reading, country_reading, tech_reading, source_reading};
+ghost use Rattle.goo_types.specs.Codes.{holder_reading, name_reading, country_reading};
+ghost use Rattle.goo_types.specs.Codes.{tech_reading, source_reading};
 ghost use Rattle.goo_types.specs.Day.{day_reading};
 ghost use Rattle.goo_types.specs.Gsrn.{gsrn_reading};
 ghost use Rattle.goo_types.specs.Support.{support_reading};
@@ -141,7 +144,8 @@ fn other_carrier(word: &str) -> Result<Carrier, Trouble>
 
 /// The carrier of a device or a lot: electricity where no word is kept for it.
 pub(crate) fn carrier(word: &Option<String>) -> Result<Carrier, Trouble>
-    ensures value { IfOk result (λ carrier. carrier ≡ carrier_of (option_map string_bytes word.now)) }
+    ensures value { IfOk result
+        (λ carrier. carrier ≡ carrier_of (option_map string_bytes word.now)) }
     ensures accepts { is_ok result ≡ is_maybe_other (option_map string_bytes word.now) }
     ensures cause { IfErr result (λ trouble. trouble ≡ Refused) }
 {

@@ -4,9 +4,11 @@ ghost use Rattle.std.specs.Prelude.{◌≡◌, None, false, pos, map, IfOk, OnOk
 ghost use Rattle.sqlite.specs.State.{HasCleanDisk, KeepsCommit, Survives};
 ghost use Rattle.sqlite.specs.Held.{state};
 ghost use Rattle.sqlite_keyed.specs.Keyed.{get_by};
-ghost use Rattle.goo_tables_rows.specs.Rows.{Tables, cancellation_in, cancellation_key, cancellation_row, cancellation_columns};
+ghost use Rattle.goo_tables_rows.specs.Rows.{Tables, cancellation_in, cancellation_key};
+ghost use Rattle.goo_tables_rows.specs.Rows.{cancellation_row, cancellation_columns};
 ghost use Rattle.goo_tables_rows.specs.Readable.{cancellation_readable};
-ghost use Rattle.goo_tables_rows.specs.Refused.{FailsByFault, FailsOnlyByFault, ChangeFailsBy, IsTooBig, IsSmall};
+ghost use Rattle.goo_tables_rows.specs.Refused.{FailsByFault, FailsOnlyByFault, ChangeFailsBy};
+ghost use Rattle.goo_tables_rows.specs.Refused.{IsTooBig, IsSmall};
 ghost use Rattle.goo_tables_rows.specs.Lives.{LeavesLive};
 ghost use Rattle.goo_tables_rows.specs.Stands.{Sees, Looks, Keeps};
 ghost use Rattle.goo_tables_rows.specs.Met.{HasOurTables};
@@ -24,20 +26,30 @@ use std::alloc::Global;
 ///
 /// # Errors
 ///
-/// In a registry's transaction, where the number is new: a failure of memory or of the disk, or of a connection
-/// that an earlier failure shut, or `TooBig` for a row that is too big to be stored. Nothing is committed.
+/// In a registry's transaction, where the number is new: a failure of memory or of the disk, or of
+/// a connection that an earlier failure shut, or `TooBig` for a row that is too big to be stored.
+/// Nothing is committed.
 pub fn insert_cancellation<S: Alter>(
     tx: &mut Transaction<'_, S>,
     cancellation: &CancellationRow,
 ) -> Result<usize, Error>
     requires { CancellationFits cancellation.now }
     ensures same_reference { tx.new.conn.ghost_name ≡ tx.old.conn.ghost_name }
-    ensures changed { HasCleanDisk (state S.Store tx.new.conn.now) → (t : Tables) → Sees (state S.Store tx.old.conn.now) t
-        → OnOk result (Sees (state S.Store tx.new.conn.now) (with_cancellation t (cancellation_in cancellation.now))) }
-    ensures refused { ChangeFailsBy IsTooBig (λ _. IsSmall (cancellation_row (cancellation_in cancellation.now))) (state S.Store tx.old.conn.now) (state S.Store tx.new.conn.now) result (λ t. get_by cancellation_key t.cancellations (pos cancellation.now.number) ≡ None) }
-    ensures live { LeavesLive (state S.Store tx.old.conn.now) (state S.Store tx.new.conn.now) result }
-    ensures uncommitted { HasCleanDisk (state S.Store tx.new.conn.now) → KeepsCommit (state S.Store tx.old.conn.now) (state S.Store tx.new.conn.now) }
-    ensures survives { Survives (state S.Store tx.old.conn.now) (state S.Store tx.new.conn.now) (λ _. ⊥) }
+    ensures changed { HasCleanDisk (state S.Store tx.new.conn.now) → (t : Tables)
+        → Sees (state S.Store tx.old.conn.now) t
+        → OnOk result
+        (Sees (state S.Store tx.new.conn.now)
+        (with_cancellation t (cancellation_in cancellation.now))) }
+    ensures refused { ChangeFailsBy IsTooBig
+        (λ _. IsSmall (cancellation_row (cancellation_in cancellation.now)))
+        (state S.Store tx.old.conn.now) (state S.Store tx.new.conn.now) result
+        (λ t. get_by cancellation_key t.cancellations (pos cancellation.now.number) ≡ None) }
+    ensures live { LeavesLive (state S.Store tx.old.conn.now)
+        (state S.Store tx.new.conn.now) result }
+    ensures uncommitted { HasCleanDisk (state S.Store tx.new.conn.now)
+        → KeepsCommit (state S.Store tx.old.conn.now) (state S.Store tx.new.conn.now) }
+    ensures survives { Survives (state S.Store tx.old.conn.now) (state S.Store tx.new.conn.now)
+        (λ _. ⊥) }
 {
     put(
         tx,
@@ -59,16 +71,19 @@ pub fn insert_cancellation<S: Alter>(
 ///
 /// # Errors
 ///
-/// On the tables of a registry: `SqliteFailure` where memory was refused, the disk failed or an earlier failure
-/// shut the connection, and an error of reading where a row can't be read. The database stays as it was.
+/// On the tables of a registry: `SqliteFailure` where memory was refused, the disk failed or an
+/// earlier failure shut the connection, and an error of reading where a row can't be read. The
+/// database stays as it was.
 pub fn find_cancellation<S: Alter>(
     alloc: Global,
     conn: &mut Connection<S>,
     number: u32,
 ) -> Result<Option<CancellationRow>, Error>
     ensures looks { Looks (state S.Store conn.old) (state S.Store conn.new) result
-        (λ t found. option_map cancellation_in found ≡ get_by cancellation_key t.cancellations (pos number)) }
-    ensures readable { FailsOnlyByFault (state S.Store conn.old) (state S.Store conn.new) result (λ t. All cancellation_readable (map cancellation_columns t.cancellations)) }
+        (λ t found. option_map cancellation_in found
+        ≡ get_by cancellation_key t.cancellations (pos number)) }
+    ensures readable { FailsOnlyByFault (state S.Store conn.old) (state S.Store conn.new) result
+        (λ t. All cancellation_readable (map cancellation_columns t.cancellations)) }
     ensures refused { FailsByFault (state S.Store conn.old) (state S.Store conn.new) result }
     ensures outside { conn.old.in_transaction ≡ false → conn.new.in_transaction ≡ false }
 {
@@ -84,19 +99,27 @@ pub fn find_cancellation<S: Alter>(
 ///
 /// # Errors
 ///
-/// On the tables of a registry: `SqliteFailure` where memory was refused, the disk failed or an earlier failure
-/// shut the connection, and an error of reading where a row can't be read. The database stays as it was.
+/// On the tables of a registry: `SqliteFailure` where memory was refused, the disk failed or an
+/// earlier failure shut the connection, and an error of reading where a row can't be read. The
+/// database stays as it was.
 pub fn all_cancellations<S: Alter>(
     alloc: Global,
     conn: &mut Connection<S>,
 ) -> Result<Vec<CancellationRow>, Error>
-    ensures looks { Looks (state S.Store conn.old) (state S.Store conn.new) result (λ t found. map cancellation_in found.items ≡ t.cancellations) }
-    ensures met { HasCleanDisk (state S.Store conn.new) → HasOurTables (state S.Store conn.old).now → IfOk result (λ found. Keeps ((state S.Store conn.old).now.trees 15) cancellation_row cancellation_key (map cancellation_in found.items)) }
-    ensures readable { FailsOnlyByFault (state S.Store conn.old) (state S.Store conn.new) result (λ t. All cancellation_readable (map cancellation_columns t.cancellations)) }
+    ensures looks { Looks (state S.Store conn.old) (state S.Store conn.new) result
+        (λ t found. map cancellation_in found.items ≡ t.cancellations) }
+    ensures met { HasCleanDisk (state S.Store conn.new) → HasOurTables (state S.Store conn.old).now
+        → IfOk result
+        (λ found. Keeps ((state S.Store conn.old).now.trees 15) cancellation_row cancellation_key
+        (map cancellation_in found.items)) }
+    ensures readable { FailsOnlyByFault (state S.Store conn.old) (state S.Store conn.new) result
+        (λ t. All cancellation_readable (map cancellation_columns t.cancellations)) }
     ensures refused { FailsByFault (state S.Store conn.old) (state S.Store conn.new) result }
     ensures outside { conn.old.in_transaction ≡ false → conn.new.in_transaction ≡ false }
-    ensures first { ReadsFirst (state S.Store conn.old) (state S.Store conn.new) result (λ t found. map cancellation_in found.items ≡ t.cancellations)
-        (λ db found. Keeps (db.trees 15) cancellation_row cancellation_key (map cancellation_in found.items))
+    ensures first { ReadsFirst (state S.Store conn.old) (state S.Store conn.new) result
+        (λ t found. map cancellation_in found.items ≡ t.cancellations)
+        (λ db found. Keeps (db.trees 15) cancellation_row cancellation_key
+        (map cancellation_in found.items))
         (λ t. All cancellation_readable (map cancellation_columns t.cancellations)) }
 {
     ask_all(

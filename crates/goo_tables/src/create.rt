@@ -15,9 +15,10 @@ use sqlite::{Alter, Error, Transaction};
 
 /// The statements that `create_tables` runs, in turn; `add_tables` runs the last three.
 ///
-/// No table ends in a column that may be NULL: a stored row may lack its last columns, and no query tells this from NULL. For
-/// the same reason a peer's code is INT, a key of its own, and not the rowid. The tables of version 2 stand behind the others,
-/// so that all that version 1 had keeps its place.
+/// No table ends in a column that may be NULL: a stored row may lack its last columns, and no query
+/// tells this from NULL. For the same reason a peer's code is INT, a key of its own, and not the
+/// rowid. The tables of version 2 stand behind the others, so that all that version 1 had keeps its
+/// place.
 fn statement(at: u32) -> &'static str
     requires { at < 18 }
     ensures { result.now ≡ get_or create_texts at [] }
@@ -57,24 +58,38 @@ fn statement(at: u32) -> &'static str
     }
 }
 
-/// Makes all tables of version 2 in a database that has none, each without a row, and their indexes. Nothing is committed.
+/// Makes all tables of version 2 in a database that has none, each without a row, and their
+/// indexes. Nothing is committed.
 ///
-/// No table ends in a column that may be NULL: a stored row may lack its last columns, and no query tells that from NULL.
-/// What version 2 added to version 1 comes after the rest, and what a later version adds comes after these.
+/// No table ends in a column that may be NULL: a stored row may lack its last columns, and no query
+/// tells that from NULL. What version 2 added to version 1 comes after the rest, and what a later
+/// version adds comes after these.
 ///
 /// # Errors
 ///
-/// In a transaction on a database without tables: a failure of memory or of the disk. Nothing is committed.
+/// In a transaction on a database without tables: a failure of memory or of the disk. Nothing is
+/// committed.
 pub fn create_tables<S: Alter>(tx: &mut Transaction<'_, S>) -> Result<(), Error>
     ensures same_reference { tx.new.conn.ghost_name ≡ tx.old.conn.ghost_name }
-    ensures made { HasCleanDisk (state S.Store tx.new.conn.now) → IsTrue (state S.Store tx.old.conn.now).in_transaction → (state S.Store tx.old.conn.now).now.schema ≡ no_schema
-        → OnOk result (IsTrue (state S.Store tx.new.conn.now).in_transaction × IsBare (state S.Store tx.new.conn.now).now) }
-    ensures refused { HasCleanDisk (state S.Store tx.new.conn.now) → IsTrue (state S.Store tx.old.conn.now).in_transaction → (state S.Store tx.old.conn.now).now.schema ≡ no_schema
+    ensures made { HasCleanDisk (state S.Store tx.new.conn.now)
+        → IsTrue (state S.Store tx.old.conn.now).in_transaction
+        → (state S.Store tx.old.conn.now).now.schema ≡ no_schema
+        → OnOk result
+        (IsTrue (state S.Store tx.new.conn.now).in_transaction
+        × IsBare (state S.Store tx.new.conn.now).now) }
+    ensures refused { HasCleanDisk (state S.Store tx.new.conn.now)
+        → IsTrue (state S.Store tx.old.conn.now).in_transaction
+        → (state S.Store tx.old.conn.now).now.schema ≡ no_schema
         → IfErr result (IsFault (state S.Store tx.old.conn.now) (state S.Store tx.new.conn.now)) }
-    ensures live { HasCleanDisk (state S.Store tx.new.conn.now) → IsLive (state S.Store tx.old.conn.now) → IsTrue (state S.Store tx.old.conn.now).in_transaction → (state S.Store tx.old.conn.now).now.schema ≡ no_schema
+    ensures live { HasCleanDisk (state S.Store tx.new.conn.now)
+        → IsLive (state S.Store tx.old.conn.now)
+        → IsTrue (state S.Store tx.old.conn.now).in_transaction
+        → (state S.Store tx.old.conn.now).now.schema ≡ no_schema
         → OnOk result (IsLive (state S.Store tx.new.conn.now)) }
-    ensures uncommitted { HasCleanDisk (state S.Store tx.new.conn.now) → KeepsCommit (state S.Store tx.old.conn.now) (state S.Store tx.new.conn.now) }
-    ensures survives { Survives (state S.Store tx.old.conn.now) (state S.Store tx.new.conn.now) (λ _. ⊥) }
+    ensures uncommitted { HasCleanDisk (state S.Store tx.new.conn.now)
+        → KeepsCommit (state S.Store tx.old.conn.now) (state S.Store tx.new.conn.now) }
+    ensures survives { Survives (state S.Store tx.old.conn.now) (state S.Store tx.new.conn.now)
+        (λ _. ⊥) }
 {
     for at in 0..18 {
         put(tx, statement(at), &[])?;
@@ -82,21 +97,32 @@ pub fn create_tables<S: Alter>(tx: &mut Transaction<'_, S>) -> Result<(), Error>
     Ok(())
 }
 
-/// Adds to the tables of version 1 those that version 2 has beside them, each without a row. Nothing is committed.
+/// Adds to the tables of version 1 those that version 2 has beside them, each without a row.
+/// Nothing is committed.
 ///
 /// # Errors
 ///
-/// In a transaction on tables of version 1, whatever their rows: a failure of memory or of the disk.
+/// In a transaction on tables of version 1, whatever their rows: a failure of memory or of the
+/// disk.
 pub fn add_tables<S: Alter>(tx: &mut Transaction<'_, S>) -> Result<(), Error>
     ensures same_reference { tx.new.conn.ghost_name ≡ tx.old.conn.ghost_name }
-    ensures added { HasCleanDisk (state S.Store tx.new.conn.now) → IsTrue (state S.Store tx.old.conn.now).in_transaction → (t : Tables) → IsFirst (state S.Store tx.old.conn.now).now t
+    ensures added { HasCleanDisk (state S.Store tx.new.conn.now)
+        → IsTrue (state S.Store tx.old.conn.now).in_transaction → (t : Tables)
+        → IsFirst (state S.Store tx.old.conn.now).now t
         → OnOk result (Sees (state S.Store tx.new.conn.now) t) }
-    ensures refused { HasCleanDisk (state S.Store tx.new.conn.now) → IsTrue (state S.Store tx.old.conn.now).in_transaction → (state S.Store tx.old.conn.now).now.schema ≡ first_schema
+    ensures refused { HasCleanDisk (state S.Store tx.new.conn.now)
+        → IsTrue (state S.Store tx.old.conn.now).in_transaction
+        → (state S.Store tx.old.conn.now).now.schema ≡ first_schema
         → IfErr result (IsFault (state S.Store tx.old.conn.now) (state S.Store tx.new.conn.now)) }
-    ensures live { HasCleanDisk (state S.Store tx.new.conn.now) → IsLive (state S.Store tx.old.conn.now) → IsTrue (state S.Store tx.old.conn.now).in_transaction → (state S.Store tx.old.conn.now).now.schema ≡ first_schema
+    ensures live { HasCleanDisk (state S.Store tx.new.conn.now)
+        → IsLive (state S.Store tx.old.conn.now)
+        → IsTrue (state S.Store tx.old.conn.now).in_transaction
+        → (state S.Store tx.old.conn.now).now.schema ≡ first_schema
         → OnOk result (IsLive (state S.Store tx.new.conn.now)) }
-    ensures uncommitted { HasCleanDisk (state S.Store tx.new.conn.now) → KeepsCommit (state S.Store tx.old.conn.now) (state S.Store tx.new.conn.now) }
-    ensures survives { Survives (state S.Store tx.old.conn.now) (state S.Store tx.new.conn.now) (λ _. ⊥) }
+    ensures uncommitted { HasCleanDisk (state S.Store tx.new.conn.now)
+        → KeepsCommit (state S.Store tx.old.conn.now) (state S.Store tx.new.conn.now) }
+    ensures survives { Survives (state S.Store tx.old.conn.now) (state S.Store tx.new.conn.now)
+        (λ _. ⊥) }
 {
     for at in 0..3 {
         put(tx, statement(15 + at), &[])?;

@@ -1,6 +1,7 @@
 //! The statements on `piece` joined with `lot`, and with the lot's carrier.
 
-ghost use Rattle.std.specs.Prelude.{◌≡◌, All, ◌&&◌, ◌<◌, ◌^◌, Some, false, pos, map, filter, find, reverse, take, nat_le, nat_lt, option_map};
+ghost use Rattle.std.specs.Prelude.{◌≡◌, All, ◌&&◌, ◌<◌, ◌^◌, Some, false, pos, map, filter, find};
+ghost use Rattle.std.specs.Prelude.{reverse, take, nat_le, nat_lt, option_map};
 ghost use Rattle.std.specs.Ordering.{int_eq};
 ghost use Rattle.sqlite.specs.Held.{state};
 ghost use Rattle.sqlite_typed.specs.Tests.{bytes_lt, both_and};
@@ -15,14 +16,16 @@ use goo_tables_rows::values::{number, small, text};
 use sqlite::{Alter, Connection, Error};
 use std::alloc::Global;
 
-/// The pieces that begin at `low` or later and at `high` or earlier, by their first numbers, each beside its lot.
+/// The pieces that begin at `low` or later and at `high` or earlier, by their first numbers, each
+/// beside its lot.
 ///
 /// A piece that begins before `low` may still reach into the range: `piece_before` finds it.
 ///
 /// # Errors
 ///
-/// On the tables of a registry: `SqliteFailure` where memory was refused, the disk failed or an earlier failure
-/// shut the connection, and an error of reading where a row can't be read. The database stays as it was.
+/// On the tables of a registry: `SqliteFailure` where memory was refused, the disk failed or an
+/// earlier failure shut the connection, and an error of reading where a row can't be read. The
+/// database stays as it was.
 pub fn pieces_beginning<S: Alter>(
     alloc: Global,
     conn: &mut Connection<S>,
@@ -31,8 +34,10 @@ pub fn pieces_beginning<S: Alter>(
 ) -> Result<Vec<JoinedRow>, Error>
     requires { (low < 2 ^ 63) × (high < 2 ^ 63) }
     ensures looks { Looks (state S.Store conn.old) (state S.Store conn.new) result
-        (λ t found. map joined_in found.items ≡ filter (λ a. nat_le low a.0.first && nat_le a.0.first high) (pieces_beside t)) }
-    ensures readable { FailsOnlyByFault (state S.Store conn.old) (state S.Store conn.new) result (λ t. All joined_readable (map joined_columns (pieces_beside t))) }
+        (λ t found. map joined_in found.items
+        ≡ filter (λ a. nat_le low a.0.first && nat_le a.0.first high) (pieces_beside t)) }
+    ensures readable { FailsOnlyByFault (state S.Store conn.old) (state S.Store conn.new) result
+        (λ t. All joined_readable (map joined_columns (pieces_beside t))) }
     ensures refused { FailsByFault (state S.Store conn.old) (state S.Store conn.new) result }
     ensures outside { conn.old.in_transaction ≡ false → conn.new.in_transaction ≡ false }
 {
@@ -44,13 +49,14 @@ pub fn pieces_beginning<S: Alter>(
     )
 }
 
-/// The last piece that begins before `low`, beside its lot. Where no two pieces overlap, it alone can reach from there into
-/// a range that begins at `low`.
+/// The last piece that begins before `low`, beside its lot. Where no two pieces overlap, it alone
+/// can reach from there into a range that begins at `low`.
 ///
 /// # Errors
 ///
-/// On the tables of a registry: `SqliteFailure` where memory was refused, the disk failed or an earlier failure
-/// shut the connection, and an error of reading where a row can't be read. The database stays as it was.
+/// On the tables of a registry: `SqliteFailure` where memory was refused, the disk failed or an
+/// earlier failure shut the connection, and an error of reading where a row can't be read. The
+/// database stays as it was.
 pub fn piece_before<S: Alter>(
     alloc: Global,
     conn: &mut Connection<S>,
@@ -58,8 +64,10 @@ pub fn piece_before<S: Alter>(
 ) -> Result<Option<JoinedRow>, Error>
     requires { low < 2 ^ 63 }
     ensures looks { Looks (state S.Store conn.old) (state S.Store conn.new) result
-        (λ t found. option_map joined_in found ≡ find (λ a. nat_lt a.0.first low) (reverse (pieces_beside t))) }
-    ensures readable { FailsOnlyByFault (state S.Store conn.old) (state S.Store conn.new) result (λ t. All joined_readable (map joined_columns (pieces_beside t))) }
+        (λ t found. option_map joined_in found
+        ≡ find (λ a. nat_lt a.0.first low) (reverse (pieces_beside t))) }
+    ensures readable { FailsOnlyByFault (state S.Store conn.old) (state S.Store conn.new) result
+        (λ t. All joined_readable (map joined_columns (pieces_beside t))) }
     ensures refused { FailsByFault (state S.Store conn.old) (state S.Store conn.new) result }
     ensures outside { conn.old.in_transaction ≡ false → conn.new.in_transaction ≡ false }
 {
@@ -75,16 +83,19 @@ pub fn piece_before<S: Alter>(
 ///
 /// # Errors
 ///
-/// On the tables of a registry: `SqliteFailure` where memory was refused, the disk failed or an earlier failure
-/// shut the connection, and an error of reading where a row can't be read. The database stays as it was.
+/// On the tables of a registry: `SqliteFailure` where memory was refused, the disk failed or an
+/// earlier failure shut the connection, and an error of reading where a row can't be read. The
+/// database stays as it was.
 pub fn pieces_of_account<S: Alter>(
     alloc: Global,
     conn: &mut Connection<S>,
     account: u32,
 ) -> Result<Vec<JoinedRow>, Error>
     ensures looks { Looks (state S.Store conn.old) (state S.Store conn.new) result
-        (λ t found. map joined_in found.items ≡ filter (λ a. int_eq (pos a.0.account) (pos account)) (pieces_beside t)) }
-    ensures readable { FailsOnlyByFault (state S.Store conn.old) (state S.Store conn.new) result (λ t. All joined_readable (map joined_columns (pieces_beside t))) }
+        (λ t found. map joined_in found.items
+        ≡ filter (λ a. int_eq (pos a.0.account) (pos account)) (pieces_beside t)) }
+    ensures readable { FailsOnlyByFault (state S.Store conn.old) (state S.Store conn.new) result
+        (λ t. All joined_readable (map joined_columns (pieces_beside t))) }
     ensures refused { FailsByFault (state S.Store conn.old) (state S.Store conn.new) result }
     ensures outside { conn.old.in_transaction ≡ false → conn.new.in_transaction ≡ false }
 {
@@ -98,12 +109,14 @@ pub fn pieces_of_account<S: Alter>(
 
 /// The first piece that names the account and begins above `after`, beside its lot.
 ///
-/// A piece that begins at `after` or below and reaches above it is the one that `piece_before` finds.
+/// A piece that begins at `after` or below and reaches above it is the one that `piece_before`
+/// finds.
 ///
 /// # Errors
 ///
-/// On the tables of a registry: `SqliteFailure` where memory was refused, the disk failed or an earlier failure
-/// shut the connection, and an error of reading where a row can't be read. The database stays as it was.
+/// On the tables of a registry: `SqliteFailure` where memory was refused, the disk failed or an
+/// earlier failure shut the connection, and an error of reading where a row can't be read. The
+/// database stays as it was.
 pub fn next_of_account<S: Alter>(
     alloc: Global,
     conn: &mut Connection<S>,
@@ -112,8 +125,11 @@ pub fn next_of_account<S: Alter>(
 ) -> Result<Option<JoinedRow>, Error>
     requires { after < 2 ^ 63 }
     ensures looks { Looks (state S.Store conn.old) (state S.Store conn.new) result
-        (λ t found. option_map joined_in found ≡ find (λ a. int_eq (pos a.0.account) (pos account) && nat_lt after a.0.first) (pieces_beside t)) }
-    ensures readable { FailsOnlyByFault (state S.Store conn.old) (state S.Store conn.new) result (λ t. All joined_readable (map joined_columns (pieces_beside t))) }
+        (λ t found. option_map joined_in found
+        ≡ find (λ a. int_eq (pos a.0.account) (pos account) && nat_lt after a.0.first)
+        (pieces_beside t)) }
+    ensures readable { FailsOnlyByFault (state S.Store conn.old) (state S.Store conn.new) result
+        (λ t. All joined_readable (map joined_columns (pieces_beside t))) }
     ensures refused { FailsByFault (state S.Store conn.old) (state S.Store conn.new) result }
     ensures outside { conn.old.in_transaction ≡ false → conn.new.in_transaction ≡ false }
 {
@@ -125,12 +141,14 @@ pub fn next_of_account<S: Alter>(
     )
 }
 
-/// The first 64 pieces that name the account and begin above `after`, or all of them where there are fewer, each beside its lot.
+/// The first 64 pieces that name the account and begin above `after`, or all of them where there
+/// are fewer, each beside its lot.
 ///
 /// # Errors
 ///
-/// On the tables of a registry: `SqliteFailure` where memory was refused, the disk failed or an earlier failure
-/// shut the connection, and an error of reading where a row can't be read. The database stays as it was.
+/// On the tables of a registry: `SqliteFailure` where memory was refused, the disk failed or an
+/// earlier failure shut the connection, and an error of reading where a row can't be read. The
+/// database stays as it was.
 pub fn page_of_account<S: Alter>(
     alloc: Global,
     conn: &mut Connection<S>,
@@ -139,8 +157,12 @@ pub fn page_of_account<S: Alter>(
 ) -> Result<Vec<JoinedRow>, Error>
     requires { after < 2 ^ 63 }
     ensures looks { Looks (state S.Store conn.old) (state S.Store conn.new) result
-        (λ t found. map joined_in found.items ≡ take 64 (filter (λ a. int_eq (pos a.0.account) (pos account) && nat_lt after a.0.first) (pieces_beside t))) }
-    ensures readable { FailsOnlyByFault (state S.Store conn.old) (state S.Store conn.new) result (λ t. All joined_readable (map joined_columns (pieces_beside t))) }
+        (λ t found. map joined_in found.items
+        ≡ take 64
+        (filter (λ a. int_eq (pos a.0.account) (pos account) && nat_lt after a.0.first)
+        (pieces_beside t))) }
+    ensures readable { FailsOnlyByFault (state S.Store conn.old) (state S.Store conn.new) result
+        (λ t. All joined_readable (map joined_columns (pieces_beside t))) }
     ensures refused { FailsByFault (state S.Store conn.old) (state S.Store conn.new) result }
     ensures outside { conn.old.in_transaction ≡ false → conn.new.in_transaction ≡ false }
 {
@@ -152,12 +174,14 @@ pub fn page_of_account<S: Alter>(
     )
 }
 
-/// The first held piece that begins above `after` and whose lot expires before the day, beside its lot. The day is written as `dddd-dd-dd`.
+/// The first held piece that begins above `after` and whose lot expires before the day, beside its
+/// lot. The day is written as `dddd-dd-dd`.
 ///
 /// # Errors
 ///
-/// On the tables of a registry: `SqliteFailure` where memory was refused, the disk failed or an earlier failure
-/// shut the connection, and an error of reading where a row can't be read. The database stays as it was.
+/// On the tables of a registry: `SqliteFailure` where memory was refused, the disk failed or an
+/// earlier failure shut the connection, and an error of reading where a row can't be read. The
+/// database stays as it was.
 pub fn next_expiring<S: Alter>(
     alloc: Global,
     conn: &mut Connection<S>,
@@ -166,8 +190,12 @@ pub fn next_expiring<S: Alter>(
 ) -> Result<Option<JoinedRow>, Error>
     requires { after < 2 ^ 63 }
     ensures looks { Looks (state S.Store conn.old) (state S.Store conn.new) result
-        (λ t found. option_map joined_in found ≡ find (λ a. int_eq (pos a.0.kind) (pos 1) && (nat_lt after a.0.first && both_and bytes_lt a.1.expires_on (Some day.now))) (pieces_beside t)) }
-    ensures readable { FailsOnlyByFault (state S.Store conn.old) (state S.Store conn.new) result (λ t. All joined_readable (map joined_columns (pieces_beside t))) }
+        (λ t found. option_map joined_in found
+        ≡ find (λ a. int_eq (pos a.0.kind) (pos 1) &&
+        (nat_lt after a.0.first && both_and bytes_lt a.1.expires_on (Some day.now)))
+        (pieces_beside t)) }
+    ensures readable { FailsOnlyByFault (state S.Store conn.old) (state S.Store conn.new) result
+        (λ t. All joined_readable (map joined_columns (pieces_beside t))) }
     ensures refused { FailsByFault (state S.Store conn.old) (state S.Store conn.new) result }
     ensures outside { conn.old.in_transaction ≡ false → conn.new.in_transaction ≡ false }
 {

@@ -4,7 +4,8 @@ ghost use Rattle.std.specs.Prelude.{◌≡◌, All, ◌≤◌, ◌^◌, false, f
 ghost use Rattle.sqlite.specs.Held.{state};
 ghost use Rattle.sqlite.specs.Value.{owned};
 ghost use Rattle.sqlite.specs.declared.types.Value.TheVariants.{Int};
-ghost use Rattle.goo_tables_pages.specs.NetRows.{before, net_columns, net_in, net_part, net_readable};
+ghost use Rattle.goo_tables_pages.specs.NetRows.{before, net_columns, net_in, net_part};
+ghost use Rattle.goo_tables_pages.specs.NetRows.{net_readable};
 ghost use Rattle.goo_tables_rows.specs.Refused.{FailsByFault, FailsOnlyByFault};
 ghost use Rattle.goo_tables_rows.specs.Stands.{Looks};
 
@@ -57,13 +58,14 @@ fn number_before<'a>(low: u64) -> ValueRef<'a>
     }
 }
 
-/// The first 256 declarations under the number `low` or a later one, or all of them where there are fewer, in the order in which
-/// they came.
+/// The first 256 declarations under the number `low` or a later one, or all of them where there are
+/// fewer, in the order in which they came.
 ///
 /// # Errors
 ///
-/// On the tables of a registry: `SqliteFailure` where memory was refused, the disk failed or an earlier failure
-/// shut the connection, and an error of reading where a row can't be read. The database stays as it was.
+/// On the tables of a registry: `SqliteFailure` where memory was refused, the disk failed or an
+/// earlier failure shut the connection, and an error of reading where a row can't be read. The
+/// database stays as it was.
 pub fn page_of_declarations<S: Alter>(
     alloc: Global,
     conn: &mut Connection<S>,
@@ -71,8 +73,10 @@ pub fn page_of_declarations<S: Alter>(
 ) -> Result<Vec<NetRow>, Error>
     requires { low ≤ 2 ^ 63 }
     ensures looks { Looks (state S.Store conn.old) (state S.Store conn.new) result
-        (λ t found. map net_in found.items ≡ map net_part (take 256 (filter (λ d. nat_le low d.id) t.declarations))) }
-    ensures readable { FailsOnlyByFault (state S.Store conn.old) (state S.Store conn.new) result (λ t. All net_readable (map (λ d. net_columns (net_part d)) t.declarations)) }
+        (λ t found. map net_in found.items
+        ≡ map net_part (take 256 (filter (λ d. nat_le low d.id) t.declarations))) }
+    ensures readable { FailsOnlyByFault (state S.Store conn.old) (state S.Store conn.new) result
+        (λ t. All net_readable (map (λ d. net_columns (net_part d)) t.declarations)) }
     ensures refused { FailsByFault (state S.Store conn.old) (state S.Store conn.new) result }
     ensures outside { conn.old.in_transaction ≡ false → conn.new.in_transaction ≡ false }
 {

@@ -19,7 +19,8 @@ use std::alloc::Global;
 /// # Errors
 ///
 /// `OutOfMemory` where memory was refused, or else an error of `Row::get` (`InvalidColumnIndex`,
-/// `InvalidColumnType`, `IntegralValueOutOfRange`, `Utf8Error`), which comes only where a row can't be read.
+/// `InvalidColumnType`, `IntegralValueOutOfRange`, `Utf8Error`), which comes only where a row can't
+/// be read.
 pub fn read_all<T: FromRow + Drop>(alloc: Global, rows: &[Row]) -> Result<Vec<T>, Error>
     ensures reads { IfOk result (λ found. AllZip T.reads rows.now found.items) }
     ensures refused { IfErr result (IsUnread (All T.readable rows.now)) }
@@ -36,7 +37,8 @@ pub fn read_all<T: FromRow + Drop>(alloc: Global, rows: &[Row]) -> Result<Vec<T>
 /// # Errors
 ///
 /// `OutOfMemory` where memory was refused, or else an error of `Row::get` (`InvalidColumnIndex`,
-/// `InvalidColumnType`, `IntegralValueOutOfRange`, `Utf8Error`), which comes only where a row can't be read.
+/// `InvalidColumnType`, `IntegralValueOutOfRange`, `Utf8Error`), which comes only where a row can't
+/// be read.
 pub fn read_first<T: FromRow + Drop>(alloc: Global, rows: &[Row]) -> Result<Option<T>, Error>
     ensures reads { IfOk result (λ found. FirstZip T.reads rows.now found) }
     ensures refused { IfErr result (IsUnread (All T.readable rows.now)) }
@@ -58,11 +60,19 @@ pub fn ask_all<S: Alter, T: FromRow + Drop>(
     sql: &str,
     params: &[ValueRef<'_>],
 ) -> Result<Vec<T>, Error>
-    ensures read { HasCleanDisk (state S.Store conn.new) → IfOk result (λ found. Answered sql.now (bound params.now) (state S.Store conn.old) (state S.Store conn.new) (λ rows. AllZip T.reads rows found.items)) }
-    ensures refused { HasCleanDisk (state S.Store conn.new) → IfErr result (FailsToAsk sql.now (bound params.now) (state S.Store conn.old) (state S.Store conn.new) T.readable) }
-    ensures ran { HasCleanDisk (state S.Store conn.new) → IsRead sql.now (bound params.now) (state S.Store conn.old) (state S.Store conn.new) }
+    ensures read { HasCleanDisk (state S.Store conn.new)
+        → IfOk result
+        (λ found. Answered sql.now (bound params.now) (state S.Store conn.old)
+        (state S.Store conn.new) (λ rows. AllZip T.reads rows found.items)) }
+    ensures refused { HasCleanDisk (state S.Store conn.new)
+        → IfErr result
+        (FailsToAsk sql.now (bound params.now) (state S.Store conn.old)
+        (state S.Store conn.new) T.readable) }
+    ensures ran { HasCleanDisk (state S.Store conn.new)
+        → IsRead sql.now (bound params.now) (state S.Store conn.old) (state S.Store conn.new) }
     ensures outside { conn.old.in_transaction ≡ false → conn.new.in_transaction ≡ false }
-    ensures survives { Survives (state S.Store conn.old) (state S.Store conn.new) (CommitsShowing sql.now (bound params.now) (state S.Store conn.old)) }
+    ensures survives { Survives (state S.Store conn.old) (state S.Store conn.new)
+        (CommitsShowing sql.now (bound params.now) (state S.Store conn.old)) }
 {
     let rows = conn.query_all(sql, params)?;
     read_all(alloc, &rows)
@@ -79,11 +89,19 @@ pub fn ask_first<S: Alter, T: FromRow + Drop>(
     sql: &str,
     params: &[ValueRef<'_>],
 ) -> Result<Option<T>, Error>
-    ensures read { HasCleanDisk (state S.Store conn.new) → IfOk result (λ found. Answered sql.now (bound params.now) (state S.Store conn.old) (state S.Store conn.new) (λ rows. FirstZip T.reads rows found)) }
-    ensures refused { HasCleanDisk (state S.Store conn.new) → IfErr result (FailsToAsk sql.now (bound params.now) (state S.Store conn.old) (state S.Store conn.new) T.readable) }
-    ensures ran { HasCleanDisk (state S.Store conn.new) → IsRead sql.now (bound params.now) (state S.Store conn.old) (state S.Store conn.new) }
+    ensures read { HasCleanDisk (state S.Store conn.new)
+        → IfOk result
+        (λ found. Answered sql.now (bound params.now) (state S.Store conn.old)
+        (state S.Store conn.new) (λ rows. FirstZip T.reads rows found)) }
+    ensures refused { HasCleanDisk (state S.Store conn.new)
+        → IfErr result
+        (FailsToAsk sql.now (bound params.now) (state S.Store conn.old)
+        (state S.Store conn.new) T.readable) }
+    ensures ran { HasCleanDisk (state S.Store conn.new)
+        → IsRead sql.now (bound params.now) (state S.Store conn.old) (state S.Store conn.new) }
     ensures outside { conn.old.in_transaction ≡ false → conn.new.in_transaction ≡ false }
-    ensures survives { Survives (state S.Store conn.old) (state S.Store conn.new) (CommitsShowing sql.now (bound params.now) (state S.Store conn.old)) }
+    ensures survives { Survives (state S.Store conn.old) (state S.Store conn.new)
+        (CommitsShowing sql.now (bound params.now) (state S.Store conn.old)) }
 {
     let rows = conn.query_all(sql, params)?;
     read_first(alloc, &rows)

@@ -18,7 +18,8 @@ pub struct DeviceRow {
     pub last_day: Option<String>,
     /// The energy declared that no certificate stands for yet, in Wh.
     pub carry: u64,
-    /// The word for its carrier, where that is another than electricity and was asked for: it stands in `device_carrier`.
+    /// The word for its carrier, where that is another than electricity and was asked for: it
+    /// stands in `device_carrier`.
     pub carrier: Option<String>,
 }
 

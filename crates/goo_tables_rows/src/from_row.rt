@@ -21,8 +21,8 @@ pub trait FromRow: Sized {
     ///
     /// # Errors
     ///
-    /// `OutOfMemory` where memory was refused, or else an error of `Row::get`, which comes only where a column is
-    /// missing or keeps something else.
+    /// `OutOfMemory` where memory was refused, or else an error of `Row::get`, which comes only
+    /// where a column is missing or keeps something else.
     fn from_row(alloc: Global, row: &Row) -> Result<Self, Error>
         ensures reads { IfOk result (reads row.now) }
         ensures refused { IfErr result (IsUnread (readable row.now)) };

@@ -23,11 +23,13 @@ pub struct LotRow {
     pub first_day: String,
     /// The last day of the production period.
     pub last_day: String,
-    /// The day after which a certificate that is still held expires; none, where that is past the calendar.
+    /// The day after which a certificate that is still held expires; none, where that is past the
+    /// calendar.
     pub expires_on: Option<String>,
     /// The day of the issue.
     pub issued_on: String,
-    /// The word for its carrier, where that is another than electricity and was asked for: it stands in `lot_carrier`.
+    /// The word for its carrier, where that is another than electricity and was asked for: it
+    /// stands in `lot_carrier`.
     pub carrier: Option<String>,
 }
 
@@ -36,8 +38,8 @@ pub struct LotRow {
 /// # Errors
 ///
 /// `OutOfMemory` where memory was refused, or else an error of `Row::get` (`InvalidColumnIndex`,
-/// `InvalidColumnType`, `IntegralValueOutOfRange`, `Utf8Error`), which comes only where a column is missing or
-/// keeps something else.
+/// `InvalidColumnType`, `IntegralValueOutOfRange`, `Utf8Error`), which comes only where a column is
+/// missing or keeps something else.
 pub fn lot_at(row: &Row, from: usize) -> Result<LotRow, Error>
     requires { from ≤ 50 }
     ensures reads { IfOk result (lot_reads from row.now) }

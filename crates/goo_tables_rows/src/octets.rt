@@ -13,10 +13,12 @@ use std::alloc::Global;
 ///
 /// # Errors
 ///
-/// `InvalidColumnType` for a value of another kind, `InvalidColumnIndex` where the row ends before, and `OutOfMemory`.
+/// `InvalidColumnType` for a value of another kind, `InvalidColumnIndex` where the row ends before,
+/// and `OutOfMemory`.
 pub fn octets_at(alloc: Global, row: &Row, at: usize) -> Result<Vec<u8>, Error>
     ensures reads { IfOk result (λ b. IsOctets (column row.now at) b.items) }
-    ensures refused { IfErr result (IsUnread ((at < length row.now) × IsBytes (column row.now at))) }
+    ensures refused { IfErr result
+        (IsUnread ((at < length row.now) × IsBytes (column row.now at))) }
 {
     let value = row.get_ref(at)?;
     match value {

@@ -29,8 +29,8 @@ pub struct PlantRow {
 /// # Errors
 ///
 /// `OutOfMemory` where memory was refused, or else an error of `Row::get` (`InvalidColumnIndex`,
-/// `InvalidColumnType`, `IntegralValueOutOfRange`, `Utf8Error`), which comes only where a column is missing or
-/// keeps something else.
+/// `InvalidColumnType`, `IntegralValueOutOfRange`, `Utf8Error`), which comes only where a column is
+/// missing or keeps something else.
 pub fn plant_at(row: &Row, from: usize) -> Result<PlantRow, Error>
     requires { from ≤ 100 }
     ensures reads { IfOk result (plant_reads from row.now) }

@@ -143,7 +143,8 @@ impl<D: Crash> Crash for Failing<D> {
     }
 }
 
-/// The two disks of a database. A struct of its own, as each call that passes their type on costs a check seconds.
+/// The two disks of a database. A struct of its own, as each call that passes their type on costs a
+/// check seconds.
 #[derive(Drop)]
 pub struct Disks {
     pub files: Files<Failing<Memory>>,
@@ -174,7 +175,8 @@ impl Disks {
         }
     }
 
-    /// Disks that stop, that of the log after so many calls, and that of the database file after so many.
+    /// Disks that stop, that of the log after so many calls, and that of the database file after so
+    /// many.
     pub fn stopping(self, log_calls: u64, db_calls: u64) -> Disks {
         let Files { mut log, mut db } = self.files;
         log.fail_after(log_calls, false);

@@ -14,7 +14,8 @@ const BEGINNING: [Row; 6] = [
     (Step::Runs(""), "0\n"),
 ];
 
-/// Lines that are refused or can't be read, between others, and new requests after them: the next account, the next certificate.
+/// Lines that are refused or can't be read, between others, and new requests after them: the next
+/// account, the next certificate.
 const GOING_ON: [Row; 4] = [
     (
         Step::Runs(

@@ -1,4 +1,5 @@
-//! An `init` that stops half-way, at every third call of a disk: what a crash leaves is taken by the next `init`, or is the registry.
+//! An `init` that stops half-way, at every third call of a disk: what a crash leaves is taken by
+//! the next `init`, or is the registry.
 
 use crate::claims::holds;
 use crate::disks::Disks;
@@ -16,7 +17,8 @@ const THERE: &str = "1 goo: already there\n";
 
 const FAULT: &str = "3 goo: store fault\n";
 
-/// Whether an `init` stops on disks. After a crash the next one makes the registry, or finds it, and a run works.
+/// Whether an `init` stops on disks. After a crash the next one makes the registry, or finds it,
+/// and a run works.
 fn stops_on(rt: &impl Abort, alloc: Global, disks: Disks) -> bool {
     let (told, disks) = does(rt, alloc, disks, &Step::Inits(7, 1));
     let (again, disks) = does(rt, alloc, disks.crashed(), &Step::Inits(7, 1));

@@ -1,5 +1,5 @@
-//! A log that a run leaves behind, as its database file could not take what is in it: it belongs to that file, and no refused command
-//! takes it away.
+//! A log that a run leaves behind, as its database file could not take what is in it: it belongs to
+//! that file, and no refused command takes it away.
 
 use crate::claims::holds;
 use crate::disks::Disks;
@@ -20,8 +20,8 @@ const REFUSED: [Row; 2] = [
 /// More rounds than a run makes calls of the database file.
 const ROUNDS: u64 = 1000;
 
-/// Whether a run during which the database file stops leaves its log behind; None where it could not answer all. What is left behind is
-/// found after a command that is refused.
+/// Whether a run during which the database file stops leaves its log behind; None where it could
+/// not answer all. What is left behind is found after a command that is refused.
 fn leaves(rt: &impl Abort, alloc: Global, calls: u64) -> Option<bool> {
     let disks = come_to(rt, alloc, Disks::blank(alloc), &MADE);
     let disks = disks.stopping(u64::MAX, calls);

@@ -1,8 +1,9 @@
-//! The commands `init` and `run` over disks in memory: each word that opening can end with, runs one after another, an `init`
-//! that stops half-way, a log that is left behind, a registry of version 1 that is renewed, and a device of hydrogen.
+//! The commands `init` and `run` over disks in memory: each word that opening can end with, runs
+//! one after another, an `init` that stops half-way, a log that is left behind, a registry of
+//! version 1 that is renewed, and a device of hydrogen.
 //!
-//! It has tests alone, and they are data: `steps` has what is done to disks and what that comes to, `requests` the lines that are
-//! sent, and `disks` disks that fail where a test wants it.
+//! It has tests alone, and they are data: `steps` has what is done to disks and what that comes to,
+//! `requests` the lines that are sent, and `disks` disks that fail where a test wants it.
 #![tactic(auto)]
 
 #[cfg(test)]

@@ -1,4 +1,5 @@
-//! A registry of version 1 becomes one of version 2 when it is first opened: the same state, its pieces joined, all at once or not at all.
+//! A registry of version 1 becomes one of version 2 when it is first opened: the same state, its
+//! pieces joined, all at once or not at all.
 
 use crate::claims::holds;
 use crate::disks::Disks;
@@ -20,8 +21,8 @@ const OF_VERSION_1: [Row; 3] = [
     (Step::Edits(OLD), EDITED),
 ];
 
-/// It is renewed once. Then it has one piece, since the other two can be put there again, where they are one piece too many; and
-/// pieces that could be one are damaged.
+/// It is renewed once. Then it has one piece, since the other two can be put there again, where
+/// they are one piece too many; and pieces that could be one are damaged.
 const RENEWED: [Row; 10] = [
     (
         Step::Runs(""),
@@ -51,8 +52,8 @@ const RENEWED: [Row; 10] = [
     (Step::Runs(""), "0\n"),
 ];
 
-/// What the tables of version 1 are refused for, which leaves them as they are: a value that breaks a rule, the version of other
-/// tables, a table too few.
+/// What the tables of version 1 are refused for, which leaves them as they are: a value that breaks
+/// a rule, the version of other tables, a table too few.
 const REFUSED: [Row; 11] = [
     (Step::Edits("UPDATE device SET carry = 1"), EDITED),
     (Step::Runs(FIRST), "3 goo: damaged\n"),
@@ -93,7 +94,8 @@ const FAULTS: [&str; 2] = [
     "goo: registry.db: version 1 becomes version 2\n3 goo: store fault\n",
 ];
 
-/// Whether a run stops on disks that hold a registry of version 1. After a crash they hold it as it was, or renewed.
+/// Whether a run stops on disks that hold a registry of version 1. After a crash they hold it as it
+/// was, or renewed.
 fn stops_on(rt: &impl Abort, alloc: Global, log_calls: u64, db_calls: u64) -> bool {
     let disks = come_to(rt, alloc, Disks::blank(alloc), &OF_VERSION_1);
     let disks = disks.stopping(log_calls, db_calls);

@@ -1,7 +1,7 @@
 //! What is done to a registry's disks, and what that comes to.
 //!
-//! All goes through one function over disks (`performs`): each further one that calls what is written over any store costs a check
-//! of this crate twenty seconds.
+//! All goes through one function over disks (`performs`): each further one that calls what is
+//! written over any store costs a check of this crate twenty seconds.
 
 ghost use Rattle.std.specs.Prelude.{IsTrue};
 
@@ -33,8 +33,8 @@ pub enum Step<'a> {
     Edits(&'a str),
 }
 
-/// A step and what it comes to: the line that tells of a renewal if there is one, the exit status, the line on standard error if there is
-/// one, and then what standard output gets.
+/// A step and what it comes to: the line that tells of a renewal if there is one, the exit status,
+/// the line on standard error if there is one, and then what standard output gets.
 pub type Row = (Step<'static>, &'static str);
 
 /// What is told of an edit.
@@ -86,7 +86,8 @@ fn edited<D: Disk + Drop>(rt: &impl Abort, alloc: Global, files: Files<D>, sql: 
     }
 }
 
-/// A step is done on files: what it comes to, and the files as it leaves them, with whether their log may go.
+/// A step is done on files: what it comes to, and the files as it leaves them, with whether their
+/// log may go.
 fn performs<D: Disk + Drop>(
     rt: &impl Abort,
     alloc: Global,
@@ -123,7 +124,8 @@ fn performs<D: Disk + Drop>(
     )
 }
 
-/// A step is done on disks: what it comes to, and the disks as it leaves them. A log that may go is removed, as the program does.
+/// A step is done on disks: what it comes to, and the disks as it leaves them. A log that may go is
+/// removed, as the program does.
 pub fn does(rt: &impl Abort, alloc: Global, disks: Disks, step: &Step<'_>) -> (String, Disks) {
     let (told, settled) = performs(rt, alloc, disks.files, step);
     let disks = Disks {
@@ -136,7 +138,8 @@ pub fn does(rt: &impl Abort, alloc: Global, disks: Disks, step: &Step<'_>) -> (S
     }
 }
 
-/// A step comes to what it should. Where it ends with its status and a line on standard error, the disks hold what they held.
+/// A step comes to what it should. Where it ends with its status and a line on standard error, the
+/// disks hold what they held.
 pub fn comes_to(rt: &impl Abort, alloc: Global, disks: Disks, row: &Row) -> Disks {
     let before = disks.contents(rt, alloc);
     let (told, disks) = does(rt, alloc, disks, &row.0);

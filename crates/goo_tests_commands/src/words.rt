@@ -36,8 +36,8 @@ const SOMEBODY_ELSES: [Row; 3] = [
     (Step::Runs(""), NO_REGISTRY),
 ];
 
-/// A registry of a later version, one with the number of the first version on tables of this one, and one with a value that breaks a rule:
-/// each until that is undone.
+/// A registry of a later version, one with the number of the first version on tables of this one,
+/// and one with a value that breaks a rule: each until that is undone.
 const CHANGED: [Row; 15] = [
     (Step::Edits("UPDATE meta SET version = 9"), EDITED),
     (Step::Runs(FIRST), "3 goo: version 9\n"),
@@ -59,7 +59,8 @@ const CHANGED: [Row; 15] = [
 #[test]
 fn of_disks_that_hold_no_registry(rt: HostRuntime) {
     let alloc = rt.alloc();
-    // SQLite makes an empty database of files that hold nothing, so what they hold is looked at from the second run on
+    // SQLite makes an empty database of files that hold nothing, so what they hold is looked at
+    // from the second run on
     let (told, disks) = does(&rt, alloc, Disks::blank(alloc), &Step::Runs(FIRST));
     holds(&rt, told.as_str() == NO_REGISTRY, &told);
     let _disks = come_to(&rt, alloc, disks, &NONE);

@@ -32,7 +32,8 @@ pub fn begins<D: Counter>(alloc: Global, desk: &mut D, mut sent: &[u8], line: &s
     served.is_ok() && text.starts_with(line.as_bytes())
 }
 
-/// What comes of a client that is gone after so many reads and so many bytes of its answer, and what it got.
+/// What comes of a client that is gone after so many reads and so many bytes of its answer, and
+/// what it got.
 pub fn tries<D: Counter>(
     alloc: Global,
     desk: &mut D,

@@ -141,7 +141,8 @@ pub const WORKED: [(&str, &str); 7] = [
     ),
 ];
 
-/// A device of hydrogen after the certificates of a plant, and the whole answers: its certificate and its notice state the carrier, and those of the plant don't.
+/// A device of hydrogen after the certificates of a plant, and the whole answers: its certificate
+/// and its notice state the carrier, and those of the plant don't.
 pub const CARRIED: [(&str, &str); 8] = [
     (
         "POST /v1/requests HTTP/1.1\r\nHost: x\r\nGOO-Caller: ISSUER\r\nContent-Length: 243\r\n\r\n{\"account\":1,\"capacity_w\":2000000,\"carrier\":\"Hydrogen\",\"command\":\"register_device\",\"commissioned\":\"2020-06-15\",\"country\":\"DE\",\"device\":\"500000000000000029\",\"key\":\"y1\",\"site\":\"South field\",\"source\":\"F01010100\",\"support\":\"none\",\"tech\":\"T010000\"}",

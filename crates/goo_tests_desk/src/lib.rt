@@ -1,7 +1,9 @@
-//! Requests over HTTP and their responses, byte for byte as they were worked out by hand; streams, records and clients that fail.
+//! Requests over HTTP and their responses, byte for byte as they were worked out by hand; streams,
+//! records and clients that fail.
 //!
-//! It has tests alone. `wire` has what goes over the wire, `asking` asks a registry over lists, `cases` has requests with the first
-//! line that each must get, `clients` those without sockets, `failing` streams and records that fail, and `tests` the tests.
+//! It has tests alone. `wire` has what goes over the wire, `asking` asks a registry over lists,
+//! `cases` has requests with the first line that each must get, `clients` those without sockets,
+//! `failing` streams and records that fail, and `tests` the tests.
 #![tactic(auto)]
 
 #[cfg(test)]

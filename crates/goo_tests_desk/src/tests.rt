@@ -79,7 +79,8 @@ fn each_beginning_of_a_request_is_refused(rt: HostRuntime) {
     }
 }
 
-/// What a server over loopback tells, and what its second client gets: the first is gone in the middle of its request.
+/// What a server over loopback tells, and what its second client gets: the first is gone in the
+/// middle of its request.
 fn asked<D: Counter>(rt: &HostRuntime, desk: &mut D) -> io::Result<(Vec<u8>, String)> {
     let socket = TcpListener::bind(rt, ("127.0.0.1", 0))?;
     let address = socket.local_addr()?;
@@ -158,7 +159,8 @@ fn a_client_that_breaks_off_while_it_takes_the_answer_sends_again(rt: HostRuntim
     }
 }
 
-/// Whether a fault of the records is answered as it should be, and told where it is one of the store.
+/// Whether a fault of the records is answered as it should be, and told where it is one of the
+/// store.
 fn excuses(alloc: Global, fault: Fault) -> bool {
     let mut counter = Failing { fault };
     let mut text = Vec::new(alloc);

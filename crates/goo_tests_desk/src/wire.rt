@@ -1,6 +1,7 @@
 //! What goes over the wire.
 
-/// The audit, asked by the issuing body, and the answer of a registry whose plant was issued 1,201 certificates.
+/// The audit, asked by the issuing body, and the answer of a registry whose plant was issued 1,201
+/// certificates.
 pub const AUDIT: &str = "GET /v1/audit HTTP/1.1\r\nHost: x\r\nGOO-Caller: ISSUER\r\n\r\n";
 
 pub const AUDITED: &str =

@@ -41,7 +41,8 @@ pub const DEVICE: [Line; 1] = [(
     r#"{"account":1,"capacity_w":2000000,"command":"register_device","commissioned":"2020-06-15","country":"DE","device":"500000000000000012","key":"s5","site":"North field","source":"F01010100","support":"none","tech":"T010000"}"#,
 )];
 
-/// The certificates of January, the carry of February, and the certificate of March, declared on 5 April.
+/// The certificates of January, the carry of February, and the certificate of March, declared on 5
+/// April.
 pub const QUARTER: [Line; 4] = [
     (
         "ISSUER",
@@ -79,7 +80,8 @@ pub const CANCELLATION: [Line; 1] = [(
     r#"{"account":1,"beneficiary":"Bäckerei Müller","command":"cancel","first":"07000000000001","key":"c1","last":"07000000000010","use_first":"2025-01-01","use_last":"2025-03-31"}"#,
 )];
 
-/// February is lowered to nothing, which takes the certificate of March back, and January by the Wh that is carried then.
+/// February is lowered to nothing, which takes the certificate of March back, and January by the Wh
+/// that is carried then.
 pub const CORRECTIONS: [Line; 2] = [
     (
         "ISSUER",
@@ -119,7 +121,8 @@ pub const QUOTED: [Line; 2] = [
     ),
 ];
 
-/// A device of hydrogen, with one certificate beside two of electricity, and another registry, which sends certificates of gas and of heat.
+/// A device of hydrogen, with one certificate beside two of electricity, and another registry,
+/// which sends certificates of gas and of heat.
 pub const CARRIERS: [Line; 5] = [
     (
         "ISSUER",

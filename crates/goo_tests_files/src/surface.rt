@@ -1,4 +1,5 @@
-//! What the public crates offer, each name from the crate that a caller looks for it in. A name that moves away breaks this file.
+//! What the public crates offer, each name from the crate that a caller looks for it in. A name
+//! that moves away breaks this file.
 
 mod values {
     pub use goo_types::{

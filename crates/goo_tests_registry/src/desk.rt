@@ -1,7 +1,7 @@
 //! A registry over plain lists that is sent requests.
 //!
-//! A proof about a desk sees how many requests it was sent, and nothing of what keeps its records: that is behind the
-//! methods of this file.
+//! A proof about a desk sees how many requests it was sent, and nothing of what keeps its records:
+//! that is behind the methods of this file.
 
 ghost use Rattle.std.specs.Prelude.{ℕ};
 

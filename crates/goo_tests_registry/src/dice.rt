@@ -17,7 +17,8 @@ impl Dice {
         dice
     }
 
-    /// The next number is a multiple of the last one and a constant more, by Knuth's constants for 64 bits.
+    /// The next number is a multiple of the last one and a constant more, by Knuth's constants for
+    /// 64 bits.
     fn turns(&mut self) {
         self.state = self
             .state

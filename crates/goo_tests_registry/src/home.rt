@@ -1,4 +1,5 @@
-//! A certificate that goes back and forth between two registries: after each event it has one home, or is on one road.
+//! A certificate that goes back and forth between two registries: after each event it has one home,
+//! or is on one road.
 
 use crate::asking::{Line, is_outcome};
 use crate::claims::holds;
@@ -11,14 +12,16 @@ use goo_types::outcome::Outcome;
 use std::alloc::Global;
 use std::process::Abort;
 
-/// What happens in a world: a request at a registry, or a notice that comes to one. Both are counted from 0.
+/// What happens in a world: a request at a registry, or a notice that comes to one. Both are
+/// counted from 0.
 #[derive(Clone, Copy)]
 enum Event {
     Asks(usize, &'static str, &'static str),
     Brings(usize, usize),
 }
 
-/// An event, what it comes to, and then the certificate's home, or the sender and number of the notice it is on.
+/// An event, what it comes to, and then the certificate's home, or the sender and number of the
+/// notice it is on.
 type Row = (Event, &'static str, Option<u8>, Option<(u8, u32)>);
 
 /// Where registry 7 stands in the world.

@@ -1,9 +1,11 @@
-//! A registry over plain lists: who is shown what, requests in a list, memory refused, and registries that send one another notices.
+//! A registry over plain lists: who is shown what, requests in a list, memory refused, and
+//! registries that send one another notices.
 //!
-//! It has tests alone. A test says what is asked and what must come of it, and takes that from the rules of the
-//! registry, worked out by hand. `desk` has a registry, `asking` sends it requests as texts and compares what they are answered, `stages` has
-//! the registries that tests begin with, `three` those of the schedules, `values` and `places` the values that they compare
-//! with. The worked requests of each command are in `cases/`, and goo_tests_store plays them.
+//! It has tests alone. A test says what is asked and what must come of it, and takes that from the
+//! rules of the registry, worked out by hand. `desk` has a registry, `asking` sends it requests as
+//! texts and compares what they are answered, `stages` has the registries that tests begin with,
+//! `three` those of the schedules, `values` and `places` the values that they compare with. The
+//! worked requests of each command are in `cases/`, and goo_tests_store plays them.
 #![tactic(auto)]
 
 #[cfg(test)]

@@ -41,7 +41,8 @@ pub const BEGINS: [Line; 7] = [
     ),
 ];
 
-/// A hundred certificates are moved, ten used up and ten sent away; two MWh of January were none, and two certificates are withdrawn.
+/// A hundred certificates are moved, ten used up and ten sent away; two MWh of January were none,
+/// and two certificates are withdrawn.
 pub const TRADES: [Line; 4] = [
     (
         "SUN",

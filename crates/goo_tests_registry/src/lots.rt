@@ -13,7 +13,8 @@ use goo_types::tech_code::TechCode;
 use goo_types::watts::Watts;
 use std::process::Abort;
 
-/// What a lot is told apart by in these examples: all else is the device's. It was issued on 1 March 2025.
+/// What a lot is told apart by in these examples: all else is the device's. It was issued on 1
+/// March 2025.
 #[derive(Clone, Copy)]
 pub struct Batch {
     /// The registry that issued it.

@@ -1,7 +1,8 @@
-//! Memory refused at any one allocation. `tools/refuse-memory` runs this test with each allocation refused in turn.
+//! Memory refused at any one allocation. `tools/refuse-memory` runs this test with each allocation
+//! refused in turn.
 //!
-//! A request that was refused memory changed nothing: the registry shows what it showed before, and the request
-//! sent again under its key is accepted, and not repeated.
+//! A request that was refused memory changed nothing: the registry shows what it showed before, and
+//! the request sent again under its key is accepted, and not repeated.
 
 use crate::asking::{ISSUER, Line, is_outcome, runs_are};
 use crate::claims::holds;
@@ -80,7 +81,8 @@ fn shows_again(rt: &impl Abort, desk: &mut TestDesk, before: &Sight) -> Result<(
     Ok(())
 }
 
-/// What a request comes to, at once or after memory was refused, which changed nothing of what was shown before.
+/// What a request comes to, at once or after memory was refused, which changed nothing of what was
+/// shown before.
 fn outcome_of(
     rt: &impl Abort,
     desk: &mut TestDesk,
@@ -140,7 +142,8 @@ fn shows(rt: &impl Abort, desk: &mut TestDesk, wanted: &[(u64, u64, Place)]) -> 
     Ok(())
 }
 
-/// What the request at this place of the list comes to when it is sent again, where so many of them stand.
+/// What the request at this place of the list comes to when it is sent again, where so many of them
+/// stand.
 fn wanted_again(stand: usize, index: usize) -> Option<&'static str> {
     if index < stand {
         return REPEATED.get(index).copied();

@@ -30,7 +30,8 @@ const EXPORT: [Line; 1] = [(
     r#"{"outcome":"accepted","reply":{"count":10,"notice":1}}"#,
 )];
 
-/// Who isn't shown the first cancellation or notice, or the second, and why: there is none, and only the issuing body learns it.
+/// Who isn't shown the first cancellation or notice, or the second, and why: there is none, and
+/// only the issuing body learns it.
 const HIDDEN: [(&str, u32, ReadFault); 3] = [
     (VOLT, 1, ReadFault::NotAllowed),
     (ISSUER, 2, ReadFault::Unknown),
@@ -172,7 +173,8 @@ fn shows_ten(rt: &impl Abort, desk: &mut TestDesk, caller: &str) {
     states_ten(rt, &statement)
 }
 
-/// The cancellation is shown to the account's holder and to the issuing body; to others, and where there is none, it isn't.
+/// The cancellation is shown to the account's holder and to the issuing body; to others, and where
+/// there is none, it isn't.
 fn shows_cancellations(rt: &impl Abort, desk: &mut TestDesk) {
     shows_ten(rt, desk, SUN);
     shows_ten(rt, desk, ISSUER);
@@ -216,7 +218,8 @@ fn shows_notice(rt: &impl Abort, desk: &mut TestDesk, caller: &str) {
     names_ten(rt, &sent)
 }
 
-/// The notice is shown to the exporting holder and to the issuing body; to others, and where there is none, it isn't.
+/// The notice is shown to the exporting holder and to the issuing body; to others, and where there
+/// is none, it isn't.
 fn shows_notices(rt: &impl Abort, desk: &mut TestDesk) {
     shows_notice(rt, desk, SUN);
     shows_notice(rt, desk, ISSUER);
@@ -241,16 +244,17 @@ fn no_audit(rt: &impl Abort, desk: &mut TestDesk, caller: &str) -> Option<ReadFa
     audit(rt, desk, caller).err()
 }
 
-/// One device, with what it declared, what was issued for it, and its carry; no correction took anything off.
+/// One device, with what it declared, what was issued for it, and its carry; no correction took
+/// anything off.
 fn has_one_device(rt: &impl Abort, totals: &[DeviceTotals]) {
     holds(
         rt,
         matches!(totals, [device] if device.device.text() == "500000000000000012"
-            && device.declared == 1_201_000_000
+            && device.declared_wh == 1_201_000_000
             && device.corrected_wh == 0
             && device.issued == 1201
-            && device.corrected == 0
-            && device.carry == 0),
+            && device.withdrawn_certificates == 0
+            && device.carry_wh == 0),
         "an audit",
     );
 }
@@ -271,8 +275,8 @@ fn shows_an_audit(rt: &impl Abort, desk: &mut TestDesk) {
     );
 }
 
-/// Each read of a registry is shown to those who may see it, and kept from the others: in April, and after ten certificates were
-/// used up and ten sent.
+/// Each read of a registry is shown to those who may see it, and kept from the others: in April,
+/// and after ten certificates were used up and ten sent.
 fn shows_each_what_is_theirs(rt: &impl Abort, desk: &mut TestDesk) {
     shows_a_place(rt, desk);
     keeps_places(rt, desk);

@@ -1,5 +1,5 @@
-//! Notices that are lost, repeated, late or sent astray, by chance, among three registries: after each event each
-//! certificate has one home, or is on one road, and one lot wherever it is known.
+//! Notices that are lost, repeated, late or sent astray, by chance, among three registries: after
+//! each event each certificate has one home, or is on one road, and one lot wherever it is known.
 
 use crate::asking::SUN;
 use crate::claims::holds;
@@ -78,7 +78,8 @@ fn some_command(rt: &impl Abort, dice: &mut Dice, range: Range) -> Command {
     export(rt, some_code(dice), range)
 }
 
-/// Where some of a range are held, the holder sends all of it away, or uses it up: he may, whether or not all are there.
+/// Where some of a range are held, the holder sends all of it away, or uses it up: he may, whether
+/// or not all are there.
 fn asks(rt: &impl Abort, world: &mut World, dice: &mut Dice) {
     let range = some_range(rt, dice);
     if let Some(at) = world.holder(rt, range.first()) {
@@ -93,8 +94,8 @@ fn asks(rt: &impl Abort, world: &mut World, dice: &mut Dice) {
     }
 }
 
-/// A notice comes to its addressee, or astray to a registry: it is accepted, or repeated with what was answered
-/// before, or for another registry.
+/// A notice comes to its addressee, or astray to a registry: it is accepted, or repeated with what
+/// was answered before, or for another registry.
 fn delivers(
     rt: &impl Abort,
     world: &mut World,
@@ -165,7 +166,8 @@ fn lot_from(code: u8, serial: u64) -> Batch {
     }
 }
 
-/// The certificates of a registry have one home each or are on one road, and have the lot that it issued.
+/// The certificates of a registry have one home each or are on one road, and have the lot that it
+/// issued.
 fn stand(rt: &impl Abort, world: &mut World, code: u8) {
     for serial in 1..=CERTIFICATES {
         let lot = lot_of(rt, &lot_from(code, serial));

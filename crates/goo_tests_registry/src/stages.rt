@@ -6,8 +6,8 @@ use crate::values::{code_of, day_of};
 use std::alloc::Global;
 use std::process::Abort;
 
-/// Two holders with an account each and a device of the first; the certificates of January, the carry of February, the date and the
-/// certificate of March; another registry.
+/// Two holders with an account each and a device of the first; the certificates of January, the
+/// carry of February, the date and the certificate of March; another registry.
 const BEGINNING: [Line; 10] = [
     (
         "ISSUER",

@@ -1,4 +1,5 @@
-//! Three registries that know one another, each with three certificates: of electricity, of gas, and of hydrogen.
+//! Three registries that know one another, each with three certificates: of electricity, of gas,
+//! and of hydrogen.
 
 use crate::asking::Line;
 use crate::desk::TestDesk;
@@ -24,7 +25,8 @@ const MEMBERS: [Line; 2] = [
     ),
 ];
 
-/// What registry 7 is asked then: a device of electricity, two certificates of one lot, one of another, and the other registries.
+/// What registry 7 is asked then: a device of electricity, two certificates of one lot, one of
+/// another, and the other registries.
 const SEVEN: [Line; 5] = [
     (
         "ISSUER",
@@ -53,7 +55,8 @@ const SEVEN: [Line; 5] = [
     ),
 ];
 
-/// What registry 8 is asked then: a device of gas, two certificates of one lot, one of another, and the other registries.
+/// What registry 8 is asked then: a device of gas, two certificates of one lot, one of another, and
+/// the other registries.
 const EIGHT: [Line; 5] = [
     (
         "ISSUER",
@@ -82,7 +85,8 @@ const EIGHT: [Line; 5] = [
     ),
 ];
 
-/// What registry 9 is asked then: a device of hydrogen, two certificates of one lot, one of another, and the other registries.
+/// What registry 9 is asked then: a device of hydrogen, two certificates of one lot, one of
+/// another, and the other registries.
 const NINE: [Line; 5] = [
     (
         "ISSUER",

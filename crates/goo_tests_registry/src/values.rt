@@ -1,4 +1,5 @@
-//! Values written in a test: numbers of certificates, accounts and acts, holders, days and registries.
+//! Values written in a test: numbers of certificates, accounts and acts, holders, days and
+//! registries.
 
 ghost use Rattle.std.specs.Prelude.{◌≤◌, ◌<◌};
 

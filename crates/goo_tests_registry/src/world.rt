@@ -1,7 +1,7 @@
 //! Registries that send one another notices, and where their certificates are.
 //!
-//! A certificate is at home in a registry that shows it and doesn't show it as exported. It is on the road with a
-//! notice that names it and that its addressee hasn't accepted.
+//! A certificate is at home in a registry that shows it and doesn't show it as exported. It is on
+//! the road with a notice that names it and that its addressee hasn't accepted.
 
 use crate::asking::ISSUER;
 use crate::claims::holds;
@@ -119,7 +119,8 @@ impl World {
         self.desks.push(desk).expect(rt, "memory")
     }
 
-    /// What a registry answers to a request. A notice that it sends is on the road once it is collected.
+    /// What a registry answers to a request. A notice that it sends is on the road once it is
+    /// collected.
     pub fn asks(&mut self, rt: &impl Abort, at: usize, caller: &str, body: &str) -> Outcome {
         let desk = self.desks.get_mut(at).expect(rt, "no such registry");
         desk.asks(rt, caller, body)
@@ -185,8 +186,8 @@ impl World {
         count
     }
 
-    /// The code of the registry that a certificate is at home in, if any. None has two homes, and each registry
-    /// that knows it knows it with this lot.
+    /// The code of the registry that a certificate is at home in, if any. None has two homes, and
+    /// each registry that knows it knows it with this lot.
     pub fn home(&mut self, rt: &impl Abort, number: Number, lot: &Lot) -> Option<u8> {
         let mut home = None;
         for desk in &mut self.desks {
@@ -202,8 +203,8 @@ impl World {
         home
     }
 
-    /// The sender and the number of the notice that a certificate is on the road with, if any. None is on two, and
-    /// each notice that names it states this lot.
+    /// The sender and the number of the notice that a certificate is on the road with, if any. None
+    /// is on two, and each notice that names it states this lot.
     pub fn road(&self, rt: &impl Abort, number: Number, lot: &Lot) -> Option<(u8, u32)> {
         let mut road = None;
         for letter in &self.letters {

@@ -28,7 +28,8 @@ fn first_account(rt: &impl Abort, holder: &str) -> (HolderCode, AccountNo) {
     (holder, account)
 }
 
-/// What a holder is shown of the first account after a serial, or from the first certificate on after 0.
+/// What a holder is shown of the first account after a serial, or from the first certificate on
+/// after 0.
 fn next_run<S: Shelf>(
     rt: &impl Abort,
     registry: &mut Registry<S>,
@@ -58,7 +59,8 @@ fn reads_all<S: Shelf>(rt: &impl Abort, registry: &mut Registry<S>) {
     holds(rt, matches!(last, Ok(None)), "no further run is read");
 }
 
-/// A hundred certificates are transferred, and the giver's account is shown run by run to its holder alone.
+/// A hundred certificates are transferred, and the giver's account is shown run by run to its
+/// holder alone.
 pub fn shows_runs<S: Shelf>(rt: &impl Abort, alloc: Global, registry: &mut Registry<S>) {
     let transferred = requests()
         .get(..CANCELLATION)

@@ -1,7 +1,7 @@
 //! What is asked of a registry over any shelf, and what that comes to.
 //!
-//! All of it goes through one function (`works`): each further call of what is written over any shelf, at a shelf of tables,
-//! costs a check of this crate several seconds.
+//! All of it goes through one function (`works`): each further call of what is written over any
+//! shelf, at a shelf of tables, costs a check of this crate several seconds.
 
 use crate::account_runs::shows_runs;
 use crate::asking::plays;
@@ -38,7 +38,8 @@ pub enum Act<'a> {
     FindsMembers,
     /// The requests up to a transfer, and the giver's account run by run.
     ShowsRuns,
-    /// The requests up to a cancellation, the declarations among them by a table, and the texts that people are given.
+    /// The requests up to a cancellation, the declarations among them by a table, and the texts
+    /// that people are given.
     Writes,
     /// The requests up to a cancellation, and its transfer back.
     Moves,
@@ -52,7 +53,8 @@ pub enum Act<'a> {
     Sights,
     /// All requests, up to the first `Store`.
     Runs,
-    /// What it has not kept of all requests, after so many answers and a stop: it shows one of these first.
+    /// What it has not kept of all requests, after so many answers and a stop: it shows one of
+    /// these first.
     GoesOn(usize, &'a [String]),
 }
 

@@ -1,4 +1,5 @@
-//! What isn't of electricity, over tables and over lists: it has a row in the tables of carriers, and nothing else has one there.
+//! What isn't of electricity, over tables and over lists: it has a row in the tables of carriers,
+//! and nothing else has one there.
 
 use crate::acts::Act;
 use crate::asking::plays;
@@ -24,7 +25,8 @@ use std::process::Abort;
 /// How many of the script's requests come first: two accounts, and a device of the first one.
 const DEVICE: usize = 5;
 
-/// A device of hydrogen with a certificate beside two of electricity, a device of heat without one, and certificates of three carriers that another registry sends.
+/// A device of hydrogen with a certificate beside two of electricity, a device of heat without one,
+/// and certificates of three carriers that another registry sends.
 const CARRIES: [Exchange; 6] = [
     (
         "ISSUER",
@@ -58,7 +60,8 @@ const CARRIES: [Exchange; 6] = [
     ),
 ];
 
-/// What is asked then: the hydrogen leaves, and comes back as hydrogen alone; the device has a certificate more.
+/// What is asked then: the hydrogen leaves, and comes back as hydrogen alone; the device has a
+/// certificate more.
 const GOES_ON: [Exchange; 6] = [
     (
         "ISSUER",

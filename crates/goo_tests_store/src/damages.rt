@@ -131,13 +131,15 @@ const TABLES: [Damage; 6] = [
     ),
 ];
 
-/// An index of ours that is gone, and that comes back behind the tables that were made after it: the schema isn't ours again.
+/// An index of ours that is gone, and that comes back behind the tables that were made after it:
+/// the schema isn't ours again.
 const INDEX_MOVED: [&str; 2] = [
     "DROP INDEX piece_by_kind",
     "CREATE INDEX piece_by_kind ON piece (kind, first)",
 ];
 
-/// February is lowered, which takes the certificate of March back, and then January by the carry that this left.
+/// February is lowered, which takes the certificate of March back, and then January by the carry
+/// that this left.
 const CORRECTED: Case = Case {
     name: "corrections",
     serial: 1,

@@ -1,7 +1,7 @@
 //! What is done to a database on disks, and what that comes to.
 //!
-//! Whatever is done goes through one function over disks (`does`): each further one that calls what is written over any store
-//! costs a check of this crate twenty seconds.
+//! Whatever is done goes through one function over disks (`does`): each further one that calls what
+//! is written over any store costs a check of this crate twenty seconds.
 
 ghost use Rattle.sqlite.specs.Held.{state};
 ghost use Rattle.sqlite.specs.State.{HasCleanDisk};

@@ -5,11 +5,12 @@ use sqlite::Files;
 use sqlite_disk::{Crash, Fuse, Memory};
 use std::alloc::Global;
 
-/// A disk in memory that stops for good after some calls, or refuses one write. All disks of these tests are of this type, as
-/// each type more has the registry and the database compiled once more.
+/// A disk in memory that stops for good after some calls, or refuses one write. All disks of these
+/// tests are of this type, as each type more has the registry and the database compiled once more.
 pub type Faulty = Lapse<Fuse<Memory>>;
 
-/// The two disks of a database. A struct of its own, as each call that passes their type on costs a check five seconds.
+/// The two disks of a database. A struct of its own, as each call that passes their type on costs a
+/// check five seconds.
 #[derive(Drop)]
 pub struct Disks {
     pub files: Files<Faulty>,
@@ -20,7 +21,8 @@ fn faulty(alloc: Global, calls: u64, writes: u64) -> Faulty {
     Lapse::new(Fuse::new(Memory::new(alloc), calls), writes)
 }
 
-/// Two empty disks in memory, which stop after so many calls; that of the log refuses the write after so many.
+/// Two empty disks in memory, which stop after so many calls; that of the log refuses the write
+/// after so many.
 fn made(alloc: Global, log_calls: u64, db_calls: u64, writes: u64) -> Disks {
     Disks {
         files: Files {

@@ -35,7 +35,8 @@ const BEGINNING: &str = "INSERT INTO meta VALUES (1, 2, 7, '2025-03-01', 1, 1, 1
 /// Why tables with no row of `meta` are refused.
 const NONE: Option<OpenFault> = Some(OpenFault::NotARegistry);
 
-/// A text that is run on disks makes a database of them that is refused with this word, and as often as it is opened.
+/// A text that is run on disks makes a database of them that is refused with this word, and as
+/// often as it is opened.
 fn is_told(
     rt: &impl Abort,
     alloc: Global,
@@ -93,7 +94,8 @@ const VERSIONS: [Row; 8] = [
 const ACCOUNT: &str =
     "CREATE TABLE account (number INTEGER PRIMARY KEY, holder TEXT NOT NULL, closed INTEGER NOT NULL) STRICT";
 
-/// All tables of ours, those of the first version before the others, and then not all of them: each version has its own tables.
+/// All tables of ours, those of the first version before the others, and then not all of them: each
+/// version has its own tables.
 const OURS: [Row; 15] = [
     (BEFORE_ACCOUNT, NONE),
     (ACCOUNT, NONE),
@@ -115,7 +117,8 @@ const OURS: [Row; 15] = [
     ("DELETE FROM meta", NONE),
 ];
 
-/// Tables of the first version, with white space and words of their own: they are opened, and are those of the second version then.
+/// Tables of the first version, with white space and words of their own: they are opened, and are
+/// those of the second version then.
 const FIRST: [Row; 5] = [
     (BEFORE_ACCOUNT, NONE),
     (

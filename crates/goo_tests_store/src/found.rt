@@ -1,4 +1,5 @@
-//! What a shelf finds, over tables and over lists: nothing in a new registry, and then what was asked for.
+//! What a shelf finds, over tables and over lists: nothing in a new registry, and then what was
+//! asked for.
 
 use crate::acts::Act;
 use crate::claims::holds;
@@ -23,8 +24,9 @@ use std::process::Abort;
 /// The last serial of all.
 const LAST: u64 = 999_999_999_999;
 
-/// A holder with two accounts, the second of which is closed, a device, another registry, the next month, what the device
-/// declared, and a correction that takes off January what the last certificate and one Wh of the carry stood for.
+/// A holder with two accounts, the second of which is closed, a device, another registry, the next
+/// month, what the device declared, and a correction that takes off January what the last
+/// certificate and one Wh of the carry stood for.
 pub const MEMBERS: Case = Case {
     name: "members",
     serial: 1,
@@ -257,7 +259,8 @@ fn has_a_device<S: Shelf>(rt: &impl Abort, shelf: &mut S) {
     holds(rt, progress.carry.get() == 999_998, "the carry");
 }
 
-/// What can be taken off the declarations of the device: the net energy of each that begins on the day, less what was taken off.
+/// What can be taken off the declarations of the device: the net energy of each that begins on the
+/// day, less what was taken off.
 fn has_declarations<S: Shelf>(rt: &impl Abort, shelf: &mut S) {
     let device = Gsrn::read(b"500000000000000012").expect(rt, "a device");
     let other = Gsrn::read(b"500000000000000029").expect(rt, "a device");
@@ -283,11 +286,11 @@ fn has_certificates<S: Shelf>(rt: &impl Abort, shelf: &mut S) {
 fn are_its_totals(rt: &impl Abort, totals: &[DeviceTotals]) {
     holds(
         rt,
-        matches!(totals, [device] if device.declared == 1_200_999_999
+        matches!(totals, [device] if device.declared_wh == 1_200_999_999
             && device.corrected_wh == 1_000_001
             && device.issued == 1_200
-            && device.corrected == 1
-            && device.carry == 999_998),
+            && device.withdrawn_certificates == 1
+            && device.carry_wh == 999_998),
         "the totals",
     );
 }

@@ -1,5 +1,5 @@
-//! Disks that refuse one write and work before and after it: the registry answers `Store` from then on, and what it answered
-//! before is kept.
+//! Disks that refuse one write and work before and after it: the registry answers `Store` from then
+//! on, and what it answered before is kept.
 
 use crate::disks::{Disks, lapsing};
 use crate::script::requests;
@@ -7,7 +7,8 @@ use crate::stops::{ROUNDS, goes_on, runs_on, wanted_sights};
 use std::alloc::Global;
 use std::process::Abort;
 
-/// Whether a registry on disks is refused a write before all requests are answered; what the disks hold is opened again and goes on.
+/// Whether a registry on disks is refused a write before all requests are answered; what the disks
+/// hold is opened again and goes on.
 fn lapses_on(rt: &impl Abort, alloc: Global, disks: Disks, wanted: &[String]) -> bool {
     let (answered, disks) = runs_on(rt, alloc, disks);
     goes_on(rt, alloc, disks, answered, wanted);

@@ -1,10 +1,11 @@
-//! A registry in tables: worked requests, each answered as plain lists answer it; closed and opened again, on damaged tables
-//! and foreign ones too, and after its disk stopped at any one call.
+//! A registry in tables: worked requests, each answered as plain lists answer it; closed and opened
+//! again, on damaged tables and foreign ones too, and after its disk stopped at any one call.
 //!
-//! It has tests alone. `script` and `cases` have the requests and what they come to, `asking` sends them, `sight` tells what a
-//! registry shows, `acts` has what is asked of a registry over any shelf, `registries` begins and opens them, `disks` has the
-//! files that they are kept in, and `deeds` what is done there. `texts` asks for what people are given, byte for byte as `wanted` has it,
-//! and `carriers` for what isn't of electricity.
+//! It has tests alone. `script` and `cases` have the requests and what they come to, `asking` sends
+//! them, `sight` tells what a registry shows, `acts` has what is asked of a registry over any
+//! shelf, `registries` begins and opens them, `disks` has the files that they are kept in, and
+//! `deeds` what is done there. `texts` asks for what people are given, byte for byte as `wanted`
+//! has it, and `carriers` for what isn't of electricity.
 #![tactic(auto)]
 
 #[cfg(test)]

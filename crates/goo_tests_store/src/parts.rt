@@ -1,4 +1,5 @@
-//! A certificate of each of a hundred and one lots, over tables and over lists: no notice names them all.
+//! A certificate of each of a hundred and one lots, over tables and over lists: no notice names
+//! them all.
 
 use crate::acts::Act;
 use crate::asking::{asks, is_outcome, plays};

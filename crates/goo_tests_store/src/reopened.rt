@@ -7,7 +7,8 @@ use crate::disks::blank;
 use crate::script::{APRIL, requests};
 use goo_store_open::fault::OpenFault;
 
-/// What the registry of April shows: both accounts, the audit, and neither a cancellation nor a notice.
+/// What the registry of April shows: both accounts, the audit, and neither a cancellation nor a
+/// notice.
 const APRIL_SHOWN: &str = "{\"code\":11,\"name\":\"PeriodOrder\",\"outcome\":\"refused\"}
 {\"code\":21,\"name\":\"UnknownPeer\",\"outcome\":\"refused\"}
 Unknown

@@ -3,8 +3,9 @@
 /// Who asks, what is asked, and the reply to it where it is accepted.
 pub type Line = (&'static str, &'static str, &'static str);
 
-/// Two holders with an account each and a device of the first; the certificates of January, the carry of February and the
-/// certificate of March; another registry, a transfer, a cancellation and an export.
+/// Two holders with an account each and a device of the first; the certificates of January, the
+/// carry of February and the certificate of March; another registry, a transfer, a cancellation and
+/// an export.
 const SCRIPT: [Line; 13] = [
     (
         "ISSUER",
@@ -84,8 +85,8 @@ pub const APRIL: usize = 9;
 /// Where the cancellation stands among the requests.
 pub const CANCELLATION: usize = 11;
 
-/// Requests that are refused in any state, each for a reason that tells states apart: the date, the device and its last
-/// period, and whether the other registry is known.
+/// Requests that are refused in any state, each for a reason that tells states apart: the date, the
+/// device and its last period, and whether the other registry is known.
 pub const PROBES: [(&str, &str); 2] = [
     (
         "ISSUER",

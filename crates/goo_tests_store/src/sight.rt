@@ -118,11 +118,11 @@ fn totals_line(rt: &impl Abort, alloc: Global, device: &DeviceTotals) -> String 
     let line = format!(in alloc;
         "{} {} {} {} {} {}\n",
         device.device.text(),
-        device.declared,
+        device.declared_wh,
         device.corrected_wh,
         device.issued,
-        device.corrected,
-        device.carry
+        device.withdrawn_certificates,
+        device.carry_wh
     );
     line.expect(rt, "memory")
 }

@@ -1,4 +1,5 @@
-//! The statements that no shelf makes yet, over the tables of a registry that was asked for a withdrawal.
+//! The statements that no shelf makes yet, over the tables of a registry that was asked for a
+//! withdrawal.
 
 use crate::acts::Act;
 use crate::claims::holds;

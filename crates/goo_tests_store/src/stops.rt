@@ -1,5 +1,5 @@
-//! Disks in memory that stop at one call, at each in turn: what a crash leaves is opened again, and all requests are sent
-//! again.
+//! Disks in memory that stop at one call, at each in turn: what a crash leaves is opened again, and
+//! all requests are sent again.
 
 use crate::acts::{Act, Done};
 use crate::asking::{asks, is_outcome, plays, plays_one};
@@ -32,7 +32,8 @@ pub fn sights_of<S: Shelf>(
     shown
 }
 
-/// How many requests are answered: all, or those up to the first `Store`, and then each is answered so.
+/// How many requests are answered: all, or those up to the first `Store`, and then each is answered
+/// so.
 fn answered_by<S: Shelf>(rt: &impl Abort, alloc: Global, registry: &mut Registry<S>) -> usize {
     let mut answered = 0usize;
     for (at, line) in requests().iter().enumerate() {
@@ -101,7 +102,8 @@ fn kept_of(rt: &impl Abort, shown: &str, answered: usize, wanted: &[String]) -> 
     more
 }
 
-/// A registry that was opened after a stop has kept the requests answered, or one more: sent again, those are repeated.
+/// A registry that was opened after a stop has kept the requests answered, or one more: sent again,
+/// those are repeated.
 pub fn goes_on_from<S: Shelf>(
     rt: &impl Abort,
     alloc: Global,
@@ -120,7 +122,8 @@ fn starts_over(rt: &impl Abort, alloc: Global, disks: Disks) {
     let _disks = shows(rt, alloc, disks, &begins, END_SHOWN);
 }
 
-/// What a stop left on disks is opened: the end is that of a run without a stop. Where it is no registry, no request was answered.
+/// What a stop left on disks is opened: the end is that of a run without a stop. Where it is no
+/// registry, no request was answered.
 pub fn goes_on(rt: &impl Abort, alloc: Global, disks: Disks, answered: usize, wanted: &[String]) {
     let opens = Deed::Opens(Act::GoesOn(answered, wanted));
     let (done, disks) = does(rt, alloc, disks, &opens);

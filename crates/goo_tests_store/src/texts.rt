@@ -1,7 +1,9 @@
-//! What a registry writes for people, byte for byte, and a table of declarations that it imports, over tables and over lists.
+//! What a registry writes for people, byte for byte, and a table of declarations that it imports,
+//! over tables and over lists.
 //!
-//! `tools/refuse-memory` runs the test with each request for memory refused in turn that is made between two marks: then an import keeps the
-//! rows of its report and no others, and a text is written up to some place.
+//! `tools/refuse-memory` runs the test with each request for memory refused in turn that is made
+//! between two marks: then an import keeps the rows of its report and no others, and a text is
+//! written up to some place.
 
 use crate::acts::Act;
 use crate::asking::plays;

@@ -1,4 +1,5 @@
-//! Worked cases over tables and over lists: each answer is the one written down, and in the end both show the same.
+//! Worked cases over tables and over lists: each answer is the one written down, and in the end
+//! both show the same.
 
 use crate::acts::Act;
 use crate::asking::{asks, plays};
@@ -34,7 +35,8 @@ pub struct Case {
     pub begun: usize,
     /// What is asked then.
     pub asked: &'static [Exchange],
-    /// The certificates and the audit that are shown in the end; empty where that isn't written down.
+    /// The certificates and the audit that are shown in the end; empty where that isn't written
+    /// down.
     pub shown: &'static str,
 }
 
@@ -109,7 +111,8 @@ pub fn runs<S: Shelf>(rt: &impl Abort, alloc: Global, registry: &mut Registry<S>
     ends(rt, alloc, registry, case)
 }
 
-/// All of these cases, one request at a time and in a list, are answered and shown alike over lists and over tables.
+/// All of these cases, one request at a time and in a list, are answered and shown alike over lists
+/// and over tables.
 fn are_alike(rt: &impl Abort, alloc: Global, cases: &[Case]) {
     for case in cases {
         is_alike(rt, alloc, case.serial, Act::Plays(case, false), case.name);

@@ -1,5 +1,5 @@
-//! Two joined pieces that are moved, added to and looked up, the edges of one row of ten numbers, runs of one
-//! account, and lists of pieces that make no book.
+//! Two joined pieces that are moved, added to and looked up, the edges of one row of ten numbers,
+//! runs of one account, and lists of pieces that make no book.
 use crate::claims::holds;
 use crate::examples::{account, book, piece, pieces};
 use crate::lookups::{has_first, is_held, lacks_first, leaves_first};

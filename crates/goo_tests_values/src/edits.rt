@@ -1,4 +1,5 @@
-//! A row that is moved whole, and a row near a range, before and after an edit that puts it elsewhere.
+//! A row that is moved whole, and a row near a range, before and after an edit that puts it
+//! elsewhere.
 use crate::examples::{book, held, piece, range};
 use crate::texts::{edit_is, pieces_are};
 use goo_ranges::Edit;

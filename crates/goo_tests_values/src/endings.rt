@@ -1,4 +1,5 @@
-//! How a run of lines ends, over records that fail at each request, and command lines that ask for nothing.
+//! How a run of lines ends, over records that fail at each request, and command lines that ask for
+//! nothing.
 
 use crate::claims::holds;
 use crate::lines::FailingDesk;

@@ -1,5 +1,6 @@
-//! Worked examples of what comes in and goes out: values, notices, bodies, outcomes, lines, endings, command lines, streams and
-//! the file in memory, and of books of pieces, rows near a range and rows in pages, against texts and numbers written by hand.
+//! Worked examples of what comes in and goes out: values, notices, bodies, outcomes, lines,
+//! endings, command lines, streams and the file in memory, and of books of pieces, rows near a
+//! range and rows in pages, against texts and numbers written by hand.
 //!
 //! It has tests alone, and stands on no registry.
 #![tactic(auto)]

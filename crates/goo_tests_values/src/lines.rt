@@ -1,5 +1,5 @@
-//! Lines that state no request, faults of the records and of the writer, and the limit of an input, over records that
-//! fail at each request.
+//! Lines that state no request, faults of the records and of the writer, and the limit of an input,
+//! over records that fail at each request.
 use crate::claims::holds;
 use goo_desk_lines::{LinesFault, Tally, run_lines};
 use goo_registry_desk::Desk;

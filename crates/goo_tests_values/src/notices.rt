@@ -1,4 +1,5 @@
-//! The texts of notices, against texts written by hand: ten certificates of one January, and others that aren't of electricity.
+//! The texts of notices, against texts written by hand: ten certificates of one January, and others
+//! that aren't of electricity.
 use crate::claims::holds;
 use goo_notice::{NoticeFault, from_value, read, write};
 use goo_types::carrier::Carrier;
@@ -100,7 +101,8 @@ fn exported(rt: HostRuntime) {
     is_of_value(&rt, rt.alloc(), &notice, NOTICE);
 }
 
-/// A text is read as a notice, which is written as it again, and whose first and last lot state these carriers.
+/// A text is read as a notice, which is written as it again, and whose first and last lot state
+/// these carriers.
 fn is_carried(rt: &impl Abort, alloc: Global, text: &str, first: Carrier, last: Carrier) {
     let notice = read(alloc, text.as_bytes()).expect(rt, "a notice");
     is_written(rt, alloc, &notice, text);
@@ -117,7 +119,8 @@ fn of_other_carriers(rt: HostRuntime) {
     is_carried(&rt, rt.alloc(), BOTH, Carrier::Electricity, heat);
 }
 
-/// The value of a text of version 2 with electricity alone is a notice, and is written in version 1; its text is none.
+/// The value of a text of version 2 with electricity alone is a notice, and is written in version
+/// 1; its text is none.
 #[test]
 fn of_electricity_in_version_2(rt: HostRuntime) {
     let alloc = rt.alloc();

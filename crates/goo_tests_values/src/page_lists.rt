@@ -1,4 +1,5 @@
-//! Rows put into pages and taken out again, and pages without rows. Rows over several pages are tested where plans are made.
+//! Rows put into pages and taken out again, and pages without rows. Rows over several pages are
+//! tested where plans are made.
 use crate::claims::holds;
 use crate::examples::{account, lot, number, range, row};
 use goo_core_pages::paged::Pages;

@@ -4,7 +4,8 @@ use goo_files_streams::{InputFault, read_whole, write_whole};
 use std::io::{self, ErrorKind, Read, Write};
 use std::process::Abort;
 
-/// A text that is read one byte a call, with so many interruptions before each, and after so many bytes a failure.
+/// A text that is read one byte a call, with so many interruptions before each, and after so many
+/// bytes a failure.
 #[derive(Drop)]
 struct Halting<'a> {
     text: &'a [u8],
@@ -44,8 +45,8 @@ impl Read for Halting<'_> {
     }
 }
 
-/// A writer with room for four bytes that takes one a call, with so many interruptions before each, and then
-/// answers as `end` says.
+/// A writer with room for four bytes that takes one a call, with so many interruptions before each,
+/// and then answers as `end` says.
 #[derive(Drop)]
 struct Narrow {
     taken: [u8; 4],

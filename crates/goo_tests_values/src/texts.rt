@@ -1,7 +1,8 @@
 //! Pieces and edits as texts, and books against them.
 //!
-//! A piece is its serials and its place, as `5-15@2` of account 2 or `4-6@1c1` of account 1, cancelled by act 1. A code other than 7 stands
-//! before a serial, a `?` before a piece of another lot. An edit is what it deletes, as `-1`, and what it inserts, as `+1-4@1`.
+//! A piece is its serials and its place, as `5-15@2` of account 2 or `4-6@1c1` of account 1,
+//! cancelled by act 1. A code other than 7 stands before a serial, a `?` before a piece of another
+//! lot. An edit is what it deletes, as `-1`, and what it inserts, as `+1-4@1`.
 use crate::examples::{held, lot, range};
 use goo_ranges::{Book, Edit, Piece};
 use goo_types::number::Number;

@@ -1,17 +1,21 @@
 //! The values of a registry of guarantees of origin, and their readers.
 //!
-//! A type keeps the rule of its form: what a reader or a constructor let through is never tested again.
+//! A type keeps the rule of its form: what a reader or a constructor let through is never tested
+//! again.
 //!
 //! Each type stands at the root of the crate as well as in its module.
 //!
-//! - Certificates: a [`number`], a [`range`] of numbers, a [`lot`] of what they have in common, a [`place`] where each
-//!   is, a [`piece`] of consecutive ones with one lot and one place.
+//! - Certificates: a [`number`], a [`range`] of numbers, a [`lot`] of what they have in common, a
+//!   [`place`] where each is, a [`piece`] of consecutive ones with one lot and one place.
 //! - Days and deadlines: [`day`].
-//! - Codes and texts: [`gsrn`], [`holder_code`], [`key`], [`name`], [`tech_code`], [`source_code`], [`country`], [`support`], [`carrier`].
-//! - Limited integers: [`registry_code`], [`serial`], [`account_no`], [`act_no`], [`watts`], [`wh`].
+//! - Codes and texts: [`gsrn`], [`holder_code`], [`key`], [`name`], [`tech_code`], [`source_code`],
+//!   [`country`], [`support`], [`carrier`].
+//! - Limited integers: [`registry_code`], [`serial`], [`account_no`], [`act_no`], [`watts`],
+//!   [`wh`].
 //! - What limits them, and the words that are fixed: [`limits`].
 //! - Between registries: a [`notice`] of [`part`]s.
-//! - Asked and answered: a [`request`] with its [`command`]; a [`reply`], a [`refusal`] or a [`fault`], and the [`outcome`].
+//! - Asked and answered: a [`request`] with its [`command`]; a [`reply`], a [`refusal`] or a
+//!   [`fault`], and the [`outcome`].
 #![tactic(auto)]
 
 pub mod account_no;

@@ -2,10 +2,12 @@
 
 pub use goo_types_forms::numbers::SERIALS;
 
-/// The energy of one certificate, in Wh: a guarantee of origin has the standard size of 1 MWh (Directive (EU) 2018/2001, Article 19(2)).
+/// The energy of one certificate, in Wh: a guarantee of origin has the standard size of 1 MWh
+/// (Directive (EU) 2018/2001, Article 19(2)).
 pub const CERTIFICATE: u64 = 1_000_000;
 
-/// The last number of an account, a cancellation, a withdrawal or a notice sent; the first one is 1.
+/// The last number of an account, a cancellation, a withdrawal or a notice sent; the first one is
+/// 1.
 pub const LAST_ACT: u32 = 999_999_999;
 
 /// The most energy that a declaration may state, in Wh.

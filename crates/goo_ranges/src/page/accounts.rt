@@ -33,8 +33,8 @@ fn held_pieces(alloc: Global, pieces: &[Piece], lot: &Lot) -> Result<Vec<Piece>,
 }
 
 impl Page {
-    /// The maximal ranges of consecutive numbers whose places name one account, whatever their lots, rising: each as a
-    /// piece that this account holds. All have one lot, which says nothing.
+    /// The maximal ranges of consecutive numbers whose places name one account, whatever their
+    /// lots, rising: each as a piece that this account holds. All have one lot, which says nothing.
     ///
     /// # Errors
     ///

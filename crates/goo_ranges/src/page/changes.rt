@@ -1,12 +1,14 @@
 //! Changes of a page.
 
-ghost use Rattle.std.specs.Prelude.{◌≡◌, ℕ, count_by, ◌+◌, ◌-◌, ◌<◌, ◌≤◌, ◌++◌, length, take, drop, map, OnOk, OnErr, IfOk, IfErr};
+ghost use Rattle.std.specs.Prelude.{◌≡◌, ℕ, count_by, ◌+◌, ◌-◌, ◌<◌, ◌≤◌, ◌++◌, length, take, drop};
+ghost use Rattle.std.specs.Prelude.{map, OnOk, OnErr, IfOk, IfErr};
 ghost use Rattle.goo_ranges_pieces.specs.Change.{IsChanged, IsSet, moved, cuts, meets, set_to};
 ghost use Rattle.goo_types.specs.Number.{IsNumber, code_of};
 ghost use Rattle.goo_types.specs.Piece.{label_of, at_of, IsRising};
 ghost use Rattle.goo_ranges.specs.Edit.{IsExact};
 ghost use Rattle.goo_ranges.specs.Sparing.{IsFirstLeftOut, IsLastLeftOut, IsSparing};
-ghost use Rattle.goo_ranges_pieces.specs.Touching.{IsTouched, IsMeeting, IsBegin, IsEnd, IsWidened, IsTrimmed};
+ghost use Rattle.goo_ranges_pieces.specs.Touching.{IsTouched, IsMeeting, IsBegin, IsEnd, IsWidened};
+ghost use Rattle.goo_ranges_pieces.specs.Touching.{IsTrimmed};
 ghost use Rattle.goo_spec.specs.Runs.{IsApart};
 
 use super::Page;
@@ -31,7 +33,8 @@ impl Page {
         touched(&self.pieces, first, last)
     }
 
-    /// The pieces from the index `from` on and below `to`, with their numbers of the range at the place.
+    /// The pieces from the index `from` on and below `to`, with their numbers of the range at the
+    /// place.
     fn moved_between(
         &self,
         from: usize,
@@ -43,7 +46,9 @@ impl Page {
         requires forward { first ≤ last }
         requires order { from ≤ to }
         requires bound { to ≤ length self.now }
-        ensures moved { IfOk result (λ out. IsChanged (moved first last place) (cuts first last) (take (to - from) (drop from self.now)) out.items) }
+        ensures moved { IfOk result
+            (λ out. IsChanged (moved first last place) (cuts first last)
+            (take (to - from) (drop from self.now)) out.items) }
         ensures apart { IfOk result (λ out. IsApart out.items) }
         ensures rising { IsRising self.now }
     {
@@ -51,13 +56,14 @@ impl Page {
         moved_pieces(*self.pieces.allocator(), touched, first, last, &place)
     }
 
-    /// Leaves out the first of the new pieces, where it is already there at the index `from`, and tells
-    /// from which index on the others go.
+    /// Leaves out the first of the new pieces, where it is already there at the index `from`, and
+    /// tells from which index on the others go.
     fn trim_first(&self, from: usize, to: usize, insert: &mut Vec<Piece>) -> usize
         requires order { from ≤ to }
         requires bound { to ≤ length self.now }
         ensures trimmed { IsTrimmed self.now from to insert.old.items result to insert.new.items }
-        ensures left { IsFirstLeftOut (take (to - from) (drop from self.now)) insert.old.items (take (to - result) (drop result self.now)) insert.new.items }
+        ensures left { IsFirstLeftOut (take (to - from) (drop from self.now)) insert.old.items
+            (take (to - result) (drop result self.now)) insert.new.items }
     {
         if from < to && !insert.is_empty() && is_same(&insert[0], &self.pieces[from]) {
             insert.remove(0);
@@ -66,13 +72,14 @@ impl Page {
         from
     }
 
-    /// Leaves out the last of the new pieces, where it is already there before the index `to`, and tells
-    /// below which index the others go.
+    /// Leaves out the last of the new pieces, where it is already there before the index `to`, and
+    /// tells below which index the others go.
     fn trim_last(&self, from: usize, to: usize, insert: &mut Vec<Piece>) -> usize
         requires order { from ≤ to }
         requires bound { to ≤ length self.now }
         ensures trimmed { IsTrimmed self.now from to insert.old.items from result insert.new.items }
-        ensures left { IsLastLeftOut (take (to - from) (drop from self.now)) insert.old.items (take (result - from) (drop from self.now)) insert.new.items }
+        ensures left { IsLastLeftOut (take (to - from) (drop from self.now)) insert.old.items
+            (take (result - from) (drop from self.now)) insert.new.items }
     {
         let count = insert.len();
         if from < to && count > 0 && is_same(&insert[count - 1], &self.pieces[to - 1]) {
@@ -87,9 +94,12 @@ impl Page {
         requires order { from ≤ to }
         requires bound { to ≤ length self.old }
         requires rising { IsRising (take from self.old ++ (insert.items ++ drop to self.old)) }
-        ensures ok { OnOk result (self.new ≡ take from self.old ++ (insert.items ++ drop to self.old)) }
+        ensures ok { OnOk result
+            (self.new ≡ take from self.old ++ (insert.items ++ drop to self.old)) }
         ensures inserted { IfOk result (λ edit. edit.insert.items ≡ insert.items) }
-        ensures deleted { IfOk result (λ edit. edit.delete.items ≡ map (λ p. p.first) (take (to - from) (drop from self.old))) }
+        ensures deleted { IfOk result
+            (λ edit. edit.delete.items
+            ≡ map (λ p. p.first) (take (to - from) (drop from self.old))) }
         ensures err { OnErr result (self.new ≡ self.old) }
         ensures memory { IfErr result (λ fault. fault ≡ Fault.Memory) }
     {
@@ -103,8 +113,8 @@ impl Page {
         Ok(Edit { delete, insert })
     }
 
-    /// Sets the place of each number from `first` to `last` that the page has, and tells which rows this deletes and
-    /// inserts.
+    /// Sets the place of each number from `first` to `last` that the page has, and tells which rows
+    /// this deletes and inserts.
     ///
     /// # Errors
     ///
@@ -117,11 +127,14 @@ impl Page {
     ) -> Result<Edit, Fault>
         requires forward { first ≤ last }
         requires one_code { code_of first ≡ code_of last }
-        ensures map { OnOk result ((n : ℕ) → at_of self.new n ≡ moved first last place n (at_of self.old n)) }
+        ensures map { OnOk result
+            ((n : ℕ) → at_of self.new n ≡ moved first last place n (at_of self.old n)) }
         ensures disjoint { OnOk result (IsRising self.new) }
         ensures exact { IfOk result (IsExact self.old self.new) }
         ensures maximal { OnOk result (IsApart self.old → IsApart self.new) }
-        ensures few { IfOk result (λ edit. let most = count_by (meets first last) self.old + 2 in (length edit.delete.items ≤ most) × (length edit.insert.items ≤ most)) }
+        ensures few { IfOk result
+            (λ edit. let most = count_by (meets first last) self.old + 2 in
+            (length edit.delete.items ≤ most) × (length edit.insert.items ≤ most)) }
         ensures spares { IfOk result (IsSparing first last self.old) }
         ensures err { OnErr result (self.new ≡ self.old) }
         ensures memory { IfErr result (λ fault. fault ≡ Fault.Memory) }
@@ -133,11 +146,14 @@ impl Page {
         self.replace(begin, end, insert)
     }
 
-    /// The pieces from the index `from` on and below `to`, with one more in the place of its numbers.
+    /// The pieces from the index `from` on and below `to`, with one more in the place of its
+    /// numbers.
     fn set_between(&self, from: usize, to: usize, new: &Piece) -> Result<Vec<Piece>, AllocError>
         requires order { from ≤ to }
         requires bound { to ≤ length self.now }
-        ensures set { IfOk result (λ out. IsSet new.now.first new.now.last (label_of new.now) (take (to - from) (drop from self.now)) out.items) }
+        ensures set { IfOk result
+            (λ out. IsSet new.now.first new.now.last (label_of new.now)
+            (take (to - from) (drop from self.now)) out.items) }
         ensures rising { IsRising self.now }
     {
         let replaced = &self.pieces[from..to];
@@ -186,8 +202,8 @@ impl Page {
         (to, new.last)
     }
 
-    /// A new piece, joined with the equal ones next to it, and the indices between which it takes the
-    /// place of the pieces.
+    /// A new piece, joined with the equal ones next to it, and the indices between which it takes
+    /// the place of the pieces.
     fn widened(&self, new: &Piece) -> (usize, usize, Piece)
         requires { new.now.first ≤ new.now.last }
         ensures { IsWidened self.now new.now result.0 result.1 result.2 }
@@ -203,7 +219,8 @@ impl Page {
         (begin, end, wide)
     }
 
-    /// Sets the lot and the place of each number from `first` to `last`, and tells which rows this deletes and inserts.
+    /// Sets the lot and the place of each number from `first` to `last`, and tells which rows this
+    /// deletes and inserts.
     ///
     /// # Errors
     ///
@@ -217,11 +234,14 @@ impl Page {
     ) -> Result<Edit, Fault>
         requires forward { first ≤ last }
         requires one_code { code_of first ≡ code_of last }
-        ensures map { OnOk result ((n : ℕ) → at_of self.new n ≡ set_to first last (lot, place) n (at_of self.old n)) }
+        ensures map { OnOk result
+            ((n : ℕ) → at_of self.new n ≡ set_to first last (lot, place) n (at_of self.old n)) }
         ensures disjoint { OnOk result (IsRising self.new) }
         ensures exact { IfOk result (IsExact self.old self.new) }
         ensures maximal { OnOk result (IsApart self.old → IsApart self.new) }
-        ensures few { IfOk result (λ edit. let most = count_by (meets first last) self.old + 2 in (length edit.delete.items ≤ most) × (length edit.insert.items ≤ most)) }
+        ensures few { IfOk result
+            (λ edit. let most = count_by (meets first last) self.old + 2 in
+            (length edit.delete.items ≤ most) × (length edit.insert.items ≤ most)) }
         ensures spares { IfOk result (IsSparing first last self.old) }
         ensures err { OnErr result (self.new ≡ self.old) }
         ensures memory { IfErr result (λ fault. fault ≡ Fault.Memory) }

@@ -1,6 +1,7 @@
 //! Changes of pieces that are kept in pages.
 
-ghost use Rattle.std.specs.Prelude.{◌≡◌, ℕ, count_by, ◌+◌, ◌++◌, ◌≤◌, length, take, drop, OnOk, OnErr, IfOk, IfErr};
+ghost use Rattle.std.specs.Prelude.{◌≡◌, ℕ, count_by, ◌+◌, ◌++◌, ◌≤◌, length, take, drop, OnOk};
+ghost use Rattle.std.specs.Prelude.{OnErr, IfOk, IfErr};
 ghost use Rattle.goo_ranges_pieces.specs.Change.{moved, meets, set_to};
 ghost use Rattle.goo_types.specs.Number.{code_of};
 ghost use Rattle.goo_types.specs.Piece.{at_of, IsRising};
@@ -81,7 +82,8 @@ fn window(pages: &[Page], first: Number, last: Number) -> (usize, usize)
     (0, 1)
 }
 
-/// Puts pages in the place of those from the index `from` on and below `to`. After an error they are unchanged.
+/// Puts pages in the place of those from the index `from` on and below `to`. After an error they
+/// are unchanged.
 fn put_pages(
     pages: &mut Vec<Page>,
     from: usize,
@@ -90,15 +92,16 @@ fn put_pages(
 ) -> Result<(), AllocError>
     requires order { from ≤ to }
     requires bound { to ≤ length pages.old.items }
-    ensures ok { OnOk result (pages.new.items ≡ take from pages.old.items ++ (more.items ++ drop to pages.old.items)) }
+    ensures ok { OnOk result
+        (pages.new.items ≡ take from pages.old.items ++ (more.items ++ drop to pages.old.items)) }
     ensures err { OnErr result (pages.new.items ≡ pages.old.items) }
 {
     pages.splice(from..to, more)?;
     Ok(())
 }
 
-/// Puts other pieces in the place of those of the pages from the index `from` on and below `to`. After an
-/// error the pages are unchanged.
+/// Puts other pieces in the place of those of the pages from the index `from` on and below `to`.
+/// After an error the pages are unchanged.
 fn put_pieces(
     pages: &mut Vec<Page>,
     from: usize,
@@ -109,7 +112,9 @@ fn put_pieces(
     requires bound { to ≤ length pages.old.items }
     requires filled { AreFilled pages.old.items }
     requires rising { IsRising pieces.now }
-    ensures ok { OnOk result (joined pages.new.items ≡ joined (take from pages.old.items) ++ (pieces.now ++ joined (drop to pages.old.items))) }
+    ensures ok { OnOk result
+        (joined pages.new.items
+        ≡ joined (take from pages.old.items) ++ (pieces.now ++ joined (drop to pages.old.items))) }
     ensures err { OnErr result (pages.new.items ≡ pages.old.items) }
     ensures filled { AreFilled pages.new.items }
 {
@@ -127,8 +132,8 @@ fn page_between(pages: &Vec<Page>, from: usize, to: usize) -> Result<Page, Alloc
     joined_page(*pages.allocator(), &pages[from..to])
 }
 
-/// Sets the place of each number from `first` to `last` that the pages have, and tells which rows this deletes and
-/// inserts.
+/// Sets the place of each number from `first` to `last` that the pages have, and tells which rows
+/// this deletes and inserts.
 ///
 /// # Errors
 ///
@@ -143,10 +148,16 @@ pub fn reassign_in(
     requires filled { AreFilled pages.old.items }
     requires forward { first ≤ last }
     requires one_code { code_of first ≡ code_of last }
-    ensures map { OnOk result ((n : ℕ) → at_of (joined pages.new.items) n ≡ moved first last place n (at_of (joined pages.old.items) n)) }
+    ensures map { OnOk result
+        ((n : ℕ)
+        → at_of (joined pages.new.items) n
+        ≡ moved first last place n (at_of (joined pages.old.items) n)) }
     ensures exact { IfOk result (IsExact (joined pages.old.items) (joined pages.new.items)) }
-    ensures maximal { OnOk result (IsApart (joined pages.old.items) → IsApart (joined pages.new.items)) }
-    ensures few { IfOk result (λ edit. let most = count_by (meets first last) (joined pages.old.items) + 2 in (length edit.delete.items ≤ most) × (length edit.insert.items ≤ most)) }
+    ensures maximal { OnOk result
+        (IsApart (joined pages.old.items) → IsApart (joined pages.new.items)) }
+    ensures few { IfOk result
+        (λ edit. let most = count_by (meets first last) (joined pages.old.items) + 2 in
+        (length edit.delete.items ≤ most) × (length edit.insert.items ≤ most)) }
     ensures spares { IfOk result (IsSparing first last (joined pages.old.items)) }
     ensures err { OnErr result (joined pages.new.items ≡ joined pages.old.items) }
     ensures memory { IfErr result (λ fault. fault ≡ Fault.Memory) }
@@ -160,7 +171,8 @@ pub fn reassign_in(
     Ok(edit)
 }
 
-/// Sets the lot and the place of each number from `first` to `last`, and tells which rows this deletes and inserts.
+/// Sets the lot and the place of each number from `first` to `last`, and tells which rows this
+/// deletes and inserts.
 ///
 /// # Errors
 ///
@@ -176,10 +188,16 @@ pub fn add_in(
     requires filled { AreFilled pages.old.items }
     requires forward { first ≤ last }
     requires one_code { code_of first ≡ code_of last }
-    ensures map { OnOk result ((n : ℕ) → at_of (joined pages.new.items) n ≡ set_to first last (lot, place) n (at_of (joined pages.old.items) n)) }
+    ensures map { OnOk result
+        ((n : ℕ)
+        → at_of (joined pages.new.items) n
+        ≡ set_to first last (lot, place) n (at_of (joined pages.old.items) n)) }
     ensures exact { IfOk result (IsExact (joined pages.old.items) (joined pages.new.items)) }
-    ensures maximal { OnOk result (IsApart (joined pages.old.items) → IsApart (joined pages.new.items)) }
-    ensures few { IfOk result (λ edit. let most = count_by (meets first last) (joined pages.old.items) + 2 in (length edit.delete.items ≤ most) × (length edit.insert.items ≤ most)) }
+    ensures maximal { OnOk result
+        (IsApart (joined pages.old.items) → IsApart (joined pages.new.items)) }
+    ensures few { IfOk result
+        (λ edit. let most = count_by (meets first last) (joined pages.old.items) + 2 in
+        (length edit.delete.items ≤ most) × (length edit.insert.items ≤ most)) }
     ensures spares { IfOk result (IsSparing first last (joined pages.old.items)) }
     ensures err { OnErr result (joined pages.new.items ≡ joined pages.old.items) }
     ensures memory { IfErr result (λ fault. fault ≡ Fault.Memory) }
