@@ -11,3 +11,4 @@ pub mod FirstTables
 pub mod Versions
 pub mod Issuing
 pub mod Seen
+pub mod Opened

@@ -14,16 +14,16 @@ open_telling-requires-clause-ordered g c = λ none. c.in-Ok.ensures.ordered (sur
 pub returns-in-Ok-open_telling-clause-state : goal.returns-in-Ok-open_telling-clause-state
 returns-in-Ok-open_telling-clause-state g c = λ db holds none.
     let shelf = c.in-Ok-open_telling.shelf in
-    let clean = c.in-Ok-open_telling.ensures.clean (sure (file_state shelf.conn) none).0 in
-    c.in-Ok-open_telling.ensures.held none
+    let clean = c.in-Ok-open_telling.ensures.opened.clean (sure (file_state shelf.conn) none).0 in
+    c.in-Ok-open_telling.ensures.opened.held none
     ∙ ap state_held (ap (λ (d : Database). d.trees) (c.in-Ok.ensures.opened clean).0.clean ∙ (c.in-Ok.ensures.found clean).holds db holds)
 
 pub returns-in-Err-open_telling-clause-unharmed : goal.returns-in-Err-open_telling-clause-unharmed
 returns-in-Err-open_telling-clause-unharmed g c = λ clean.
     let late = clean_before _ _ c.into_store.ensures.quiet.clean clean in
-    let before = c.in-Err-open_telling.ensures.clean_before late in
+    let before = c.in-Err-open_telling.ensures.not_opened.clean_before late in
     leaves_registry c.args.files g.met.D.Disk.seen_may_stay c.in-Ok.conn (c.in-Ok.ensures.opened before).0.is_open (c.in-Ok.ensures.opened before).0.clean (c.in-Ok.ensures.found before) c.into_store.result
-    (λ db may. c.in-Err-open_telling.ensures.left late db (c.into_store.ensures.quiet.outcomes db may))
+    (λ db may. c.in-Err-open_telling.ensures.not_opened.left late db (c.into_store.ensures.quiet.outcomes db may))
 
 pub returns-in-Err-clause-unharmed : goal.returns-in-Err-clause-unharmed
 returns-in-Err-clause-unharmed g c = λ clean. leaves_same c.args.files c.in-Err.left (c.in-Err.ensures.unharmed clean)
@@ -31,19 +31,19 @@ returns-in-Err-clause-unharmed g c = λ clean. leaves_same c.args.files c.in-Err
 pub returns-in-Ok-open_telling-clause-again : goal.returns-in-Ok-open_telling-clause-again
 returns-in-Ok-open_telling-clause-again g c = λ db holds s t either none.
     let shelf = c.in-Ok-open_telling.shelf in
-    let clean = c.in-Ok-open_telling.ensures.clean (sure (file_state shelf.conn) none).0 in
+    let clean = c.in-Ok-open_telling.ensures.opened.clean (sure (file_state shelf.conn) none).0 in
     let opened = (c.in-Ok.ensures.opened clean).0 in
     let same = ap (λ (d : Database). d.trees) opened.clean ∙ (c.in-Ok.ensures.found clean).holds db holds in
-    c.in-Ok-open_telling.ensures.again opened.is_open s t (subst (λ (x : Trees). OpensAsEither x s t) (sym same) either) none
+    c.in-Ok-open_telling.ensures.opened.again opened.is_open s t (subst (λ (x : Trees). OpensAsEither x s t) (sym same) either) none
 
 pub returns-in-Err-open_telling-clause-never_foreign : goal.returns-in-Err-open_telling-clause-never_foreign
 returns-in-Err-open_telling-clause-never_foreign g c = λ clean db holds s t either.
     let late = clean_before _ _ c.into_store.ensures.quiet.clean clean in
-    let before = c.in-Err-open_telling.ensures.clean_before late in
+    let before = c.in-Err-open_telling.ensures.not_opened.clean_before late in
     let opened = (c.in-Ok.ensures.opened before).0 in
     let same = ap (λ (d : Database). d.trees) opened.clean ∙ (c.in-Ok.ensures.found before).holds db holds in
     outside_failure c.in-Err-open_telling.fault c.failure_of.result c.failure_of.ensures
-    (c.in-Err-open_telling.ensures.never_foreign opened.is_open c.in-Ok.ensures.fresh.unlimited s t (subst (λ (x : Trees). OpensAsEither x s t) (sym same) either) late)
+    (c.in-Err-open_telling.ensures.not_opened.never_foreign opened.is_open c.in-Ok.ensures.fresh.unlimited s t (subst (λ (x : Trees). OpensAsEither x s t) (sym same) either) late)
 
 pub returns-in-Err-clause-never_foreign : goal.returns-in-Err-clause-never_foreign
 returns-in-Err-clause-never_foreign g c = λ clean db holds s t either. fault_failure c.in-Err.fault c.from.result c.from.ensures

@@ -1,0 +1,76 @@
+-- What opening the registry of a database promises.
+use Rattle.std.specs.Prelude.{◌≡◌, ◌⊎◌, None, IsTrue}
+use Rattle.sqlite_trees.specs.declared.store.Store.{Ghosts}
+use Rattle.sqlite.specs.State.{State, HasCleanDisk}
+use Rattle.sqlite.specs.Tree.{Trees}
+use Rattle.goo_core_shelf.specs.Shelf.{IsReady}
+use Rattle.goo_ranges_rows.specs.Rows.{AreRowsOf}
+use Rattle.goo_spec.specs.Runs.{IsApart}
+use Rattle.goo_spec.specs.Sound.{IsSound}
+use Rattle.goo_spec.specs.State as registry
+use Rattle.goo_spec_tables.specs.Kept.{AreKept, AreKeptIn}
+use Rattle.goo_spec_tables.specs.Renewed.{renewed}
+use Rattle.goo_spec_tables.specs.States.{state_of}
+use Rattle.goo_store_lookups.specs.Moments.{OpensAsEither}
+use Rattle.goo_store_lookups.specs.Opening.{BlamesOpening, IsRefusal, IsRefusalIn}
+use Rattle.goo_store_open.specs.Foreign.{LacksMeta, TellsVersion}
+use Rattle.goo_store_open.specs.Found.{IsOutside}
+use Rattle.goo_store_open.specs.declared.fault.OpenFault.{OpenFault}
+use Rattle.goo_tables_rows.specs.Columns.{registry_schema, first_schema}
+use Rattle.goo_tables_rows.specs.First.{IsFirst}
+use Rattle.goo_tables_rows.specs.Rows.{Tables}
+use Rattle.goo_tables_rows.specs.Stands.{Stands, Rests, Settled}
+use Rattle.goo_store.specs.FirstTables.{HoldsRenewed}
+use Rattle.goo_store.specs.Seen.{database_of, seen_by}
+use Rattle.goo_store.specs.Versions.{state_held}
+use Rattle.goo_store.specs.declared.sql_shelf.SqlShelf.{SqlShelf}
+
+-- a shelf that was opened over a database
+pub record IsOpened {S : Type 0} {g : Ghosts S} (before : State) (shelf : SqlShelf S g) : Type 0 where
+  -- its state is that of the database's tables of version 2
+  pub state : (t : Tables) → Stands before.now t → (seen_by shelf).doubts ≡ 0 → (seen_by shelf).state ≡ state_of t
+  -- or that of its tables of version 1
+  pub same_state : (t : Tables) → IsFirst before.now t → (seen_by shelf).doubts ≡ 0 → (seen_by shelf).state ≡ state_of t
+  -- in one word: that of the tables of the version that they tell
+  pub held : (seen_by shelf).doubts ≡ 0 → (seen_by shelf).state ≡ state_held before.now.trees
+  -- the state is sound
+  pub sound : (seen_by shelf).doubts ≡ 0 → IsSound (seen_by shelf).state
+  -- the rows are those of the certificates
+  pub rows_fit : (seen_by shelf).doubts ≡ 0 → AreRowsOf (seen_by shelf).state.at (seen_by shelf).rows
+  -- and are runs: two that touch have another lot or another place
+  pub apart : (seen_by shelf).doubts ≡ 0 → IsApart (seen_by shelf).rows
+  -- it is at work, and a crash finds the state
+  pub ready : IsReady (seen_by shelf)
+  -- tables of version 2 are opened only where they keep the rules
+  pub kept : (t : Tables) → Stands before.now t → HasCleanDisk (database_of shelf) → AreKept t
+  -- and stay as they are
+  pub rests : (before.now.schema ≡ first_schema → ⊥) → HasCleanDisk (database_of shelf) → Rests before (database_of shelf)
+  -- tables of version 1 are opened only where they keep the rules of that version, and are committed as those of version 2
+  pub renewed : (t : Tables) → IsFirst before.now t → HasCleanDisk (database_of shelf) → AreKeptIn 1 t × Settled (database_of shelf) (renewed t)
+  -- no lie of the disk is forgotten
+  pub clean : HasCleanDisk (database_of shelf) → HasCleanDisk before
+  -- what a crash left of a registry, which opens as one of two states, is opened as one of them
+  pub again : IsTrue before.is_open → (s t : registry.State) → OpensAsEither before.now.trees s t → (seen_by shelf).doubts ≡ 0 → ((seen_by shelf).state ≡ s) ⊎ ((seen_by shelf).state ≡ t)
+
+-- a database over which no registry was opened, and the word for it
+pub record IsNotOpened (before after : State) (fault : OpenFault) : Type 0 where
+  -- tables of version 2 that keep the rules are refused for want of memory or a fault of the store alone
+  pub refused : HasCleanDisk after → before.step_limit ≡ None → (t : Tables) → Stands before.now t → AreKept t → IsOutside fault
+  -- the word for tables of version 2
+  pub words : HasCleanDisk after → before.step_limit ≡ None → (t : Tables) → Stands before.now t → IsRefusal t fault
+  -- and for those of version 1
+  pub old_words : HasCleanDisk after → before.step_limit ≡ None → (t : Tables) → IsFirst before.now t → IsRefusalIn 1 t fault
+  -- the version is told of other tables
+  pub version : (before.now.schema ≡ registry_schema → ⊥) → (before.now.schema ≡ first_schema → ⊥) → (LacksMeta before.now.schema → ⊥) → HasCleanDisk after → TellsVersion before after fault
+  -- a fault of the store is told only where the disk failed
+  pub blames : before.now.schema ≡ registry_schema → BlamesOpening before after fault
+  -- what the database holds stays
+  pub unchanged : HasCleanDisk after → Rests before after
+  -- no lie of the disk is forgotten
+  pub clean_before : HasCleanDisk after → HasCleanDisk before
+  -- a crash finds what it would have found
+  pub crash : (before.now.schema ≡ first_schema → ⊥) → HasCleanDisk after → (db : Trees) → after.may_leave db → before.may_leave db
+  -- or version 1 renewed
+  pub left : HasCleanDisk after → (db : Trees) → after.may_leave db → before.may_leave db ⊎ HoldsRenewed before.now db
+  -- what a crash left of a registry is never told as something else
+  pub never_foreign : IsTrue before.is_open → before.step_limit ≡ None → (s t : registry.State) → OpensAsEither before.now.trees s t → HasCleanDisk after → IsOutside fault
