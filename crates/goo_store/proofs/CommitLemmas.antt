@@ -28,9 +28,9 @@ use Rattle.goo_store_plans.specs.Found.{IsBasisOf, IsNoBasis}
 use Rattle.goo_store_plans.specs.Planned.{IsPlanned}
 use Rattle.goo_store_plans.specs.declared.findings.KnownBasis.{KnownBasis}
 use Rattle.goo_store.proofs.Found.{no_basis}
-use Rattle.goo_store.proofs.Outlasting.{opened}
-use Rattle.goo_store.specs.Outlasting.{IsLasting, Lasts}
-use Rattle.goo_store.specs.declared.lasting.Lasting.{Lasting}
+use Rattle.goo_store.proofs.Caching.{opened}
+use Rattle.goo_store.specs.Caching.{IsCacheOf, HoldsCache}
+use Rattle.goo_store.specs.declared.cache.Cache.{Cache}
 use Rattle.std.specs.Prelude.{is_ok}
 use Rattle.goo_spec_tables.specs.States.{state_of}
 use Rattle.goo_store_values.specs.Telling.{PassesOn, Tells}
@@ -105,12 +105,12 @@ module _ (old new : State) (it : IsWell old) (changes : List TableChange) (plan 
       go (Err e) tables same left = no_basis (tables_in new) known left
 
   -- what is kept over it is so after it
-  pub lasts_after : (first last : Lasting) → Lasts old first → last.answered ≡ is_ok r → OnOk r ((t : Tables) → IsLasting first t → IsLasting last (made_all t changes)) → OnErr r ((t : Tables) → IsLasting last t) → Lasts new last
-  lasts_after first last lasts same on left = record { so = λ none. go r (tables_made r made) on left none; is_open = opened new r last.answered same works }
+  pub lasts_after : (first last : Cache) → HoldsCache old first → last.answered ≡ is_ok r → OnOk r ((t : Tables) → IsCacheOf first t → IsCacheOf last (made_all t changes)) → OnErr r ((t : Tables) → IsCacheOf last t) → HoldsCache new last
+  lasts_after first last cached same on left = record { so = λ none. go r (tables_made r made) on left none; is_open = opened new r last.answered same works }
     where
-      go : (q : Result (Unit {0}) Error) → OnOk q (doubts new ≡ 0 → tables_in new ≡ made_all (tables_in old) changes) → OnOk q ((t : Tables) → IsLasting first t → IsLasting last (made_all t changes)) → OnErr q ((t : Tables) → IsLasting last t)
-          → doubts new ≡ 0 → IsLasting last (tables_in new)
-      go (Ok x) tables on left none = subst (IsLasting last) (sym (tables none)) (on (tables_in old) (lasts.so (before none)))
+      go : (q : Result (Unit {0}) Error) → OnOk q (doubts new ≡ 0 → tables_in new ≡ made_all (tables_in old) changes) → OnOk q ((t : Tables) → IsCacheOf first t → IsCacheOf last (made_all t changes)) → OnErr q ((t : Tables) → IsCacheOf last t)
+          → doubts new ≡ 0 → IsCacheOf last (tables_in new)
+      go (Ok x) tables on left none = subst (IsCacheOf last) (sym (tables none)) (on (tables_in old) (cached.so (before none)))
       go (Err e) tables on left none = left (tables_in new)
 
   found : LeavesCommit old → HasCleanDisk new → doubts old ≡ 0 → (b : Bool) → IsEither (moment new b) (state_of (tables_in old)) (accept (state_of (tables_in old)) plan.request)

@@ -1,7 +1,7 @@
 pub mod WholeLemmas
 pub mod Merging
 pub mod Created
-pub mod Outlasting
+pub mod Caching
 pub mod CommitLemmas
 pub mod Prepared
 pub mod CommitsAfter

@@ -31,13 +31,13 @@ use Rattle.goo_store_lookups.proofs.Looking.{before, so_still}
 use Rattle.goo_store_plans.specs.Found.{IsEdge}
 use Rattle.goo_store.specs.Ahead.{AreAhead, IsPageOf, KeepsAhead, beyond}
 use Rattle.goo_store.specs.NextRows.{begins_beyond}
-use Rattle.goo_store.specs.Outlasting.{AreAccountsOf, Lasts}
+use Rattle.goo_store.specs.Caching.{AreAccountsOf, HoldsCache}
 use Rattle.goo_store.specs.Reading.{IsReadablePiece, AreReadablePieces}
 use Rattle.goo_store.specs.Found.{IsBeside}
-use Rattle.goo_store.specs.declared.lasting.Lasting.{Lasting}
+use Rattle.goo_store.specs.declared.cache.Cache.{Cache}
 use Rattle.goo_store.proofs.Edges.{next_behind}
 use Rattle.goo_store.proofs.Found.{pieces_beside_lots}
-use Rattle.goo_store.proofs.Outlasting.{opened, so_on}
+use Rattle.goo_store.proofs.Caching.{opened, so_on}
 use Rattle.goo_store.proofs.RowsRead.{pieces_kept, rising_left, unmapped}
 
 -- ---- the first of what a test leaves
@@ -200,12 +200,12 @@ module _ (account after : ℕ) where
 
   -- what is kept after a page was read is so
   pub lasts_with_page : (old new : State) (it : IsWell old) {V : Type 0} (rows : V → List JoinedRow) (r : Result V Error) → (looks : Looks old new r (λ t found. map joined_in (rows found) ≡ take 64 (filter (asked account after) (pieces_beside t))))
-      → (doubts old ≡ 0 → IsEdge (Some after) (rows_of (tables_in old))) → (first last : Lasting) → last.answered ≡ is_ok r → last.accounts ≡ first.accounts
-      → KeepsAhead r rows account after first.ahead.items last.ahead.items → Lasts old first → Lasts new last
-  lasts_with_page old new it {V} rows r looks edge first last answered accounts keeps lasts = record {
+      → (doubts old ≡ 0 → IsEdge (Some after) (rows_of (tables_in old))) → (first last : Cache) → last.answered ≡ is_ok r → last.accounts ≡ first.accounts
+      → KeepsAhead r rows account after first.ahead.items last.ahead.items → HoldsCache old first → HoldsCache new last
+  lasts_with_page old new it {V} rows r looks edge first last answered accounts keeps cached = record {
     so = λ none.
         let early = before old new it r _ looks none in
-        let still = so_on old new it r _ looks first lasts none in record {
+        let still = so_on old new it r _ looks first cached none in record {
           accounts = subst (λ xs. AreAccountsOf (state_of (tables_in new)) xs.items) (sym accounts) still.accounts;
           ahead = so_still old new it r _ looks (λ t. AreAhead (rows_of t) last.ahead.items) none (go early r (looks.found (sure new none).0 (tables_in old) (it.stands early)) keeps);
         };
@@ -214,5 +214,5 @@ module _ (account after : ℕ) where
     where
       go : doubts old ≡ 0 → (q : Result V Error) → IfOk q (λ found. map joined_in (rows found) ≡ take 64 (filter (asked account after) (pieces_beside (tables_in old)))) → KeepsAhead q rows account after first.ahead.items last.ahead.items
           → AreAhead (rows_of (tables_in old)) last.ahead.items
-      go early (Ok x) found keep = keep (rows_of (tables_in old)) (lasts.so early).ahead (record { rising = (it.kept early).rising; edge = edge early; shown = page_shown (tables_in old) (rows x) found })
-      go early (Err e) found keep = subst (AreAhead (rows_of (tables_in old))) (sym keep) (lasts.so early).ahead
+      go early (Ok x) found keep = keep (rows_of (tables_in old)) (cached.so early).ahead (record { rising = (it.kept early).rising; edge = edge early; shown = page_shown (tables_in old) (rows x) found })
+      go early (Err e) found keep = subst (AreAhead (rows_of (tables_in old))) (sym keep) (cached.so early).ahead

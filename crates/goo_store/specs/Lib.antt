@@ -1,6 +1,6 @@
 pub mod Found
 pub mod Ahead
-pub mod Outlasting
+pub mod Caching
 pub mod Reading
 pub mod Near
 pub mod Creating

@@ -9,7 +9,7 @@ ghost use Rattle.goo_spec_tables.specs.Readable.{is_account};
 ghost use Rattle.goo_store_values.specs.Passing.{Accepts, Passes};
 ghost use Rattle.goo_store.specs.Seen.{Blames, seen_by};
 
-use crate::lasting::keep_account;
+use crate::cache::keep_account;
 use crate::sql_shelf::SqlShelf;
 use goo_core_shelf::account::Account;
 use goo_store_values::texts;
@@ -45,13 +45,13 @@ impl<S: Alter> SqlShelf<S> {
         if self.refused {
             return Err(Fault::Store);
         }
-        if let Some(kept) = self.lasting.kept_account(account) {
+        if let Some(kept) = self.cache.kept_account(account) {
             return Ok(Some(kept));
         }
         let found = find_account(self.alloc, &mut self.conn, account.get());
-        self.lasting.answered = found.is_ok();
+        self.cache.answered = found.is_ok();
         let read = told(read_account(found), &mut self.refused);
-        keep_account(&mut self.lasting.accounts, account, &read);
+        keep_account(&mut self.cache.accounts, account, &read);
         read
     }
 }

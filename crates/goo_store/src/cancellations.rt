@@ -57,7 +57,7 @@ impl<S: Alter> SqlShelf<S> {
             return Err(Fault::Store);
         }
         let found = find_cancellation(self.alloc, &mut self.conn, cancellation.get());
-        self.lasting.answered = found.is_ok();
+        self.cache.answered = found.is_ok();
         told(read_record(found), &mut self.refused)
     }
 }

@@ -68,7 +68,7 @@ impl<S: Alter> SqlShelf<S> {
         }
         let findings = mem::replace(&mut self.findings, Findings::none(alloc));
         let planned = plan_changes(alloc, &mut self.conn, findings, plan);
-        self.lasting.answered = false;
+        self.cache.answered = false;
         told(planned, &mut self.refused)
     }
 
@@ -84,7 +84,7 @@ impl<S: Alter> SqlShelf<S> {
         let made = commit_changes(&mut self.conn, &planned.changes);
         self.findings.basis = known_after(&made, planned.after);
         self.findings.own = row_after(&made, own, &planned.changes);
-        self.lasting.outlast(&made, &planned.changes);
+        self.cache.after_commit(&made, &planned.changes);
         told(ending(made), &mut self.refused)
     }
 }

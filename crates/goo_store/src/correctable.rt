@@ -59,7 +59,7 @@ impl<S: Alter> SqlShelf<S> {
         }
         let day = first_day.text();
         let found = find_declaration(self.alloc, &mut self.conn, device.text(), day.as_str());
-        self.lasting.answered = found.is_ok();
+        self.cache.answered = found.is_ok();
         told(read_left(found, corrections), &mut self.refused)
     }
 

@@ -102,7 +102,7 @@ impl<S: Alter> SqlShelf<S> {
             return Err(Fault::Store);
         }
         let found = all_devices(alloc, &mut self.conn);
-        self.lasting.answered = found.is_ok();
+        self.cache.answered = found.is_ok();
         told(sorted_numbers(alloc, found), &mut self.refused)
     }
 }

@@ -116,7 +116,7 @@ impl<S: Alter> SqlShelf<S> {
             return Err(Fault::Store);
         }
         let found = find_device(self.alloc, &mut self.conn, device.text());
-        self.lasting.answered = found.is_ok();
+        self.cache.answered = found.is_ok();
         told(read_device(found), &mut self.refused)
     }
 
@@ -130,7 +130,7 @@ impl<S: Alter> SqlShelf<S> {
             return Err(Fault::Store);
         }
         let found = find_device(self.alloc, &mut self.conn, device.text());
-        self.lasting.answered = found.is_ok();
+        self.cache.answered = found.is_ok();
         told(read_progress(found), &mut self.refused)
     }
 
@@ -147,7 +147,7 @@ impl<S: Alter> SqlShelf<S> {
             return Err(Fault::Store);
         }
         let found = find_device(self.alloc, &mut self.conn, device.text());
-        self.lasting.answered = found.is_ok();
+        self.cache.answered = found.is_ok();
         let record = read_record(found, device, &mut self.findings.basis.device);
         told(record, &mut self.refused)
     }

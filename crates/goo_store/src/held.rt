@@ -38,7 +38,7 @@ impl<S: Alter> SqlShelf<S> {
             return Err(Fault::Store);
         }
         let found = first_held(self.alloc, &mut self.conn, account.get());
-        self.lasting.answered = found.is_ok();
+        self.cache.answered = found.is_ok();
         told(is_there(found), &mut self.refused)
     }
 }

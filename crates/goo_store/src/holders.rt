@@ -19,7 +19,7 @@ impl<S: Alter> SqlShelf<S> {
             (λ name. name ≡ get (seen_by self.old).state.holders code.now) }
         ensures store { Blames self.old self.new result }
     {
-        self.lasting.answered = false;
+        self.cache.answered = false;
         holders::name_of(self.alloc, &mut self.conn, &mut self.refused, code)
     }
 }

@@ -3,6 +3,7 @@
 
 mod accounts;
 mod ahead;
+mod cache;
 mod cancellations;
 mod commits;
 mod correctable;
@@ -16,7 +17,6 @@ mod holders;
 mod issuing;
 mod kept_lots;
 mod kept_registry_row;
-mod lasting;
 mod lots;
 mod lowering;
 mod net_energy;

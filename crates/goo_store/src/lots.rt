@@ -79,7 +79,7 @@ impl<S: Alter> SqlShelf<S> {
             device.text(),
             day.as_str(),
         );
-        self.lasting.answered = found.is_ok();
+        self.cache.answered = found.is_ok();
         let lot = read_found(found, &mut self.findings.lots);
         told(lot, &mut self.refused)
     }

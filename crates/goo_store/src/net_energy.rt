@@ -40,7 +40,7 @@ impl<S: Alter> SqlShelf<S> {
             return Err(Fault::Store);
         }
         let found = page_of_declarations(alloc, &mut self.conn, low);
-        self.lasting.answered = found.is_ok();
+        self.cache.answered = found.is_ok();
         let next = add_found(found, low, sums);
         told(next, &mut self.refused)
     }

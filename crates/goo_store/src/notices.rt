@@ -87,7 +87,7 @@ impl<S: Alter> SqlShelf<S> {
             return Err(Fault::Store);
         }
         let found = find_notice_out(alloc, &mut self.conn, notice.get());
-        self.lasting.answered = found.is_ok();
+        self.cache.answered = found.is_ok();
         told(read_sent(alloc, found), &mut self.refused)
     }
 
@@ -108,7 +108,7 @@ impl<S: Alter> SqlShelf<S> {
         }
         let sender = u32::from(notice.sender().get());
         let found = find_notice_in(alloc, &mut self.conn, sender, notice.number().get());
-        self.lasting.answered = found.is_ok();
+        self.cache.answered = found.is_ok();
         told(read_arrival(alloc, found, notice), &mut self.refused)
     }
 }

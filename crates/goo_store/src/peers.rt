@@ -34,7 +34,7 @@ impl<S: Alter> SqlShelf<S> {
             return Err(Fault::Store);
         }
         let found = find_peer(self.alloc, &mut self.conn, u32::from(code.get()));
-        self.lasting.answered = found.is_ok();
+        self.cache.answered = found.is_ok();
         told(is_there(found), &mut self.refused)
     }
 }

@@ -131,7 +131,7 @@ impl<S: Alter> SqlShelf<S> {
             return Err(Fault::Store);
         }
         let found = find_receipt(alloc, &mut self.conn, caller.text(), key.text());
-        self.lasting.answered = found.is_ok();
+        self.cache.answered = found.is_ok();
         told(read_receipt(alloc, found, command), &mut self.refused)
     }
 }

@@ -95,11 +95,11 @@ fn meta_in_kept(own: &Option<MetaRow>) -> Option<Meta>
 impl<S: Alter> SqlShelf<S> {
     /// What the registry knows of itself, where its row is kept and may be told.
     fn kept_registry(&self) -> Option<Meta>
-        ensures answered { IfSome result (λ meta. IsTrue self.now.lasting.answered) }
+        ensures answered { IfSome result (λ meta. IsTrue self.now.cache.answered) }
         ensures kept { IfSome result
             (λ meta. (t : Tables) → IsRowOf self.now.findings.own t → meta ≡ meta_of (state_of t)) }
     {
-        if self.lasting.answered {
+        if self.cache.answered {
             meta_in_kept(&self.findings.own)
         } else {
             None
@@ -120,7 +120,7 @@ impl<S: Alter> SqlShelf<S> {
             return Ok(meta);
         }
         let found = find_meta(self.alloc, &mut self.conn);
-        self.lasting.answered = found.is_ok();
+        self.cache.answered = found.is_ok();
         told(read_meta(found, &mut self.findings.own), &mut self.refused)
     }
 

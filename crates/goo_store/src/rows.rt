@@ -43,7 +43,7 @@ impl<S: Alter> SqlShelf<S> {
             return Err(Fault::Store);
         }
         let found = piece_before(alloc, &mut self.conn, low);
-        self.lasting.answered = found.is_ok();
+        self.cache.answered = found.is_ok();
         let row = read_maybe(found, &mut self.findings.lots);
         told(row, &mut self.refused)
     }
@@ -60,7 +60,7 @@ impl<S: Alter> SqlShelf<S> {
             return Err(Fault::Store);
         }
         let found = pieces_beginning(alloc, &mut self.conn, low, high);
-        self.lasting.answered = found.is_ok();
+        self.cache.answered = found.is_ok();
         let rows = read_rising(alloc, found, &mut self.findings.lots);
         told(rows, &mut self.refused)
     }
@@ -106,7 +106,7 @@ impl<S: Alter> SqlShelf<S> {
             return Err(Fault::Store);
         }
         let found = pieces_of_account(alloc, &mut self.conn, account.get());
-        self.lasting.answered = found.is_ok();
+        self.cache.answered = found.is_ok();
         let rows = read_rising(alloc, found, &mut self.findings.lots);
         told(rows, &mut self.refused)
     }
@@ -124,7 +124,7 @@ impl<S: Alter> SqlShelf<S> {
             return Err(Fault::Store);
         }
         let found = ask_next(self.alloc, &mut self.conn, sought, after);
-        self.lasting.answered = found.is_ok();
+        self.cache.answered = found.is_ok();
         let row = read_beyond(found, after, &mut self.findings.lots);
         self.findings.edges = edges_after(&self.findings.edges, after, &row);
         told(row, &mut self.refused)
@@ -174,14 +174,14 @@ impl<S: Alter> SqlShelf<S> {
             return Err(Fault::Store);
         }
         let found = ask_page(self.alloc, &mut self.conn, account, &row);
-        self.lasting.answered = found.is_ok();
+        self.cache.answered = found.is_ok();
         let shown = read_page(
             self.alloc,
             found,
             account,
             row,
             &mut self.findings.lots,
-            &mut self.lasting.ahead,
+            &mut self.cache.ahead,
         );
         told(shown, &mut self.refused)
     }
@@ -221,7 +221,7 @@ impl<S: Alter> SqlShelf<S> {
         if self.refused {
             return Err(Fault::Store);
         }
-        if let Some(kept) = self.lasting.row_ahead(account, &after) {
+        if let Some(kept) = self.cache.row_ahead(account, &after) {
             return Ok(kept);
         }
         self.next_in_tables(account, after)

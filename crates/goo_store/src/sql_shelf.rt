@@ -16,12 +16,12 @@ ghost use Rattle.goo_store.specs.Creating.{meta_of};
 ghost use Rattle.goo_store_lookups.specs.Moments.{IsWell, IsWell-prop, OpensAs, count};
 ghost use Rattle.goo_store_lookups.specs.Opening.{BlamesOpening};
 ghost use Rattle.goo_store.specs.Found.{Knows, Knows-prop};
-ghost use Rattle.goo_store.specs.Outlasting.{Lasts, Lasts-prop};
+ghost use Rattle.goo_store.specs.Caching.{HoldsCache, HoldsCache-prop};
 ghost use Rattle.goo_store_open.specs.Found.{IsOutside};
 ghost use Rattle.goo_store_open.specs.declared.fault.OpenFault.TheVariants.{AlreadyThere};
 
+use crate::cache::Cache;
 use crate::creating::{begin, is_empty};
-use crate::lasting::Lasting;
 use goo_store_open::fault::OpenFault;
 use goo_store_plans::findings::Findings;
 use goo_types::day::Day;
@@ -39,11 +39,11 @@ pub struct SqlShelf<S: Alter> {
     pub(crate) conn: Connection<S>,
     pub(crate) refused: bool,
     pub(crate) findings: Findings,
-    pub(crate) lasting: Lasting,
+    pub(crate) cache: Cache,
     ghost outside: { conn.in_transaction ≡ false },
     ghost well: { IsWell (view S.Store conn) } by { IsWell-prop (view S.Store conn) },
     ghost known: { Knows (view S.Store conn) findings } by { Knows-prop (view S.Store conn) findings },
-    ghost lasts: { Lasts (view S.Store conn) lasting } by { Lasts-prop (view S.Store conn) lasting },
+    ghost cached: { HoldsCache (view S.Store conn) cache } by { HoldsCache-prop (view S.Store conn) cache },
 }
 
 impl<S: Alter + Drop> Drop for SqlShelf<S> {
@@ -53,7 +53,7 @@ impl<S: Alter + Drop> Drop for SqlShelf<S> {
             conn: _conn,
             refused: _,
             findings: _findings,
-            lasting: _lasting,
+            cache: _cache,
         } = self;
     }
 }
@@ -74,7 +74,7 @@ impl<S: Alter> SqlShelf<S> {
             conn,
             refused: false,
             findings: Findings::none(alloc),
-            lasting: Lasting::none(alloc),
+            cache: Cache::none(alloc),
         }
     }
 
@@ -157,7 +157,7 @@ impl<S: Alter> SqlShelf<S> {
             conn,
             refused: _,
             findings: _findings,
-            lasting: _lasting,
+            cache: _cache,
         } = self;
         conn
     }

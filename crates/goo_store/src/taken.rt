@@ -43,7 +43,7 @@ impl<S: Alter> SqlShelf<S> {
             return Err(Fault::Store);
         }
         let found = all_corrections(alloc, &mut self.conn);
-        self.lasting.answered = found.is_ok();
+        self.cache.answered = found.is_ok();
         told(read_taken(alloc, found), &mut self.refused)
     }
 }

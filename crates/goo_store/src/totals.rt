@@ -48,7 +48,7 @@ impl<S: Alter> SqlShelf<S> {
             return Err(Fault::Store);
         }
         let found = page_of_pieces(alloc, &mut self.conn, low);
-        self.lasting.answered = found.is_ok();
+        self.cache.answered = found.is_ok();
         let next = count_found(own, withdrawals, found, low, tally);
         told(next, &mut self.refused)
     }

@@ -9,7 +9,7 @@ use Rattle.goo_store.proofs.CommitBlamed.{blamed, blamed_before}
 use Rattle.goo_store.proofs.CommitLemmas.{basis_after, lasts_after, so_after, well_after, committed}
 use Rattle.goo_store.proofs.Found.{known_after}
 use Rattle.goo_store.proofs.CommitsAfter.{not_refused, not_committed, as_err, fits_still, commits_after}
-use Rattle.goo_store.specs.Outlasting.{IsLasting}
+use Rattle.goo_store.specs.Caching.{IsCacheOf}
 use Rattle.goo_tables_rows.specs.Rows.{Tables}
 use Rattle.goo_store.proofs.sql_shelf.SqlShelf.carry_out.Goals as goal
 
@@ -47,11 +47,11 @@ invariant_of-self g c =
           c.known_after-self.result
           (basis_after mid (view g.S.Store c.commit_changes-made.new.conn) shelf.well c.deref.result.now plan planned c.commit_changes-made.result it.clean it.was_open it.works it.done it.kept it.crash it.live
           c.in_ok-planned.planned.after c.known_after-self.result after c.known_after-self.ensures.done c.known_after-self.ensures.undone);
-      lasts =
+      cached =
           lasts_after mid (view g.S.Store c.commit_changes-made.new.conn) shelf.well c.deref.result.now plan planned c.commit_changes-made.result it.clean it.was_open it.works it.done it.kept it.crash it.live
-          shelf.lasting c.outlast.new.self shelf.lasts c.outlast.ensures.answered
-          (subst (λ xs. OnOk c.commit_changes-made.result ((t : Tables) → IsLasting shelf.lasting t → IsLasting c.outlast.new.self (made_all t xs))) (c.deref-3.ensures.value ∙ sym c.deref.ensures.value) c.outlast.ensures.made)
-          c.outlast.ensures.failed;
+          shelf.cache c.after_commit.new.self shelf.cached c.after_commit.ensures.answered
+          (subst (λ xs. OnOk c.commit_changes-made.result ((t : Tables) → IsCacheOf shelf.cache t → IsCacheOf c.after_commit.new.self (made_all t xs))) (c.deref-3.ensures.value ∙ sym c.deref.ensures.value) c.after_commit.ensures.made)
+          c.after_commit.ensures.failed;
     }
 
 pub returns-clause-commits : goal.returns-clause-commits

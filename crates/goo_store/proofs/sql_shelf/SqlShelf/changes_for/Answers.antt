@@ -7,7 +7,7 @@ use Rattle.goo_store.proofs.CommitsAfter.{refused_prepared}
 use Rattle.goo_store.proofs.Found.{none_known}
 use Rattle.goo_store.proofs.Gathering.{refused_gathering, gathering}
 use Rattle.goo_store.proofs.Prepared.{before, well, gathered, found_after, in_order, known, tables_same}
-use Rattle.goo_store.proofs.Outlasting.{lasts_unanswered}
+use Rattle.goo_store.proofs.Caching.{lasts_unanswered}
 use Rattle.goo_store.proofs.sql_shelf.SqlShelf.changes_for.Goals as goal
 
 pub returns-then-self-clause-prepares : goal.returns-then-self-clause-prepares
@@ -18,13 +18,13 @@ invariant_of-self g c = record {
   outside = c.plan_changes-planned.ensures.outside c.args.self.now.outside;
   well = well (view g.S.Store c.args.self.now.conn) (view g.S.Store c.plan_changes-planned.new.conn) c.args.self.now.well c.plan_changes-planned.result _ c.plan_changes-planned.ensures.gathers;
   known = none_known (view g.S.Store c.plan_changes-planned.new.conn) c.replace-findings.new.dest (subst AreNone (sym c.replace-findings.ensures.after) c.none.ensures);
-  lasts =
-      lasts_unanswered (view g.S.Store c.args.self.now.conn) (view g.S.Store c.plan_changes-planned.new.conn) c.args.self.now.lasting
+  cached =
+      lasts_unanswered (view g.S.Store c.args.self.now.conn) (view g.S.Store c.plan_changes-planned.new.conn) c.args.self.now.cache
       (λ none. (
         before (view g.S.Store c.args.self.now.conn) (view g.S.Store c.plan_changes-planned.new.conn) c.args.self.now.well c.plan_changes-planned.result _ c.plan_changes-planned.ensures.gathers none,
         tables_same (view g.S.Store c.args.self.now.conn) (view g.S.Store c.plan_changes-planned.new.conn) c.args.self.now.well c.plan_changes-planned.result _ c.plan_changes-planned.ensures.gathers none,
       ))
-      c.args.self.now.lasts;
+      c.args.self.now.cached;
 }
 
 pub returns-clause-prepares : goal.returns-clause-prepares

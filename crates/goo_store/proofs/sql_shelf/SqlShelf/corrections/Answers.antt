@@ -9,7 +9,7 @@ use Rattle.goo_store.proofs.RowsRead.{listed}
 use Rattle.goo_spec_tables.specs.Readable.{is_correction}
 use Rattle.goo_tables_rows.specs.Rows.{correction_in}
 use Rattle.goo_store_lookups.specs.Moments.{tables_in}
-use Rattle.goo_store.proofs.Outlasting.{lasts_on}
+use Rattle.goo_store.proofs.Caching.{lasts_on}
 use Rattle.goo_store.proofs.sql_shelf.SqlShelf.corrections.Goals as goal
 
 pub returns-then-self-clause-looks : goal.returns-then-self-clause-looks
@@ -20,7 +20,7 @@ invariant_of-self g c = record {
   outside = c.all_corrections-found.ensures.outside c.args.self.now.outside;
   well = well (view g.S.Store c.args.self.now.conn) (view g.S.Store c.all_corrections-found.new.conn) c.args.self.now.well _ _ c.all_corrections-found.ensures.looks;
   known = known (view g.S.Store c.args.self.now.conn) (view g.S.Store c.all_corrections-found.new.conn) c.args.self.now.well _ _ c.all_corrections-found.ensures.looks c.args.self.now.findings c.args.self.now.known;
-  lasts = lasts_on (view g.S.Store c.args.self.now.conn) (view g.S.Store c.all_corrections-found.new.conn) c.args.self.now.well _ _ c.all_corrections-found.ensures.looks c.args.self.now.lasting c.is_ok-self.result c.is_ok-self.ensures.value c.args.self.now.lasts;
+  cached = lasts_on (view g.S.Store c.args.self.now.conn) (view g.S.Store c.all_corrections-found.new.conn) c.args.self.now.well _ _ c.all_corrections-found.ensures.looks c.args.self.now.cache c.is_ok-self.result c.is_ok-self.ensures.value c.args.self.now.cached;
 }
 
 pub returns-clause-looks : goal.returns-clause-looks

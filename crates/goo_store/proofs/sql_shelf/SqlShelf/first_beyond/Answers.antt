@@ -9,7 +9,7 @@ use Rattle.goo_store.proofs.Found.{lots_known, first_beside}
 use Rattle.goo_store_lookups.proofs.Blaming.{blames, refused_blames}
 use Rattle.goo_store.proofs.RowsRead.{pieces_read}
 use Rattle.goo_store.proofs.NextRow.{beyond_found, beyond_read, edge_after}
-use Rattle.goo_store.proofs.Outlasting.{lasts_on}
+use Rattle.goo_store.proofs.Caching.{lasts_on}
 use Rattle.goo_store.proofs.sql_shelf.SqlShelf.first_beyond.Goals as goal
 
 pub returns-then-self-clause-looks : goal.returns-then-self-clause-looks
@@ -33,7 +33,7 @@ invariant_of-self g c = record {
             ];
       })
       c.args.self.now.known c.read_beyond-row.ensures.kept;
-  lasts = lasts_on (view g.S.Store c.args.self.now.conn) (view g.S.Store c.ask_next-found.new.conn) c.args.self.now.well _ _ c.ask_next-found.ensures.looks c.args.self.now.lasting c.is_ok-self.result c.is_ok-self.ensures.value c.args.self.now.lasts;
+  cached = lasts_on (view g.S.Store c.args.self.now.conn) (view g.S.Store c.ask_next-found.new.conn) c.args.self.now.well _ _ c.ask_next-found.ensures.looks c.args.self.now.cache c.is_ok-self.result c.is_ok-self.ensures.value c.args.self.now.cached;
 }
 
 pub returns-clause-looks : goal.returns-clause-looks

@@ -12,7 +12,7 @@ use Rattle.goo_store_values.proofs.RowsRead.{found_row, each_so}
 use Rattle.goo_spec_tables.specs.Readable.{is_account}
 use Rattle.goo_tables_rows.specs.Rows.{account_in}
 use Rattle.goo_store_lookups.specs.Moments.{tables_in}
-use Rattle.goo_store.proofs.Outlasting.{kept_blames, kept_look, lasts_on, lasts_with_account}
+use Rattle.goo_store.proofs.Caching.{kept_blames, kept_look, lasts_on, lasts_with_account}
 use Rattle.goo_store.proofs.sql_shelf.SqlShelf.look_up_account.Goals as goal
 
 pub returns-then-self-clause-looks : goal.returns-then-self-clause-looks
@@ -24,13 +24,13 @@ invariant_of-self g c = record {
   outside = c.find_account-found.ensures.outside c.args.self.now.outside;
   well = well (view g.S.Store c.args.self.now.conn) (view g.S.Store c.find_account-found.new.conn) c.args.self.now.well _ _ c.find_account-found.ensures.looks;
   known = known (view g.S.Store c.args.self.now.conn) (view g.S.Store c.find_account-found.new.conn) c.args.self.now.well _ _ c.find_account-found.ensures.looks c.args.self.now.findings c.args.self.now.known;
-  lasts =
+  cached =
       lasts_with_account (view g.S.Store c.args.self.now.conn) (view g.S.Store c.find_account-found.new.conn) c.args.self.now.refused c.told-read.new.refused c.args.account c.told-read.result
       (looked (view g.S.Store c.args.self.now.conn) (view g.S.Store c.find_account-found.new.conn) c.args.self.now.well _ _ c.find_account-found.ensures.looks _ _ c.read_account.result
       c.args.self.now.refused c.told-read.new.refused c.told-read.result (λ live db may. g.met.S.Store.settled c.args.self.now.conn.store db live may) c.if-self.false c.read_account.ensures.value c.told-read.ensures
       (λ kept row account found read. known_row nat_cmp_total (λ a. a.number) c.args.account _ (λ a. ap (λ n. int_eq (pos a.number) (pos n)) c.get.ensures.value ∙ number_test a.number c.args.account) account_of _ _ account found read))
-      (record { answered = c.is_ok-self.result; accounts = c.args.self.now.lasting.accounts; ahead = c.args.self.now.lasting.ahead }) (record { answered = c.is_ok-self.result; accounts = c.keep_account.new.accounts; ahead = c.args.self.now.lasting.ahead }) refl refl c.keep_account.ensures.kept
-      (lasts_on (view g.S.Store c.args.self.now.conn) (view g.S.Store c.find_account-found.new.conn) c.args.self.now.well _ _ c.find_account-found.ensures.looks c.args.self.now.lasting c.is_ok-self.result c.is_ok-self.ensures.value c.args.self.now.lasts);
+      (record { answered = c.is_ok-self.result; accounts = c.args.self.now.cache.accounts; ahead = c.args.self.now.cache.ahead }) (record { answered = c.is_ok-self.result; accounts = c.keep_account.new.accounts; ahead = c.args.self.now.cache.ahead }) refl refl c.keep_account.ensures.kept
+      (lasts_on (view g.S.Store c.args.self.now.conn) (view g.S.Store c.find_account-found.new.conn) c.args.self.now.well _ _ c.find_account-found.ensures.looks c.args.self.now.cache c.is_ok-self.result c.is_ok-self.ensures.value c.args.self.now.cached);
 }
 
 pub returns-clause-looks : goal.returns-clause-looks
@@ -43,7 +43,7 @@ returns-clause-looks g c =
 pub returns-in-Some-clause-looks : goal.returns-in-Some-clause-looks
 returns-in-Some-clause-looks g c =
     kept_look (view g.S.Store c.args.self.now.conn) c.args.self.now.well c.args.self.now.refused c.if-self.false (λ live db may. g.met.S.Store.settled c.args.self.now.conn.store db live may) _ (Some c.in-Some.kept)
-    (c.args.self.now.lasts.is_open c.in-Some.ensures.answered) (λ none. sym (c.in-Some.ensures.kept (tables_in (view g.S.Store c.args.self.now.conn)) (c.args.self.now.lasts.so none)))
+    (c.args.self.now.cached.is_open c.in-Some.ensures.answered) (λ none. sym (c.in-Some.ensures.kept (tables_in (view g.S.Store c.args.self.now.conn)) (c.args.self.now.cached.so none)))
 
 pub returns-in-Some-clause-store : goal.returns-in-Some-clause-store
 returns-in-Some-clause-store g c = kept_blames (view g.S.Store c.args.self.now.conn) c.args.self.now.refused (Some c.in-Some.kept)

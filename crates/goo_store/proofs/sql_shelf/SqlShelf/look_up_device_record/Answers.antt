@@ -17,7 +17,7 @@ use Rattle.goo_store_values.proofs.RowsRead.{found_part, each_so}
 use Rattle.goo_spec_tables.specs.Readable.{is_device}
 use Rattle.goo_tables_rows.specs.Rows.{device_in}
 use Rattle.goo_store_lookups.specs.Moments.{tables_in}
-use Rattle.goo_store.proofs.Outlasting.{lasts_on}
+use Rattle.goo_store.proofs.Caching.{lasts_on}
 use Rattle.goo_store.proofs.sql_shelf.SqlShelf.look_up_device_record.Goals as goal
 
 -- a row tells of the device that the state has, and of its progress
@@ -38,7 +38,7 @@ invariant_of-self g c = record {
       (λ row found.
       sym (known_kept nat_list_cmp_total (λ k. k.1.gsrn) c.args.device.now _ (λ k. ap (bytes_eq k.1.gsrn) c.text.ensures.value ∙ text_test k.1.gsrn c.args.device.now) (λ k. k.1) device_of _ _ (Some (device_of (device_in row))) found refl))
       c.args.self.now.findings c.read_record-record.new.kept c.args.self.now.known c.read_record-record.ensures.kept;
-  lasts = lasts_on (view g.S.Store c.args.self.now.conn) (view g.S.Store c.find_device-found.new.conn) c.args.self.now.well _ _ c.find_device-found.ensures.looks c.args.self.now.lasting c.is_ok-self.result c.is_ok-self.ensures.value c.args.self.now.lasts;
+  cached = lasts_on (view g.S.Store c.args.self.now.conn) (view g.S.Store c.find_device-found.new.conn) c.args.self.now.well _ _ c.find_device-found.ensures.looks c.args.self.now.cache c.is_ok-self.result c.is_ok-self.ensures.value c.args.self.now.cached;
 }
 
 pub returns-clause-looks : goal.returns-clause-looks

@@ -5,7 +5,7 @@ use Rattle.goo_store_lookups.proofs.Looking.{looked, refused_look, well}
 use Rattle.goo_store.proofs.Found.{known}
 use Rattle.goo_store.proofs.HeldFound.{held_found}
 use Rattle.goo_store_lookups.proofs.Blaming.{blames, refused_blames}
-use Rattle.goo_store.proofs.Outlasting.{lasts_on}
+use Rattle.goo_store.proofs.Caching.{lasts_on}
 use Rattle.goo_store.proofs.sql_shelf.SqlShelf.look_up_holding.Goals as goal
 
 pub returns-then-self-clause-looks : goal.returns-then-self-clause-looks
@@ -16,7 +16,7 @@ invariant_of-self g c = record {
   outside = c.first_held-found.ensures.outside c.args.self.now.outside;
   well = well (view g.S.Store c.args.self.now.conn) (view g.S.Store c.first_held-found.new.conn) c.args.self.now.well _ _ c.first_held-found.ensures.looks;
   known = known (view g.S.Store c.args.self.now.conn) (view g.S.Store c.first_held-found.new.conn) c.args.self.now.well _ _ c.first_held-found.ensures.looks c.args.self.now.findings c.args.self.now.known;
-  lasts = lasts_on (view g.S.Store c.args.self.now.conn) (view g.S.Store c.first_held-found.new.conn) c.args.self.now.well _ _ c.first_held-found.ensures.looks c.args.self.now.lasting c.is_ok-self.result c.is_ok-self.ensures.value c.args.self.now.lasts;
+  cached = lasts_on (view g.S.Store c.args.self.now.conn) (view g.S.Store c.first_held-found.new.conn) c.args.self.now.well _ _ c.first_held-found.ensures.looks c.args.self.now.cache c.is_ok-self.result c.is_ok-self.ensures.value c.args.self.now.cached;
 }
 
 pub returns-clause-looks : goal.returns-clause-looks

@@ -12,7 +12,7 @@ use Rattle.goo_store_lookups.proofs.Looking.{looked, refused_look, well}
 use Rattle.goo_store.proofs.Found.{lots_known, some_beside}
 use Rattle.goo_store_lookups.proofs.Blaming.{blames, refused_blames}
 use Rattle.goo_store.proofs.RowsRead.{pieces_found, pieces_read}
-use Rattle.goo_store.proofs.Outlasting.{lasts_on}
+use Rattle.goo_store.proofs.Caching.{lasts_on}
 use Rattle.goo_store.proofs.sql_shelf.SqlShelf.look_up_pieces_of.Goals as goal
 
 pub returns-then-self-clause-looks : goal.returns-then-self-clause-looks
@@ -26,7 +26,7 @@ invariant_of-self g c = record {
       lots_known (view g.S.Store c.args.self.now.conn) (view g.S.Store c.pieces_of_account-found.new.conn) c.args.self.now.well _ _ c.pieces_of_account-found.ensures.looks (λ rows. rows.items)
       (λ rows is. some_beside (tables_in (view g.S.Store c.args.self.now.conn)) _ rows.items is)
       c.args.self.now.findings (record { own = c.args.self.now.findings.own; basis = c.args.self.now.findings.basis; lots = c.read_rising-rows.new.lots; edges = c.args.self.now.findings.edges }) refl refl (λ none is. is) c.args.self.now.known c.read_rising-rows.ensures.kept;
-  lasts = lasts_on (view g.S.Store c.args.self.now.conn) (view g.S.Store c.pieces_of_account-found.new.conn) c.args.self.now.well _ _ c.pieces_of_account-found.ensures.looks c.args.self.now.lasting c.is_ok-self.result c.is_ok-self.ensures.value c.args.self.now.lasts;
+  cached = lasts_on (view g.S.Store c.args.self.now.conn) (view g.S.Store c.pieces_of_account-found.new.conn) c.args.self.now.well _ _ c.pieces_of_account-found.ensures.looks c.args.self.now.cache c.is_ok-self.result c.is_ok-self.ensures.value c.args.self.now.cached;
 }
 
 pub returns-clause-looks : goal.returns-clause-looks

@@ -5,7 +5,7 @@ use Rattle.goo_store.proofs.Found.{own_known}
 use Rattle.goo_store_lookups.proofs.Blaming.{blames, refused_blames}
 use Rattle.goo_store.proofs.RowsRead.{meta_found}
 use Rattle.goo_store_values.proofs.RowsRead.{meta_read}
-use Rattle.goo_store.proofs.Outlasting.{kept_blames, kept_look, lasts_on}
+use Rattle.goo_store.proofs.Caching.{kept_blames, kept_look, lasts_on}
 use Rattle.goo_store.proofs.sql_shelf.SqlShelf.look_up_registry.Goals as goal
 
 pub returns-then-self-clause-looks : goal.returns-then-self-clause-looks
@@ -16,7 +16,7 @@ invariant_of-self g c = record {
   outside = c.find_meta-found.ensures.outside c.args.self.now.outside;
   well = well (view g.S.Store c.args.self.now.conn) (view g.S.Store c.find_meta-found.new.conn) c.args.self.now.well _ _ c.find_meta-found.ensures.looks;
   known = own_known (view g.S.Store c.args.self.now.conn) (view g.S.Store c.find_meta-found.new.conn) c.args.self.now.well _ c.find_meta-found.ensures.looks c.args.self.now.findings c.read_meta.new.own c.args.self.now.known c.read_meta.ensures.kept;
-  lasts = lasts_on (view g.S.Store c.args.self.now.conn) (view g.S.Store c.find_meta-found.new.conn) c.args.self.now.well _ _ c.find_meta-found.ensures.looks c.args.self.now.lasting c.is_ok-self.result c.is_ok-self.ensures.value c.args.self.now.lasts;
+  cached = lasts_on (view g.S.Store c.args.self.now.conn) (view g.S.Store c.find_meta-found.new.conn) c.args.self.now.well _ _ c.find_meta-found.ensures.looks c.args.self.now.cache c.is_ok-self.result c.is_ok-self.ensures.value c.args.self.now.cached;
 }
 
 pub returns-clause-looks : goal.returns-clause-looks
@@ -37,7 +37,7 @@ returns-clause-store g c =
 pub returns-in-Some-clause-looks : goal.returns-in-Some-clause-looks
 returns-in-Some-clause-looks g c =
     kept_look (view g.S.Store c.args.self.now.conn) c.args.self.now.well c.args.self.now.refused c.if-self.false (λ live db may. g.met.S.Store.settled c.args.self.now.conn.store db live may) _ c.in-Some.meta
-    (c.args.self.now.lasts.is_open c.in-Some.ensures.answered) (λ none. c.in-Some.ensures.kept _ (c.args.self.now.known none).own)
+    (c.args.self.now.cached.is_open c.in-Some.ensures.answered) (λ none. c.in-Some.ensures.kept _ (c.args.self.now.known none).own)
 
 pub returns-in-Some-clause-store : goal.returns-in-Some-clause-store
 returns-in-Some-clause-store g c = kept_blames (view g.S.Store c.args.self.now.conn) c.args.self.now.refused c.in-Some.meta

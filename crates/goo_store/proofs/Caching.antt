@@ -21,50 +21,50 @@ use Rattle.goo_store_lookups.proofs.Looking.{before, so_still}
 use Rattle.goo_core_shelf.proofs.Looking.{stays_still}
 use Rattle.goo_spec_tables.specs.Places.{rows_of}
 use Rattle.goo_store.specs.Ahead.{AreAhead}
-use Rattle.goo_store.specs.Outlasting.{AreAccountsOf, AreLeft, IsLasting, Lasts}
-use Rattle.goo_store.specs.declared.lasting.Lasting.{Lasting}
+use Rattle.goo_store.specs.Caching.{AreAccountsOf, AreLeft, IsCacheOf, HoldsCache}
+use Rattle.goo_store.specs.declared.cache.Cache.{Cache}
 
 -- what is kept is so after a statement too
-pub so_on : (old new : State) (it : IsWell old) {T : Type 0} (r : Result T Error) (right : Tables → T → Type 0) → Looks old new r right → (lasting : Lasting) → Lasts old lasting
-    → doubts new ≡ 0 → IsLasting lasting (tables_in new)
-so_on old new it r right looks lasting lasts none = so_still old new it r right looks (IsLasting lasting) none (lasts.so (before old new it r right looks none))
+pub so_on : (old new : State) (it : IsWell old) {T : Type 0} (r : Result T Error) (right : Tables → T → Type 0) → Looks old new r right → (cache : Cache) → HoldsCache old cache
+    → doubts new ≡ 0 → IsCacheOf cache (tables_in new)
+so_on old new it r right looks cache cached none = so_still old new it r right looks (IsCacheOf cache) none (cached.so (before old new it r right looks none))
 
 -- the database is open where a statement was answered
 pub opened : {T : Type 0} (new : State) (r : Result T Error) (b : Bool) → b ≡ is_ok r → OnOk r (HasCleanDisk new → IsTrue new.is_open) → IsTrue b → HasCleanDisk new → IsTrue new.is_open
 opened new (Ok x) b same works is = works
 opened new (Err e) b same works is = absurd (true≢false (sym is ∙ same))
 
--- so it lasts over a statement
-pub lasts_on : (old new : State) (it : IsWell old) {T : Type 0} (r : Result T Error) (right : Tables → T → Type 0) → Looks old new r right → (lasting : Lasting) (b : Bool) → b ≡ is_ok r → Lasts old lasting
-    → Lasts new (record { answered = b; accounts = lasting.accounts; ahead = lasting.ahead })
-lasts_on old new it r right looks lasting b same lasts = record {
-  so = λ none. let still = so_on old new it r right looks lasting lasts none in record { accounts = still.accounts; ahead = still.ahead };
+-- so it cached over a statement
+pub lasts_on : (old new : State) (it : IsWell old) {T : Type 0} (r : Result T Error) (right : Tables → T → Type 0) → Looks old new r right → (cache : Cache) (b : Bool) → b ≡ is_ok r → HoldsCache old cache
+    → HoldsCache new (record { answered = b; accounts = cache.accounts; ahead = cache.ahead })
+lasts_on old new it r right looks cache b same cached = record {
+  so = λ none. let still = so_on old new it r right looks cache cached none in record { accounts = still.accounts; ahead = still.ahead };
   is_open = opened new r b same looks.works;
 }
 
 -- nothing is kept at first
-pub lasts_first : (s : State) (lasting : Lasting) → lasting.answered ≡ false → ((t : Tables) → IsLasting lasting t) → Lasts s lasting
-lasts_first s lasting unanswered is = record {
+pub lasts_first : (s : State) (cache : Cache) → cache.answered ≡ false → ((t : Tables) → IsCacheOf cache t) → HoldsCache s cache
+lasts_first s cache unanswered is = record {
   so = λ none. is (tables_in s);
   is_open = λ answered _. absurd (true≢false (sym answered ∙ unanswered));
 }
 
 -- the account that was looked up, if it was found
-pub lasts_with_account : (old new : State) (a b : Bool) (number : ℕ) (r : Result (Option registry.Account) Fault) → shelf.Looks (moment old a) (moment new b) r (λ found. found ≡ get (moment old a).state.accounts number) → (first last : Lasting)
+pub lasts_with_account : (old new : State) (a b : Bool) (number : ℕ) (r : Result (Option registry.Account) Fault) → shelf.Looks (moment old a) (moment new b) r (λ found. found ≡ get (moment old a).state.accounts number) → (first last : Cache)
     → last.answered ≡ first.answered → last.ahead ≡ first.ahead
-    → ((s : registry.State) → IfOk r (λ found. found ≡ get s.accounts number) → AreAccountsOf s first.accounts.items → AreAccountsOf s last.accounts.items) → Lasts new first → Lasts new last
-lasts_with_account old new a b number r looks first last answered same keeps lasts = record {
+    → ((s : registry.State) → IfOk r (λ found. found ≡ get s.accounts number) → AreAccountsOf s first.accounts.items → AreAccountsOf s last.accounts.items) → HoldsCache new first → HoldsCache new last
+lasts_with_account old new a b number r looks first last answered same keeps cached = record {
   so = λ none. record {
-    accounts = keeps (state_of (tables_in new)) (subst (λ (s : registry.State). IfOk r (λ found. found ≡ get s.accounts number)) (sym (looks.same none)) (looks.found none)) (lasts.so none).accounts;
-    ahead = subst (λ xs. AreAhead (rows_of (tables_in new)) xs.items) (sym same) (lasts.so none).ahead;
+    accounts = keeps (state_of (tables_in new)) (subst (λ (s : registry.State). IfOk r (λ found. found ≡ get s.accounts number)) (sym (looks.same none)) (looks.found none)) (cached.so none).accounts;
+    ahead = subst (λ xs. AreAhead (rows_of (tables_in new)) xs.items) (sym same) (cached.so none).ahead;
   };
-  is_open = λ is. lasts.is_open (sym answered ∙ is);
+  is_open = λ is. cached.is_open (sym answered ∙ is);
 }
 
 -- after calls of which it is not known whether they were answered
-pub lasts_unanswered : (old new : State) (lasting : Lasting) → (doubts new ≡ 0 → (doubts old ≡ 0) × (tables_in new ≡ tables_in old)) → Lasts old lasting → Lasts new (record { answered = false; accounts = lasting.accounts; ahead = lasting.ahead })
-lasts_unanswered old new lasting same lasts = record {
-  so = λ none. let still = subst (IsLasting lasting) (sym (same none).1) (lasts.so (same none).0) in record { accounts = still.accounts; ahead = still.ahead };
+pub lasts_unanswered : (old new : State) (cache : Cache) → (doubts new ≡ 0 → (doubts old ≡ 0) × (tables_in new ≡ tables_in old)) → HoldsCache old cache → HoldsCache new (record { answered = false; accounts = cache.accounts; ahead = cache.ahead })
+lasts_unanswered old new cache same cached = record {
+  so = λ none. let still = subst (IsCacheOf cache) (sym (same none).1) (cached.so (same none).0) in record { accounts = still.accounts; ahead = still.ahead };
   is_open = λ is _. absurd (true≢false (sym is));
 }
 

@@ -9,7 +9,7 @@ ghost use Rattle.goo_spec_runs.specs.NextRun.{from_of};
 ghost use Rattle.goo_spec_tables.specs.States.{state_of};
 ghost use Rattle.goo_tables_rows.specs.Rows.{Tables};
 ghost use Rattle.goo_store_changes.specs.Changes.{made, made_all};
-ghost use Rattle.goo_store.specs.Outlasting.{AreAccountsOf, AreLeft, IsLasting};
+ghost use Rattle.goo_store.specs.Caching.{AreAccountsOf, AreLeft, IsCacheOf};
 
 use crate::ahead::{RowAhead, ahead_among};
 use goo_core_shelf::account::Account;
@@ -38,7 +38,7 @@ pub struct NumberedAccount {
 /// whether the database still answers, so what is kept is told only while the last statement was
 /// answered.
 #[derive(Drop)]
-pub struct Lasting {
+pub struct Cache {
     /// Whether the last statement was answered, so that the database is open.
     pub answered: bool,
     /// Some accounts that were found.
@@ -112,13 +112,13 @@ fn all_leave(changes: &[TableChange]) -> bool
     true
 }
 
-impl Lasting {
+impl Cache {
     /// Nothing is kept.
-    pub fn none(alloc: Global) -> Lasting
+    pub fn none(alloc: Global) -> Cache
         ensures answered { result.answered ≡ false }
-        ensures lasting { (t : Tables) → IsLasting result t }
+        ensures cache { (t : Tables) → IsCacheOf result t }
     {
-        Lasting {
+        Cache {
             answered: false,
             accounts: Vec::new(alloc),
             ahead: Vec::new(alloc),
@@ -129,7 +129,7 @@ impl Lasting {
     pub fn kept_account(&self, number: AccountNo) -> Option<Account>
         ensures answered { IfSome result (λ account. IsTrue self.now.answered) }
         ensures kept { IfSome result
-            (λ account. (t : Tables) → IsLasting self.now t
+            (λ account. (t : Tables) → IsCacheOf self.now t
             → get (state_of t).accounts number ≡ Some account) }
     {
         if self.answered {
@@ -143,7 +143,7 @@ impl Lasting {
     pub fn row_ahead(&self, account: AccountNo, after: &Option<Number>) -> Option<Option<Piece>>
         ensures answered { IfSome result (λ row. IsTrue self.now.answered) }
         ensures kept { IfSome result
-            (λ row. (t : Tables) → IsLasting self.now t
+            (λ row. (t : Tables) → IsCacheOf self.now t
             → row ≡ next_row account after.now (rows_of t)) }
         ensures ahead { IfSome result (λ row. IfSome row (EndsFrom (from_of after.now))) }
     {
@@ -158,11 +158,11 @@ impl Lasting {
     }
 
     /// Keeps what is so still once changes were made, or nothing where the commit failed.
-    pub fn outlast(&mut self, made: &Result<(), Error>, changes: &[TableChange])
+    pub fn after_commit(&mut self, made: &Result<(), Error>, changes: &[TableChange])
         ensures answered { self.new.answered ≡ is_ok made.now }
-        ensures made { OnOk made.now ((t : Tables) → IsLasting self.old t
-            → IsLasting self.new (made_all t changes.now)) }
-        ensures failed { OnErr made.now ((t : Tables) → IsLasting self.new t) }
+        ensures made { OnOk made.now ((t : Tables) → IsCacheOf self.old t
+            → IsCacheOf self.new (made_all t changes.now)) }
+        ensures failed { OnErr made.now ((t : Tables) → IsCacheOf self.new t) }
     {
         self.answered = made.is_ok();
         self.ahead.clear();

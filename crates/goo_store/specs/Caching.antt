@@ -13,22 +13,22 @@ use Rattle.goo_tables_rows.specs.Stands.{doubts}
 use Rattle.goo_store_lookups.specs.Moments.{tables_in}
 use Rattle.goo_store.specs.Ahead.{AreAhead}
 use Rattle.goo_store.specs.declared.ahead.RowAhead.{RowAhead}
-use Rattle.goo_store.specs.declared.lasting.Lasting.{Lasting}
-use Rattle.goo_store.specs.declared.lasting.NumberedAccount.{NumberedAccount}
+use Rattle.goo_store.specs.declared.cache.Cache.{Cache}
+use Rattle.goo_store.specs.declared.cache.NumberedAccount.{NumberedAccount}
 
 -- each account that is kept is there under its number
 abbrev pub AreAccountsOf : State → List NumberedAccount → Type 0
 AreAccountsOf s xs = All (λ x. get s.accounts x.number ≡ Some x.account) xs
 
 -- all that is kept is so in the tables
-pub record IsLasting (lasting : Lasting) (t : Tables) : Type 0 where
-  pub accounts : AreAccountsOf (state_of t) lasting.accounts.items
-  pub ahead : AreAhead (rows_of t) lasting.ahead.items
+pub record IsCacheOf (cache : Cache) (t : Tables) : Type 0 where
+  pub accounts : AreAccountsOf (state_of t) cache.accounts.items
+  pub ahead : AreAhead (rows_of t) cache.ahead.items
 
 -- it is so while nothing is in doubt, and the database is open where the last statement was answered
-pub record Lasts (s : database.State) (lasting : Lasting) : Type 0 where
-  pub so : doubts s ≡ 0 → IsLasting lasting (tables_in s)
-  pub is_open : IsTrue lasting.answered → HasCleanDisk s → IsTrue s.is_open
+pub record HoldsCache (s : database.State) (cache : Cache) : Type 0 where
+  pub so : doubts s ≡ 0 → IsCacheOf cache (tables_in s)
+  pub is_open : IsTrue cache.answered → HasCleanDisk s → IsTrue s.is_open
 
 -- one state has the accounts of another
 abbrev pub AreLeft : State → State → Type 0
@@ -51,11 +51,11 @@ ahead-prop rows xs a b = λ i k d low. row-prop _ _ (a k d low) (b k d low) i
 same-prop : (a b : Bool) → IsProp (a ≡ b)
 same-prop a b = Prim.hlevel props
 
-pub Lasts-prop : (s : database.State) (lasting : Lasting) → IsProp (Lasts s lasting)
-Lasts-prop s lasting a b = λ i. record {
+pub HoldsCache-prop : (s : database.State) (cache : Cache) → IsProp (HoldsCache s cache)
+HoldsCache-prop s cache a b = λ i. record {
   so = λ none. record {
-    accounts = accounts-prop (state_of (tables_in s)) lasting.accounts.items (a.so none).accounts (b.so none).accounts i;
-    ahead = ahead-prop (rows_of (tables_in s)) lasting.ahead.items (a.so none).ahead (b.so none).ahead i;
+    accounts = accounts-prop (state_of (tables_in s)) cache.accounts.items (a.so none).accounts (b.so none).accounts i;
+    ahead = ahead-prop (rows_of (tables_in s)) cache.ahead.items (a.so none).ahead (b.so none).ahead i;
   };
   is_open = λ is clean. same-prop s.is_open true (a.is_open is clean) (b.is_open is clean) i;
 }

@@ -3,8 +3,8 @@ use Rattle.std.proofs.lemmas.List.{take_all}
 use Rattle.goo_spec_tables.specs.States.{state_of}
 use Rattle.goo_tables_rows.proofs.Inside.{fold_more}
 use Rattle.goo_store_changes.specs.Changes.{made, made_all}
-use Rattle.goo_store.specs.Outlasting.{AreLeft}
-use Rattle.goo_store.proofs.lasting.all_leave.Goals as goal
+use Rattle.goo_store.specs.Caching.{AreLeft}
+use Rattle.goo_store.proofs.cache.all_leave.Goals as goal
 
 pub loop-change-init : goal.loop-change-init
 loop-change-init c t = refl
