@@ -5,7 +5,7 @@ use Rattle.goo_types.specs.declared.lot_fields.LotFields.{LotFields}
 use Rattle.goo_types.specs.declared.place.Place.{Place}
 use Rattle.goo_notice_json.specs.Lot.{is_other}
 use Rattle.goo_notice_json.proofs.StatedLotLemmas as stated
-use Rattle.goo_desk_shown.specs.Certificates.{certificate_data}
+use Rattle.goo_desk_counter.specs.Certificates.{certificate_data}
 
 pub no_float : (n : ℕ) (lot : LotFields) (place : Place) → has_float (certificate_data n lot place) ≡ false
 unfolding certificate_data

@@ -3,9 +3,9 @@ ghost use Rattle.std.specs.Prelude.{◌≡◌, IfOk, codes};
 ghost use Rattle.serde_json.specs.Data.{Members, put as with_member};
 ghost use Rattle.serde_json.specs.View.{view, members_view};
 ghost use Rattle.goo_notice_json.specs.Lot.{is_other as other_test, lot_data};
-ghost use Rattle.goo_desk_shown.specs.Certificates.{act_of as act_stated};
-ghost use Rattle.goo_desk_shown.specs.Certificates.{place_word as word_stated, certificate_data};
-ghost use Rattle.goo_desk_shown.specs.Certificates.{certificate_text as text_stated};
+ghost use Rattle.goo_desk_counter.specs.Certificates.{act_of as act_stated};
+ghost use Rattle.goo_desk_counter.specs.Certificates.{place_word as word_stated, certificate_data};
+ghost use Rattle.goo_desk_counter.specs.Certificates.{certificate_text as text_stated};
 
 use goo_notice_json::carriers::is_other;
 use goo_notice_json::lot_value::lot_value;
@@ -91,7 +91,7 @@ fn certificate_value(
 ///
 /// Where an allocation is refused.
 #[tactic(auto, unfolding(crate::specs::Certificates::certificate_text))]
-pub fn certificate_text(
+pub(crate) fn certificate_text(
     alloc: Global,
     number: Number,
     lot: &Lot,

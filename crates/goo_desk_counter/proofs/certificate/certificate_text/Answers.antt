@@ -1,9 +1,9 @@
 use Rattle.std.proofs.Common.{ap, ◌∙◌}
 use Rattle.std.proofs.lemmas.Result.{IfOk-weaker}
 use Rattle.serde_json.specs.Written.{has_float, compact_text}
-use Rattle.goo_desk_shown.specs.Certificates.{certificate_text}
-use Rattle.goo_desk_shown.proofs.CertificateLemmas.{no_float}
-use Rattle.goo_desk_shown.proofs.certificate.certificate_text.Goals as goal
+use Rattle.goo_desk_counter.specs.Certificates.{certificate_text}
+use Rattle.goo_desk_counter.proofs.CertificateLemmas.{no_float}
+use Rattle.goo_desk_counter.proofs.certificate.certificate_text.Goals as goal
 
 pub returns : goal.returns
 unfolding certificate_text

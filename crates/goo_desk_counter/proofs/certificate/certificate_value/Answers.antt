@@ -1,5 +1,5 @@
-use Rattle.goo_desk_shown.specs.Certificates.{certificate_data}
-use Rattle.goo_desk_shown.proofs.certificate.certificate_value.Goals as goal
+use Rattle.goo_desk_counter.specs.Certificates.{certificate_data}
+use Rattle.goo_desk_counter.proofs.certificate.certificate_value.Goals as goal
 
 pub returns : goal.returns
 unfolding certificate_data
