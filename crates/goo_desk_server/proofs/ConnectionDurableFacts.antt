@@ -11,9 +11,9 @@ use Rattle.goo_desk_counter.specs.Counters.{Showing, Importing}
 use Rattle.goo_desk_answers.specs.Brought.{AreLeft, FindsLeft}
 use Rattle.goo_desk_answers.specs.Responds.{Responds}
 use Rattle.goo_desk_answers.proofs.DurableFacts.{nothing_left}
-use Rattle.goo_desk_connection.specs.Durable.{FindsHeard, SendsFound}
-use Rattle.goo_desk_connection.specs.Reading.{StandsFor}
-use Rattle.goo_desk_connection.specs.Serving.{IsApology}
+use Rattle.goo_desk_server.specs.ConnectionDurable.{FindsHeard, SendsFound}
+use Rattle.goo_desk_server.specs.Reading.{StandsFor}
+use Rattle.goo_desk_server.specs.ConnectionServed.{IsApology}
 
 keeps-same : (w : Option (List ℕ)) → Keeps w w
 keeps-same None = tt

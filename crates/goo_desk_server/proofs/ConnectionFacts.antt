@@ -11,9 +11,9 @@ use Rattle.goo_desk_responses.specs.declared.status.Status.{Status}
 use Rattle.goo_desk_responses.specs.declared.status.Status.TheVariants.{Unavailable}
 use Rattle.goo_desk_counter.specs.Counters.{Showing, Importing, Beginning}
 use Rattle.goo_desk_answers.specs.Responds.{Responds, Fails}
-use Rattle.goo_desk_connection.specs.declared.sending.Served.{Served}
-use Rattle.goo_desk_connection.specs.Reading.{StandsFor}
-use Rattle.goo_desk_connection.specs.Serving.{Connects, IsApology, IsServed, Leaves, Sends, SendsPart, SendsExcuse}
+use Rattle.goo_desk_server.specs.declared.connection.Served.{Served}
+use Rattle.goo_desk_server.specs.Reading.{StandsFor}
+use Rattle.goo_desk_server.specs.ConnectionServed.{Connects, IsApology, IsServed, Leaves, Sends, SendsPart, SendsExcuse}
 
 pub on-any-err : {T E : Type 0} (r : Result T E) (P : E → Type 0) → ((e : E) → P e) → IfErr r P
 on-any-err (Ok x) P p = tt

@@ -2,8 +2,8 @@
 use Rattle.std.specs.Prelude.{◌≡◌, ℕ, Result, Ok, Err}
 use Rattle.goo_files_streams.specs.declared.InputFault.{InputFault}
 use Rattle.goo_files_streams.specs.declared.InputFault.TheVariants as reading
-use Rattle.goo_desk_connection.specs.declared.serve_fault.ServeFault.{ServeFault}
-use Rattle.goo_desk_connection.specs.declared.serve_fault.ServeFault.TheVariants.{Read, Write, Store, Memory}
+use Rattle.goo_desk_server.specs.declared.serve_fault.ServeFault.{ServeFault}
+use Rattle.goo_desk_server.specs.declared.serve_fault.ServeFault.TheVariants.{Read, Write, Store, Memory}
 
 abbrev pub of_reading : InputFault → ServeFault
 of_reading reading.Read = Read

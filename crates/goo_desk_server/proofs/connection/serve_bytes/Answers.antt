@@ -1,7 +1,7 @@
-use Rattle.goo_desk_connection.proofs.ServeFacts.{answered-leaves, excused-leaves, on-any-err, part-answered, part-excused, all-excused, excuse-sent}
+use Rattle.goo_desk_server.proofs.ConnectionFacts.{answered-leaves, excused-leaves, on-any-err, part-answered, part-excused, all-excused, excuse-sent}
 use Rattle.goo_files_streams.proofs.AppendsFacts.{prefix-whole}
-use Rattle.goo_desk_connection.proofs.DurableFacts.{answer-found, either-excuse, excuse-found}
-use Rattle.goo_desk_connection.proofs.serving.serve_bytes.Goals as goal
+use Rattle.goo_desk_server.proofs.ConnectionDurableFacts.{answer-found, either-excuse, excuse-found}
+use Rattle.goo_desk_server.proofs.connection.serve_bytes.Goals as goal
 
 pub returns-in_err-write_whole-in-Ok-clause-part : goal.returns-in_err-write_whole-in-Ok-clause-part
 returns-in_err-write_whole-in-Ok-clause-part g c =

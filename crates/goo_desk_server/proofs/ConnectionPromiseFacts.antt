@@ -12,10 +12,10 @@ use Rattle.goo_desk_counter.specs.Tables.{ImportsAreRuns}
 use Rattle.goo_desk_answers.specs.Brought.{AreLeft}
 use Rattle.goo_desk_answers.proofs.BroughtFacts.{Leads, responds_lead, fails_lead}
 use Rattle.goo_files_streams.specs.Streams.{IsWholeOf}
-use Rattle.goo_desk_connection.specs.Promised.{KeepsPromise}
-use Rattle.goo_desk_connection.specs.Reading.{StandsFor}
-use Rattle.goo_desk_connection.specs.Serving.{Connects, IsServed, Leaves}
-use Rattle.goo_desk_connection.proofs.ServeFacts.{served-stands}
+use Rattle.goo_desk_server.specs.ConnectionPromised.{KeepsPromise}
+use Rattle.goo_desk_server.specs.Reading.{StandsFor}
+use Rattle.goo_desk_server.specs.ConnectionServed.{Connects, IsServed, Leaves}
+use Rattle.goo_desk_server.proofs.ConnectionFacts.{served-stands}
 
 module _ (shows : Showing) (imports : Importing) (begins : Beginning) (runs : ImportsAreRuns imports begins) where
   served_leads : (s : State) (bytes : List ℕ) (status : Status) (text : List ℕ) (new : Seen) → new.lies ≡ 0 → new.doubts ≡ 0 → IsServed shows imports begins s bytes status text new → Leads (AreLeft bytes) s new.state

@@ -1,8 +1,8 @@
-use Rattle.goo_desk_connection.specs.declared.serve_fault.ServeFault.TheVariants.{Write, Store}
-use Rattle.goo_desk_connection.proofs.ServeFacts.{bytes-connect, none-connect, sends-stands, part-stands, excuse-stands}
-use Rattle.goo_desk_connection.proofs.PromiseFacts.{leaves_promised, none_promised}
-use Rattle.goo_desk_connection.proofs.DurableFacts.{all-found, heard_found, none-sent, none_heard}
-use Rattle.goo_desk_connection.proofs.serving.serve_by_routes.Goals as goal
+use Rattle.goo_desk_server.specs.declared.serve_fault.ServeFault.TheVariants.{Write, Store}
+use Rattle.goo_desk_server.proofs.ConnectionFacts.{bytes-connect, none-connect, sends-stands, part-stands, excuse-stands}
+use Rattle.goo_desk_server.proofs.ConnectionPromiseFacts.{leaves_promised, none_promised}
+use Rattle.goo_desk_server.proofs.ConnectionDurableFacts.{all-found, heard_found, none-sent, none_heard}
+use Rattle.goo_desk_server.proofs.connection.serve_by_routes.Goals as goal
 
 pub returns-clause-served : goal.returns-clause-served
 returns-clause-served g c =

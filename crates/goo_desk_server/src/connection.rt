@@ -2,19 +2,19 @@
 ghost use Rattle.std.specs.Prelude.{◌≡◌, IfOk, IfErr, IfSome};
 ghost use Rattle.std.specs.Io.KnownBytes.{Keeps};
 ghost use Rattle.goo_desk_answers.specs.Brought.{FindsLeft};
-ghost use Rattle.goo_desk_connection.specs.Durable.{FindsHeard, SendsFound};
-ghost use Rattle.goo_desk_connection.specs.Serving.{Connects, Leaves, Sends, SendsPart};
-ghost use Rattle.goo_desk_connection.specs.Serving.{SendsExcuse};
+ghost use Rattle.goo_desk_server.specs.ConnectionDurable.{FindsHeard, SendsFound};
+ghost use Rattle.goo_desk_server.specs.ConnectionServed.{Connects, Leaves, Sends, SendsPart};
+ghost use Rattle.goo_desk_server.specs.ConnectionServed.{SendsExcuse};
 ghost use Rattle.goo_registry_desk.specs.Desk.{StaysSure};
 ghost use Rattle.goo_spec.specs.Sound.{IsSound};
 ghost use Rattle.goo_desk_counter.specs.Tables.{ImportsAreRuns};
-ghost use Rattle.goo_desk_connection.specs.Promised.{KeepsPromise};
-ghost use Rattle.goo_desk_connection.specs.Faults.{IsAfterReading, IsBeforeAnswer, IsToldIn};
-ghost use Rattle.goo_desk_connection.specs.declared.serve_fault.ServeFault.TheVariants.{Write as Writing};
-ghost use Rattle.goo_desk_connection.specs.declared.serve_fault.ServeFault.TheVariants.{Store};
+ghost use Rattle.goo_desk_server.specs.ConnectionPromised.{KeepsPromise};
+ghost use Rattle.goo_desk_server.specs.ConnectionFaults.{IsAfterReading, IsBeforeAnswer, IsToldIn};
+ghost use Rattle.goo_desk_server.specs.declared.serve_fault.ServeFault.TheVariants.{Write as Writing};
+ghost use Rattle.goo_desk_server.specs.declared.serve_fault.ServeFault.TheVariants.{Store};
 
+use crate::apology::apology;
 use crate::reading::read_decided;
-use crate::sending::{Served, apology};
 use crate::serve_fault::ServeFault;
 use goo_desk_answers::answer_by_routes;
 use goo_desk_counter::Counter;
@@ -24,6 +24,13 @@ use goo_files_streams::write_whole;
 use goo_types::fault::Fault;
 use std::alloc::Global;
 use std::io::{Read, Write};
+
+/// A connection that was answered.
+#[derive(Debug, Clone, Copy, PartialEq, Eq, Drop)]
+pub struct Served {
+    /// The status that was answered.
+    pub status: Status,
+}
 
 /// Answers these bytes.
 fn serve_bytes<D: Counter, W: Write>(

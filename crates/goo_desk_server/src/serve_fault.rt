@@ -1,6 +1,6 @@
 ghost use Rattle.std.specs.Prelude.{◌≡◌};
-ghost use Rattle.goo_desk_connection.specs.Faults.{of_reading};
-ghost use Rattle.goo_desk_connection.specs.declared.serve_fault.ServeFault.TheVariants.{Write};
+ghost use Rattle.goo_desk_server.specs.ConnectionFaults.{of_reading};
+ghost use Rattle.goo_desk_server.specs.declared.serve_fault.ServeFault.TheVariants.{Write};
 
 use goo_files_streams::{InputFault, WriteFault};
 

@@ -1,18 +1,11 @@
-//! Sending what is answered.
+//! What is sent in place of an answer after a fault.
 ghost use Rattle.std.specs.Prelude.{◌≡◌};
 ghost use Rattle.goo_desk_heads.specs.Requests.{seen as parts_seen};
-ghost use Rattle.goo_desk_connection.specs.Serving.{asks_for_head as asks_stated, IsApology};
+ghost use Rattle.goo_desk_server.specs.ConnectionServed.{asks_for_head as asks_stated, IsApology};
 
 use arrayvec::ArrayString;
 use goo_desk_heads::{Received, RefusedHead, is_for_head, read_request};
 use goo_desk_responses::{ROOM, Status, fixed_response};
-
-/// A connection that was answered.
-#[derive(Debug, Clone, Copy, PartialEq, Eq, Drop)]
-pub struct Served {
-    /// The status that was answered.
-    pub status: Status,
-}
 
 /// Whether a head alone is asked for.
 fn asks_for_head(request: &Result<Received<'_>, RefusedHead>) -> bool

@@ -1,6 +1,6 @@
 //! Reading a request until it is decided.
 ghost use Rattle.std.specs.Prelude.{◌≡◌, ◌<◌, ◌≤◌, ◌+◌, length, IfNone, IfOk, IfSome};
-ghost use Rattle.goo_desk_connection.specs.Reading.{StandsFor};
+ghost use Rattle.goo_desk_server.specs.Reading.{StandsFor};
 ghost use Rattle.goo_desk_heads.specs.Fields.{most_body};
 ghost use Rattle.goo_desk_heads.specs.Heads.{most_head};
 ghost use Rattle.goo_desk_heads.specs.Requests.{IsSure};

@@ -8,7 +8,7 @@ use Rattle.goo_desk_responses.specs.declared.status.Status.{Status}
 use Rattle.goo_desk_counter.specs.Counters.{Showing, Importing}
 use Rattle.goo_desk_answers.specs.Brought.{FindsLeft}
 use Rattle.goo_desk_answers.specs.Responds.{Responds}
-use Rattle.goo_desk_connection.specs.Serving.{IsApology}
+use Rattle.goo_desk_server.specs.ConnectionServed.{IsApology}
 
 module _ (shows : Showing) (imports : Importing) (s : State) (bytes : List ℕ) (new : State) (had has : Option (List ℕ)) (leaves : Option State → Type 0) where
   -- a beginning of the right answer is written, and a crash finds the state that it leaves

@@ -1,6 +1,6 @@
 use Rattle.std.proofs.Common.{rules, ◌≡◌}
-use Rattle.goo_desk_connection.proofs.ServeFacts.{sure-stands, whole-stands, read-nothing}
-use Rattle.goo_desk_connection.proofs.reading.read_decided.Goals as goal
+use Rattle.goo_desk_server.proofs.ConnectionFacts.{sure-stands, whole-stands, read-nothing}
+use Rattle.goo_desk_server.proofs.reading.read_decided.Goals as goal
 
 pub returns : goal.returns
 returns g c =
