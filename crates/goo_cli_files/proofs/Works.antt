@@ -22,7 +22,7 @@ use Rattle.goo_cli_registry.specs.declared.closing.Left.TheVariants.{Parts, Refu
 use Rattle.goo_cli_texts.specs.Declaring.{IsDeclared}
 use Rattle.goo_cli_texts.specs.Promised as rows
 use Rattle.goo_cli_ending.specs.Promised as answer
-use Rattle.goo_cli_http.specs.Endings.{IsCounted, listening_text}
+use Rattle.goo_cli_files.specs.ServerEndings.{IsCounted, listening_text}
 use Rattle.goo_desk_server.specs.Runs as serving
 use Rattle.goo_desk_lines.specs.Fold.{lines}
 use Rattle.goo_cli_ending.specs.Endings.{status_of}

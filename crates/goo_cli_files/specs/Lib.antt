@@ -3,3 +3,5 @@ pub mod Works
 pub mod Stopped
 pub mod MemoryWorks
 pub mod Durable
+pub mod ServerEndings
+pub mod ServingDurable

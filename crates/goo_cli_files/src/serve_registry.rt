@@ -1,4 +1,4 @@
-//! A registry served over HTTP on 127.0.0.1.
+//! A registry over any shelf, served over HTTP.
 ghost use Rattle.std.specs.Prelude.{◌≡◌, ◌≢◌};
 ghost use Rattle.std.specs.Io.Buffered.{writer_contents};
 ghost use Rattle.std.specs.Io.KnownBytes.{Appends};
@@ -6,8 +6,8 @@ ghost use Rattle.goo_cli_ending.specs.Endings.{status_of};
 ghost use Rattle.goo_spec.specs.Sound.{IsSound};
 ghost use Rattle.goo_desk_server.specs.Runs.{KeepsPromise};
 ghost use Rattle.goo_registry.specs.Desks.{seen_of};
-ghost use Rattle.goo_cli_http.specs.Durable.{FindsServed};
-ghost use Rattle.goo_cli_http.specs.Endings.{ending_of_server, IsCounted, listening_text};
+ghost use Rattle.goo_cli_files.specs.ServingDurable.{FindsServed};
+ghost use Rattle.goo_cli_files.specs.ServerEndings.{ending_of_server, IsCounted, listening_text};
 
 use goo_cli::Serving;
 use goo_cli_ending::{Ending, Failure};
@@ -43,7 +43,7 @@ fn ending_of(served: Result<(), ServerFault>) -> Ending
 /// - `lied`: what keeps the records returned what was written before, where it did so to the end.
 /// - `found`: however it ends, a crash finds what the connections leave; of the last one's requests
 ///   perhaps those alone that stand after a fault.
-pub fn serve_registry<S: Shelf, L: Listener, W: Write + Drop>(
+pub(crate) fn serve_registry<S: Shelf, L: Listener, W: Write + Drop>(
     alloc: Global,
     registry: &mut Registry<S>,
     serving: Serving,

@@ -4,8 +4,8 @@ use Rattle.goo_desk_counter.proofs.TableFacts.{imports_are_runs}
 use Rattle.goo_desk_server.proofs.Connecting.{no_steps}
 use Rattle.goo_desk_server.proofs.Running.{steps_promised}
 use Rattle.goo_desk_server.proofs.Finding.{none_served}
-use Rattle.goo_cli_http.proofs.Served.{counted_from, found_from, kept_from, none_counted}
-use Rattle.goo_cli_http.proofs.serving.serve_registry.Goals as goal
+use Rattle.goo_cli_files.proofs.Served.{counted_from, found_from, kept_from, none_counted}
+use Rattle.goo_cli_files.proofs.serve_registry.serve_registry.Goals as goal
 
 pub returns-clause-promised : goal.returns-clause-promised
 returns-clause-promised g c sound honest sure =

@@ -6,8 +6,8 @@ use Rattle.goo_cli_ending.specs.declared.ending.Ending.{Ending}
 use Rattle.goo_cli_ending.specs.declared.ending.Ending.TheVariants.{Failed}
 use Rattle.goo_cli_ending.specs.declared.ending.Failure.{Failure}
 use Rattle.goo_registry_desk.specs.Desk.{Seen}
-use Rattle.goo_cli_http.specs.Durable.{FindsServed, FindsTo}
-use Rattle.goo_cli_http.specs.Endings.{ending_of_server, IsCounted}
+use Rattle.goo_cli_files.specs.ServingDurable.{FindsServed, FindsTo}
+use Rattle.goo_cli_files.specs.ServerEndings.{ending_of_server, IsCounted}
 use Rattle.goo_desk_server.specs.Runs.{KeepsPromise}
 use Rattle.goo_desk_server.specs.Durable.{FindsAfter}
 use Rattle.goo_desk_counter.specs.Showing.{begun_by, imported_by, shown_by}
