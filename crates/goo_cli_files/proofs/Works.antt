@@ -28,7 +28,7 @@ use Rattle.goo_desk_lines.specs.Fold.{lines}
 use Rattle.goo_cli_ending.specs.Endings.{status_of}
 use Rattle.goo_cli_files.specs.Imports.{DeclaredIn}
 use Rattle.goo_cli_files.specs.Durable.{FindsConnections, FindsImported}
-use Rattle.goo_cli_files.specs.Stopped as stopping
+use Rattle.goo_cli_files.specs.StoppedImports as stopping
 use Rattle.goo_cli_files.specs.Works.{AreAnswered, AreImported, IsAudited, IsServed, IsStated}
 
 pub wrote_begun : (right : State → List ℕ → Type 0) (had has : Option (List ℕ)) (seen begun : State) → seen ≡ begun → Wrote had has (right seen) → Wrote had has (right begun)

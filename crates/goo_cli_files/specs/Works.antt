@@ -21,7 +21,7 @@ use Rattle.goo_cli_files.specs.ServerEndings.{IsCounted, listening_text}
 use Rattle.goo_cli_files.specs.Durable.{FindsConnections, FindsImported}
 use Rattle.goo_cli_files.specs.Imports.{DeclaredIn}
 use Rattle.goo_cli_files.specs.MemoryWorks.{asked_in_memory}
-use Rattle.goo_cli_files.specs.Stopped as rows
+use Rattle.goo_cli_files.specs.StoppedImports as rows
 use Rattle.goo_cli_files.specs.declared.work.Job.{Job}
 use Rattle.goo_cli_files.specs.declared.work.Job.TheVariants as job
 use Rattle.goo_cli_files.specs.declared.work.Work.{Work}

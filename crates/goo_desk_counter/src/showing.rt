@@ -8,7 +8,7 @@ ghost use Rattle.goo_desk_routes.specs.declared.task.Subject.TheVariants.{Cancel
 ghost use Rattle.goo_desk_routes.specs.declared.task.Subject.TheVariants.{Notice as SentNotice};
 ghost use Rattle.goo_desk_routes.specs.declared.task.Subject.TheVariants.{Audit};
 ghost use Rattle.goo_desk_counter.specs.Counters.{Shows};
-ghost use Rattle.goo_desk_counter.specs.Made.{shown_as};
+ghost use Rattle.goo_desk_counter.specs.Results.{shown_as};
 ghost use Rattle.goo_desk_counter.specs.Showing.{shown_by};
 
 use crate::certificate::certificate_text;

@@ -16,7 +16,7 @@ ghost use Rattle.goo_cli_registry.specs.Stopped.{IfOpened};
 ghost use Rattle.goo_cli_texts.specs.Promised.{KeepsPromise};
 ghost use Rattle.goo_cli_files.specs.Durable.{FindsImported};
 ghost use Rattle.goo_cli_files.specs.Imports.{DeclaredIn};
-ghost use Rattle.goo_cli_files.specs.Stopped.{HoldsStopped};
+ghost use Rattle.goo_cli_files.specs.StoppedImports.{HoldsStopped};
 
 use goo_cli_ending::Ending;
 use goo_cli_registry::closing::{Left, close_registry};

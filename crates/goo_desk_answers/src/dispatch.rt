@@ -1,4 +1,4 @@
-//! The answer to all the bytes of a stream.
+//! The answer to all the bytes of a stream: the request that they are goes to what answers it.
 ghost use Rattle.std.specs.Prelude.{◌≡◌, ◌⊎◌, IfOk, OnErr, OnOk};
 ghost use Rattle.goo_desk_heads.specs.Requests.{seen as parts_seen, parts_of};
 ghost use Rattle.goo_desk_responses.specs.Responses.{response_text, fixed};

@@ -1,5 +1,5 @@
 use Rattle.goo_desk_answers.proofs.DurableFacts.{applied_led}
-use Rattle.goo_desk_answers.proofs.desk.answer_task.Goals as goal
+use Rattle.goo_desk_answers.proofs.dispatch.answer_task.Goals as goal
 
 pub returns-in-Apply-clause-crash : goal.returns-in-Apply-clause-crash
 returns-in-Apply-clause-crash g c runs lies sure =

@@ -11,7 +11,7 @@ use Rattle.goo_cli_registry.specs.Finds.{FindsRight, IfParts}
 use Rattle.goo_cli_files.proofs.DurableLemmas.{rows_found}
 use Rattle.goo_cli_files.proofs.Stopping.{rows_stopped}
 use Rattle.goo_cli_files.proofs.Works.{declared_begun, not_refused, rows_promised, undeclared, unopened}
-use Rattle.goo_cli_files.proofs.in_files.declare_in_files.Goals as goal
+use Rattle.goo_cli_files.proofs.texts.declare_in_files.Goals as goal
 
 keeps : goal.returns-in-Ok-clause-promised
 keeps g c = λ clean db holds.
