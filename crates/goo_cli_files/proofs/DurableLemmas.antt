@@ -7,8 +7,8 @@ use Rattle.goo_spec.specs.State.{State}
 use Rattle.goo_core_shelf.specs.Shelf.{Moment}
 use Rattle.goo_registry.specs.Desks.{seen_of}
 use Rattle.goo_registry_desk.specs.Desk.{Seen}
-use Rattle.goo_cli_http.specs.Durable.{FindsServed}
-use Rattle.goo_cli_http.proofs.Served.{found_to}
+use Rattle.goo_cli_files.specs.ServingDurable.{FindsServed}
+use Rattle.goo_cli_files.proofs.Served.{found_to}
 use Rattle.goo_cli_registry.specs.Closings.{HoldState, IfWhole}
 use Rattle.goo_cli_registry.specs.Finds.{FindsRight, IfParts}
 use Rattle.goo_cli_registry.specs.Stopped.{IfOpened}

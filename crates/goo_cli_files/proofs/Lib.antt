@@ -1,3 +1,4 @@
+mod Served
 mod Works
 mod Stopping
 mod MemoryLemmas

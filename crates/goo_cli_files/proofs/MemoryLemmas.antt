@@ -7,7 +7,7 @@ use Rattle.goo_desk_lines.specs.Fold.{lines}
 use Rattle.goo_cli_ending.specs.declared.ending.Ending.{Ending}
 use Rattle.goo_cli_ending.specs.Endings.{status_of}
 use Rattle.goo_cli_ending.specs.Promised.{KeepsPromise}
-use Rattle.goo_cli_http.specs.Endings.{IsCounted, listening_text}
+use Rattle.goo_cli_files.specs.ServerEndings.{IsCounted, listening_text}
 use Rattle.goo_cli_files.specs.MemoryWorks.{AreAnsweredInMemory, IsServedInMemory}
 
 module _ (s : State) (read had has : Option (List ℕ)) (told : Ending) where

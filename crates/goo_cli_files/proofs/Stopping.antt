@@ -16,7 +16,7 @@ use Rattle.goo_cli_registry.specs.declared.closing.Left.{Left}
 use Rattle.goo_cli_registry.specs.declared.closing.Left.TheVariants.{Parts, Refused, Whole}
 use Rattle.goo_cli_registry.proofs.Finding.{kept_has}
 use Rattle.goo_cli_texts.specs.Stopped.{IsStopped, NoneStand, RowsStand}
-use Rattle.goo_cli_files.specs.Stopped.{HoldsNone, HoldsRows, HoldsStopped}
+use Rattle.goo_cli_files.specs.StoppedImports.{HoldsNone, HoldsRows, HoldsStopped}
 
 -- what was copied into the database file is in no doubt
 held_as : {D : Type 0} {g : Ghosts D} (rest : Left D g) (new t : State) (doubts : ℕ) → (doubts ≡ 0 → new ≡ t) → IfWhole rest (λ files. HoldState g files new)

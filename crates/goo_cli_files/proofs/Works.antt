@@ -22,13 +22,13 @@ use Rattle.goo_cli_registry.specs.declared.closing.Left.TheVariants.{Parts, Refu
 use Rattle.goo_cli_texts.specs.Declaring.{IsDeclared}
 use Rattle.goo_cli_texts.specs.Promised as rows
 use Rattle.goo_cli_ending.specs.Promised as answer
-use Rattle.goo_cli_http.specs.Endings.{IsCounted, listening_text}
+use Rattle.goo_cli_files.specs.ServerEndings.{IsCounted, listening_text}
 use Rattle.goo_desk_server.specs.Runs as serving
 use Rattle.goo_desk_lines.specs.Fold.{lines}
 use Rattle.goo_cli_ending.specs.Endings.{status_of}
 use Rattle.goo_cli_files.specs.Imports.{DeclaredIn}
 use Rattle.goo_cli_files.specs.Durable.{FindsConnections, FindsImported}
-use Rattle.goo_cli_files.specs.Stopped as stopping
+use Rattle.goo_cli_files.specs.StoppedImports as stopping
 use Rattle.goo_cli_files.specs.Works.{AreAnswered, AreImported, IsAudited, IsServed, IsStated}
 
 pub wrote_begun : (right : State → List ℕ → Type 0) (had has : Option (List ℕ)) (seen begun : State) → seen ≡ begun → Wrote had has (right seen) → Wrote had has (right begun)

@@ -1,5 +1,7 @@
 pub mod Imports
 pub mod Works
-pub mod Stopped
+pub mod StoppedImports
 pub mod MemoryWorks
 pub mod Durable
+pub mod ServerEndings
+pub mod ServingDurable

@@ -8,7 +8,7 @@ use Rattle.goo_cli.specs.declared.task.Opening.{Opening}
 use Rattle.goo_cli_ending.specs.declared.ending.Ending.{Ending}
 use Rattle.goo_cli_ending.specs.Endings.{status_of}
 use Rattle.goo_cli_ending.specs.Promised.{KeepsPromise}
-use Rattle.goo_cli_http.specs.Endings.{IsCounted, listening_text}
+use Rattle.goo_cli_files.specs.ServerEndings.{IsCounted, listening_text}
 use Rattle.goo_cli_files.specs.declared.memory_work.MemoryWork.{MemoryWork}
 use Rattle.goo_cli_files.specs.declared.memory_work.MemoryWork.TheVariants as work
 

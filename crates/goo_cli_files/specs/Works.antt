@@ -17,11 +17,11 @@ use Rattle.goo_cli_registry.specs.Closings.{HoldState, HoldsSome, IfWhole}
 use Rattle.goo_cli_registry.specs.Finds.{HasState, IfParts}
 use Rattle.goo_cli_registry.specs.Durable.{FindsAcknowledged}
 use Rattle.goo_cli_registry.specs.Stopped.{HoldsStopped, IfOpened}
-use Rattle.goo_cli_http.specs.Endings.{IsCounted, listening_text}
+use Rattle.goo_cli_files.specs.ServerEndings.{IsCounted, listening_text}
 use Rattle.goo_cli_files.specs.Durable.{FindsConnections, FindsImported}
 use Rattle.goo_cli_files.specs.Imports.{DeclaredIn}
 use Rattle.goo_cli_files.specs.MemoryWorks.{asked_in_memory}
-use Rattle.goo_cli_files.specs.Stopped as rows
+use Rattle.goo_cli_files.specs.StoppedImports as rows
 use Rattle.goo_cli_files.specs.declared.work.Job.{Job}
 use Rattle.goo_cli_files.specs.declared.work.Job.TheVariants as job
 use Rattle.goo_cli_files.specs.declared.work.Work.{Work}

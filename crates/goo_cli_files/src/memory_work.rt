@@ -7,8 +7,8 @@ ghost use Rattle.goo_cli_files.specs.MemoryWorks.{IsWorkedInMemory};
 use crate::serving::serve_in_memory;
 use goo_cli::{Opening, Serving};
 use goo_cli_ending::Ending;
-use goo_cli_http::LocalListener;
 use goo_cli_registry::running::run_in_memory;
+use goo_desk_server::LocalListener;
 use std::alloc::Global;
 use std::io::{BufWriter, Read, Write};
 

@@ -8,16 +8,16 @@ ghost use Rattle.goo_cli.specs.Asked.{asked_by};
 ghost use Rattle.goo_cli_registry.specs.Closings.{HasSpareLog, IfRefused, IsClean, LeavesRegistry};
 ghost use Rattle.goo_cli_files.specs.Works.{asked_for, IsWorked};
 
-use crate::in_files::{audit_in_files, declare_in_files, statement_in_files};
 use crate::memory_work::MemoryWork;
 use crate::serving::serve_in_files;
+use crate::texts::{audit_in_files, declare_in_files, statement_in_files};
 use goo_cli::{Invocation, Opening, Records, Serving};
 use goo_cli_ending::Ending;
-use goo_cli_http::Listener;
 use goo_cli_registry::closing::Left;
 use goo_cli_registry::renewal_line::RenewalLine;
 use goo_cli_registry::running::run_in_files;
 use goo_cli_texts::ProgressLine;
+use goo_desk_server::Listener;
 use goo_types::account_no::AccountNo;
 use sqlite::Files;
 use sqlite_disk::Disk;

@@ -17,7 +17,7 @@ use Rattle.goo_desk_answers.specs.Handling.{handling_of}
 use Rattle.goo_desk_answers.specs.Responds.{Does, Handles, RespondsTo, show_response}
 use Rattle.goo_desk_answers.specs.declared.handling.Handling.{Handling}
 use Rattle.goo_desk_answers.specs.declared.handling.Handling.TheVariants.{Own}
-use Rattle.goo_desk_connection.specs.Serving.{asks_for_head, IsServed}
+use Rattle.goo_desk_server.specs.ConnectionServed.{asks_for_head, IsServed}
 use Rattle.goo_desk.specs.Denied.{IsDeniedTo, TellsNothing, DeniedSeeNothing}
 
 does_tell : (s after : State) (caller body : List ℕ) (parts : Parts) (subject : Subject) (why : Denial) (status : Status) (text : List ℕ) → shown_by s caller subject (Err why)

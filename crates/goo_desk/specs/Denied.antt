@@ -13,7 +13,7 @@ use Rattle.goo_desk_counter.specs.Showing.{shown_by, imported_by, begun_by}
 use Rattle.goo_desk_answers.specs.Handling.{handling_of}
 use Rattle.goo_desk_answers.specs.Responds.{status_of_denial}
 use Rattle.goo_desk_answers.specs.declared.handling.Handling.TheVariants.{Own}
-use Rattle.goo_desk_connection.specs.Serving.{IsServed}
+use Rattle.goo_desk_server.specs.ConnectionServed.{IsServed}
 
 -- these bytes ask a registry in this state for a subject that its caller is denied
 pub record IsDeniedTo (s : State) (bytes : List ℕ) (parts : Parts) (why : Denial) : Type 0 where

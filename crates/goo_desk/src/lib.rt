@@ -11,10 +11,11 @@ mod law;
 
 pub use goo_desk_answers::answer;
 pub use goo_desk_body::{BodyFault, read_command};
-pub use goo_desk_connection::{ServeFault, Served, serve_one};
 pub use goo_desk_counter::Counter;
 pub use goo_desk_lines::{LinesFault, Tally, lines_are_a_run, run_lines};
 pub use goo_desk_responses::Status;
 pub use goo_desk_routes::Routes;
-pub use goo_desk_server::{Listener, LocalListener, ServerFault, serve};
+pub use goo_desk_server::{
+    Listener, LocalListener, ServeFault, Served, ServerFault, serve, serve_one,
+};
 pub use law::{connections_are_a_run, denied_see_nothing, one_response};

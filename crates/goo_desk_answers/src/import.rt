@@ -8,7 +8,7 @@ ghost use Rattle.goo_desk_answers.specs.Responds.{Does, Stopped, IsGiven, import
 ghost use Rattle.goo_desk_routes.specs.declared.task.Task.TheVariants.{Import};
 
 use crate::answered::Answer;
-use crate::desk::answer_fixed;
+use crate::dispatch::answer_fixed;
 use goo_desk_counter::{Counter, Imported};
 use goo_desk_responses::{Content, Status, long_response};
 use goo_types::fault::Fault;

@@ -3,15 +3,15 @@
 //! The response is a function of the bytes and of what the registry knows: ten cases, the first of
 //! which that holds answers. Four go by the head of the request (`goo_desk_heads`) and one by its
 //! body having come; four by its target, its method and its caller (`handling`); the last is the
-//! route's own answer (`own`).
+//! route's own answer (`apply`, `import`, `show`).
 #![tactic(auto)]
 
 pub mod answered;
 mod apply;
-mod desk;
+mod dispatch;
 mod handling;
 mod import;
 mod show;
 
-pub use desk::{answer, answer_by_routes};
+pub use dispatch::{answer, answer_by_routes};
 pub use handling::Handling;

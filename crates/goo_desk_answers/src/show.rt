@@ -9,7 +9,7 @@ ghost use Rattle.goo_desk_answers.specs.Responds.{status_of_denial, show_respons
 ghost use Rattle.goo_desk_routes.specs.declared.task.Task.TheVariants.{Show};
 
 use crate::answered::Answer;
-use crate::desk::answer_fixed;
+use crate::dispatch::answer_fixed;
 use goo_core_answers::denial::Denial;
 use goo_desk_counter::{Counter, Shown};
 use goo_desk_responses::{Content, Status, long_response};

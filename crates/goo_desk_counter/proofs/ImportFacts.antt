@@ -11,7 +11,7 @@ use Rattle.goo_files_import.specs.declared.cause.Cause.{Cause}
 use Rattle.goo_files_import.specs.declared.cause.Cause.TheVariants as cause
 use Rattle.goo_files_import.specs.declared.row_result.RowResult.{RowResult}
 use Rattle.goo_desk_counter.specs.Counters.{Imports, report_of}
-use Rattle.goo_desk_counter.specs.Made.{stopped_as}
+use Rattle.goo_desk_counter.specs.Results.{stopped_as}
 use Rattle.goo_desk_counter.specs.Showing.{imported_by, begun_by}
 use Rattle.goo_desk_counter.specs.declared.counter.Imported.{Imported}
 

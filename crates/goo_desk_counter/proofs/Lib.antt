@@ -1,3 +1,4 @@
+pub mod CertificateLemmas
 pub mod ShowFacts
 pub mod ImportFacts
 pub mod OneShown

@@ -11,7 +11,7 @@ use Rattle.goo_files.specs.declared.text_fault.ShowFault.{ShowFault}
 use Rattle.goo_files.specs.declared.text_fault.ShowFault.TheVariants as fault
 use Rattle.goo_desk_routes.specs.declared.task.Subject.{Subject}
 use Rattle.goo_desk_counter.specs.Counters.{Shows}
-use Rattle.goo_desk_counter.specs.Made.{shown_as}
+use Rattle.goo_desk_counter.specs.Results.{shown_as}
 use Rattle.goo_desk_counter.specs.Showing.{shown_by, IsTextUnless}
 
 -- a registry's moments, as a desk's

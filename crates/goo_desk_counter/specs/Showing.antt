@@ -15,7 +15,7 @@ use Rattle.goo_files_import.specs.Table.{LacksHeader, AreRows, AreFirstRows}
 use Rattle.goo_files_import.specs.declared.row_result.RowResult.{RowResult}
 use Rattle.goo_desk_routes.specs.declared.task.Subject.{Subject}
 use Rattle.goo_desk_routes.specs.declared.task.Subject.TheVariants.{Statement, Certificate, Cancellation, Notice, Audit}
-use Rattle.goo_desk_shown.specs.Certificates.{certificate_text}
+use Rattle.goo_desk_counter.specs.Certificates.{certificate_text}
 
 abbrev pub certificate_as_text : ℕ → Result Label Denial → Result (List ℕ) Denial
 certificate_as_text n (Ok known) = Ok (certificate_text n known.0 known.1)

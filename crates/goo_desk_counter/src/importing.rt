@@ -5,7 +5,7 @@ ghost use Rattle.goo_registry.specs.Desks.{seen_of};
 ghost use Rattle.goo_files_import.specs.Report.{report_text};
 ghost use Rattle.goo_desk_counter.specs.Counters.{Imports, report_of};
 ghost use Rattle.goo_desk_counter.specs.Durable.{FindsAmong};
-ghost use Rattle.goo_desk_counter.specs.Made.{stopped_as};
+ghost use Rattle.goo_desk_counter.specs.Results.{stopped_as};
 ghost use Rattle.goo_desk_counter.specs.Showing.{imported_by, begun_by};
 
 use crate::counter::Imported;

@@ -8,14 +8,14 @@ ghost use Rattle.goo_desk_routes.specs.declared.task.Subject.TheVariants.{Cancel
 ghost use Rattle.goo_desk_routes.specs.declared.task.Subject.TheVariants.{Notice as SentNotice};
 ghost use Rattle.goo_desk_routes.specs.declared.task.Subject.TheVariants.{Audit};
 ghost use Rattle.goo_desk_counter.specs.Counters.{Shows};
-ghost use Rattle.goo_desk_counter.specs.Made.{shown_as};
+ghost use Rattle.goo_desk_counter.specs.Results.{shown_as};
 ghost use Rattle.goo_desk_counter.specs.Showing.{shown_by};
 
+use crate::certificate::certificate_text;
 use crate::counter::Shown;
 use goo_core_answers::denial::Denial;
 use goo_core_shelf::shelf::Shelf;
 use goo_desk_routes::Subject;
-use goo_desk_shown::certificate_text;
 use goo_files::{ShowFault, write_audit, write_cancellation, write_statement};
 use goo_notice_text::write;
 use goo_registry::{ReadFault, Registry};

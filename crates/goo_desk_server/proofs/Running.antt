@@ -17,7 +17,7 @@ use Rattle.goo_desk_counter.specs.Counters.{Showing, Importing, Beginning}
 use Rattle.goo_desk_counter.specs.Tables.{ImportsAreRuns}
 use Rattle.goo_desk_answers.specs.Brought.{AreLeft}
 use Rattle.goo_desk_answers.proofs.BroughtFacts.{Leads}
-use Rattle.goo_desk_connection.proofs.PromiseFacts.{connects_lead}
+use Rattle.goo_desk_server.proofs.ConnectionPromiseFacts.{connects_lead}
 use Rattle.goo_desk_server.specs.Runs.{AreHeard, Connection, requests_of, IsRunOf, StepsAreARun, KeepsPromise}
 use Rattle.goo_desk_server.specs.Serving.{Steps, StepsTo}
 

@@ -4,8 +4,8 @@ use Rattle.goo_spec.specs.State.{State}
 use Rattle.goo_registry_desk.specs.Crash.{FindsOnly}
 use Rattle.goo_registry_desk.specs.Desk.{Seen, HasFailed}
 use Rattle.goo_desk_counter.specs.Counters.{Showing, Importing, Beginning}
-use Rattle.goo_desk_connection.specs.Durable.{FindsHeard}
-use Rattle.goo_desk_connection.specs.Serving.{Connects}
+use Rattle.goo_desk_server.specs.ConnectionDurable.{FindsHeard}
+use Rattle.goo_desk_server.specs.ConnectionServed.{Connects}
 use Rattle.goo_desk_server.specs.Serving.{Steps}
 
 module _ (shows : Showing) (imports : Importing) (begins : Beginning) (sends : ℕ → Option (List ℕ)) (was : ℕ) where

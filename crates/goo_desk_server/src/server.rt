@@ -3,18 +3,19 @@ ghost use Rattle.std.specs.Prelude.{◌≡◌, ◌++◌, ℕ, codes, decimal, On
 ghost use Rattle.std.specs.Io.KnownBytes.{Appends};
 ghost use Rattle.goo_spec.specs.Sound.{IsSound};
 ghost use Rattle.goo_registry_desk.specs.Desk.{Seen};
-ghost use Rattle.goo_desk_connection.specs.Durable.{FindsHeard};
-ghost use Rattle.goo_desk_connection.specs.Serving.{Connects};
+ghost use Rattle.goo_desk_server.specs.ConnectionDurable.{FindsHeard};
+ghost use Rattle.goo_desk_server.specs.ConnectionServed.{Connects};
 ghost use Rattle.goo_desk_counter.specs.Tables.{ImportsAreRuns};
 ghost use Rattle.goo_desk_server.specs.Durable.{FindsServed};
 ghost use Rattle.goo_desk_server.specs.Runs.{KeepsPromise};
 ghost use Rattle.goo_desk_server.specs.Serving.{IsCounted, IsOneCounted, IsServed, IsToldIn};
 ghost use Rattle.goo_desk_server.specs.Serving.{StepsTo};
 
+use crate::connection::serve_by_routes;
 use crate::listener::Listener;
+use crate::serve_fault::ServeFault;
 use crate::server_fault::ServerFault;
 use arrayvec::ArrayString;
-use goo_desk_connection::{ServeFault, serve_by_routes};
 use goo_desk_counter::Counter;
 use goo_desk_routes::Routes;
 use goo_files_streams::{WriteFault, write_whole};

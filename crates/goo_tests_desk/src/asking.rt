@@ -1,8 +1,8 @@
 //! What a registry over lists is asked.
 use crate::failing::{Sending, Taking};
 use goo_core_list::list_shelf::ListShelf;
-use goo_desk_connection::{ServeFault, Served, serve_one};
 use goo_desk_counter::Counter;
+use goo_desk_server::{ServeFault, Served, serve_one};
 use goo_registry::Registry;
 use goo_types::day::Day;
 use goo_types::registry_code::RegistryCode;

@@ -5,7 +5,7 @@ use Rattle.sqlite_wal.specs.Reads.{AreClean}
 use Rattle.goo_spec.specs.Sound.{IsSound}
 use Rattle.goo_store.specs.Versions.{state_held}
 use Rattle.goo_store_lookups.specs.Moments.{moment}
-use Rattle.goo_cli_http.proofs.Served.{none_counted}
+use Rattle.goo_cli_files.proofs.Served.{none_counted}
 use Rattle.goo_registry.specs.Desks.{seen_of}
 use Rattle.goo_cli_registry.specs.Closings.{HoldState, IfWhole}
 use Rattle.goo_cli_registry.specs.Finds.{FindsRight, IfParts}

@@ -1,5 +1,5 @@
 use Rattle.std.proofs.Common.{refl}
-use Rattle.goo_cli_http.proofs.Served.{none_counted}
+use Rattle.goo_cli_files.proofs.Served.{none_counted}
 use Rattle.goo_cli_files.proofs.serving.serve_in_memory.Goals as goal
 
 -- nothing is accepted where there is no registry

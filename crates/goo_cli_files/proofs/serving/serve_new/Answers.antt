@@ -10,7 +10,7 @@ use Rattle.goo_cli_ending.specs.declared.ending.Failure.{Failure}
 use Rattle.goo_cli_registry.specs.Openings.{IsRun}
 use Rattle.goo_cli_registry.proofs.Files.{not_run}
 use Rattle.goo_desk_server.specs.Runs.{KeepsPromise}
-use Rattle.goo_cli_http.proofs.Served.{none_counted}
+use Rattle.goo_cli_files.proofs.Served.{none_counted}
 use Rattle.goo_cli_files.proofs.serving.serve_new.Goals as goal
 
 -- nothing is accepted where there is no registry

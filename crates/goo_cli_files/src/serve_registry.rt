@@ -1,0 +1,81 @@
+//! A registry over any shelf, served over HTTP.
+ghost use Rattle.std.specs.Prelude.{◌≡◌, ◌≢◌};
+ghost use Rattle.std.specs.Io.Buffered.{writer_contents};
+ghost use Rattle.std.specs.Io.KnownBytes.{Appends};
+ghost use Rattle.goo_cli_ending.specs.Endings.{status_of};
+ghost use Rattle.goo_spec.specs.Sound.{IsSound};
+ghost use Rattle.goo_desk_server.specs.Runs.{KeepsPromise};
+ghost use Rattle.goo_registry.specs.Desks.{seen_of};
+ghost use Rattle.goo_cli_files.specs.ServingDurable.{FindsServed};
+ghost use Rattle.goo_cli_files.specs.ServerEndings.{ending_of_server, IsCounted, listening_text};
+
+use goo_cli::Serving;
+use goo_cli_ending::{Ending, Failure};
+use goo_core_shelf::shelf::Shelf;
+use goo_desk_server::{Listener, ServerFault, serve};
+use goo_registry::Registry;
+use std::alloc::Global;
+use std::io::{BufWriter, Write};
+
+/// How the program ends where a server ended.
+fn ending_of(served: Result<(), ServerFault>) -> Ending
+    ensures value { result ≡ ending_of_server served }
+    ensures words { status_of result ≢ 2 }
+{
+    match served {
+        Ok(()) => Ending::Done,
+        Err(ServerFault::Write) => Ending::Failed(Failure::Write),
+        Err(ServerFault::Accept) => Ending::Failed(Failure::Read),
+        Err(ServerFault::Store) => Ending::Failed(Failure::Store),
+        Err(ServerFault::Memory) => Ending::Failed(Failure::Memory),
+    }
+}
+
+/// Serves so many connections of a listener by a registry, one after another. Where the port can't
+/// be had, that is a fault of what is read.
+///
+/// - `announced`: status 0 only where the line is written that tells at which port.
+/// - `counted`: status 0 just where as many connections were accepted as asked for, unless the
+///   records failed at the last one; never more are.
+/// - `promised`: what a registry promises after any list of requests holds of those that the
+///   connections left applied. The bytes of each connection are those that its client sent, where
+///   the listener tells them.
+/// - `lied`: what keeps the records returned what was written before, where it did so to the end.
+/// - `found`: however it ends, a crash finds what the connections leave; of the last one's requests
+///   perhaps those alone that stand after a fault.
+pub(crate) fn serve_registry<S: Shelf, L: Listener, W: Write + Drop>(
+    alloc: Global,
+    registry: &mut Registry<S>,
+    serving: Serving,
+    listener: &mut L,
+    writer: &mut BufWriter<W>,
+) -> Ending
+    ensures words { status_of result ≢ 2 }
+    ensures announced { status_of result ≡ 0
+        → Appends (writer_contents W.contents writer.old) (writer_contents W.contents writer.new)
+        (listening_text serving.port) }
+    ensures counted { IsCounted result (L.accepted listener.old)
+        (L.accepted listener.new) serving.count }
+    ensures promised { IsSound (S.seen registry.old.shelf).state
+        → (S.seen registry.new.shelf).lies ≡ 0 → (S.seen registry.new.shelf).doubts ≡ 0
+        → KeepsPromise (L.sends listener.old) (L.accepted listener.old) (L.accepted listener.new)
+        (S.seen registry.old.shelf).state (S.seen registry.new.shelf).state }
+    ensures lied { (S.seen registry.new.shelf).lies ≡ 0 → (S.seen registry.old.shelf).lies ≡ 0 }
+    ensures found { FindsServed (L.sends listener.old) (L.accepted listener.old)
+        (L.accepted listener.new)
+        (seen_of (S.seen registry.old.shelf)) (seen_of (S.seen registry.new.shelf))
+        (S.seen registry.new.shelf).leaves }
+{
+    if listener.listen(serving.port).is_err() {
+        return Ending::Failed(Failure::Read);
+    }
+    let served = serve(
+        alloc,
+        registry,
+        listener,
+        serving.port,
+        serving.count,
+        writer,
+    );
+    ending_of(served)
+}

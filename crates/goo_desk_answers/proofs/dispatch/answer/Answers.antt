@@ -1,0 +1,24 @@
+use Rattle.std.proofs.Common.{rules, ◌≡◌, IsErr, IfOk, OnErr}
+use Rattle.goo_desk_answers.specs.Responds.{Responds, Fails}
+use Rattle.goo_desk_answers.proofs.BroughtFacts.{keeps_promise, none_promised}
+use Rattle.goo_desk_heads.specs.Requests.{seen as parts_seen}
+use Rattle.goo_desk_answers.proofs.DurableFacts.{bytes_led}
+use Rattle.goo_desk_answers.proofs.dispatch.answer.Goals as goal
+
+pub returns-in_err-routes-clause-promised : goal.returns-in_err-routes-clause-promised
+returns-in_err-routes-clause-promised g c runs sound honest =
+    let failed : IsErr c.from_residual.result = search rules in
+    none_promised (g.D.Desk.seen c.args.desk.now) c.args.bytes.now c.from_residual.result failed sound
+
+pub returns-clause-promised : goal.returns-clause-promised
+returns-clause-promised g c runs sound honest =
+    let old = g.D.Desk.seen c.args.desk.now in
+    let new = g.D.Desk.seen c.answer_request.new.desk in
+    let answered : IfOk c.answer_request.result (λ answer. Responds g.D.Counter.shows g.D.Counter.imports old.state c.args.bytes.now answer.status answer.bytes.items new.state) = search rules in
+    let stopped : new.doubts ≡ 0 → OnErr c.answer_request.result (Fails g.D.Counter.imports g.D.Counter.begins old.state c.args.bytes.now new.state) = search rules in
+    keeps_promise g.D.Counter.shows g.D.Counter.imports g.D.Counter.begins runs old new c.args.bytes.now c.answer_request.result sound answered stopped
+
+pub returns-clause-crash : goal.returns-clause-crash
+returns-clause-crash g c runs lies sure =
+    bytes_led (g.D.Desk.leaves c.answer_request.new.desk) (g.D.Desk.seen c.args.desk.now).state c.args.bytes.now (parts_seen c.read_request-request.result) c.read_request-request.ensures
+    (c.answer_request.ensures.crash runs lies sure)

@@ -1,0 +1,26 @@
+//! What is sent in place of an answer after a fault.
+ghost use Rattle.std.specs.Prelude.{◌≡◌};
+ghost use Rattle.goo_desk_heads.specs.Requests.{seen as parts_seen};
+ghost use Rattle.goo_desk_server.specs.ConnectionServed.{asks_for_head as asks_stated, IsApology};
+
+use arrayvec::ArrayString;
+use goo_desk_heads::{Received, RefusedHead, is_for_head, read_request};
+use goo_desk_responses::{ROOM, Status, fixed_response};
+
+/// Whether a head alone is asked for.
+fn asks_for_head(request: &Result<Received<'_>, RefusedHead>) -> bool
+    ensures { result ≡ asks_stated (parts_seen request.now) }
+{
+    match request {
+        Ok(request) => is_for_head(request.method),
+        Err(refused) => refused.is_head,
+    }
+}
+
+/// What is sent in place of an answer after a fault. It takes no memory.
+pub(crate) fn apology(bytes: &[u8]) -> ArrayString<ROOM>
+    ensures { IsApology bytes.now result.bytes }
+{
+    let for_head = asks_for_head(&read_request(bytes));
+    fixed_response(Status::Unavailable, None, for_head)
+}
