@@ -260,10 +260,14 @@ class Applier:
     def finish(self, line, entry, h, answer):
         """What is left once the registry has decided an entry."""
         outcome = entries.decided(entry.route, answer.status, answer.body, self.place.chain)
-        self.told.append((entry.n, h, outcome.chain, entry.id, answer.status, answer.kind, answer.body))
-        if not self.queue and (entry.route, answer.status) == entries.PLAIN and not self.words.etcd:
-            self.tell()                         # a crash before it is kept: it is in the log, is applied again at once, and is `repeated`
+        is_plain = (entry.route, outcome.status) == entries.PLAIN
         self.keep(line, entry, h, outcome)
+        self.told.append((entry.n, h, outcome.chain, entry.id, answer.status, answer.kind, answer.body))
+        if is_plain and not self.queue:
+            self.tell()                         # a crash before it is in place has it applied again at once: it is `repeated`, and so the same outcome
+        self.place.record(entry.n, h, outcome.chain)
+        if not is_plain or self.place.loose >= KEPT:
+            self.sync()
 
     def apply(self, entry):
         """The outcome of an entry, by the version of the program that it names: other versions may decide otherwise."""
@@ -306,7 +310,7 @@ class Applier:
             self.tell()
 
     def keep(self, line, entry, h, outcome):
-        """Archive, then place. Both are synced where the entry must not be applied again later."""
+        """Into the archive. The place follows, and both are synced where the entry must not be applied again later."""
         while not self.archive.last or self.archive.last.entry.n < entry.n:
             try:
                 self.archive.add(line, entry, outcome, h)
@@ -314,9 +318,6 @@ class Applier:
             except OSError as fault:
                 self.waits(f'the archive cannot be written: {fault}')
                 self.listen(0.5)
-        self.place.record(entry.n, h, outcome.chain)
-        if (entry.route, outcome.status) != entries.PLAIN or self.place.loose >= KEPT:
-            self.sync()
 
     def sync(self):
         self.archive.sync()
