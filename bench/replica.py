@@ -46,6 +46,9 @@ class Sent:
     def write(self, text):
         self.text += text
 
+    def get_write_buffer_size(self):
+        return 1                        # so that all is written here
+
     def taken(self):
         text, self.text = self.text, b''
         return text
@@ -69,6 +72,7 @@ def replica_of(folder, port):
     second.tell_place()
     replica = module.Replica(words, KEY, near)
     replica.down, replica.version, replica.begun, replica.applier.transport = False, 'v', True, Sent()
+    replica.store.at_once = False       # requests gather, though the first one is alone when it comes
     return replica, second, near
 
 

@@ -8,11 +8,13 @@ A message is a tuple. The first process says                This one says
     ('begin',)         the registry answers: begin              ('place', n, h, chain)           up to here all is applied
     ('apply', [..])    entries that are in the log: the line,   ('begun',)                       the archive is applied whole
                        and entry and hash where it made them    ('applied', [..])                of each entry: n, h, chain, id, status, kind, body
-    ('version', text)  of the registry's program                ('failed', entry, why)           the registry gave no outcome: what now?
-    ('again',)         ask the registry once more               ('waits', why)                   why it waits; '' once it goes on
-    ('aside',)         the entry is set aside                   ('halted', why)                  for good
-    ('digest',)        between two entries                      ('audit',), then ('digest', ..)  the audit begins; n, h, chain, digest, audit's hash
-    ('sync',)          archive and place to the disk            ('synced', n)                    up to here they are
+    ('soon',)          an entry comes next, after its append    ('failed', entry, why)           the registry gave no outcome: what now?
+    ('late',)          it does not: the disk is full            ('waits', why)                   why it waits; '' once it goes on
+    ('version', text)  of the registry's program                ('halted', why)                  for good
+    ('again',)         ask the registry once more               ('audit',), then ('digest', ..)  the audit begins; n, h, chain, digest, audit's hash
+    ('aside',)         the entry is set aside                   ('synced', n)                    archive and place are on the disk up to here
+    ('digest',)        between two entries
+    ('sync',)          archive and place to the disk
 """
 import collections
 import hashlib
@@ -143,6 +145,7 @@ class Applier:
             part = b''
         if not part:
             os._exit(1)                         # it has ended: whatever is under way is begun again
+        kind = ''
         for kind, *said in self.frames.take(part):
             if kind == 'apply':
                 self.queue.extend(said[0])
@@ -150,8 +153,12 @@ class Applier:
                 self.version = said[0]
             elif kind in ('again', 'aside'):
                 self.verdict = kind
-            else:
+            elif kind != 'soon':
                 self.asked.add(kind)
+        if kind == 'soon':
+            if not self.why:
+                self.registry.ahead()
+            self.hear()                         # the next message comes before the first process does anything else
 
     def came(self, s):
         """Waits until something came from the registry, and hears the first process meanwhile."""
@@ -253,8 +260,14 @@ class Applier:
     def finish(self, line, entry, h, answer):
         """What is left once the registry has decided an entry."""
         outcome = entries.decided(entry.route, answer.status, answer.body, self.place.chain)
+        is_plain = (entry.route, outcome.status) == entries.PLAIN
         self.keep(line, entry, h, outcome)
         self.told.append((entry.n, h, outcome.chain, entry.id, answer.status, answer.kind, answer.body))
+        if is_plain and not self.queue:
+            self.tell()                         # a crash before it is in place has it applied again at once: it is `repeated`, and so the same outcome
+        self.place.record(entry.n, h, outcome.chain)
+        if not is_plain or self.place.loose >= KEPT:
+            self.sync()
 
     def apply(self, entry):
         """The outcome of an entry, by the version of the program that it names: other versions may decide otherwise."""
@@ -297,7 +310,7 @@ class Applier:
             self.tell()
 
     def keep(self, line, entry, h, outcome):
-        """Archive, then place. Both are synced where the entry must not be applied again later."""
+        """Into the archive. The place follows, and both are synced where the entry must not be applied again later."""
         while not self.archive.last or self.archive.last.entry.n < entry.n:
             try:
                 self.archive.add(line, entry, outcome, h)
@@ -305,9 +318,6 @@ class Applier:
             except OSError as fault:
                 self.waits(f'the archive cannot be written: {fault}')
                 self.listen(0.5)
-        self.place.record(entry.n, h, outcome.chain)
-        if (entry.route, outcome.status) != entries.PLAIN or self.place.loose >= KEPT:
-            self.sync()
 
     def sync(self):
         self.archive.sync()

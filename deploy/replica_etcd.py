@@ -160,7 +160,7 @@ class Keys:
 # ------------------------------------------------------------------ the store
 
 class EtcdStore:
-    compares = True
+    compares, at_once = True, False
     ahead = 8                                   # entries that wait to be applied when the next append begins
 
     def __init__(self, words, key, place):

@@ -34,7 +34,7 @@ class FileStore:
     """The interface that both stores have: `last`, `end`, `turn`, `append`, `lines_from`, `lacks`, `is_aside`, `report`, `prune`, `trouble`, `figures`, `tasks`."""
 
     compares = False                            # there are no other replicas
-    quorum = tells = True                       # it always answers, and the replica hears of each entry as it is appended
+    quorum = tells = at_once = True             # it always answers, the replica hears of each entry as it is appended, and `add` appends within one call
     ahead = 16                                  # entries that wait to be applied when the next append begins
 
     def __init__(self, folder, key, applied=0):
@@ -65,8 +65,8 @@ class FileStore:
         return self.last
 
     async def turn(self, end):
-        """The log's end once it is this replica's turn to append."""
-        return end
+        """The log's end once it is this replica's turn to append. It may have moved on from `end` by `add`."""
+        return self.last
 
     def tasks(self, replica):
         return []
@@ -87,6 +87,9 @@ class FileStore:
         return "the disk of the log is full" if self.full else ""
 
     async def append(self, lines, end, last, wanted):
+        return self.add(lines, end, last)
+
+    def add(self, lines, end, last):
         """Adds entries and syncs them: whether they are in the log, and its end. `last` is the end with them in it."""
         try:
             self.put(lines)
