@@ -4,7 +4,8 @@ usage: python3 bench/country.py [--devices N] [--years N] [--trades N] [--seed N
 
 Each month every device declares the month before; of each lot some certificates are transferred, some of those are cancelled, and the rest expires in its time. What is made depends on the seed alone. At
 each quarter of the months it measures, over the file as it is then: the file, opening it, an audit, the statement of the account with the most runs, a copy, and requests to a server, one connection
-each (median and 99th of a hundred). Beside them stands what SQLite takes by itself: its check of the file, one query a table that adds up what the audit adds up, and one ordered query for the statement.
+each (median and 99th of a hundred). Beside them stands what SQLite takes by itself: its check of the file, one query a table that adds up what the audit adds up, and one ordered query for the statement; and
+beside the opening that of the kit's library alone (`goo: damaged` on standard error is its end).
 At the end `deploy/recount` carries out all requests once more. It prints one table as Markdown. Ten years of 3,000 devices take about an hour and 3 GB below FOLDER (a temporary one by itself).
 """
 import argparse
@@ -112,6 +113,14 @@ class File:
                     pass
         return time.process_time() - begun
 
+    def library_alone(self):
+        """An opening that ends once the library has checked the file: with one more table it is no registry, and the program says so before it reads a row."""
+        other = self.folder / 'other'
+        shutil.copyfile(self.path, other)
+        with closing(sqlite3.connect(other)) as database:
+            database.execute('CREATE TABLE other (a INTEGER)')
+        return goo('run', '--db', other, fine=(3,))
+
     def longest(self):
         with closing(sqlite3.connect(self.path)) as database:
             return database.execute('SELECT account FROM piece WHERE kind = 1 GROUP BY account ORDER BY count(*) DESC LIMIT 1').fetchone()
@@ -171,12 +180,14 @@ def look(file):
     account = file.longest()
     declared, pieces, receipts = file.counts()
     opening, audit = goo('run', '--db', file.path), goo('audit', '--db', file.path, to=file.folder / 'audit')
+    library = file.library_alone()
     stated = goo('statement', str(account[0]), '--db', file.path, to=file.folder / 'text')
     (read, slow_read), (write, slow_write) = file.asked(account)
     return {
         'declarations': (declared, None, None), 'rows of `piece`': (pieces, None, None), 'receipts': (receipts, None, None),
         'MB of the file': (file.path.stat().st_size / 1e6, None, None),
         'opening, processor seconds': (opening.seconds, opening.memory, file.query('PRAGMA integrity_check')),
+        "the library's own opening, processor seconds": (library.seconds, library.memory, None),
         'audit beyond opening, processor seconds': (audit.seconds - opening.seconds, audit.memory, file.query(*ADDED)),
         'the longest statement beyond opening, processor seconds': (stated.seconds - opening.seconds, stated.memory, file.query(STATED, of=account)),
         'a copy, seconds by the clock': (file.copied(), None, None),
