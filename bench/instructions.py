@@ -125,7 +125,7 @@ def matching(counter, pattern):
 
 
 def asked(found):
-    """How often each function of goo_tables and goo_tables_holdings was called, in words."""
+    """How often each function of goo_tables and goo_tables_accounts was called, in words."""
     counts = collections.Counter()
     for name, count in found.calls.items():
         if match := re.match(r'goo_(?:tables|tables_holdings)::\w+::(\w+)', name):

@@ -3,7 +3,7 @@ use Rattle.std.proofs.Common.{ℕ, List, Option, Some, None, IfSome}
 use Rattle.std.specs.Io.KnownBytes.{Keeps}
 use Rattle.goo_spec.specs.State.{State}
 use Rattle.goo_desk_lines.specs.Durable.{FindsAnswered}
-use Rattle.goo_registry_desk.specs.Desk.{Seen}
+use Rattle.goo_core_shelf.specs.Desk.{Seen}
 use Rattle.goo_cli_ending.proofs.EndingLemmas.{kept}
 
 -- what the writer had is kept, so it is still a beginning of the answers

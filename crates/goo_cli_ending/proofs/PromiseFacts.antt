@@ -5,7 +5,7 @@ use Rattle.std.proofs.KnownBytes.{Appends-nil}
 use Rattle.goo_spec.specs.Sound.{IsSound}
 use Rattle.goo_spec.specs.State.{State}
 use Rattle.goo_spec.proofs.Promising.{promised}
-use Rattle.goo_registry_desk.specs.Desk.{Seen}
+use Rattle.goo_core_shelf.specs.Desk.{Seen}
 use Rattle.goo_desk_lines.specs.Fold.{answering, lines}
 use Rattle.goo_desk_lines.specs.Lines.{lines_of}
 use Rattle.goo_desk_lines.specs.Requests.{requests_of}

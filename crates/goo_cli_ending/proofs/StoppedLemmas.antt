@@ -9,7 +9,7 @@ use Rattle.goo_desk_lines.specs.Stops.{IsBetweenLines, StandsInPart, StandsWhole
 use Rattle.goo_desk_lines.specs.declared.lines_fault.LinesFault.{LinesFault}
 use Rattle.goo_desk_lines.specs.declared.lines_fault.LinesFault.TheVariants as fault
 use Rattle.goo_desk_lines.specs.declared.tally.Tally.{Tally}
-use Rattle.goo_registry_desk.specs.Desk.{Seen}
+use Rattle.goo_core_shelf.specs.Desk.{Seen}
 use Rattle.goo_cli_ending.specs.declared.ending.Ending.TheVariants as ending
 use Rattle.goo_cli_ending.specs.Endings.{ending_of}
 use Rattle.goo_cli_ending.specs.Stopped.{FirstAnswered, FirstStand, IsStopped}

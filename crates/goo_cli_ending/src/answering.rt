@@ -10,8 +10,8 @@ ghost use Rattle.goo_cli_ending.specs.Promised.{KeepsPromise};
 ghost use Rattle.goo_spec.specs.Sound.{IsSound};
 
 use crate::ending::Ending;
+use goo_core_shelf::desk::Desk;
 use goo_desk_lines::run_lines;
-use goo_registry_desk::Desk;
 use std::alloc::Global;
 use std::io::{BufWriter, Read, Write};
 

@@ -6,7 +6,7 @@ use Rattle.sqlite.specs.declared.file.Leftover.TheVariants as rest
 use Rattle.goo_spec.specs.State.{State}
 use Rattle.goo_core_shelf.specs.Shelf.{Moment}
 use Rattle.goo_registry.specs.Desks.{seen_of}
-use Rattle.goo_registry_desk.specs.Desk.{Seen}
+use Rattle.goo_core_shelf.specs.Desk.{Seen}
 use Rattle.goo_cli_files.specs.ServingDurable.{FindsServed}
 use Rattle.goo_cli_files.proofs.Served.{found_to}
 use Rattle.goo_cli_registry.specs.Closings.{HoldState, IfWhole}

@@ -5,12 +5,12 @@ use Rattle.goo_cli_ending.specs.Endings.{status_of}
 use Rattle.goo_cli_ending.specs.declared.ending.Ending.{Ending}
 use Rattle.goo_cli_ending.specs.declared.ending.Ending.TheVariants.{Failed}
 use Rattle.goo_cli_ending.specs.declared.ending.Failure.{Failure}
-use Rattle.goo_registry_desk.specs.Desk.{Seen}
+use Rattle.goo_core_shelf.specs.Desk.{Seen}
 use Rattle.goo_cli_files.specs.ServingDurable.{FindsServed, FindsTo}
 use Rattle.goo_cli_files.specs.ServerEndings.{ending_of_server, IsCounted}
 use Rattle.goo_desk_server.specs.Runs.{KeepsPromise}
 use Rattle.goo_desk_server.specs.Durable.{FindsAfter}
-use Rattle.goo_desk_counter.specs.Showing.{begun_by, imported_by, shown_by}
+use Rattle.goo_desk_backend.specs.Showing.{begun_by, imported_by, shown_by}
 use Rattle.goo_desk_server.specs.Serving as server
 use Rattle.goo_desk_server.specs.declared.server_fault.ServerFault.{ServerFault}
 use Rattle.goo_desk_server.specs.declared.server_fault.ServerFault.TheVariants.{Accept, Memory, Store, Write}

@@ -4,7 +4,7 @@ use Rattle.sqlite_disk.specs.declared.Disk.{Ghosts}
 use Rattle.sqlite_wal.specs.Reads.{AreClean}
 use Rattle.goo_spec.specs.State.{State}
 use Rattle.goo_spec.specs.Checks.{issuer}
-use Rattle.goo_registry_desk.specs.Desk.{Seen}
+use Rattle.goo_core_shelf.specs.Desk.{Seen}
 use Rattle.goo_files_import.specs.Import.{importing}
 use Rattle.goo_cli_ending.specs.declared.ending.Ending.{Ending}
 use Rattle.goo_cli_ending.specs.declared.ending.Ending.TheVariants as ending

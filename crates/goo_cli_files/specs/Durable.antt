@@ -11,8 +11,8 @@ use Rattle.goo_files_streams.specs.Streams.{AppendsPrefix}
 use Rattle.goo_files_import.specs.Durable.{AreUpTo}
 use Rattle.goo_files_import.specs.Import.{importing}
 use Rattle.goo_files_import.specs.Report.{report_text}
-use Rattle.goo_registry_desk.specs.Desk.{Seen}
-use Rattle.goo_store_lookups.specs.Moments.{OpensAs}
+use Rattle.goo_core_shelf.specs.Desk.{Seen}
+use Rattle.goo_store_judge.specs.Moments.{OpensAs}
 use Rattle.goo_cli_files.specs.ServingDurable.{FindsTo}
 use Rattle.goo_cli_registry.specs.Durable.{FindsOneOf}
 use Rattle.goo_cli_registry.specs.declared.closing.Left.{Left}

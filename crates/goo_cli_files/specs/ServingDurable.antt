@@ -1,8 +1,8 @@
 -- What a crash finds of a registry that served connections.
 use Rattle.std.specs.Prelude.{ℕ, List, Option}
 use Rattle.goo_spec.specs.State.{State}
-use Rattle.goo_registry_desk.specs.Desk.{Seen}
-use Rattle.goo_desk_counter.specs.Showing.{begun_by, imported_by, shown_by}
+use Rattle.goo_core_shelf.specs.Desk.{Seen}
+use Rattle.goo_desk_backend.specs.Showing.{begun_by, imported_by, shown_by}
 use Rattle.goo_desk_server.specs.Durable as server
 
 module _ (sends : ℕ → Option (List ℕ)) (was now : ℕ) (first last : Seen) (leaves : Option State → Type 0) where

@@ -18,7 +18,7 @@ use Rattle.sqlite.specs.Tree.{Trees}
 use Rattle.sqlite.specs.Effect.{Database}
 use Rattle.sqlite.specs.State.{State, HasCleanDisk, Survives}
 use Rattle.sqlite_trees.specs.View.{doubt}
-use Rattle.goo_tables_holdings.specs.Changes.{begun}
+use Rattle.goo_tables_accounts.specs.Changes.{begun}
 use Rattle.goo_tables_rows.proofs.Committed.{holds_from}
 use Rattle.goo_tables_rows.proofs.Decoded.{decoded}
 use Rattle.goo_tables_rows.specs.Columns.{registry_schema}
@@ -35,7 +35,7 @@ use Rattle.goo_spec_tables.specs.Renewed.{renewed}
 use Rattle.goo_store.specs.Creating.{IsFirst, meta_of}
 use Rattle.goo_types.specs.Day.{CalendarDay}
 use Rattle.goo_spec_tables.specs.States.{state_of}
-use Rattle.goo_store_lookups.specs.Moments.{IsWell, OpensAs, StandFor, tables_in}
+use Rattle.goo_store_judge.specs.Moments.{IsWell, OpensAs, StandFor, tables_in}
 use Rattle.goo_spec.specs.State as registry
 use Rattle.goo_store_open.specs.Found.{IsOutside}
 use Rattle.goo_store_open.specs.declared.fault.OpenFault.{OpenFault}

@@ -4,7 +4,7 @@ use Rattle.sqlite_disk.specs.declared.Disk.{Ghosts}
 use Rattle.sqlite.specs.declared.file.Leftover.{Leftover}
 use Rattle.sqlite.specs.declared.file.Leftover.TheVariants as rest
 use Rattle.goo_spec.specs.State.{State}
-use Rattle.goo_store_lookups.specs.Holding.{opens_so}
+use Rattle.goo_store_judge.specs.Holding.{opens_so}
 use Rattle.goo_cli_registry.specs.Closings.{HoldState, IfWhole, IsKept}
 use Rattle.goo_cli_registry.specs.Finds.{FindsRight, HasState, IfParts}
 use Rattle.goo_cli_registry.specs.declared.closing.Left.{Left}

@@ -3,3 +3,4 @@ pub mod Openings
 pub mod Closings
 pub mod Stopped
 pub mod Finds
+pub mod Bytes

@@ -10,7 +10,7 @@ use Rattle.sqlite.specs.State as sqlite
 use Rattle.goo_tables_rows.specs.Columns.{first_schema}
 use Rattle.goo_spec.specs.State.{State}
 use Rattle.goo_spec.specs.Created.{created}
-use Rattle.goo_store_lookups.specs.Moments.{OpensAs, StandFor}
+use Rattle.goo_store_judge.specs.Moments.{OpensAs, StandFor}
 use Rattle.goo_tables_rows.specs.Stands.{AreOurs}
 use Rattle.goo_store.specs.Versions.{state_held}
 use Rattle.goo_store_open.specs.declared.fault.OpenFault.{OpenFault}

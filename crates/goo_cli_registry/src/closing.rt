@@ -2,7 +2,7 @@
 ghost use Rattle.std.specs.Prelude.{◌≡◌, IsTrue};
 ghost use Rattle.sqlite.specs.Files.{file_state};
 ghost use Rattle.sqlite.specs.State.{HasCleanDisk};
-ghost use Rattle.goo_store_lookups.specs.Moments.{moment};
+ghost use Rattle.goo_store_judge.specs.Moments.{moment};
 ghost use Rattle.sqlite_wal.specs.Reads.{AreClean};
 ghost use Rattle.goo_cli_registry.specs.Closings.{is_whole, files_in, HasSpareLog, IfWhole};
 ghost use Rattle.goo_cli_registry.specs.Closings.{IfRefused, IsClean, IsKept, HoldState, NeedNoLog};

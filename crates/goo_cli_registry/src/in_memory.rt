@@ -6,9 +6,9 @@ ghost use Rattle.sqlite.specs.State.{HasCleanDisk};
 ghost use Rattle.goo_tables_rows.specs.Met.{IsInKeyOrder};
 
 use crate::first_page::make_first_page;
+use crate::memory_file::MemoryFile;
 use crate::opening::open_database;
 use goo_cli_ending::Failure;
-use goo_store_memory::MemoryFile;
 use sqlite::{Connection, FileStore, Files, Options};
 use std::alloc::{AllocError, Global};
 

@@ -9,6 +9,7 @@ pub mod closing;
 pub mod creating;
 pub mod first_page;
 pub mod in_memory;
+pub mod memory_file;
 pub mod opening;
 pub mod renewal_line;
 pub mod running;

@@ -9,7 +9,7 @@ ghost use Rattle.sqlite.specs.Tree.{Trees};
 ghost use Rattle.sqlite_trees.specs.View.{doubt};
 ghost use Rattle.goo_tables_rows.specs.Met.{IsInKeyOrder};
 ghost use Rattle.goo_store.specs.Versions.{state_held};
-ghost use Rattle.goo_store_lookups.specs.Moments.{IsWell};
+ghost use Rattle.goo_store_judge.specs.Moments.{IsWell};
 ghost use Rattle.goo_spec.specs.Created.{created};
 ghost use Rattle.goo_spec.specs.Sound.{IsSound};
 ghost use Rattle.goo_desk_lines.specs.Durable.{FindsAnswered};

@@ -2,7 +2,7 @@
 use Rattle.std.proofs.Common.{◌≡◌, ℕ, List, Option, Some, None, IfSome, subst}
 use Rattle.goo_spec.specs.Checks.{issuer}
 use Rattle.goo_spec.specs.State.{State}
-use Rattle.goo_registry_desk.specs.Desk.{Seen}
+use Rattle.goo_core_shelf.specs.Desk.{Seen}
 use Rattle.goo_files_streams.specs.Streams.{AppendsPrefix}
 use Rattle.goo_files_import.specs.Durable.{FindsReported}
 use Rattle.goo_files_import.specs.Report.{report_text}

@@ -5,7 +5,7 @@ use Rattle.goo_spec.specs.Promise.{IsPromised}
 use Rattle.goo_spec.specs.Sound.{IsSound}
 use Rattle.goo_spec.specs.State.{State}
 use Rattle.goo_spec.proofs.Promising.{promised}
-use Rattle.goo_registry_desk.specs.Desk.{Seen}
+use Rattle.goo_core_shelf.specs.Desk.{Seen}
 use Rattle.goo_files_import.specs.Import.{requests_of}
 use Rattle.goo_files_import.specs.Stands.{IsBeforeRows, IsBetweenRows, IsImported, StandsInPart}
 use Rattle.goo_files_import.specs.Table.{AreFirstRows, AreRows}

@@ -3,7 +3,7 @@ use Rattle.std.proofs.Common.{◌≡◌, ◌∙◌, ℕ, zero, suc, List, [], �
 use Rattle.std.proofs.lemmas.List.{append-nil}
 use Rattle.std.specs.Io.KnownBytes.{Appends, Keeps}
 use Rattle.goo_spec.specs.Checks.{issuer}
-use Rattle.goo_registry_desk.specs.Desk.{Seen}
+use Rattle.goo_core_shelf.specs.Desk.{Seen}
 use Rattle.goo_files_streams.specs.Streams.{AppendsPrefix}
 use Rattle.goo_files_import.specs.Report.{report_text}
 use Rattle.goo_files_import.specs.Stands.{IsBeforeRows, IsBetweenRows, IsImported, StandsInPart}

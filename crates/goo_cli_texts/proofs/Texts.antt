@@ -4,7 +4,7 @@ use Rattle.std.specs.Io.KnownBytes.{Appends, Keeps}
 use Rattle.goo_core_shelf.specs.Shelf.{Moment}
 use Rattle.goo_spec.specs.State.{State, Account}
 use Rattle.goo_spec.specs.Checks.{issuer}
-use Rattle.goo_core_answers.specs.declared.denial.Denial.{Denial}
+use Rattle.goo_core_reads.specs.declared.denial.Denial.{Denial}
 use Rattle.goo_registry.specs.Reads.{account_denial}
 use Rattle.goo_files.specs.declared.text_fault.ShowFault.{ShowFault}
 use Rattle.goo_files.specs.declared.text_fault.ShowFault.TheVariants as text

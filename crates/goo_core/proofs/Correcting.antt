@@ -26,9 +26,9 @@ use Rattle.goo_ranges.specs.Change.{inside}
 use Rattle.goo_ranges_rows.specs.Rows.{AreRowsOf, meeting}
 use Rattle.goo_ranges_rows.proofs.Framing.{absent-alike, failing-alike}
 use Rattle.goo_ranges_rows.proofs.Mapping.{get-place_each-range}
-use Rattle.goo_core_checks.specs.declared.ruling.Change.{Change}
-use Rattle.goo_core_checks.specs.declared.ruling.Ruling.{Ruling}
-use Rattle.goo_core_checks.specs.declared.ruling.Ruling.TheVariants.{Refused, Passed}
+use Rattle.goo_core_rules.specs.declared.ruling.Change.{Change}
+use Rattle.goo_core_rules.specs.declared.ruling.Ruling.{Ruling}
+use Rattle.goo_core_rules.specs.declared.ruling.Ruling.TheVariants.{Refused, Passed}
 use Rattle.goo_core.specs.AccountRuns.{account_runs}
 use Rattle.goo_core.specs.Correct.{entry_checks, range_checks, entry_by, IsEntry, runs_in}
 use Rattle.goo_core.specs.Moves.{IsChangeRuling}

@@ -21,8 +21,8 @@ use Rattle.goo_spec_final.proofs.Lasting.{never_again}
 use Rattle.goo_ranges.specs.declared.edits.Edit.{Edit}
 use Rattle.goo_ranges_rows.specs.Rows.{AreRowsOf}
 use Rattle.goo_core_shelf.specs.Plan.{HaveKnownLots}
-use Rattle.goo_core_checks.specs.Changes.{AreOfLots, IsLotOf}
-use Rattle.goo_core_checks.proofs.Lots.{lots_weaker}
+use Rattle.goo_core_rules.specs.Changes.{AreOfLots, IsLotOf}
+use Rattle.goo_core_rules.proofs.Lots.{lots_weaker}
 
 -- the lot of each certificate is known
 lot_known : (s : State) → IsSound s → (n : ℕ) (lot : LotFields) → lot_in (get s.at n) ≡ Some lot → get s.lots (key_of lot) ≡ Some lot

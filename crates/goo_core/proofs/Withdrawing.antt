@@ -35,14 +35,14 @@ use Rattle.goo_spec.specs.Withdraw.{withdraw_refusal, withdraw_reply, with_withd
 use Rattle.goo_spec.proofs.Placing.{replaced}
 use Rattle.goo_core.specs.Moves.{IsChangeRuling}
 use Rattle.goo_core.specs.Ruling.{IsRuling, plain_meaning}
-use Rattle.goo_core_checks.specs.declared.ruling.Ruling.{Ruling}
+use Rattle.goo_core_rules.specs.declared.ruling.Ruling.{Ruling}
 use Rattle.goo_core.proofs.Rulings.{ruled_change}
-use Rattle.goo_core_checks.specs.Changes.{AreEditsFor, AreSmall, IsSmallFor, AreOfLots, IsLotOf}
+use Rattle.goo_core_rules.specs.Changes.{AreEditsFor, AreSmall, IsSmallFor, AreOfLots, IsLotOf}
 use Rattle.goo_core.specs.Changes.{AreMade}
 use Rattle.goo_ranges.specs.Sparing.{IsSmall}
 use Rattle.goo_ranges.proofs.Sparing.{small-for_more}
-use Rattle.goo_core_checks.proofs.Changing.{small-push}
-use Rattle.goo_core_checks.proofs.Lots.{inserted_lots, lots_weaker, lots_push, moved_lot}
+use Rattle.goo_core_rules.proofs.Changing.{small-push}
+use Rattle.goo_core_rules.proofs.Lots.{inserted_lots, lots_weaker, lots_push, moved_lot}
 use Rattle.goo_core.specs.Withdraw.{withdrawn, run_withdrawn, runs_withdrawn, range_checks, AreCommon}
 use Rattle.goo_core.specs.AccountRuns.{account_in, account_runs}
 use Rattle.goo_core.proofs.AccountRuns.{few_runs, met_runs}

@@ -20,9 +20,9 @@ ghost use Rattle.goo_core.specs.Withdraw.{withdrawn};
 
 use crate::range_checks::least_not_held;
 use crate::withdraw::withdraw_met;
-use goo_core_answers::callers::is_issuer;
-use goo_core_checks::correct::lower;
-use goo_core_checks::ruling::{Change, Ruling};
+use goo_core_reads::callers::is_issuer;
+use goo_core_rules::correct::lower;
+use goo_core_rules::ruling::{Change, Ruling};
 use goo_core_shelf::own::Meta;
 use goo_core_shelf::shelf::Shelf;
 use goo_ranges::Book;

@@ -21,10 +21,10 @@ ghost use Rattle.goo_core.specs.Issue.{IsStandingIf, IsStanding, appraisal_of, a
 ghost use Rattle.goo_core.specs.Issue.{terms_of, energy_checks};
 
 use crate::issue::{Appraisal, Terms, issue_edits, issue_of, issued_range, numbers_from};
-use goo_core_answers::callers::is_issuer;
-use goo_core_checks::days::{is_before, is_over};
-use goo_core_checks::declare::{Earnings, earn};
-use goo_core_checks::ruling::{Change, Ruling};
+use goo_core_reads::callers::is_issuer;
+use goo_core_rules::days::{is_before, is_over};
+use goo_core_rules::declare::{Earnings, earn};
+use goo_core_rules::ruling::{Change, Ruling};
 use goo_core_shelf::account::Account;
 use goo_core_shelf::device::Device;
 use goo_core_shelf::found::Progress;

@@ -27,8 +27,8 @@ mod verdict;
 mod withdraw;
 
 pub use decision::decide;
-pub use goo_core_checks::decision::Decision;
 pub use goo_core_list::list_shelf::ListShelf;
+pub use goo_core_rules::decision::Decision;
 pub use goo_core_shelf::account::Account;
 pub use goo_core_shelf::cancel_record::CancelRecord;
 pub use goo_core_shelf::counters::Counters;

@@ -1,8 +1,8 @@
 -- A caller who is denied a subject is sent no byte of it.
 use Rattle.std.proofs.Common.{◌≡◌, ◌∙◌, ℕ, false, List, None, Result, Ok, Err, refl, inl, inr, sym, ap, subst}
 use Rattle.goo_spec.specs.State.{State}
-use Rattle.goo_core_answers.specs.declared.denial.Denial.{Denial}
-use Rattle.goo_registry_desk.specs.Desk.{Seen}
+use Rattle.goo_core_reads.specs.declared.denial.Denial.{Denial}
+use Rattle.goo_core_shelf.specs.Desk.{Seen}
 use Rattle.goo_desk_heads.proofs.HeadFacts.{decides-one}
 use Rattle.goo_desk_heads.specs.Requests.{Parts}
 use Rattle.goo_desk_heads.specs.declared.request.RefusedHead.{RefusedHead}
@@ -11,8 +11,8 @@ use Rattle.goo_desk_responses.specs.declared.status.Status.{Status}
 use Rattle.goo_desk_responses.specs.declared.status.Status.TheVariants.{Unavailable}
 use Rattle.goo_desk_routes.specs.declared.task.Subject.{Subject}
 use Rattle.goo_desk_routes.specs.declared.task.Task.TheVariants.{Show}
-use Rattle.goo_desk_counter.proofs.OneShown.{shown-one}
-use Rattle.goo_desk_counter.specs.Showing.{shown_by, imported_by, begun_by}
+use Rattle.goo_desk_backend.proofs.OneShown.{shown-one}
+use Rattle.goo_desk_backend.specs.Showing.{shown_by, imported_by, begun_by}
 use Rattle.goo_desk_answers.specs.Handling.{handling_of}
 use Rattle.goo_desk_answers.specs.Responds.{Does, Handles, RespondsTo, show_response}
 use Rattle.goo_desk_answers.specs.declared.handling.Handling.{Handling}

@@ -1,15 +1,15 @@
 -- What a caller gets over HTTP who is denied what he asks for.
 use Rattle.std.specs.Prelude.{◌≡◌, ◌⊎◌, ℕ, List, false, None, Ok, Err}
 use Rattle.goo_spec.specs.State.{State}
-use Rattle.goo_core_answers.specs.declared.denial.Denial.{Denial}
-use Rattle.goo_registry_desk.specs.Desk.{Seen}
+use Rattle.goo_core_reads.specs.declared.denial.Denial.{Denial}
+use Rattle.goo_core_shelf.specs.Desk.{Seen}
 use Rattle.goo_desk_heads.specs.Requests.{Decides, Parts, is_for_head}
 use Rattle.goo_desk_responses.specs.Responses.{response_text, fixed}
 use Rattle.goo_desk_responses.specs.declared.status.Status.{Status}
 use Rattle.goo_desk_responses.specs.declared.status.Status.TheVariants.{Unavailable}
 use Rattle.goo_desk_routes.specs.declared.task.Subject.{Subject}
 use Rattle.goo_desk_routes.specs.declared.task.Task.TheVariants.{Show}
-use Rattle.goo_desk_counter.specs.Showing.{shown_by, imported_by, begun_by}
+use Rattle.goo_desk_backend.specs.Showing.{shown_by, imported_by, begun_by}
 use Rattle.goo_desk_answers.specs.Handling.{handling_of}
 use Rattle.goo_desk_answers.specs.Responds.{status_of_denial}
 use Rattle.goo_desk_answers.specs.declared.handling.Handling.TheVariants.{Own}

@@ -1,6 +1,6 @@
 //! Laws of the desk, of a registry.
 ghost use Rattle.goo_desk_answers.specs.Responds.{IsOneResponse};
-ghost use Rattle.goo_desk_counter.specs.Showing.{shown_by, imported_by, begun_by};
+ghost use Rattle.goo_desk_backend.specs.Showing.{shown_by, imported_by, begun_by};
 ghost use Rattle.goo_desk_server.specs.Runs.{StepsAreARun};
 ghost use Rattle.goo_desk.specs.Denied.{DeniedSeeNothing};
 

@@ -9,7 +9,7 @@ use Rattle.goo_spec.specs.Run.{final}
 use Rattle.goo_spec.specs.Sound.{IsSound}
 use Rattle.goo_spec.specs.State.{State}
 use Rattle.goo_spec.proofs.Promising.{promised}
-use Rattle.goo_registry_desk.specs.Desk.{Seen}
+use Rattle.goo_core_shelf.specs.Desk.{Seen}
 use Rattle.goo_desk_body.specs.Body.{body_of}
 use Rattle.goo_desk_outcome.specs.declared.unreadable.Unreadable.{Unreadable}
 use Rattle.goo_desk_lines.specs.Answers.{state_by}
@@ -20,9 +20,9 @@ use Rattle.goo_desk_heads.specs.declared.request.RefusedHead.{RefusedHead}
 use Rattle.goo_desk_responses.specs.declared.status.Status.{Status}
 use Rattle.goo_desk_routes.specs.declared.task.Task.{Task}
 use Rattle.goo_desk_routes.specs.declared.task.Task.TheVariants.{Apply, Import, Show}
-use Rattle.goo_desk_counter.specs.Counters.{Showing, Importing, Beginning}
-use Rattle.goo_desk_counter.specs.Tables.{AreOfTable, BeginTable, ImportsAreRuns}
-use Rattle.goo_desk_counter.proofs.TableFacts.{table_obeys, beginning_obeys}
+use Rattle.goo_desk_backend.specs.Backends.{Showing, Importing, Beginning}
+use Rattle.goo_desk_backend.specs.Tables.{AreOfTable, BeginTable, ImportsAreRuns}
+use Rattle.goo_desk_backend.proofs.TableFacts.{table_obeys, beginning_obeys}
 use Rattle.goo_desk_answers.specs.Brought.{request_if_any, Brings, BringsFirst, BringsBy, BringsIn, AreBrought, AreFirstBrought, KeepsPromise}
 use Rattle.goo_desk_answers.specs.Handling.{handling_of}
 use Rattle.goo_desk_answers.specs.Responds.{Does, Handles, RespondsTo, Responds, state_applied, Stopped, Stops, StopsIn, StopsAt, Fails}

@@ -3,16 +3,16 @@ use Rattle.std.proofs.Common.{◌≡◌, ◌∙◌, ◌⊎◌, ℕ, List, [], Op
 use Rattle.goo_types.specs.declared.request.Request.{Request}
 use Rattle.goo_spec.specs.Run.{final}
 use Rattle.goo_spec.specs.State.{State}
-use Rattle.goo_registry_desk.specs.Crash.{FindsOnly, FindsEither}
+use Rattle.goo_core_shelf.specs.Crash.{FindsOnly, FindsEither}
 use Rattle.goo_desk_body.specs.Body.{body_of}
 use Rattle.goo_desk_lines.specs.Lines.{body_reading}
 use Rattle.goo_desk_heads.specs.Requests.{Decides, Parts}
 use Rattle.goo_desk_heads.specs.declared.request.RefusedHead.{RefusedHead}
 use Rattle.goo_desk_routes.specs.declared.task.Subject.{Subject}
 use Rattle.goo_desk_routes.specs.declared.task.Task.TheVariants.{Apply, Import, Show}
-use Rattle.goo_desk_counter.specs.Counters.{Importing, Beginning}
-use Rattle.goo_desk_counter.specs.Durable.{FindsAmong}
-use Rattle.goo_desk_counter.specs.Tables.{ImportsAreRuns}
+use Rattle.goo_desk_backend.specs.Backends.{Importing, Beginning}
+use Rattle.goo_desk_backend.specs.Durable.{FindsAmong}
+use Rattle.goo_desk_backend.specs.Tables.{ImportsAreRuns}
 use Rattle.goo_desk_answers.specs.Brought.{request_if_any, Brings, BringsFirst, MayBring, BringsBy, BringsIn, AreLeft, FindsLed, FindsLeft}
 use Rattle.goo_desk_answers.specs.Handling.{handling_of}
 use Rattle.goo_desk_answers.specs.Responds.{state_applied}

@@ -8,8 +8,8 @@ use Rattle.goo_desk_responses.specs.Responses.{Response}
 use Rattle.goo_desk_responses.specs.declared.status.Status.{Status}
 use Rattle.goo_desk_routes.specs.declared.task.Task.{Task}
 use Rattle.goo_desk_routes.specs.declared.task.Task.TheVariants.{Apply, Import, Show}
-use Rattle.goo_core_answers.specs.declared.denial.Denial.{Denial}
-use Rattle.goo_desk_counter.specs.Counters.{Showing, Importing, ShowsOne, ImportsOne}
+use Rattle.goo_core_reads.specs.declared.denial.Denial.{Denial}
+use Rattle.goo_desk_backend.specs.Backends.{Showing, Importing, ShowsOne, ImportsOne}
 use Rattle.goo_desk_answers.specs.Handling.{handling_of}
 use Rattle.goo_desk_answers.specs.Responds.{IsFixed, IsGiven, Does, Handles, RespondsTo, Responds, IsOneResponse, show_response, import_response}
 use Rattle.goo_desk_answers.specs.declared.handling.Handling.{Handling}

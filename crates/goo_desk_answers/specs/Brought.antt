@@ -5,7 +5,7 @@ use Rattle.goo_types.specs.declared.request.Request.{Request}
 use Rattle.goo_spec.specs.Promise.{IsPromised}
 use Rattle.goo_spec.specs.Run.{final}
 use Rattle.goo_spec.specs.State.{State}
-use Rattle.goo_registry_desk.specs.Desk.{Seen}
+use Rattle.goo_core_shelf.specs.Desk.{Seen}
 use Rattle.goo_desk_body.specs.Body.{body_of}
 use Rattle.goo_desk_outcome.specs.declared.unreadable.Unreadable.{Unreadable}
 use Rattle.goo_desk_lines.specs.Lines.{body_reading}
@@ -13,7 +13,7 @@ use Rattle.goo_desk_heads.specs.Requests.{Decides, Parts}
 use Rattle.goo_desk_heads.specs.declared.request.RefusedHead.{RefusedHead}
 use Rattle.goo_desk_routes.specs.declared.task.Task.{Task}
 use Rattle.goo_desk_routes.specs.declared.task.Task.TheVariants.{Apply, Import, Show}
-use Rattle.goo_desk_counter.specs.Tables.{AreOfTable, BeginTable}
+use Rattle.goo_desk_backend.specs.Tables.{AreOfTable, BeginTable}
 use Rattle.goo_desk_answers.specs.Handling.{handling_of}
 use Rattle.goo_desk_answers.specs.declared.handling.Handling.{Handling}
 use Rattle.goo_desk_answers.specs.declared.handling.Handling.TheVariants.{Fixed, Own}

@@ -4,16 +4,16 @@ ghost use Rattle.goo_desk_body.specs.Body.{body_of};
 ghost use Rattle.goo_desk_lines.specs.Lines.{body_reading};
 ghost use Rattle.goo_desk_lines.specs.Reading.{Reads};
 ghost use Rattle.goo_core_shelf.specs.Shelf.{IsTold};
-ghost use Rattle.goo_registry_desk.specs.Crash.{FindsEither};
-ghost use Rattle.goo_registry_desk.specs.Desk.{StaysSure};
+ghost use Rattle.goo_core_shelf.specs.Crash.{FindsEither};
+ghost use Rattle.goo_core_shelf.specs.Desk.{StaysSure};
 ghost use Rattle.goo_desk_answers.specs.Responds.{Does, applied, state_applied, status_of_refusal};
 ghost use Rattle.goo_desk_answers.specs.Responds.{status_of_outcome, status_of_answer};
 ghost use Rattle.goo_desk_routes.specs.declared.task.Task.TheVariants.{Apply};
 
 use crate::answered::Answer;
 use arrayvec::ArrayString;
+use goo_desk_backend::Backend;
 use goo_desk_body::read_command;
-use goo_desk_counter::Counter;
 use goo_desk_lines::{LineAnswer as Given, Unread};
 use goo_desk_responses::{Content, ROOM, Status, short_response};
 use goo_types::fault::Fault;
@@ -63,7 +63,7 @@ fn read_body(alloc: Global, caller: &HolderCode, body: &[u8]) -> Result<Request,
 
 /// Applies the request that a body states.
 #[tactic(auto, unfolding(crate::specs::Responds::applied, crate::specs::Responds::state_applied))]
-fn apply_body<D: Counter>(
+fn apply_body<D: Backend>(
     alloc: Global,
     desk: &mut D,
     caller: &HolderCode,
@@ -109,7 +109,7 @@ fn filled(mut room: Vec<u8>, text: &ArrayString<ROOM>) -> Vec<u8>
 
 /// The answer to a caller's request. Room for it is taken before the request is applied, so a fault
 /// means that nothing changed.
-pub(crate) fn answer_apply<D: Counter>(
+pub(crate) fn answer_apply<D: Backend>(
     alloc: Global,
     desk: &mut D,
     caller: &HolderCode,

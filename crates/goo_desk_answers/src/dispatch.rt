@@ -3,9 +3,9 @@ ghost use Rattle.std.specs.Prelude.{◌≡◌, ◌⊎◌, IfOk, OnErr, OnOk};
 ghost use Rattle.goo_desk_heads.specs.Requests.{seen as parts_seen, parts_of};
 ghost use Rattle.goo_desk_responses.specs.Responses.{response_text, fixed};
 ghost use Rattle.goo_core_shelf.specs.Shelf.{IsTold};
-ghost use Rattle.goo_registry_desk.specs.Desk.{StaysSure};
+ghost use Rattle.goo_core_shelf.specs.Desk.{StaysSure};
 ghost use Rattle.goo_spec.specs.Sound.{IsSound};
-ghost use Rattle.goo_desk_counter.specs.Tables.{ImportsAreRuns};
+ghost use Rattle.goo_desk_backend.specs.Tables.{ImportsAreRuns};
 ghost use Rattle.goo_desk_answers.specs.Brought.{BringsBy, BringsIn, FindsLed, FindsLeft};
 ghost use Rattle.goo_desk_answers.specs.Brought.{KeepsPromise, MayBring};
 ghost use Rattle.goo_desk_answers.specs.Responds.{Does, Handles, RespondsTo, Responds, Stops};
@@ -16,7 +16,7 @@ use crate::apply::answer_apply;
 use crate::handling::{Handling, handling_for};
 use crate::import::answer_import;
 use crate::show::answer_show;
-use goo_desk_counter::Counter;
+use goo_desk_backend::Backend;
 use goo_desk_heads::{HeadFault, Method, Received, RefusedHead, is_for_head, read_request};
 use goo_desk_responses::{Status, fixed_response};
 use goo_desk_routes::{Routes, Task};
@@ -52,7 +52,7 @@ pub(crate) fn answer_fixed(
 }
 
 /// The answer to a caller's task.
-fn answer_task<D: Counter>(
+fn answer_task<D: Backend>(
     alloc: Global,
     desk: &mut D,
     caller: &HolderCode,
@@ -87,7 +87,7 @@ fn answer_task<D: Counter>(
 }
 
 /// The answer to a whole request.
-fn answer_handled<D: Counter>(
+fn answer_handled<D: Backend>(
     alloc: Global,
     desk: &mut D,
     request: &Received<'_>,
@@ -122,7 +122,7 @@ fn answer_handled<D: Counter>(
 }
 
 /// The answer to what all the bytes of a stream come to.
-fn answer_request<D: Counter>(
+fn answer_request<D: Backend>(
     alloc: Global,
     routes: &Routes,
     desk: &mut D,
@@ -165,7 +165,7 @@ fn answer_request<D: Counter>(
 /// # Errors
 ///
 /// As for [`answer`].
-pub fn answer_by_routes<D: Counter>(
+pub fn answer_by_routes<D: Backend>(
     alloc: Global,
     routes: &Routes,
     desk: &mut D,
@@ -200,7 +200,7 @@ pub fn answer_by_routes<D: Counter>(
 ///
 /// `promised`: what a registry promises after any list of requests holds of the requests that the
 /// bytes bring, and after a fault of those that stand. Its first premise is that the desk's imports
-/// are runs, as a registry's are ([`imports_are_runs`](goo_desk_counter::imports_are_runs)).
+/// are runs, as a registry's are ([`imports_are_runs`](goo_desk_backend::imports_are_runs)).
 ///
 /// `stays`: nothing is in doubt unless a call below failed. So after a `Memory` with no failed call
 /// the state is known, and a crash finds it.
@@ -211,7 +211,7 @@ pub fn answer_by_routes<D: Counter>(
 /// `Store` where what keeps the records failed, `Memory` where there was no room. Nothing changed
 /// then, but for an import of declarations: the rows before the fault stand, and the file is to be
 /// sent again.
-pub fn answer<D: Counter>(alloc: Global, desk: &mut D, bytes: &[u8]) -> Result<Answer, Fault>
+pub fn answer<D: Backend>(alloc: Global, desk: &mut D, bytes: &[u8]) -> Result<Answer, Fault>
     ensures answered { (D.seen desk.new).lies ≡ 0
         → IfOk result
         (λ answer. Responds D.shows D.imports

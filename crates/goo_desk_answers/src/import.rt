@@ -1,15 +1,15 @@
 //! An import of declarations.
 ghost use Rattle.std.specs.Prelude.{◌≡◌, IfOk, OnErr, OnOk};
-ghost use Rattle.goo_desk_counter.specs.Counters.{report_of};
-ghost use Rattle.goo_desk_counter.specs.Durable.{FindsAmong};
+ghost use Rattle.goo_desk_backend.specs.Backends.{report_of};
+ghost use Rattle.goo_desk_backend.specs.Durable.{FindsAmong};
 ghost use Rattle.goo_core_shelf.specs.Shelf.{IsTold};
-ghost use Rattle.goo_registry_desk.specs.Desk.{StaysSure};
+ghost use Rattle.goo_core_shelf.specs.Desk.{StaysSure};
 ghost use Rattle.goo_desk_answers.specs.Responds.{Does, Stopped, IsGiven, import_response};
 ghost use Rattle.goo_desk_routes.specs.declared.task.Task.TheVariants.{Import};
 
 use crate::answered::Answer;
 use crate::dispatch::answer_fixed;
-use goo_desk_counter::{Counter, Imported};
+use goo_desk_backend::{Backend, Imported};
 use goo_desk_responses::{Content, Status, long_response};
 use goo_types::fault::Fault;
 use goo_types::holder_code::HolderCode;
@@ -34,7 +34,7 @@ fn answer_imported(alloc: Global, imported: &Imported) -> Result<Answer, AllocEr
 }
 
 /// The answer to a caller's declarations.
-pub(crate) fn answer_import<D: Counter>(
+pub(crate) fn answer_import<D: Backend>(
     alloc: Global,
     desk: &mut D,
     caller: &HolderCode,

@@ -1,17 +1,17 @@
 //! What is shown.
 ghost use Rattle.std.specs.Prelude.{◌≡◌, IfOk, OnErr, OnOk};
-ghost use Rattle.goo_desk_counter.specs.Counters.{text_shown};
+ghost use Rattle.goo_desk_backend.specs.Backends.{text_shown};
 ghost use Rattle.goo_core_shelf.specs.Shelf.{IsTold};
-ghost use Rattle.goo_registry_desk.specs.Crash.{FindsOnly};
-ghost use Rattle.goo_registry_desk.specs.Desk.{StaysSure};
+ghost use Rattle.goo_core_shelf.specs.Crash.{FindsOnly};
+ghost use Rattle.goo_core_shelf.specs.Desk.{StaysSure};
 ghost use Rattle.goo_desk_answers.specs.Responds.{Does, IsGiven, content_of as content_stated};
 ghost use Rattle.goo_desk_answers.specs.Responds.{status_of_denial, show_response};
 ghost use Rattle.goo_desk_routes.specs.declared.task.Task.TheVariants.{Show};
 
 use crate::answered::Answer;
 use crate::dispatch::answer_fixed;
-use goo_core_answers::denial::Denial;
-use goo_desk_counter::{Counter, Shown};
+use goo_core_reads::denial::Denial;
+use goo_desk_backend::{Backend, Shown};
 use goo_desk_responses::{Content, Status, long_response};
 use goo_desk_routes::Subject;
 use goo_types::fault::Fault;
@@ -57,7 +57,7 @@ fn answer_shown(alloc: Global, subject: &Subject, shown: &Shown) -> Result<Answe
 }
 
 /// The answer to a caller that asks to be shown something.
-pub(crate) fn answer_show<D: Counter>(
+pub(crate) fn answer_show<D: Backend>(
     alloc: Global,
     desk: &mut D,
     caller: &HolderCode,

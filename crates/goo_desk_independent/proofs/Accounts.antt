@@ -17,15 +17,15 @@ use Rattle.goo_spec.proofs.Stepping.{sound_final}
 use Rattle.goo_spec_independent.specs.Agree.{AgreeOn, its_certificate, its_cancellation, its_notice}
 use Rattle.goo_spec_independent.specs.Independent.{on_day}
 use Rattle.goo_spec_independent.proofs.Lists.{independent}
-use Rattle.goo_core_answers.specs.Reads.{may_see}
-use Rattle.goo_core_answers.specs.declared.denial.Denial.{Denial}
-use Rattle.goo_core_answers.specs.declared.denial.Denial.TheVariants.{NotAllowed, Unknown}
+use Rattle.goo_core_reads.specs.Reads.{may_see}
+use Rattle.goo_core_reads.specs.declared.denial.Denial.{Denial}
+use Rattle.goo_core_reads.specs.declared.denial.Denial.TheVariants.{NotAllowed, Unknown}
 use Rattle.goo_registry.specs.Reads.{is_known_caller, shown_to, place_shown, sent_shown, notice_shown, account_denial, holder_shown}
 use Rattle.goo_registry.proofs.Alike.{same_cancellation, same_row}
 use Rattle.goo_files.proofs.Agreeing.{equal_texts}
 use Rattle.goo_files.specs.Texts.{IsStatement, IsDocument, cancellation_denial, denial_by, denial_in}
 use Rattle.goo_desk_routes.specs.declared.task.Subject.TheVariants.{Statement, Certificate, Cancellation as Document, Notice}
-use Rattle.goo_desk_counter.specs.Showing.{shown_by, certificate_as_text, notice_as_text}
+use Rattle.goo_desk_backend.specs.Showing.{shown_by, certificate_as_text, notice_as_text}
 use Rattle.goo_desk_independent.specs.Account.{RespondAlike, EqualResponses, OthersLeaveResponses}
 use Rattle.goo_desk_independent.proofs.Responding.{answer_alike, text_alike}
 

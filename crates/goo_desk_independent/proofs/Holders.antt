@@ -7,15 +7,15 @@ use Rattle.goo_types.specs.Place.{account_of}
 use Rattle.goo_types.specs.Piece.{Label}
 use Rattle.goo_spec.specs.Checks.{is_issuer, is_holder}
 use Rattle.goo_spec.specs.State.{State, Account, Cancellation, Sent}
-use Rattle.goo_core_answers.specs.Reads.{may_see}
-use Rattle.goo_core_answers.specs.declared.denial.Denial.{Denial}
-use Rattle.goo_core_answers.specs.declared.denial.Denial.TheVariants.{NotAllowed, Unknown}
+use Rattle.goo_core_reads.specs.Reads.{may_see}
+use Rattle.goo_core_reads.specs.declared.denial.Denial.{Denial}
+use Rattle.goo_core_reads.specs.declared.denial.Denial.TheVariants.{NotAllowed, Unknown}
 use Rattle.goo_registry.specs.Reads.{is_known_caller, shown_to, place_shown, sent_shown, notice_shown, account_denial, absent_denial, holder_shown}
 use Rattle.goo_files.specs.Texts.{IsStatement, IsDocument, IsAuditText, audit_denial, cancellation_denial, denial_by, denial_in}
 use Rattle.goo_desk_responses.specs.Responses.{response_text}
 use Rattle.goo_desk_routes.specs.declared.task.Subject.{Subject}
 use Rattle.goo_desk_routes.specs.declared.task.Subject.TheVariants.{Statement, Certificate, Cancellation as Document, Notice, Audit}
-use Rattle.goo_desk_counter.specs.Showing.{shown_by, certificate_as_text, notice_as_text}
+use Rattle.goo_desk_backend.specs.Showing.{shown_by, certificate_as_text, notice_as_text}
 use Rattle.goo_desk_answers.specs.Responds.{show_response}
 use Rattle.goo_desk_independent.specs.Holder.{AgreeOnHolder, HoldersSeeTheirOwn, OutsideIsUnknown, IsOutside}
 use Rattle.goo_desk_independent.proofs.Responding.{answer_alike, denied_alike, shown_in}

@@ -2,7 +2,7 @@
 use Rattle.std.proofs.Common.{◌≡◌, ◌∙◌, ℕ, false, List, Option, Some, None, Result, Ok, Err, sym, ap, subst}
 use Rattle.goo_spec.specs.State.{State}
 use Rattle.goo_spec.proofs.Mapping.{none_some, inside}
-use Rattle.goo_core_answers.specs.declared.denial.Denial.{Denial}
+use Rattle.goo_core_reads.specs.declared.denial.Denial.{Denial}
 use Rattle.goo_desk_heads.proofs.HeadFacts.{decides-one}
 use Rattle.goo_desk_heads.specs.Requests.{Parts}
 use Rattle.goo_desk_heads.specs.declared.request.RefusedHead.{RefusedHead}
@@ -10,7 +10,7 @@ use Rattle.goo_desk_responses.specs.Responses.{response_text}
 use Rattle.goo_desk_responses.specs.declared.status.Status.{Status}
 use Rattle.goo_desk_routes.specs.declared.task.Subject.{Subject}
 use Rattle.goo_desk_routes.specs.declared.task.Task.TheVariants.{Show}
-use Rattle.goo_desk_counter.specs.Showing.{shown_by, imported_by, IsTextUnless}
+use Rattle.goo_desk_backend.specs.Showing.{shown_by, imported_by, IsTextUnless}
 use Rattle.goo_desk_answers.specs.Handling.{handling_of}
 use Rattle.goo_desk_answers.specs.Responds.{Does, Handles, RespondsTo, IsGiven, show_response}
 use Rattle.goo_desk_answers.specs.declared.handling.Handling.{Handling}

@@ -5,7 +5,7 @@ use Rattle.goo_desk_heads.specs.Requests.{Decides, Parts}
 use Rattle.goo_desk_responses.specs.declared.status.Status.{Status}
 use Rattle.goo_desk_routes.specs.declared.task.Subject.{Subject}
 use Rattle.goo_desk_routes.specs.declared.task.Task.TheVariants.{Show}
-use Rattle.goo_desk_counter.specs.Showing.{shown_by, imported_by}
+use Rattle.goo_desk_backend.specs.Showing.{shown_by, imported_by}
 use Rattle.goo_desk_answers.specs.Handling.{handling_of}
 use Rattle.goo_desk_answers.specs.Responds.{Responds}
 use Rattle.goo_desk_answers.specs.declared.handling.Handling.TheVariants.{Own}

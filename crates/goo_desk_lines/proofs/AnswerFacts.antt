@@ -17,7 +17,7 @@ use Rattle.goo_desk_lines.specs.Lines.{lines_of}
 use Rattle.goo_files_streams.specs.Streams.{AppendsPrefix}
 use Rattle.goo_desk_lines.specs.Answers.{answer_line, answer_text, answer_to, is_good, state_after}
 use Rattle.goo_desk_lines.specs.Stops.{AnswersLine, IsBetweenLines, IsToldIn, IsTurnedDown, StandsInPart, StandsWhole}
-use Rattle.goo_registry_desk.specs.Desk.{Seen}
+use Rattle.goo_core_shelf.specs.Desk.{Seen}
 use Rattle.goo_desk_lines.specs.declared.answer.LineAnswer.{LineAnswer}
 use Rattle.goo_desk_lines.specs.Fold.{Answered, answering, counted, nothing_answered, with_answer, with_line, with_lines}
 use Rattle.goo_desk_lines.specs.declared.lines_fault.LinesFault.{LinesFault}

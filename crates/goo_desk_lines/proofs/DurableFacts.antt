@@ -4,9 +4,9 @@ use Rattle.std.proofs.lemmas.List.{append-nil}
 use Rattle.goo_files_streams.proofs.AppendsFacts.{appends-kept, appends-none, prefix-more, prefix-whole}
 use Rattle.goo_files_streams.specs.Streams.{AppendsPrefix, IsWholeOf}
 use Rattle.goo_spec.specs.State.{State}
-use Rattle.goo_registry_desk.specs.Crash.{FindsOnly, FindsEither}
+use Rattle.goo_core_shelf.specs.Crash.{FindsOnly, FindsEither}
 use Rattle.goo_desk_lines.specs.Answers.{answer_line, answer_text, answer_to, state_after}
-use Rattle.goo_registry_desk.specs.Desk.{Seen}
+use Rattle.goo_core_shelf.specs.Desk.{Seen}
 use Rattle.goo_desk_lines.specs.Durable.{FindsAnswered, FindsLine, state_with, text_with}
 use Rattle.goo_desk_lines.specs.Fold.{Answered, answering, nothing_answered, with_line, with_lines}
 use Rattle.goo_desk_lines.specs.Lines.{lines_of}

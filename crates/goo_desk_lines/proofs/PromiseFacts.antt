@@ -6,7 +6,7 @@ use Rattle.goo_spec.specs.State.{State}
 use Rattle.goo_spec.specs.Sound.{IsSound}
 use Rattle.goo_spec.specs.Promise.{IsPromised}
 use Rattle.goo_spec.proofs.Promising.{promised}
-use Rattle.goo_registry_desk.specs.Desk.{Seen}
+use Rattle.goo_core_shelf.specs.Desk.{Seen}
 use Rattle.goo_desk_lines.specs.Lines.{lines_of}
 use Rattle.goo_desk_lines.specs.Faults.{of_reading}
 use Rattle.goo_desk_lines.specs.Fold.{answering, lines}

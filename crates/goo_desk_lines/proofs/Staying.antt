@@ -1,6 +1,6 @@
 -- Only a failed call brings a doubt, line after line.
 use Rattle.std.proofs.Common.{◌≡◌, arith}
-use Rattle.goo_registry_desk.specs.Desk.{Seen, StaysSure}
+use Rattle.goo_core_shelf.specs.Desk.{Seen, StaysSure}
 
 -- nothing was called
 pub stays_still : (m : Seen) → m.doubts ≡ 0 → StaysSure m m

@@ -3,8 +3,8 @@ use Rattle.std.specs.Prelude.{◌≡◌, ◌⊎◌, ℕ, List, [], ◌∷◌, �
 use Rattle.std.specs.Io.KnownBytes.{Keeps}
 pub use Rattle.goo_files_streams.specs.Streams.{AppendsPrefix}
 use Rattle.goo_spec.specs.State.{State}
-use Rattle.goo_registry_desk.specs.Crash.{FindsOnly, FindsEither}
-use Rattle.goo_registry_desk.specs.Desk.{Seen}
+use Rattle.goo_core_shelf.specs.Crash.{FindsOnly, FindsEither}
+use Rattle.goo_core_shelf.specs.Desk.{Seen}
 use Rattle.goo_desk_lines.specs.Fold.{answering, nothing_answered, with_line}
 use Rattle.goo_desk_lines.specs.Lines.{lines_of}
 

@@ -2,7 +2,7 @@
 use Rattle.std.specs.Prelude.{◌≡◌, ℕ, List, ◌++◌, Result, Ok, Err}
 use Rattle.goo_spec.specs.State.{State}
 use Rattle.goo_spec.specs.Promise.{IsPromised}
-use Rattle.goo_registry_desk.specs.Desk.{Seen}
+use Rattle.goo_core_shelf.specs.Desk.{Seen}
 use Rattle.goo_desk_lines.specs.Lines.{lines_of}
 use Rattle.goo_desk_lines.specs.Requests.{requests_of, requests_in}
 use Rattle.goo_desk_lines.specs.declared.lines_fault.LinesFault.{LinesFault}

@@ -3,7 +3,7 @@ use Rattle.std.specs.Prelude.{◌≡◌, ℕ, [], ◌∷◌, ◌++◌, List, Opt
 use Rattle.std.specs.Io.KnownBytes.{Appends, Keeps}
 use Rattle.goo_files_streams.specs.Streams.{AppendsPrefix}
 use Rattle.goo_spec.specs.State.{State}
-use Rattle.goo_registry_desk.specs.Desk.{Seen}
+use Rattle.goo_core_shelf.specs.Desk.{Seen}
 use Rattle.goo_desk_lines.specs.Lines.{lines_of}
 use Rattle.goo_desk_lines.specs.Fold.{answering, counted, nothing_answered, with_line}
 use Rattle.goo_desk_lines.specs.declared.lines_fault.LinesFault.{LinesFault}

@@ -1,7 +1,7 @@
 //! Requests as lines of text: each line is answered with one line.
 //!
 //! A line is a holder's code, one space and the body of a request. The lines are answered in turn
-//! by a [`Desk`](goo_registry_desk::Desk), that is by whatever applies requests to a registry.
+//! by a [`Desk`](goo_core_shelf::desk::Desk), that is by whatever applies requests to a registry.
 #![tactic(auto)]
 
 mod answer;

@@ -25,7 +25,7 @@ use Rattle.goo_desk_lines.proofs.Obeying.{body_obeys, lines_obey, from_reading}
 use Rattle.goo_desk_lines.specs.Lines.{body_reading}
 use Rattle.goo_desk_lines.specs.Requests as lines
 use Rattle.goo_desk_outcome.specs.declared.unreadable.Unreadable.{Unreadable}
-use Rattle.goo_desk_counter.proofs.TableFacts.{table_obeys, beginning_obeys}
+use Rattle.goo_desk_backend.proofs.TableFacts.{table_obeys, beginning_obeys}
 use Rattle.goo_desk_answers.specs.Brought.{request_if_any, Brings, BringsFirst, BringsBy, BringsIn, AreLeft}
 use Rattle.goo_desk_answers.specs.Handling.{handling_of}
 use Rattle.goo_desk_answers.specs.declared.handling.Handling.{Handling}

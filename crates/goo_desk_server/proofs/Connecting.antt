@@ -1,7 +1,7 @@
 -- Connections one after another.
 use Rattle.std.proofs.Common.{◌≡◌, ◌<◌, ◌+◌, ℕ, zero, suc, List, Option, Result, Ok, Err, IsErrAnd, refl, sym, arith, subst}
-use Rattle.goo_registry_desk.specs.Desk.{Seen}
-use Rattle.goo_desk_counter.specs.Counters.{Showing, Importing, Beginning}
+use Rattle.goo_core_shelf.specs.Desk.{Seen}
+use Rattle.goo_desk_backend.specs.Backends.{Showing, Importing, Beginning}
 use Rattle.goo_desk_server.specs.ConnectionServed.{Connects}
 use Rattle.goo_desk_server.specs.Serving.{IsCounted, IsOneCounted, IsServed, Steps, StepsTo}
 use Rattle.goo_desk_server.specs.declared.server_fault.ServerFault.{ServerFault}

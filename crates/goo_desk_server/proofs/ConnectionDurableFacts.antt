@@ -5,9 +5,9 @@ use Rattle.goo_files_streams.specs.Streams.{AppendsPrefix}
 use Rattle.goo_files_streams.proofs.AppendsFacts.{prefix-whole}
 use Rattle.goo_types.specs.declared.request.Request.{Request}
 use Rattle.goo_spec.specs.State.{State}
-use Rattle.goo_registry_desk.specs.Crash.{FindsOnly}
+use Rattle.goo_core_shelf.specs.Crash.{FindsOnly}
 use Rattle.goo_desk_responses.specs.declared.status.Status.{Status}
-use Rattle.goo_desk_counter.specs.Counters.{Showing, Importing}
+use Rattle.goo_desk_backend.specs.Backends.{Showing, Importing}
 use Rattle.goo_desk_answers.specs.Brought.{AreLeft, FindsLeft}
 use Rattle.goo_desk_answers.specs.Responds.{Responds}
 use Rattle.goo_desk_answers.proofs.DurableFacts.{nothing_left}

@@ -5,11 +5,11 @@ use Rattle.std.specs.Io.KnownBytes.{Appends, Consumes, IsAtEnd}
 use Rattle.goo_files_streams.specs.Streams.{AppendsPrefix, IsWholeOf}
 use Rattle.goo_files_streams.proofs.AppendsFacts.{prefix-whole}
 use Rattle.goo_spec.specs.State.{State}
-use Rattle.goo_registry_desk.specs.Desk.{Seen, StaysSure}
+use Rattle.goo_core_shelf.specs.Desk.{Seen, StaysSure}
 use Rattle.goo_desk_heads.specs.Requests.{IsSure}
 use Rattle.goo_desk_responses.specs.declared.status.Status.{Status}
 use Rattle.goo_desk_responses.specs.declared.status.Status.TheVariants.{Unavailable}
-use Rattle.goo_desk_counter.specs.Counters.{Showing, Importing, Beginning}
+use Rattle.goo_desk_backend.specs.Backends.{Showing, Importing, Beginning}
 use Rattle.goo_desk_answers.specs.Responds.{Responds, Fails}
 use Rattle.goo_desk_server.specs.declared.connection.Served.{Served}
 use Rattle.goo_desk_server.specs.Reading.{StandsFor}

@@ -5,10 +5,10 @@ use Rattle.goo_types.specs.Obeys.{Obeys}
 use Rattle.goo_spec.specs.Sound.{IsSound}
 use Rattle.goo_spec.specs.State.{State}
 use Rattle.goo_spec.proofs.Promising.{promised}
-use Rattle.goo_registry_desk.specs.Desk.{Seen}
+use Rattle.goo_core_shelf.specs.Desk.{Seen}
 use Rattle.goo_desk_responses.specs.declared.status.Status.{Status}
-use Rattle.goo_desk_counter.specs.Counters.{Showing, Importing, Beginning}
-use Rattle.goo_desk_counter.specs.Tables.{ImportsAreRuns}
+use Rattle.goo_desk_backend.specs.Backends.{Showing, Importing, Beginning}
+use Rattle.goo_desk_backend.specs.Tables.{ImportsAreRuns}
 use Rattle.goo_desk_answers.specs.Brought.{AreLeft}
 use Rattle.goo_desk_answers.proofs.BroughtFacts.{Leads, responds_lead, fails_lead}
 use Rattle.goo_files_streams.specs.Streams.{IsWholeOf}

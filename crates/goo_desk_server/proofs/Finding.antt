@@ -1,9 +1,9 @@
 -- What a crash finds, connection by connection.
 use Rattle.std.proofs.Common.{◌≡◌, ◌∙◌, ◌+◌, ℕ, zero, suc, List, Option, sym, ap, subst, arith}
 use Rattle.goo_spec.specs.State.{State}
-use Rattle.goo_registry_desk.specs.Crash.{FindsOnly}
-use Rattle.goo_registry_desk.specs.Desk.{Seen}
-use Rattle.goo_desk_counter.specs.Counters.{Showing, Importing, Beginning}
+use Rattle.goo_core_shelf.specs.Crash.{FindsOnly}
+use Rattle.goo_core_shelf.specs.Desk.{Seen}
+use Rattle.goo_desk_backend.specs.Backends.{Showing, Importing, Beginning}
 use Rattle.goo_desk_server.specs.ConnectionDurable.{FindsHeard}
 use Rattle.goo_desk_server.specs.ConnectionServed.{Connects}
 use Rattle.goo_desk_server.specs.Durable.{NoneFailed, FindsTo, FindsServed}

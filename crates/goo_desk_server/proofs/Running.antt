@@ -12,9 +12,9 @@ use Rattle.goo_spec.specs.Sound.{IsSound}
 use Rattle.goo_spec.specs.State.{State}
 use Rattle.goo_spec.specs.Step.{next}
 use Rattle.goo_spec.proofs.Promising.{promised}
-use Rattle.goo_registry_desk.specs.Desk.{Seen}
-use Rattle.goo_desk_counter.specs.Counters.{Showing, Importing, Beginning}
-use Rattle.goo_desk_counter.specs.Tables.{ImportsAreRuns}
+use Rattle.goo_core_shelf.specs.Desk.{Seen}
+use Rattle.goo_desk_backend.specs.Backends.{Showing, Importing, Beginning}
+use Rattle.goo_desk_backend.specs.Tables.{ImportsAreRuns}
 use Rattle.goo_desk_answers.specs.Brought.{AreLeft}
 use Rattle.goo_desk_answers.proofs.BroughtFacts.{Leads}
 use Rattle.goo_desk_server.proofs.ConnectionPromiseFacts.{connects_lead}

@@ -3,9 +3,9 @@ use Rattle.std.specs.Prelude.{◌⊎◌, ℕ, List, Option}
 use Rattle.std.specs.Io.KnownBytes.{Keeps}
 use Rattle.goo_files_streams.specs.Streams.{AppendsPrefix, IsWholeOf}
 use Rattle.goo_spec.specs.State.{State}
-use Rattle.goo_registry_desk.specs.Crash.{FindsOnly}
+use Rattle.goo_core_shelf.specs.Crash.{FindsOnly}
 use Rattle.goo_desk_responses.specs.declared.status.Status.{Status}
-use Rattle.goo_desk_counter.specs.Counters.{Showing, Importing}
+use Rattle.goo_desk_backend.specs.Backends.{Showing, Importing}
 use Rattle.goo_desk_answers.specs.Brought.{FindsLeft}
 use Rattle.goo_desk_answers.specs.Responds.{Responds}
 use Rattle.goo_desk_server.specs.ConnectionServed.{IsApology}

@@ -3,13 +3,13 @@ use Rattle.std.specs.Prelude.{◌≡◌, ◌⊎◌, ℕ, Bool, List, None, Optio
 use Rattle.std.specs.Io.KnownBytes.{Appends}
 use Rattle.goo_files_streams.specs.Streams.{AppendsPrefix, IsWholeOf}
 use Rattle.goo_spec.specs.State.{State}
-use Rattle.goo_registry_desk.specs.Desk.{Seen, StaysSure}
+use Rattle.goo_core_shelf.specs.Desk.{Seen, StaysSure}
 use Rattle.goo_desk_heads.specs.Requests.{Decides, Parts, is_for_head}
 use Rattle.goo_desk_heads.specs.declared.request.RefusedHead.{RefusedHead}
 use Rattle.goo_desk_responses.specs.Responses.{response_text, fixed}
 use Rattle.goo_desk_responses.specs.declared.status.Status.{Status}
 use Rattle.goo_desk_responses.specs.declared.status.Status.TheVariants.{Unavailable}
-use Rattle.goo_desk_counter.specs.Counters.{Showing, Importing, Beginning}
+use Rattle.goo_desk_backend.specs.Backends.{Showing, Importing, Beginning}
 use Rattle.goo_desk_answers.specs.Responds.{Responds, Fails}
 
 -- whether a head alone is asked for

@@ -1,9 +1,9 @@
 -- What a crash finds once a server's connections were served.
 use Rattle.std.specs.Prelude.{◌≡◌, ◌+◌, ℕ, zero, suc, List, Option}
 use Rattle.goo_spec.specs.State.{State}
-use Rattle.goo_registry_desk.specs.Crash.{FindsOnly}
-use Rattle.goo_registry_desk.specs.Desk.{Seen, HasFailed}
-use Rattle.goo_desk_counter.specs.Counters.{Showing, Importing, Beginning}
+use Rattle.goo_core_shelf.specs.Crash.{FindsOnly}
+use Rattle.goo_core_shelf.specs.Desk.{Seen, HasFailed}
+use Rattle.goo_desk_backend.specs.Backends.{Showing, Importing, Beginning}
 use Rattle.goo_desk_server.specs.ConnectionDurable.{FindsHeard}
 use Rattle.goo_desk_server.specs.ConnectionServed.{Connects}
 use Rattle.goo_desk_server.specs.Serving.{Steps}

@@ -6,8 +6,8 @@ use Rattle.goo_types.specs.declared.request.Request.{Request}
 use Rattle.goo_spec.specs.Promise.{IsPromised}
 use Rattle.goo_spec.specs.Run.{final}
 use Rattle.goo_spec.specs.State.{State}
-use Rattle.goo_registry_desk.specs.Desk.{Seen}
-use Rattle.goo_desk_counter.specs.Counters.{Showing, Importing, Beginning}
+use Rattle.goo_core_shelf.specs.Desk.{Seen}
+use Rattle.goo_desk_backend.specs.Backends.{Showing, Importing, Beginning}
 use Rattle.goo_desk_answers.specs.Brought.{AreLeft}
 use Rattle.goo_desk_server.specs.Serving.{Steps}
 

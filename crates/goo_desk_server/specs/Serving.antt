@@ -1,7 +1,7 @@
 -- What a server's connections leave, and what it tells of what keeps the records.
 use Rattle.std.specs.Prelude.{◌≡◌, ◌≤◌, ◌<◌, ◌+◌, ℕ, zero, suc, List, Option, None, Result, Ok, Err}
-use Rattle.goo_registry_desk.specs.Desk.{Seen}
-use Rattle.goo_desk_counter.specs.Counters.{Showing, Importing, Beginning}
+use Rattle.goo_core_shelf.specs.Desk.{Seen}
+use Rattle.goo_desk_backend.specs.Backends.{Showing, Importing, Beginning}
 use Rattle.goo_desk_server.specs.ConnectionServed.{Connects}
 use Rattle.goo_desk_server.specs.declared.server_fault.ServerFault.{ServerFault}
 use Rattle.goo_desk_server.specs.declared.server_fault.ServerFault.TheVariants.{Write, Accept, Store, Memory}

@@ -5,9 +5,9 @@ ghost use Rattle.goo_desk_answers.specs.Brought.{FindsLeft};
 ghost use Rattle.goo_desk_server.specs.ConnectionDurable.{FindsHeard, SendsFound};
 ghost use Rattle.goo_desk_server.specs.ConnectionServed.{Connects, Leaves, Sends, SendsPart};
 ghost use Rattle.goo_desk_server.specs.ConnectionServed.{SendsExcuse};
-ghost use Rattle.goo_registry_desk.specs.Desk.{StaysSure};
+ghost use Rattle.goo_core_shelf.specs.Desk.{StaysSure};
 ghost use Rattle.goo_spec.specs.Sound.{IsSound};
-ghost use Rattle.goo_desk_counter.specs.Tables.{ImportsAreRuns};
+ghost use Rattle.goo_desk_backend.specs.Tables.{ImportsAreRuns};
 ghost use Rattle.goo_desk_server.specs.ConnectionPromised.{KeepsPromise};
 ghost use Rattle.goo_desk_server.specs.ConnectionFaults.{IsAfterReading, IsBeforeAnswer, IsToldIn};
 ghost use Rattle.goo_desk_server.specs.declared.serve_fault.ServeFault.TheVariants.{Write as Writing};
@@ -17,7 +17,7 @@ use crate::apology::apology;
 use crate::reading::read_decided;
 use crate::serve_fault::ServeFault;
 use goo_desk_answers::answer_by_routes;
-use goo_desk_counter::Counter;
+use goo_desk_backend::Backend;
 use goo_desk_responses::Status;
 use goo_desk_routes::Routes;
 use goo_files_streams::write_whole;
@@ -33,7 +33,7 @@ pub struct Served {
 }
 
 /// Answers these bytes.
-fn serve_bytes<D: Counter, W: Write>(
+fn serve_bytes<D: Backend, W: Write>(
     alloc: Global,
     routes: &Routes,
     desk: &mut D,
@@ -97,7 +97,7 @@ fn serve_bytes<D: Counter, W: Write>(
 /// # Errors
 ///
 /// See [`ServeFault`].
-pub fn serve_by_routes<D: Counter, R: Read, W: Write>(
+pub fn serve_by_routes<D: Backend, R: Read, W: Write>(
     alloc: Global,
     routes: &Routes,
     desk: &mut D,
@@ -153,7 +153,7 @@ pub fn serve_by_routes<D: Counter, R: Read, W: Write>(
 /// # Errors
 ///
 /// See [`ServeFault`].
-pub fn serve_one<D: Counter, R: Read, W: Write>(
+pub fn serve_one<D: Backend, R: Read, W: Write>(
     alloc: Global,
     desk: &mut D,
     reader: &mut R,

@@ -2,10 +2,10 @@
 ghost use Rattle.std.specs.Prelude.{◌≡◌, ◌++◌, ℕ, codes, decimal, OnOk};
 ghost use Rattle.std.specs.Io.KnownBytes.{Appends};
 ghost use Rattle.goo_spec.specs.Sound.{IsSound};
-ghost use Rattle.goo_registry_desk.specs.Desk.{Seen};
+ghost use Rattle.goo_core_shelf.specs.Desk.{Seen};
 ghost use Rattle.goo_desk_server.specs.ConnectionDurable.{FindsHeard};
 ghost use Rattle.goo_desk_server.specs.ConnectionServed.{Connects};
-ghost use Rattle.goo_desk_counter.specs.Tables.{ImportsAreRuns};
+ghost use Rattle.goo_desk_backend.specs.Tables.{ImportsAreRuns};
 ghost use Rattle.goo_desk_server.specs.Durable.{FindsServed};
 ghost use Rattle.goo_desk_server.specs.Runs.{KeepsPromise};
 ghost use Rattle.goo_desk_server.specs.Serving.{IsCounted, IsOneCounted, IsServed, IsToldIn};
@@ -16,7 +16,7 @@ use crate::listener::Listener;
 use crate::serve_fault::ServeFault;
 use crate::server_fault::ServerFault;
 use arrayvec::ArrayString;
-use goo_desk_counter::Counter;
+use goo_desk_backend::Backend;
 use goo_desk_routes::Routes;
 use goo_files_streams::{WriteFault, write_whole};
 use itoa::Buffer;
@@ -53,7 +53,7 @@ fn announce<W: Write>(port: u16, writer: &mut W) -> Result<(), WriteFault>
 ///
 /// - `heard`: the registry is as it was, or as answering what the client sent leaves it, whatever
 ///   the client does.
-fn serve_accepted<D: Counter, R: Read, W: Write>(
+fn serve_accepted<D: Backend, R: Read, W: Write>(
     alloc: Global,
     routes: &Routes,
     desk: &mut D,
@@ -76,7 +76,7 @@ fn serve_accepted<D: Counter, R: Read, W: Write>(
 }
 
 /// Accepts a connection, serves it and closes it.
-fn serve_next<D: Counter, L: Listener>(
+fn serve_next<D: Backend, L: Listener>(
     alloc: Global,
     routes: &Routes,
     desk: &mut D,
@@ -103,7 +103,7 @@ fn serve_next<D: Counter, L: Listener>(
 }
 
 /// Serves so many connections in turn.
-fn serve_all<D: Counter, L: Listener>(
+fn serve_all<D: Backend, L: Listener>(
     alloc: Global,
     routes: &Routes,
     desk: &mut D,
@@ -127,7 +127,7 @@ fn serve_all<D: Counter, L: Listener>(
 }
 
 /// Tells where it listens, and serves so many connections in turn.
-fn announce_and_serve<D: Counter, L: Listener, W: Write>(
+fn announce_and_serve<D: Backend, L: Listener, W: Write>(
     alloc: Global,
     routes: &Routes,
     desk: &mut D,
@@ -172,7 +172,7 @@ fn announce_and_serve<D: Counter, L: Listener, W: Write>(
 /// # Errors
 ///
 /// See [`ServerFault`]: after each of them no more connections are served.
-pub fn serve<D: Counter, L: Listener, W: Write>(
+pub fn serve<D: Backend, L: Listener, W: Write>(
     alloc: Global,
     desk: &mut D,
     listener: &mut L,

@@ -8,7 +8,7 @@ use Rattle.goo_spec.specs.State.{State, Cancellation}
 use Rattle.goo_spec.proofs.Unique.{one_list_of_runs}
 use Rattle.goo_spec_independent.specs.Independent.{on_day}
 use Rattle.goo_spec_independent.proofs.Lists.{independent}
-use Rattle.goo_core_answers.specs.Reads.{kept_where, names}
+use Rattle.goo_core_reads.specs.Reads.{kept_where, names}
 use Rattle.goo_files_csv.specs.Holdings.{holdings_text}
 use Rattle.goo_registry.specs.Reads.{is_cancelled_by}
 use Rattle.goo_registry.proofs.Alike.{agree_named, same_cancellation, same_row, took_alike}

@@ -6,12 +6,12 @@ use Rattle.goo_files_streams.specs.Streams.{AppendsPrefix}
 use Rattle.goo_types.specs.declared.fault.Fault.TheVariants as fault
 use Rattle.goo_spec.specs.State.{State, Account, Cancellation}
 use Rattle.goo_core_shelf.specs.Shelf.{Moment, Looks}
-use Rattle.goo_core_answers.specs.Reads.{may_see}
-use Rattle.goo_core_answers.specs.declared.denial.Denial.{Denial}
-use Rattle.goo_core_answers.specs.declared.denial.Denial.TheVariants as denial
+use Rattle.goo_core_reads.specs.Reads.{may_see}
+use Rattle.goo_core_reads.specs.declared.denial.Denial.{Denial}
+use Rattle.goo_core_reads.specs.declared.denial.Denial.TheVariants as denial
 use Rattle.goo_registry.specs.Reads.{account_denial, holder_shown, IsCancellationOf, IsCancellationDenied, IsCancellationShown}
 use Rattle.goo_registry.specs.AccountReads.{IsHeadingShown}
-use Rattle.goo_registry.specs.Shown.{apart}
+use Rattle.goo_registry.specs.Shown.{split_denial}
 use Rattle.goo_registry.specs.declared.cancellation_statement.CancellationStatement.{CancellationStatement}
 use Rattle.goo_registry.specs.declared.heading.Heading.{Heading}
 use Rattle.goo_registry.specs.declared.read_fault.ReadFault.{ReadFault}
@@ -99,7 +99,7 @@ module _ (old mid new : Moment) (before after : Option (List ℕ)) (caller : Lis
   kept_none (Some a) = refl
 
   -- the own code wasn't read
-  pub second_unread : (f : ReadFault) → Looks mid new (apart {T = Heading} (Err f)) (IsHeadingShown mid.state caller found.record.account)
+  pub second_unread : (f : ReadFault) → Looks mid new (split_denial {T = Heading} (Err f)) (IsHeadingShown mid.state caller found.record.account)
       → Writes old new before before (Err (of_read f)) (cancellation_denial old.state caller act) (λ (u : Unit {0}) t. IsDocument old.state act t)
   second_unread NotAllowed look = record {
     looks = chain_ok old mid new (Ok found) (IsCancellationShown old.state caller act) one (Err denial.NotAllowed) (IsHeadingShown mid.state caller found.record.account) tt look;

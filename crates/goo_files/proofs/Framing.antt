@@ -9,7 +9,7 @@ use Rattle.goo_types.specs.declared.fault.Fault.TheVariants as fault
 use Rattle.goo_types.specs.declared.piece.Piece.{Piece}
 use Rattle.goo_spec.specs.State.{State}
 use Rattle.goo_core_shelf.specs.Shelf.{Moment, Looks}
-use Rattle.goo_core_answers.proofs.Naming.{some_runs}
+use Rattle.goo_core_reads.proofs.Naming.{some_runs}
 use Rattle.goo_registry.specs.Reads.{account_denial}
 use Rattle.goo_registry.specs.AccountReads.{IsHeadingShown}
 use Rattle.goo_registry.specs.declared.heading.Heading.{Heading}

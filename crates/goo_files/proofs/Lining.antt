@@ -12,18 +12,18 @@ use Rattle.goo_ranges_rows.specs.Rows.{AreRowsOf}
 use Rattle.goo_core_shelf.specs.Shelf.{Moment, Looks, IsReady}
 use Rattle.goo_spec_runs.specs.NextRun.{from_of, BeginsFrom}
 use Rattle.goo_spec_runs.proofs.Walking.{IsWalking, walk_start, walk_on, walk_end}
-use Rattle.goo_core_answers.specs.Reads.{kept_where, names}
-use Rattle.goo_core_answers.specs.declared.denial.Denial.{Denial}
-use Rattle.goo_core_answers.specs.declared.denial.Denial.TheVariants as denial
+use Rattle.goo_core_reads.specs.Reads.{kept_where, names}
+use Rattle.goo_core_reads.specs.declared.denial.Denial.{Denial}
+use Rattle.goo_core_reads.specs.declared.denial.Denial.TheVariants as denial
 use Rattle.goo_types.specs.declared.fault.Fault.TheVariants as fault
 use Rattle.goo_core_shelf.proofs.Looking.{still, looked_as}
-use Rattle.goo_core_answers.specs.Ahead.{IsSeen}
-use Rattle.goo_core_answers.specs.declared.run_place.RunPlace.{RunPlace}
+use Rattle.goo_core_reads.specs.Ahead.{IsSeen}
+use Rattle.goo_core_reads.specs.declared.run_place.RunPlace.{RunPlace}
 use Rattle.goo_types.specs.declared.fault.Fault.{Fault}
-use Rattle.goo_core_answers.proofs.Naming.{some_runs}
+use Rattle.goo_core_reads.proofs.Naming.{some_runs}
 use Rattle.goo_registry.specs.Reads.{account_denial}
 use Rattle.goo_registry.specs.AccountReads.{IsNextRunShown, IsRunRead}
-use Rattle.goo_registry.specs.Shown.{apart}
+use Rattle.goo_registry.specs.Shown.{split_denial}
 use Rattle.goo_registry.specs.declared.read_fault.ReadFault.{ReadFault}
 use Rattle.goo_registry.specs.declared.read_fault.ReadFault.TheVariants.{NotAllowed, Unknown, Store, Memory}
 use Rattle.goo_files.specs.Lines.{AreLines, IsRowFault}
@@ -185,7 +185,7 @@ module _ {T : Type 0} (line : Piece → List ℕ) (sum : List Piece → T) where
         let clash : None ≡ Some why = sym (shown sure) ∙ now in cc
 
     -- what keeps the records failed
-    pub going_fails : (mid.doubts ≡ 0 → account_denial caller (get old.state.accounts account) ≡ None) → (fault : ReadFault) → Looks mid new (apart {T = Option Piece} (Err fault)) (IsNextRunShown mid.state caller account after)
+    pub going_fails : (mid.doubts ≡ 0 → account_denial caller (get old.state.accounts account) ≡ None) → (fault : ReadFault) → Looks mid new (split_denial {T = Option Piece} (Err fault)) (IsNextRunShown mid.state caller account after)
         → Writes {T = T} old new before at (Err (of_read fault)) None (AreLines line sum old.state account)
     going_fails shown NotAllowed look = record {
       looks = chain_ok old mid new tt (λ (u : Unit {0}). ⊤) going.looks (Err denial.NotAllowed) (IsNextRunShown mid.state caller account after) tt look;

@@ -8,9 +8,9 @@ use Rattle.goo_spec.specs.Lots.{is_held}
 use Rattle.goo_spec.specs.Runs.{AreRunsOf}
 use Rattle.goo_spec.specs.State.{State, Account, Cancellation}
 use Rattle.goo_core_shelf.specs.Shelf.{totals_of}
-use Rattle.goo_core_answers.specs.Reads.{kept_where, names}
-use Rattle.goo_core_answers.specs.declared.denial.Denial.{Denial}
-use Rattle.goo_core_answers.specs.declared.denial.Denial.TheVariants.{NotAllowed}
+use Rattle.goo_core_reads.specs.Reads.{kept_where, names}
+use Rattle.goo_core_reads.specs.declared.denial.Denial.{Denial}
+use Rattle.goo_core_reads.specs.declared.denial.Denial.TheVariants.{NotAllowed}
 use Rattle.goo_files_csv.specs.Holdings.{holdings_text}
 use Rattle.goo_files_documents.specs.Audit.{audit_line}
 use Rattle.goo_files_documents.specs.Cancellation.{cancellation_text}

@@ -1,8 +1,8 @@
 -- What a crash finds, row by row.
 use Rattle.std.proofs.Common.{◌≡◌, ◌∙◌, ℕ, List, [], ◌∷◌, ◌++◌, Option, Some, None, IfSome, inl, inr, refl, sym, ap, subst}
 use Rattle.goo_spec.specs.State.{State}
-use Rattle.goo_registry_desk.specs.Crash.{FindsOnly, FindsEither}
-use Rattle.goo_registry_desk.specs.Desk.{Seen}
+use Rattle.goo_core_shelf.specs.Crash.{FindsOnly, FindsEither}
+use Rattle.goo_core_shelf.specs.Desk.{Seen}
 use Rattle.goo_files_csv.specs.Rows.{header}
 use Rattle.goo_files_streams.specs.Streams.{IsWholeOf}
 use Rattle.goo_files_import.specs.Durable.{FindsReported}

@@ -1,7 +1,7 @@
 -- Rows imported in turn.
 use Rattle.std.proofs.Common.{◌≡◌, ◌∙◌, ℕ, List, [], ◌∷◌, ◌++◌, Option, Some, None, IfSome, refl, ap, sym, arith}
 use Rattle.goo_spec.specs.State.{State}
-use Rattle.goo_registry_desk.specs.Desk.{Seen, StaysSure}
+use Rattle.goo_core_shelf.specs.Desk.{Seen, StaysSure}
 use Rattle.goo_files_import.specs.Import.{Imported, with_row, with_rows, importing, nothing_imported, row_result, state_after}
 use Rattle.goo_files_import.specs.Table.{AreFirstRows, AreRows}
 use Rattle.goo_files_import.specs.Stands.{IsImported, StandsInPart}

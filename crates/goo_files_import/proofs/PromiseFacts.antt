@@ -11,7 +11,7 @@ use Rattle.goo_spec.specs.Obeys.{AllObey}
 use Rattle.goo_spec.specs.Sound.{IsSound}
 use Rattle.goo_spec.specs.Promise.{IsPromised}
 use Rattle.goo_spec.proofs.Promising.{promised}
-use Rattle.goo_registry_desk.specs.Desk.{Seen}
+use Rattle.goo_core_shelf.specs.Desk.{Seen}
 use Rattle.goo_files_streams.specs.Streams.{IsWholeOf}
 use Rattle.goo_files_csv.specs.Rows.{◌>>=◌, field_in, declaration_in, request_in}
 use Rattle.goo_files_import.specs.Import.{importing, requests_with, requests_of}

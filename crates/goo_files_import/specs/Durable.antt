@@ -1,8 +1,8 @@
 -- What a crash finds of an import.
 use Rattle.std.specs.Prelude.{◌≡◌, ◌⊎◌, ℕ, List, [], ◌∷◌, ◌++◌, Option, Result, Ok, Err}
 use Rattle.goo_spec.specs.State.{State}
-use Rattle.goo_registry_desk.specs.Crash.{FindsEither}
-use Rattle.goo_registry_desk.specs.Desk.{Seen}
+use Rattle.goo_core_shelf.specs.Crash.{FindsEither}
+use Rattle.goo_core_shelf.specs.Desk.{Seen}
 use Rattle.goo_files_import.specs.Import.{importing}
 use Rattle.goo_files_import.specs.Table.{AreFirstRows}
 use Rattle.goo_files_import.specs.declared.cause.ImportFault.{ImportFault}

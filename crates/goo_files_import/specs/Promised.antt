@@ -2,7 +2,7 @@
 use Rattle.std.specs.Prelude.{◌≡◌, ℕ, List, Result, Ok, Err}
 use Rattle.goo_spec.specs.State.{State}
 use Rattle.goo_spec.specs.Promise.{IsPromised}
-use Rattle.goo_registry_desk.specs.Desk.{Seen}
+use Rattle.goo_core_shelf.specs.Desk.{Seen}
 use Rattle.goo_files_import.specs.Import.{requests_of}
 use Rattle.goo_files_import.specs.Table.{AreRows, AreFirstRows}
 use Rattle.goo_files_import.specs.declared.cause.ImportFault.{ImportFault}

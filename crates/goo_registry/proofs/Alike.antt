@@ -16,9 +16,9 @@ use Rattle.goo_spec.proofs.Mapping.{inside, none_some}
 use Rattle.goo_spec.proofs.Unique.{one_list_of_runs}
 use Rattle.goo_spec_independent.specs.Agree.{AgreeOn, its_certificate, its_cancellation, its_notice}
 use Rattle.goo_spec_runs.specs.NextRun.{from_of, above, IsNextRun}
-use Rattle.goo_core_answers.specs.Reads.{may_see, kept_if, kept_where, names}
-use Rattle.goo_core_answers.specs.declared.denial.Denial.{Denial}
-use Rattle.goo_core_answers.specs.declared.denial.Denial.TheVariants.{NotAllowed, Unknown}
+use Rattle.goo_core_reads.specs.Reads.{may_see, kept_if, kept_where, names}
+use Rattle.goo_core_reads.specs.declared.denial.Denial.{Denial}
+use Rattle.goo_core_reads.specs.declared.denial.Denial.TheVariants.{NotAllowed, Unknown}
 use Rattle.goo_registry.specs.Reads.{place_shown, is_known_caller, shown_to, sent_shown, notice_shown, account_denial, holder_shown, is_cancelled_by, AreHoldings, IsCancellationDenied, IsCancellationShown}
 use Rattle.goo_registry.specs.AccountReads.{IsHeadingShown, IsNextRunShown}
 use Rattle.goo_registry.specs.Alike.{SameRuns, SameCancellation, EqualReads}

@@ -1,6 +1,6 @@
 -- What a request to a registry does, as a desk's.
 use Rattle.std.proofs.Common.{Result}
-use Rattle.goo_registry_desk.specs.Desk as desk
+use Rattle.goo_core_shelf.specs.Desk as desk
 use Rattle.goo_types.specs.declared.fault.Fault.{Fault}
 use Rattle.goo_types.specs.declared.outcome.Outcome.{Outcome}
 use Rattle.goo_types.specs.declared.request.Request.{Request}

@@ -4,10 +4,10 @@ use Rattle.std.specs.FinMap.{get}
 use Rattle.goo_types.specs.declared.piece.Piece.{Piece}
 use Rattle.goo_spec.specs.State.{State, Account}
 use Rattle.goo_spec_runs.specs.NextRun.{from_of, IsNextRun}
-use Rattle.goo_core_answers.specs.Reads.{kept_where, names}
-use Rattle.goo_core_answers.specs.Ahead.{IsSeen}
-use Rattle.goo_core_answers.specs.declared.denial.Denial.{Denial}
-use Rattle.goo_core_answers.specs.declared.run_place.RunPlace.{RunPlace}
+use Rattle.goo_core_reads.specs.Reads.{kept_where, names}
+use Rattle.goo_core_reads.specs.Ahead.{IsSeen}
+use Rattle.goo_core_reads.specs.declared.denial.Denial.{Denial}
+use Rattle.goo_core_reads.specs.declared.run_place.RunPlace.{RunPlace}
 use Rattle.goo_core_shelf.specs.Shelf.{Moment}
 use Rattle.goo_registry.specs.Reads.{account_denial}
 use Rattle.goo_registry.specs.declared.heading.Heading.{Heading}

@@ -1,5 +1,5 @@
 -- A registry as a desk, at one moment.
-use Rattle.goo_registry_desk.specs.Desk.{Seen}
+use Rattle.goo_core_shelf.specs.Desk.{Seen}
 use Rattle.goo_core_shelf.specs.Shelf.{Moment}
 
 abbrev pub seen_of : Moment → Seen

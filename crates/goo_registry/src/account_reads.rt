@@ -1,7 +1,7 @@
 //! An account's row, and its certificates run by run.
 
 ghost use Rattle.std.specs.Prelude.{◌≡◌, Some, IfOk, IfSome, OnErr};
-ghost use Rattle.goo_core_answers.specs.Ahead.{IsSeen, IsPlaceAfter};
+ghost use Rattle.goo_core_reads.specs.Ahead.{IsSeen, IsPlaceAfter};
 ghost use Rattle.goo_ranges_rows.specs.Rows.{AreRowsOf};
 ghost use Rattle.goo_spec.specs.Sound.{IsSound};
 ghost use Rattle.goo_core_shelf.specs.Shelf.{Looks, IsReady};
@@ -10,9 +10,9 @@ ghost use Rattle.goo_registry.specs.AccountReads.{IsAccountShown, IsHeadingShown
 
 use crate::access::{absent_denial, account_denial};
 use crate::heading::Heading;
-use goo_core_answers::denial::Denial;
-use goo_core_answers::next_run::next_run_naming;
-use goo_core_answers::run_place::RunPlace;
+use goo_core_reads::denial::Denial;
+use goo_core_reads::next_run::next_run_naming;
+use goo_core_reads::run_place::RunPlace;
 use goo_core_shelf::account::Account;
 use goo_core_shelf::shelf::Shelf;
 use goo_types::account_no::AccountNo;

@@ -3,8 +3,8 @@ ghost use Rattle.goo_registry.specs.Applying.{Applies};
 ghost use Rattle.goo_registry.specs.Desks.{seen_of};
 
 use crate::registry::Registry;
+use goo_core_shelf::desk::Desk;
 use goo_core_shelf::shelf::Shelf;
-use goo_registry_desk::Desk;
 use goo_types::fault::Fault;
 use goo_types::outcome::Outcome;
 use goo_types::request::Request;

@@ -14,9 +14,9 @@ ghost use Rattle.goo_spec.specs.Sound.{IsSound};
 ghost use Rattle.goo_core_shelf.specs.Shelf.{Spares};
 ghost use Rattle.goo_registry.specs.Applying.{Applies};
 ghost use Rattle.goo_registry.specs.Running.{Runs, RunsAsOne, answered, answers};
-ghost use Rattle.goo_registry.specs.Shown.{Shows, apart as answer_of};
+ghost use Rattle.goo_registry.specs.Shown.{Shows, split_denial};
 ghost use Rattle.goo_spec_runs.specs.NextRun.{from_of, BeginsFrom};
-ghost use Rattle.goo_core_answers.specs.Ahead.{IsSeen, IsPlaceAfter};
+ghost use Rattle.goo_core_reads.specs.Ahead.{IsSeen, IsPlaceAfter};
 ghost use Rattle.goo_registry.specs.AccountReads.{IsHeadingShown, IsNextRunShown, IsRunRead};
 ghost use Rattle.goo_registry.specs.Reads.{place_shown, notice_shown, AreHoldings};
 ghost use Rattle.goo_registry.specs.Reads.{IsCancellationShown, IsAudit};
@@ -32,9 +32,9 @@ use crate::place::find_place;
 use crate::read_fault::ReadFault;
 use crate::run::run_all;
 use crate::run_fault::RunFault;
-use goo_core_answers::audit::find_totals;
-use goo_core_answers::denial::Denial;
-use goo_core_answers::run_place::RunPlace;
+use goo_core_reads::audit::find_totals;
+use goo_core_reads::denial::Denial;
+use goo_core_reads::run_place::RunPlace;
 use goo_core_shelf::found::DeviceTotals;
 use goo_core_shelf::shelf::Shelf;
 use goo_types::account_no::AccountNo;
@@ -59,8 +59,8 @@ pub struct Registry<S: Shelf> {
 }
 
 /// The result of an answer that may be a denial or a fault.
-fn told<T: Drop>(answer: Result<Result<T, Denial>, Fault>) -> Result<T, ReadFault>
-    ensures { answer_of result ≡ answer }
+fn read_result<T: Drop>(answer: Result<Result<T, Denial>, Fault>) -> Result<T, ReadFault>
+    ensures { split_denial result ≡ answer }
 {
     match answer {
         Ok(Ok(shown)) => Ok(shown),
@@ -213,7 +213,7 @@ impl<S: Shelf> Registry<S> {
         ensures { Shows (S.seen self.old.shelf) (S.seen self.new.shelf) result
             (λ shown. shown ≡ place_shown (S.seen self.old.shelf).state caller.now number) }
     {
-        told(find_place(alloc, &mut self.shelf, caller, number))
+        read_result(find_place(alloc, &mut self.shelf, caller, number))
     }
 
     /// The certificates whose place names an account, as maximal runs of one lot and one place,
@@ -233,7 +233,7 @@ impl<S: Shelf> Registry<S> {
         ensures { Shows (S.seen self.old.shelf) (S.seen self.new.shelf) result
             (AreHoldings (S.seen self.old.shelf).state caller.now account) }
     {
-        told(find_holdings(alloc, &mut self.shelf, caller, account))
+        read_result(find_holdings(alloc, &mut self.shelf, caller, account))
     }
 
     /// What stands before the certificates of an account: the registry's code and date, who holds
@@ -249,7 +249,7 @@ impl<S: Shelf> Registry<S> {
         ensures { Shows (S.seen self.old.shelf) (S.seen self.new.shelf) result
             (IsHeadingShown (S.seen self.old.shelf).state caller.now account) }
     {
-        told(find_heading(&mut self.shelf, caller, account))
+        read_result(find_heading(&mut self.shelf, caller, account))
     }
 
     /// The first of the maximal runs of an account's certificates after a number, or of all of
@@ -273,7 +273,7 @@ impl<S: Shelf> Registry<S> {
         ensures begins { IfOk result (λ found. IfSome found (BeginsFrom (from_of after))) }
     {
         let mut place = RunPlace::after(after);
-        told(find_next_run(&mut self.shelf, caller, account, &mut place))
+        read_result(find_next_run(&mut self.shelf, caller, account, &mut place))
     }
 
     /// The same, after what was read before; the place then lies after the run, and where it lay if
@@ -302,7 +302,7 @@ impl<S: Shelf> Registry<S> {
             (λ found. IfSome found
             (λ run. IsSeen account (Some run.last) (S.seen self.old.shelf).rows place.new.ahead)) }
     {
-        told(find_next_run(&mut self.shelf, caller, account, place))
+        read_result(find_next_run(&mut self.shelf, caller, account, place))
     }
 
     /// A cancellation: its record, its holder and its certificates. It is shown to the issuing body
@@ -322,7 +322,7 @@ impl<S: Shelf> Registry<S> {
         ensures { Shows (S.seen self.old.shelf) (S.seen self.new.shelf) result
             (IsCancellationShown (S.seen self.old.shelf).state caller.now act) }
     {
-        told(find_cancellation(alloc, &mut self.shelf, caller, act))
+        read_result(find_cancellation(alloc, &mut self.shelf, caller, act))
     }
 
     /// A notice that was sent. It is shown to the issuing body and to the holder of the account
@@ -342,7 +342,7 @@ impl<S: Shelf> Registry<S> {
         ensures { Shows (S.seen self.old.shelf) (S.seen self.new.shelf) result
             (λ shown. shown ≡ notice_shown (S.seen self.old.shelf).state caller.now act) }
     {
-        told(find_notice(alloc, &mut self.shelf, caller, act))
+        read_result(find_notice(alloc, &mut self.shelf, caller, act))
     }
 
     /// The declared net energy in Wh, what corrections took off it, the certificates issued, those
@@ -361,6 +361,6 @@ impl<S: Shelf> Registry<S> {
         ensures { Shows (S.seen self.old.shelf) (S.seen self.new.shelf) result
             (IsAudit (S.seen self.old.shelf).state caller.now) }
     {
-        told(find_totals(alloc, &mut self.shelf, caller))
+        read_result(find_totals(alloc, &mut self.shelf, caller))
     }
 }

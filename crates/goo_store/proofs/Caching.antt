@@ -14,10 +14,10 @@ use Rattle.goo_tables_rows.specs.declared.account.AccountRow.{AccountRow}
 use Rattle.goo_store_changes.specs.Changes.{made}
 use Rattle.goo_store_changes.specs.declared.change.TableChange.{TableChange}
 use Rattle.goo_store_changes.specs.declared.change.TableChange.TheVariants.{AddHolder, AddAccount, CloseAccount, AddDevice, AddDeclaration, SetProgress, AddLot, DeletePiece, InsertPiece, AddPeer, AddReceipt, AddCancellation, AddWithdrawal, AddNoticeOut, AddNoticeIn, AddCorrection, SetToday, SetCounters}
-use Rattle.goo_store_lookups.specs.Holding.{is_sure, LeavesCommit, safe}
-use Rattle.goo_store_lookups.specs.Moments.{tables_in, count, moment, IsWell}
-use Rattle.goo_store_lookups.specs.StoreFaults.{BlamesStore}
-use Rattle.goo_store_lookups.proofs.Looking.{before, so_still}
+use Rattle.goo_store_judge.specs.Holding.{is_sure, LeavesCommit, safe}
+use Rattle.goo_store_judge.specs.Moments.{tables_in, count, moment, IsWell}
+use Rattle.goo_store_judge.specs.StoreFaults.{BlamesStore}
+use Rattle.goo_store_judge.proofs.Looking.{before, so_still}
 use Rattle.goo_core_shelf.proofs.Looking.{stays_still}
 use Rattle.goo_spec_tables.specs.Places.{rows_of}
 use Rattle.goo_store.specs.Ahead.{AreAhead}

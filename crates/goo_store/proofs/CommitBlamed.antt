@@ -11,15 +11,15 @@ use Rattle.goo_tables_rows.specs.Rows.{Tables}
 use Rattle.goo_tables_rows.specs.Stands.{HoldsOurs, Stands, doubts}
 use Rattle.goo_store_changes.specs.Changes.{made_all, AreFor, AreFree, HaveRoom}
 use Rattle.goo_store_changes.specs.declared.change.TableChange.{TableChange}
-use Rattle.goo_store_values.specs.Passing.{IsTroubleOf}
+use Rattle.goo_store_values.specs.Passing.{IsStatementFaultOf}
 use Rattle.goo_store_plans.specs.Planned.{IsPlanned}
 use Rattle.goo_store_plans.specs.Room.{HaveRowids}
-use Rattle.goo_store_values.specs.declared.trouble.Trouble.{Trouble}
-use Rattle.goo_store_values.specs.declared.trouble.Trouble.TheVariants.{Memory, Refused}
+use Rattle.goo_store_values.specs.declared.statement_fault.StatementFault.{StatementFault}
+use Rattle.goo_store_values.specs.declared.statement_fault.StatementFault.TheVariants.{Memory, Refused}
 use Rattle.goo_store_plans.proofs.Refusing.{more_faults}
 use Rattle.goo_store.specs.Gathering.{BlamesCommit, CanCarryOut, HaveWhatItNeeds}
-use Rattle.goo_store_lookups.specs.Holding.{is_sure, sure}
-use Rattle.goo_store_lookups.specs.Moments.{moment, tables_in, IsWell}
+use Rattle.goo_store_judge.specs.Holding.{is_sure, sure}
+use Rattle.goo_store_judge.specs.Moments.{moment, tables_in, IsWell}
 use Rattle.goo_store.specs.Preparing.{Prepares}
 use Rattle.goo_store_values.specs.Telling.{PassesOn, Tells}
 use Rattle.goo_store.proofs.Gathering.{told_so}
@@ -33,8 +33,8 @@ blamed_before old mid a f plan one r is = subst (λ (z : Result (Unit {0}) Fault
 })
 
 -- an error of the commit, where the tables have room, is a refusal only where the disk failed
-ended_so : (old mid new : State) (room : Type 0) → room → IsTrue mid.is_open → old.faults ≤ mid.faults → (made : Result (Unit {0}) Error) (read : Result (Unit {0}) Trouble) → PassesOn made read
-    → IfErr made (λ e. IfErr read (IsTroubleOf e)) → IfErr made (λ e. IsFault mid new e ⊎ (IsTooBigOrFull e × (room → ⊥))) → IfErr read (λ trouble. trouble ≡ Refused → MoreFaults old.faults new.faults)
+ended_so : (old mid new : State) (room : Type 0) → room → IsTrue mid.is_open → old.faults ≤ mid.faults → (made : Result (Unit {0}) Error) (read : Result (Unit {0}) StatementFault) → PassesOn made read
+    → IfErr made (λ e. IfErr read (IsStatementFaultOf e)) → IfErr made (λ e. IsFault mid new e ⊎ (IsTooBigOrFull e × (room → ⊥))) → IfErr read (λ cause. cause ≡ Refused → MoreFaults old.faults new.faults)
 ended_so old mid new room has live up made (Ok x) passes cause blames = tt
 ended_so old mid new room has live up made (Err Memory) passes cause blames = λ is. absurd cc
 ended_so old mid new room has live up (Ok x) (Err Refused) passes cause blames = absurd (true≢false (sym passes))
@@ -45,7 +45,7 @@ module _ (old mid new : State) (a b c : Bool) (plan : Plan) {T : Type 0} (gather
     (it : IsWell mid) (same : doubts mid ≡ 0 → tables_in mid ≡ tables_in old) (changes : List TableChange) (planned : doubts mid ≡ 0 → IsPlanned (tables_in mid) changes plan) (made : Result (Unit {0}) Error)
     (clean : doubt mid.is_clean ≤ doubt new.is_clean) (crash : (t : Tables) → Stands mid.now t → AreFor t changes → Survives mid new (HoldsOurs mid.is_open (made_all t changes)))
     (refused : HasCleanDisk new → mid.step_limit ≡ None → (t : Tables) → Stands mid.now t → AreFor t changes → AreFree t changes → IfErr made (λ e. IsFault mid new e ⊎ (IsTooBigOrFull e × (HaveRoom t changes → ⊥))))
-    (read : Result (Unit {0}) Trouble) (passes : PassesOn made read) (cause : IfErr made (λ e. IfErr read (IsTroubleOf e))) (result : Result (Unit {0}) Fault) (told : Tells read result b c) where
+    (read : Result (Unit {0}) StatementFault) (passes : PassesOn made read) (cause : IfErr made (λ e. IfErr read (IsStatementFaultOf e))) (result : Result (Unit {0}) Fault) (told : Tells read result b c) where
   late : HasCleanDisk new → HasCleanDisk mid
   late done = omega (arith, done, clean)
 

@@ -18,15 +18,15 @@ use Rattle.goo_tables_rows.specs.Stands.{Stands, Settled, Holds, HoldsOurs, AreO
 use Rattle.goo_tables_rows.proofs.Catalogued.{ours_of}
 use Rattle.goo_tables_rows.proofs.Decoded.{decoded}
 use Rattle.goo_store_changes.specs.declared.change.TableChange.{TableChange}
-use Rattle.goo_store_values.specs.declared.trouble.Trouble.{Trouble}
-use Rattle.goo_store_values.specs.declared.trouble.Trouble.TheVariants.{Memory, Refused}
+use Rattle.goo_store_values.specs.declared.statement_fault.StatementFault.{StatementFault}
+use Rattle.goo_store_values.specs.declared.statement_fault.StatementFault.TheVariants.{Memory, Refused}
 use Rattle.goo_store_changes.specs.Changes.{made_all, AreFor}
 use Rattle.goo_spec_tables.specs.Kept.{AreKept}
-use Rattle.goo_store_lookups.specs.Moments.{tables_in, OpensAs, count, moment, IsWell}
+use Rattle.goo_store_judge.specs.Moments.{tables_in, OpensAs, count, moment, IsWell}
 use Rattle.goo_spec_tables.specs.Places.{rows_of}
 use Rattle.goo_store_plans.specs.Found.{IsBasisOf, IsNoBasis}
 use Rattle.goo_store_plans.specs.Planned.{IsPlanned}
-use Rattle.goo_store_plans.specs.declared.findings.KnownBasis.{KnownBasis}
+use Rattle.goo_store_plans.specs.declared.known_rows.KnownBasis.{KnownBasis}
 use Rattle.goo_store.proofs.Found.{no_basis}
 use Rattle.goo_store.proofs.Caching.{opened}
 use Rattle.goo_store.specs.Caching.{IsCacheOf, HoldsCache}
@@ -34,8 +34,8 @@ use Rattle.goo_store.specs.declared.cache.Cache.{Cache}
 use Rattle.std.specs.Prelude.{is_ok}
 use Rattle.goo_spec_tables.specs.States.{state_of}
 use Rattle.goo_store_values.specs.Telling.{PassesOn, Tells}
-use Rattle.goo_store_lookups.proofs.Looking.{survived}
-use Rattle.goo_store_lookups.specs.Holding.{is_sure, sure, LeavesCommit, opens_so, left_by}
+use Rattle.goo_store_judge.proofs.Looking.{survived}
+use Rattle.goo_store_judge.specs.Holding.{is_sure, sure, LeavesCommit, opens_so, left_by}
 
 -- trees that hold these tables are read as them
 held_tables : (t : Tables) (db : Trees) → Holds t db → tables_of db ≡ t
@@ -125,7 +125,7 @@ module _ (old new : State) (it : IsWell old) (changes : List TableChange) (plan 
   works_so (Err e) live = tt
 
   -- what is told of it
-  pub committed : (read : Result (Unit {0}) Trouble) (a b : Bool) (result : Result (Unit {0}) Fault) → LeavesCommit old → a ≡ false → PassesOn r read → Tells read result a b
+  pub committed : (read : Result (Unit {0}) StatementFault) (a b : Bool) (result : Result (Unit {0}) Fault) → LeavesCommit old → a ≡ false → PassesOn r read → Tells read result a b
       → Commits (moment old a) (moment new b) result plan
   committed read a b result law not_yet passes told =
       go r read passes told (tables_made r made) (tables_kept r unmade) (works_so r works)
@@ -145,7 +145,7 @@ module _ (old new : State) (it : IsWell old) (changes : List TableChange) (plan 
         crash = λ late none. found law late none b;
       }
 
-      go : (q : Result (Unit {0}) Error) (read : Result (Unit {0}) Trouble) → PassesOn q read → Tells read result a b
+      go : (q : Result (Unit {0}) Error) (read : Result (Unit {0}) StatementFault) → PassesOn q read → Tells read result a b
           → OnOk q (doubts new ≡ 0 → tables_in new ≡ made_all (tables_in old) changes) → OnErr q (doubts new ≡ 0 → tables_in new ≡ tables_in old) → OnOk q (HasCleanDisk new → doubts new ≡ 0)
           → Commits (moment old a) (moment new b) result plan
       go (Ok x) (Ok y) p tells ok err live = subst (λ z. Commits (moment old a) (moment new b) z plan) (sym tells.0) (record {

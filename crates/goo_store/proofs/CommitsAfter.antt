@@ -10,10 +10,10 @@ use Rattle.goo_core_shelf.specs.Plan.{Fits, Commits, IsEither}
 use Rattle.goo_core_shelf.specs.Shelf.{Moment, Looks, IsTold}
 use Rattle.goo_core_shelf.proofs.Looking.{stays_both}
 use Rattle.goo_core_shelf.specs.declared.plan.Plan.{Plan}
-use Rattle.goo_store_lookups.specs.Holding.{LeavesCommit}
-use Rattle.goo_store_lookups.specs.Moments.{count, moment, IsWell}
+use Rattle.goo_store_judge.specs.Holding.{LeavesCommit}
+use Rattle.goo_store_judge.specs.Moments.{count, moment, IsWell}
 use Rattle.goo_store.specs.Preparing.{Prepares}
-use Rattle.goo_store_lookups.proofs.Looking.{refused_look}
+use Rattle.goo_store_judge.proofs.Looking.{refused_look}
 
 -- the flag of a shelf that answers is down
 pub not_refused : (f : Bool) → count f ≡ 0 → f ≡ false

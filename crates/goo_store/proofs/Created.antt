@@ -12,14 +12,14 @@ use Rattle.goo_ranges_rows.specs.Certificates.{certificates_of}
 use Rattle.goo_tables_rows.specs.Stands.{Stands, Settled, doubts}
 use Rattle.goo_tables_rows.proofs.Catalogued.{ours_of}
 use Rattle.goo_tables_rows.proofs.Decoded.{decoded}
-use Rattle.goo_tables_holdings.specs.Changes.{begun}
+use Rattle.goo_tables_accounts.specs.Changes.{begun}
 use Rattle.goo_store.specs.Creating.{meta_of, IsFirst}
 use Rattle.goo_spec_tables.specs.Kept.{AreKept}
-use Rattle.goo_store_lookups.specs.Moments.{IsWell, tables_in}
+use Rattle.goo_store_judge.specs.Moments.{IsWell, tables_in}
 use Rattle.goo_spec_tables.specs.Places.{rows_of}
 use Rattle.goo_spec_tables.specs.Readable.{is_meta, reads}
 use Rattle.goo_spec_tables.specs.States.{state_of}
-use Rattle.goo_store_lookups.specs.Holding.{sure}
+use Rattle.goo_store_judge.specs.Holding.{sure}
 use Rattle.goo_spec_tables.proofs.Known.{day_back}
 
 module _ (code : ℕ) (today : CalendarDay) (next_serial : ℕ) (it : IsFirst code today next_serial) where

@@ -7,7 +7,7 @@ use Rattle.goo_types.specs.Piece.{IsRising, IsRisingFrom}
 use Rattle.goo_types.specs.declared.piece.Piece.{Piece}
 use Rattle.goo_spec_runs.specs.NextRun.{ending_from, first_of, from_of}
 use Rattle.goo_store_plans.specs.Found.{IsEdge}
-use Rattle.goo_store_values.specs.declared.trouble.Trouble.{Trouble}
+use Rattle.goo_store_values.specs.declared.statement_fault.StatementFault.{StatementFault}
 use Rattle.goo_store.proofs.Next.{first_beyond}
 
 module _ (wants : Piece → Bool) (after : ℕ) where
@@ -69,7 +69,7 @@ found_among test n (q ∷ ps) p found at = go (λ it. found_among test n ps p it
     go rest false is = ap (λ b. (q.last == n) || b) (rest is) ∙ or_true (q.last == n)
 
 -- so the number at which it ends is an edge
-pub edge_found : (test : Piece → Bool) (ps : List Piece) (edge : Option ℕ) (read : Result (Option Piece) Trouble) → ((row : Option Piece) → read ≡ Ok row → row ≡ find test ps)
+pub edge_found : (test : Piece → Bool) (ps : List Piece) (edge : Option ℕ) (read : Result (Option Piece) StatementFault) → ((row : Option Piece) → read ≡ Ok row → row ≡ find test ps)
     → IfSome edge (λ n. IsOkAnd read (λ found. IsSomeAnd found (λ p. p.last ≡ n))) → IsEdge edge ps
 edge_found test ps None read found is = tt
 edge_found test ps (Some n) (Ok (Some p)) found is = found_among test n ps p (found (Some p) refl) is

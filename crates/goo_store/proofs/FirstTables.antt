@@ -12,7 +12,7 @@ use Rattle.goo_tables_rows.specs.Stands.{Stands, HoldsOurs, Settled, IsSettled, 
 use Rattle.goo_tables_rows.specs.declared.piece.PieceRow.{PieceRow}
 use Rattle.goo_tables_rows.proofs.Catalogued.{ours_of}
 use Rattle.goo_tables_rows.proofs.Decoded.{decoded}
-use Rattle.goo_tables_holdings.specs.Changes.{with_version}
+use Rattle.goo_tables_accounts.specs.Changes.{with_version}
 use Rattle.goo_store_changes.specs.Changes.{made_all, AreFor}
 use Rattle.goo_store_changes.specs.declared.change.TableChange.{TableChange}
 use Rattle.goo_store_plans.specs.JoiningChanges.{JoinsPieces}
@@ -27,12 +27,12 @@ use Rattle.goo_store_open.specs.Reading.{IsMet}
 use Rattle.goo_store_open.specs.declared.fault.OpenFault.{OpenFault}
 use Rattle.goo_store_open.specs.declared.layout.Layout.TheVariants.{First}
 use Rattle.goo_store_values.specs.Passing.{open_fault_of}
-use Rattle.goo_store_values.specs.declared.trouble.Trouble.{Trouble}
-use Rattle.goo_store_values.specs.declared.trouble.Trouble.TheVariants.{Memory, Refused}
-use Rattle.goo_store_lookups.specs.Holding.{sure}
-use Rattle.goo_store_lookups.specs.Moments.{IsWell, tables_in}
-use Rattle.goo_store_lookups.specs.Opening.{Judges}
-use Rattle.goo_store_lookups.proofs.Judging.{keys_of}
+use Rattle.goo_store_values.specs.declared.statement_fault.StatementFault.{StatementFault}
+use Rattle.goo_store_values.specs.declared.statement_fault.StatementFault.TheVariants.{Memory, Refused}
+use Rattle.goo_store_judge.specs.Holding.{sure}
+use Rattle.goo_store_judge.specs.Moments.{IsWell, tables_in}
+use Rattle.goo_store_judge.specs.Opening.{Judges}
+use Rattle.goo_store_judge.proofs.Judging.{keys_of}
 use Rattle.goo_store.specs.FirstTables.{HoldsFirst, Rewrites, Renews}
 
 -- ---- the pieces are joined, in one transaction
@@ -107,7 +107,7 @@ not_judged_first Tells a b f judges met outside = record {
   crash = λ late db left. inl (judges.crash late (met (judges.clean late)) db left);
 }
 
-outside_told : (trouble : Trouble) → IsOutside (open_fault_of trouble)
+outside_told : (cause : StatementFault) → IsOutside (open_fault_of cause)
 outside_told Memory = inr refl
 outside_told Refused = inl refl
 
@@ -156,8 +156,8 @@ module _ {T : Type 0} (listed : T → List PieceRow) (a b c : State) (x : T) (ju
     ];
   }
 
-  pub not_renewed : {U V : Type 0} (trouble : Trouble) (f : OpenFault) → f ≡ open_fault_of trouble → (ps : List PieceRow) → ps ≡ listed x → Rewrites {T = U} b c ps (Err trouble) → Renews {T = V} a c (Err f)
-  not_renewed trouble f word ps given writes = record {
+  pub not_renewed : {U V : Type 0} (cause : StatementFault) (f : OpenFault) → f ≡ open_fault_of cause → (ps : List PieceRow) → ps ≡ listed x → Rewrites {T = U} b c ps (Err cause) → Renews {T = V} a c (Err f)
+  not_renewed cause f word ps given writes = record {
     clean = λ late. judges.clean (writes.clean late);
     outside = writes.outside;
     works = tt;
@@ -167,7 +167,7 @@ module _ {T : Type 0} (listed : T → List PieceRow) (a b c : State) (x : T) (ju
         let before = judges.rests mid (was_met mid) in
         let after = writes.rests late (them mid).0 (first_still mid) (sym (given ∙ (them mid).3)) in
         record { was_open = λ live. before.was_open (after.was_open live); now = λ live. after.now live ∙ before.now (after.was_open live); committed = λ live. after.committed live ∙ before.committed (after.was_open live) };
-    words = λ _ _ _ _. inl (subst IsOutside (sym word) (outside_told trouble));
+    words = λ _ _ _ _. inl (subst IsOutside (sym word) (outside_told cause));
     crash = λ late db left. elim (writes.crash late (them (writes.clean late)).0 (first_still (writes.clean late)) (sym (given ∙ (them (writes.clean late)).3)) db left) [
       | inl early ↦ inl (judges.crash (writes.clean late) (was_met (writes.clean late)) db early)
       | inr holds ↦ inr ((them (writes.clean late)).0, first (writes.clean late), (them (writes.clean late)).2, kept_after (writes.clean late), holds.0, holds.1 (live (writes.clean late)))

@@ -22,15 +22,15 @@ use Rattle.goo_tables_rows.specs.declared.piece.PieceRow.{PieceRow}
 use Rattle.goo_spec_tables.specs.Devices.{device_of}
 use Rattle.goo_spec_tables.specs.States.{state_of}
 use Rattle.goo_spec_tables.specs.Places.{lot_of, piece_of, rows_of}
-use Rattle.goo_store_plans.specs.Found.{IsRowOf, IsBasisOf, IsDeviceOf, IsNext, IsStated, AreStated, AreFindingsOf, AreNone, AreEdges, IsNoBasis}
+use Rattle.goo_store_plans.specs.Found.{IsRowOf, IsBasisOf, IsDeviceOf, IsNext, IsStated, AreStated, AreInTables, AreNone, AreEdges, IsNoBasis}
 use Rattle.goo_store.specs.Found.{IsBeside, Knows, KeepsFound, KeepsDevice, KeepsLot, KeepsLots, KeepsRead, KeepsRow}
-use Rattle.goo_store_lookups.specs.Holding.{sure}
-use Rattle.goo_store_lookups.specs.Moments.{tables_in, IsWell}
-use Rattle.goo_store_plans.specs.declared.findings.Findings.{Findings}
-use Rattle.goo_store_plans.specs.declared.findings.KnownBasis.{KnownBasis}
-use Rattle.goo_store_plans.specs.declared.findings.KnownDevice.{KnownDevice}
+use Rattle.goo_store_judge.specs.Holding.{sure}
+use Rattle.goo_store_judge.specs.Moments.{tables_in, IsWell}
+use Rattle.goo_store_plans.specs.declared.known_rows.KnownRows.{KnownRows}
+use Rattle.goo_store_plans.specs.declared.known_rows.KnownBasis.{KnownBasis}
+use Rattle.goo_store_plans.specs.declared.known_rows.KnownDevice.{KnownDevice}
 use Rattle.goo_store_plans.specs.declared.lot_numbers.NumberedLot.{NumberedLot}
-use Rattle.goo_store_lookups.proofs.Looking.{before, so_still}
+use Rattle.goo_store_judge.proofs.Looking.{before, so_still}
 use Rattle.goo_store_plans.proofs.RowsGathered.{found_by_key}
 use Rattle.goo_store_values.proofs.RowsRead.{found_row}
 use Rattle.goo_store.proofs.RowsRead.{unmapped}
@@ -44,18 +44,18 @@ no_basis t known is = record {
 }
 
 -- nothing kept is right of all tables
-pub none_known : (s : State) (findings : Findings) → AreNone findings → Knows s findings
-none_known s findings is none = record {
+pub none_known : (s : State) (known_rows : KnownRows) → AreNone known_rows → Knows s known_rows
+none_known s known_rows is none = record {
   own = subst (λ o. IsRowOf o (tables_in s)) (sym is.own) tt;
-  basis = no_basis (tables_in s) findings.basis is.basis;
+  basis = no_basis (tables_in s) known_rows.basis is.basis;
   lots = subst (AreStated (tables_in s).lots) (sym is.lots) (All-nil _);
   edges = subst (λ e. AreEdges e (rows_of (tables_in s))) (sym is.edges) (record { last = tt; asked = tt });
 }
 
 -- so are the row and the basis that are known after a commit, if they are right, and nothing else that is kept
-pub known_after : (s : State) (findings : Findings) → AreNone findings → (own : Option MetaRow) → (doubts s ≡ 0 → IsRowOf own (tables_in s)) → (basis : KnownBasis) → (doubts s ≡ 0 → IsBasisOf basis (tables_in s))
-    → Knows s (record { own = own; basis = basis; lots = findings.lots; edges = findings.edges })
-known_after s findings is own row_right basis right none = record {
+pub known_after : (s : State) (known_rows : KnownRows) → AreNone known_rows → (own : Option MetaRow) → (doubts s ≡ 0 → IsRowOf own (tables_in s)) → (basis : KnownBasis) → (doubts s ≡ 0 → IsBasisOf basis (tables_in s))
+    → Knows s (record { own = own; basis = basis; lots = known_rows.lots; edges = known_rows.edges })
+known_after s known_rows is own row_right basis right none = record {
   own = row_right none;
   basis = right none;
   lots = subst (AreStated (tables_in s).lots) (sym is.lots) (All-nil _);
@@ -63,8 +63,8 @@ known_after s findings is own row_right basis right none = record {
 }
 
 -- what is kept stays right
-pub known : (old new : State) (it : IsWell old) {T : Type 0} (r : Result T Error) (right : Tables → T → Type 0) → Looks old new r right → (findings : Findings) → Knows old findings → Knows new findings
-known old new it r right looks findings knows none = so_still old new it r right looks (AreFindingsOf findings) none (knows (before old new it r right looks none))
+pub known : (old new : State) (it : IsWell old) {T : Type 0} (r : Result T Error) (right : Tables → T → Type 0) → Looks old new r right → (known_rows : KnownRows) → Knows old known_rows → Knows new known_rows
+known old new it r right looks known_rows knows none = so_still old new it r right looks (AreInTables known_rows) none (knows (before old new it r right looks none))
 
 -- the row that is kept after a look-up for it is right
 row_known : (old new : State) (it : IsWell old) (r : Result (Option MetaRow) Error) → Looks old new r (λ t row. option_map meta_in row ≡ Some t.meta) → (a b : Option MetaRow) → (doubts new ≡ 0 → IsRowOf a (tables_in new)) → KeepsFound r a b → doubts new ≡ 0 → IsRowOf b (tables_in new)
@@ -80,11 +80,11 @@ row_known old new it r looks a b knows kept none =
     right (Err e) found is = absurd is
 
 -- what is kept after a look-up for the row is right
-pub own_known : (old new : State) (it : IsWell old) (r : Result (Option MetaRow) Error) → Looks old new r (λ t row. option_map meta_in row ≡ Some t.meta) → (findings : Findings) (b : Option MetaRow) → Knows old findings → KeepsFound r findings.own b
-    → Knows new (record { own = b; basis = findings.basis; lots = findings.lots; edges = findings.edges })
-own_known old new it r looks findings b knows kept none =
-    let still = known old new it r _ looks findings knows in record {
-      own = row_known old new it r looks findings.own b (λ none. (still none).own) kept none;
+pub own_known : (old new : State) (it : IsWell old) (r : Result (Option MetaRow) Error) → Looks old new r (λ t row. option_map meta_in row ≡ Some t.meta) → (known_rows : KnownRows) (b : Option MetaRow) → Knows old known_rows → KeepsFound r known_rows.own b
+    → Knows new (record { own = b; basis = known_rows.basis; lots = known_rows.lots; edges = known_rows.edges })
+own_known old new it r looks known_rows b knows kept none =
+    let still = known old new it r _ looks known_rows knows in record {
+      own = row_known old new it r looks known_rows.own b (λ none. (still none).own) kept none;
       basis = (still none).basis;
       lots = (still none).lots;
       edges = (still none).edges;
@@ -94,10 +94,10 @@ own_known old new it r looks findings b knows kept none =
 
 pub device_known : (old new : State) (it : IsWell old) (r : Result (Option DeviceRow) Error) (right : Tables → Option DeviceRow → Type 0) → Looks old new r right → (gsrn : List ℕ)
     → ((row : DeviceRow) → right (tables_in old) (Some row) → get (state_of (tables_in old)).devices gsrn ≡ Some (device_of (device_in row)))
-    → (findings : Findings) (b : Option KnownDevice) → Knows old findings → KeepsDevice r gsrn findings.basis.device b
-    → Knows new (record { own = findings.own; basis = record { device = b; number = findings.basis.number; next_lot = findings.basis.next_lot }; lots = findings.lots; edges = findings.edges })
-device_known old new it r right looks gsrn is_it findings b knows kept none =
-    let still = known old new it r _ looks findings knows in record {
+    → (known_rows : KnownRows) (b : Option KnownDevice) → Knows old known_rows → KeepsDevice r gsrn known_rows.basis.device b
+    → Knows new (record { own = known_rows.own; basis = record { device = b; number = known_rows.basis.number; next_lot = known_rows.basis.next_lot }; lots = known_rows.lots; edges = known_rows.edges })
+device_known old new it r right looks gsrn is_it known_rows b knows kept none =
+    let still = known old new it r _ looks known_rows knows in record {
       own = (still none).own;
       basis = record {
         device =
@@ -158,10 +158,10 @@ pub some_beside : (t : Tables) (test : PieceRow × Lot → Bool) (rows : List Jo
 some_beside t test rows is = unmapped (IsBeside t.lots) joined_in rows (subst (All (IsBeside t.lots)) (sym is) (All-filter test (IsBeside t.lots) (pieces_beside t) (all_beside t.lots t.pieces)))
 
 -- lots that were looked up
-lots_after : (old new : State) (it : IsWell old) {T : Type 0} (r : Result T Error) (right : Tables → T → Type 0) → Looks old new r right → (findings next : Findings) → next.own ≡ findings.own → next.basis ≡ findings.basis → (doubts new ≡ 0 → AreEdges findings.edges (rows_of (tables_in new)) → AreEdges next.edges (rows_of (tables_in new))) → Knows old findings
-    → (Stands old.now (tables_in old) → IfOk r (right (tables_in old)) → AreStated (tables_in old).lots findings.lots.items → AreStated (tables_in old).lots next.lots.items) → Knows new next
-lots_after old new it r right looks findings next own basis edges knows are none =
-    let still = known old new it r _ looks findings knows in
+lots_after : (old new : State) (it : IsWell old) {T : Type 0} (r : Result T Error) (right : Tables → T → Type 0) → Looks old new r right → (known_rows next : KnownRows) → next.own ≡ known_rows.own → next.basis ≡ known_rows.basis → (doubts new ≡ 0 → AreEdges known_rows.edges (rows_of (tables_in new)) → AreEdges next.edges (rows_of (tables_in new))) → Knows old known_rows
+    → (Stands old.now (tables_in old) → IfOk r (right (tables_in old)) → AreStated (tables_in old).lots known_rows.lots.items → AreStated (tables_in old).lots next.lots.items) → Knows new next
+lots_after old new it r right looks known_rows next own basis edges knows are none =
+    let still = known old new it r _ looks known_rows knows in
     let first = before old new it r _ looks none in record {
       own = subst (λ o. IsRowOf o (tables_in new)) (sym own) (still none).own;
       basis = subst (λ b. IsBasisOf b (tables_in new)) (sym basis) (still none).basis;
@@ -170,10 +170,10 @@ lots_after old new it r right looks findings next own basis edges knows are none
     }
 
 pub lots_known : (old new : State) (it : IsWell old) {T : Type 0} (r : Result T Error) (right : Tables → T → Type 0) → Looks old new r right → (rows : T → List JoinedRow) → ((x : T) → right (tables_in old) x → All (λ a. IsBeside (tables_in old).lots (joined_in a)) (rows x))
-    → (findings next : Findings) → next.own ≡ findings.own → next.basis ≡ findings.basis → (doubts new ≡ 0 → AreEdges findings.edges (rows_of (tables_in new)) → AreEdges next.edges (rows_of (tables_in new))) → Knows old findings → KeepsRead r rows findings.lots.items next.lots.items → Knows new next
-lots_known old new it {T} r right looks rows each findings next own basis edges knows kept = lots_after old new it r right looks findings next own basis edges knows (λ stands found are. all r found kept are)
+    → (known_rows next : KnownRows) → next.own ≡ known_rows.own → next.basis ≡ known_rows.basis → (doubts new ≡ 0 → AreEdges known_rows.edges (rows_of (tables_in new)) → AreEdges next.edges (rows_of (tables_in new))) → Knows old known_rows → KeepsRead r rows known_rows.lots.items next.lots.items → Knows new next
+lots_known old new it {T} r right looks rows each known_rows next own basis edges knows kept = lots_after old new it r right looks known_rows next own basis edges knows (λ stands found are. all r found kept are)
   where
-    all : (q : Result T Error) → IfOk q (right (tables_in old)) → KeepsRead q rows findings.lots.items next.lots.items → AreStated (tables_in old).lots findings.lots.items → AreStated (tables_in old).lots next.lots.items
+    all : (q : Result T Error) → IfOk q (right (tables_in old)) → KeepsRead q rows known_rows.lots.items next.lots.items → AreStated (tables_in old).lots known_rows.lots.items → AreStated (tables_in old).lots next.lots.items
     all (Ok x) found keeps are = keeps (tables_in old).lots are (each x found)
     all (Err e) found keeps are = subst (AreStated (tables_in old).lots) (sym keeps) are
 
@@ -188,11 +188,11 @@ pub kept_row : (found : Result (Option LotRow) Error) (row : LotRow) (old new : 
 kept_row found row old new is kept = subst (λ (f : Result (Option LotRow) Error). KeepsLot f old new) (sym is) kept
 
 pub lot_known : (old new : State) (it : IsWell old) (r : Result (Option LotRow) Error) (test : Lot → Bool) → Looks old new r (λ t found. option_map lot_in found ≡ find test t.lots)
-    → (findings next : Findings) → next.own ≡ findings.own → next.basis ≡ findings.basis → (doubts new ≡ 0 → AreEdges findings.edges (rows_of (tables_in new)) → AreEdges next.edges (rows_of (tables_in new))) → Knows old findings → KeepsLot r findings.lots.items next.lots.items → Knows new next
-lot_known old new it r test looks findings next own basis edges knows kept = lots_after old new it r _ looks findings next own basis edges knows (all r kept)
+    → (known_rows next : KnownRows) → next.own ≡ known_rows.own → next.basis ≡ known_rows.basis → (doubts new ≡ 0 → AreEdges known_rows.edges (rows_of (tables_in new)) → AreEdges next.edges (rows_of (tables_in new))) → Knows old known_rows → KeepsLot r known_rows.lots.items next.lots.items → Knows new next
+lot_known old new it r test looks known_rows next own basis edges knows kept = lots_after old new it r _ looks known_rows next own basis edges knows (all r kept)
   where
-    all : (q : Result (Option LotRow) Error) → KeepsLot q findings.lots.items next.lots.items → Stands old.now (tables_in old) → IfOk q (λ found. option_map lot_in found ≡ find test (tables_in old).lots)
-        → AreStated (tables_in old).lots findings.lots.items → AreStated (tables_in old).lots next.lots.items
+    all : (q : Result (Option LotRow) Error) → KeepsLot q known_rows.lots.items next.lots.items → Stands old.now (tables_in old) → IfOk q (λ found. option_map lot_in found ≡ find test (tables_in old).lots)
+        → AreStated (tables_in old).lots known_rows.lots.items → AreStated (tables_in old).lots next.lots.items
     all (Ok (Some row)) keeps stands found are = keeps (tables_in old).lots are (found_by_key lot_key test (tables_in old).lots (lot_in row) stands.lots.rise (sym found))
     all (Ok None) keeps stands found are = subst (AreStated (tables_in old).lots) (sym keeps) are
     all (Err e) keeps stands found are = subst (AreStated (tables_in old).lots) (sym keeps) are

@@ -10,8 +10,8 @@ use Rattle.goo_spec_tables.specs.Kept.{AreKept, AreKeptIn}
 use Rattle.goo_spec_tables.specs.States.{state_of}
 use Rattle.goo_store_open.specs.Layout.{seen_by}
 use Rattle.goo_store_open.specs.declared.layout.Layout.TheVariants.{First}
-use Rattle.goo_store_lookups.specs.Holding.{sure}
-use Rattle.goo_store_lookups.specs.Moments.{tables_in}
+use Rattle.goo_store_judge.specs.Holding.{sure}
+use Rattle.goo_store_judge.specs.Moments.{tables_in}
 use Rattle.goo_store.specs.FirstTables.{Renews}
 use Rattle.goo_store.specs.Versions.{tables_held, state_held}
 use Rattle.goo_store.proofs.FirstTables.{same_state}

@@ -24,7 +24,7 @@ use Rattle.goo_spec_tables.specs.Places.{piece_of, rows_of}
 use Rattle.goo_spec_tables.specs.Readable.{are_ends, is_act, names_act, is_piece}
 use Rattle.goo_spec_tables.specs.States.{state_of}
 use Rattle.goo_store_plans.specs.Found.{IsRowOf}
-use Rattle.goo_store_lookups.proofs.Judging.{rows_fit}
+use Rattle.goo_store_judge.proofs.Judging.{rows_fit}
 use Rattle.goo_store.specs.Issuing.{IsIssuedNext}
 use Rattle.goo_store.specs.Reading.{IsReadablePiece}
 use Rattle.goo_store.proofs.RowsRead.{pieces_kept}

@@ -34,12 +34,12 @@ use Rattle.goo_store.specs.NextRows.{begins_beyond, IsDated, reaching_beyond}
 use Rattle.goo_store.proofs.Next.{first_beyond, next_found}
 use Rattle.goo_store.proofs.RowsRead.{pieces_kept}
 use Rattle.goo_store.proofs.Edges.{edge_found}
-use Rattle.goo_store_lookups.proofs.Looking.{before, so_still}
-use Rattle.goo_store_lookups.specs.Holding.{sure}
-use Rattle.goo_store_lookups.specs.Moments.{tables_in, IsWell}
+use Rattle.goo_store_judge.proofs.Looking.{before, so_still}
+use Rattle.goo_store_judge.specs.Holding.{sure}
+use Rattle.goo_store_judge.specs.Moments.{tables_in, IsWell}
 use Rattle.goo_store_plans.specs.Found.{IsEdge}
 use Rattle.goo_store_values.specs.Passing.{Passes}
-use Rattle.goo_store_values.specs.declared.trouble.Trouble.{Trouble}
+use Rattle.goo_store_values.specs.declared.statement_fault.StatementFault.{StatementFault}
 use Rattle.sqlite.specs.State.{State}
 use Rattle.sqlite.specs.declared.error.Error.{Error}
 use Rattle.std.specs.Prelude.{IsOkAnd}
@@ -125,7 +125,7 @@ module _ (t : Tables) (kept : AreKept t) where
 -- ---- the number at which the row that was found ends
 
 pub edge_after : (old new : State) (it : IsWell old) (sought : Sought) → IsDated sought → (after : ℕ) (r : Result (Option JoinedRow) Error) → Looks old new r (λ t found. option_map joined_in found ≡ find (begins_beyond sought after) (pieces_beside t))
-    → (read : Result (Option Piece) Trouble) → Passes r read (λ row piece. piece ≡ option_map piece_of (option_map joined_in row))
+    → (read : Result (Option Piece) StatementFault) → Passes r read (λ row piece. piece ≡ option_map piece_of (option_map joined_in row))
     → (edge : Option ℕ) → IfSome edge (λ n. IsOkAnd read (λ found. IsSomeAnd found (λ p. p.last ≡ n))) → doubts new ≡ 0 → IsEdge edge (rows_of (tables_in new))
 edge_after old new it sought dated after r looks read passes edge is none =
     let first = before old new it r _ looks none in
@@ -134,5 +134,5 @@ edge_after old new it sought dated after r looks read passes edge is none =
   where
     go : AreKept (tables_in old) → (q : Result (Option JoinedRow) Error) → IfOk q (λ found. option_map joined_in found ≡ find (begins_beyond sought after) (pieces_beside (tables_in old)))
         → Passes q read (λ row piece. piece ≡ option_map piece_of (option_map joined_in row)) → (row : Option Piece) → read ≡ Ok row → row ≡ find (λ p. is_sought sought p && nat_lt after p.first) (rows_of (tables_in old))
-    go kept (Ok x) found passes row same = beyond_found (tables_in old) kept sought dated after (option_map joined_in x) row found (subst (λ (z : Result (Option Piece) Trouble). IfOk z (λ piece. piece ≡ option_map piece_of (option_map joined_in x))) same passes)
-    go kept (Err e) found bad row same = absurd (true≢false (sym (subst (λ (z : Result (Option Piece) Trouble). IsErr z) same bad)))
+    go kept (Ok x) found passes row same = beyond_found (tables_in old) kept sought dated after (option_map joined_in x) row found (subst (λ (z : Result (Option Piece) StatementFault). IfOk z (λ piece. piece ≡ option_map piece_of (option_map joined_in x))) same passes)
+    go kept (Err e) found bad row same = absurd (true≢false (sym (subst (λ (z : Result (Option Piece) StatementFault). IsErr z) same bad)))

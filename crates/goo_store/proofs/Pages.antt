@@ -25,9 +25,9 @@ use Rattle.goo_spec_tables.specs.Places.{piece_of, rows_of}
 use Rattle.goo_spec_tables.specs.States.{state_of}
 use Rattle.goo_spec_tables.proofs.Known.{number_is}
 use Rattle.goo_spec_tables.proofs.RowsFound.{filtered, place_account}
-use Rattle.goo_store_lookups.specs.Holding.{sure}
-use Rattle.goo_store_lookups.specs.Moments.{tables_in, IsWell}
-use Rattle.goo_store_lookups.proofs.Looking.{before, so_still}
+use Rattle.goo_store_judge.specs.Holding.{sure}
+use Rattle.goo_store_judge.specs.Moments.{tables_in, IsWell}
+use Rattle.goo_store_judge.proofs.Looking.{before, so_still}
 use Rattle.goo_store_plans.specs.Found.{IsEdge}
 use Rattle.goo_store.specs.Ahead.{AreAhead, IsPageOf, KeepsAhead, beyond}
 use Rattle.goo_store.specs.NextRows.{begins_beyond}

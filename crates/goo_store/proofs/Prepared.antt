@@ -12,16 +12,16 @@ use Rattle.goo_spec_tables.specs.Places.{rows_of}
 use Rattle.goo_spec_tables.specs.States.{state_of}
 use Rattle.goo_store_plans.specs.Carried.{AreInOrder}
 use Rattle.goo_store_plans.specs.LookingUp.{LooksUp, IsOurs}
-use Rattle.goo_store_lookups.specs.Moments.{tables_in, count, moment, IsWell}
-use Rattle.goo_store_plans.specs.Found.{AreFindingsOf}
+use Rattle.goo_store_judge.specs.Moments.{tables_in, count, moment, IsWell}
+use Rattle.goo_store_plans.specs.Found.{AreInTables}
 use Rattle.goo_store.specs.Found.{Knows}
 use Rattle.goo_store.specs.Preparing.{Prepares}
 use Rattle.goo_store_values.specs.Telling.{Tells}
-use Rattle.goo_store_plans.specs.declared.findings.Findings.{Findings}
-use Rattle.goo_store_values.specs.declared.trouble.Trouble.{Trouble}
-use Rattle.goo_store_values.specs.declared.trouble.Trouble.TheVariants.{Memory, Refused}
-use Rattle.goo_store_lookups.proofs.Looking.{survived}
-use Rattle.goo_store_lookups.specs.Holding.{is_sure, sure, LeavesCommit, left_by}
+use Rattle.goo_store_plans.specs.declared.known_rows.KnownRows.{KnownRows}
+use Rattle.goo_store_values.specs.declared.statement_fault.StatementFault.{StatementFault}
+use Rattle.goo_store_values.specs.declared.statement_fault.StatementFault.TheVariants.{Memory, Refused}
+use Rattle.goo_store_judge.proofs.Looking.{survived}
+use Rattle.goo_store_judge.specs.Holding.{is_sure, sure, LeavesCommit, left_by}
 
 -- tables that stand are in the order of their keys
 pub in_order : (d : Database) (t : Tables) → Stands d t → AreInOrder t
@@ -41,7 +41,7 @@ in_order d t it = record {
   corrections = it.corrections.rise;
 }
 
-module _ {T : Type 0} (old new : State) (it : IsWell old) (r : Result T Trouble) (right : Tables → T → Type 0) (gathers : LooksUp old new r right) where
+module _ {T : Type 0} (old new : State) (it : IsWell old) (r : Result T StatementFault) (right : Tables → T → Type 0) (gathers : LooksUp old new r right) where
   pub before : doubts new ≡ 0 → doubts old ≡ 0
   before none = is_sure old (omega (arith, (sure new none).0, gathers.clean)) (gathers.was_open (sure new none).0 (sure new none).1)
 
@@ -67,8 +67,8 @@ module _ {T : Type 0} (old new : State) (it : IsWell old) (r : Result T Trouble)
   }
 
   -- what is kept stays right
-  pub known : (findings : Findings) → Knows old findings → Knows new findings
-  known findings knows none = subst (AreFindingsOf findings) (sym (tables_same none)) (knows (before none))
+  pub known : (known_rows : KnownRows) → Knows old known_rows → Knows new known_rows
+  known known_rows knows none = subst (AreInTables known_rows) (sym (tables_same none)) (knows (before none))
 
   survives : HasCleanDisk new → doubts old ≡ 0 → Survives old new (λ _. ⊥)
   survives late none = gathers.crash late (sure old none).1 (ours none)
@@ -80,7 +80,7 @@ module _ {T : Type 0} (old new : State) (it : IsWell old) (r : Result T Trouble)
   crash : LeavesCommit old → HasCleanDisk new → doubts old ≡ 0 → (b : Bool) → shelf.IsSafe (moment new b) (state_of (tables_in old))
   crash law late none b o left = left_by old it law none left.0 (no_more left.0 ((survives late none).crash late left.0 left.1)) o left.2
 
-  told_so : (q : Result T Trouble) (a b : Bool) (result : Result T Fault) → a ≡ false → Tells q result a b → shelf.IsTold result (count b)
+  told_so : (q : Result T StatementFault) (a b : Bool) (result : Result T Fault) → a ≡ false → Tells q result a b → shelf.IsTold result (count b)
   told_so (Ok x) a b result not_yet told = subst (λ (z : Result T Fault). shelf.IsTold z (count b)) (sym told.0) (ap count (told.1 ∙ not_yet))
   told_so (Err Memory) a b result not_yet told = subst (λ (z : Result T Fault). shelf.IsTold z (count b)) (sym told.0) (ap count (told.1 ∙ not_yet))
   told_so (Err Refused) a b result not_yet told = subst (λ (z : Result T Fault). shelf.IsTold z (count b)) (sym told.0) (ap count told.1)
@@ -88,17 +88,17 @@ module _ {T : Type 0} (old new : State) (it : IsWell old) (r : Result T Trouble)
   still : (a b : Bool) → a ≡ false → count a ≤ count b
   still a b not_yet = omega (arith, ap count not_yet)
 
-  found_so : (P : T → Type 0) (q : Result T Trouble) (a b : Bool) (result : Result T Fault) → Tells q result a b → IfOk q P → IfOk result P
+  found_so : (P : T → Type 0) (q : Result T StatementFault) (a b : Bool) (result : Result T Fault) → Tells q result a b → IfOk q P → IfOk result P
   found_so P (Ok x) a b result told is = subst (λ (z : Result T Fault). IfOk z P) (sym told.0) is
   found_so P (Err Memory) a b result told is = subst (λ (z : Result T Fault). IfOk z P) (sym told.0) tt
   found_so P (Err Refused) a b result told is = subst (λ (z : Result T Fault). IfOk z P) (sym told.0) tt
 
-  works_so : (W : Type 0) (q : Result T Trouble) (a b : Bool) (result : Result T Fault) → Tells q result a b → OnOk q W → OnOk result W
+  works_so : (W : Type 0) (q : Result T StatementFault) (a b : Bool) (result : Result T Fault) → Tells q result a b → OnOk q W → OnOk result W
   works_so W (Ok x) a b result told works = subst (λ (z : Result T Fault). OnOk z W) (sym told.0) works
   works_so W (Err Memory) a b result told works = subst (λ (z : Result T Fault). OnOk z W) (sym told.0) tt
   works_so W (Err Refused) a b result told works = subst (λ (z : Result T Fault). OnOk z W) (sym told.0) tt
 
-  sure_so : (q : Result T Trouble) → OnOk q (HasCleanDisk new → IsTrue old.is_open → IsTrue new.is_open) → OnOk q (HasCleanDisk new → doubts old ≡ 0 → doubts new ≡ 0)
+  sure_so : (q : Result T StatementFault) → OnOk q (HasCleanDisk new → IsTrue old.is_open → IsTrue new.is_open) → OnOk q (HasCleanDisk new → doubts old ≡ 0 → doubts new ≡ 0)
   sure_so (Ok x) works = λ late none. is_sure new late (works late (sure old none).1)
   sure_so (Err e) works = tt
 
@@ -107,7 +107,7 @@ module _ {T : Type 0} (old new : State) (it : IsWell old) (r : Result T Trouble)
   found_after P a b result told says none =
       found_so P r a b result told (go r (subst (λ t. IfOk r (right t)) (sym (tables_same none)) (gathers.found (sure new none).0 (sure new none).1 (λ _. it.settled (before none)) (tables_in old) (it.stands (before none)))))
     where
-      go : (q : Result T Trouble) → IfOk q (right (tables_in new)) → IfOk q P
+      go : (q : Result T StatementFault) → IfOk q (right (tables_in new)) → IfOk q P
       go (Ok y) is = says none y is
       go (Err e) is = tt
 

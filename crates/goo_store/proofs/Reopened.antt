@@ -14,7 +14,7 @@ use Rattle.goo_spec_tables.specs.States.{state_of}
 use Rattle.goo_store_open.specs.Found.{IsOutside}
 use Rattle.goo_store_open.specs.declared.fault.OpenFault.{OpenFault}
 use Rattle.goo_store_open.specs.declared.fault.OpenFault.TheVariants.{AlreadyThere, NotARegistry, Version, Damaged, Store, Memory}
-use Rattle.goo_store_lookups.specs.Moments.{IsWell, OpensAs, OpensAsEither, tables_in}
+use Rattle.goo_store_judge.specs.Moments.{IsWell, OpensAs, OpensAsEither, tables_in}
 
 -- trees that hold tables, under the schema that they list
 stands_in : (db : Database) (t : Tables) → db.schema ≡ registry_schema → Holds t db.trees → Stands db t

@@ -10,7 +10,7 @@ use Rattle.goo_spec_tables.specs.Places.{rows_of}
 use Rattle.goo_spec_tables.specs.States.{state_of}
 use Rattle.goo_tables_rows.specs.Rows.{Tables}
 use Rattle.goo_tables_rows.specs.Stands.{doubts}
-use Rattle.goo_store_lookups.specs.Moments.{tables_in}
+use Rattle.goo_store_judge.specs.Moments.{tables_in}
 use Rattle.goo_store.specs.Ahead.{AreAhead}
 use Rattle.goo_store.specs.declared.ahead.RowAhead.{RowAhead}
 use Rattle.goo_store.specs.declared.cache.Cache.{Cache}

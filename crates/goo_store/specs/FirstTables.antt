@@ -9,7 +9,7 @@ use Rattle.goo_tables_rows.specs.Stands.{Holds, HoldsOurs, AreOurs, Rests, Settl
 use Rattle.goo_tables_rows.specs.declared.piece.PieceRow.{PieceRow}
 use Rattle.goo_spec_tables.specs.Kept.{AreKept, AreKeptIn}
 use Rattle.goo_spec_tables.specs.Renewed.{renewed}
-use Rattle.goo_store_lookups.specs.Opening.{IsRefusalIn}
+use Rattle.goo_store_judge.specs.Opening.{IsRefusalIn}
 use Rattle.goo_store_open.specs.declared.fault.OpenFault.{OpenFault}
 
 -- The pieces of tables of version 1 are joined, and the tables are made those of version 2, or nothing is done.

@@ -22,17 +22,17 @@ use Rattle.goo_tables_rows.specs.declared.piece.PieceRow.{PieceRow}
 use Rattle.goo_spec_tables.specs.Devices.{device_of}
 use Rattle.goo_spec_tables.specs.Places.{rows_of}
 use Rattle.goo_spec_tables.specs.States.{state_of}
-use Rattle.goo_store_plans.specs.Found.{IsRowOf, IsBasisOf, IsDeviceOf, IsEdge, AreEdges, IsNext, AreStated, AreFindingsOf}
-use Rattle.goo_store_lookups.specs.Moments.{tables_in}
-use Rattle.goo_store_plans.specs.declared.findings.Edges.{Edges}
-use Rattle.goo_store_plans.specs.declared.findings.Findings.{Findings}
-use Rattle.goo_store_plans.specs.declared.findings.KnownBasis.{KnownBasis}
-use Rattle.goo_store_plans.specs.declared.findings.KnownDevice.{KnownDevice}
+use Rattle.goo_store_plans.specs.Found.{IsRowOf, IsBasisOf, IsDeviceOf, IsEdge, AreEdges, IsNext, AreStated, AreInTables}
+use Rattle.goo_store_judge.specs.Moments.{tables_in}
+use Rattle.goo_store_plans.specs.declared.known_rows.Edges.{Edges}
+use Rattle.goo_store_plans.specs.declared.known_rows.KnownRows.{KnownRows}
+use Rattle.goo_store_plans.specs.declared.known_rows.KnownBasis.{KnownBasis}
+use Rattle.goo_store_plans.specs.declared.known_rows.KnownDevice.{KnownDevice}
 use Rattle.goo_store_plans.specs.declared.lot_numbers.NumberedLot.{NumberedLot}
 
 -- it is so while nothing is in doubt
-abbrev pub Knows : State → Findings → Type 0
-Knows s findings = doubts s ≡ 0 → AreFindingsOf findings (tables_in s)
+abbrev pub Knows : State → KnownRows → Type 0
+Knows s known_rows = doubts s ≡ 0 → AreInTables known_rows (tables_in s)
 
 -- what is kept after a row was read: what was kept before, or what was found
 abbrev pub KeepsFound : Result (Option MetaRow) Error → Option MetaRow → Option MetaRow → Type 0
@@ -114,10 +114,10 @@ edge-prop (Some n) rows a b = same-prop (list_any (λ p. p.last == n) rows) true
 edges-prop : (edges : Edges) (rows : List Piece) → IsProp (AreEdges edges rows)
 edges-prop edges rows a b = λ i. record { last = edge-prop edges.last rows a.last b.last i; asked = edge-prop edges.asked rows a.asked b.asked i }
 
-pub Knows-prop : (s : State) (findings : Findings) → IsProp (Knows s findings)
-Knows-prop s findings a b = λ i none. record {
-  own = row-prop findings.own (tables_in s) (a none).own (b none).own i;
-  basis = basis-prop findings.basis (tables_in s) (a none).basis (b none).basis i;
-  lots = lots-prop (tables_in s).lots findings.lots.items (a none).lots (b none).lots i;
-  edges = edges-prop findings.edges (rows_of (tables_in s)) (a none).edges (b none).edges i;
+pub Knows-prop : (s : State) (known_rows : KnownRows) → IsProp (Knows s known_rows)
+Knows-prop s known_rows a b = λ i none. record {
+  own = row-prop known_rows.own (tables_in s) (a none).own (b none).own i;
+  basis = basis-prop known_rows.basis (tables_in s) (a none).basis (b none).basis i;
+  lots = lots-prop (tables_in s).lots known_rows.lots.items (a none).lots (b none).lots i;
+  edges = edges-prop known_rows.edges (rows_of (tables_in s)) (a none).edges (b none).edges i;
 }

@@ -12,7 +12,7 @@ use Rattle.goo_spec_tables.specs.States.{state_of}
 use Rattle.goo_store_plans.specs.EditsTaken.{HaveKeptNumbers}
 use Rattle.goo_store_plans.specs.PlanNeeds.{HasRoomFor}
 use Rattle.goo_store_plans.specs.Room.{HaveRowids}
-use Rattle.goo_store_lookups.specs.Moments.{tables_in}
+use Rattle.goo_store_judge.specs.Moments.{tables_in}
 
 -- The plan may be committed in the tables, which have room for its command; and columns keep the numbers of the
 -- lots that are there.

@@ -11,8 +11,8 @@ use Rattle.goo_spec.specs.State as registry
 use Rattle.goo_spec_tables.specs.Kept.{AreKept, AreKeptIn}
 use Rattle.goo_spec_tables.specs.Renewed.{renewed}
 use Rattle.goo_spec_tables.specs.States.{state_of}
-use Rattle.goo_store_lookups.specs.Moments.{OpensAsEither}
-use Rattle.goo_store_lookups.specs.Opening.{BlamesOpening, IsRefusal, IsRefusalIn}
+use Rattle.goo_store_judge.specs.Moments.{OpensAsEither}
+use Rattle.goo_store_judge.specs.Opening.{BlamesOpening, IsRefusal, IsRefusalIn}
 use Rattle.goo_store_open.specs.Foreign.{LacksMeta, TellsVersion}
 use Rattle.goo_store_open.specs.Found.{IsOutside}
 use Rattle.goo_store_open.specs.declared.fault.OpenFault.{OpenFault}

@@ -6,8 +6,8 @@ use Rattle.sqlite.specs.State.{State}
 use Rattle.goo_types.specs.declared.fault.Fault.{Fault}
 use Rattle.goo_core_shelf.specs.Shelf.{Moment}
 use Rattle.goo_tables_rows.specs.Rows.{Tables}
-use Rattle.goo_store_lookups.specs.Moments.{moment}
-use Rattle.goo_store_lookups.specs.StoreFaults.{BlamesStore}
+use Rattle.goo_store_judge.specs.Moments.{moment}
+use Rattle.goo_store_judge.specs.StoreFaults.{BlamesStore}
 use Rattle.goo_store.specs.Gathering.{BlamesCommit}
 use Rattle.goo_store.specs.declared.sql_shelf.SqlShelf.{SqlShelf}
 

@@ -12,17 +12,17 @@ ghost use Rattle.goo_store.specs.Seen.{Blames, seen_by};
 use crate::cache::keep_account;
 use crate::sql_shelf::SqlShelf;
 use goo_core_shelf::account::Account;
+use goo_store_values::noting::note_fault;
+use goo_store_values::statement_fault::StatementFault;
 use goo_store_values::texts;
-use goo_store_values::told::told;
-use goo_store_values::trouble::Trouble;
-use goo_tables_holdings::account::find_account;
+use goo_tables_accounts::account::find_account;
 use goo_tables_rows::account::AccountRow;
 use goo_types::account_no::AccountNo;
 use goo_types::fault::Fault;
 use sqlite::{Alter, Error};
 
 /// The account in its row.
-fn read_account(found: Result<Option<AccountRow>, Error>) -> Result<Option<Account>, Trouble>
+fn read_account(found: Result<Option<AccountRow>, Error>) -> Result<Option<Account>, StatementFault>
     ensures value { Passes found result
         (λ row account. account ≡ option_map account_of (option_map account_in row)) }
     ensures accepts { Accepts found result
@@ -50,7 +50,7 @@ impl<S: Alter> SqlShelf<S> {
         }
         let found = find_account(self.alloc, &mut self.conn, account.get());
         self.cache.answered = found.is_ok();
-        let read = told(read_account(found), &mut self.refused);
+        let read = note_fault(read_account(found), &mut self.refused);
         keep_account(&mut self.cache.accounts, account, &read);
         read
     }

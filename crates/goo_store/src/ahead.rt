@@ -14,7 +14,7 @@ ghost use Rattle.goo_store_values.specs.Passing.{Accepts, Passes};
 
 use crate::pieces::{is_none_or_beyond, read_rising};
 use goo_store_plans::lot_numbers::NumberedLot;
-use goo_store_values::trouble::Trouble;
+use goo_store_values::statement_fault::StatementFault;
 use goo_tables_rows::joined::JoinedRow;
 use goo_types::account_no::AccountNo;
 use goo_types::piece::Piece;
@@ -95,7 +95,7 @@ pub fn read_page(
     row: Piece,
     lots: &mut Vec<NumberedLot>,
     ahead: &mut Vec<RowAhead>,
-) -> Result<Option<Piece>, Trouble>
+) -> Result<Option<Piece>, StatementFault>
     ensures value { Passes found result (λ rows shown. shown ≡ Some row) }
     ensures accepts { Accepts found result (λ rows. AreReadablePieces rows.items) }
     ensures row { IfOk result (λ shown. shown ≡ Some row) }

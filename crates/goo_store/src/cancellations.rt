@@ -11,8 +11,8 @@ ghost use Rattle.goo_store.specs.Seen.{Blames, seen_by};
 
 use crate::sql_shelf::SqlShelf;
 use goo_core_shelf::cancel_record::CancelRecord;
-use goo_store_values::told::told;
-use goo_store_values::trouble::Trouble;
+use goo_store_values::noting::note_fault;
+use goo_store_values::statement_fault::StatementFault;
 use goo_store_values::{numbers, texts};
 use goo_tables::cancellation::find_cancellation;
 use goo_tables_rows::cancellation::CancellationRow;
@@ -24,7 +24,7 @@ use sqlite::{Alter, Error};
 /// The record in its row.
 fn read_record(
     found: Result<Option<CancellationRow>, Error>,
-) -> Result<Option<CancelRecord>, Trouble>
+) -> Result<Option<CancelRecord>, StatementFault>
     ensures value { Passes found result
         (λ row kept. kept ≡ option_map cancellation_of (option_map cancellation_in row)) }
     ensures accepts { Accepts found result
@@ -58,6 +58,6 @@ impl<S: Alter> SqlShelf<S> {
         }
         let found = find_cancellation(self.alloc, &mut self.conn, cancellation.get());
         self.cache.answered = found.is_ok();
-        told(read_record(found), &mut self.refused)
+        note_fault(read_record(found), &mut self.refused)
     }
 }

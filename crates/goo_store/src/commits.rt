@@ -4,11 +4,11 @@ ghost use Rattle.std.specs.Prelude.{◌≡◌, All, IfErr, IfOk, OnErr, OnOk};
 ghost use Rattle.goo_core_shelf.specs.Plan.{Fits, Commits};
 ghost use Rattle.goo_store_changes.specs.Changes.{ChangeFits, made_all};
 ghost use Rattle.goo_store_plans.specs.Found.{AreNone, IsBasisOf, IsNoBasis};
-ghost use Rattle.goo_store_lookups.specs.Moments.{tables_in};
+ghost use Rattle.goo_store_judge.specs.Moments.{tables_in};
 ghost use Rattle.goo_store_plans.specs.Planned.{IsPlanned};
 ghost use Rattle.goo_store.specs.Preparing.{Prepares};
 ghost use Rattle.goo_store.specs.Gathering.{CanCarryOut, HaveWhatItNeeds};
-ghost use Rattle.goo_store_values.specs.Passing.{IsTroubleOf};
+ghost use Rattle.goo_store_values.specs.Passing.{IsStatementFaultOf};
 ghost use Rattle.goo_store_values.specs.Telling.{PassesOn};
 ghost use Rattle.goo_store.specs.Seen.{BlamesPlan, database_of, seen_by};
 
@@ -16,23 +16,23 @@ use crate::kept_registry_row::{copied, row_after};
 use crate::sql_shelf::SqlShelf;
 use goo_core_shelf::plan::Plan;
 use goo_store_changes::committing::commit_changes;
-use goo_store_plans::findings::{Findings, KnownBasis};
+use goo_store_plans::known_rows::{KnownBasis, KnownRows};
 use goo_store_plans::plan_changes::{Planned, plan_changes};
-use goo_store_values::told::told;
-use goo_store_values::trouble::Trouble;
+use goo_store_values::noting::note_fault;
+use goo_store_values::statement_fault::StatementFault;
 use goo_types::fault::Fault;
 use sqlite::{Alter, Error};
 use std::alloc::Global;
 use std::mem;
 
 /// How a commit ended.
-fn ending(made: Result<(), Error>) -> Result<(), Trouble>
+fn ending(made: Result<(), Error>) -> Result<(), StatementFault>
     ensures passes { PassesOn made result }
-    ensures cause { IfErr made (λ error. IfErr result (IsTroubleOf error)) }
+    ensures cause { IfErr made (λ error. IfErr result (IsStatementFaultOf error)) }
 {
     match made {
         Ok(()) => Ok(()),
-        Err(error) => Err(Trouble::from(error)),
+        Err(error) => Err(StatementFault::from(error)),
     }
 }
 
@@ -58,7 +58,7 @@ impl<S: Alter> SqlShelf<S> {
             × IsBasisOf planned.after
             (made_all (tables_in (database_of self.new)) planned.changes.items)) }
         ensures fits { IfOk result (λ planned. All ChangeFits planned.changes.items) }
-        ensures taken { IfOk result (λ _. AreNone self.new.findings) }
+        ensures taken { IfOk result (λ _. AreNone self.new.known_rows) }
         ensures same { (seen_by self.new).doubts ≡ 0
             → tables_in (database_of self.new) ≡ tables_in (database_of self.old) }
         ensures store { BlamesPlan self.old self.new result (λ t. HaveWhatItNeeds t plan.now) }
@@ -66,10 +66,10 @@ impl<S: Alter> SqlShelf<S> {
         if self.refused {
             return Err(Fault::Store);
         }
-        let findings = mem::replace(&mut self.findings, Findings::none(alloc));
-        let planned = plan_changes(alloc, &mut self.conn, findings, plan);
+        let known_rows = mem::replace(&mut self.known_rows, KnownRows::none(alloc));
+        let planned = plan_changes(alloc, &mut self.conn, known_rows, plan);
         self.cache.answered = false;
-        told(planned, &mut self.refused)
+        note_fault(planned, &mut self.refused)
     }
 
     /// Carries out the whole change of a plan, or none.
@@ -79,12 +79,12 @@ impl<S: Alter> SqlShelf<S> {
         ensures commits { Commits (seen_by self.old) (seen_by self.new) result plan.now }
         ensures store { BlamesPlan self.old self.new result (λ t. CanCarryOut t plan.now) }
     {
-        let own = copied(&self.findings.own);
+        let own = copied(&self.known_rows.own);
         let planned = self.changes_for(alloc, plan)?;
         let made = commit_changes(&mut self.conn, &planned.changes);
-        self.findings.basis = known_after(&made, planned.after);
-        self.findings.own = row_after(&made, own, &planned.changes);
+        self.known_rows.basis = known_after(&made, planned.after);
+        self.known_rows.own = row_after(&made, own, &planned.changes);
         self.cache.after_commit(&made, &planned.changes);
-        told(ending(made), &mut self.refused)
+        note_fault(ending(made), &mut self.refused)
     }
 }

@@ -13,8 +13,8 @@ use crate::declarations::declaration_in_row;
 use crate::lowering::left_off;
 use crate::sql_shelf::SqlShelf;
 use goo_store_rules::correct_record::CorrectRecord;
-use goo_store_values::told::told;
-use goo_store_values::trouble::Trouble;
+use goo_store_values::noting::note_fault;
+use goo_store_values::statement_fault::StatementFault;
 use goo_tables::declaration::find_declaration;
 use goo_tables_rows::declaration::DeclarationRow;
 use goo_types::day::Day;
@@ -27,7 +27,7 @@ use sqlite::{Alter, Error};
 fn read_left(
     found: Result<Option<DeclarationRow>, Error>,
     corrections: &[CorrectRecord],
-) -> Result<Option<Wh>, Trouble>
+) -> Result<Option<Wh>, StatementFault>
     ensures value { Passes found result
         (λ row left. left
         ≡ left_of corrections.now (option_map declaration_of (option_map declaration_in row))) }
@@ -60,7 +60,7 @@ impl<S: Alter> SqlShelf<S> {
         let day = first_day.text();
         let found = find_declaration(self.alloc, &mut self.conn, device.text(), day.as_str());
         self.cache.answered = found.is_ok();
-        told(read_left(found, corrections), &mut self.refused)
+        note_fault(read_left(found, corrections), &mut self.refused)
     }
 
     /// What can still be taken off a device's declaration that begins on a day.

@@ -12,8 +12,8 @@ ghost use Rattle.goo_store.specs.Seen.{Blames, seen_by};
 use crate::sql_shelf::SqlShelf;
 use goo_store_rules::correct_record::CorrectRecord;
 use goo_store_rules::corrects::corrects_in;
-use goo_store_values::told::told;
-use goo_store_values::trouble::Trouble;
+use goo_store_values::noting::note_fault;
+use goo_store_values::statement_fault::StatementFault;
 use goo_tables::correction::all_corrections;
 use goo_tables_rows::correction::CorrectionRow;
 use goo_types::fault::Fault;
@@ -24,7 +24,7 @@ use std::alloc::Global;
 pub fn read_all(
     alloc: Global,
     found: Result<Vec<CorrectionRow>, Error>,
-) -> Result<Vec<CorrectRecord>, Trouble>
+) -> Result<Vec<CorrectRecord>, StatementFault>
     ensures value { Passes found result
         (λ rows corrections. corrections.items ≡ map correction_of (map correction_in rows.items)) }
     ensures accepts { Accepts found result
@@ -32,7 +32,7 @@ pub fn read_all(
 {
     match corrects_in(alloc, &found?)? {
         Some(corrections) => Ok(corrections),
-        None => Err(Trouble::Refused),
+        None => Err(StatementFault::Refused),
     }
 }
 
@@ -48,6 +48,6 @@ impl<S: Alter> SqlShelf<S> {
         }
         let found = all_corrections(alloc, &mut self.conn);
         self.cache.answered = found.is_ok();
-        told(read_all(alloc, found), &mut self.refused)
+        note_fault(read_all(alloc, found), &mut self.refused)
     }
 }

@@ -13,11 +13,11 @@ ghost use Rattle.goo_tables_rows.specs.Refused.{IsFault, IsSmall};
 ghost use Rattle.goo_tables_rows.specs.Rows.{meta_in, meta_row};
 ghost use Rattle.goo_tables_rows.specs.Lives.{IsAlive};
 ghost use Rattle.goo_tables_rows.specs.Stands.{Sees, Settled, HoldsOurs};
-ghost use Rattle.goo_tables_holdings.specs.Changes.{MetaFits, begun};
+ghost use Rattle.goo_tables_accounts.specs.Changes.{MetaFits, begun};
 ghost use Rattle.goo_store.specs.Creating.{meta_of, IsFirst};
 
 use goo_store_open::finding::VERSION;
-use goo_store_values::trouble::Trouble;
+use goo_store_values::statement_fault::StatementFault;
 use goo_tables::create::create_tables;
 use goo_tables::meta::insert_meta;
 use goo_tables_rows::meta::MetaRow;
@@ -129,7 +129,7 @@ pub fn begin<S: Alter>(
     code: RegistryCode,
     next_serial: Serial,
     today: Day,
-) -> Result<(), Trouble>
+) -> Result<(), StatementFault>
     requires outside { conn.old.in_transaction ≡ false }
     requires empty { (state S.Store conn.old).now.schema ≡ no_schema }
     ensures clean { doubt (state S.Store conn.old).is_clean
@@ -143,7 +143,7 @@ pub fn begin<S: Alter>(
     ensures blames { HasCleanDisk (state S.Store conn.new) → IsTrue (state S.Store conn.old).is_open
         → (state S.Store conn.old).step_limit ≡ None
         → IfErr result
-        (λ trouble. trouble ≡ Trouble.Refused
+        (λ cause. cause ≡ StatementFault.Refused
         → MoreFaults (state S.Store conn.old).faults (state S.Store conn.new).faults) }
     ensures kept { HasCleanDisk (state S.Store conn.new) → IsTrue (state S.Store conn.new).is_open
         → OnErr result (((state S.Store conn.new).now ≡ (state S.Store conn.old).now)

@@ -5,13 +5,13 @@ ghost use Rattle.goo_tables_rows.specs.Rows.{declaration_in};
 ghost use Rattle.goo_spec_tables.specs.Devices.{declaration_of};
 ghost use Rattle.goo_spec_tables.specs.Readable.{is_declaration};
 
-use goo_store_values::trouble::Trouble;
+use goo_store_values::statement_fault::StatementFault;
 use goo_store_values::{numbers, texts};
 use goo_tables_rows::declaration::DeclarationRow;
 use goo_types::command::Declare;
 
 /// The declaration that a row states.
-pub(crate) fn declaration_in_row(row: &DeclarationRow) -> Result<Declare, Trouble>
+pub(crate) fn declaration_in_row(row: &DeclarationRow) -> Result<Declare, StatementFault>
     ensures value { IfOk result (λ x. x ≡ declaration_of (declaration_in row.now)) }
     ensures accepts { is_ok result ≡ is_declaration (declaration_in row.now) }
 {

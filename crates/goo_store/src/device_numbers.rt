@@ -12,15 +12,15 @@ ghost use Rattle.goo_spec_tables.specs.Devices.{device_entry};
 ghost use Rattle.goo_spec_tables.specs.Readable.{is_device};
 ghost use Rattle.goo_store.specs.Reading.{AreReadableDevices};
 ghost use Rattle.goo_store_values.specs.Passing.{Accepts, Passes};
-ghost use Rattle.goo_store_values.specs.declared.trouble.Trouble.TheVariants.{Memory};
+ghost use Rattle.goo_store_values.specs.declared.statement_fault.StatementFault.TheVariants.{Memory};
 ghost use Rattle.goo_store.specs.Seen.{Blames, seen_by};
 
 use crate::sql_shelf::SqlShelf;
 use goo_core_shelf::device::Device;
 use goo_store_values::devices::device_in_row;
+use goo_store_values::noting::note_fault;
+use goo_store_values::statement_fault::StatementFault;
 use goo_store_values::texts;
-use goo_store_values::told::told;
-use goo_store_values::trouble::Trouble;
 use goo_tables::device::all_devices;
 use goo_tables_rows::device::DeviceRow;
 use goo_types::fault::Fault;
@@ -30,7 +30,7 @@ use std::alloc::Global;
 use std::collections::BTreeMap;
 
 /// One device more. A number that is there already is refused.
-fn note(known: &mut BTreeMap<Gsrn, Device>, row: &DeviceRow) -> Result<(), Trouble>
+fn note(known: &mut BTreeMap<Gsrn, Device>, row: &DeviceRow) -> Result<(), StatementFault>
     ensures noted { OnOk result ((es : List (List ℕ × Known))
         → map_of text_cmp known.old ≡ from_entries es
         → map_of text_cmp known.new ≡ from_entries (es ++ device_entry (device_in row.now) ∷ [])) }
@@ -42,12 +42,12 @@ fn note(known: &mut BTreeMap<Gsrn, Device>, row: &DeviceRow) -> Result<(), Troub
     let device = device_in_row(row)?;
     match known.insert(number, device)? {
         None => Ok(()),
-        Some(_) => Err(Trouble::Refused),
+        Some(_) => Err(StatementFault::Refused),
     }
 }
 
 /// The devices by their numbers, without their carriers.
-fn note_each(alloc: Global, rows: &[DeviceRow]) -> Result<BTreeMap<Gsrn, Device>, Trouble>
+fn note_each(alloc: Global, rows: &[DeviceRow]) -> Result<BTreeMap<Gsrn, Device>, StatementFault>
     ensures noted { IfOk result
         (λ known. map_of text_cmp known
         ≡ from_entries (map device_entry (map device_in rows.now))) }
@@ -61,7 +61,7 @@ fn note_each(alloc: Global, rows: &[DeviceRow]) -> Result<BTreeMap<Gsrn, Device>
 }
 
 /// The numbers in a tree, sorted.
-fn sorted(alloc: Global, known: &BTreeMap<Gsrn, Device>) -> Result<Vec<Gsrn>, Trouble>
+fn sorted(alloc: Global, known: &BTreeMap<Gsrn, Device>) -> Result<Vec<Gsrn>, StatementFault>
     ensures keys { IfOk result (λ numbers. numbers.items ≡ tree_keys known.now) }
     ensures ordered { IsOrdered text_cmp known.now }
     ensures memory { IsOkUnless result Memory }
@@ -71,7 +71,7 @@ fn sorted(alloc: Global, known: &BTreeMap<Gsrn, Device>) -> Result<Vec<Gsrn>, Tr
 }
 
 /// The numbers of the devices in rows, sorted.
-fn numbers_in(alloc: Global, rows: &[DeviceRow]) -> Result<Vec<Gsrn>, Trouble>
+fn numbers_in(alloc: Global, rows: &[DeviceRow]) -> Result<Vec<Gsrn>, StatementFault>
     ensures value { IfOk result
         (λ numbers. numbers.items
         ≡ keys_of (from_entries {R = text_cmp} (map device_entry (map device_in rows.now)))) }
@@ -82,7 +82,10 @@ fn numbers_in(alloc: Global, rows: &[DeviceRow]) -> Result<Vec<Gsrn>, Trouble>
 }
 
 /// The numbers of the devices, sorted.
-fn sorted_numbers(alloc: Global, found: Result<Vec<DeviceRow>, Error>) -> Result<Vec<Gsrn>, Trouble>
+fn sorted_numbers(
+    alloc: Global,
+    found: Result<Vec<DeviceRow>, Error>,
+) -> Result<Vec<Gsrn>, StatementFault>
     ensures value { Passes found result
         (λ rows numbers. numbers.items
         ≡ keys_of (from_entries {R = text_cmp} (map device_entry (map device_in rows.items)))) }
@@ -103,6 +106,6 @@ impl<S: Alter> SqlShelf<S> {
         }
         let found = all_devices(alloc, &mut self.conn);
         self.cache.answered = found.is_ok();
-        told(sorted_numbers(alloc, found), &mut self.refused)
+        note_fault(sorted_numbers(alloc, found), &mut self.refused)
     }
 }

@@ -15,10 +15,10 @@ ghost use Rattle.goo_store.specs.Seen.{Blames, seen_by};
 use crate::sql_shelf::SqlShelf;
 use goo_core_shelf::device::Device;
 use goo_core_shelf::found::{DeviceRecord, Progress};
-use goo_store_plans::findings::KnownDevice;
+use goo_store_plans::known_rows::KnownDevice;
 use goo_store_values::devices::device_in_row;
-use goo_store_values::told::told;
-use goo_store_values::trouble::Trouble;
+use goo_store_values::noting::note_fault;
+use goo_store_values::statement_fault::StatementFault;
 use goo_store_values::{numbers, texts};
 use goo_tables::device::find_device;
 use goo_tables_rows::device::DeviceRow;
@@ -28,7 +28,7 @@ use goo_types::gsrn::Gsrn;
 use sqlite::{Alter, Error};
 
 /// The device, if there is one.
-fn read_device(found: Result<Option<DeviceRow>, Error>) -> Result<Option<Device>, Trouble>
+fn read_device(found: Result<Option<DeviceRow>, Error>) -> Result<Option<Device>, StatementFault>
     ensures value { Passes found result
         (λ row device. device ≡ option_map device_of (option_map device_in row)) }
     ensures accepts { Accepts found result
@@ -41,7 +41,7 @@ fn read_device(found: Result<Option<DeviceRow>, Error>) -> Result<Option<Device>
 }
 
 /// A day, where there is one.
-fn maybe_day(text: &Option<String>) -> Result<Option<Day>, Trouble>
+fn maybe_day(text: &Option<String>) -> Result<Option<Day>, StatementFault>
     ensures value { IfOk result
         (λ day. day ≡ option_map day_of (option_map string_bytes text.now)) }
     ensures accepts { is_ok result ≡ is_maybe_day (option_map string_bytes text.now) }
@@ -53,7 +53,7 @@ fn maybe_day(text: &Option<String>) -> Result<Option<Day>, Trouble>
 }
 
 /// The last accepted period's end and the carry in the row of a device.
-fn progress_in_row(row: &DeviceRow) -> Result<Progress, Trouble>
+fn progress_in_row(row: &DeviceRow) -> Result<Progress, StatementFault>
     ensures value { IfOk result (λ progress. progress ≡ progress_in (Some (device_in row.now))) }
     ensures accepts { IsTrue (is_device (pos 0, device_in row.now)) → IsOk result }
 {
@@ -65,7 +65,7 @@ fn progress_in_row(row: &DeviceRow) -> Result<Progress, Trouble>
 
 /// The last accepted period's end and the carry in the row of a device; neither is there without a
 /// row.
-fn read_progress(found: Result<Option<DeviceRow>, Error>) -> Result<Progress, Trouble>
+fn read_progress(found: Result<Option<DeviceRow>, Error>) -> Result<Progress, StatementFault>
     ensures value { Passes found result
         (λ row progress. progress ≡ progress_in (option_map device_in row)) }
     ensures accepts { Accepts found result
@@ -86,7 +86,7 @@ fn read_record(
     found: Result<Option<DeviceRow>, Error>,
     gsrn: &Gsrn,
     kept: &mut Option<KnownDevice>,
-) -> Result<Option<DeviceRecord>, Trouble>
+) -> Result<Option<DeviceRecord>, StatementFault>
     ensures value { Passes found result
         (λ row found. found ≡ record_in (option_map device_in row)) }
     ensures accepts { Accepts found result
@@ -117,7 +117,7 @@ impl<S: Alter> SqlShelf<S> {
         }
         let found = find_device(self.alloc, &mut self.conn, device.text());
         self.cache.answered = found.is_ok();
-        told(read_device(found), &mut self.refused)
+        note_fault(read_device(found), &mut self.refused)
     }
 
     /// A device's last accepted period and its carry.
@@ -131,7 +131,7 @@ impl<S: Alter> SqlShelf<S> {
         }
         let found = find_device(self.alloc, &mut self.conn, device.text());
         self.cache.answered = found.is_ok();
-        told(read_progress(found), &mut self.refused)
+        note_fault(read_progress(found), &mut self.refused)
     }
 
     /// A device with its last accepted period and its carry.
@@ -148,7 +148,7 @@ impl<S: Alter> SqlShelf<S> {
         }
         let found = find_device(self.alloc, &mut self.conn, device.text());
         self.cache.answered = found.is_ok();
-        let record = read_record(found, device, &mut self.findings.basis.device);
-        told(record, &mut self.refused)
+        let record = read_record(found, device, &mut self.known_rows.basis.device);
+        note_fault(record, &mut self.refused)
     }
 }

@@ -8,16 +8,16 @@ ghost use Rattle.goo_store_values.specs.Passing.{Accepts, Passes};
 ghost use Rattle.goo_store.specs.Seen.{Blames, seen_by};
 
 use crate::sql_shelf::SqlShelf;
-use goo_store_values::told::told;
-use goo_store_values::trouble::Trouble;
-use goo_tables_holdings::piece::first_held;
+use goo_store_values::noting::note_fault;
+use goo_store_values::statement_fault::StatementFault;
+use goo_tables_accounts::piece::first_held;
 use goo_tables_rows::piece::PieceRow;
 use goo_types::account_no::AccountNo;
 use goo_types::fault::Fault;
 use sqlite::{Alter, Error};
 
 /// Whether there is a row.
-fn is_there(found: Result<Option<PieceRow>, Error>) -> Result<bool, Trouble>
+fn is_there(found: Result<Option<PieceRow>, Error>) -> Result<bool, StatementFault>
     ensures value { Passes found result (λ row there. there ≡ is_some row) }
     ensures accepts { Accepts found result (λ _. ⊤) }
 {
@@ -39,6 +39,6 @@ impl<S: Alter> SqlShelf<S> {
         }
         let found = first_held(self.alloc, &mut self.conn, account.get());
         self.cache.answered = found.is_ok();
-        told(is_there(found), &mut self.refused)
+        note_fault(is_there(found), &mut self.refused)
     }
 }

@@ -6,7 +6,7 @@ ghost use Rattle.goo_core_shelf.specs.Shelf.{Looks};
 ghost use Rattle.goo_store.specs.Seen.{Blames, seen_by};
 
 use crate::sql_shelf::SqlShelf;
-use goo_store_lookups::holders;
+use goo_store_judge::holders;
 use goo_types::fault::Fault;
 use goo_types::holder_code::HolderCode;
 use goo_types::name::Name;

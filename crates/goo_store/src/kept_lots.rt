@@ -4,10 +4,10 @@ ghost use Rattle.std.specs.Prelude.{◌≡◌, ◌==◌, List, IsOkUnless};
 ghost use Rattle.std.specs.List.{list_any};
 ghost use Rattle.goo_tables_rows.specs.Rows.{Lot as RowOfLot};
 ghost use Rattle.goo_store_plans.specs.Found.{AreStated, IsStated};
-ghost use Rattle.goo_store_values.specs.declared.trouble.Trouble.TheVariants.{Memory};
+ghost use Rattle.goo_store_values.specs.declared.statement_fault.StatementFault.TheVariants.{Memory};
 
 use goo_store_plans::lot_numbers::NumberedLot;
-use goo_store_values::trouble::Trouble;
+use goo_store_values::statement_fault::StatementFault;
 use goo_types::lot::Lot;
 
 /// How many lots are kept at most, so that a search of them takes little.
@@ -31,7 +31,7 @@ fn make_room(lots: &mut Vec<NumberedLot>)
 }
 
 /// Keeps the lot that the row under this number states, unless one is kept under it.
-pub fn keep_lot(lots: &mut Vec<NumberedLot>, number: u64, lot: &Lot) -> Result<(), Trouble>
+pub fn keep_lot(lots: &mut Vec<NumberedLot>, number: u64, lot: &Lot) -> Result<(), StatementFault>
     ensures kept { (known : List RowOfLot) → AreStated known lots.old.items
         → IsStated known number lot.now → AreStated known lots.new.items }
     ensures memory { IsOkUnless result Memory }

@@ -10,15 +10,15 @@ ghost use Rattle.goo_store.specs.Found.{KeepsLot, KeepsRow};
 ghost use Rattle.goo_spec_tables.specs.Places.{lot_of};
 ghost use Rattle.goo_store_values.specs.Reading.{IsReadableLot};
 ghost use Rattle.goo_store_values.specs.Passing.{Accepts, Passes};
-ghost use Rattle.goo_store_values.specs.declared.trouble.Trouble.TheVariants.{Memory};
+ghost use Rattle.goo_store_values.specs.declared.statement_fault.StatementFault.TheVariants.{Memory};
 ghost use Rattle.goo_store.specs.Seen.{Blames, seen_by};
 
 use crate::kept_lots::keep_lot;
 use crate::sql_shelf::SqlShelf;
 use goo_store_plans::lot_numbers::NumberedLot;
 use goo_store_values::lots::read_lot;
-use goo_store_values::told::told;
-use goo_store_values::trouble::Trouble;
+use goo_store_values::noting::note_fault;
+use goo_store_values::statement_fault::StatementFault;
 use goo_tables::lot::find_lot;
 use goo_tables_rows::lot::LotRow;
 use goo_types::day::Day;
@@ -29,7 +29,7 @@ use goo_types::registry_code::RegistryCode;
 use sqlite::{Alter, Error};
 
 /// The lot that a row states, which is kept.
-fn read_kept(row: &LotRow, lots: &mut Vec<NumberedLot>) -> Result<Lot, Trouble>
+fn read_kept(row: &LotRow, lots: &mut Vec<NumberedLot>) -> Result<Lot, StatementFault>
     ensures value { IfOk result (λ lot. lot ≡ lot_of (lot_in row.now)) }
     ensures accepts { IsReadableLot (lot_in row.now) → IsOkUnless result Memory }
     ensures kept { KeepsRow row.now lots.old.items lots.new.items }
@@ -43,7 +43,7 @@ fn read_kept(row: &LotRow, lots: &mut Vec<NumberedLot>) -> Result<Lot, Trouble>
 fn read_found(
     found: Result<Option<LotRow>, Error>,
     lots: &mut Vec<NumberedLot>,
-) -> Result<Option<Lot>, Trouble>
+) -> Result<Option<Lot>, StatementFault>
     ensures value { Passes found result
         (λ row lot. lot ≡ option_map lot_of (option_map lot_in row)) }
     ensures accepts { Accepts found result (λ row. IfSome row (λ r. IsReadableLot (lot_in r))) }
@@ -80,7 +80,7 @@ impl<S: Alter> SqlShelf<S> {
             day.as_str(),
         );
         self.cache.answered = found.is_ok();
-        let lot = read_found(found, &mut self.findings.lots);
-        told(lot, &mut self.refused)
+        let lot = read_found(found, &mut self.known_rows.lots);
+        note_fault(lot, &mut self.refused)
     }
 }

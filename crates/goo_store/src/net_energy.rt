@@ -4,13 +4,13 @@ ghost use Rattle.std.specs.Prelude.{◌≡◌, ◌≤◌, IfOk};
 ghost use Rattle.goo_core_shelf.specs.Shelf.{Looks};
 ghost use Rattle.goo_store_audit.specs.NetCounting.{IsNetPageAdded, IsSumBelow};
 ghost use Rattle.goo_store_audit.specs.Summing.{AreDeclaredBy};
-ghost use Rattle.goo_store_lookups.specs.Moments.{tables_in};
+ghost use Rattle.goo_store_judge.specs.Moments.{tables_in};
 ghost use Rattle.goo_tables_rows.specs.Stands.{doubts};
 ghost use Rattle.goo_store.specs.Seen.{Blames, database_of, seen_by};
 
 use crate::sql_shelf::SqlShelf;
 use goo_store_audit::nets::add_found;
-use goo_store_values::told::told;
+use goo_store_values::noting::note_fault;
 use goo_tables_pages::net::page_of_declarations;
 use goo_types::fault::Fault;
 use goo_types::gsrn::Gsrn;
@@ -42,7 +42,7 @@ impl<S: Alter> SqlShelf<S> {
         let found = page_of_declarations(alloc, &mut self.conn, low);
         self.cache.answered = found.is_ok();
         let next = add_found(found, low, sums);
-        told(next, &mut self.refused)
+        note_fault(next, &mut self.refused)
     }
 
     /// The net energy that each device declared, in Wh.

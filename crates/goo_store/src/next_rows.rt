@@ -17,9 +17,9 @@ ghost use Rattle.goo_store.specs.NextRows.{begins_beyond, IsDated, reaching_beyo
 
 use crate::pieces::is_beyond;
 use goo_core_shelf::sought::{Sought, is_sought};
-use goo_store_plans::findings::Edges;
-use goo_store_values::trouble::Trouble;
-use goo_tables_holdings::joined::{next_expiring, next_of_account, page_of_account};
+use goo_store_plans::known_rows::Edges;
+use goo_store_values::statement_fault::StatementFault;
+use goo_tables_accounts::joined::{next_expiring, next_of_account, page_of_account};
 use goo_tables_rows::joined::JoinedRow;
 use goo_types::account_no::AccountNo;
 use goo_types::piece::Piece;
@@ -41,7 +41,7 @@ pub fn reaching_row(before: Option<Piece>, sought: &Sought, after: u64) -> Optio
 }
 
 /// The number at which the row ends that was read, if one was.
-fn edge_of(row: &Result<Option<Piece>, Trouble>) -> Option<u64>
+fn edge_of(row: &Result<Option<Piece>, StatementFault>) -> Option<u64>
     ensures { IfSome result (λ n. IsOkAnd row.now (λ found. IsSomeAnd found (λ p. p.last ≡ n))) }
 {
     match row {
@@ -88,7 +88,7 @@ fn asked_edge(edges: &Edges, after: u64) -> Option<u64>
 }
 
 /// Where rows are known to end once a row was read that was asked for by a number.
-pub fn edges_after(edges: &Edges, after: u64, row: &Result<Option<Piece>, Trouble>) -> Edges
+pub fn edges_after(edges: &Edges, after: u64, row: &Result<Option<Piece>, StatementFault>) -> Edges
     ensures last { IfSome result.last
         (λ n. IsOkAnd row.now (λ found. IsSomeAnd found (λ p. p.last ≡ n))) }
     ensures asked { (result.asked ≡ edges.now.last) ⊎ (result.asked ≡ edges.now.asked) }

@@ -13,8 +13,8 @@ ghost use Rattle.goo_store.specs.Seen.{Blames, seen_by};
 use crate::sql_shelf::SqlShelf;
 use goo_core_shelf::found::Arrival;
 use goo_core_shelf::sent::Sent;
-use goo_store_values::told::told;
-use goo_store_values::trouble::Trouble;
+use goo_store_values::noting::note_fault;
+use goo_store_values::statement_fault::StatementFault;
 use goo_store_values::{numbers, texts};
 use goo_tables::notice_in::find_notice_in;
 use goo_tables::notice_out::find_notice_out;
@@ -30,7 +30,7 @@ use std::alloc::Global;
 fn read_sent(
     alloc: Global,
     found: Result<Option<NoticeOutRow>, Error>,
-) -> Result<Option<Sent>, Trouble>
+) -> Result<Option<Sent>, StatementFault>
     ensures value { Passes found result
         (λ row sent. sent ≡ option_map sent_of (option_map notice_out_in row)) }
     ensures accepts { Accepts found result
@@ -59,7 +59,7 @@ fn read_arrival(
     alloc: Global,
     found: Result<Option<NoticeInRow>, Error>,
     notice: &Notice,
-) -> Result<Arrival, Trouble>
+) -> Result<Arrival, StatementFault>
     ensures value { Passes found result
         (λ row arrival. arrival
         ≡ arrival_of (option_map arrived_of (option_map notice_in_in row)) notice.now) }
@@ -88,7 +88,7 @@ impl<S: Alter> SqlShelf<S> {
         }
         let found = find_notice_out(alloc, &mut self.conn, notice.get());
         self.cache.answered = found.is_ok();
-        told(read_sent(alloc, found), &mut self.refused)
+        note_fault(read_sent(alloc, found), &mut self.refused)
     }
 
     /// What is kept for a notice's sender and number, seen from the notice.
@@ -109,6 +109,6 @@ impl<S: Alter> SqlShelf<S> {
         let sender = u32::from(notice.sender().get());
         let found = find_notice_in(alloc, &mut self.conn, sender, notice.number().get());
         self.cache.answered = found.is_ok();
-        told(read_arrival(alloc, found, notice), &mut self.refused)
+        note_fault(read_arrival(alloc, found, notice), &mut self.refused)
     }
 }

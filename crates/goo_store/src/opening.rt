@@ -11,7 +11,7 @@ ghost use Rattle.goo_store.specs.Opened.{IsOpened, IsNotOpened};
 use crate::renewal::{Renewal, Untold};
 use crate::renewing::renew;
 use crate::sql_shelf::SqlShelf;
-use goo_store_lookups::judge::judge;
+use goo_store_judge::judge::judge;
 use goo_store_open::fault::OpenFault;
 use goo_store_open::foreign::foreign_fault;
 use goo_store_open::layout::Layout;

@@ -7,8 +7,8 @@ ghost use Rattle.goo_store_values.specs.Passing.{Accepts, Passes};
 ghost use Rattle.goo_store.specs.Seen.{Blames, seen_by};
 
 use crate::sql_shelf::SqlShelf;
-use goo_store_values::told::told;
-use goo_store_values::trouble::Trouble;
+use goo_store_values::noting::note_fault;
+use goo_store_values::statement_fault::StatementFault;
 use goo_tables::peer::find_peer;
 use goo_tables_rows::peer::PeerRow;
 use goo_types::fault::Fault;
@@ -16,7 +16,7 @@ use goo_types::registry_code::RegistryCode;
 use sqlite::{Alter, Error};
 
 /// Whether there is a row.
-fn is_there(found: Result<Option<PeerRow>, Error>) -> Result<bool, Trouble>
+fn is_there(found: Result<Option<PeerRow>, Error>) -> Result<bool, StatementFault>
     ensures value { Passes found result (λ row there. there ≡ is_some row) }
     ensures accepts { Accepts found result (λ _. ⊤) }
 {
@@ -35,6 +35,6 @@ impl<S: Alter> SqlShelf<S> {
         }
         let found = find_peer(self.alloc, &mut self.conn, u32::from(code.get()));
         self.cache.answered = found.is_ok();
-        told(is_there(found), &mut self.refused)
+        note_fault(is_there(found), &mut self.refused)
     }
 }

@@ -12,13 +12,13 @@ ghost use Rattle.goo_store.specs.Found.{KeepsLots, KeepsRead};
 ghost use Rattle.goo_store.specs.Near.{reaching};
 ghost use Rattle.goo_store.specs.Reading.{IsReadablePiece, AreReadablePieces};
 ghost use Rattle.goo_store_values.specs.Passing.{Accepts, Passes};
-ghost use Rattle.goo_store_values.specs.declared.trouble.Trouble.TheVariants.{Memory};
+ghost use Rattle.goo_store_values.specs.declared.statement_fault.StatementFault.TheVariants.{Memory};
 
 use crate::kept_lots::keep_lot;
 use goo_store_plans::lot_numbers::NumberedLot;
 use goo_store_values::lots::read_lot;
 use goo_store_values::numbers;
-use goo_store_values::trouble::Trouble;
+use goo_store_values::statement_fault::StatementFault;
 use goo_tables_rows::joined::JoinedRow;
 use goo_types::fault::Fault;
 use goo_types::piece::Piece;
@@ -28,7 +28,7 @@ use sqlite::Error;
 use std::alloc::Global;
 
 /// A place by its kind: 1 held, 2 cancelled, 3 expired, 4 withdrawn, 5 exported.
-fn read_place(kind: u32, account: u32, act: u32) -> Result<Place, Trouble>
+fn read_place(kind: u32, account: u32, act: u32) -> Result<Place, StatementFault>
     ensures value { IfOk result (λ place. place ≡ place_of kind account act) }
     ensures accepts { IsTrue (is_act account) → IsTrue (names_act kind act) → IsOk result }
 {
@@ -39,12 +39,12 @@ fn read_place(kind: u32, account: u32, act: u32) -> Result<Place, Trouble>
         3 => Ok(Place::Expired(account)),
         4 => Ok(Place::Withdrawn(account, numbers::act_no(act)?)),
         5 => Ok(Place::Exported(account, numbers::act_no(act)?)),
-        _ => Err(Trouble::Refused),
+        _ => Err(StatementFault::Refused),
     }
 }
 
 /// The piece that a row states beside its lot.
-fn read_piece(row: &JoinedRow) -> Result<Piece, Trouble>
+fn read_piece(row: &JoinedRow) -> Result<Piece, StatementFault>
     ensures value { IfOk result (λ piece. piece ≡ piece_of (joined_in row.now)) }
     ensures accepts { IsReadablePiece (joined_in row.now) → IsOk result }
 {
@@ -57,7 +57,7 @@ fn read_piece(row: &JoinedRow) -> Result<Piece, Trouble>
 }
 
 /// The piece that a row states beside its lot, which is kept.
-fn read_beside(row: &JoinedRow, lots: &mut Vec<NumberedLot>) -> Result<Piece, Trouble>
+fn read_beside(row: &JoinedRow, lots: &mut Vec<NumberedLot>) -> Result<Piece, StatementFault>
     ensures value { IfOk result (λ piece. piece ≡ piece_of (joined_in row.now)) }
     ensures accepts { IsReadablePiece (joined_in row.now) → IsOkUnless result Memory }
     ensures kept { KeepsLots (row.now ∷ []) lots.old.items lots.new.items }
@@ -71,7 +71,7 @@ fn read_beside(row: &JoinedRow, lots: &mut Vec<NumberedLot>) -> Result<Piece, Tr
 pub fn read_maybe(
     found: Result<Option<JoinedRow>, Error>,
     lots: &mut Vec<NumberedLot>,
-) -> Result<Option<Piece>, Trouble>
+) -> Result<Option<Piece>, StatementFault>
     ensures value { Passes found result
         (λ row piece. piece ≡ option_map piece_of (option_map joined_in row)) }
     ensures accepts { Accepts found result
@@ -106,7 +106,7 @@ pub fn read_beyond(
     found: Result<Option<JoinedRow>, Error>,
     after: u64,
     lots: &mut Vec<NumberedLot>,
-) -> Result<Option<Piece>, Trouble>
+) -> Result<Option<Piece>, StatementFault>
     ensures value { Passes found result
         (λ row piece. piece ≡ option_map piece_of (option_map joined_in row)) }
     ensures accepts { Accepts found result
@@ -119,7 +119,7 @@ pub fn read_beyond(
     if is_none_or_beyond(&piece, after) {
         Ok(piece)
     } else {
-        Err(Trouble::Refused)
+        Err(StatementFault::Refused)
     }
 }
 
@@ -128,7 +128,7 @@ fn push_read(
     pieces: &mut Vec<Piece>,
     row: &JoinedRow,
     lots: &mut Vec<NumberedLot>,
-) -> Result<(), Trouble>
+) -> Result<(), StatementFault>
     ensures pushed { OnOk result (pieces.new.items
         ≡ pieces.old.items ++ piece_of (joined_in row.now) ∷ []) }
     ensures accepts { IsReadablePiece (joined_in row.now) → IsOkUnless result Memory }
@@ -144,7 +144,7 @@ fn read_each(
     alloc: Global,
     rows: &[JoinedRow],
     lots: &mut Vec<NumberedLot>,
-) -> Result<Vec<Piece>, Trouble>
+) -> Result<Vec<Piece>, StatementFault>
     ensures value { IfOk result (λ pieces. pieces.items ≡ map piece_of (map joined_in rows.now)) }
     ensures accepts { All (λ row. IsReadablePiece (joined_in row)) rows.now
         → IsOkUnless result Memory }
@@ -176,7 +176,7 @@ pub fn read_rising(
     alloc: Global,
     found: Result<Vec<JoinedRow>, Error>,
     lots: &mut Vec<NumberedLot>,
-) -> Result<Vec<Piece>, Trouble>
+) -> Result<Vec<Piece>, StatementFault>
     ensures value { Passes found result
         (λ rows pieces. pieces.items ≡ map piece_of (map joined_in rows.items)) }
     ensures accepts { Accepts found result (λ rows. AreReadablePieces rows.items) }
@@ -187,7 +187,7 @@ pub fn read_rising(
     if are_rising(&pieces) {
         Ok(pieces)
     } else {
-        Err(Trouble::Refused)
+        Err(StatementFault::Refused)
     }
 }
 
@@ -218,7 +218,7 @@ pub fn join_near(
     range: Range,
     before: Option<Piece>,
     later: &[Piece],
-) -> Result<Vec<Piece>, Trouble>
+) -> Result<Vec<Piece>, StatementFault>
     ensures value { IfOk result (λ pieces. pieces.items ≡ reaching range before ++ later.now) }
     ensures accepts { IsRising (reaching range before ++ later.now) → IsOkUnless result Memory }
     ensures rising { IfOk result (λ pieces. IsRising pieces.items) }
@@ -233,6 +233,6 @@ pub fn join_near(
     if are_rising(&pieces) {
         Ok(pieces)
     } else {
-        Err(Trouble::Refused)
+        Err(StatementFault::Refused)
     }
 }

@@ -10,15 +10,15 @@ ghost use Rattle.goo_core_shelf.specs.Shelf.{Looks, receipt_of as seen_from};
 ghost use Rattle.goo_spec_tables.specs.Replies.{issued_of, reply_of, receipt_of};
 ghost use Rattle.goo_spec_tables.specs.Readable.{are_ends, is_receipt, is_reply};
 ghost use Rattle.goo_store_values.specs.Passing.{Accepts, Passes};
-ghost use Rattle.goo_store_values.specs.declared.trouble.Trouble.TheVariants.{Memory};
+ghost use Rattle.goo_store_values.specs.declared.statement_fault.StatementFault.TheVariants.{Memory};
 ghost use Rattle.goo_store.specs.Seen.{Blames, seen_by};
 
 use crate::sql_shelf::SqlShelf;
 use goo_core_shelf::found::Receipt;
 use goo_notice::{command_text, one_text};
+use goo_store_values::noting::note_fault;
 use goo_store_values::numbers;
-use goo_store_values::told::told;
-use goo_store_values::trouble::Trouble;
+use goo_store_values::statement_fault::StatementFault;
 use goo_tables::receipt::find_receipt;
 use goo_tables_rows::receipt::ReceiptRow;
 use goo_types::command::Command;
@@ -31,7 +31,7 @@ use sqlite::{Alter, Error};
 use std::alloc::Global;
 
 /// The numbers issued, if any were.
-fn read_issued(first: u64, last: u64) -> Result<Option<Range>, Trouble>
+fn read_issued(first: u64, last: u64) -> Result<Option<Range>, StatementFault>
     ensures value { IfOk result (λ issued. issued ≡ issued_of first last) }
     ensures accepts { is_ok result ≡ (((first == 0) && (last == 0)) || are_ends first last) }
 {
@@ -42,7 +42,7 @@ fn read_issued(first: u64, last: u64) -> Result<Option<Range>, Trouble>
 }
 
 /// The reply of a kind with its numbers.
-fn read_reply(kind: u32, n1: u64, n2: u64, n3: u64) -> Result<Reply, Trouble>
+fn read_reply(kind: u32, n1: u64, n2: u64, n3: u64) -> Result<Reply, StatementFault>
     ensures value { IfOk result (λ reply. reply ≡ reply_of kind n1 n2 n3) }
     ensures accepts { IsTrue (is_reply kind n1 n2 n3) → IsOk result }
 {
@@ -75,19 +75,19 @@ fn read_reply(kind: u32, n1: u64, n2: u64, n3: u64) -> Result<Reply, Trouble>
             count: n2,
             withdrawal: numbers::act_or_none(numbers::small(n3)?)?,
         }),
-        _ => Err(Trouble::Refused),
+        _ => Err(StatementFault::Refused),
     }
 }
 
 /// Whether bytes are the text of a command.
-fn is_text_of(alloc: Global, bytes: &[u8], command: &Command) -> Result<bool, Trouble>
+fn is_text_of(alloc: Global, bytes: &[u8], command: &Command) -> Result<bool, StatementFault>
     ensures value { IfOk result (λ same. same ≡ is_kept (command_in bytes.now) command.now) }
     ensures memory { IsOkUnless result Memory }
 {
     one_text();
     match command_text(alloc, command) {
         Ok(text) => Ok(text.as_slice() == bytes),
-        Err(_) => Err(Trouble::Memory),
+        Err(_) => Err(StatementFault::Memory),
     }
 }
 
@@ -96,7 +96,7 @@ fn read_receipt(
     alloc: Global,
     found: Result<Option<ReceiptRow>, Error>,
     command: &Command,
-) -> Result<Receipt, Trouble>
+) -> Result<Receipt, StatementFault>
     ensures value { Passes found result
         (λ row receipt. receipt
         ≡ seen_from (option_map receipt_of (option_map receipt_in row)) command.now) }
@@ -132,6 +132,6 @@ impl<S: Alter> SqlShelf<S> {
         }
         let found = find_receipt(alloc, &mut self.conn, caller.text(), key.text());
         self.cache.answered = found.is_ok();
-        told(read_receipt(alloc, found, command), &mut self.refused)
+        note_fault(read_receipt(alloc, found, command), &mut self.refused)
     }
 }

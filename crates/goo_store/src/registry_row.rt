@@ -10,16 +10,16 @@ ghost use Rattle.goo_store.specs.Found.{KeepsFound};
 ghost use Rattle.goo_store_plans.specs.Found.{IsRowOf};
 ghost use Rattle.goo_store_values.specs.Passing.{Accepts, Passes};
 ghost use Rattle.goo_spec_tables.specs.Readable.{is_meta};
-ghost use Rattle.goo_store_values.specs.declared.trouble.Trouble.TheVariants.{Refused};
+ghost use Rattle.goo_store_values.specs.declared.statement_fault.StatementFault.TheVariants.{Refused};
 ghost use Rattle.goo_spec_tables.specs.States.{state_of};
 ghost use Rattle.goo_store.specs.Seen.{Blames, seen_by};
 
 use crate::sql_shelf::SqlShelf;
 use goo_core_shelf::counters::Counters;
 use goo_core_shelf::own::Meta;
+use goo_store_values::noting::note_fault;
 use goo_store_values::registry_row::row;
-use goo_store_values::told::told;
-use goo_store_values::trouble::Trouble;
+use goo_store_values::statement_fault::StatementFault;
 use goo_store_values::{numbers, texts};
 use goo_tables::meta::find_meta;
 use goo_tables_rows::meta::MetaRow;
@@ -30,12 +30,12 @@ use sqlite::{Alter, Error};
 
 /// The next number of each kind.
 #[tactic(auto, unfolding(goo_spec_tables::specs::States::state_of))]
-fn counters_in_row(row: &MetaRow) -> Result<Counters, Trouble>
+fn counters_in_row(row: &MetaRow) -> Result<Counters, StatementFault>
     ensures value { IfOk result
         (λ counters. (t : Tables) → t.meta ≡ meta_in row.now
         → counters ≡ counters_of (state_of t)) }
     ensures accepts { IsTrue (is_meta (meta_in row.now)) → IsOk result }
-    ensures cause { IfErr result (λ trouble. trouble ≡ Refused) }
+    ensures cause { IfErr result (λ cause. cause ≡ Refused) }
 {
     let counters = Counters::new(
         row.next_serial,
@@ -44,16 +44,16 @@ fn counters_in_row(row: &MetaRow) -> Result<Counters, Trouble>
         row.next_withdrawal,
         row.next_notice,
     );
-    counters.ok_or(Trouble::Refused)
+    counters.ok_or(StatementFault::Refused)
 }
 
 /// What the registry knows of itself, as its row tells.
 #[tactic(auto, unfolding(goo_spec_tables::specs::States::state_of))]
-fn meta_in_row(row: &MetaRow) -> Result<Meta, Trouble>
+fn meta_in_row(row: &MetaRow) -> Result<Meta, StatementFault>
     ensures value { IfOk result
         (λ meta. (t : Tables) → t.meta ≡ meta_in row.now → meta ≡ meta_of (state_of t)) }
     ensures accepts { IsTrue (is_meta (meta_in row.now)) → IsOk result }
-    ensures cause { IfErr result (λ trouble. trouble ≡ Refused) }
+    ensures cause { IfErr result (λ cause. cause ≡ Refused) }
 {
     let code = numbers::registry_code(row.code)?;
     let today = texts::day(&row.today)?;
@@ -69,7 +69,7 @@ fn meta_in_row(row: &MetaRow) -> Result<Meta, Trouble>
 fn read_meta(
     found: Result<Option<MetaRow>, Error>,
     own: &mut Option<MetaRow>,
-) -> Result<Meta, Trouble>
+) -> Result<Meta, StatementFault>
     ensures value { Passes found result
         (λ row meta. (t : Tables) → option_map meta_in row ≡ Some t.meta
         → meta ≡ meta_of (state_of t)) }
@@ -96,11 +96,11 @@ impl<S: Alter> SqlShelf<S> {
     /// What the registry knows of itself, where its row is kept and may be told.
     fn kept_registry(&self) -> Option<Meta>
         ensures answered { IfSome result (λ meta. IsTrue self.now.cache.answered) }
-        ensures kept { IfSome result
-            (λ meta. (t : Tables) → IsRowOf self.now.findings.own t → meta ≡ meta_of (state_of t)) }
+        ensures kept { IfSome result (λ meta. (t : Tables)
+            → IsRowOf self.now.known_rows.own t → meta ≡ meta_of (state_of t)) }
     {
         if self.cache.answered {
-            meta_in_kept(&self.findings.own)
+            meta_in_kept(&self.known_rows.own)
         } else {
             None
         }
@@ -121,7 +121,10 @@ impl<S: Alter> SqlShelf<S> {
         }
         let found = find_meta(self.alloc, &mut self.conn);
         self.cache.answered = found.is_ok();
-        told(read_meta(found, &mut self.findings.own), &mut self.refused)
+        note_fault(
+            read_meta(found, &mut self.known_rows.own),
+            &mut self.refused,
+        )
     }
 
     /// The registry's own code.

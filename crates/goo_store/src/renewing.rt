@@ -8,12 +8,12 @@ ghost use Rattle.goo_store.specs.FirstTables.{Rewrites, Renews};
 
 use crate::renewal::Renewal;
 use goo_store_changes::migrating::commit_migration;
-use goo_store_lookups::judge::judge;
+use goo_store_judge::judge::judge;
 use goo_store_open::fault::OpenFault;
 use goo_store_open::finding::VERSION;
 use goo_store_open::layout::Layout;
 use goo_store_plans::joining_pieces::joining_changes;
-use goo_store_values::trouble::Trouble;
+use goo_store_values::statement_fault::StatementFault;
 use goo_tables_rows::piece::PieceRow;
 use sqlite::{Alter, Connection};
 use std::alloc::Global;
@@ -28,7 +28,7 @@ fn rewrite<S: Alter>(
     alloc: Global,
     conn: &mut Connection<S>,
     pieces: &[PieceRow],
-) -> Result<(), Trouble>
+) -> Result<(), StatementFault>
     requires outside { conn.old.in_transaction ≡ false }
     ensures { Rewrites (view S.Store conn.old) (view S.Store conn.new) pieces.now result }
 {
@@ -59,7 +59,7 @@ pub fn renew<S: Alter, N: Renewal>(
             told.begins(&*conn);
             match rewrite(alloc, conn, &pieces) {
                 Ok(()) => Ok(()),
-                Err(trouble) => Err(OpenFault::from(trouble)),
+                Err(cause) => Err(OpenFault::from(cause)),
             }
         }
         Err(fault) => Err(fault),

@@ -10,7 +10,7 @@ ghost use Rattle.goo_core_shelf.specs.Rows.{naming_account, next_row as next_of,
 ghost use Rattle.goo_core_shelf.specs.Shelf.{Looks};
 ghost use Rattle.goo_core_shelf.specs.Sought.{is_sought};
 ghost use Rattle.goo_spec_tables.specs.Places.{rows_of};
-ghost use Rattle.goo_store_lookups.specs.Moments.{tables_in};
+ghost use Rattle.goo_store_judge.specs.Moments.{tables_in};
 ghost use Rattle.goo_store_plans.specs.Found.{IsEdge};
 ghost use Rattle.goo_tables_rows.specs.Stands.{doubts};
 ghost use Rattle.goo_store.specs.Seen.{Blames, database_of, seen_by};
@@ -21,8 +21,8 @@ use crate::next_rows::{ask_next, ask_page, edges_after, ends_clear, is_clear, re
 use crate::pieces::{alone, ending_behind, join_near, read_beyond, read_maybe, read_rising};
 use crate::sql_shelf::SqlShelf;
 use goo_core_shelf::sought::Sought;
-use goo_store_values::told::told;
-use goo_tables_holdings::joined::{piece_before, pieces_beginning, pieces_of_account};
+use goo_store_values::noting::note_fault;
+use goo_tables_accounts::joined::{piece_before, pieces_beginning, pieces_of_account};
 use goo_types::account_no::AccountNo;
 use goo_types::fault::Fault;
 use goo_types::number::Number;
@@ -44,8 +44,8 @@ impl<S: Alter> SqlShelf<S> {
         }
         let found = piece_before(alloc, &mut self.conn, low);
         self.cache.answered = found.is_ok();
-        let row = read_maybe(found, &mut self.findings.lots);
-        told(row, &mut self.refused)
+        let row = read_maybe(found, &mut self.known_rows.lots);
+        note_fault(row, &mut self.refused)
     }
 
     /// The rows that begin between two numbers, both counted.
@@ -61,8 +61,8 @@ impl<S: Alter> SqlShelf<S> {
         }
         let found = pieces_beginning(alloc, &mut self.conn, low, high);
         self.cache.answered = found.is_ok();
-        let rows = read_rising(alloc, found, &mut self.findings.lots);
-        told(rows, &mut self.refused)
+        let rows = read_rising(alloc, found, &mut self.known_rows.lots);
+        note_fault(rows, &mut self.refused)
     }
 
     /// The rows with a number of the range or next to one, rising. A range within one row, short of
@@ -84,11 +84,11 @@ impl<S: Alter> SqlShelf<S> {
         if let Some(row) = ending_behind(&before, last) {
             return alone(alloc, row);
         }
-        if is_issued_next(&self.findings.own, range.first()) {
-            return told(join_near(alloc, range, before, &[]), &mut self.refused);
+        if is_issued_next(&self.known_rows.own, range.first()) {
+            return note_fault(join_near(alloc, range, before, &[]), &mut self.refused);
         }
         let later = self.rows_beginning(alloc, first, last + 1)?;
-        told(join_near(alloc, range, before, &later), &mut self.refused)
+        note_fault(join_near(alloc, range, before, &later), &mut self.refused)
     }
 
     /// The rows whose place names an account, rising.
@@ -107,8 +107,8 @@ impl<S: Alter> SqlShelf<S> {
         }
         let found = pieces_of_account(alloc, &mut self.conn, account.get());
         self.cache.answered = found.is_ok();
-        let rows = read_rising(alloc, found, &mut self.findings.lots);
-        told(rows, &mut self.refused)
+        let rows = read_rising(alloc, found, &mut self.known_rows.lots);
+        note_fault(rows, &mut self.refused)
     }
 
     /// The first row that is looked for and begins above a number.
@@ -125,9 +125,9 @@ impl<S: Alter> SqlShelf<S> {
         }
         let found = ask_next(self.alloc, &mut self.conn, sought, after);
         self.cache.answered = found.is_ok();
-        let row = read_beyond(found, after, &mut self.findings.lots);
-        self.findings.edges = edges_after(&self.findings.edges, after, &row);
-        told(row, &mut self.refused)
+        let row = read_beyond(found, after, &mut self.known_rows.lots);
+        self.known_rows.edges = edges_after(&self.known_rows.edges, after, &row);
+        note_fault(row, &mut self.refused)
     }
 
     /// The first row that is looked for and ends after a number, or the first of all such rows.
@@ -151,7 +151,7 @@ impl<S: Alter> SqlShelf<S> {
             return self.first_beyond(sought, 0);
         };
         let after = after.get();
-        if is_clear(&self.findings.edges, after) {
+        if is_clear(&self.known_rows.edges, after) {
             return self.first_beyond(sought, after);
         }
         let before = self.row_before(self.alloc, after + 1)?;
@@ -180,10 +180,10 @@ impl<S: Alter> SqlShelf<S> {
             found,
             account,
             row,
-            &mut self.findings.lots,
+            &mut self.known_rows.lots,
             &mut self.cache.ahead,
         );
-        told(shown, &mut self.refused)
+        note_fault(shown, &mut self.refused)
     }
 
     /// The first row that names an account and ends after a number, as the tables have it. The rows
@@ -200,7 +200,7 @@ impl<S: Alter> SqlShelf<S> {
     {
         let found = self.next_row(&Sought::Naming(account), after)?;
         match found {
-            Some(row) if ends_clear(&self.findings.edges, &row) => self.follow(account, row),
+            Some(row) if ends_clear(&self.known_rows.edges, &row) => self.follow(account, row),
             _ => Ok(found),
         }
     }

@@ -47,7 +47,7 @@ impl<S: Alter> Shelf for SqlShelf<S> {
     ghost use Rattle.goo_core_shelf.specs.Shelf.{arrival_of, totals_of};
     ghost use Rattle.goo_core_shelf.specs.Plan.{Fits, Commits};
     ghost use Rattle.goo_store.specs.Gathering.{CanCarryOut};
-    ghost use Rattle.goo_store_lookups.specs.Holding.{safe, sure};
+    ghost use Rattle.goo_store_judge.specs.Holding.{safe, sure};
     ghost use Rattle.goo_store.specs.Seen.{Blames, BlamesPlan, database_of, seen_by};
 
     ghost seen = { λ s. seen_by s };

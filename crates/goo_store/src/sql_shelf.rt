@@ -11,10 +11,10 @@ ghost use Rattle.goo_tables_rows.specs.Columns.{no_schema};
 ghost use Rattle.goo_tables_rows.specs.Met.{IsInKeyOrder};
 ghost use Rattle.goo_tables_rows.specs.Stands.{HoldsOurs, doubts};
 ghost use Rattle.goo_core_shelf.specs.Shelf.{IsReady};
-ghost use Rattle.goo_tables_holdings.specs.Changes.{begun};
+ghost use Rattle.goo_tables_accounts.specs.Changes.{begun};
 ghost use Rattle.goo_store.specs.Creating.{meta_of};
-ghost use Rattle.goo_store_lookups.specs.Moments.{IsWell, IsWell-prop, OpensAs, count};
-ghost use Rattle.goo_store_lookups.specs.Opening.{BlamesOpening};
+ghost use Rattle.goo_store_judge.specs.Moments.{IsWell, IsWell-prop, OpensAs, count};
+ghost use Rattle.goo_store_judge.specs.Opening.{BlamesOpening};
 ghost use Rattle.goo_store.specs.Found.{Knows, Knows-prop};
 ghost use Rattle.goo_store.specs.Caching.{HoldsCache, HoldsCache-prop};
 ghost use Rattle.goo_store_open.specs.Found.{IsOutside};
@@ -23,7 +23,7 @@ ghost use Rattle.goo_store_open.specs.declared.fault.OpenFault.TheVariants.{Alre
 use crate::cache::Cache;
 use crate::creating::{begin, is_empty};
 use goo_store_open::fault::OpenFault;
-use goo_store_plans::findings::Findings;
+use goo_store_plans::known_rows::KnownRows;
 use goo_types::day::Day;
 use goo_types::registry_code::RegistryCode;
 use goo_types::serial::Serial;
@@ -38,11 +38,11 @@ pub struct SqlShelf<S: Alter> {
     pub(crate) alloc: Global,
     pub(crate) conn: Connection<S>,
     pub(crate) refused: bool,
-    pub(crate) findings: Findings,
+    pub(crate) known_rows: KnownRows,
     pub(crate) cache: Cache,
     ghost outside: { conn.in_transaction ≡ false },
     ghost well: { IsWell (view S.Store conn) } by { IsWell-prop (view S.Store conn) },
-    ghost known: { Knows (view S.Store conn) findings } by { Knows-prop (view S.Store conn) findings },
+    ghost known: { Knows (view S.Store conn) known_rows } by { Knows-prop (view S.Store conn) known_rows },
     ghost cached: { HoldsCache (view S.Store conn) cache } by { HoldsCache-prop (view S.Store conn) cache },
 }
 
@@ -52,7 +52,7 @@ impl<S: Alter + Drop> Drop for SqlShelf<S> {
             alloc: _,
             conn: _conn,
             refused: _,
-            findings: _findings,
+            known_rows: _known_rows,
             cache: _cache,
         } = self;
     }
@@ -73,7 +73,7 @@ impl<S: Alter> SqlShelf<S> {
             alloc,
             conn,
             refused: false,
-            findings: Findings::none(alloc),
+            known_rows: KnownRows::none(alloc),
             cache: Cache::none(alloc),
         }
     }
@@ -130,7 +130,7 @@ impl<S: Alter> SqlShelf<S> {
         }
         match begin(alloc, &mut conn, code, next_serial, today) {
             Ok(()) => Ok(SqlShelf::over(alloc, conn)),
-            Err(trouble) => Err((conn, OpenFault::from(trouble))),
+            Err(cause) => Err((conn, OpenFault::from(cause))),
         }
     }
 
@@ -156,7 +156,7 @@ impl<S: Alter> SqlShelf<S> {
             alloc: _,
             conn,
             refused: _,
-            findings: _findings,
+            known_rows: _known_rows,
             cache: _cache,
         } = self;
         conn

@@ -13,8 +13,8 @@ ghost use Rattle.goo_store.specs.Seen.{Blames, seen_by};
 use crate::corrections::read_all;
 use crate::sql_shelf::SqlShelf;
 use goo_store_audit::taken::{Taken, taken_by};
-use goo_store_values::told::told;
-use goo_store_values::trouble::Trouble;
+use goo_store_values::noting::note_fault;
+use goo_store_values::statement_fault::StatementFault;
 use goo_tables::correction::all_corrections;
 use goo_tables_rows::correction::CorrectionRow;
 use goo_types::fault::Fault;
@@ -22,7 +22,10 @@ use sqlite::{Alter, Error};
 use std::alloc::Global;
 
 /// What the corrections in rows did to devices.
-fn read_taken(alloc: Global, found: Result<Vec<CorrectionRow>, Error>) -> Result<Taken, Trouble>
+fn read_taken(
+    alloc: Global,
+    found: Result<Vec<CorrectionRow>, Error>,
+) -> Result<Taken, StatementFault>
     ensures value { Passes found result
         (λ rows. AreTakenBy (map correction_of (map correction_in rows.items))) }
     ensures accepts { Accepts found result
@@ -44,6 +47,6 @@ impl<S: Alter> SqlShelf<S> {
         }
         let found = all_corrections(alloc, &mut self.conn);
         self.cache.answered = found.is_ok();
-        told(read_taken(alloc, found), &mut self.refused)
+        note_fault(read_taken(alloc, found), &mut self.refused)
     }
 }

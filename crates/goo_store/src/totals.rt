@@ -18,7 +18,7 @@ use goo_core_shelf::found::DeviceTotals;
 use goo_store_audit::sums::totals_over;
 use goo_store_audit::taken::Taken;
 use goo_store_audit::tallies::{Tally, count_found};
-use goo_store_values::told::told;
+use goo_store_values::noting::note_fault;
 use goo_tables_pages::device_pieces::page_of_pieces;
 use goo_types::fault::Fault;
 use goo_types::gsrn::Gsrn;
@@ -50,7 +50,7 @@ impl<S: Alter> SqlShelf<S> {
         let found = page_of_pieces(alloc, &mut self.conn, low);
         self.cache.answered = found.is_ok();
         let next = count_found(own, withdrawals, found, low, tally);
-        told(next, &mut self.refused)
+        note_fault(next, &mut self.refused)
     }
 
     /// The certificates of each device in all rows, a page at a time.
@@ -94,7 +94,7 @@ impl<S: Alter> SqlShelf<S> {
         let declared = self.net_energy(alloc)?;
         let tally = self.count_pages(alloc, own, &taken.withdrawals)?;
         let totals = totals_over(alloc, devices, &declared, &taken.lowered, &tally);
-        told(totals, &mut self.refused)
+        note_fault(totals, &mut self.refused)
     }
 
     /// The totals of these devices.

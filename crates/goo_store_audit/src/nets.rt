@@ -5,32 +5,32 @@ ghost use Rattle.std.specs.Prelude.{IsOkUnless};
 ghost use Rattle.goo_store_audit.specs.NetCounting.{number_after, end_of_nets, AreNets};
 ghost use Rattle.goo_store_audit.specs.NetCounting.{AreNetsAdded, IsNet, IsSumBelow};
 ghost use Rattle.goo_store_values.specs.Passing.{Accepts, Passes};
-ghost use Rattle.goo_store_values.specs.declared.trouble.Trouble.TheVariants.{Memory};
+ghost use Rattle.goo_store_values.specs.declared.statement_fault.StatementFault.TheVariants.{Memory};
 ghost use Rattle.goo_tables_pages.specs.NetRows.{net_in};
 
 use goo_store_rules::sums::add_to;
+use goo_store_values::statement_fault::StatementFault;
 use goo_store_values::texts;
-use goo_store_values::trouble::Trouble;
 use goo_tables_pages::net::NetRow;
 use goo_types::gsrn::Gsrn;
 use sqlite::Error;
 use std::collections::BTreeMap;
 
 /// The number of a row, which must be `low` or a later one.
-fn number_beyond(row: &NetRow, low: u64) -> Result<u64, Trouble>
+fn number_beyond(row: &NetRow, low: u64) -> Result<u64, StatementFault>
     ensures value { IfOk result
         (λ n. (number_after row.now.id ≡ n + 1) × (low ≤ n) × (n < 2 ^ 63)) }
     ensures accepts { low + 1 ≤ number_after row.now.id → IsOk result }
 {
     if row.id < 0 || (row.id as u64) < low {
-        return Err(Trouble::Refused);
+        return Err(StatementFault::Refused);
     }
     Ok(row.id as u64)
 }
 
 /// Adds the net energy of a row, whose number must be `low` or a later one; the number after its
 /// own.
-fn add_row(row: &NetRow, low: u64, sums: &mut BTreeMap<Gsrn, u128>) -> Result<u64, Trouble>
+fn add_row(row: &NetRow, low: u64, sums: &mut BTreeMap<Gsrn, u128>) -> Result<u64, StatementFault>
     requires { IsSumBelow low sums.old }
     ensures next { IfOk result
         (λ next. (next ≡ number_after row.now.id) × (low + 1 ≤ next) × IsSumBelow next sums.new) }
@@ -46,7 +46,11 @@ fn add_row(row: &NetRow, low: u64, sums: &mut BTreeMap<Gsrn, u128>) -> Result<u6
 
 /// Adds the net energy of rows, whose numbers must rise from `low` on; the number after the last of
 /// them.
-fn add_rows(rows: &[NetRow], low: u64, sums: &mut BTreeMap<Gsrn, u128>) -> Result<u64, Trouble>
+fn add_rows(
+    rows: &[NetRow],
+    low: u64,
+    sums: &mut BTreeMap<Gsrn, u128>,
+) -> Result<u64, StatementFault>
     requires { IsSumBelow low sums.old }
     ensures next { IfOk result (λ next. next ≡ end_of_nets low (map net_in rows.now)) }
     ensures added { OnOk result (AreNetsAdded (map net_in rows.now) sums.old sums.new) }
@@ -71,7 +75,7 @@ pub fn add_found(
     found: Result<Vec<NetRow>, Error>,
     low: u64,
     sums: &mut BTreeMap<Gsrn, u128>,
-) -> Result<u64, Trouble>
+) -> Result<u64, StatementFault>
     requires { IsSumBelow low sums.old }
     ensures value { Passes found result
         (λ rows next. (next ≡ end_of_nets low (map net_in rows.items))

@@ -9,12 +9,12 @@ ghost use Rattle.goo_spec.specs.Energy.{certificate};
 ghost use Rattle.goo_store_audit.specs.Counting.{IsBelow, all_numbers};
 ghost use Rattle.goo_store_audit.specs.Summing.{total_in};
 ghost use Rattle.goo_store_rules.specs.Summing.{sum_at};
-ghost use Rattle.goo_store_values.specs.declared.trouble.Trouble.TheVariants.{Memory};
+ghost use Rattle.goo_store_values.specs.declared.statement_fault.StatementFault.TheVariants.{Memory};
 
 use crate::tallies::Tally;
 use goo_core_shelf::found::DeviceTotals;
 use goo_store_rules::sums::sum_for;
-use goo_store_values::trouble::Trouble;
+use goo_store_values::statement_fault::StatementFault;
 use goo_types::gsrn::Gsrn;
 use goo_types::limits::CERTIFICATE;
 use std::alloc::Global;
@@ -64,7 +64,7 @@ pub fn totals_over(
     declared: &BTreeMap<Gsrn, u128>,
     lowered: &BTreeMap<Gsrn, u128>,
     tally: &Tally,
-) -> Result<Vec<DeviceTotals>, Trouble>
+) -> Result<Vec<DeviceTotals>, StatementFault>
     requires { IsBelow all_numbers tally.now }
     ensures value { IfOk result
         (λ totals. totals.items ≡ map (total_in declared.now lowered.now tally.now) devices.now) }

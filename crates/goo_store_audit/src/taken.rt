@@ -2,12 +2,12 @@
 
 ghost use Rattle.std.specs.Prelude.{IfOk, IsOkUnless};
 ghost use Rattle.goo_store_audit.specs.Summing.{AreTakenBy};
-ghost use Rattle.goo_store_values.specs.declared.trouble.Trouble.TheVariants.{Memory};
+ghost use Rattle.goo_store_values.specs.declared.statement_fault.StatementFault.TheVariants.{Memory};
 
 use goo_store_rules::correct_record::CorrectRecord;
 use goo_store_rules::sums::sum_lowered;
 use goo_store_rules::taken_back::withdrawals_of;
-use goo_store_values::trouble::Trouble;
+use goo_store_values::statement_fault::StatementFault;
 use goo_types::gsrn::Gsrn;
 use std::alloc::Global;
 use std::collections::{BTreeMap, BTreeSet};
@@ -26,7 +26,7 @@ pub struct Taken {
 /// # Errors
 ///
 /// `Memory` where memory was refused.
-pub fn taken_by(alloc: Global, corrections: &[CorrectRecord]) -> Result<Taken, Trouble>
+pub fn taken_by(alloc: Global, corrections: &[CorrectRecord]) -> Result<Taken, StatementFault>
     ensures value { IfOk result (AreTakenBy corrections.now) }
     ensures memory { IsOkUnless result Memory }
 {

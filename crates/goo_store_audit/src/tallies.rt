@@ -11,13 +11,13 @@ ghost use Rattle.goo_store_audit.specs.Counting.{AreAdded, AreCountable, IsBelow
 ghost use Rattle.goo_store_rules.specs.Correcting.{AreTakenBack};
 ghost use Rattle.goo_store_rules.specs.Summing.{sum_at};
 ghost use Rattle.goo_store_values.specs.Passing.{Accepts, Passes};
-ghost use Rattle.goo_store_values.specs.declared.trouble.Trouble.TheVariants.{Memory};
+ghost use Rattle.goo_store_values.specs.declared.statement_fault.StatementFault.TheVariants.{Memory};
 ghost use Rattle.goo_tables_pages.specs.DevicePieces.{device_piece_in};
 
 use goo_store_rules::sums::add_to;
 use goo_store_rules::taken_back::is_taken;
+use goo_store_values::statement_fault::StatementFault;
 use goo_store_values::texts;
-use goo_store_values::trouble::Trouble;
 use goo_tables_pages::device_pieces::DevicePieceRow;
 use goo_tables_rows::piece::PieceRow;
 use goo_types::gsrn::Gsrn;
@@ -57,7 +57,7 @@ impl Tally {
 }
 
 /// The number after the last of a row, which must be a range that begins at `low` or later.
-fn number_after(piece: &PieceRow, low: u64) -> Result<u64, Trouble>
+fn number_after(piece: &PieceRow, low: u64) -> Result<u64, StatementFault>
     ensures value { IfOk result
         (λ next. (next ≡ piece.now.last + 1) × (low ≤ piece.now.first)
         × (piece.now.first ≤ piece.now.last) × (next ≤ all_numbers)) }
@@ -65,7 +65,7 @@ fn number_after(piece: &PieceRow, low: u64) -> Result<u64, Trouble>
         → piece.now.last < all_numbers → IsOk result }
 {
     if piece.first < low || piece.last < piece.first || piece.last >= ALL_NUMBERS {
-        return Err(Trouble::Refused);
+        return Err(StatementFault::Refused);
     }
     Ok(piece.last + 1)
 }
@@ -111,7 +111,7 @@ fn count_row(
     row: &DevicePieceRow,
     low: u64,
     tally: &mut Tally,
-) -> Result<u64, Trouble>
+) -> Result<u64, StatementFault>
     requires { IsBelow low tally.old }
     ensures next { IfOk result
         (λ next. (next ≡ row.now.piece.last + 1) × (low + 1 ≤ next) × IsBelow next tally.new) }
@@ -137,7 +137,7 @@ fn count_rows(
     rows: &[DevicePieceRow],
     low: u64,
     tally: &mut Tally,
-) -> Result<u64, Trouble>
+) -> Result<u64, StatementFault>
     requires { IsBelow low tally.old }
     ensures next { IfOk result (λ next. next ≡ end_of low (shares_of rows.now)) }
     ensures added { OnOk result
@@ -160,7 +160,7 @@ pub fn count_found(
     found: Result<Vec<DevicePieceRow>, Error>,
     low: u64,
     tally: &mut Tally,
-) -> Result<u64, Trouble>
+) -> Result<u64, StatementFault>
     requires { IsBelow low tally.old }
     ensures value { Passes found result
         (λ rows next. (next ≡ end_of low (shares_of rows.items))

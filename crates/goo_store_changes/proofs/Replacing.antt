@@ -8,7 +8,7 @@ use Rattle.sqlite_keyed.proofs.ListLemmas.{all_weaker}
 use Rattle.sqlite_keyed.proofs.KeyedLemmas.{Less-from_lt, same_int, int_eq_apart}
 use Rattle.goo_tables_rows.specs.Rows.{Tables, piece_key}
 use Rattle.goo_tables_rows.specs.declared.piece.PieceRow.{PieceRow}
-use Rattle.goo_tables_holdings.specs.Changes.{begins_as, with_piece, with_piece_set, without_piece}
+use Rattle.goo_tables_accounts.specs.Changes.{begins_as, with_piece, with_piece_set, without_piece}
 
 Greater-from_lt : (a b : ℤ) → a <ℤ b → int_cmp b a ≡ Greater
 Greater-from_lt a b h = grind (arith, ints)

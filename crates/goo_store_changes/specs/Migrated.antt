@@ -4,7 +4,7 @@ use Rattle.sqlite.specs.State.{State}
 use Rattle.goo_tables_rows.specs.First.{IsFirst}
 use Rattle.goo_tables_rows.specs.Refused.{IsSmall}
 use Rattle.goo_tables_rows.specs.Rows.{Tables, meta_row}
-use Rattle.goo_tables_holdings.specs.Changes.{with_version}
+use Rattle.goo_tables_accounts.specs.Changes.{with_version}
 use Rattle.goo_store_changes.specs.Changes.{made_all, HaveRoom}
 use Rattle.goo_store_changes.specs.declared.change.TableChange.{TableChange}
 

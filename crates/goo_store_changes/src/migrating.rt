@@ -9,7 +9,7 @@ ghost use Rattle.goo_tables_rows.specs.Lives.{IsAlive};
 ghost use Rattle.goo_tables_rows.specs.Rows.{Tables, meta_row};
 ghost use Rattle.goo_tables_rows.specs.Refused.{IsFault, IsTooBigOrFull, IsSmall};
 ghost use Rattle.goo_tables_rows.specs.Stands.{Sees, Settled, HoldsOurs};
-ghost use Rattle.goo_tables_holdings.specs.Changes.{with_version};
+ghost use Rattle.goo_tables_accounts.specs.Changes.{with_version};
 ghost use Rattle.goo_store_changes.specs.Changes.{made_all, ChangeFits, AreFor, AreFree, HaveRoom};
 ghost use Rattle.goo_store_changes.specs.Migrated.{SeesFirst, HasRoomToMigrate};
 

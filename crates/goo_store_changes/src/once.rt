@@ -10,11 +10,11 @@ ghost use Rattle.goo_tables_rows.specs.Refused.{ChangeFailsBy, IsTooBig, IsTooBi
 ghost use Rattle.goo_tables_rows.specs.Refused.{HasRoomFor};
 ghost use Rattle.goo_tables_rows.specs.Lives.{LeavesLive};
 ghost use Rattle.goo_tables_rows.specs.Stands.{Sees};
-ghost use Rattle.goo_tables_holdings.specs.Changes.{with_notice_in, with_counters, CountersFit};
+ghost use Rattle.goo_tables_accounts.specs.Changes.{with_notice_in, with_counters, CountersFit};
 
 use goo_tables::meta::set_counters;
 use goo_tables::notice_in::insert_notice_in;
-use goo_tables_holdings::counters::CountersRow;
+use goo_tables_accounts::counters::CountersRow;
 use goo_tables_rows::notice_in::NoticeInRow;
 use sqlite::{Alter, Error, Transaction};
 

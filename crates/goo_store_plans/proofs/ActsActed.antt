@@ -17,8 +17,8 @@ use Rattle.goo_spec.specs.Withdraw.{with_withdrawal, withdrawal_of}
 use Rattle.goo_ranges_rows.specs.Certificates.{beside}
 use Rattle.goo_tables_rows.specs.Rows.{Tables, account_key, cancellation_key, withdrawal_key, notice_out_key}
 use Rattle.goo_tables_rows.specs.Rows as row
-use Rattle.goo_tables_holdings.specs.Changes as change
-use Rattle.goo_tables_holdings.specs.declared.counters.CountersRow.{CountersRow}
+use Rattle.goo_tables_accounts.specs.Changes as change
+use Rattle.goo_tables_accounts.specs.declared.counters.CountersRow.{CountersRow}
 use Rattle.goo_store_plans.specs.Acted.{IsActed}
 use Rattle.goo_spec_tables.specs.Kept.{AreKept}
 use Rattle.goo_spec_tables.specs.Readable.{is_account, is_cancellation, is_withdrawal, is_notice_out, reads}

@@ -14,7 +14,7 @@ use Rattle.sqlite_keyed.proofs.SliceLemmas.{any_is_found}
 use Rattle.sqlite_typed.specs.Tests.{bytes_eq}
 use Rattle.goo_types.specs.Gsrn.{gsrn_reading}
 use Rattle.goo_tables_rows.specs.Rows.{Kept, kept_key, Device, DeviceCarrier, Lot, lot_key, LotCarrier, lot_carrier_key}
-use Rattle.goo_tables_holdings.specs.Changes.{added, with_device_word, with_lot_word}
+use Rattle.goo_tables_accounts.specs.Changes.{added, with_device_word, with_lot_word}
 use Rattle.goo_spec_tables.specs.Readable.{reads, is_act, is_plant, is_maybe_day, is_maybe_other, is_device, is_device_carrier, is_lot_carrier}
 use Rattle.goo_spec_tables.proofs.Inserted.{here_too, all_inserted}
 use Rattle.goo_spec_tables.proofs.Known.{text_same, text_itself}

@@ -37,8 +37,8 @@ use Rattle.goo_tables_rows.specs.declared.meta.MetaRow.{MetaRow}
 use Rattle.goo_tables_rows.specs.declared.notice_out.NoticeOutRow.{NoticeOutRow}
 use Rattle.goo_tables_rows.specs.declared.peer.PeerRow.{PeerRow}
 use Rattle.goo_tables_rows.specs.declared.withdrawal.WithdrawalRow.{WithdrawalRow}
-use Rattle.goo_tables_holdings.specs.Changes.{at_day, IsNewDevice}
-use Rattle.goo_tables_holdings.specs.declared.counters.CountersRow.{CountersRow}
+use Rattle.goo_tables_accounts.specs.Changes.{at_day, IsNewDevice}
+use Rattle.goo_tables_accounts.specs.declared.counters.CountersRow.{CountersRow}
 use Rattle.goo_spec_tables.specs.Devices.{device_of as device_in_row, progress_in}
 use Rattle.goo_spec_tables.specs.Records as record_of
 use Rattle.goo_spec_tables.specs.Readable.{is_holder, is_account, is_device, is_peer, is_cancellation, is_withdrawal, is_notice_out, reads}

@@ -13,7 +13,7 @@ use Rattle.goo_spec.specs.CloseAccount.{shut, with_closed}
 use Rattle.goo_spec.specs.State as registry
 use Rattle.goo_ranges_rows.specs.Certificates.{beside}
 use Rattle.goo_tables_rows.specs.Rows.{Tables, Account, account_key}
-use Rattle.goo_tables_holdings.specs.Changes as change
+use Rattle.goo_tables_accounts.specs.Changes as change
 use Rattle.goo_store_plans.specs.Acted.{IsActed}
 use Rattle.goo_spec_tables.specs.Kept.{AreKept}
 use Rattle.goo_spec_tables.specs.Readable.{is_account, is_act, reads}

@@ -22,8 +22,8 @@ use Rattle.goo_ranges_rows.specs.Certificates.{beside}
 use Rattle.goo_tables_rows.specs.Rows.{Tables, kept_key, lot_key}
 use Rattle.goo_tables_rows.specs.Rows as row
 use Rattle.goo_tables_rows.specs.declared.peer.PeerRow.{PeerRow}
-use Rattle.goo_tables_holdings.specs.Changes as change
-use Rattle.goo_tables_holdings.specs.Changes.{added}
+use Rattle.goo_tables_accounts.specs.Changes as change
+use Rattle.goo_tables_accounts.specs.Changes.{added}
 use Rattle.goo_store_plans.specs.Acted.{IsActed}
 use Rattle.goo_spec_tables.specs.Devices.{progress_in, device_row}
 use Rattle.goo_spec_tables.specs.Kept.{AreKept, AreReadable}

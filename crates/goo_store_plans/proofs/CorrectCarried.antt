@@ -17,7 +17,7 @@ use Rattle.goo_tables_rows.specs.Once.{IsOnce}
 use Rattle.goo_tables_rows.specs.Rows as row
 use Rattle.goo_tables_rows.specs.Rows.{Tables, correction_in, correction_key, meta_in}
 use Rattle.goo_tables_rows.specs.declared.meta.MetaRow.{MetaRow}
-use Rattle.goo_tables_holdings.specs.Changes as change
+use Rattle.goo_tables_accounts.specs.Changes as change
 use Rattle.goo_spec_tables.specs.Devices.{device_row, progress_in}
 use Rattle.goo_spec_tables.specs.Kept.{AreKept}
 use Rattle.goo_spec_tables.specs.Records as record_of
@@ -30,7 +30,7 @@ use Rattle.goo_store_plans.specs.Room.{HaveRowids}
 use Rattle.goo_store_changes.specs.declared.change.TableChange.{TableChange}
 use Rattle.goo_store_changes.specs.declared.change.TableChange.TheVariants.{AddCorrection}
 use Rattle.goo_store_plans.specs.declared.correction_basis.CorrectionBasis.{CorrectionBasis}
-use Rattle.goo_store_values.specs.declared.trouble.Trouble.{Trouble}
+use Rattle.goo_store_values.specs.declared.statement_fault.StatementFault.{StatementFault}
 use Rattle.goo_store_plans.proofs.CommandsActed.{quiet}
 use Rattle.goo_store_plans.proofs.CorrectingActed.{correcting_acted}
 use Rattle.goo_store_plans.proofs.DeclareCarried.{once_from}
@@ -59,11 +59,11 @@ range_taken t caller x range is kept order accepted changes does these =
     let it = does kept order caller (withdrawal_passes (state_of t) caller x range is accepted) in
     subst (λ o. TakesOut t (taken_out (state_of t) x o) changes) (sym is) (record { for = it.for; free = it.free; room = it.room; acted = it.acted; lots = it.lots; these = these })
 
-both_ok : {X : Type 0} (r : Result X Trouble) (P Q R : X → Type 0) → IfOk r P → IfOk r Q → ((x : X) → P x → Q x → R x) → IfOk r R
+both_ok : {X : Type 0} (r : Result X StatementFault) (P Q R : X → Type 0) → IfOk r P → IfOk r Q → ((x : X) → P x → Q x → R x) → IfOk r R
 both_ok (Ok x) P Q R p q says = says x p q
 both_ok (Err e) P Q R p q says = tt
 
-pub ranges_taken : (meta : MetaRow) (x : Correct) (range : Numbers) → x.range ≡ Some range → (r : Result (Vec TableChange Global) Trouble)
+pub ranges_taken : (meta : MetaRow) (x : Correct) (range : Numbers) → x.range ≡ Some range → (r : Result (Vec TableChange Global) StatementFault)
     → IfOk r (λ changes. (t : Tables) → t.meta ≡ meta_in meta → Does t (command.Withdraw (record { range = range; reason = x.reason })) changes.items) → IfOk r (λ changes. (t : Tables) → LeavesThese t (made_all t changes.items))
     → IfOk r (λ changes. (t : Tables) → t.meta ≡ meta_in meta → AreKept t → AreInOrder t → (caller : List ℕ) → correct_refusal (state_of t) caller x ≡ None → TakesOut t (taken_out (state_of t) x x.range) changes.items)
 ranges_taken meta x range is r does these =

@@ -23,8 +23,8 @@ use Rattle.goo_tables_rows.specs.Once.{IsOnce}
 use Rattle.goo_tables_rows.specs.Rows as row
 use Rattle.goo_tables_rows.specs.Rows.{Tables, Lot, lot_key, lot_in, declaration_key, declaration_in}
 use Rattle.goo_tables_rows.specs.declared.meta.MetaRow.{MetaRow}
-use Rattle.goo_tables_holdings.specs.Changes as change
-use Rattle.goo_tables_holdings.specs.declared.counters.CountersRow.{CountersRow}
+use Rattle.goo_tables_accounts.specs.Changes as change
+use Rattle.goo_tables_accounts.specs.declared.counters.CountersRow.{CountersRow}
 use Rattle.goo_spec_tables.specs.Places.{lot_of}
 use Rattle.goo_spec_tables.specs.Readable.{is_meta}
 use Rattle.goo_spec_tables.specs.States.{state_of}

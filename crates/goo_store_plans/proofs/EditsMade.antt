@@ -14,7 +14,7 @@ use Rattle.goo_ranges_rows.specs.Rows.{with, with_each, without_each, edited, ed
 use Rattle.goo_core_shelf.specs.Plan.{StayRising}
 use Rattle.goo_tables_rows.specs.Rows.{Tables, Lot, lot_key, piece_key}
 use Rattle.goo_tables_rows.specs.declared.piece.PieceRow.{PieceRow}
-use Rattle.goo_tables_holdings.specs.Changes.{without_piece, with_piece}
+use Rattle.goo_tables_accounts.specs.Changes.{without_piece, with_piece}
 use Rattle.goo_store_changes.specs.Changes.{made_all, IsFree, AreFree}
 use Rattle.goo_store_plans.specs.EditChanges.{AreRowsOf, AreForEdit, AreForEdits}
 use Rattle.goo_spec_tables.specs.Readable.{is_piece}

@@ -22,7 +22,7 @@ use Rattle.goo_spec.specs.State.{text_cmp, receipt_cmp, notice_cmp}
 use Rattle.goo_tables_rows.specs.Rows as row
 use Rattle.goo_tables_rows.specs.Rows.{Tables, Lot, lot_key, lot_in}
 use Rattle.goo_tables_rows.specs.declared.lot.LotRow.{LotRow}
-use Rattle.goo_tables_holdings.specs.Changes.{with_lot}
+use Rattle.goo_tables_accounts.specs.Changes.{with_lot}
 use Rattle.goo_store_changes.specs.Changes.{made_all, IsFor, AreFor, IsFree, AreFree}
 use Rattle.goo_store_changes.specs.declared.change.TableChange.{TableChange}
 use Rattle.goo_store_changes.specs.declared.change.TableChange.TheVariants.{AddHolder, AddAccount, CloseAccount, AddDevice, AddDeclaration, SetProgress, AddLot, DeletePiece, InsertPiece, AddPeer, AddReceipt, AddCancellation, AddWithdrawal, AddCorrection, AddNoticeOut, AddNoticeIn, SetToday, SetCounters}

@@ -8,25 +8,25 @@ use Rattle.goo_tables_rows.specs.Stands.{Stands, Looks}
 use Rattle.goo_tables_rows.proofs.Inside.{survives_both}
 use Rattle.goo_store_plans.specs.LookingUp.{LooksUp, IsOurs}
 use Rattle.goo_store_values.specs.Passing.{Passes}
-use Rattle.goo_store_values.specs.declared.trouble.Trouble.{Trouble}
+use Rattle.goo_store_values.specs.declared.statement_fault.StatementFault.{StatementFault}
 
 -- ---- one statement, whose rows are read
 
-pub passed : {T U : Type 0} (P : T → Type 0) (Q : U → Type 0) (R : T → U → Type 0) (r : Result T Error) (read : Result U Trouble) → Passes r read R → IfOk r P → ((x : T) (y : U) → P x → R x y → Q y) → IfOk read Q
+pub passed : {T U : Type 0} (P : T → Type 0) (Q : U → Type 0) (R : T → U → Type 0) (r : Result T Error) (read : Result U StatementFault) → Passes r read R → IfOk r P → ((x : T) (y : U) → P x → R x y → Q y) → IfOk read Q
 passed P Q R (Ok x) (Ok y) passes is says = says x y is passes
 passed P Q R r (Err e) passes is says = tt
 passed P Q R (Err e) (Ok y) passes is says = absurd (true≢false (sym passes))
 
-pub works_passed : {T U : Type 0} (W : Type 0) (R : T → U → Type 0) (r : Result T Error) (read : Result U Trouble) → Passes r read R → OnOk r W → OnOk read W
+pub works_passed : {T U : Type 0} (W : Type 0) (R : T → U → Type 0) (r : Result T Error) (read : Result U StatementFault) → Passes r read R → OnOk r W → OnOk read W
 works_passed W R (Ok x) (Ok y) passes works = works
 works_passed W R r (Err e) passes works = tt
 works_passed W R (Err e) (Ok y) passes works = absurd (true≢false (sym passes))
 
-pub weaker : {T : Type 0} (W V : Type 0) (r : Result T Trouble) → (W → V) → OnOk r W → OnOk r V
+pub weaker : {T : Type 0} (W V : Type 0) (r : Result T StatementFault) → (W → V) → OnOk r W → OnOk r V
 weaker W V (Ok x) f works = f works
 weaker W V (Err e) f works = tt
 
-pub gathers_looked : {T U : Type 0} (old new : State) (r : Result T Error) (right : Tables → T → Type 0) (R : T → U → Type 0) (read : Result U Trouble) (known : Tables → U → Type 0) → Looks old new r right → Passes r read R
+pub gathers_looked : {T U : Type 0} (old new : State) (r : Result T Error) (right : Tables → T → Type 0) (R : T → U → Type 0) (read : Result U StatementFault) (known : Tables → U → Type 0) → Looks old new r right → Passes r read R
     → ((t : Tables) (x : T) (y : U) → right t x → R x y → known t y) → LooksUp old new read known
 gathers_looked old new r right R read known looks passes says = record {
   found = λ clean live settled t it. passed (right t) (known t) R r read passes (looks.found clean t it) (says t);
@@ -40,7 +40,7 @@ gathers_looked old new r right R read known looks passes says = record {
 -- ---- one after another
 
 -- what follows a call that fails
-pub gathers_failed : {T U : Type 0} (a b : State) (r : Result T Trouble) (result : Result U Trouble) (First : Tables → T → Type 0) (Next : Tables → U → Type 0) → LooksUp a b r First → IsErr result → LooksUp a b result Next
+pub gathers_failed : {T U : Type 0} (a b : State) (r : Result T StatementFault) (result : Result U StatementFault) (First : Tables → T → Type 0) (Next : Tables → U → Type 0) → LooksUp a b r First → IsErr result → LooksUp a b result Next
 gathers_failed {U = U} a b r result First Next one failed = record {
   found = λ clean live settled t it. none_found _ result failed;
   clean = one.clean;
@@ -50,20 +50,20 @@ gathers_failed {U = U} a b r result First Next one failed = record {
   crash = one.crash;
 }
   where
-    none_found : (P : U → Type 0) (q : Result U Trouble) → IsErr q → IfOk q P
+    none_found : (P : U → Type 0) (q : Result U StatementFault) → IsErr q → IfOk q P
     none_found P (Ok y) is = absurd (true≢false (sym is))
     none_found P (Err e) is = tt
 
-    none_works : (W : Type 0) (q : Result U Trouble) → IsErr q → OnOk q W
+    none_works : (W : Type 0) (q : Result U StatementFault) → IsErr q → OnOk q W
     none_works W (Ok y) is = absurd (true≢false (sym is))
     none_works W (Err e) is = tt
 
-pub when_ok : {U W : Type 0} (r : Result U Trouble) → W → OnOk r W
+pub when_ok : {U W : Type 0} (r : Result U StatementFault) → W → OnOk r W
 when_ok (Ok y) w = w
 when_ok (Err e) w = tt
 
 -- what is made of it with no further call
-pub gathers_made : {T U : Type 0} (a b : State) (x : T) (r : Result U Trouble) (First : Tables → T → Type 0) (Next : Tables → U → Type 0) → LooksUp a b (Ok x) First → ((t : Tables) → First t x → IfOk r (Next t)) → LooksUp a b r Next
+pub gathers_made : {T U : Type 0} (a b : State) (x : T) (r : Result U StatementFault) (First : Tables → T → Type 0) (Next : Tables → U → Type 0) → LooksUp a b (Ok x) First → ((t : Tables) → First t x → IfOk r (Next t)) → LooksUp a b r Next
 gathers_made a b x r First Next one made = record {
   found = λ clean live settled t it. made t (one.found clean live settled t it);
   clean = one.clean;
@@ -73,7 +73,7 @@ gathers_made a b x r First Next one made = record {
   crash = one.crash;
 }
 
-module _ {T U : Type 0} (a b c : State) (x : T) (r : Result U Trouble) (First : Tables → T → Type 0) (Next : Tables → U → Type 0) (one : LooksUp a b (Ok x) First) (two : LooksUp b c r Next) where
+module _ {T U : Type 0} (a b c : State) (x : T) (r : Result U StatementFault) (First : Tables → T → Type 0) (Next : Tables → U → Type 0) (one : LooksUp a b (Ok x) First) (two : LooksUp b c r Next) where
   early : HasCleanDisk c → HasCleanDisk b
   early clean = omega (arith, clean, two.clean)
 
@@ -89,11 +89,11 @@ module _ {T U : Type 0} (a b c : State) (x : T) (r : Result U Trouble) (First : 
   both : (Both : Tables → U → Type 0) (t : Tables) → IfOk r (Next t) → First t x → ((y : U) → First t x → Next t y → Both t y) → IfOk r (Both t)
   both Both t next first says = go r next
     where
-      go : (q : Result U Trouble) → IfOk q (Next t) → IfOk q (Both t)
+      go : (q : Result U StatementFault) → IfOk q (Next t) → IfOk q (Both t)
       go (Ok y) is = says y first is
       go (Err e) is = tt
 
-  stays : (q : Result U Trouble) → OnOk q (HasCleanDisk c → IsTrue b.is_open → IsTrue c.is_open) → OnOk q (HasCleanDisk c → IsTrue a.is_open → IsTrue c.is_open)
+  stays : (q : Result U StatementFault) → OnOk q (HasCleanDisk c → IsTrue b.is_open → IsTrue c.is_open) → OnOk q (HasCleanDisk c → IsTrue a.is_open → IsTrue c.is_open)
   stays (Ok y) works = λ clean live. works clean (one.works (early clean) live)
   stays (Err e) works = tt
 

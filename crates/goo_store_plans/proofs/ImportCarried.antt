@@ -17,7 +17,7 @@ use Rattle.goo_spec.proofs.Stepping.{accepted_passes, not_kept}
 use Rattle.goo_tables_rows.specs.Refused.{HasRoomFor}
 use Rattle.goo_tables_rows.specs.Rows.{Tables, Lot, Kept, NoticeIn, kept_key, lot_in, notice_in_in, notice_in_row}
 use Rattle.goo_tables_rows.specs.declared.notice_in.NoticeInRow.{NoticeInRow}
-use Rattle.goo_tables_holdings.specs.Changes.{with_lot, with_notice_in}
+use Rattle.goo_tables_accounts.specs.Changes.{with_lot, with_notice_in}
 use Rattle.goo_spec_tables.specs.Readable.{is_notice_in}
 use Rattle.goo_spec_tables.specs.Records.{arrived_of}
 use Rattle.goo_spec_tables.specs.States.{state_of, known_arrival}

@@ -27,8 +27,8 @@ use Rattle.goo_ranges_rows.specs.Certificates.{beside}
 use Rattle.goo_tables_rows.specs.Rows.{Tables, Lot, LotCarrier, lot_key, lot_in, kept_key}
 use Rattle.goo_tables_rows.specs.Rows as row
 use Rattle.goo_tables_rows.specs.declared.lot.LotRow.{LotRow}
-use Rattle.goo_tables_holdings.specs.Changes as change
-use Rattle.goo_tables_holdings.specs.Changes.{added}
+use Rattle.goo_tables_accounts.specs.Changes as change
+use Rattle.goo_tables_accounts.specs.Changes.{added}
 use Rattle.goo_store_plans.specs.Acted.{IsActed}
 use Rattle.goo_store_changes.specs.Changes.{made_all}
 use Rattle.goo_spec_tables.specs.Kept.{AreKept}

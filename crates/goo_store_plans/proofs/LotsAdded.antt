@@ -12,7 +12,7 @@ use Rattle.goo_tables_rows.specs.Rows.{Tables, Lot, LotCarrier, lot_key}
 use Rattle.goo_tables_rows.specs.declared.piece.PieceRow.{PieceRow}
 use Rattle.goo_spec_tables.specs.Kept.{AreKept, IsKeptLot}
 use Rattle.goo_spec_tables.specs.Places.{piece_of}
-use Rattle.goo_tables_holdings.specs.Changes.{with_lot_word}
+use Rattle.goo_tables_accounts.specs.Changes.{with_lot_word}
 use Rattle.goo_spec_tables.specs.Readable.{is_lot, is_lot_carrier, is_maybe_other, is_code, is_plant, reads}
 use Rattle.goo_spec_tables.proofs.Inserted.{all_inserted}
 use Rattle.goo_store_plans.proofs.CarriersAdded.{HaveLots, lot_words_read, lot_words_there}

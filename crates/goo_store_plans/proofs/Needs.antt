@@ -22,7 +22,7 @@ use Rattle.goo_store_plans.specs.Carried.{CanTakeNumber}
 use Rattle.goo_store_plans.specs.Found.{IsRowOf, IsBasisOf}
 use Rattle.goo_store_plans.specs.Needing.{CanGoByRow}
 use Rattle.goo_store_plans.specs.PlanNeeds.{CanGo, HasRoomFor}
-use Rattle.goo_store_plans.specs.declared.findings.KnownBasis.{KnownBasis}
+use Rattle.goo_store_plans.specs.declared.known_rows.KnownBasis.{KnownBasis}
 use Rattle.goo_store_plans.proofs.NeedsNumbers.{account_left, cancellation_left, withdrawal_left, notice_left}
 use Rattle.goo_store_plans.proofs.NeedsCorrecting.{can_answer_correction}
 use Rattle.goo_store_plans.proofs.NeedsDeclaring.{can_be_answered}

@@ -23,7 +23,7 @@ use Rattle.goo_store_plans.specs.AtHand.{HasRoom}
 use Rattle.goo_store_plans.specs.Declaring.{CanBeAnswered, IsWithinLimits, lot_stated, count_of}
 use Rattle.goo_store_plans.specs.Found.{IsBasisOf}
 use Rattle.goo_store_plans.specs.Standing.{IsStanding}
-use Rattle.goo_store_plans.specs.declared.findings.KnownBasis.{KnownBasis}
+use Rattle.goo_store_plans.specs.declared.known_rows.KnownBasis.{KnownBasis}
 use Rattle.goo_store_plans.specs.declared.standing.DeclarationBasis.{DeclarationBasis}
 
 is_known : (s : State) (x : Declare) (o : Option Device) → device_refusal s x o ≡ None → IsSome o

@@ -33,7 +33,7 @@ use Rattle.goo_tables_rows.specs.Rows as row
 use Rattle.goo_tables_rows.specs.Rows.{receipt_in, receipt_row}
 use Rattle.goo_tables_rows.specs.Refused.{HasRoomFor}
 use Rattle.goo_tables_rows.specs.declared.receipt.ReceiptRow.{ReceiptRow}
-use Rattle.goo_tables_holdings.specs.Changes.{added, with_receipt}
+use Rattle.goo_tables_accounts.specs.Changes.{added, with_receipt}
 use Rattle.goo_store_plans.specs.Acted.{IsActed, IsReceiptOf}
 use Rattle.goo_store_changes.specs.Changes.{made, made_all, AreFor, IsFree, AreFree, HasRoom, HaveRoom}
 use Rattle.goo_store_plans.specs.EditChanges.{AreForEdits}

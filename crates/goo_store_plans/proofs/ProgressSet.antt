@@ -18,7 +18,7 @@ use Rattle.goo_spec.proofs.Declaring.{total_with}
 use Rattle.goo_core_shelf.specs.Shelf.{progress_of}
 use Rattle.goo_tables_rows.specs.Rows.{Kept}
 use Rattle.goo_tables_rows.specs.Rows as row
-use Rattle.goo_tables_holdings.specs.Changes.{progressed}
+use Rattle.goo_tables_accounts.specs.Changes.{progressed}
 use Rattle.goo_spec_tables.specs.Devices.{progress_in}
 use Rattle.goo_spec_tables.specs.Readable.{is_device, is_act, is_plant, is_maybe_day, reads}
 use Rattle.goo_spec_tables.specs.States.{known_device}

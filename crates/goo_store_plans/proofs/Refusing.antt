@@ -45,8 +45,8 @@ use Rattle.goo_store_values.specs.Reading.{IsReadableLot}
 use Rattle.goo_store_plans.specs.StoreFaults.{BlamesDisk}
 use Rattle.goo_store_values.specs.Passing.{Accepts}
 use Rattle.goo_store_plans.proofs.Gathering.{next_lot_is}
-use Rattle.goo_store_values.specs.declared.trouble.Trouble.{Trouble}
-use Rattle.goo_store_values.specs.declared.trouble.Trouble.TheVariants.{Memory, Refused}
+use Rattle.goo_store_values.specs.declared.statement_fault.StatementFault.{StatementFault}
+use Rattle.goo_store_values.specs.declared.statement_fault.StatementFault.TheVariants.{Memory, Refused}
 
 -- ---- one statement, whose answer was read
 
@@ -55,7 +55,7 @@ more_faults old new e live other (inl memory) = absurd (other memory)
 more_faults old new e live other (inr (named, inl more)) = more
 more_faults old new e live other (inr (named, inr shut)) = absurd (true≢false (sym live ∙ shut))
 
-read_so : (old new : State) {T U : Type 0} (IsReadable : T → Type 0) (q : Result T Error) (read : Result U Trouble) → IsTrue old.is_open → IfErr q (IsFault old new) → IfOk q IsReadable → Accepts q read IsReadable
+read_so : (old new : State) {T U : Type 0} (IsReadable : T → Type 0) (q : Result T Error) (read : Result U StatementFault) → IsTrue old.is_open → IfErr q (IsFault old new) → IfOk q IsReadable → Accepts q read IsReadable
     → IfErr read (λ e. e ≡ Refused → MoreFaults old.faults new.faults)
 read_so old new IsReadable q (Ok y) live faulty found accepts = tt
 read_so old new IsReadable q (Err Memory) live faulty found accepts = λ is. absurd cc
@@ -63,7 +63,7 @@ read_so old new IsReadable (Ok x) (Err Refused) live faulty found accepts = absu
 read_so old new IsReadable (Err e) (Err Refused) live faulty found accepts = λ _. more_faults old new e live accepts faulty
 
 module _ (old new : State) {T : Type 0} (r : Result T Error) (right : Tables → T → Type 0) (looks : Looks old new r right) where
-  pub blames_read : {U : Type 0} (Readable : Tables → Type 0) (IsReadable : T → Type 0) (Needs : Tables → Type 0) (read : Result U Trouble) → FailsOnlyByFault old new r Readable → Accepts r read IsReadable
+  pub blames_read : {U : Type 0} (Readable : Tables → Type 0) (IsReadable : T → Type 0) (Needs : Tables → Type 0) (read : Result U StatementFault) → FailsOnlyByFault old new r Readable → Accepts r read IsReadable
       → ((t : Tables) → CanBeRead t → Readable t) → ((t : Tables) → Stands old.now t → AreKept t → Needs t → (x : T) → right t x → IsReadable x) → BlamesDisk old new read Needs
   blames_read Readable IsReadable Needs read fails accepts readable reads = record {
     limit = λ clean ours live. (looks.crash ours.0).limit;
@@ -75,13 +75,13 @@ module _ (old new : State) {T : Type 0} (r : Result T Error) (right : Tables →
 
 -- ---- no call, and what is made of one
 
-only_memory : {V : Type 0} (P : Type 0) (r : Result V Trouble) → IsOkUnless r Memory → IfErr r (λ e. e ≡ Refused → P)
+only_memory : {V : Type 0} (P : Type 0) (r : Result V StatementFault) → IsOkUnless r Memory → IfErr r (λ e. e ≡ Refused → P)
 only_memory P (Ok y) so = tt
 only_memory P (Err Memory) so = λ is. absurd cc
 only_memory P (Err Refused) so = absurd cc
 
 -- nothing is looked up
-pub blames_none : {U : Type 0} (old : State) (r : Result U Trouble) (Needs : Tables → Type 0) → ((t : Tables) → Stands old.now t → AreKept t → Needs t → IsOkUnless r Memory) → BlamesDisk old old r Needs
+pub blames_none : {U : Type 0} (old : State) (r : Result U StatementFault) (Needs : Tables → Type 0) → ((t : Tables) → Stands old.now t → AreKept t → Needs t → IsOkUnless r Memory) → BlamesDisk old old r Needs
 blames_none old r Needs says = record {
   limit = λ clean ours live. refl;
   counts = λ clean ours live. omega arith;
@@ -89,7 +89,7 @@ blames_none old r Needs says = record {
 }
 
 -- it needs no more than this
-pub blames_so : {U : Type 0} (old new : State) (r : Result U Trouble) (Needs More : Tables → Type 0) → BlamesDisk old new r Needs → ((t : Tables) → Stands old.now t → AreKept t → More t → Needs t) → BlamesDisk old new r More
+pub blames_so : {U : Type 0} (old new : State) (r : Result U StatementFault) (Needs More : Tables → Type 0) → BlamesDisk old new r Needs → ((t : Tables) → Stands old.now t → AreKept t → More t → Needs t) → BlamesDisk old new r More
 blames_so old new r Needs More one says = record {
   limit = one.limit;
   counts = one.counts;
@@ -97,11 +97,11 @@ blames_so old new r Needs More one says = record {
 }
 
 -- an error that is handed on
-pub blames_err : {U V : Type 0} (old new : State) (e : Trouble) (r : Result V Trouble) (Needs : Tables → Type 0) → r ≡ Err e → BlamesDisk {T = U} old new (Err e) Needs → BlamesDisk old new r Needs
-blames_err {V = V} old new e r Needs is one = subst (λ (z : Result V Trouble). BlamesDisk old new z Needs) (sym is) (record { limit = one.limit; counts = one.counts; refused = one.refused })
+pub blames_err : {U V : Type 0} (old new : State) (e : StatementFault) (r : Result V StatementFault) (Needs : Tables → Type 0) → r ≡ Err e → BlamesDisk {T = U} old new (Err e) Needs → BlamesDisk old new r Needs
+blames_err {V = V} old new e r Needs is one = subst (λ (z : Result V StatementFault). BlamesDisk old new z Needs) (sym is) (record { limit = one.limit; counts = one.counts; refused = one.refused })
 
 -- something is made of what was found
-pub blames_made : {T U : Type 0} (old new : State) (x : T) (First : Tables → T → Type 0) → LooksUp old new (Ok x) First → (Needs : Tables → Type 0) → BlamesDisk old new (Ok x) Needs → (r : Result U Trouble) (More : Tables → Type 0)
+pub blames_made : {T U : Type 0} (old new : State) (x : T) (First : Tables → T → Type 0) → LooksUp old new (Ok x) First → (Needs : Tables → Type 0) → BlamesDisk old new (Ok x) Needs → (r : Result U StatementFault) (More : Tables → Type 0)
     → ((t : Tables) → Stands old.now t → AreKept t → More t → First t x → IsOkUnless r Memory) → BlamesDisk old new r More
 blames_made old new x First one Needs early r More says = record {
   limit = early.limit;
@@ -112,12 +112,12 @@ blames_made old new x First one Needs early r More says = record {
 
 -- ---- one after another
 
-worse : {U : Type 0} (a b c : ℕ) (q : Result U Trouble) → a ≤ b → IfErr q (λ e. e ≡ Refused → MoreFaults b c) → IfErr q (λ e. e ≡ Refused → MoreFaults a c)
+worse : {U : Type 0} (a b c : ℕ) (q : Result U StatementFault) → a ≤ b → IfErr q (λ e. e ≡ Refused → MoreFaults b c) → IfErr q (λ e. e ≡ Refused → MoreFaults a c)
 worse a b c (Ok y) up h = tt
 worse a b c (Err e) up h = λ is. omega (arith, up, h is)
 
 module _ {T U : Type 0} (a b c : State) (x : T) (First : Tables → T → Type 0) (one : LooksUp a b (Ok x) First) (Needs : Tables → Type 0) (early : BlamesDisk a b (Ok x) Needs)
-    (r : Result U Trouble) (Next : Tables → U → Type 0) (two : LooksUp b c r Next) (Second : Tables → Type 0) (late : BlamesDisk b c r Second) where
+    (r : Result U StatementFault) (Next : Tables → U → Type 0) (two : LooksUp b c r Next) (Second : Tables → Type 0) (late : BlamesDisk b c r Second) where
   before : HasCleanDisk c → HasCleanDisk b
   before clean = omega (arith, clean, two.clean)
 

@@ -16,8 +16,8 @@ use Rattle.goo_core_shelf.specs.Shelf.{progress_of}
 use Rattle.goo_ranges_rows.specs.Certificates.{beside}
 use Rattle.goo_tables_rows.specs.Rows.{Tables, Kept, kept_key}
 use Rattle.goo_tables_rows.specs.Rows as row
-use Rattle.goo_tables_holdings.specs.Changes as change
-use Rattle.goo_tables_holdings.specs.Changes.{added}
+use Rattle.goo_tables_accounts.specs.Changes as change
+use Rattle.goo_tables_accounts.specs.Changes.{added}
 use Rattle.goo_store_plans.specs.Acted.{IsActed}
 use Rattle.goo_spec_tables.specs.Devices.{device_row, progress_in}
 use Rattle.goo_spec_tables.specs.Kept.{AreKept}

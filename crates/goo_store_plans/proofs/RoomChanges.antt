@@ -13,8 +13,8 @@ use Rattle.goo_types.specs.declared.request.Request.{Request}
 use Rattle.goo_tables_rows.specs.Refused.{IsSmall, HasRoomFor}
 use Rattle.goo_tables_rows.specs.Rows.{Tables, Kept, Device, DeviceCarrier, Lot, Receipt, kept_key, account_key, account_row, lot_key, lot_in, receipt_row}
 use Rattle.goo_tables_rows.specs.declared.lot.LotRow.{LotRow}
-use Rattle.goo_tables_holdings.specs.declared.counters.CountersRow.{CountersRow}
-use Rattle.goo_tables_holdings.specs.Changes.{HasRoomForWord, IsSmallLot, with_counters}
+use Rattle.goo_tables_accounts.specs.declared.counters.CountersRow.{CountersRow}
+use Rattle.goo_tables_accounts.specs.Changes.{HasRoomForWord, IsSmallLot, with_counters}
 use Rattle.goo_spec_tables.specs.Readable.{is_code, is_account, is_device, is_maybe_other, is_meta}
 use Rattle.goo_store_changes.specs.Changes.{HasRoom}
 use Rattle.goo_store_changes.specs.declared.change.TableChange.TheVariants.{AddLot, CloseAccount, SetCounters}

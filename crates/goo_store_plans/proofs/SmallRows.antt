@@ -16,7 +16,7 @@ use Rattle.goo_notice.specs.Law.{command_in}
 use Rattle.goo_notice_text.specs.NoticeText.{notice_in}
 use Rattle.goo_tables_rows.specs.Refused.{IsSmall, CanBeKept}
 use Rattle.goo_tables_rows.specs.Rows.{Kept, kept_key, Plant, Meta, meta_row, Holder, holder_row, Account, account_row, Device, device_row, DeviceCarrier, device_carrier_row, Declaration, declaration_row, Lot, Receipt, receipt_row, Cancellation, cancellation_row, Withdrawal, withdrawal_row, Correction, correction_row, NoticeOut, notice_out_row, NoticeIn, notice_in_row}
-use Rattle.goo_tables_holdings.specs.Changes.{IsSmallWord, IsSmallLot, progressed}
+use Rattle.goo_tables_accounts.specs.Changes.{IsSmallWord, IsSmallLot, progressed}
 use Rattle.goo_spec_tables.specs.Kept.{IsKeptLot}
 use Rattle.goo_spec_tables.specs.Readable.{reads, is_between, is_code, is_act, are_ends, is_holder, is_account, is_plant, is_device, is_declaration, is_lot, is_receipt, is_cancellation, is_withdrawal, is_correction, is_notice_of, is_notice_out, is_notice_in, is_other, is_maybe_other}
 use Rattle.goo_spec_tables.specs.Texts.{day_of}

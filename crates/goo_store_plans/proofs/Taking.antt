@@ -16,8 +16,8 @@ use Rattle.goo_store_plans.specs.EditsTaken.{CanAllBePutIn, CanBePutIn, CanTakeE
 use Rattle.goo_store_plans.specs.LotNumbers.{AreNumbered, AreWith, IsNumberOf}
 use Rattle.goo_store_plans.specs.declared.lot_numbers.NumberedLot.{NumberedLot}
 use Rattle.goo_store_plans.proofs.Refusing.{one_number}
-use Rattle.goo_store_values.specs.declared.trouble.Trouble.{Trouble}
-use Rattle.goo_store_values.specs.declared.trouble.Trouble.TheVariants.{Memory}
+use Rattle.goo_store_values.specs.declared.statement_fault.StatementFault.{StatementFault}
+use Rattle.goo_store_values.specs.declared.statement_fault.StatementFault.TheVariants.{Memory}
 
 -- one place more without a number of the lot
 pub none_more : (found : List NumberedLot) (from i : ℕ) (lot : LotFields) (x : NumberedLot) → i < length found → x ≡ get_or found i x → ¬ ((x.lot ≡ lot) × (x.number < 2 ^ 63)) → HasNoNumber found from i lot → HasNoNumber found from (i + 1) lot
@@ -30,8 +30,8 @@ none_more found from i lot x low is not before k known least most there has = el
 ]
 
 -- an error that is handed on is for want of memory if it was
-pub handed : {V : Type 0} (e : Trouble) (r : Result V Trouble) → r ≡ Err e → IsOkUnless {T = V} (Err e) Memory → IsOkUnless r Memory
-handed {V = V} e r is bad = subst (λ (z : Result V Trouble). IsOkUnless z Memory) (sym is) bad
+pub handed : {V : Type 0} (e : StatementFault) (r : Result V StatementFault) → r ≡ Err e → IsOkUnless {T = V} (Err e) Memory → IsOkUnless r Memory
+handed {V = V} e r is bad = subst (λ (z : Result V StatementFault). IsOkUnless z Memory) (sym is) bad
 
 -- one element more, put behind a list that is so far the same through a function
 pub one_more : {A B : Type 0} (f : A → B) (before : List A) (xs : List B) (i : ℕ) (x : A) → i < length xs → f x ≡ get_or xs i (f x) → map f before ≡ take i xs → map f (before ++ x ∷ []) ≡ take (i + 1) xs

@@ -7,7 +7,7 @@ use Rattle.goo_types.specs.declared.command.Command.TheVariants.{OpenAccount, De
 use Rattle.goo_spec.specs.Step.{refusal, changed}
 use Rattle.goo_tables_rows.specs.Rows.{Tables, kept_key, account_key, declaration_key, lot_key, piece_key, cancellation_key, withdrawal_key, notice_out_key, correction_key}
 use Rattle.goo_tables_rows.specs.declared.meta.MetaRow.{MetaRow}
-use Rattle.goo_tables_holdings.specs.declared.counters.CountersRow.{CountersRow}
+use Rattle.goo_tables_accounts.specs.declared.counters.CountersRow.{CountersRow}
 use Rattle.goo_spec_tables.specs.Kept.{AreKept}
 use Rattle.goo_spec_tables.specs.Readable.{is_act}
 use Rattle.goo_spec_tables.specs.States.{state_of}

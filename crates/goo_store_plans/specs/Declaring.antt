@@ -25,7 +25,7 @@ use Rattle.goo_store_plans.specs.Progressing.{SetsProgress}
 use Rattle.goo_store_plans.specs.Standing.{IsStanding}
 use Rattle.goo_store_changes.specs.declared.change.TableChange.{TableChange}
 use Rattle.goo_store_changes.specs.declared.change.TableChange.TheVariants.{AddDeclaration}
-use Rattle.goo_store_plans.specs.declared.findings.KnownBasis.{KnownBasis}
+use Rattle.goo_store_plans.specs.declared.known_rows.KnownBasis.{KnownBasis}
 use Rattle.goo_store_plans.specs.declared.gathered_lots.Gathered.{Gathered}
 use Rattle.goo_store_plans.specs.declared.standing.DeclarationBasis.{DeclarationBasis}
 

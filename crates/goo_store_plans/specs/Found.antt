@@ -9,10 +9,10 @@ use Rattle.goo_tables_rows.specs.Rows.{Tables, Lot, declaration_key, lot_key, me
 use Rattle.goo_tables_rows.specs.declared.meta.MetaRow.{MetaRow}
 use Rattle.goo_spec_tables.specs.Places.{lot_of, rows_of}
 use Rattle.goo_spec_tables.specs.States.{state_of}
-use Rattle.goo_store_plans.specs.declared.findings.Edges.{Edges}
-use Rattle.goo_store_plans.specs.declared.findings.Findings.{Findings}
-use Rattle.goo_store_plans.specs.declared.findings.KnownBasis.{KnownBasis}
-use Rattle.goo_store_plans.specs.declared.findings.KnownDevice.{KnownDevice}
+use Rattle.goo_store_plans.specs.declared.known_rows.Edges.{Edges}
+use Rattle.goo_store_plans.specs.declared.known_rows.KnownRows.{KnownRows}
+use Rattle.goo_store_plans.specs.declared.known_rows.KnownBasis.{KnownBasis}
+use Rattle.goo_store_plans.specs.declared.known_rows.KnownDevice.{KnownDevice}
 use Rattle.goo_store_plans.specs.declared.lot_numbers.NumberedLot.{NumberedLot}
 
 -- where a row is kept, it is that of the tables
@@ -64,15 +64,15 @@ pub record AreEdges (edges : Edges) (rows : List Piece) : Type 0 where
   pub asked : IsEdge edges.asked rows
 
 -- all that is kept is so in the tables
-pub record AreFindingsOf (findings : Findings) (t : Tables) : Type 0 where
-  pub own : IsRowOf findings.own t
-  pub basis : IsBasisOf findings.basis t
-  pub lots : AreStated t.lots findings.lots.items
-  pub edges : AreEdges findings.edges (rows_of t)
+pub record AreInTables (known_rows : KnownRows) (t : Tables) : Type 0 where
+  pub own : IsRowOf known_rows.own t
+  pub basis : IsBasisOf known_rows.basis t
+  pub lots : AreStated t.lots known_rows.lots.items
+  pub edges : AreEdges known_rows.edges (rows_of t)
 
 -- nothing is kept
-pub record AreNone (findings : Findings) : Type 0 where
-  pub own : findings.own ≡ None
-  pub basis : IsNoBasis findings.basis
-  pub lots : findings.lots.items ≡ []
-  pub edges : findings.edges ≡ record { last = None; asked = None }
+pub record AreNone (known_rows : KnownRows) : Type 0 where
+  pub own : known_rows.own ≡ None
+  pub basis : IsNoBasis known_rows.basis
+  pub lots : known_rows.lots.items ≡ []
+  pub edges : known_rows.edges ≡ record { last = None; asked = None }

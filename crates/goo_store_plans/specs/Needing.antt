@@ -10,7 +10,7 @@ use Rattle.goo_store_plans.specs.Carried.{CanTakeNumber}
 use Rattle.goo_store_plans.specs.Correcting.{CanAnswerCorrection}
 use Rattle.goo_store_plans.specs.Declaring.{CanBeAnswered}
 use Rattle.goo_store_plans.specs.Found.{IsRowOf}
-use Rattle.goo_store_plans.specs.declared.findings.KnownBasis.{KnownBasis}
+use Rattle.goo_store_plans.specs.declared.known_rows.KnownBasis.{KnownBasis}
 
 -- by the registry's row, which is the one that is kept if it is: a declaration and a correction can be answered, and any other
 -- command takes a number

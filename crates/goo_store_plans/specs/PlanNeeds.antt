@@ -11,10 +11,10 @@ use Rattle.goo_spec_tables.specs.States.{state_of}
 use Rattle.goo_store_plans.specs.AtHand.{HasRoom}
 use Rattle.goo_store_plans.specs.Carried.{AreInOrder}
 use Rattle.goo_store_plans.specs.EditsTaken.{HaveKeptNumbers}
-use Rattle.goo_store_plans.specs.Found.{AreFindingsOf, IsNext}
+use Rattle.goo_store_plans.specs.Found.{AreInTables, IsNext}
 use Rattle.goo_store_plans.specs.Needing.{CanGoByRow}
-use Rattle.goo_store_plans.specs.declared.findings.Findings.{Findings}
-use Rattle.goo_store_plans.specs.declared.findings.KnownBasis.{KnownBasis}
+use Rattle.goo_store_plans.specs.declared.known_rows.KnownRows.{KnownRows}
+use Rattle.goo_store_plans.specs.declared.known_rows.KnownBasis.{KnownBasis}
 
 -- an import has room for the lots of its parts, and a command that needs the registry's row can go by it
 abbrev pub CanGo : Tables → Option MetaRow → KnownBasis → Plan → Command → Type 0
@@ -37,8 +37,8 @@ HasRoomFor t _ = Unit {0}
 
 -- What was kept is so in the tables, in which the plan may be committed, and they have room for its command; and columns
 -- keep the numbers of the lots that are there.
-pub record CanBePlanned (t : Tables) (findings : Findings) (plan : Plan) : Type 0 where
-  pub found : AreFindingsOf findings t
+pub record CanBePlanned (t : Tables) (known_rows : KnownRows) (plan : Plan) : Type 0 where
+  pub found : AreInTables known_rows t
   pub order : AreInOrder t
   pub fits : Fits (state_of t) (rows_of t) plan
   pub room : HasRoomFor t plan.request.command

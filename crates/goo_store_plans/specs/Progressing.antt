@@ -6,7 +6,7 @@ use Rattle.goo_tables_rows.specs.Once.{IsOnce}
 use Rattle.goo_tables_rows.specs.Refused.{CanBeKept}
 use Rattle.goo_tables_rows.specs.Rows as row
 use Rattle.goo_tables_rows.specs.Rows.{Tables}
-use Rattle.goo_tables_holdings.specs.Changes.{progressed, with_progress}
+use Rattle.goo_tables_accounts.specs.Changes.{progressed, with_progress}
 use Rattle.goo_spec_tables.specs.Devices.{device_row, progress_in}
 use Rattle.goo_spec_tables.specs.Readable.{reads}
 use Rattle.goo_spec_tables.specs.Texts.{day_of}

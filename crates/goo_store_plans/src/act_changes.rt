@@ -9,22 +9,26 @@ ghost use Rattle.goo_spec_tables.specs.States.{state_of};
 ghost use Rattle.goo_store_plans.specs.Carried.{Does};
 ghost use Rattle.goo_store_plans.specs.Correcting.{LeavesThese};
 ghost use Rattle.goo_store_changes.specs.Changes.{made_all, ChangeFits};
-ghost use Rattle.goo_store_values.specs.declared.trouble.Trouble.TheVariants.{Memory};
+ghost use Rattle.goo_store_values.specs.declared.statement_fault.StatementFault.TheVariants.{Memory};
 
 use crate::new_notices::notice_out_row;
 use crate::new_rows::{cancellation_row, day_string, withdrawal_row};
 use crate::next_numbers::next_numbers;
 use goo_store_changes::change::TableChange;
-use goo_store_values::trouble::Trouble;
+use goo_store_values::statement_fault::StatementFault;
 use goo_store_values::{numbers, texts};
-use goo_tables_holdings::counters::CountersRow;
+use goo_tables_accounts::counters::CountersRow;
 use goo_tables_rows::meta::MetaRow;
 use goo_types::command::{Advance, Cancel, Export, Withdraw};
 use goo_types::notice::Notice;
 use std::alloc::Global;
 
 /// The record of a cancellation, under the next number.
-pub fn cancel(alloc: Global, meta: &MetaRow, accepted: &Cancel) -> Result<Vec<TableChange>, Trouble>
+pub fn cancel(
+    alloc: Global,
+    meta: &MetaRow,
+    accepted: &Cancel,
+) -> Result<Vec<TableChange>, StatementFault>
     ensures does { IfOk result
         (λ changes. (t : Tables) → t.meta ≡ meta_in meta.now
         → Does t (command.Cancel accepted.now) changes.items) }
@@ -50,7 +54,7 @@ pub fn withdraw(
     alloc: Global,
     meta: &MetaRow,
     accepted: &Withdraw,
-) -> Result<Vec<TableChange>, Trouble>
+) -> Result<Vec<TableChange>, StatementFault>
     ensures does { IfOk result
         (λ changes. (t : Tables) → t.meta ≡ meta_in meta.now
         → Does t (command.Withdraw accepted.now) changes.items) }
@@ -79,7 +83,7 @@ pub fn export(
     meta: &MetaRow,
     accepted: &Export,
     notice: &Notice,
-) -> Result<Vec<TableChange>, Trouble>
+) -> Result<Vec<TableChange>, StatementFault>
     ensures does { IfOk result
         (λ changes. (t : Tables) → t.meta ≡ meta_in meta.now
         → notice.now ≡ notice_of (state_of t) accepted.now
@@ -101,7 +105,7 @@ pub fn export(
 }
 
 /// Another date.
-pub fn advance(alloc: Global, accepted: &Advance) -> Result<Vec<TableChange>, Trouble>
+pub fn advance(alloc: Global, accepted: &Advance) -> Result<Vec<TableChange>, StatementFault>
     ensures does { IfOk result
         (λ changes. (t : Tables) → Does t (command.Advance accepted.now) changes.items) }
     ensures fits { IfOk result (λ changes. All ChangeFits changes.items) }

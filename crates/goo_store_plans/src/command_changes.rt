@@ -7,13 +7,13 @@ ghost use Rattle.goo_spec_tables.specs.Readable.{is_meta};
 ghost use Rattle.goo_spec_tables.specs.States.{state_of};
 ghost use Rattle.goo_store_plans.specs.Carried.{CanTakeNumber, Does, IsPlain};
 ghost use Rattle.goo_store_changes.specs.Changes.{ChangeFits};
-ghost use Rattle.goo_store_values.specs.declared.trouble.Trouble.TheVariants.{Memory};
+ghost use Rattle.goo_store_values.specs.declared.statement_fault.StatementFault.TheVariants.{Memory};
 
 use crate::act_changes::{advance, cancel, export, withdraw};
 use crate::member_changes::{add_peer, close_account, open_account, open_holder, register_device};
 use goo_core_shelf::plan::Plan;
 use goo_store_changes::change::TableChange;
-use goo_store_values::trouble::Trouble;
+use goo_store_values::statement_fault::StatementFault;
 use goo_tables_rows::meta::MetaRow;
 use goo_types::command::Command;
 use std::alloc::Global;
@@ -27,7 +27,7 @@ fn transfer(alloc: Global) -> Vec<TableChange>
 
 /// The changes of an accepted command that needs nothing of the registry's row and puts no lot in.
 /// Any other command is refused.
-pub fn plain_changes(alloc: Global, plan: &Plan) -> Result<Vec<TableChange>, Trouble>
+pub fn plain_changes(alloc: Global, plan: &Plan) -> Result<Vec<TableChange>, StatementFault>
     ensures does { IfOk result
         (λ changes. (t : Tables) → Does t plan.now.request.command changes.items) }
     ensures fits { IfOk result (λ changes. All ChangeFits changes.items) }
@@ -46,7 +46,7 @@ pub fn plain_changes(alloc: Global, plan: &Plan) -> Result<Vec<TableChange>, Tro
         | Command::Export(_)
         | Command::Declare(_)
         | Command::Correct(_)
-        | Command::Import(_) => Err(Trouble::Refused),
+        | Command::Import(_) => Err(StatementFault::Refused),
     }
 }
 
@@ -56,7 +56,7 @@ pub fn numbered_changes(
     alloc: Global,
     meta: &MetaRow,
     plan: &Plan,
-) -> Result<Vec<TableChange>, Trouble>
+) -> Result<Vec<TableChange>, StatementFault>
     ensures does { IfOk result
         (λ changes. (t : Tables) → t.meta ≡ meta_in meta.now
         → plan.now.notice ≡ notice_sent (state_of t) plan.now.request.command
@@ -72,7 +72,7 @@ pub fn numbered_changes(
         Command::Withdraw(command) => withdraw(alloc, meta, command),
         Command::Export(command) => match &plan.notice {
             Some(notice) => export(alloc, meta, command, notice),
-            None => Err(Trouble::Refused),
+            None => Err(StatementFault::Refused),
         },
         Command::OpenHolder(_)
         | Command::CloseAccount(_)
@@ -82,6 +82,6 @@ pub fn numbered_changes(
         | Command::Transfer(_)
         | Command::Advance(_)
         | Command::AddPeer(_)
-        | Command::Import(_) => Err(Trouble::Refused),
+        | Command::Import(_) => Err(StatementFault::Refused),
     }
 }

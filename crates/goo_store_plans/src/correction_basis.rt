@@ -12,7 +12,7 @@ ghost use Rattle.goo_store_plans.specs.StoreFaults.{BlamesDisk};
 ghost use Rattle.goo_store_values.specs.Passing.{Accepts, Passes};
 
 use crate::device_progress::find_last_day;
-use goo_store_values::trouble::Trouble;
+use goo_store_values::statement_fault::StatementFault;
 use goo_tables::correction::last_correction;
 use goo_tables_rows::correction::CorrectionRow;
 use goo_types::day::Day;
@@ -30,7 +30,7 @@ pub struct CorrectionBasis {
 }
 
 /// The number after that of the last row.
-fn number_after(found: Result<Option<CorrectionRow>, Error>) -> Result<u64, Trouble>
+fn number_after(found: Result<Option<CorrectionRow>, Error>) -> Result<u64, StatementFault>
     ensures value { Passes found result
         (λ row n. n ≡ next_correction (option_map correction_in row)) }
     ensures accepts { Accepts found result (λ row. IfSome row (λ r. r.id < 2 ^ 63)) }
@@ -40,12 +40,15 @@ fn number_after(found: Result<Option<CorrectionRow>, Error>) -> Result<u64, Trou
     };
     match row.id.checked_add(1) {
         Some(number) => Ok(number),
-        None => Err(Trouble::Refused),
+        None => Err(StatementFault::Refused),
     }
 }
 
 /// The number that the next correction gets.
-fn next_correction_number<S: Alter>(alloc: Global, conn: &mut Connection<S>) -> Result<u64, Trouble>
+fn next_correction_number<S: Alter>(
+    alloc: Global,
+    conn: &mut Connection<S>,
+) -> Result<u64, StatementFault>
     ensures looks { LooksUp (state S.Store conn.old) (state S.Store conn.new) result
         (λ t n. pos n ≡ next_key correction_key t.corrections) }
     ensures blames { BlamesDisk (state S.Store conn.old) (state S.Store conn.new) result
@@ -66,7 +69,7 @@ pub fn find_basis<S: Alter>(
     alloc: Global,
     conn: &mut Connection<S>,
     device: &Gsrn,
-) -> Result<CorrectionBasis, Trouble>
+) -> Result<CorrectionBasis, StatementFault>
     ensures looks { LooksUp (state S.Store conn.old) (state S.Store conn.new) result
         (λ t basis. IsBasis t device.now basis) }
     ensures blames { BlamesDisk (state S.Store conn.old) (state S.Store conn.new) result

@@ -13,12 +13,12 @@ ghost use Rattle.goo_store_plans.specs.LookingUp.{LooksUp};
 ghost use Rattle.goo_store_plans.specs.Progressing.{HasEnded, SetsProgress};
 ghost use Rattle.goo_store_plans.specs.StoreFaults.{BlamesDisk};
 ghost use Rattle.goo_store_values.specs.Passing.{Accepts, Passes};
-ghost use Rattle.goo_store_values.specs.declared.trouble.Trouble.TheVariants.{Memory};
+ghost use Rattle.goo_store_values.specs.declared.statement_fault.StatementFault.TheVariants.{Memory};
 
 use crate::new_rows::day_string;
 use goo_store_changes::change::TableChange;
+use goo_store_values::statement_fault::StatementFault;
 use goo_store_values::texts;
-use goo_store_values::trouble::Trouble;
 use goo_tables::device::find_device;
 use goo_tables_rows::device::DeviceRow;
 use goo_types::day::Day;
@@ -32,13 +32,13 @@ pub fn progress_change(
     device: &Gsrn,
     last_day: Day,
     carry: u64,
-) -> Result<TableChange, Trouble>
+) -> Result<TableChange, StatementFault>
     ensures sets { IfOk result (SetsProgress device.now last_day carry) }
     ensures fits { IfOk result ChangeFits }
     ensures memory { carry < 2 ^ 63 → IsOkUnless result Memory }
 {
     if carry >= 1 << 63 {
-        return Err(Trouble::Refused);
+        return Err(StatementFault::Refused);
     }
     let device = String::from_str(alloc, device.text())?;
     let last_day = day_string(alloc, last_day)?;
@@ -50,7 +50,7 @@ pub fn progress_change(
 }
 
 /// A day that must be there.
-fn day_there(text: &Option<String>) -> Result<Day, Trouble>
+fn day_there(text: &Option<String>) -> Result<Day, StatementFault>
     ensures value { IfOk result
         (λ day. option_map day_of (option_map string_bytes text.now) ≡ Some day) }
     ensures accepts { IsTrue (is_maybe_day (option_map string_bytes text.now))
@@ -58,12 +58,12 @@ fn day_there(text: &Option<String>) -> Result<Day, Trouble>
 {
     match text {
         Some(text) => texts::day(text),
-        None => Err(Trouble::Refused),
+        None => Err(StatementFault::Refused),
     }
 }
 
 /// The last day of the last accepted period, in the row that was found.
-fn last_day_found(found: Result<Option<DeviceRow>, Error>) -> Result<Day, Trouble>
+fn last_day_found(found: Result<Option<DeviceRow>, Error>) -> Result<Day, StatementFault>
     ensures value { Passes found result
         (λ row day. (progress_in (option_map device_in row)).last_day ≡ Some day) }
     ensures accepts { Accepts found result
@@ -71,7 +71,7 @@ fn last_day_found(found: Result<Option<DeviceRow>, Error>) -> Result<Day, Troubl
         (λ r. IsTrue (is_device (pos 0, device_in r)) × IsSome (device_in r).last_day)) }
 {
     let Some(row) = found? else {
-        return Err(Trouble::Refused);
+        return Err(StatementFault::Refused);
     };
     day_there(&row.last_day)
 }
@@ -86,7 +86,7 @@ pub fn find_last_day<S: Alter>(
     alloc: Global,
     conn: &mut Connection<S>,
     device: &Gsrn,
-) -> Result<Day, Trouble>
+) -> Result<Day, StatementFault>
     ensures looks { LooksUp (state S.Store conn.old) (state S.Store conn.new) result
         (λ t day. (progress_in (device_row t.devices device.now)).last_day ≡ Some day) }
     ensures blames { BlamesDisk (state S.Store conn.old) (state S.Store conn.new) result

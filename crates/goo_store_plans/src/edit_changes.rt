@@ -7,7 +7,7 @@ ghost use Rattle.std.specs.List.{Any, Contains};
 ghost use Rattle.goo_types.specs.declared.lot_fields.LotFields.{LotFields};
 ghost use Rattle.sqlite.specs.Held.{state};
 ghost use Rattle.goo_tables_rows.specs.Rows.{Lot as RowOfLot};
-ghost use Rattle.goo_tables_holdings.specs.Changes.{PieceFits};
+ghost use Rattle.goo_tables_accounts.specs.Changes.{PieceFits};
 ghost use Rattle.goo_store_changes.specs.Changes.{ChangeFits};
 ghost use Rattle.goo_store_plans.specs.EditChanges.{AreForEdits, AreRowsOf};
 ghost use Rattle.goo_store_plans.specs.EditsGathered.{AddsEdit, CanBeTaken, HasNoNumber};
@@ -16,13 +16,13 @@ ghost use Rattle.goo_store_plans.specs.EditsTaken.{CanTakeEdits};
 ghost use Rattle.goo_store_plans.specs.LookingUp.{LooksUp};
 ghost use Rattle.goo_store_plans.specs.LotNumbers.{AreNumbered, AreWith, IsNumberOf};
 ghost use Rattle.goo_store_plans.specs.StoreFaults.{BlamesDisk};
-ghost use Rattle.goo_store_values.specs.declared.trouble.Trouble.TheVariants.{Memory, Refused};
+ghost use Rattle.goo_store_values.specs.declared.statement_fault.StatementFault.TheVariants.{Memory, Refused};
 
 use crate::lot_numbers::{NumberedLot, numbers_of};
 use crate::new_pieces::piece_row;
 use goo_ranges::Edit;
 use goo_store_changes::change::TableChange;
-use goo_store_values::trouble::Trouble;
+use goo_store_values::statement_fault::StatementFault;
 use goo_tables_rows::piece::PieceRow;
 use goo_types::lot::Lot;
 use goo_types::number::Number;
@@ -41,7 +41,7 @@ fn is_last(lots: &[Lot], lot: &Lot) -> bool
 }
 
 /// Adds a lot, unless it is the last.
-fn note_lot(lots: &mut Vec<Lot>, lot: &Lot) -> Result<(), Trouble>
+fn note_lot(lots: &mut Vec<Lot>, lot: &Lot) -> Result<(), StatementFault>
     ensures kept { OnOk result
         ((x : LotFields) → Contains lots.old.items x → Contains lots.new.items x) }
     ensures noted { OnOk result (Contains lots.new.items lot.now) }
@@ -57,7 +57,7 @@ fn note_lot(lots: &mut Vec<Lot>, lot: &Lot) -> Result<(), Trouble>
 }
 
 /// Adds the lots of pieces, once for those in a row that have one lot.
-fn note_lots(lots: &mut Vec<Lot>, pieces: &[Piece]) -> Result<(), Trouble>
+fn note_lots(lots: &mut Vec<Lot>, pieces: &[Piece]) -> Result<(), StatementFault>
     ensures kept { OnOk result
         ((x : LotFields) → Contains lots.old.items x → Contains lots.new.items x) }
     ensures noted { OnOk result (All (λ p. Contains lots.new.items p.lot) pieces.now) }
@@ -73,7 +73,7 @@ fn note_lots(lots: &mut Vec<Lot>, pieces: &[Piece]) -> Result<(), Trouble>
 }
 
 /// The lots of the pieces that edits insert, once for those in a row that have one lot.
-fn lots_inserted(alloc: Global, edits: &[Edit]) -> Result<Vec<Lot>, Trouble>
+fn lots_inserted(alloc: Global, edits: &[Edit]) -> Result<Vec<Lot>, StatementFault>
     ensures noted { IfOk result
         (λ lots. All (λ e. All (λ p. Contains lots.items p.lot) e.insert.items) edits.now) }
     ensures only { IfOk result
@@ -115,14 +115,14 @@ fn number_between(found: &[NumberedLot], from: usize, to: usize, lot: &Lot) -> O
 }
 
 /// The number of a lot: from a place to the end, and else from the start to that place.
-fn number_from(found: &[NumberedLot], from: usize, lot: &Lot) -> Result<NumberAt, Trouble>
+fn number_from(found: &[NumberedLot], from: usize, lot: &Lot) -> Result<NumberAt, StatementFault>
     ensures numbers { IfOk result
         (λ at. (lots : List RowOfLot) → AreNumbered lots found.now
         → IsNumberOf lots at.number lot.now) }
     ensures fits { IfOk result (λ at. at.number < 2 ^ 63) }
     ensures finds { Any (λ known. (known.lot ≡ lot.now) × (known.number < 2 ^ 63)) found.now
         → IsOk result }
-    ensures cause { IfErr result (λ trouble. trouble ≡ Refused) }
+    ensures cause { IfErr result (λ cause. cause ≡ Refused) }
 {
     let end = found.len();
     if let Some(at) = number_between(found, from, end, lot) {
@@ -130,7 +130,7 @@ fn number_from(found: &[NumberedLot], from: usize, lot: &Lot) -> Result<NumberAt
     }
     match number_between(found, 0, from.min(end), lot) {
         Some(at) => Ok(at),
-        None => Err(Trouble::Refused),
+        None => Err(StatementFault::Refused),
     }
 }
 
@@ -140,7 +140,7 @@ fn piece_rows(
     found: &[NumberedLot],
     place: &mut usize,
     pieces: &[Piece],
-) -> Result<Vec<PieceRow>, Trouble>
+) -> Result<Vec<PieceRow>, StatementFault>
     ensures rows { IfOk result
         (λ rows. (lots : List RowOfLot) → AreNumbered lots found.now
         → AreRowsOf lots rows.items pieces.now) }
@@ -158,7 +158,7 @@ fn piece_rows(
 }
 
 /// The deletions of the pieces that begin with these numbers.
-fn push_deletes(changes: &mut Vec<TableChange>, firsts: &[Number]) -> Result<(), Trouble>
+fn push_deletes(changes: &mut Vec<TableChange>, firsts: &[Number]) -> Result<(), StatementFault>
     ensures items { OnOk result
         (changes.new.items ≡ changes.old.items ++ map (λ k. TableChange.DeletePiece k) firsts.now) }
     ensures fits { All ChangeFits changes.old.items
@@ -172,7 +172,7 @@ fn push_deletes(changes: &mut Vec<TableChange>, firsts: &[Number]) -> Result<(),
 }
 
 /// The insertions of these rows.
-fn push_inserts(changes: &mut Vec<TableChange>, rows: &[PieceRow]) -> Result<(), Trouble>
+fn push_inserts(changes: &mut Vec<TableChange>, rows: &[PieceRow]) -> Result<(), StatementFault>
     requires { All PieceFits rows.now }
     ensures items { OnOk result
         (changes.new.items ≡ changes.old.items ++ map (λ x. TableChange.InsertPiece x) rows.now) }
@@ -193,7 +193,7 @@ fn push_edit(
     found: &[NumberedLot],
     place: &mut usize,
     edit: &Edit,
-) -> Result<(), Trouble>
+) -> Result<(), StatementFault>
     ensures made { OnOk result (AddsEdit found.now edit.now changes.old.items changes.new.items) }
     ensures fits { All ChangeFits changes.old.items
         → OnOk result (All ChangeFits changes.new.items) }
@@ -209,7 +209,7 @@ fn edit_changes(
     alloc: Global,
     found: &[NumberedLot],
     edits: &[Edit],
-) -> Result<Vec<TableChange>, Trouble>
+) -> Result<Vec<TableChange>, StatementFault>
     ensures made { IfOk result
         (λ changes. (lots : List RowOfLot) → AreNumbered lots found.now
         → AreForEdits lots edits.now changes.items) }
@@ -235,7 +235,7 @@ pub fn changes_of_edits<S: Alter>(
     conn: &mut Connection<S>,
     added: &[NumberedLot],
     edits: &[Edit],
-) -> Result<Vec<TableChange>, Trouble>
+) -> Result<Vec<TableChange>, StatementFault>
     ensures looks { LooksUp (state S.Store conn.old) (state S.Store conn.new) result
         (λ t changes. (lots : List RowOfLot) → AreWith t.lots added.now lots
         → AreForEdits lots edits.now changes.items) }

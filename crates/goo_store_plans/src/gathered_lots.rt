@@ -18,12 +18,12 @@ ghost use Rattle.goo_store_plans.specs.LotRows.{is_among, next_lot};
 ghost use Rattle.goo_store_plans.specs.NewLots.{known_lots};
 ghost use Rattle.goo_store_plans.specs.StoreFaults.{BlamesDisk};
 ghost use Rattle.goo_store_values.specs.Passing.{Accepts, Passes};
-ghost use Rattle.goo_store_values.specs.declared.trouble.Trouble.TheVariants.{Memory};
+ghost use Rattle.goo_store_values.specs.declared.statement_fault.StatementFault.TheVariants.{Memory};
 
 use crate::lot_numbers::NumberedLot;
 use crate::new_lots::lot_row;
 use goo_store_changes::change::TableChange;
-use goo_store_values::trouble::Trouble;
+use goo_store_values::statement_fault::StatementFault;
 use goo_tables::lot::{find_lot, last_lot};
 use goo_tables_rows::lot::LotRow;
 use goo_types::lot::Lot;
@@ -43,7 +43,7 @@ pub struct Gathered {
 }
 
 /// The number after that of the last row.
-fn number_after(found: Result<Option<LotRow>, Error>) -> Result<u64, Trouble>
+fn number_after(found: Result<Option<LotRow>, Error>) -> Result<u64, StatementFault>
     ensures value { Passes found result (λ row n. n ≡ next_lot (option_map lot_in row)) }
     ensures accepts { Accepts found result (λ row. IfSome row (λ r. r.id < 2 ^ 63)) }
 {
@@ -52,12 +52,12 @@ fn number_after(found: Result<Option<LotRow>, Error>) -> Result<u64, Trouble>
     };
     match row.id.checked_add(1) {
         Some(number) => Ok(number),
-        None => Err(Trouble::Refused),
+        None => Err(StatementFault::Refused),
     }
 }
 
 /// The number that the next lot gets, as the table shows it.
-fn find_lot_number<S: Alter>(alloc: Global, conn: &mut Connection<S>) -> Result<u64, Trouble>
+fn find_lot_number<S: Alter>(alloc: Global, conn: &mut Connection<S>) -> Result<u64, StatementFault>
     ensures looks { LooksUp (state S.Store conn.old) (state S.Store conn.new) result
         (λ t n. pos n ≡ next_key lot_key t.lots) }
     ensures blames { BlamesDisk (state S.Store conn.old) (state S.Store conn.new) result
@@ -73,7 +73,7 @@ pub(crate) fn next_lot_number<S: Alter>(
     alloc: Global,
     conn: &mut Connection<S>,
     known: Option<u64>,
-) -> Result<u64, Trouble>
+) -> Result<u64, StatementFault>
     ensures looks { LooksUp (state S.Store conn.old) (state S.Store conn.new) result
         (λ t n. IsNext known lot_key t.lots → pos n ≡ next_key lot_key t.lots) }
     ensures blames { BlamesDisk (state S.Store conn.old) (state S.Store conn.new) result
@@ -87,7 +87,7 @@ pub(crate) fn next_lot_number<S: Alter>(
 }
 
 /// Whether there is a row.
-fn is_there(found: Result<Option<LotRow>, Error>) -> Result<bool, Trouble>
+fn is_there(found: Result<Option<LotRow>, Error>) -> Result<bool, StatementFault>
     ensures value { Passes found result (λ row there. there ≡ is_some row) }
     ensures accepts { Accepts found result (λ _. ⊤) }
 {
@@ -99,7 +99,7 @@ fn is_in_table<S: Alter>(
     alloc: Global,
     conn: &mut Connection<S>,
     lot: &Lot,
-) -> Result<bool, Trouble>
+) -> Result<bool, StatementFault>
     ensures looks { LooksUp (state S.Store conn.old) (state S.Store conn.new) result
         (λ t known. known ≡ contains_key (known_lots t.lots) (key_of lot.now)) }
     ensures blames { BlamesDisk (state S.Store conn.old) (state S.Store conn.new) result (λ _. ⊤) }
@@ -137,7 +137,7 @@ fn is_there_already<S: Alter>(
     conn: &mut Connection<S>,
     kept: &[NumberedLot],
     lot: &Lot,
-) -> Result<bool, Trouble>
+) -> Result<bool, StatementFault>
     ensures looks { LooksUp (state S.Store conn.old) (state S.Store conn.new) result
         (λ t known. AreStated t.lots kept.now
         → known ≡ contains_key (known_lots t.lots) (key_of lot.now)) }
@@ -152,7 +152,7 @@ fn is_there_already<S: Alter>(
 }
 
 /// One lot more, under the next number.
-pub fn add_lot(alloc: Global, gathered: &mut Gathered, lot: &Lot) -> Result<(), Trouble>
+pub fn add_lot(alloc: Global, gathered: &mut Gathered, lot: &Lot) -> Result<(), StatementFault>
     ensures added { OnOk result (AddsLot lot.now gathered.old gathered.new) }
     ensures fits { All ChangeFits gathered.old.changes.items
         → OnOk result (All ChangeFits gathered.new.changes.items) }
@@ -175,7 +175,7 @@ fn gather_lot<S: Alter>(
     kept: &[NumberedLot],
     gathered: &mut Gathered,
     part: &Part,
-) -> Result<(), Trouble>
+) -> Result<(), StatementFault>
     ensures looks { LooksUp (state S.Store conn.old) (state S.Store conn.new) result
         (λ t _. AreStated t.lots kept.now → Gathers t.lots part.now gathered.old gathered.new) }
     ensures blames { BlamesDisk (state S.Store conn.old) (state S.Store conn.new) result
@@ -204,7 +204,7 @@ pub fn gather_lots<S: Alter>(
     known: Option<u64>,
     kept: &[NumberedLot],
     parts: &[Part],
-) -> Result<Gathered, Trouble>
+) -> Result<Gathered, StatementFault>
     ensures looks { LooksUp (state S.Store conn.old) (state S.Store conn.new) result
         (λ t gathered. IsNext known lot_key t.lots → AreStated t.lots kept.now
         → ArePutIn t.lots parts.now [] gathered) }

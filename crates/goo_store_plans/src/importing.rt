@@ -13,13 +13,13 @@ ghost use Rattle.goo_store_changes.specs.Changes.{ChangeFits};
 ghost use Rattle.goo_store_plans.specs.Found.{AreStated, IsNext};
 ghost use Rattle.goo_store_plans.specs.LookingUp.{LooksUp};
 ghost use Rattle.goo_store_plans.specs.StoreFaults.{BlamesDisk};
-ghost use Rattle.goo_store_values.specs.declared.trouble.Trouble.TheVariants.{Memory};
+ghost use Rattle.goo_store_values.specs.declared.statement_fault.StatementFault.TheVariants.{Memory};
 
 use crate::gathered_lots::{Gathered, gather_lots};
 use crate::lot_numbers::NumberedLot;
 use goo_notice::write;
 use goo_store_changes::change::TableChange;
-use goo_store_values::trouble::Trouble;
+use goo_store_values::statement_fault::StatementFault;
 use goo_tables_rows::notice_in::NoticeInRow;
 use goo_types::command::{Command, Import};
 use goo_types::notice::Notice;
@@ -27,7 +27,7 @@ use sqlite::{Alter, Connection};
 use std::alloc::Global;
 
 /// The row of a notice that came in.
-fn notice_row(alloc: Global, notice: &Notice) -> Result<NoticeInRow, Trouble>
+fn notice_row(alloc: Global, notice: &Notice) -> Result<NoticeInRow, StatementFault>
     ensures states { IfOk result
         (λ row. known_arrival (pos 0, notice_in_in row)
         ≡ ((notice.now.sender, notice.now.number), notice.now)) }
@@ -35,7 +35,7 @@ fn notice_row(alloc: Global, notice: &Notice) -> Result<NoticeInRow, Trouble>
     ensures memory { IsOkUnless result Memory }
 {
     let Ok(body) = write(alloc, notice) else {
-        return Err(Trouble::Memory);
+        return Err(StatementFault::Memory);
     };
     Ok(NoticeInRow {
         sender: u32::from(notice.sender().get()),
@@ -53,7 +53,7 @@ pub fn import_changes<S: Alter>(
     next_lot: Option<u64>,
     kept: &[NumberedLot],
     import: &Import,
-) -> Result<Gathered, Trouble>
+) -> Result<Gathered, StatementFault>
     ensures looks { LooksUp (state S.Store conn.old) (state S.Store conn.new) result
         (λ t gathered. IsNext next_lot lot_key t.lots → AreStated t.lots kept.now
         → (q : Request) (reply : Reply) → q.command ≡ Command.Import import.now

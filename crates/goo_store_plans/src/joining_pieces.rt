@@ -3,14 +3,14 @@
 ghost use Rattle.std.specs.Prelude.{◌≡◌, ◌↔◌, ◌++◌, All, IfOk, IfSome, IsOkUnless, IsTrue, OnOk};
 ghost use Rattle.sqlite_keyed.specs.Keyed.{IsKeyedBy};
 ghost use Rattle.goo_tables_rows.specs.Rows.{Tables, piece_key};
-ghost use Rattle.goo_tables_holdings.specs.Changes.{PieceFits};
+ghost use Rattle.goo_tables_accounts.specs.Changes.{PieceFits};
 ghost use Rattle.goo_store_changes.specs.Changes.{ChangeFits};
 ghost use Rattle.goo_store_plans.specs.JoiningChanges.{step_of, wide_of, JoinsPieces};
-ghost use Rattle.goo_store_values.specs.declared.trouble.Trouble.TheVariants.{Memory};
+ghost use Rattle.goo_store_values.specs.declared.statement_fault.StatementFault.TheVariants.{Memory};
 
 use goo_store_changes::change::TableChange;
 use goo_store_rules::cut::joins;
-use goo_store_values::trouble::Trouble;
+use goo_store_values::statement_fault::StatementFault;
 use goo_tables_rows::piece::PieceRow;
 use std::alloc::Global;
 
@@ -26,7 +26,7 @@ fn join_next(
     changes: &mut Vec<TableChange>,
     row: PieceRow,
     next: Option<PieceRow>,
-) -> Result<PieceRow, Trouble>
+) -> Result<PieceRow, StatementFault>
     ensures changes { OnOk result (changes.new.items ≡ changes.old.items ++ step_of row next) }
     ensures row { IfOk result (λ wide. wide ≡ wide_of row next) }
     ensures fits { All ChangeFits changes.old.items
@@ -41,7 +41,7 @@ fn join_next(
         return Ok(row);
     }
     if !fits(&row) || !fits(&next) {
-        return Err(Trouble::Refused);
+        return Err(StatementFault::Refused);
     }
     let wide = PieceRow {
         last: next.last,
@@ -59,7 +59,10 @@ fn join_next(
 /// # Errors
 ///
 /// `Memory`, and `Refused` where a number is too large for its column.
-pub fn joining_changes(alloc: Global, pieces: &[PieceRow]) -> Result<Vec<TableChange>, Trouble>
+pub fn joining_changes(
+    alloc: Global,
+    pieces: &[PieceRow],
+) -> Result<Vec<TableChange>, StatementFault>
     ensures joins { IfOk result
         (λ changes. (t : Tables) → t.pieces ≡ pieces.now → IsKeyedBy piece_key t.pieces
         → JoinsPieces t changes.items) }

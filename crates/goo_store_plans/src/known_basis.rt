@@ -12,11 +12,11 @@ ghost use Rattle.goo_store_plans.specs.LookingUp.{LooksUp};
 ghost use Rattle.goo_store_plans.specs.PlanNeeds.{HasRoomFor};
 ghost use Rattle.goo_store_plans.specs.StoreFaults.{BlamesDisk};
 
-use crate::findings::KnownBasis;
 use crate::gathered_lots::next_lot_number;
+use crate::known_rows::KnownBasis;
 use crate::standing::next_declaration_number;
 use goo_store_changes::change::TableChange;
-use goo_store_values::trouble::Trouble;
+use goo_store_values::statement_fault::StatementFault;
 use goo_types::command::Command;
 use sqlite::{Alter, Connection};
 use std::alloc::Global;
@@ -26,7 +26,7 @@ fn with_next_lot<S: Alter>(
     alloc: Global,
     conn: &mut Connection<S>,
     known: KnownBasis,
-) -> Result<KnownBasis, Trouble>
+) -> Result<KnownBasis, StatementFault>
     ensures looks { LooksUp (state S.Store conn.old) (state S.Store conn.new) result
         (λ t found. IsBasisOf known t → IsBasisOf found t) }
     ensures blames { BlamesDisk (state S.Store conn.old) (state S.Store conn.new) result
@@ -46,7 +46,7 @@ fn with_number<S: Alter>(
     alloc: Global,
     conn: &mut Connection<S>,
     known: KnownBasis,
-) -> Result<KnownBasis, Trouble>
+) -> Result<KnownBasis, StatementFault>
     ensures looks { LooksUp (state S.Store conn.old) (state S.Store conn.new) result
         (λ t found. IsBasisOf known t → IsBasisOf found t) }
     ensures blames { BlamesDisk (state S.Store conn.old) (state S.Store conn.new) result
@@ -66,7 +66,7 @@ fn with_both<S: Alter>(
     alloc: Global,
     conn: &mut Connection<S>,
     known: KnownBasis,
-) -> Result<KnownBasis, Trouble>
+) -> Result<KnownBasis, StatementFault>
     ensures looks { LooksUp (state S.Store conn.old) (state S.Store conn.new) result
         (λ t found. IsBasisOf known t → IsBasisOf found t) }
     ensures blames { BlamesDisk (state S.Store conn.old) (state S.Store conn.new) result
@@ -83,7 +83,7 @@ pub(crate) fn with_numbers<S: Alter>(
     conn: &mut Connection<S>,
     known: KnownBasis,
     command: &Command,
-) -> Result<KnownBasis, Trouble>
+) -> Result<KnownBasis, StatementFault>
     ensures looks { LooksUp (state S.Store conn.old) (state S.Store conn.new) result
         (λ t found. IsBasisOf known t → IsBasisOf found t) }
     ensures blames { BlamesDisk (state S.Store conn.old) (state S.Store conn.new) result

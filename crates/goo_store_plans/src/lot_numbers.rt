@@ -16,7 +16,7 @@ ghost use Rattle.goo_store_plans.specs.StoreFaults.{BlamesDisk};
 ghost use Rattle.goo_store_values.specs.Passing.{Accepts, Passes};
 
 use goo_store_values::lots::read_lot;
-use goo_store_values::trouble::Trouble;
+use goo_store_values::statement_fault::StatementFault;
 use goo_tables::lot::find_lot;
 use goo_tables_rows::lot::LotRow;
 use goo_types::lot::Lot;
@@ -33,23 +33,27 @@ pub struct NumberedLot {
 }
 
 /// The number in the row that was found for a lot, which must state what the lot does.
-fn number_found(found: Result<Option<LotRow>, Error>, lot: &Lot) -> Result<u64, Trouble>
+fn number_found(found: Result<Option<LotRow>, Error>, lot: &Lot) -> Result<u64, StatementFault>
     ensures value { Passes found result (λ row n. IsRowOfLot (option_map lot_in row) n lot.now) }
     ensures accepts { Accepts found result
         (λ row. IsSomeAnd row (λ r. IsReadableLot (lot_in r) × (lot_of (lot_in r) ≡ lot.now))) }
 {
     let Some(row) = found? else {
-        return Err(Trouble::Refused);
+        return Err(StatementFault::Refused);
     };
     if read_lot(&row)?.is(lot) {
         Ok(row.id)
     } else {
-        Err(Trouble::Refused)
+        Err(StatementFault::Refused)
     }
 }
 
 /// The number of a lot that is in the table.
-fn find_number<S: Alter>(alloc: Global, conn: &mut Connection<S>, lot: &Lot) -> Result<u64, Trouble>
+fn find_number<S: Alter>(
+    alloc: Global,
+    conn: &mut Connection<S>,
+    lot: &Lot,
+) -> Result<u64, StatementFault>
     ensures looks { LooksUp (state S.Store conn.old) (state S.Store conn.new) result
         (λ t n. IsNumberOf t.lots n lot.now) }
     ensures blames { BlamesDisk (state S.Store conn.old) (state S.Store conn.new) result
@@ -87,7 +91,7 @@ fn number_of<S: Alter>(
     conn: &mut Connection<S>,
     added: &[NumberedLot],
     lot: &Lot,
-) -> Result<u64, Trouble>
+) -> Result<u64, StatementFault>
     ensures looks { LooksUp (state S.Store conn.old) (state S.Store conn.new) result
         (λ t n. (lots : List RowOfLot) → AreWith t.lots added.now lots
         → IsNumberOf lots n lot.now) }
@@ -112,7 +116,7 @@ pub(crate) fn numbers_of<S: Alter>(
     conn: &mut Connection<S>,
     added: &[NumberedLot],
     lots: &[Lot],
-) -> Result<Vec<NumberedLot>, Trouble>
+) -> Result<Vec<NumberedLot>, StatementFault>
     ensures looks { LooksUp (state S.Store conn.old) (state S.Store conn.new) result
         (λ t found. (lots : List RowOfLot) → AreWith t.lots added.now lots
         → AreNumbered lots found.items) }

@@ -6,21 +6,21 @@ ghost use Rattle.goo_tables_rows.specs.Rows.{Tables, meta_in};
 ghost use Rattle.goo_spec_tables.specs.Readable.{is_act, is_meta};
 ghost use Rattle.goo_store_plans.specs.Carried.{Does};
 ghost use Rattle.goo_store_changes.specs.Changes.{ChangeFits};
-ghost use Rattle.goo_store_values.specs.declared.trouble.Trouble.TheVariants.{Memory};
+ghost use Rattle.goo_store_values.specs.declared.statement_fault.StatementFault.TheVariants.{Memory};
 
 use crate::new_devices::device_row;
 use crate::new_rows::{account_row, holder_row, peer_row};
 use crate::next_numbers::next_numbers;
 use goo_store_changes::change::TableChange;
 use goo_store_values::numbers;
-use goo_store_values::trouble::Trouble;
-use goo_tables_holdings::counters::CountersRow;
+use goo_store_values::statement_fault::StatementFault;
+use goo_tables_accounts::counters::CountersRow;
 use goo_tables_rows::meta::MetaRow;
 use goo_types::command::{AddPeer, CloseAccount, OpenAccount, OpenHolder, RegisterDevice};
 use std::alloc::Global;
 
 /// A holder more.
-pub fn open_holder(alloc: Global, opened: &OpenHolder) -> Result<Vec<TableChange>, Trouble>
+pub fn open_holder(alloc: Global, opened: &OpenHolder) -> Result<Vec<TableChange>, StatementFault>
     ensures does { IfOk result
         (λ changes. (t : Tables) → Does t (command.OpenHolder opened.now) changes.items) }
     ensures fits { IfOk result (λ changes. All ChangeFits changes.items) }
@@ -35,7 +35,7 @@ pub fn open_account(
     alloc: Global,
     meta: &MetaRow,
     opened: &OpenAccount,
-) -> Result<Vec<TableChange>, Trouble>
+) -> Result<Vec<TableChange>, StatementFault>
     ensures does { IfOk result
         (λ changes. (t : Tables) → t.meta ≡ meta_in meta.now
         → Does t (command.OpenAccount opened.now) changes.items) }
@@ -56,7 +56,10 @@ pub fn open_account(
 }
 
 /// An account that is open no more.
-pub fn close_account(alloc: Global, closed: &CloseAccount) -> Result<Vec<TableChange>, Trouble>
+pub fn close_account(
+    alloc: Global,
+    closed: &CloseAccount,
+) -> Result<Vec<TableChange>, StatementFault>
     ensures does { IfOk result
         (λ changes. (t : Tables) → Does t (command.CloseAccount closed.now) changes.items) }
     ensures fits { IfOk result (λ changes. All ChangeFits changes.items) }
@@ -70,7 +73,7 @@ pub fn close_account(alloc: Global, closed: &CloseAccount) -> Result<Vec<TableCh
 pub fn register_device(
     alloc: Global,
     registered: &RegisterDevice,
-) -> Result<Vec<TableChange>, Trouble>
+) -> Result<Vec<TableChange>, StatementFault>
     ensures does { IfOk result
         (λ changes. (t : Tables) → Does t (command.RegisterDevice registered.now) changes.items) }
     ensures fits { IfOk result (λ changes. All ChangeFits changes.items) }
@@ -81,7 +84,7 @@ pub fn register_device(
 }
 
 /// Another registry more.
-pub fn add_peer(alloc: Global, added: &AddPeer) -> Result<Vec<TableChange>, Trouble>
+pub fn add_peer(alloc: Global, added: &AddPeer) -> Result<Vec<TableChange>, StatementFault>
     ensures does { IfOk result
         (λ changes. (t : Tables) → Does t (command.AddPeer added.now) changes.items) }
     ensures fits { IfOk result (λ changes. All ChangeFits changes.items) }

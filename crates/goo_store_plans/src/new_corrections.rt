@@ -8,7 +8,7 @@ ghost use Rattle.goo_types.specs.declared.command.Command.TheVariants as command
 ghost use Rattle.goo_types.specs.declared.reply.Reply.TheVariants.{Corrected};
 ghost use Rattle.goo_spec.specs.Correct.{correct_refusal, correct_reply, taken_out};
 ghost use Rattle.goo_tables_rows.specs.Rows.{Tables, correction_in, meta_in};
-ghost use Rattle.goo_tables_holdings.specs.Changes.{CorrectionFits};
+ghost use Rattle.goo_tables_accounts.specs.Changes.{CorrectionFits};
 ghost use Rattle.goo_spec_tables.specs.Records.{correction_of};
 ghost use Rattle.goo_spec_tables.specs.Kept.{AreKept};
 ghost use Rattle.goo_spec_tables.specs.Readable.{is_correction, is_meta};
@@ -19,14 +19,14 @@ ghost use Rattle.goo_store_plans.specs.Correcting.{CanBeCorrected, CanTakeOut, I
 ghost use Rattle.goo_store_plans.specs.Correcting.{TakesOut};
 ghost use Rattle.goo_store_plans.specs.LookingUp.{LooksUp};
 ghost use Rattle.goo_store_plans.specs.StoreFaults.{BlamesDisk};
-ghost use Rattle.goo_store_values.specs.declared.trouble.Trouble.TheVariants.{Memory};
+ghost use Rattle.goo_store_values.specs.declared.statement_fault.StatementFault.TheVariants.{Memory};
 
 use crate::act_changes::withdraw;
 use crate::correction_basis::{CorrectionBasis, find_basis};
 use crate::device_progress::progress_change;
 use crate::new_rows::{act_or_zero, day_string};
 use goo_store_changes::change::TableChange;
-use goo_store_values::trouble::Trouble;
+use goo_store_values::statement_fault::StatementFault;
 use goo_tables_rows::correction::CorrectionRow;
 use goo_tables_rows::meta::MetaRow;
 use goo_types::act_no::ActNo;
@@ -40,7 +40,7 @@ fn correction_row(
     accepted: &Correct,
     number: u64,
     withdrawal: Option<ActNo>,
-) -> Result<CorrectionRow, Trouble>
+) -> Result<CorrectionRow, StatementFault>
     ensures id { IfOk result (λ row. row.id ≡ number) }
     ensures states { IfOk result
         (λ row. correction_of (correction_in row)
@@ -56,7 +56,7 @@ fn correction_row(
     ensures memory { number < 2 ^ 63 → IsOkUnless result Memory }
 {
     if number >= 1 << 63 {
-        return Err(Trouble::Refused);
+        return Err(StatementFault::Refused);
     }
     Ok(CorrectionRow {
         id: number,
@@ -74,7 +74,7 @@ fn lowering(
     carry: u64,
     withdrawal: Option<ActNo>,
     basis: &CorrectionBasis,
-) -> Result<Vec<TableChange>, Trouble>
+) -> Result<Vec<TableChange>, StatementFault>
     ensures lowers { IfOk result
         (λ changes. Lowers accepted.now carry withdrawal basis.now changes.items) }
     ensures fits { IfOk result (λ changes. All ChangeFits changes.items) }
@@ -90,7 +90,7 @@ fn excess_withdrawn(
     alloc: Global,
     meta: &MetaRow,
     accepted: &Correct,
-) -> Result<Vec<TableChange>, Trouble>
+) -> Result<Vec<TableChange>, StatementFault>
     ensures takes { IfOk result
         (λ changes. (t : Tables) → t.meta ≡ meta_in meta.now → AreKept t → AreInOrder t
         → (caller : List ℕ) → correct_refusal (state_of t) caller accepted.now ≡ None
@@ -120,7 +120,7 @@ fn corrected_changes(
     carry: u64,
     withdrawal: Option<ActNo>,
     basis: &CorrectionBasis,
-) -> Result<Vec<TableChange>, Trouble>
+) -> Result<Vec<TableChange>, StatementFault>
     ensures does { IfOk result
         (λ changes. (t : Tables) (count : ℕ) → t.meta ≡ meta_in meta.now
         → IsBasis t accepted.now.device basis.now
@@ -150,7 +150,7 @@ pub fn correct_changes<S: Alter>(
     accepted: &Correct,
     carry: u64,
     withdrawal: Option<ActNo>,
-) -> Result<Vec<TableChange>, Trouble>
+) -> Result<Vec<TableChange>, StatementFault>
     ensures looks { LooksUp (state S.Store conn.old) (state S.Store conn.new) result
         (λ t changes. (count : ℕ) → t.meta ≡ meta_in meta.now
         → correct_reply (state_of t) accepted.now ≡ Corrected carry count withdrawal

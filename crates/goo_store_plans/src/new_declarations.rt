@@ -10,7 +10,7 @@ ghost use Rattle.goo_types.specs.declared.request.Request.{Request};
 ghost use Rattle.goo_spec.specs.Declare.{lot_of as lot_for};
 ghost use Rattle.goo_spec.specs.State.{State};
 ghost use Rattle.goo_tables_rows.specs.Rows.{Tables, declaration_in, meta_in};
-ghost use Rattle.goo_tables_holdings.specs.Changes.{CountersFit, DeclarationFits};
+ghost use Rattle.goo_tables_accounts.specs.Changes.{CountersFit, DeclarationFits};
 ghost use Rattle.goo_spec_tables.specs.Devices.{declaration_of};
 ghost use Rattle.goo_spec_tables.specs.Readable.{is_declaration, is_meta};
 ghost use Rattle.goo_spec_tables.specs.Texts.{day_of};
@@ -21,18 +21,18 @@ ghost use Rattle.goo_store_plans.specs.Declaring.{Issues, count_of, lot_stated};
 ghost use Rattle.goo_store_plans.specs.Found.{IsBasisOf};
 ghost use Rattle.goo_store_plans.specs.LookingUp.{LooksUp};
 ghost use Rattle.goo_store_plans.specs.StoreFaults.{BlamesDisk};
-ghost use Rattle.goo_store_values.specs.declared.trouble.Trouble.TheVariants.{Memory};
+ghost use Rattle.goo_store_values.specs.declared.statement_fault.StatementFault.TheVariants.{Memory};
 
 use crate::device_progress::progress_change;
-use crate::findings::KnownBasis;
 use crate::gathered_lots::{Gathered, add_lot};
+use crate::known_rows::KnownBasis;
 use crate::new_rows::day_string;
 use crate::standing::{DeclarationBasis, find_standing};
 use goo_core_shelf::device::Device;
 use goo_store_changes::change::TableChange;
-use goo_store_values::trouble::Trouble;
+use goo_store_values::statement_fault::StatementFault;
 use goo_store_values::{numbers, texts};
-use goo_tables_holdings::counters::CountersRow;
+use goo_tables_accounts::counters::CountersRow;
 use goo_tables_rows::declaration::DeclarationRow;
 use goo_tables_rows::meta::MetaRow;
 use goo_types::command::{Command, Declare};
@@ -46,7 +46,7 @@ fn declaration_row(
     alloc: Global,
     declared: &Declare,
     number: u64,
-) -> Result<DeclarationRow, Trouble>
+) -> Result<DeclarationRow, StatementFault>
     ensures id { IfOk result (λ row. row.id ≡ number) }
     ensures states { IfOk result (λ row. declaration_of (declaration_in row) ≡ declared.now) }
     ensures reads { IfOk result (λ row. is_declaration (declaration_in row) ≡ true) }
@@ -54,7 +54,7 @@ fn declaration_row(
     ensures memory { number < 2 ^ 63 → IsOkUnless result Memory }
 {
     if number >= 1 << 63 {
-        return Err(Trouble::Refused);
+        return Err(StatementFault::Refused);
     }
     Ok(DeclarationRow {
         id: number,
@@ -67,7 +67,7 @@ fn declaration_row(
 }
 
 /// What the certificates that are issued for a declaration have in common.
-fn issued_lot(meta: &MetaRow, declared: &Declare, device: &Device) -> Result<Lot, Trouble>
+fn issued_lot(meta: &MetaRow, declared: &Declare, device: &Device) -> Result<Lot, StatementFault>
     ensures value { IfOk result
         (λ lot. (s : State) → s.own ≡ meta.now.code → s.today ≡ day_of (string_bytes meta.now.today)
         → lot ≡ lot_for s declared.now device.now) }
@@ -77,7 +77,7 @@ fn issued_lot(meta: &MetaRow, declared: &Declare, device: &Device) -> Result<Lot
     let own = numbers::registry_code(meta.code)?;
     let today = texts::day(&meta.today)?;
     let fields = device.lot_fields(own, declared, today);
-    Lot::new(fields).ok_or(Trouble::Refused)
+    Lot::new(fields).ok_or(StatementFault::Refused)
 }
 
 /// The declaration and the device's progress.
@@ -86,7 +86,7 @@ fn begin(
     declared: &Declare,
     carry: u64,
     standing: &DeclarationBasis,
-) -> Result<Gathered, Trouble>
+) -> Result<Gathered, StatementFault>
     ensures begins { IfOk result (Begins declared.now carry standing.now) }
     ensures fits { IfOk result (λ gathered. All ChangeFits gathered.changes.items) }
     ensures memory { standing.now.number < 2 ^ 63 → carry < 2 ^ 63 → IsOkUnless result Memory }
@@ -112,7 +112,7 @@ fn issue(
     issued: Option<Range>,
     standing: &DeclarationBasis,
     gathered: &mut Gathered,
-) -> Result<u64, Trouble>
+) -> Result<u64, StatementFault>
     ensures issues { IfOk result
         (Issues meta.now declared.now standing.now issued gathered.old gathered.new) }
     ensures fits { All ChangeFits gathered.old.changes.items
@@ -133,7 +133,7 @@ fn issue(
 }
 
 /// The numbers that are given next, after so many serials more.
-fn counters_after(meta: &MetaRow, count: u64) -> Result<CountersRow, Trouble>
+fn counters_after(meta: &MetaRow, count: u64) -> Result<CountersRow, StatementFault>
     ensures value { IfOk result
         (λ c. c ≡ record {
           next_serial = meta.now.next_serial + count;
@@ -148,10 +148,10 @@ fn counters_after(meta: &MetaRow, count: u64) -> Result<CountersRow, Trouble>
     ensures accepts { meta.now.next_serial + count < 2 ^ 63 → IsOk result }
 {
     let Some(next_serial) = meta.next_serial.checked_add(count) else {
-        return Err(Trouble::Refused);
+        return Err(StatementFault::Refused);
     };
     if next_serial >= 1 << 63 {
-        return Err(Trouble::Refused);
+        return Err(StatementFault::Refused);
     }
     Ok(CountersRow {
         next_serial,
@@ -170,7 +170,7 @@ fn declared_changes(
     carry: u64,
     issued: Option<Range>,
     standing: &DeclarationBasis,
-) -> Result<Gathered, Trouble>
+) -> Result<Gathered, StatementFault>
     ensures carries { IfOk result
         (λ gathered. (t : Tables) (q : Request) (reply : Reply)
         → IsDue t q reply meta.now declared.now carry issued standing.now
@@ -201,7 +201,7 @@ pub fn declare_changes<S: Alter>(
     declared: &Declare,
     carry: u64,
     issued: Option<Range>,
-) -> Result<Gathered, Trouble>
+) -> Result<Gathered, StatementFault>
     ensures looks { LooksUp (state S.Store conn.old) (state S.Store conn.new) result
         (λ t gathered. (q : Request) (reply : Reply) → q.command ≡ Command.Declare declared.now
         → reply ≡ Declared carry issued → t.meta ≡ meta_in meta.now → IsBasisOf known t

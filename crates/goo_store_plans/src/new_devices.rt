@@ -3,7 +3,7 @@
 ghost use Rattle.std.specs.Prelude.{◌≡◌, true, pos, Some, None, IfOk};
 ghost use Rattle.goo_spec.specs.RegisterDevice.{device_of};
 ghost use Rattle.goo_tables_rows.specs.Rows.{device_in, plant_in};
-ghost use Rattle.goo_tables_holdings.specs.Changes.{DeviceFits};
+ghost use Rattle.goo_tables_accounts.specs.Changes.{DeviceFits};
 ghost use Rattle.goo_spec_tables.specs.Devices.{progress_in};
 ghost use Rattle.goo_store_plans.specs.Plants.{IsRegistered};
 ghost use Rattle.goo_spec_tables.specs.Readable.{is_device, is_plant};

@@ -8,12 +8,12 @@ ghost use Rattle.goo_spec_tables.specs.Kept.{IsKeptLot};
 ghost use Rattle.goo_spec_tables.specs.Places.{lot_of};
 ghost use Rattle.goo_spec_tables.specs.Readable.{is_lot, is_plant};
 ghost use Rattle.goo_store_plans.specs.LotRows.{IsRowOfPlant};
-ghost use Rattle.goo_store_values.specs.declared.trouble.Trouble.TheVariants.{Memory};
-ghost use Rattle.goo_tables_holdings.specs.Changes.{LotFits};
+ghost use Rattle.goo_store_values.specs.declared.statement_fault.StatementFault.TheVariants.{Memory};
+ghost use Rattle.goo_tables_accounts.specs.Changes.{LotFits};
 
 use crate::new_rows::{carrier_string, day_string};
 use goo_store_values::plants::Plant;
-use goo_store_values::trouble::Trouble;
+use goo_store_values::statement_fault::StatementFault;
 use goo_tables_rows::lot::LotRow;
 use goo_tables_rows::plant::PlantRow;
 use goo_types::day::Day;
@@ -68,7 +68,7 @@ fn plant_row(alloc: Global, plant: &Plant) -> Result<PlantRow, AllocError>
 }
 
 /// The row of a lot under a number, with the day after which its held certificates expire.
-pub fn lot_row(alloc: Global, lot: &Lot, number: u64) -> Result<LotRow, Trouble>
+pub fn lot_row(alloc: Global, lot: &Lot, number: u64) -> Result<LotRow, StatementFault>
     ensures id { IfOk result (λ row. row.id ≡ number) }
     ensures states { IfOk result (λ row. lot_of (lot_in row) ≡ lot.now) }
     ensures reads { IfOk result (λ row. is_lot (lot_in row) ≡ true) }
@@ -77,7 +77,7 @@ pub fn lot_row(alloc: Global, lot: &Lot, number: u64) -> Result<LotRow, Trouble>
     ensures memory { number < 2 ^ 63 → IsOkUnless result Memory }
 {
     if number >= 1 << 63 {
-        return Err(Trouble::Refused);
+        return Err(StatementFault::Refused);
     }
     let _by_the_rules = lot.fields();
     Ok(LotRow {

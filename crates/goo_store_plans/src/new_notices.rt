@@ -4,10 +4,10 @@ ghost use Rattle.std.specs.Prelude.{◌≡◌, true, IfOk, IsOkUnless};
 ghost use Rattle.goo_tables_rows.specs.Rows.{notice_out_in};
 ghost use Rattle.goo_spec_tables.specs.Readable.{is_notice_out};
 ghost use Rattle.goo_spec_tables.specs.States.{known_sent};
-ghost use Rattle.goo_store_values.specs.declared.trouble.Trouble.TheVariants.{Memory};
+ghost use Rattle.goo_store_values.specs.declared.statement_fault.StatementFault.TheVariants.{Memory};
 
 use goo_notice::write;
-use goo_store_values::trouble::Trouble;
+use goo_store_values::statement_fault::StatementFault;
 use goo_tables_rows::notice_out::NoticeOutRow;
 use goo_types::account_no::AccountNo;
 use goo_types::act_no::ActNo;
@@ -20,7 +20,7 @@ pub fn notice_out_row(
     number: ActNo,
     giver: AccountNo,
     notice: &Notice,
-) -> Result<NoticeOutRow, Trouble>
+) -> Result<NoticeOutRow, StatementFault>
     ensures states { IfOk result
         (λ row. known_sent (notice_out_in row)
         ≡ (number, record { account = giver; notice = notice.now })) }
@@ -30,7 +30,7 @@ pub fn notice_out_row(
     ensures memory { IsOkUnless result Memory }
 {
     let Ok(body) = write(alloc, notice) else {
-        return Err(Trouble::Memory);
+        return Err(StatementFault::Memory);
     };
     Ok(NoticeOutRow {
         number: number.get(),

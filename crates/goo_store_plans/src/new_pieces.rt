@@ -3,11 +3,11 @@
 ghost use Rattle.std.specs.Prelude.{◌≡◌, ◌<◌, ◌^◌, true, IfOk, IsOk};
 ghost use Rattle.goo_types.specs.Piece.{IsForward};
 ghost use Rattle.goo_tables_rows.specs.Rows.{Lot as LotOf};
-ghost use Rattle.goo_tables_holdings.specs.Changes.{PieceFits};
+ghost use Rattle.goo_tables_accounts.specs.Changes.{PieceFits};
 ghost use Rattle.goo_spec_tables.specs.Places.{lot_of, piece_of, place_of};
 ghost use Rattle.goo_spec_tables.specs.Readable.{is_act, is_piece, names_act};
 
-use goo_store_values::trouble::Trouble;
+use goo_store_values::statement_fault::StatementFault;
 use goo_tables_rows::piece::PieceRow;
 use goo_types::piece::Piece;
 use goo_types::place::Place;
@@ -56,7 +56,7 @@ fn place_columns(place: Place) -> PlaceColumns
 }
 
 /// The row of a piece whose lot has this number; the piece must not run backwards.
-pub fn piece_row(piece: &Piece, lot: u64) -> Result<PieceRow, Trouble>
+pub fn piece_row(piece: &Piece, lot: u64) -> Result<PieceRow, StatementFault>
     requires { lot < 2 ^ 63 }
     ensures lot { IfOk result (λ row. row.lot ≡ lot) }
     ensures states { IfOk result
@@ -66,7 +66,7 @@ pub fn piece_row(piece: &Piece, lot: u64) -> Result<PieceRow, Trouble>
     ensures accepts { IsForward piece.now → IsOk result }
 {
     if !piece.is_forward() {
-        return Err(Trouble::Refused);
+        return Err(StatementFault::Refused);
     }
     let place = place_columns(piece.place);
     Ok(PieceRow {

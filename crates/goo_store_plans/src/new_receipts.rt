@@ -4,15 +4,15 @@ ghost use Rattle.std.specs.Prelude.{◌≡◌, ◌<◌, ◌≤◌, ◌^◌, true
 ghost use Rattle.std.specs.Prelude.{IfOk, IsOk, IsOkUnless};
 ghost use Rattle.goo_types.specs.declared.reply.Reply.TheVariants.{Corrected};
 ghost use Rattle.goo_tables_rows.specs.Rows.{receipt_in};
-ghost use Rattle.goo_tables_holdings.specs.Changes.{ReceiptFits};
+ghost use Rattle.goo_tables_accounts.specs.Changes.{ReceiptFits};
 ghost use Rattle.goo_store_plans.specs.Acted.{HasKeptNumbers, IsReceiptOf};
-ghost use Rattle.goo_store_values.specs.declared.trouble.Trouble.TheVariants.{Memory};
+ghost use Rattle.goo_store_values.specs.declared.statement_fault.StatementFault.TheVariants.{Memory};
 ghost use Rattle.goo_spec_tables.specs.Readable.{is_reply};
 ghost use Rattle.goo_spec_tables.specs.Replies.{reply_of};
 
 use crate::new_rows::act_or_zero;
 use goo_notice::command_text;
-use goo_store_values::trouble::Trouble;
+use goo_store_values::statement_fault::StatementFault;
 use goo_tables_rows::receipt::ReceiptRow;
 use goo_types::act_no::ActNo;
 use goo_types::reply::Reply;
@@ -29,7 +29,7 @@ struct ReplyColumns {
 }
 
 /// A number that a column keeps.
-fn kept(number: u64) -> Result<u64, Trouble>
+fn kept(number: u64) -> Result<u64, StatementFault>
     ensures value { IfOk result (λ n. n ≡ number) }
     ensures fits { IfOk result (λ n. n < 2 ^ 63) }
     ensures accepts { is_ok result ≡ nat_lt number (2 ^ 63) }
@@ -37,18 +37,18 @@ fn kept(number: u64) -> Result<u64, Trouble>
     if number < 1 << 63 {
         Ok(number)
     } else {
-        Err(Trouble::Refused)
+        Err(StatementFault::Refused)
     }
 }
 
 /// What a device carries, which is less than a certificate.
-fn kept_carry(carry: u64) -> Result<u64, Trouble>
+fn kept_carry(carry: u64) -> Result<u64, StatementFault>
     ensures value { IfOk result (λ n. n ≡ carry) }
     ensures fits { IfOk result (λ n. n ≤ 999_999) }
     ensures accepts { is_ok result ≡ nat_le carry 999_999 }
 {
     if carry > 999_999 {
-        return Err(Trouble::Refused);
+        return Err(StatementFault::Refused);
     }
     Ok(carry)
 }
@@ -70,7 +70,7 @@ fn corrected_columns(
     carry: u64,
     count: u64,
     withdrawal: Option<ActNo>,
-) -> Result<ReplyColumns, Trouble>
+) -> Result<ReplyColumns, StatementFault>
     ensures states { IfOk result
         (λ c. reply_of c.kind c.n1 c.n2 c.n3 ≡ Corrected carry count withdrawal) }
     ensures reads { IfOk result (λ c. is_reply c.kind c.n1 c.n2 c.n3 ≡ true) }
@@ -86,7 +86,7 @@ fn corrected_columns(
 }
 
 /// The kind of a reply, and its numbers.
-fn reply_columns(reply: Reply) -> Result<ReplyColumns, Trouble>
+fn reply_columns(reply: Reply) -> Result<ReplyColumns, StatementFault>
     ensures states { IfOk result (λ c. reply_of c.kind c.n1 c.n2 c.n3 ≡ reply) }
     ensures reads { IfOk result (λ c. is_reply c.kind c.n1 c.n2 c.n3 ≡ true) }
     ensures fits { IfOk result (λ c. (c.n1 < 2 ^ 63) × (c.n2 < 2 ^ 63) × (c.n3 < 2 ^ 63)) }
@@ -127,14 +127,18 @@ fn reply_columns(reply: Reply) -> Result<ReplyColumns, Trouble>
 }
 
 /// The receipt of a request that is accepted with this reply.
-pub fn receipt_row(alloc: Global, request: &Request, reply: Reply) -> Result<ReceiptRow, Trouble>
+pub fn receipt_row(
+    alloc: Global,
+    request: &Request,
+    reply: Reply,
+) -> Result<ReceiptRow, StatementFault>
     ensures receipt { IfOk result (λ row. IsReceiptOf request.now reply (receipt_in row)) }
     ensures fits { IfOk result ReceiptFits }
     ensures memory { HasKeptNumbers reply → IsOkUnless result Memory }
 {
     let columns = reply_columns(reply)?;
     let Ok(command) = command_text(alloc, &request.command) else {
-        return Err(Trouble::Memory);
+        return Err(StatementFault::Memory);
     };
     Ok(ReceiptRow {
         caller: String::from_str(alloc, request.caller.text())?,

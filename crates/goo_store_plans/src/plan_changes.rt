@@ -20,19 +20,19 @@ ghost use Rattle.goo_store_plans.specs.Correcting.{CanAnswerCorrection};
 ghost use Rattle.goo_store_plans.specs.Declaring.{CanBeAnswered};
 ghost use Rattle.goo_store_plans.specs.EditChanges.{AreForEdits};
 ghost use Rattle.goo_store_plans.specs.LookingUp.{LooksUp};
-ghost use Rattle.goo_store_plans.specs.Found.{AreFindingsOf, AreStated, IsBasisOf, IsRowOf};
+ghost use Rattle.goo_store_plans.specs.Found.{AreInTables, AreStated, IsBasisOf, IsRowOf};
 ghost use Rattle.goo_store_plans.specs.Needing.{CanGoByRow};
 ghost use Rattle.goo_store_plans.specs.PlanNeeds.{CanBePlanned, CanGo};
 ghost use Rattle.goo_store_plans.specs.Planned.{IsPlanned};
 ghost use Rattle.goo_store_plans.specs.StoreFaults.{BlamesDisk};
-ghost use Rattle.goo_store_values.specs.declared.trouble.Trouble.TheVariants.{Memory};
+ghost use Rattle.goo_store_values.specs.declared.statement_fault.StatementFault.TheVariants.{Memory};
 
 use crate::command_changes::{numbered_changes, plain_changes};
 use crate::edit_changes::changes_of_edits;
-use crate::findings::{Findings, KnownBasis};
 use crate::gathered_lots::Gathered;
 use crate::importing::import_changes;
 use crate::known_basis::{after_changes, with_numbers};
+use crate::known_rows::{KnownBasis, KnownRows};
 use crate::lot_numbers::NumberedLot;
 use crate::new_corrections::correct_changes;
 use crate::new_declarations::declare_changes;
@@ -40,7 +40,7 @@ use crate::new_receipts::receipt_row;
 use crate::registry_row::known_row;
 use goo_core_shelf::plan::Plan;
 use goo_store_changes::change::TableChange;
-use goo_store_values::trouble::Trouble;
+use goo_store_values::statement_fault::StatementFault;
 use goo_tables_rows::meta::MetaRow;
 use goo_types::command::{Command, Correct, Declare};
 use goo_types::reply::Reply;
@@ -70,7 +70,7 @@ fn without_lots(alloc: Global, changes: Vec<TableChange>) -> Gathered
 }
 
 /// The changes of an accepted command that needs nothing of the registry's row.
-fn plain(alloc: Global, plan: &Plan) -> Result<Gathered, Trouble>
+fn plain(alloc: Global, plan: &Plan) -> Result<Gathered, StatementFault>
     ensures does { IfOk result
         (λ gathered. (t : Tables) → AreKept t → AreInOrder t
         → Fits (state_of t) (rows_of t) plan.now → CarriesOut t plan.now.request.command gathered) }
@@ -82,7 +82,7 @@ fn plain(alloc: Global, plan: &Plan) -> Result<Gathered, Trouble>
 }
 
 /// The changes of an accepted command that takes the next number of a kind and puts no lot in.
-fn numbered(alloc: Global, meta: &MetaRow, plan: &Plan) -> Result<Gathered, Trouble>
+fn numbered(alloc: Global, meta: &MetaRow, plan: &Plan) -> Result<Gathered, StatementFault>
     ensures does { IfOk result
         (λ gathered. (t : Tables) → t.meta ≡ meta_in meta.now → AreKept t → AreInOrder t
         → Fits (state_of t) (rows_of t) plan.now → CarriesOut t plan.now.request.command gathered) }
@@ -103,7 +103,7 @@ fn declaration<S: Alter>(
     basis: KnownBasis,
     declared: &Declare,
     reply: Reply,
-) -> Result<Gathered, Trouble>
+) -> Result<Gathered, StatementFault>
     ensures looks { LooksUp (state S.Store conn.old) (state S.Store conn.new) result
         (λ t gathered. (q : Request) → q.command ≡ Command.Declare declared.now
         → t.meta ≡ meta_in meta.now → IsBasisOf basis t → IsAccepted t q reply
@@ -117,7 +117,7 @@ fn declaration<S: Alter>(
         Reply::Declared { carry, issued } => {
             declare_changes(alloc, conn, meta, basis, declared, carry, issued)
         }
-        _ => Err(Trouble::Refused),
+        _ => Err(StatementFault::Refused),
     }
 }
 
@@ -128,7 +128,7 @@ fn correction<S: Alter>(
     meta: &MetaRow,
     accepted: &Correct,
     reply: Reply,
-) -> Result<Gathered, Trouble>
+) -> Result<Gathered, StatementFault>
     ensures looks { LooksUp (state S.Store conn.old) (state S.Store conn.new) result
         (λ t gathered. (q : Request) → q.command ≡ Command.Correct accepted.now
         → t.meta ≡ meta_in meta.now → AreInOrder t → IsAccepted t q reply
@@ -147,7 +147,7 @@ fn correction<S: Alter>(
             let changes = correct_changes(alloc, conn, meta, accepted, carry, withdrawal)?;
             Ok(without_lots(alloc, changes))
         }
-        _ => Err(Trouble::Refused),
+        _ => Err(StatementFault::Refused),
     }
 }
 
@@ -158,7 +158,7 @@ fn by_own_row<S: Alter>(
     own: Option<MetaRow>,
     basis: KnownBasis,
     plan: &Plan,
-) -> Result<Gathered, Trouble>
+) -> Result<Gathered, StatementFault>
     ensures gathers { LooksUp (state S.Store conn.old) (state S.Store conn.new) result
         (λ t gathered. IsRowOf own t → IsBasisOf basis t → AreKept t → AreInOrder t
         → Fits (state_of t) (rows_of t) plan.now → CarriesOut t plan.now.request.command gathered) }
@@ -185,7 +185,7 @@ fn command_changes<S: Alter>(
     basis: KnownBasis,
     lots: &[NumberedLot],
     plan: &Plan,
-) -> Result<Gathered, Trouble>
+) -> Result<Gathered, StatementFault>
     ensures gathers { LooksUp (state S.Store conn.old) (state S.Store conn.new) result
         (λ t gathered. IsRowOf own t → IsBasisOf basis t → AreStated t.lots lots.now → AreKept t
         → AreInOrder t → Fits (state_of t) (rows_of t) plan.now
@@ -213,7 +213,7 @@ fn joined(
     act: Vec<TableChange>,
     edits: Vec<TableChange>,
     plan: &Plan,
-) -> Result<Vec<TableChange>, Trouble>
+) -> Result<Vec<TableChange>, StatementFault>
     requires act { All ChangeFits act.items }
     requires edits { All ChangeFits edits.items }
     ensures planned { IfOk result
@@ -240,23 +240,23 @@ fn joined(
 fn changes_by<S: Alter>(
     alloc: Global,
     conn: &mut Connection<S>,
-    findings: Findings,
+    known_rows: KnownRows,
     plan: &Plan,
-) -> Result<Vec<TableChange>, Trouble>
+) -> Result<Vec<TableChange>, StatementFault>
     ensures gathers { LooksUp (state S.Store conn.old) (state S.Store conn.new) result
-        (λ t changes. AreFindingsOf findings t → AreKept t → AreInOrder t
+        (λ t changes. AreInTables known_rows t → AreKept t → AreInOrder t
         → Fits (state_of t) (rows_of t) plan.now → IsPlanned t changes.items plan.now) }
     ensures blames { BlamesDisk (state S.Store conn.old) (state S.Store conn.new) result
-        (λ t. CanBePlanned t findings plan.now) }
+        (λ t. CanBePlanned t known_rows plan.now) }
     ensures outside { conn.old.in_transaction ≡ false → conn.new.in_transaction ≡ false }
     ensures fits { IfOk result (λ changes. All ChangeFits changes.items) }
 {
-    let Findings {
+    let KnownRows {
         own,
         basis,
         lots,
         edges: _,
-    } = findings;
+    } = known_rows;
     let act = command_changes(alloc, conn, own, basis, &lots, plan)?;
     let mut added = act.added;
     added.extend_from_slice(&lots)?;
@@ -274,26 +274,26 @@ fn changes_by<S: Alter>(
 pub fn plan_changes<S: Alter>(
     alloc: Global,
     conn: &mut Connection<S>,
-    findings: Findings,
+    known_rows: KnownRows,
     plan: &Plan,
-) -> Result<Planned, Trouble>
+) -> Result<Planned, StatementFault>
     ensures gathers { LooksUp (state S.Store conn.old) (state S.Store conn.new) result
-        (λ t planned. AreFindingsOf findings t → AreKept t → AreInOrder t
+        (λ t planned. AreInTables known_rows t → AreKept t → AreInOrder t
         → Fits (state_of t) (rows_of t) plan.now → IsPlanned t planned.changes.items plan.now
         × IsBasisOf planned.after (made_all t planned.changes.items)) }
     ensures blames { BlamesDisk (state S.Store conn.old) (state S.Store conn.new) result
-        (λ t. CanBePlanned t findings plan.now) }
+        (λ t. CanBePlanned t known_rows plan.now) }
     ensures outside { conn.old.in_transaction ≡ false → conn.new.in_transaction ≡ false }
     ensures fits { IfOk result (λ planned. All ChangeFits planned.changes.items) }
 {
-    let Findings {
+    let KnownRows {
         own,
         basis,
         lots,
         edges,
-    } = findings;
+    } = known_rows;
     let basis = with_numbers(alloc, conn, basis, &plan.request.command)?;
-    let completed = Findings {
+    let completed = KnownRows {
         own,
         basis,
         lots,

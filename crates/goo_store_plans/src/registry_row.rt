@@ -9,14 +9,14 @@ ghost use Rattle.goo_store_plans.specs.Found.{IsRowOf};
 ghost use Rattle.goo_store_plans.specs.StoreFaults.{BlamesDisk};
 
 use goo_store_values::registry_row::row;
-use goo_store_values::trouble::Trouble;
+use goo_store_values::statement_fault::StatementFault;
 use goo_tables::meta::find_meta;
 use goo_tables_rows::meta::MetaRow;
 use sqlite::{Alter, Connection};
 use std::alloc::Global;
 
 /// The registry's own row.
-fn own_row<S: Alter>(alloc: Global, conn: &mut Connection<S>) -> Result<MetaRow, Trouble>
+fn own_row<S: Alter>(alloc: Global, conn: &mut Connection<S>) -> Result<MetaRow, StatementFault>
     ensures gathers { LooksUp (view S.Store conn.old) (view S.Store conn.new) result
         (λ t row. t.meta ≡ meta_in row) }
     ensures works { OnOk result
@@ -32,7 +32,7 @@ pub(crate) fn known_row<S: Alter>(
     alloc: Global,
     conn: &mut Connection<S>,
     own: Option<MetaRow>,
-) -> Result<MetaRow, Trouble>
+) -> Result<MetaRow, StatementFault>
     ensures gathers { LooksUp (view S.Store conn.old) (view S.Store conn.new) result
         (λ t row. IsRowOf own t → t.meta ≡ meta_in row) }
     ensures blames { BlamesDisk (view S.Store conn.old) (view S.Store conn.new) result (λ _. ⊤) }

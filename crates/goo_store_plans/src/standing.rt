@@ -16,13 +16,13 @@ ghost use Rattle.goo_store_plans.specs.LotRows.{next_declaration};
 ghost use Rattle.goo_store_plans.specs.Standing.{IsStanding};
 ghost use Rattle.goo_store_plans.specs.StoreFaults.{BlamesDisk};
 ghost use Rattle.goo_store_values.specs.Passing.{Accepts, Passes};
-ghost use Rattle.goo_store_values.specs.declared.trouble.Trouble.TheVariants.{Refused};
+ghost use Rattle.goo_store_values.specs.declared.statement_fault.StatementFault.TheVariants.{Refused};
 
-use crate::findings::{KnownBasis, KnownDevice};
 use crate::gathered_lots::next_lot_number;
+use crate::known_rows::{KnownBasis, KnownDevice};
 use goo_core_shelf::device::Device;
 use goo_store_values::devices::device_in_row;
-use goo_store_values::trouble::Trouble;
+use goo_store_values::statement_fault::StatementFault;
 use goo_tables::declaration::last_declaration;
 use goo_tables::device::find_device;
 use goo_tables_rows::declaration::DeclarationRow;
@@ -43,15 +43,15 @@ pub struct DeclarationBasis {
 }
 
 /// The device in the row that was found.
-fn device_found(found: Result<Option<DeviceRow>, Error>) -> Result<Device, Trouble>
+fn device_found(found: Result<Option<DeviceRow>, Error>) -> Result<Device, StatementFault>
     ensures value { Passes found result
         (λ row device. option_map device_of (option_map device_in row) ≡ Some device) }
     ensures accepts { Accepts found result
         (λ row. IsSomeAnd row (λ r. IsTrue (is_device (pos 0, device_in r)))) }
-    ensures missing { IfOk found (λ row. row ≡ None → IfErr result (λ trouble. trouble ≡ Refused)) }
+    ensures missing { IfOk found (λ row. row ≡ None → IfErr result (λ cause. cause ≡ Refused)) }
 {
     let Some(row) = found? else {
-        return Err(Trouble::Refused);
+        return Err(StatementFault::Refused);
     };
     device_in_row(&row)
 }
@@ -61,7 +61,7 @@ fn find_registered<S: Alter>(
     alloc: Global,
     conn: &mut Connection<S>,
     gsrn: &Gsrn,
-) -> Result<Device, Trouble>
+) -> Result<Device, StatementFault>
     ensures looks { LooksUp (state S.Store conn.old) (state S.Store conn.new) result
         (λ t device. get (state_of t).devices gsrn.now ≡ Some device) }
     ensures blames { BlamesDisk (state S.Store conn.old) (state S.Store conn.new) result
@@ -78,7 +78,7 @@ fn known_registered<S: Alter>(
     conn: &mut Connection<S>,
     kept: Option<KnownDevice>,
     gsrn: &Gsrn,
-) -> Result<Device, Trouble>
+) -> Result<Device, StatementFault>
     ensures looks { LooksUp (state S.Store conn.old) (state S.Store conn.new) result
         (λ t device. IsDeviceOf kept t → get (state_of t).devices gsrn.now ≡ Some device) }
     ensures blames { BlamesDisk (state S.Store conn.old) (state S.Store conn.new) result
@@ -92,7 +92,7 @@ fn known_registered<S: Alter>(
 }
 
 /// The number after that of the last row.
-fn number_after(found: Result<Option<DeclarationRow>, Error>) -> Result<u64, Trouble>
+fn number_after(found: Result<Option<DeclarationRow>, Error>) -> Result<u64, StatementFault>
     ensures value { Passes found result
         (λ row n. n ≡ next_declaration (option_map declaration_in row)) }
     ensures accepts { Accepts found result (λ row. IfSome row (λ r. r.id < 2 ^ 63)) }
@@ -102,7 +102,7 @@ fn number_after(found: Result<Option<DeclarationRow>, Error>) -> Result<u64, Tro
     };
     match row.id.checked_add(1) {
         Some(number) => Ok(number),
-        None => Err(Trouble::Refused),
+        None => Err(StatementFault::Refused),
     }
 }
 
@@ -110,7 +110,7 @@ fn number_after(found: Result<Option<DeclarationRow>, Error>) -> Result<u64, Tro
 fn find_declaration_number<S: Alter>(
     alloc: Global,
     conn: &mut Connection<S>,
-) -> Result<u64, Trouble>
+) -> Result<u64, StatementFault>
     ensures looks { LooksUp (state S.Store conn.old) (state S.Store conn.new) result
         (λ t n. pos n ≡ next_key declaration_key t.declarations) }
     ensures blames { BlamesDisk (state S.Store conn.old) (state S.Store conn.new) result
@@ -126,7 +126,7 @@ pub(crate) fn next_declaration_number<S: Alter>(
     alloc: Global,
     conn: &mut Connection<S>,
     known: Option<u64>,
-) -> Result<u64, Trouble>
+) -> Result<u64, StatementFault>
     ensures looks { LooksUp (state S.Store conn.old) (state S.Store conn.new) result
         (λ t n. IsNext known declaration_key t.declarations
         → pos n ≡ next_key declaration_key t.declarations) }
@@ -150,7 +150,7 @@ pub fn find_standing<S: Alter>(
     conn: &mut Connection<S>,
     known: KnownBasis,
     gsrn: &Gsrn,
-) -> Result<DeclarationBasis, Trouble>
+) -> Result<DeclarationBasis, StatementFault>
     ensures looks { LooksUp (state S.Store conn.old) (state S.Store conn.new) result
         (λ t standing. IsBasisOf known t → IsStanding t gsrn.now standing) }
     ensures blames { BlamesDisk (state S.Store conn.old) (state S.Store conn.new) result

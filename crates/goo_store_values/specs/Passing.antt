@@ -5,25 +5,25 @@ use Rattle.sqlite.specs.declared.error.Error.TheVariants.{SqliteFailure}
 use Rattle.sqlite.specs.declared.error.ErrorCode.TheVariants.{OutOfMemory}
 use Rattle.goo_store_open.specs.declared.fault.OpenFault.{OpenFault}
 use Rattle.goo_store_open.specs.declared.fault.OpenFault.TheVariants as opening
-use Rattle.goo_store_values.specs.declared.trouble.Trouble.{Trouble}
-use Rattle.goo_store_values.specs.declared.trouble.Trouble.TheVariants.{Memory, Refused}
+use Rattle.goo_store_values.specs.declared.statement_fault.StatementFault.{StatementFault}
+use Rattle.goo_store_values.specs.declared.statement_fault.StatementFault.TheVariants.{Memory, Refused}
 
 -- want of memory, and any other cause
-abbrev pub IsTroubleOf : Error → Trouble → Type 0
-IsTroubleOf error Memory = error ≡ SqliteFailure OutOfMemory
-IsTroubleOf error Refused = error ≢ SqliteFailure OutOfMemory
+abbrev pub IsStatementFaultOf : Error → StatementFault → Type 0
+IsStatementFaultOf error Memory = error ≡ SqliteFailure OutOfMemory
+IsStatementFaultOf error Refused = error ≢ SqliteFailure OutOfMemory
 
 -- what is read of something found stands in this relation to it, and an error is passed on as one
-abbrev pub Passes : {T U : Type 0} → Result T Error → Result U Trouble → (T → U → Type 0) → Type 0
+abbrev pub Passes : {T U : Type 0} → Result T Error → Result U StatementFault → (T → U → Type 0) → Type 0
 Passes (Ok x) read R = IfOk read (R x)
 Passes (Err e) read R = IsErr read
 
 -- what was found is refused for want of memory alone, where it can be read
-abbrev pub Accepts : {T U : Type 0} → Result T Error → Result U Trouble → (T → Type 0) → Type 0
+abbrev pub Accepts : {T U : Type 0} → Result T Error → Result U StatementFault → (T → Type 0) → Type 0
 Accepts (Ok x) read IsReadable = IsReadable x → IsOkUnless read Memory
-Accepts (Err e) read IsReadable = IfErr read (IsTroubleOf e)
+Accepts (Err e) read IsReadable = IfErr read (IsStatementFaultOf e)
 
 -- the word for it where a database was to be opened
-abbrev pub open_fault_of : Trouble → OpenFault
+abbrev pub open_fault_of : StatementFault → OpenFault
 open_fault_of Memory = opening.Memory
 open_fault_of Refused = opening.Store

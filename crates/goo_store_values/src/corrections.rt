@@ -4,9 +4,9 @@ ghost use Rattle.std.specs.Prelude.{◌≡◌, is_ok, IfErr, IfOk};
 ghost use Rattle.goo_tables_rows.specs.Rows.{correction_in};
 ghost use Rattle.goo_spec_tables.specs.Readable.{is_correction};
 ghost use Rattle.goo_spec_tables.specs.Records.{correction_of};
-ghost use Rattle.goo_store_values.specs.declared.trouble.Trouble.TheVariants.{Refused};
+ghost use Rattle.goo_store_values.specs.declared.statement_fault.StatementFault.TheVariants.{Refused};
 
-use crate::trouble::Trouble;
+use crate::statement_fault::StatementFault;
 use crate::{numbers, texts};
 use goo_store_rules::correct_record::CorrectRecord;
 use goo_tables_rows::correction::CorrectionRow;
@@ -16,10 +16,10 @@ use goo_tables_rows::correction::CorrectionRow;
 /// # Errors
 ///
 /// `Refused` where a column holds no such value.
-pub fn read_correction(row: &CorrectionRow) -> Result<CorrectRecord, Trouble>
+pub fn read_correction(row: &CorrectionRow) -> Result<CorrectRecord, StatementFault>
     ensures value { IfOk result (λ correction. correction ≡ correction_of (correction_in row.now)) }
     ensures accepts { is_ok result ≡ is_correction (correction_in row.now) }
-    ensures cause { IfErr result (λ trouble. trouble ≡ Refused) }
+    ensures cause { IfErr result (λ cause. cause ≡ Refused) }
 {
     Ok(CorrectRecord {
         device: texts::gsrn(&row.device)?,

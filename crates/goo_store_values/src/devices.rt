@@ -6,7 +6,7 @@ ghost use Rattle.goo_spec_tables.specs.Devices.{device_of};
 ghost use Rattle.goo_spec_tables.specs.Readable.{is_device};
 
 use crate::plants::read_plant;
-use crate::trouble::Trouble;
+use crate::statement_fault::StatementFault;
 use crate::{numbers, texts};
 use goo_core_shelf::device::Device;
 use goo_tables_rows::device::DeviceRow;
@@ -17,7 +17,7 @@ use goo_types::command::RegisterDevice;
 /// # Errors
 ///
 /// `Refused` where a column holds no such value.
-pub fn device_in_row(row: &DeviceRow) -> Result<Device, Trouble>
+pub fn device_in_row(row: &DeviceRow) -> Result<Device, StatementFault>
     ensures value { IfOk result (λ device. device ≡ device_of (device_in row.now)) }
     ensures accepts { IsTrue (is_device (pos 0, device_in row.now)) → IsOk result }
 {

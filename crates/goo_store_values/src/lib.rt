@@ -5,9 +5,9 @@
 pub mod corrections;
 pub mod devices;
 pub mod lots;
+pub mod noting;
 pub mod numbers;
 pub mod plants;
 pub mod registry_row;
+pub mod statement_fault;
 pub mod texts;
-pub mod told;
-pub mod trouble;

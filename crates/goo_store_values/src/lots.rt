@@ -6,7 +6,7 @@ ghost use Rattle.goo_spec_tables.specs.Places.{lot_of};
 ghost use Rattle.goo_store_values.specs.Reading.{IsReadableLot};
 
 use crate::plants::read_plant;
-use crate::trouble::Trouble;
+use crate::statement_fault::StatementFault;
 use crate::{numbers, texts};
 use goo_tables_rows::lot::LotRow;
 use goo_types::lot::Lot;
@@ -17,7 +17,7 @@ use goo_types::lot_fields::LotFields;
 /// # Errors
 ///
 /// `Refused` where a column holds no such value, or the days make no lot.
-pub fn read_lot(row: &LotRow) -> Result<Lot, Trouble>
+pub fn read_lot(row: &LotRow) -> Result<Lot, StatementFault>
     ensures value { IfOk result (λ lot. lot ≡ lot_of (lot_in row.now)) }
     ensures accepts { IsReadableLot (lot_in row.now) → IsOk result }
 {
@@ -37,5 +37,5 @@ pub fn read_lot(row: &LotRow) -> Result<Lot, Trouble>
         issued_on: texts::day(&row.issued_on)?,
         carrier: texts::carrier(&row.carrier)?,
     };
-    Lot::new(fields).ok_or(Trouble::Refused)
+    Lot::new(fields).ok_or(StatementFault::Refused)
 }

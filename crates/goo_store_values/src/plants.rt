@@ -5,7 +5,7 @@ ghost use Rattle.goo_tables_rows.specs.Rows.{plant_in};
 ghost use Rattle.goo_spec_tables.specs.Readable.{is_plant};
 ghost use Rattle.goo_store_values.specs.Plants.{IsPlantOf};
 
-use crate::trouble::Trouble;
+use crate::statement_fault::StatementFault;
 use crate::{numbers, texts};
 use goo_tables_rows::plant::PlantRow;
 use goo_types::country::Country;
@@ -36,7 +36,7 @@ pub struct Plant {
 }
 
 /// The plant in a row.
-pub fn read_plant(row: &PlantRow) -> Result<Plant, Trouble>
+pub fn read_plant(row: &PlantRow) -> Result<Plant, StatementFault>
     ensures value { IfOk result (IsPlantOf (plant_in row.now)) }
     ensures accepts { is_ok result ≡ is_plant (plant_in row.now) }
 {

@@ -10,8 +10,8 @@ use Rattle.sqlite_keyed.specs.Keyed.{get_by, has_key, insert_by, next_key, IsKey
 use Rattle.sqlite_keyed.proofs.KeyedLemmas.{all-insert_by, next_key_is_free}
 use Rattle.sqlite_keyed.proofs.ListLemmas.{all_both}
 use Rattle.goo_tables_rows.specs.Rows.{Kept, kept_key, Device, DeviceCarrier, Lot, lot_key, LotCarrier, lot_carrier_key, carrier_of_device, carrier_of_lot, AreCarriedDevices, AreCarriedLots}
-use Rattle.goo_tables_holdings.specs.Changes.{added}
-use Rattle.goo_tables_holdings.proofs.Failing.{none_pass}
+use Rattle.goo_tables_accounts.specs.Changes.{added}
+use Rattle.goo_tables_accounts.proofs.Failing.{none_pass}
 
 -- ---- a row more under a key of its own
 

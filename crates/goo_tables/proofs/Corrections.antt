@@ -21,8 +21,8 @@ use Rattle.goo_tables_rows.proofs.Typed.{cast_int, cast_null}
 use Rattle.goo_tables_rows.proofs.Alone.{corrections_stand}
 use Rattle.goo_tables_rows.proofs.Living.{KeepsLive, keeps_live}
 use Rattle.goo_tables_rows.proofs.Same.{correction_same}
-use Rattle.goo_tables_holdings.specs.Changes.{with_correction}
-use Rattle.goo_tables_holdings.proofs.Queries.{in_order, last_of}
+use Rattle.goo_tables_accounts.specs.Changes.{with_correction}
+use Rattle.goo_tables_accounts.proofs.Queries.{in_order, last_of}
 use Rattle.goo_tables_rows.specs.Met.{HasOurTables}
 use Rattle.goo_tables_rows.proofs.Meeting.{type_rules, shape_rules, no_number, int_same}
 use Rattle.std.specs.Prelude.{⊤}
@@ -32,11 +32,11 @@ use Rattle.sqlite_keyed.specs.Keyed.{get_by}
 use Rattle.sqlite_keyed.proofs.ListLemmas.{all_of}
 use Rattle.goo_tables_rows.proofs.Stored.{correction_stored}
 use Rattle.goo_tables_rows.specs.Refused.{IsTooBig, IsSmall}
-use Rattle.goo_tables_holdings.proofs.Adding.{Adds, adds_row}
-use Rattle.goo_tables_holdings.proofs.Failing.{FailsOnly, not_there, adding_fails}
-use Rattle.goo_tables_holdings.proofs.AnyTable.{TableOf, shown, shows_each, IsListed, meets_listed, shows_top}
-use Rattle.goo_tables_holdings.proofs.Asking.{Asks, Tells, Says}
-use Rattle.goo_tables_holdings.proofs.Values.{whole_is, null_at_key}
+use Rattle.goo_tables_accounts.proofs.Adding.{Adds, adds_row}
+use Rattle.goo_tables_accounts.proofs.Failing.{FailsOnly, not_there, adding_fails}
+use Rattle.goo_tables_accounts.proofs.AnyTable.{TableOf, shown, shows_each, IsListed, meets_listed, shows_top}
+use Rattle.goo_tables_accounts.proofs.Asking.{Asks, Tells, Says}
+use Rattle.goo_tables_accounts.proofs.Values.{whole_is, null_at_key}
 
 -- ---- correction: the table
 

@@ -26,19 +26,19 @@ use Rattle.goo_tables_rows.specs.Refused.{IsTooBigOrFull, HasRoomFor}
 use Rattle.sqlite_typed.specs.Tests.{bytes_eq}
 use Rattle.sqlite_keyed.specs.Keyed.{next_key}
 use Rattle.sqlite_keyed.proofs.KeyedLemmas.{next_key_is_free}
-use Rattle.goo_tables_holdings.specs.Changes.{IsNewDevice}
-use Rattle.goo_tables_holdings.proofs.Adding.{Adds, adds_kept}
-use Rattle.goo_tables_holdings.proofs.Failing.{FailsOnly, distinct_kept_fails, next_row}
+use Rattle.goo_tables_accounts.specs.Changes.{IsNewDevice}
+use Rattle.goo_tables_accounts.proofs.Adding.{Adds, adds_kept}
+use Rattle.goo_tables_accounts.proofs.Failing.{FailsOnly, distinct_kept_fails, next_row}
 use Rattle.goo_tables.specs.Carriers.{with_device_carrier}
 use Rattle.goo_tables.proofs.Carried.{devices_keep}
 use Rattle.goo_tables.proofs.Twice.{stays_ours}
-use Rattle.goo_tables_holdings.proofs.Queries.{in_order}
+use Rattle.goo_tables_accounts.proofs.Queries.{in_order}
 use Rattle.goo_tables_rows.specs.Met.{HasOurTables, KeepsSome}
 use Rattle.goo_tables_rows.proofs.Meeting.{type_rules, shape_rules, no_text}
 use Rattle.std.specs.Prelude.{⊤}
-use Rattle.goo_tables_holdings.proofs.AnyTable.{TableOf, shown, shows_each, IsKept, meets_kept}
-use Rattle.goo_tables_holdings.proofs.Asking.{Asks, Tells, Says}
-use Rattle.goo_tables_holdings.proofs.Values.{whole_is}
+use Rattle.goo_tables_accounts.proofs.AnyTable.{TableOf, shown, shows_each, IsKept, meets_kept}
+use Rattle.goo_tables_accounts.proofs.Asking.{Asks, Tells, Says}
+use Rattle.goo_tables_accounts.proofs.Values.{whole_is}
 
 -- ---- device_carrier: the table
 

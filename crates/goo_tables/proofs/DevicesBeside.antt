@@ -30,9 +30,9 @@ use Rattle.goo_tables_rows.specs.declared.device.DeviceRow.{DeviceRow}
 use Rattle.goo_tables_rows.proofs.Joining.{first_left}
 use Rattle.goo_tables_rows.proofs.Read.{first_read}
 use Rattle.goo_tables_rows.proofs.Same.{device_same}
-use Rattle.goo_tables_holdings.proofs.AnyTable.{readable_left}
-use Rattle.goo_tables_holdings.proofs.Covering.{Covers, or_empty, or_none, covers_table, covers_left, answer_covered}
-use Rattle.goo_tables_holdings.proofs.Queries.{rising}
+use Rattle.goo_tables_accounts.proofs.AnyTable.{readable_left}
+use Rattle.goo_tables_accounts.proofs.Covering.{Covers, or_empty, or_none, covers_table, covers_left, answer_covered}
+use Rattle.goo_tables_accounts.proofs.Queries.{rising}
 
 -- ---- each row beside those of another table that belong to it, or beside none
 

@@ -25,19 +25,19 @@ use Rattle.goo_tables_rows.proofs.Stored.{lot_carrier_stored}
 use Rattle.goo_tables_rows.specs.Refused.{IsTooBig, IsSmall}
 use Rattle.sqlite_keyed.specs.Keyed.{get_by}
 use Rattle.sqlite_keyed.proofs.ListLemmas.{all_of}
-use Rattle.goo_tables_holdings.specs.Changes.{IsNewLot}
-use Rattle.goo_tables_holdings.proofs.Adding.{Adds, adds_row}
-use Rattle.goo_tables_holdings.proofs.Failing.{FailsOnly, adding_fails, not_there}
+use Rattle.goo_tables_accounts.specs.Changes.{IsNewLot}
+use Rattle.goo_tables_accounts.proofs.Adding.{Adds, adds_row}
+use Rattle.goo_tables_accounts.proofs.Failing.{FailsOnly, adding_fails, not_there}
 use Rattle.goo_tables.specs.Carriers.{with_lot_carrier}
 use Rattle.goo_tables.proofs.Carried.{lots_keep}
 use Rattle.goo_tables.proofs.Twice.{stays_ours}
-use Rattle.goo_tables_holdings.proofs.Queries.{in_order}
+use Rattle.goo_tables_accounts.proofs.Queries.{in_order}
 use Rattle.goo_tables_rows.specs.Met.{HasOurTables}
 use Rattle.goo_tables_rows.proofs.Meeting.{type_rules, shape_rules, no_text, int_same}
 use Rattle.std.specs.Prelude.{⊤}
-use Rattle.goo_tables_holdings.proofs.AnyTable.{TableOf, shown, shows_each, IsListed, meets_listed}
-use Rattle.goo_tables_holdings.proofs.Asking.{Asks, Tells, Says}
-use Rattle.goo_tables_holdings.proofs.Values.{whole_is, null_at_key}
+use Rattle.goo_tables_accounts.proofs.AnyTable.{TableOf, shown, shows_each, IsListed, meets_listed}
+use Rattle.goo_tables_accounts.proofs.Asking.{Asks, Tells, Says}
+use Rattle.goo_tables_accounts.proofs.Values.{whole_is, null_at_key}
 
 -- ---- lot_carrier: the table
 

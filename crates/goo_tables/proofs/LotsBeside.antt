@@ -26,9 +26,9 @@ use Rattle.goo_tables_rows.specs.Stands.{Stands}
 use Rattle.goo_tables_rows.specs.declared.lot.LotRow.{LotRow}
 use Rattle.goo_tables_rows.proofs.Read.{first_listed}
 use Rattle.goo_tables_rows.proofs.Same.{lot_same}
-use Rattle.goo_tables_holdings.proofs.AnyTable.{readable_left}
-use Rattle.goo_tables_holdings.proofs.Covering.{Covers, or_empty, covers_table, covers_keyed, each_once, answer_covered}
-use Rattle.goo_tables_holdings.proofs.Queries.{rising}
+use Rattle.goo_tables_accounts.proofs.AnyTable.{readable_left}
+use Rattle.goo_tables_accounts.proofs.Covering.{Covers, or_empty, covers_table, covers_keyed, each_once, answer_covered}
+use Rattle.goo_tables_accounts.proofs.Queries.{rising}
 
 abbrev terms : List Term
 terms =

@@ -11,7 +11,7 @@ use Rattle.sqlite_value.specs.declared.keys.Order.{Order}
 use Rattle.goo_tables_rows.specs.Columns.{registry_schema, strict_table}
 use Rattle.goo_tables_rows.specs.Refused.{IsFault}
 use Rattle.goo_tables_rows.proofs.Writing.{inserts}
-use Rattle.goo_tables_holdings.proofs.Adding.{Adds}
+use Rattle.goo_tables_accounts.proofs.Adding.{Adds}
 use Rattle.goo_tables.proofs.Creating.{fault_since}
 
 -- an INSERT that succeeds leaves the transaction open, on our tables

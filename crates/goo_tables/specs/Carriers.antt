@@ -8,7 +8,7 @@ use Rattle.goo_tables_rows.specs.Columns.{registry_schema}
 use Rattle.goo_tables_rows.specs.Met.{KeepsSome}
 use Rattle.goo_tables_rows.specs.Rows.{Tables, Device, device_row, DeviceCarrier, Lot, lot_row, lot_key, LotCarrier, lot_carrier_key, bare_device, bare_lot}
 use Rattle.goo_tables_rows.specs.Stands.{Keeps}
-use Rattle.goo_tables_holdings.specs.Changes.{added}
+use Rattle.goo_tables_accounts.specs.Changes.{added}
 
 -- a device's carrier
 abbrev pub with_device_carrier : Tables → DeviceCarrier → Tables

@@ -13,7 +13,7 @@ ghost use Rattle.goo_tables_rows.specs.Lives.{LeavesLive};
 ghost use Rattle.goo_tables_rows.specs.Stands.{Sees, Looks, Keeps};
 ghost use Rattle.goo_tables_rows.specs.Met.{HasOurTables};
 ghost use Rattle.goo_tables_rows.specs.First.{ReadsFirst};
-ghost use Rattle.goo_tables_holdings.specs.Changes.{with_cancellation, CancellationFits};
+ghost use Rattle.goo_tables_accounts.specs.Changes.{with_cancellation, CancellationFits};
 
 use goo_tables_rows::ask::{ask_all, ask_first};
 use goo_tables_rows::cancellation::CancellationRow;

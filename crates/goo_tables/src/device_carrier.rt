@@ -12,7 +12,7 @@ ghost use Rattle.goo_tables_rows.specs.Refused.{IsTooBigOrFull, HasRoomFor};
 ghost use Rattle.goo_tables_rows.specs.Lives.{LeavesLive};
 ghost use Rattle.goo_tables_rows.specs.Stands.{Sees, Looks};
 ghost use Rattle.goo_tables_rows.specs.Met.{HasOurTables, KeepsSome};
-ghost use Rattle.goo_tables_holdings.specs.Changes.{IsNewDevice};
+ghost use Rattle.goo_tables_accounts.specs.Changes.{IsNewDevice};
 ghost use Rattle.goo_tables.specs.Carriers.{with_device_carrier, StaysOurs};
 
 use goo_tables_rows::ask::ask_all;

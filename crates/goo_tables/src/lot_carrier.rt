@@ -12,7 +12,7 @@ ghost use Rattle.goo_tables_rows.specs.Refused.{IsTooBig, IsSmall};
 ghost use Rattle.goo_tables_rows.specs.Lives.{LeavesLive};
 ghost use Rattle.goo_tables_rows.specs.Stands.{Sees, Looks, Keeps};
 ghost use Rattle.goo_tables_rows.specs.Met.{HasOurTables};
-ghost use Rattle.goo_tables_holdings.specs.Changes.{IsNewLot};
+ghost use Rattle.goo_tables_accounts.specs.Changes.{IsNewLot};
 ghost use Rattle.goo_tables.specs.Carriers.{with_lot_carrier, StaysOurs};
 
 use goo_tables_rows::ask::ask_all;

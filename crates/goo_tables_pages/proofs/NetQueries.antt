@@ -27,9 +27,9 @@ use Rattle.goo_tables_rows.specs.Rows.{Tables, Declaration, declaration_row, dec
 use Rattle.goo_tables_rows.specs.Stands.{Stands}
 use Rattle.goo_tables_rows.proofs.Joining.{answer_listed}
 use Rattle.goo_tables_rows.proofs.Read.{all_read}
-use Rattle.goo_tables_holdings.proofs.AnyTable.{readable_left}
-use Rattle.goo_tables_holdings.proofs.Asking.{Asks, Says}
-use Rattle.goo_tables_holdings.proofs.Queries.{in_order}
+use Rattle.goo_tables_accounts.proofs.AnyTable.{readable_left}
+use Rattle.goo_tables_accounts.proofs.Asking.{Asks, Says}
+use Rattle.goo_tables_accounts.proofs.Queries.{in_order}
 
 abbrev page_text : List ℕ
 page_text = codes "SELECT id, device, gross, aux FROM declaration WHERE id > ?1 ORDER BY id LIMIT 256"

@@ -29,9 +29,9 @@ use Rattle.goo_tables_rows.proofs.Same.{piece_same}
 use Rattle.goo_tables_rows.proofs.Joining.{answer_listed, is_of_lot, passing_pairs, rising_passing}
 use Rattle.goo_tables_pages.specs.DevicePieces.{of_device, device_piece_in, device_piece_columns, device_piece_reads, device_piece_readable}
 use Rattle.goo_tables_pages.specs.declared.device_pieces.DevicePieceRow.{DevicePieceRow}
-use Rattle.goo_tables_holdings.proofs.AnyTable.{readable_left}
-use Rattle.goo_tables_holdings.proofs.Queries.{rising}
-use Rattle.goo_tables_holdings.proofs.Asking.{Asks, Says}
+use Rattle.goo_tables_accounts.proofs.AnyTable.{readable_left}
+use Rattle.goo_tables_accounts.proofs.Queries.{rising}
+use Rattle.goo_tables_accounts.proofs.Asking.{Asks, Says}
 
 abbrev page_text : List ℕ
 page_text = codes "SELECT p.first, p.last, p.lot, p.kind, p.account, p.act, l.device FROM piece AS p JOIN lot AS l ON l.id = p.lot WHERE p.first >= ?1 ORDER BY p.first LIMIT 256"

@@ -1,7 +1,7 @@
 //! What a registry over lists is asked.
 use crate::failing::{Sending, Taking};
 use goo_core_list::list_shelf::ListShelf;
-use goo_desk_counter::Counter;
+use goo_desk_backend::Backend;
 use goo_desk_server::{ServeFault, Served, serve_one};
 use goo_registry::Registry;
 use goo_types::day::Day;
@@ -19,14 +19,14 @@ pub fn new_registry<A: Abort>(rt: &A, alloc: Global) -> Registry<ListShelf> {
 }
 
 /// Whether what is sent is answered with just this.
-pub fn answers<D: Counter>(alloc: Global, desk: &mut D, sent: &str, wanted: &str) -> bool {
+pub fn answers<D: Backend>(alloc: Global, desk: &mut D, sent: &str, wanted: &str) -> bool {
     let mut text = Vec::new(alloc);
     let served = serve_one(alloc, desk, &mut sent.as_bytes(), &mut text);
     served.is_ok() && text.as_slice() == wanted.as_bytes()
 }
 
 /// Whether what is sent is answered with this first line.
-pub fn begins<D: Counter>(alloc: Global, desk: &mut D, mut sent: &[u8], line: &str) -> bool {
+pub fn begins<D: Backend>(alloc: Global, desk: &mut D, mut sent: &[u8], line: &str) -> bool {
     let mut text = Vec::new(alloc);
     let served = serve_one(alloc, desk, &mut sent, &mut text);
     served.is_ok() && text.starts_with(line.as_bytes())
@@ -34,7 +34,7 @@ pub fn begins<D: Counter>(alloc: Global, desk: &mut D, mut sent: &[u8], line: &s
 
 /// What comes of a client that is gone after so many reads and so many bytes of its answer, and
 /// what it got.
-pub fn tries<D: Counter>(
+pub fn tries<D: Backend>(
     alloc: Global,
     desk: &mut D,
     sent: &str,

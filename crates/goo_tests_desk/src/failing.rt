@@ -1,7 +1,7 @@
 //! Streams and records that fail.
-use goo_desk_counter::{Counter, Imported, Shown};
+use goo_core_shelf::desk::Desk;
+use goo_desk_backend::{Backend, Imported, Shown};
 use goo_desk_routes::Subject;
-use goo_registry_desk::Desk;
 use goo_types::fault::Fault;
 use goo_types::holder_code::HolderCode;
 use goo_types::outcome::Outcome;
@@ -60,7 +60,7 @@ impl Write for Taking {
     }
 }
 
-/// A counter over records that fail at each call.
+/// A backend over records that fail at each call.
 #[derive(Drop)]
 pub struct Failing {
     /// How they fail.
@@ -82,7 +82,7 @@ impl Desk for Failing {
     ghost settled = { λ d none o is. is };
 }
 
-impl Counter for Failing {
+impl Backend for Failing {
     ghost use Rattle.std.specs.Prelude.{◌≡◌};
 
     ghost shows = { λ s caller subject shown. Unit {0} };

@@ -5,7 +5,7 @@ use crate::clients::Clients;
 use crate::failing::Failing;
 use crate::wire::{ACCEPTED, APOLOGY, AUDIT, AUDITED, AUDITED_NEW, OPENING, PLANT, REPEATED};
 use goo_core_list::list_shelf::ListShelf;
-use goo_desk_counter::Counter;
+use goo_desk_backend::Backend;
 use goo_desk_responses::Status;
 use goo_desk_server::{LocalListener, ServeFault, serve, serve_one};
 use goo_registry::Registry;
@@ -80,7 +80,7 @@ fn each_beginning_of_a_request_is_refused(rt: HostRuntime) {
 
 /// What a server over loopback tells, and what its second client gets: the first is gone in the
 /// middle of its request.
-fn asked<D: Counter>(rt: &HostRuntime, desk: &mut D) -> io::Result<(Vec<u8>, String)> {
+fn asked<D: Backend>(rt: &HostRuntime, desk: &mut D) -> io::Result<(Vec<u8>, String)> {
     let socket = TcpListener::bind(rt, ("127.0.0.1", 0))?;
     let address = socket.local_addr()?;
     let mut gone = TcpStream::connect(rt, address)?;
@@ -161,9 +161,9 @@ fn a_client_that_breaks_off_while_it_takes_the_answer_sends_again(rt: HostRuntim
 /// Whether a fault of the records is answered as it should be, and told where it is one of the
 /// store.
 fn excuses(alloc: Global, fault: Fault) -> bool {
-    let mut counter = Failing { fault };
+    let mut backend = Failing { fault };
     let mut text = Vec::new(alloc);
-    let served = serve_one(alloc, &mut counter, &mut AUDIT.as_bytes(), &mut text);
+    let served = serve_one(alloc, &mut backend, &mut AUDIT.as_bytes(), &mut text);
     let told = match served {
         Ok(served) => fault == Fault::Memory && served.status == Status::Unavailable,
         Err(told) => fault == Fault::Store && told == ServeFault::Store,

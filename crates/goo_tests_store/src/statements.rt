@@ -9,7 +9,7 @@ use crate::worked::Case;
 use goo_tables::declaration::find_declaration;
 use goo_tables::lot::find_lot_by_id;
 use goo_tables::withdrawal::find_withdrawal;
-use goo_tables_holdings::piece::find_piece;
+use goo_tables_accounts::piece::find_piece;
 use sqlite::{Alter, Connection};
 use std::alloc::Global;
 use std::process::Abort;

@@ -1,6 +1,5 @@
 //! Worked examples of what comes in and goes out: values, notices, bodies, outcomes, lines,
-//! endings, command lines, streams and the file in memory, and of books of pieces, rows near a
-//! range and rows in pages, against texts and numbers written by hand.
+//! endings, command lines and streams, and of books of pieces, rows near a range and rows in pages, against texts and numbers written by hand.
 //!
 //! It has tests alone, and stands on no registry.
 #![tactic(auto)]
@@ -13,8 +12,6 @@ mod books;
 mod claims;
 #[cfg(test)]
 mod command_lines;
-#[cfg(test)]
-mod disks;
 #[cfg(test)]
 mod edits;
 #[cfg(test)]

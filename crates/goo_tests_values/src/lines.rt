@@ -1,8 +1,8 @@
 //! Lines that state no request, faults of the records and of the writer, and the limit of an input,
 //! over records that fail at each request.
 use crate::claims::holds;
+use goo_core_shelf::desk::Desk;
 use goo_desk_lines::{LinesFault, Tally, run_lines};
-use goo_registry_desk::Desk;
 use goo_types::fault::Fault;
 use goo_types::outcome::Outcome;
 use goo_types::request::Request;

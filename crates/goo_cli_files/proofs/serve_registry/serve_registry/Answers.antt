@@ -1,6 +1,6 @@
 use Rattle.goo_registry.specs.Desks.{seen_of}
-use Rattle.goo_desk_counter.specs.Showing.{begun_by, imported_by, shown_by}
-use Rattle.goo_desk_counter.proofs.TableFacts.{imports_are_runs}
+use Rattle.goo_desk_backend.specs.Showing.{begun_by, imported_by, shown_by}
+use Rattle.goo_desk_backend.proofs.TableFacts.{imports_are_runs}
 use Rattle.goo_desk_server.proofs.Connecting.{no_steps}
 use Rattle.goo_desk_server.proofs.Running.{steps_promised}
 use Rattle.goo_desk_server.proofs.Finding.{none_served}

@@ -4,7 +4,7 @@ use Rattle.sqlite_trees.specs.View.{doubt}
 use Rattle.goo_spec.specs.Created.{created}
 use Rattle.goo_spec.specs.Sound.{IsSound}
 use Rattle.goo_spec.specs.State.{State}
-use Rattle.goo_store_lookups.specs.Moments.{moment}
+use Rattle.goo_store_judge.specs.Moments.{moment}
 use Rattle.goo_cli_ending.specs.declared.ending.Ending.TheVariants.{Failed}
 use Rattle.goo_cli_ending.specs.declared.ending.Failure.{Failure}
 use Rattle.goo_cli_registry.specs.Openings.{IsRun}

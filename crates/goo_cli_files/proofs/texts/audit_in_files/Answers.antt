@@ -2,7 +2,7 @@ use Rattle.std.proofs.Common.{◌≡◌, subst, sym}
 use Rattle.sqlite.specs.Files.{file_state}
 use Rattle.sqlite_trees.specs.View.{doubt}
 use Rattle.goo_store.specs.Versions.{state_held}
-use Rattle.goo_store_lookups.specs.Moments.{moment}
+use Rattle.goo_store_judge.specs.Moments.{moment}
 use Rattle.goo_files.specs.Texts.{IsAuditText}
 use Rattle.sqlite_wal.specs.Reads.{AreClean}
 use Rattle.goo_cli_registry.specs.Closings.{HoldState, IfWhole}

@@ -4,7 +4,7 @@ use Rattle.sqlite_trees.specs.View.{doubt}
 use Rattle.sqlite_wal.specs.Reads.{AreClean}
 use Rattle.goo_spec.specs.Sound.{IsSound}
 use Rattle.goo_store.specs.Versions.{state_held}
-use Rattle.goo_store_lookups.specs.Moments.{moment}
+use Rattle.goo_store_judge.specs.Moments.{moment}
 use Rattle.goo_registry.specs.Desks.{seen_of}
 use Rattle.goo_cli_registry.specs.Closings.{HoldState, IfWhole, IsKept}
 use Rattle.goo_cli_registry.specs.Finds.{FindsRight, IfParts}

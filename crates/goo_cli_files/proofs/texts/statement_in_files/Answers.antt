@@ -3,7 +3,7 @@ use Rattle.std.specs.FinMap.{get}
 use Rattle.sqlite.specs.Files.{file_state}
 use Rattle.sqlite_trees.specs.View.{doubt}
 use Rattle.goo_store.specs.Versions.{state_held}
-use Rattle.goo_store_lookups.specs.Moments.{moment}
+use Rattle.goo_store_judge.specs.Moments.{moment}
 use Rattle.goo_files.specs.Texts.{IsStatement}
 use Rattle.sqlite_wal.specs.Reads.{AreClean}
 use Rattle.goo_cli_registry.specs.Closings.{HoldState, IfWhole}

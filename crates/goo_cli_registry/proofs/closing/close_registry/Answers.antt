@@ -5,8 +5,8 @@ use Rattle.sqlite.specs.Tree.{Trees}
 use Rattle.sqlite_store.specs.Laws.{settled_at}
 use Rattle.goo_tables_rows.specs.Stands.{doubts}
 use Rattle.goo_spec_tables.specs.States.{state_of}
-use Rattle.goo_store_lookups.specs.Holding.{is_sure, sure}
-use Rattle.goo_store_lookups.specs.Moments.{OpensAs, leaves_in, tables_in}
+use Rattle.goo_store_judge.specs.Holding.{is_sure, sure}
+use Rattle.goo_store_judge.specs.Moments.{OpensAs, leaves_in, tables_in}
 use Rattle.goo_cli_registry.proofs.Files.{clean_before, opens_committed}
 use Rattle.goo_cli_registry.proofs.closing.close_registry.Goals as goal
 

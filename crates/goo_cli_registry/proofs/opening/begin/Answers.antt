@@ -2,7 +2,7 @@ use Rattle.std.proofs.Common.{arith}
 use Rattle.std.proofs.lemmas.Result.{IfErr-weaker, IfOk-weaker}
 use Rattle.sqlite.specs.Held.{state as view}
 use Rattle.goo_store.specs.Creating.{IsFirst}
-use Rattle.goo_store_lookups.specs.Holding.{sure}
+use Rattle.goo_store_judge.specs.Holding.{sure}
 use Rattle.goo_cli_registry.proofs.Files.{begun_or, kept_or_renewed}
 use Rattle.goo_cli_registry.proofs.opening.begin.Goals as goal
 

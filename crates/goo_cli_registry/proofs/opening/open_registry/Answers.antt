@@ -2,8 +2,8 @@ use Rattle.std.proofs.Common.{◌∙◌, ap, sym, subst}
 use Rattle.sqlite.specs.Effect.{Database}
 use Rattle.sqlite.specs.Files.{file_state}
 use Rattle.goo_store.specs.Versions.{state_held}
-use Rattle.goo_store_lookups.specs.Holding.{sure}
-use Rattle.goo_store_lookups.specs.Moments.{OpensAsEither}
+use Rattle.goo_store_judge.specs.Holding.{sure}
+use Rattle.goo_store_judge.specs.Moments.{OpensAsEither}
 use Rattle.sqlite.specs.Tree.{Trees}
 use Rattle.goo_cli_registry.proofs.Files.{clean_before, leaves_registry, leaves_same, outside_failure, fault_failure}
 use Rattle.goo_cli_registry.proofs.opening.open_registry.Goals as goal

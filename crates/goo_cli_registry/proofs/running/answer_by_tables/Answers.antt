@@ -1,7 +1,7 @@
 use Rattle.std.proofs.Common.{◌≡◌, subst, sym}
 use Rattle.sqlite.specs.Held.{state as view}
 use Rattle.sqlite_trees.specs.View.{doubt}
-use Rattle.goo_store_lookups.specs.Moments.{moment}
+use Rattle.goo_store_judge.specs.Moments.{moment}
 use Rattle.goo_spec.specs.Sound.{IsSound}
 use Rattle.goo_spec.specs.State.{State}
 use Rattle.goo_cli_ending.proofs.PromiseFacts.{none_promised, promised_as}

@@ -1,5 +1,5 @@
-use Rattle.goo_desk_counter.proofs.TableFacts.{imports_are_runs}
-use Rattle.goo_desk_counter.specs.Showing.{shown_by, imported_by, begun_by}
+use Rattle.goo_desk_backend.proofs.TableFacts.{imports_are_runs}
+use Rattle.goo_desk_backend.specs.Showing.{shown_by, imported_by, begun_by}
 use Rattle.goo_desk_server.proofs.Running.{steps_are_a_run}
 use Rattle.goo_desk.proofs.law.connections_are_a_run.Goals as goal
 

@@ -1,5 +1,5 @@
 use Rattle.std.proofs.Common.{◌≡◌, ◌≤◌, ◌+◌, ◌++◌, length, map}
-use Rattle.goo_registry_desk.specs.Desk.{StaysSure}
+use Rattle.goo_core_shelf.specs.Desk.{StaysSure}
 use Rattle.goo_desk_lines.specs.Lines.{lines_of, lines_left}
 use Rattle.goo_desk_lines.proofs.AnswerFacts.{Stands}
 use Rattle.goo_desk_lines.proofs.run.answer_lines.Given as goal

@@ -6,22 +6,22 @@ use Rattle.goo_desk_server.proofs.connection.serve_by_routes.Goals as goal
 
 pub returns-clause-served : goal.returns-clause-served
 returns-clause-served g c =
-    sends-stands g.D.Counter.shows g.D.Counter.imports g.D.Counter.begins c.serve_bytes.result (g.R.Read.remaining c.args.reader.now) (g.D.Desk.seen c.args.desk.now).state c.in_ok-bytes.bytes.items (g.D.Desk.seen c.serve_bytes.new.desk)
+    sends-stands g.D.Backend.shows g.D.Backend.imports g.D.Backend.begins c.serve_bytes.result (g.R.Read.remaining c.args.reader.now) (g.D.Desk.seen c.args.desk.now).state c.in_ok-bytes.bytes.items (g.D.Desk.seen c.serve_bytes.new.desk)
     (g.W.Write.contents c.args.writer.now) (g.W.Write.contents c.serve_bytes.new.writer) c.in_ok-bytes.ensures (rw c.deref.ensures.value at c.serve_bytes.ensures.served)
 
 pub returns-clause-part : goal.returns-clause-part
 returns-clause-part g c =
-    part-stands g.D.Counter.shows g.D.Counter.imports g.D.Counter.begins c.serve_bytes.result Write (g.R.Read.remaining c.args.reader.now) (g.D.Desk.seen c.args.desk.now).state c.in_ok-bytes.bytes.items (g.D.Desk.seen c.serve_bytes.new.desk)
+    part-stands g.D.Backend.shows g.D.Backend.imports g.D.Backend.begins c.serve_bytes.result Write (g.R.Read.remaining c.args.reader.now) (g.D.Desk.seen c.args.desk.now).state c.in_ok-bytes.bytes.items (g.D.Desk.seen c.serve_bytes.new.desk)
     (g.W.Write.contents c.args.writer.now) (g.W.Write.contents c.serve_bytes.new.writer) c.in_ok-bytes.ensures (rw c.deref.ensures.value at c.serve_bytes.ensures.part)
 
 pub returns-clause-excuse : goal.returns-clause-excuse
 returns-clause-excuse g c =
-    excuse-stands g.D.Counter.shows g.D.Counter.imports g.D.Counter.begins c.serve_bytes.result Store (g.R.Read.remaining c.args.reader.now) (g.D.Desk.seen c.args.desk.now).state c.in_ok-bytes.bytes.items (g.D.Desk.seen c.serve_bytes.new.desk)
+    excuse-stands g.D.Backend.shows g.D.Backend.imports g.D.Backend.begins c.serve_bytes.result Store (g.R.Read.remaining c.args.reader.now) (g.D.Desk.seen c.args.desk.now).state c.in_ok-bytes.bytes.items (g.D.Desk.seen c.serve_bytes.new.desk)
     (g.W.Write.contents c.args.writer.now) (g.W.Write.contents c.serve_bytes.new.writer) c.in_ok-bytes.ensures (rw c.deref.ensures.value at c.serve_bytes.ensures.excuse)
 
 pub returns-clause-connects : goal.returns-clause-connects
 returns-clause-connects g c =
-    bytes-connect g.D.Counter.shows g.D.Counter.imports g.D.Counter.begins (g.R.Read.remaining c.args.reader.now) c.in_ok-bytes.bytes.items (g.D.Desk.seen c.args.desk.now) (g.D.Desk.seen c.serve_bytes.new.desk)
+    bytes-connect g.D.Backend.shows g.D.Backend.imports g.D.Backend.begins (g.R.Read.remaining c.args.reader.now) c.in_ok-bytes.bytes.items (g.D.Desk.seen c.args.desk.now) (g.D.Desk.seen c.serve_bytes.new.desk)
     c.in_ok-bytes.ensures (rw c.deref.ensures.value at c.serve_bytes.ensures.leaves) c.serve_bytes.ensures.doubted c.serve_bytes.ensures.lied c.serve_bytes.ensures.stays
 
 pub returns-in_err-bytes-clause-promised : goal.returns-in_err-bytes-clause-promised
@@ -29,21 +29,21 @@ returns-in_err-bytes-clause-promised g c runs sound honest sure = none_promised 
 
 pub returns-clause-promised : goal.returns-clause-promised
 returns-clause-promised g c runs sound honest sure =
-    leaves_promised g.D.Counter.shows g.D.Counter.imports g.D.Counter.begins runs (g.R.Read.remaining c.args.reader.now) (g.D.Desk.seen c.args.desk.now) (g.D.Desk.seen c.serve_bytes.new.desk) c.in_ok-bytes.bytes.items
+    leaves_promised g.D.Backend.shows g.D.Backend.imports g.D.Backend.begins runs (g.R.Read.remaining c.args.reader.now) (g.D.Desk.seen c.args.desk.now) (g.D.Desk.seen c.serve_bytes.new.desk) c.in_ok-bytes.bytes.items
     c.in_ok-bytes.ensures (rw c.deref.ensures.value at c.serve_bytes.ensures.leaves) sound honest sure
 
 pub returns-in_err-bytes-clause-found : goal.returns-in_err-bytes-clause-found
 returns-in_err-bytes-clause-found g c lies sure =
-    none-sent g.D.Counter.shows g.D.Counter.imports (g.R.Read.remaining c.args.reader.now) (g.D.Desk.seen c.args.desk.now).state (g.D.Desk.seen c.args.desk.now).state (g.W.Write.contents c.args.writer.now) (g.D.Desk.leaves c.args.desk.now)
+    none-sent g.D.Backend.shows g.D.Backend.imports (g.R.Read.remaining c.args.reader.now) (g.D.Desk.seen c.args.desk.now).state (g.D.Desk.seen c.args.desk.now).state (g.W.Write.contents c.args.writer.now) (g.D.Desk.leaves c.args.desk.now)
 
 pub returns-clause-found : goal.returns-clause-found
 returns-clause-found g c lies sure =
-    all-found g.D.Counter.shows g.D.Counter.imports (g.R.Read.remaining c.args.reader.now) (g.D.Desk.seen c.args.desk.now).state c.in_ok-bytes.bytes.items (g.D.Desk.seen c.serve_bytes.new.desk).state
+    all-found g.D.Backend.shows g.D.Backend.imports (g.R.Read.remaining c.args.reader.now) (g.D.Desk.seen c.args.desk.now).state c.in_ok-bytes.bytes.items (g.D.Desk.seen c.serve_bytes.new.desk).state
     (g.W.Write.contents c.args.writer.now) (g.W.Write.contents c.serve_bytes.new.writer) (g.D.Desk.leaves c.serve_bytes.new.desk)
     c.in_ok-bytes.ensures (rw c.deref.ensures.value at (c.serve_bytes.ensures.found lies sure))
 
 pub returns-in_err-bytes-clause-connects : goal.returns-in_err-bytes-clause-connects
-returns-in_err-bytes-clause-connects g c = none-connect g.D.Counter.shows g.D.Counter.imports g.D.Counter.begins (g.R.Read.remaining c.args.reader.now) (g.D.Desk.seen c.args.desk.now)
+returns-in_err-bytes-clause-connects g c = none-connect g.D.Backend.shows g.D.Backend.imports g.D.Backend.begins (g.R.Read.remaining c.args.reader.now) (g.D.Desk.seen c.args.desk.now)
 
 pub returns-in_err-bytes-clause-crash : goal.returns-in_err-bytes-clause-crash
 returns-in_err-bytes-clause-crash g c runs lies sure =

@@ -8,10 +8,10 @@ returns-in_default-clause-promised g c runs sound honest sure = none_promised (g
 
 pub returns-in_default-clause-found : goal.returns-in_default-clause-found
 returns-in_default-clause-found g c lies sure =
-    none-sent g.D.Counter.shows g.D.Counter.imports (g.R.Read.remaining c.args.reader.now) (g.D.Desk.seen c.args.desk.now).state (g.D.Desk.seen c.args.desk.now).state (g.W.Write.contents c.args.writer.now) (g.D.Desk.leaves c.args.desk.now)
+    none-sent g.D.Backend.shows g.D.Backend.imports (g.R.Read.remaining c.args.reader.now) (g.D.Desk.seen c.args.desk.now).state (g.D.Desk.seen c.args.desk.now).state (g.W.Write.contents c.args.writer.now) (g.D.Desk.leaves c.args.desk.now)
 
 pub returns-in_default-clause-connects : goal.returns-in_default-clause-connects
-returns-in_default-clause-connects g c = none-connect g.D.Counter.shows g.D.Counter.imports g.D.Counter.begins (g.R.Read.remaining c.args.reader.now) (g.D.Desk.seen c.args.desk.now)
+returns-in_default-clause-connects g c = none-connect g.D.Backend.shows g.D.Backend.imports g.D.Backend.begins (g.R.Read.remaining c.args.reader.now) (g.D.Desk.seen c.args.desk.now)
 
 pub returns-in_default-clause-crash : goal.returns-in_default-clause-crash
 returns-in_default-clause-crash g c runs lies sure =

@@ -1,5 +1,5 @@
 use Rattle.std.proofs.Common.{◌≡◌, ◌+◌}
-use Rattle.goo_desk_counter.specs.Tables.{ImportsAreRuns}
+use Rattle.goo_desk_backend.specs.Tables.{ImportsAreRuns}
 use Rattle.goo_desk_server.specs.Durable.{FindsServed}
 use Rattle.goo_desk_server.specs.Serving.{StepsTo}
 use Rattle.goo_desk_server.proofs.server.serve_all.Given as goal
@@ -8,8 +8,8 @@ use Rattle.goo_desk_server.proofs.server.serve_all.Given as goal
 abbrev pub invariant-loop : goal.invariant-loop
 invariant-loop g l =
     ((g.D.Desk.seen l.desk).lies ≡ 0 → (g.D.Desk.seen l.initial.desk).lies ≡ 0) × ((g.D.Desk.seen l.initial.desk).refusals ≡ 0 → (g.D.Desk.seen l.desk).refusals ≡ 0)
-    × StepsTo g.D.Counter.shows g.D.Counter.imports g.D.Counter.begins (g.L.Listener.sends l.initial.listener) (g.L.Listener.accepted l.initial.listener) (g.L.Listener.accepted l.listener) (g.D.Desk.seen l.initial.desk) (g.D.Desk.seen l.desk)
+    × StepsTo g.D.Backend.shows g.D.Backend.imports g.D.Backend.begins (g.L.Listener.sends l.initial.listener) (g.L.Listener.accepted l.initial.listener) (g.L.Listener.accepted l.listener) (g.D.Desk.seen l.initial.desk) (g.D.Desk.seen l.desk)
     × (g.L.Listener.accepted l.listener ≡ g.L.Listener.accepted l.initial.listener + l.counter)
     × (g.L.Listener.sends l.listener ≡ g.L.Listener.sends l.initial.listener)
-    × (ImportsAreRuns g.D.Counter.imports g.D.Counter.begins
-    → FindsServed g.D.Counter.shows g.D.Counter.imports g.D.Counter.begins (g.L.Listener.sends l.initial.listener) (g.L.Listener.accepted l.initial.listener) (g.L.Listener.accepted l.listener) (g.D.Desk.seen l.initial.desk) (g.D.Desk.seen l.desk) (g.D.Desk.leaves l.desk))
+    × (ImportsAreRuns g.D.Backend.imports g.D.Backend.begins
+    → FindsServed g.D.Backend.shows g.D.Backend.imports g.D.Backend.begins (g.L.Listener.sends l.initial.listener) (g.L.Listener.accepted l.initial.listener) (g.L.Listener.accepted l.listener) (g.D.Desk.seen l.initial.desk) (g.D.Desk.seen l.desk) (g.D.Desk.leaves l.desk))

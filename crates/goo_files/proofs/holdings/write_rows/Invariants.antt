@@ -1,5 +1,5 @@
 use Rattle.std.proofs.Common.{◌≡◌, ◌-◌}
-use Rattle.goo_core_answers.specs.Ahead.{IsSeen}
+use Rattle.goo_core_reads.specs.Ahead.{IsSeen}
 use Rattle.goo_spec_runs.specs.NextRun.{from_of}
 use Rattle.goo_files.specs.Lines.{held_row, no_sum}
 use Rattle.goo_files.proofs.Lining.{IsGoing}

@@ -1,5 +1,5 @@
 use Rattle.std.proofs.Common.{◌≡◌, ◌≤◌, ◌-◌}
-use Rattle.goo_core_answers.specs.Ahead.{IsSeen}
+use Rattle.goo_core_reads.specs.Ahead.{IsSeen}
 use Rattle.goo_spec_runs.specs.NextRun.{from_of}
 use Rattle.goo_files_documents.specs.Counts.{all_of, counts_of}
 use Rattle.goo_files_documents.specs.Runs.{statement_line}

@@ -3,7 +3,7 @@ use Rattle.sqlite.specs.State.{HasCleanDisk, IsLive, KeepsCommit, Survives}
 use Rattle.sqlite.specs.Held.{state}
 use Rattle.goo_tables_rows.specs.Stands.{Sees, Settled, HoldsOurs}
 use Rattle.goo_tables_rows.specs.Rows.{meta_in}
-use Rattle.goo_tables_holdings.specs.Changes.{begun}
+use Rattle.goo_tables_accounts.specs.Changes.{begun}
 use Rattle.goo_tables_rows.specs.Columns.{no_schema}
 use Rattle.std.proofs.Common.{refl}
 use Rattle.goo_tables_rows.proofs.Results.{whenever}

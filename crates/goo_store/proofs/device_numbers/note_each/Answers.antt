@@ -6,7 +6,7 @@ use Rattle.goo_tables_rows.specs.Rows.{device_in}
 use Rattle.goo_spec_tables.specs.Readable.{is_device}
 use Rattle.goo_store_rules.proofs.LotDevices.{at_true}
 use Rattle.goo_store.proofs.DevicesApart.{number_free}
-use Rattle.goo_store_values.proofs.Unread.{same_trouble}
+use Rattle.goo_store_values.proofs.Unread.{same_fault}
 use Rattle.goo_store.proofs.device_numbers.note_each.Goals as goal
 
 pub loop-row-init : goal.loop-row-init
@@ -17,6 +17,6 @@ returns-in_err-note-clause-accepts c fits =
     let rows = c.args.rows.now in
     let row = c.row-item.result in
     let told : IsErrAnd c.from_residual.result (λ f. f ≡ c.in_err-note.field-0.0) = search rules in
-    same_trouble c.from_residual.result c.in_err-note.field-0.0 told
+    same_fault c.from_residual.result c.in_err-note.field-0.0 told
     (c.in_err-note.ensures.accepts (at_true (λ r. is_device (pos 0, device_in r)) rows c.loop-row.row-index row c.loop-row-test.true c.row-item.is fits.each)
     (ap (λ m. get m (device_in row).gsrn) c.loop-row.invariant ∙ number_free rows c.loop-row.row-index row c.loop-row-test.true c.row-item.is (fits.apart (device_in row).gsrn)))

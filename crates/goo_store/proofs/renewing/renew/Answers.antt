@@ -16,7 +16,7 @@ returns-in-Ok-rewrite g c =
 pub returns-in-Ok : goal.returns-in-Ok
 returns-in-Ok g c =
     let same : c.deref.result.now ≡ c.in-Ok.pieces.items = search rules in
-    not_renewed (λ pieces. pieces.items) (view g.S.Store c.args.conn.now) (view g.S.Store c.judge.new.conn) (view g.S.Store c.rewrite.new.conn) c.in-Ok.pieces c.in-Ok.ensures.judges c.requires.met c.in-Err-rewrite.trouble _ c.from.ensures c.deref.result.now same c.in-Err-rewrite.ensures
+    not_renewed (λ pieces. pieces.items) (view g.S.Store c.args.conn.now) (view g.S.Store c.judge.new.conn) (view g.S.Store c.rewrite.new.conn) c.in-Ok.pieces c.in-Ok.ensures.judges c.requires.met c.in-Err-rewrite.cause _ c.from.ensures c.deref.result.now same c.in-Err-rewrite.ensures
 
 pub returns : goal.returns
 returns g c = not_judged_first _ (view g.S.Store c.args.conn.now) (view g.S.Store c.judge.new.conn) c.in-Err.fault c.in-Err.ensures.judges c.requires.met c.requires.outside

@@ -2,7 +2,7 @@ use Rattle.std.proofs.Common.{◌≡◌, ◌∙◌, rules, subst, arith}
 use Rattle.sqlite.specs.State.{HasCleanDisk}
 use Rattle.sqlite.specs.Held.{state}
 use Rattle.goo_tables_rows.specs.Stands.{Sees}
-use Rattle.goo_tables_holdings.specs.Changes.{with_piece_set}
+use Rattle.goo_tables_accounts.specs.Changes.{with_piece_set}
 use Rattle.goo_store_changes.proofs.Replacing.{set_for_both, added_for_both, set_is_free}
 use Rattle.goo_store_changes.proofs.change.replace_piece.Goals as goal
 

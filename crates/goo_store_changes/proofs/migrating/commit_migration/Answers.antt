@@ -2,7 +2,7 @@ use Rattle.std.proofs.Common.{◌≡◌, IsTrue, true, arith, rules, subst, sym}
 use Rattle.sqlite.specs.State.{HasCleanDisk, IsLive, KeepsCommit, Survives}
 use Rattle.sqlite.specs.Held.{state}
 use Rattle.goo_tables_rows.specs.Stands.{Sees, Settled, HoldsOurs}
-use Rattle.goo_tables_holdings.specs.Changes.{with_version}
+use Rattle.goo_tables_accounts.specs.Changes.{with_version}
 use Rattle.goo_store_changes.specs.Changes.{made_all}
 use Rattle.goo_store_changes.specs.Migrated.{SeesFirst}
 use Rattle.goo_tables_rows.proofs.Results.{whenever}

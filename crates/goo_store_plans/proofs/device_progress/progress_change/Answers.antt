@@ -5,7 +5,7 @@ use Rattle.std.proofs.lemmas.List.Elements.{All-filter}
 use Rattle.goo_tables_rows.specs.Once.{IsOnce}
 use Rattle.goo_tables_rows.specs.Refused.{CanBeKept}
 use Rattle.goo_tables_rows.specs.Rows.{device_row}
-use Rattle.goo_tables_holdings.specs.Changes.{progressed, with_progress}
+use Rattle.goo_tables_accounts.specs.Changes.{progressed, with_progress}
 use Rattle.goo_store_plans.proofs.device_progress.progress_change.Goals as goal
 
 pub returns-clause-sets : goal.returns-clause-sets

@@ -2,7 +2,7 @@ use Rattle.std.proofs.Common.{◌≡◌, ◌∙◌, Err, All, IsOkUnless, sym, s
 use Rattle.sqlite.specs.Held.{state}
 use Rattle.goo_store_plans.specs.AtHand.{IsAtHand}
 use Rattle.goo_store_plans.specs.EditsGathered.{CanBeTaken}
-use Rattle.goo_store_values.specs.declared.trouble.Trouble.TheVariants.{Memory}
+use Rattle.goo_store_values.specs.declared.statement_fault.StatementFault.TheVariants.{Memory}
 use Rattle.goo_store_plans.proofs.Refusing.{blames_err, blames_made, blames_none, blames_so}
 use Rattle.goo_store_plans.proofs.Taking.{all_at_hand, edits_taken}
 use Rattle.goo_store_plans.proofs.edit_changes.changes_of_edits.Goals as goal

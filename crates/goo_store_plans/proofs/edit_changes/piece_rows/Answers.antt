@@ -2,7 +2,7 @@ use Rattle.std.proofs.Common.{◌<◌, ◌+◌, All, length, take, take_all, sym
 use Rattle.goo_store_plans.specs.EditsGathered.{HasRowToBe}
 use Rattle.std.specs.List.{AllZip}
 use Rattle.std.proofs.lemmas.List.Elements.{All-push}
-use Rattle.goo_tables_holdings.specs.Changes.{PieceFits}
+use Rattle.goo_tables_accounts.specs.Changes.{PieceFits}
 use Rattle.goo_store_plans.specs.EditChanges.{IsRowOf}
 use Rattle.goo_store_plans.proofs.RowsGathered.{row_is, rows_of_zip, zip_more}
 use Rattle.goo_store_plans.proofs.edit_changes.piece_rows.Goals as goal

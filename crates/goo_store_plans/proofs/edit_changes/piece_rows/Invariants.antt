@@ -1,7 +1,7 @@
 use Rattle.std.proofs.Common.{List, All, take}
 use Rattle.std.specs.List.{AllZip}
 use Rattle.goo_tables_rows.specs.Rows.{Lot}
-use Rattle.goo_tables_holdings.specs.Changes.{PieceFits}
+use Rattle.goo_tables_accounts.specs.Changes.{PieceFits}
 use Rattle.goo_store_plans.specs.EditChanges.{IsRowOf}
 use Rattle.goo_store_plans.specs.LotNumbers.{AreNumbered}
 use Rattle.goo_store_plans.proofs.edit_changes.piece_rows.Given as goal

@@ -8,7 +8,7 @@ use Rattle.goo_store_plans.proofs.ImportCarried.{import_carried}
 use Rattle.goo_store_plans.proofs.LookUps.{looks_made}
 use Rattle.goo_tables_rows.specs.Rows.{lot_key}
 use Rattle.goo_store_plans.specs.AtHand.{HasRoom}
-use Rattle.goo_store_values.specs.declared.trouble.Trouble.TheVariants.{Memory}
+use Rattle.goo_store_values.specs.declared.statement_fault.StatementFault.TheVariants.{Memory}
 use Rattle.goo_store_plans.proofs.Refusing.{blames_err, blames_made, blames_so}
 use Rattle.goo_store_plans.proofs.importing.import_changes.Goals as goal
 

@@ -1,5 +1,5 @@
 use Rattle.std.proofs.Common.{◌≡◌, ◌-◌, All, IfSome, drop, length}
-use Rattle.goo_tables_holdings.specs.Changes.{PieceFits}
+use Rattle.goo_tables_accounts.specs.Changes.{PieceFits}
 use Rattle.goo_spec_tables.specs.Renewed.{joined_pieces}
 use Rattle.goo_store_changes.specs.Changes.{ChangeFits}
 use Rattle.goo_store_plans.specs.JoiningChanges.{first_of, changes_to_join}

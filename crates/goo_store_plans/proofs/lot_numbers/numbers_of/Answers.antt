@@ -4,7 +4,7 @@ use Rattle.std.proofs.lemmas.List.Elements.{All-nil, All-push}
 use Rattle.goo_store_plans.specs.LotNumbers.{IsNumberOf, AreNumbered}
 use Rattle.goo_store_plans.proofs.LookUps.{looks_failed, looks_made, looks_none, looks_then}
 use Rattle.goo_tables_rows.specs.Rows.{Tables}
-use Rattle.goo_store_values.specs.declared.trouble.Trouble.TheVariants.{Memory}
+use Rattle.goo_store_values.specs.declared.statement_fault.StatementFault.TheVariants.{Memory}
 use Rattle.goo_store_plans.specs.AtHand.{IsAtHand}
 use Rattle.goo_store_plans.proofs.Refusing.{blames_err, blames_made, blames_none, blames_then}
 use Rattle.goo_store_plans.proofs.Failing.{none_made}

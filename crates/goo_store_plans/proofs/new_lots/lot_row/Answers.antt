@@ -1,10 +1,10 @@
 use Rattle.std.proofs.Common.{◌≡◌, true, refl}
 use Rattle.goo_tables_rows.specs.Rows.{lot_in}
-use Rattle.goo_tables_holdings.specs.Changes.{LotFits}
+use Rattle.goo_tables_accounts.specs.Changes.{LotFits}
 use Rattle.goo_spec_tables.specs.Kept.{IsKeptLot}
 use Rattle.goo_spec_tables.specs.Places.{lot_of}
 use Rattle.goo_spec_tables.specs.Readable.{is_lot}
-use Rattle.goo_store_values.specs.declared.trouble.Trouble.TheVariants.{Memory}
+use Rattle.goo_store_values.specs.declared.statement_fault.StatementFault.TheVariants.{Memory}
 use Rattle.goo_store_plans.proofs.Failing.{none_made, only_for}
 use Rattle.goo_store_plans.proofs.new_lots.lot_row.Goals as goal
 

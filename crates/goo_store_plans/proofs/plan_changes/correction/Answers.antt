@@ -8,7 +8,7 @@ use Rattle.goo_spec_tables.specs.States.{state_of}
 use Rattle.goo_types.specs.declared.reply.Reply.TheVariants.{Corrected}
 use Rattle.goo_store_plans.specs.Carrying.{CarriesOut}
 use Rattle.goo_store_plans.specs.Correcting.{CanBeCorrected}
-use Rattle.goo_store_values.specs.declared.trouble.Trouble.TheVariants.{Refused}
+use Rattle.goo_store_values.specs.declared.statement_fault.StatementFault.TheVariants.{Refused}
 use Rattle.goo_store_plans.proofs.Joining.{carried_without}
 use Rattle.goo_store_plans.proofs.LookUps.{looks_made}
 use Rattle.goo_store_plans.proofs.Refusing.{blames_err, blames_made, blames_none, blames_so}

@@ -4,7 +4,7 @@ use Rattle.std.proofs.Common.{◌≡◌, ℕ, Err, Option, subst, sym, ◌∙◌
 use Rattle.goo_types.specs.Range.{Numbers}
 use Rattle.goo_types.specs.declared.reply.Reply.TheVariants.{Declared}
 use Rattle.goo_store_plans.specs.Declaring.{CanBeDeclared}
-use Rattle.goo_store_values.specs.declared.trouble.Trouble.TheVariants.{Refused}
+use Rattle.goo_store_values.specs.declared.statement_fault.StatementFault.TheVariants.{Refused}
 use Rattle.goo_store_plans.proofs.Refusing.{blames_none, blames_so}
 use Rattle.goo_store_plans.proofs.plan_changes.declaration.Goals as goal
 

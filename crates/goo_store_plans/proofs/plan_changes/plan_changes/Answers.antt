@@ -47,7 +47,7 @@ returns-clause-blames g c =
     let s2 = state g.S.Store c.changes_by.new.conn in
     let changes = c.in_ok-changes.changes in
     blames_made s0 s2 changes _ (looks_then s0 s1 s2 c.in_ok-basis.basis (Ok changes) _ _ c.in_ok-basis.ensures.looks c.in_ok-changes.ensures.gathers) _
-    (blames_then s0 s1 s2 c.in_ok-basis.basis _ c.in_ok-basis.ensures.looks _ c.in_ok-basis.ensures.blames (Ok changes) _ c.in_ok-changes.ensures.gathers _ c.in_ok-changes.ensures.blames (λ t. CanBePlanned t c.args.findings c.args.plan.now)
+    (blames_then s0 s1 s2 c.in_ok-basis.basis _ c.in_ok-basis.ensures.looks _ c.in_ok-basis.ensures.blames (Ok changes) _ c.in_ok-changes.ensures.gathers _ c.in_ok-changes.ensures.blames (λ t. CanBePlanned t c.args.known_rows c.args.plan.now)
     (λ t stands kept can first.
     record { found = record { own = can.found.own; basis = first can.found.basis; lots = can.found.lots; edges = can.found.edges }; order = can.order; fits = can.fits; room = can.room; lots = can.lots }))
     (Ok (record { changes = changes; after = c.after_changes-after.result })) _ (λ t stands kept can first. tt)

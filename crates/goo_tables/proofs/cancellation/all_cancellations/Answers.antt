@@ -2,7 +2,7 @@ use Rattle.sqlite.specs.Held.{state}
 use Rattle.goo_tables_rows.specs.Readable.{cancellation_readable}
 use Rattle.goo_tables.proofs.Cancellations.{shows_all, meets_all, shown_all, all_asks, first_asks, shows_first, meets_first, shown_first}
 use Rattle.goo_tables.proofs.cancellation.all_cancellations.Goals as goal
-use Rattle.goo_tables_holdings.proofs.Asking.{looks_up, met, refused, refused_readable, reads_first}
+use Rattle.goo_tables_accounts.proofs.Asking.{looks_up, met, refused, refused_readable, reads_first}
 
 pub returns-clause-looks : goal.returns-clause-looks
 returns-clause-looks g c =

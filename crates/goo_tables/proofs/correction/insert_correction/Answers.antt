@@ -1,7 +1,7 @@
 use Rattle.sqlite.specs.Held.{state}
 use Rattle.goo_tables_rows.specs.Rows.{correction_columns, correction_in}
 use Rattle.goo_tables_rows.proofs.Inside.{sees}
-use Rattle.goo_tables_holdings.specs.Changes.{with_correction}
+use Rattle.goo_tables_accounts.specs.Changes.{with_correction}
 use Rattle.goo_tables.proofs.Corrections.{insert_text, inserts_row, inserting_fails, insert_live}
 use Rattle.goo_tables.proofs.correction.insert_correction.Goals as goal
 

@@ -1,9 +1,9 @@
 use Rattle.sqlite.specs.Held.{state}
 use Rattle.goo_tables_rows.specs.Readable.{correction_readable}
-use Rattle.goo_tables_holdings.proofs.AnyTable.{readable_top}
+use Rattle.goo_tables_accounts.proofs.AnyTable.{readable_top}
 use Rattle.goo_tables.proofs.Corrections.{shows_last, last_asks, corrections}
 use Rattle.goo_tables.proofs.correction.last_correction.Goals as goal
-use Rattle.goo_tables_holdings.proofs.Asking.{looks_up, refused, refused_readable}
+use Rattle.goo_tables_accounts.proofs.Asking.{looks_up, refused, refused_readable}
 
 pub returns-clause-looks : goal.returns-clause-looks
 returns-clause-looks g c =

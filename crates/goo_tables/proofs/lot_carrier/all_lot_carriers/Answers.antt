@@ -2,7 +2,7 @@ use Rattle.sqlite.specs.Held.{state}
 use Rattle.goo_tables_rows.specs.Readable.{lot_carrier_readable}
 use Rattle.goo_tables.proofs.LotCarriers.{shows_all, meets_all, shown_all, all_asks}
 use Rattle.goo_tables.proofs.lot_carrier.all_lot_carriers.Goals as goal
-use Rattle.goo_tables_holdings.proofs.Asking.{looks_up, met, refused, refused_readable}
+use Rattle.goo_tables_accounts.proofs.Asking.{looks_up, met, refused, refused_readable}
 
 pub returns-clause-looks : goal.returns-clause-looks
 returns-clause-looks g c =

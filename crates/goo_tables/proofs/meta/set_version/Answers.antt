@@ -2,7 +2,7 @@ use Rattle.std.proofs.Common.{[], ◌∷◌, pos}
 use Rattle.sqlite.specs.declared.types.Value.TheVariants.{Int}
 use Rattle.sqlite.specs.Held.{state}
 use Rattle.goo_tables_rows.proofs.Inside.{sees}
-use Rattle.goo_tables_holdings.specs.Changes.{with_version}
+use Rattle.goo_tables_accounts.specs.Changes.{with_version}
 use Rattle.goo_tables.proofs.MetaTable.{version_text, sets_version, version_fails, version_live}
 use Rattle.goo_tables.proofs.meta.set_version.Goals as goal
 

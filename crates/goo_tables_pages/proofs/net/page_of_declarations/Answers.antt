@@ -2,7 +2,7 @@ use Rattle.sqlite.specs.Held.{state}
 use Rattle.goo_tables_pages.specs.NetRows.{before, net_readable}
 use Rattle.goo_tables_pages.proofs.NetQueries.{page_shows, page_asks, readable_page}
 use Rattle.goo_tables_pages.proofs.net.page_of_declarations.Goals as goal
-use Rattle.goo_tables_holdings.proofs.Asking.{looks_up, refused, refused_readable}
+use Rattle.goo_tables_accounts.proofs.Asking.{looks_up, refused, refused_readable}
 
 pub returns-clause-looks : goal.returns-clause-looks
 returns-clause-looks g c =

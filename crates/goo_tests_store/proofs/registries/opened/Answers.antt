@@ -1,5 +1,5 @@
 use Rattle.sqlite.specs.Held.{state}
-use Rattle.goo_store_lookups.specs.Holding.{sure}
+use Rattle.goo_store_judge.specs.Holding.{sure}
 use Rattle.goo_tests_store.proofs.registries.opened.Goals as goal
 
 pub open-requires-clause-ordered : goal.open-requires-clause-ordered

@@ -17,7 +17,7 @@ pub invariant_of-self : goal.invariant_of-self
 invariant_of-self g c = record {
   outside = c.plan_changes-planned.ensures.outside c.args.self.now.outside;
   well = well (view g.S.Store c.args.self.now.conn) (view g.S.Store c.plan_changes-planned.new.conn) c.args.self.now.well c.plan_changes-planned.result _ c.plan_changes-planned.ensures.gathers;
-  known = none_known (view g.S.Store c.plan_changes-planned.new.conn) c.replace-findings.new.dest (subst AreNone (sym c.replace-findings.ensures.after) c.none.ensures);
+  known = none_known (view g.S.Store c.plan_changes-planned.new.conn) c.replace-known_rows.new.dest (subst AreNone (sym c.replace-known_rows.ensures.after) c.none.ensures);
   cached =
       lasts_unanswered (view g.S.Store c.args.self.now.conn) (view g.S.Store c.plan_changes-planned.new.conn) c.args.self.now.cache
       (λ none. (
@@ -30,15 +30,15 @@ invariant_of-self g c = record {
 pub returns-clause-prepares : goal.returns-clause-prepares
 returns-clause-prepares g c =
     gathered (view g.S.Store c.args.self.now.conn) (view g.S.Store c.plan_changes-planned.new.conn) c.args.self.now.well c.plan_changes-planned.result _ c.plan_changes-planned.ensures.gathers
-    c.args.self.now.refused c.told.new.refused c.told.result (λ live db may. g.met.S.Store.settled c.args.self.now.conn.store db live may) c.if-self.false c.told.ensures
+    c.args.self.now.refused c.note_fault.new.refused c.note_fault.result (λ live db may. g.met.S.Store.settled c.args.self.now.conn.store db live may) c.if-self.false c.note_fault.ensures
 
 pub returns-clause-planned : goal.returns-clause-planned
 returns-clause-planned g c =
     let old = view g.S.Store c.args.self.now.conn in
     let new = view g.S.Store c.plan_changes-planned.new.conn in
     let after = well old new c.args.self.now.well c.plan_changes-planned.result _ c.plan_changes-planned.ensures.gathers in
-    found_after old new c.args.self.now.well c.plan_changes-planned.result _ c.plan_changes-planned.ensures.gathers _ c.args.self.now.refused c.told.new.refused c.told.result c.told.ensures
-    (λ none planned is fits. is (subst (λ o. Knows new o) (sym c.replace-findings.ensures.value) (known old new c.args.self.now.well c.plan_changes-planned.result _ c.plan_changes-planned.ensures.gathers c.args.self.now.findings c.args.self.now.known) none) (after.kept none) (in_order new.now _ (after.stands none)) fits)
+    found_after old new c.args.self.now.well c.plan_changes-planned.result _ c.plan_changes-planned.ensures.gathers _ c.args.self.now.refused c.note_fault.new.refused c.note_fault.result c.note_fault.ensures
+    (λ none planned is fits. is (subst (λ o. Knows new o) (sym c.replace-known_rows.ensures.value) (known old new c.args.self.now.well c.plan_changes-planned.result _ c.plan_changes-planned.ensures.gathers c.args.self.now.known_rows c.args.self.now.known) none) (after.kept none) (in_order new.now _ (after.stands none)) fits)
 
 pub returns-then-self-clause-store : goal.returns-then-self-clause-store
 returns-then-self-clause-store g c = refused_gathering (view g.S.Store c.args.self.now.conn) c.args.self.now.refused _ (λ t. HaveWhatItNeeds t c.args.plan.now) c.if-self.true
@@ -50,4 +50,4 @@ pub returns-clause-store : goal.returns-clause-store
 returns-clause-store g c =
     let old = view g.S.Store c.args.self.now.conn in
     gathering old (view g.S.Store c.plan_changes-planned.new.conn) c.args.self.now.well c.plan_changes-planned.result _ c.plan_changes-planned.ensures.gathers
-    _ (subst (λ o. Knows old o) (sym c.replace-findings.ensures.value) c.args.self.now.known) c.args.plan.now c.args.self.now.refused c.told.new.refused c.told.result c.plan_changes-planned.ensures.blames c.told.ensures
+    _ (subst (λ o. Knows old o) (sym c.replace-known_rows.ensures.value) c.args.self.now.known) c.args.plan.now c.args.self.now.refused c.note_fault.new.refused c.note_fault.result c.plan_changes-planned.ensures.blames c.note_fault.ensures

@@ -6,9 +6,9 @@ use Rattle.goo_spec_tables.specs.Places.{rows_of}
 use Rattle.goo_types.specs.declared.piece.Piece.{Piece}
 use Rattle.goo_store_audit.specs.Counting.{IsPageAdded}
 use Rattle.goo_store_audit.proofs.CountingLemmas.{counting_begins, counting_goes, counting_ends, weaker_below}
-use Rattle.goo_store_lookups.specs.Moments.{moment, tables_in}
-use Rattle.goo_store_lookups.proofs.Looking.{failed_then}
-use Rattle.goo_store_lookups.proofs.Blaming.{blamed_then, blamed_err}
+use Rattle.goo_store_judge.specs.Moments.{moment, tables_in}
+use Rattle.goo_store_judge.proofs.Looking.{failed_then}
+use Rattle.goo_store_judge.proofs.Blaming.{blamed_then, blamed_err}
 use Rattle.goo_store.proofs.sql_shelf.SqlShelf.count_pages.Goals as goal
 
 pub loop-low-init : goal.loop-low-init

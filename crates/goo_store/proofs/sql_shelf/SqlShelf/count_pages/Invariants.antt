@@ -4,8 +4,8 @@ use Rattle.goo_core_shelf.specs.Shelf.{Looks}
 use Rattle.goo_spec_tables.specs.Places.{rows_of}
 use Rattle.goo_store_audit.specs.Counting.{IsBelow, IsCountedTo, all_numbers}
 use Rattle.goo_store.proofs.sql_shelf.SqlShelf.count_pages.Given as goal
-use Rattle.goo_store_lookups.specs.Moments.{moment, tables_in}
-use Rattle.goo_store_lookups.specs.StoreFaults.{BlamesStore}
+use Rattle.goo_store_judge.specs.Moments.{moment, tables_in}
+use Rattle.goo_store_judge.specs.StoreFaults.{BlamesStore}
 
 -- the rows below a number are counted, those from there on are left
 abbrev pub invariant-loop-low : goal.invariant-loop-low

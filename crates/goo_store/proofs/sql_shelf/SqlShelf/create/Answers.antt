@@ -3,16 +3,16 @@ use Rattle.sqlite.specs.Held.{state as view}
 use Rattle.goo_spec.specs.Created.{created}
 use Rattle.goo_ranges_rows.proofs.CertificateLemmas.{certificates-rows}
 use Rattle.goo_tables_rows.specs.Stands.{doubts}
-use Rattle.goo_store_lookups.specs.Moments.{count, tables_in}
+use Rattle.goo_store_judge.specs.Moments.{count, tables_in}
 use Rattle.goo_spec_tables.specs.Places.{rows_of}
 use Rattle.goo_spec_tables.specs.States.{state_of}
 use Rattle.goo_store_values.specs.Passing.{open_fault_of}
 use Rattle.goo_store_open.specs.declared.fault.OpenFault.TheVariants.{AlreadyThere}
-use Rattle.goo_store_values.specs.declared.trouble.Trouble.{Trouble}
-use Rattle.goo_store_values.specs.declared.trouble.Trouble.TheVariants.{Memory, Refused}
+use Rattle.goo_store_values.specs.declared.statement_fault.StatementFault.{StatementFault}
+use Rattle.goo_store_values.specs.declared.statement_fault.StatementFault.TheVariants.{Memory, Refused}
 use Rattle.goo_store.proofs.Created.{begun_state, created_tables, created_well}
 use Rattle.goo_store.proofs.CreationBlamed.{word_blames}
-use Rattle.goo_store_lookups.specs.Holding.{is_sure, safe}
+use Rattle.goo_store_judge.specs.Holding.{is_sure, safe}
 use Rattle.goo_store.proofs.sql_shelf.SqlShelf.create.Goals as goal
 
 pub over-requires-clause-well : goal.over-requires-clause-well
@@ -48,15 +48,15 @@ returns-in-Ok-clause-ready g c = record {
   settled = λ none. safe (view g.S.Store c.over.result.conn) c.over.result.well (λ live db may. g.met.S.Store.settled c.over.result.conn.store db live may) none c.over.result.refused;
 }
 
-told_apart : (trouble : Trouble) → open_fault_of trouble ≡ AlreadyThere → ⊥
+told_apart : (cause : StatementFault) → open_fault_of cause ≡ AlreadyThere → ⊥
 told_apart Memory is = absurd cc
 told_apart Refused is = absurd cc
 
 pub returns-in-Err-clause-there : goal.returns-in-Err-clause-there
-returns-in-Err-clause-there g c is = absurd (told_apart c.in-Err.trouble (sym c.from.ensures ∙ is))
+returns-in-Err-clause-there g c is = absurd (told_apart c.in-Err.cause (sym c.from.ensures ∙ is))
 
 pub returns-in-Err-clause-untaken : goal.returns-in-Err-clause-untaken
-returns-in-Err-clause-untaken g c empty is = told_apart c.in-Err.trouble (sym c.from.ensures ∙ is)
+returns-in-Err-clause-untaken g c empty is = told_apart c.in-Err.cause (sym c.from.ensures ∙ is)
 
 pub returns-in-Err-clause-blames : goal.returns-in-Err-clause-blames
-returns-in-Err-clause-blames g c empty = word_blames (view g.S.Store c.args.conn) (view g.S.Store c.begin.new.conn) c.in-Err.trouble c.from.result c.from.ensures c.in-Err.ensures.blames
+returns-in-Err-clause-blames g c empty = word_blames (view g.S.Store c.args.conn) (view g.S.Store c.begin.new.conn) c.in-Err.cause c.from.result c.from.ensures c.in-Err.ensures.blames

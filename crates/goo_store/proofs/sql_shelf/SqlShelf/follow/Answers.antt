@@ -1,8 +1,8 @@
 use Rattle.std.proofs.Common.{refl}
 use Rattle.sqlite.specs.Held.{state as view}
-use Rattle.goo_store_lookups.specs.Moments.{tables_in}
-use Rattle.goo_store_lookups.proofs.Looking.{looked, refused_look, well}
-use Rattle.goo_store_lookups.proofs.Blaming.{blames, refused_blames}
+use Rattle.goo_store_judge.specs.Moments.{tables_in}
+use Rattle.goo_store_judge.proofs.Looking.{looked, refused_look, well}
+use Rattle.goo_store_judge.proofs.Blaming.{blames, refused_blames}
 use Rattle.goo_store.proofs.Found.{lots_known}
 use Rattle.goo_store.proofs.RowsRead.{pieces_read}
 use Rattle.goo_store.proofs.Pages.{lasts_with_page, page_beside, page_readable}
@@ -21,7 +21,7 @@ invariant_of-self g c = record {
   known =
       lots_known (view g.S.Store c.args.self.now.conn) (view g.S.Store c.ask_page-found.new.conn) c.args.self.now.well _ _ c.ask_page-found.ensures.looks (λ rows. rows.items)
       (λ rows is. page_beside _ _ (tables_in (view g.S.Store c.args.self.now.conn)) rows.items is)
-      c.args.self.now.findings (record { own = c.args.self.now.findings.own; basis = c.args.self.now.findings.basis; lots = c.read_page-shown.new.lots; edges = c.args.self.now.findings.edges }) refl refl (λ none is. is) c.args.self.now.known c.read_page-shown.ensures.kept;
+      c.args.self.now.known_rows (record { own = c.args.self.now.known_rows.own; basis = c.args.self.now.known_rows.basis; lots = c.read_page-shown.new.lots; edges = c.args.self.now.known_rows.edges }) refl refl (λ none is. is) c.args.self.now.known c.read_page-shown.ensures.kept;
   cached =
       lasts_with_page c.args.account c.args.row.last (view g.S.Store c.args.self.now.conn) (view g.S.Store c.ask_page-found.new.conn) c.args.self.now.well (λ rows. rows.items) _ c.ask_page-found.ensures.looks c.requires
       c.args.self.now.cache (record { answered = c.is_ok-self.result; accounts = c.args.self.now.cache.accounts; ahead = c.read_page-shown.new.ahead }) c.is_ok-self.ensures.value refl c.read_page-shown.ensures.ahead c.args.self.now.cached;
@@ -30,11 +30,11 @@ invariant_of-self g c = record {
 pub returns-clause-looks : goal.returns-clause-looks
 returns-clause-looks g c =
     looked (view g.S.Store c.args.self.now.conn) (view g.S.Store c.ask_page-found.new.conn) c.args.self.now.well _ _ c.ask_page-found.ensures.looks _ _ c.read_page-shown.result
-    c.args.self.now.refused c.told.new.refused c.told.result (λ live db may. g.met.S.Store.settled c.args.self.now.conn.store db live may) c.if-self.false c.read_page-shown.ensures.value c.told.ensures
+    c.args.self.now.refused c.note_fault.new.refused c.note_fault.result (λ live db may. g.met.S.Store.settled c.args.self.now.conn.store db live may) c.if-self.false c.read_page-shown.ensures.value c.note_fault.ensures
     (λ kept rows shown found read. read)
 
 pub returns-clause-store : goal.returns-clause-store
 returns-clause-store g c =
-    blames (view g.S.Store c.args.self.now.conn) (view g.S.Store c.ask_page-found.new.conn) c.args.self.now.well _ _ c.ask_page-found.ensures.looks _ _ c.read_page-shown.result c.args.self.now.refused c.told.new.refused c.told.result
-    c.ask_page-found.ensures.readable c.read_page-shown.ensures.accepts c.told.ensures (pieces_read (tables_in (view g.S.Store c.args.self.now.conn)))
+    blames (view g.S.Store c.args.self.now.conn) (view g.S.Store c.ask_page-found.new.conn) c.args.self.now.well _ _ c.ask_page-found.ensures.looks _ _ c.read_page-shown.result c.args.self.now.refused c.note_fault.new.refused c.note_fault.result
+    c.ask_page-found.ensures.readable c.read_page-shown.ensures.accepts c.note_fault.ensures (pieces_read (tables_in (view g.S.Store c.args.self.now.conn)))
     (λ stands kept rows found. page_readable _ _ (view g.S.Store c.args.self.now.conn).now (tables_in (view g.S.Store c.args.self.now.conn)) stands kept rows.items found)

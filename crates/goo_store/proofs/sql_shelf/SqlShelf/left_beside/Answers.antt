@@ -11,9 +11,9 @@ use Rattle.goo_spec_tables.specs.Readable.{is_declaration}
 use Rattle.goo_spec_tables.specs.States.{state_of}
 use Rattle.goo_spec_tables.proofs.Known.{find-values, declaration_test}
 use Rattle.goo_store_values.proofs.RowsRead.{found_row, each_so}
-use Rattle.goo_store_lookups.specs.Moments.{tables_in}
-use Rattle.goo_store_lookups.proofs.Looking.{looked, refused_look, well}
-use Rattle.goo_store_lookups.proofs.Blaming.{blames, refused_blames}
+use Rattle.goo_store_judge.specs.Moments.{tables_in}
+use Rattle.goo_store_judge.proofs.Looking.{looked, refused_look, well}
+use Rattle.goo_store_judge.proofs.Blaming.{blames, refused_blames}
 use Rattle.goo_store.proofs.Found.{known}
 use Rattle.goo_store.proofs.Caching.{lasts_on}
 use Rattle.goo_store.proofs.sql_shelf.SqlShelf.left_beside.Goals as goal
@@ -31,7 +31,7 @@ pub invariant_of-self : goal.invariant_of-self
 invariant_of-self g c = record {
   outside = c.find_declaration-found.ensures.outside c.args.self.now.outside;
   well = well (view g.S.Store c.args.self.now.conn) (view g.S.Store c.find_declaration-found.new.conn) c.args.self.now.well _ _ c.find_declaration-found.ensures.looks;
-  known = known (view g.S.Store c.args.self.now.conn) (view g.S.Store c.find_declaration-found.new.conn) c.args.self.now.well _ _ c.find_declaration-found.ensures.looks c.args.self.now.findings c.args.self.now.known;
+  known = known (view g.S.Store c.args.self.now.conn) (view g.S.Store c.find_declaration-found.new.conn) c.args.self.now.well _ _ c.find_declaration-found.ensures.looks c.args.self.now.known_rows c.args.self.now.known;
   cached = lasts_on (view g.S.Store c.args.self.now.conn) (view g.S.Store c.find_declaration-found.new.conn) c.args.self.now.well _ _ c.find_declaration-found.ensures.looks c.args.self.now.cache c.is_ok-self.result c.is_ok-self.ensures.value c.args.self.now.cached;
 }
 
@@ -40,7 +40,7 @@ unfolding state_of correctable
 returns-clause-looks g c =
     let t = tables_in (view g.S.Store c.args.self.now.conn) in
     looked (view g.S.Store c.args.self.now.conn) (view g.S.Store c.find_declaration-found.new.conn) c.args.self.now.well _ _ c.find_declaration-found.ensures.looks _ _ c.read_left.result
-    c.args.self.now.refused c.told.new.refused c.told.result (λ live db may. g.met.S.Store.settled c.args.self.now.conn.store db live may) c.if-self.false c.read_left.ensures.value c.told.ensures
+    c.args.self.now.refused c.note_fault.new.refused c.note_fault.result (λ live db may. g.met.S.Store.settled c.args.self.now.conn.store db live may) c.if-self.false c.read_left.ensures.value c.note_fault.ensures
     (λ kept row left found read are.
     left_found c.args.corrections.now c.args.device.now c.args.first_day _
     (λ d. (λ i. bytes_eq d.device (c.text.ensures.value i) && bytes_eq d.first_day ((c.as_str.ensures.value ∙ c.text-day.ensures.text) i)) ∙ declaration_test d.device d.first_day c.args.device.now c.args.first_day c.text-day.ensures.limit)
@@ -52,7 +52,7 @@ returns-then-self-clause-store g c = refused_blames (view g.S.Store c.args.self.
 
 pub returns-clause-store : goal.returns-clause-store
 returns-clause-store g c =
-    blames (view g.S.Store c.args.self.now.conn) (view g.S.Store c.find_declaration-found.new.conn) c.args.self.now.well _ _ c.find_declaration-found.ensures.looks _ _ c.read_left.result c.args.self.now.refused c.told.new.refused c.told.result
-    c.find_declaration-found.ensures.readable c.read_left.ensures.accepts c.told.ensures (λ can. can.declarations)
+    blames (view g.S.Store c.args.self.now.conn) (view g.S.Store c.find_declaration-found.new.conn) c.args.self.now.well _ _ c.find_declaration-found.ensures.looks _ _ c.read_left.result c.args.self.now.refused c.note_fault.new.refused c.note_fault.result
+    c.find_declaration-found.ensures.readable c.read_left.ensures.accepts c.note_fault.ensures (λ can. can.declarations)
     (λ stands kept row found. found_row declaration_in (λ d. IsTrue (is_declaration d)) _ (tables_in (view g.S.Store c.args.self.now.conn)).declarations
     (each_so is_declaration (λ d. IsTrue (is_declaration d)) (λ _ good. good) (tables_in (view g.S.Store c.args.self.now.conn)).declarations kept.readable.declarations) row found)

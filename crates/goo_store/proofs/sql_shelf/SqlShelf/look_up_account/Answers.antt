@@ -5,13 +5,13 @@ use Rattle.std.specs.Cmp.{nat_cmp_total}
 use Rattle.goo_spec_tables.specs.States.{account_of}
 use Rattle.goo_spec_tables.proofs.Known.{known_row, number_test}
 use Rattle.goo_spec_tables.specs.States.{state_of}
-use Rattle.goo_store_lookups.proofs.Looking.{looked, refused_look, well}
+use Rattle.goo_store_judge.proofs.Looking.{looked, refused_look, well}
 use Rattle.goo_store.proofs.Found.{known}
-use Rattle.goo_store_lookups.proofs.Blaming.{blames, refused_blames}
+use Rattle.goo_store_judge.proofs.Blaming.{blames, refused_blames}
 use Rattle.goo_store_values.proofs.RowsRead.{found_row, each_so}
 use Rattle.goo_spec_tables.specs.Readable.{is_account}
 use Rattle.goo_tables_rows.specs.Rows.{account_in}
-use Rattle.goo_store_lookups.specs.Moments.{tables_in}
+use Rattle.goo_store_judge.specs.Moments.{tables_in}
 use Rattle.goo_store.proofs.Caching.{kept_blames, kept_look, lasts_on, lasts_with_account}
 use Rattle.goo_store.proofs.sql_shelf.SqlShelf.look_up_account.Goals as goal
 
@@ -23,11 +23,11 @@ unfolding state_of
 invariant_of-self g c = record {
   outside = c.find_account-found.ensures.outside c.args.self.now.outside;
   well = well (view g.S.Store c.args.self.now.conn) (view g.S.Store c.find_account-found.new.conn) c.args.self.now.well _ _ c.find_account-found.ensures.looks;
-  known = known (view g.S.Store c.args.self.now.conn) (view g.S.Store c.find_account-found.new.conn) c.args.self.now.well _ _ c.find_account-found.ensures.looks c.args.self.now.findings c.args.self.now.known;
+  known = known (view g.S.Store c.args.self.now.conn) (view g.S.Store c.find_account-found.new.conn) c.args.self.now.well _ _ c.find_account-found.ensures.looks c.args.self.now.known_rows c.args.self.now.known;
   cached =
-      lasts_with_account (view g.S.Store c.args.self.now.conn) (view g.S.Store c.find_account-found.new.conn) c.args.self.now.refused c.told-read.new.refused c.args.account c.told-read.result
+      lasts_with_account (view g.S.Store c.args.self.now.conn) (view g.S.Store c.find_account-found.new.conn) c.args.self.now.refused c.note_fault-read.new.refused c.args.account c.note_fault-read.result
       (looked (view g.S.Store c.args.self.now.conn) (view g.S.Store c.find_account-found.new.conn) c.args.self.now.well _ _ c.find_account-found.ensures.looks _ _ c.read_account.result
-      c.args.self.now.refused c.told-read.new.refused c.told-read.result (λ live db may. g.met.S.Store.settled c.args.self.now.conn.store db live may) c.if-self.false c.read_account.ensures.value c.told-read.ensures
+      c.args.self.now.refused c.note_fault-read.new.refused c.note_fault-read.result (λ live db may. g.met.S.Store.settled c.args.self.now.conn.store db live may) c.if-self.false c.read_account.ensures.value c.note_fault-read.ensures
       (λ kept row account found read. known_row nat_cmp_total (λ a. a.number) c.args.account _ (λ a. ap (λ n. int_eq (pos a.number) (pos n)) c.get.ensures.value ∙ number_test a.number c.args.account) account_of _ _ account found read))
       (record { answered = c.is_ok-self.result; accounts = c.args.self.now.cache.accounts; ahead = c.args.self.now.cache.ahead }) (record { answered = c.is_ok-self.result; accounts = c.keep_account.new.accounts; ahead = c.args.self.now.cache.ahead }) refl refl c.keep_account.ensures.kept
       (lasts_on (view g.S.Store c.args.self.now.conn) (view g.S.Store c.find_account-found.new.conn) c.args.self.now.well _ _ c.find_account-found.ensures.looks c.args.self.now.cache c.is_ok-self.result c.is_ok-self.ensures.value c.args.self.now.cached);
@@ -37,7 +37,7 @@ pub returns-clause-looks : goal.returns-clause-looks
 unfolding state_of
 returns-clause-looks g c =
     looked (view g.S.Store c.args.self.now.conn) (view g.S.Store c.find_account-found.new.conn) c.args.self.now.well _ _ c.find_account-found.ensures.looks _ _ c.read_account.result
-    c.args.self.now.refused c.told-read.new.refused c.told-read.result (λ live db may. g.met.S.Store.settled c.args.self.now.conn.store db live may) c.if-self.false c.read_account.ensures.value c.told-read.ensures
+    c.args.self.now.refused c.note_fault-read.new.refused c.note_fault-read.result (λ live db may. g.met.S.Store.settled c.args.self.now.conn.store db live may) c.if-self.false c.read_account.ensures.value c.note_fault-read.ensures
     (λ kept row account found read. known_row nat_cmp_total (λ a. a.number) c.args.account _ (λ a. ap (λ n. int_eq (pos a.number) (pos n)) c.get.ensures.value ∙ number_test a.number c.args.account) account_of _ _ account found read)
 
 pub returns-in-Some-clause-looks : goal.returns-in-Some-clause-looks
@@ -53,6 +53,6 @@ returns-then-self-clause-store g c = refused_blames (view g.S.Store c.args.self.
 
 pub returns-clause-store : goal.returns-clause-store
 returns-clause-store g c =
-    blames (view g.S.Store c.args.self.now.conn) (view g.S.Store c.find_account-found.new.conn) c.args.self.now.well _ _ c.find_account-found.ensures.looks _ _ c.read_account.result c.args.self.now.refused c.told-read.new.refused c.told-read.result
-    c.find_account-found.ensures.readable c.read_account.ensures.accepts c.told-read.ensures (λ can. can.accounts)
+    blames (view g.S.Store c.args.self.now.conn) (view g.S.Store c.find_account-found.new.conn) c.args.self.now.well _ _ c.find_account-found.ensures.looks _ _ c.read_account.result c.args.self.now.refused c.note_fault-read.new.refused c.note_fault-read.result
+    c.find_account-found.ensures.readable c.read_account.ensures.accepts c.note_fault-read.ensures (λ can. can.accounts)
     (λ stands kept row found. found_row account_in (λ r. IsTrue (is_account r)) _ (tables_in (view g.S.Store c.args.self.now.conn)).accounts (each_so is_account (λ r. IsTrue (is_account r)) (λ _ good. good) (tables_in (view g.S.Store c.args.self.now.conn)).accounts kept.readable.accounts) row found)

@@ -8,13 +8,13 @@ use Rattle.goo_spec.specs.Lots.{key_of, lot_key}
 use Rattle.goo_spec_tables.specs.Places.{lot_of}
 use Rattle.goo_spec_tables.proofs.Known.{known_row, lot_test}
 use Rattle.goo_spec_tables.specs.States.{state_of}
-use Rattle.goo_store_lookups.proofs.Looking.{looked, refused_look, well}
+use Rattle.goo_store_judge.proofs.Looking.{looked, refused_look, well}
 use Rattle.goo_store.proofs.Found.{lot_known}
-use Rattle.goo_store_lookups.proofs.Blaming.{blames, refused_blames}
+use Rattle.goo_store_judge.proofs.Blaming.{blames, refused_blames}
 use Rattle.goo_store_values.proofs.RowsRead.{found_row, lots_kept}
 use Rattle.goo_tables_rows.specs.Rows.{lot_in}
 use Rattle.goo_store_values.specs.Reading.{IsReadableLot}
-use Rattle.goo_store_lookups.specs.Moments.{tables_in}
+use Rattle.goo_store_judge.specs.Moments.{tables_in}
 use Rattle.goo_store.proofs.Caching.{lasts_on}
 use Rattle.goo_store.proofs.sql_shelf.SqlShelf.look_up_lot.Goals as goal
 
@@ -27,7 +27,7 @@ invariant_of-self g c = record {
   well = well (view g.S.Store c.args.self.now.conn) (view g.S.Store c.find_lot-found.new.conn) c.args.self.now.well _ _ c.find_lot-found.ensures.looks;
   known =
       lot_known (view g.S.Store c.args.self.now.conn) (view g.S.Store c.find_lot-found.new.conn) c.args.self.now.well _ _ c.find_lot-found.ensures.looks
-      c.args.self.now.findings (record { own = c.args.self.now.findings.own; basis = c.args.self.now.findings.basis; lots = c.read_found-lot.new.lots; edges = c.args.self.now.findings.edges }) refl refl (λ none is. is) c.args.self.now.known c.read_found-lot.ensures.kept;
+      c.args.self.now.known_rows (record { own = c.args.self.now.known_rows.own; basis = c.args.self.now.known_rows.basis; lots = c.read_found-lot.new.lots; edges = c.args.self.now.known_rows.edges }) refl refl (λ none is. is) c.args.self.now.known c.read_found-lot.ensures.kept;
   cached = lasts_on (view g.S.Store c.args.self.now.conn) (view g.S.Store c.find_lot-found.new.conn) c.args.self.now.well _ _ c.find_lot-found.ensures.looks c.args.self.now.cache c.is_ok-self.result c.is_ok-self.ensures.value c.args.self.now.cached;
 }
 
@@ -35,7 +35,7 @@ pub returns-clause-looks : goal.returns-clause-looks
 unfolding state_of
 returns-clause-looks g c =
     looked (view g.S.Store c.args.self.now.conn) (view g.S.Store c.find_lot-found.new.conn) c.args.self.now.well _ _ c.find_lot-found.ensures.looks _ _ c.read_found-lot.result
-    c.args.self.now.refused c.told.new.refused c.told.result (λ live db may. g.met.S.Store.settled c.args.self.now.conn.store db live may) c.if-self.false c.read_found-lot.ensures.value c.told.ensures
+    c.args.self.now.refused c.note_fault.new.refused c.note_fault.result (λ live db may. g.met.S.Store.settled c.args.self.now.conn.store db live may) c.if-self.false c.read_found-lot.ensures.value c.note_fault.ensures
     (λ kept row lot found read.
     known_row nat_list_cmp_total (λ l. key_of (lot_of l)) (lot_key c.args.origin c.args.device.now c.args.first_day) _
     (λ l. (λ i. int_eq (pos l.origin) (pos ((c.from-origin.ensures ∙ c.get.ensures.value) i)) && (bytes_eq l.device (c.text.ensures.value i) && bytes_eq l.first_day ((c.as_str.ensures.value ∙ c.text-day.ensures.text) i)))
@@ -47,6 +47,6 @@ returns-then-self-clause-store g c = refused_blames (view g.S.Store c.args.self.
 
 pub returns-clause-store : goal.returns-clause-store
 returns-clause-store g c =
-    blames (view g.S.Store c.args.self.now.conn) (view g.S.Store c.find_lot-found.new.conn) c.args.self.now.well _ _ c.find_lot-found.ensures.looks _ _ c.read_found-lot.result c.args.self.now.refused c.told.new.refused c.told.result
-    c.find_lot-found.ensures.readable c.read_found-lot.ensures.accepts c.told.ensures (λ can. can.lots)
+    blames (view g.S.Store c.args.self.now.conn) (view g.S.Store c.find_lot-found.new.conn) c.args.self.now.well _ _ c.find_lot-found.ensures.looks _ _ c.read_found-lot.result c.args.self.now.refused c.note_fault.new.refused c.note_fault.result
+    c.find_lot-found.ensures.readable c.read_found-lot.ensures.accepts c.note_fault.ensures (λ can. can.lots)
     (λ stands kept row found. found_row lot_in IsReadableLot _ (tables_in (view g.S.Store c.args.self.now.conn)).lots (lots_kept (view g.S.Store c.args.self.now.conn).now (tables_in (view g.S.Store c.args.self.now.conn)) stands kept) row found)

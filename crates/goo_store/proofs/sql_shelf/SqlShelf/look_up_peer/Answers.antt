@@ -5,9 +5,9 @@ use Rattle.goo_spec_tables.proofs.Known.{known_kept, number_test}
 use Rattle.sqlite_keyed.proofs.SliceLemmas.{is_some-map}
 use Rattle.std.specs.Ordering.{int_eq}
 use Rattle.goo_spec_tables.specs.States.{state_of}
-use Rattle.goo_store_lookups.proofs.Looking.{looked, refused_look, well}
+use Rattle.goo_store_judge.proofs.Looking.{looked, refused_look, well}
 use Rattle.goo_store.proofs.Found.{known}
-use Rattle.goo_store_lookups.proofs.Blaming.{blames, refused_blames}
+use Rattle.goo_store_judge.proofs.Blaming.{blames, refused_blames}
 use Rattle.goo_store.proofs.Caching.{lasts_on}
 use Rattle.goo_store.proofs.sql_shelf.SqlShelf.look_up_peer.Goals as goal
 
@@ -18,7 +18,7 @@ pub invariant_of-self : goal.invariant_of-self
 invariant_of-self g c = record {
   outside = c.find_peer-found.ensures.outside c.args.self.now.outside;
   well = well (view g.S.Store c.args.self.now.conn) (view g.S.Store c.find_peer-found.new.conn) c.args.self.now.well _ _ c.find_peer-found.ensures.looks;
-  known = known (view g.S.Store c.args.self.now.conn) (view g.S.Store c.find_peer-found.new.conn) c.args.self.now.well _ _ c.find_peer-found.ensures.looks c.args.self.now.findings c.args.self.now.known;
+  known = known (view g.S.Store c.args.self.now.conn) (view g.S.Store c.find_peer-found.new.conn) c.args.self.now.well _ _ c.find_peer-found.ensures.looks c.args.self.now.known_rows c.args.self.now.known;
   cached = lasts_on (view g.S.Store c.args.self.now.conn) (view g.S.Store c.find_peer-found.new.conn) c.args.self.now.well _ _ c.find_peer-found.ensures.looks c.args.self.now.cache c.is_ok-self.result c.is_ok-self.ensures.value c.args.self.now.cached;
 }
 
@@ -26,7 +26,7 @@ pub returns-clause-looks : goal.returns-clause-looks
 unfolding state_of
 returns-clause-looks g c =
     looked (view g.S.Store c.args.self.now.conn) (view g.S.Store c.find_peer-found.new.conn) c.args.self.now.well _ _ c.find_peer-found.ensures.looks _ _ c.is_there.result
-    c.args.self.now.refused c.told.new.refused c.told.result (λ live db may. g.met.S.Store.settled c.args.self.now.conn.store db live may) c.if-self.false c.is_there.ensures.value c.told.ensures
+    c.args.self.now.refused c.note_fault.new.refused c.note_fault.result (λ live db may. g.met.S.Store.settled c.args.self.now.conn.store db live may) c.if-self.false c.is_there.ensures.value c.note_fault.ensures
     (λ kept row there found read.
     read ∙ sym (is_some-map (λ _. tt) row)
     ∙ ap is_some (known_kept nat_cmp_total (λ k. k.1.code) c.args.code _ (λ k. ap (λ n. int_eq (pos k.1.code) (pos n)) (c.from.ensures ∙ c.get.ensures.value) ∙ number_test k.1.code c.args.code) (λ k. k.1) (λ _. tt) _ row (option_map (λ _. tt) row) found refl)
@@ -37,6 +37,6 @@ returns-then-self-clause-store g c = refused_blames (view g.S.Store c.args.self.
 
 pub returns-clause-store : goal.returns-clause-store
 returns-clause-store g c =
-    blames (view g.S.Store c.args.self.now.conn) (view g.S.Store c.find_peer-found.new.conn) c.args.self.now.well _ _ c.find_peer-found.ensures.looks _ _ c.is_there.result c.args.self.now.refused c.told.new.refused c.told.result
-    c.find_peer-found.ensures.readable c.is_there.ensures.accepts c.told.ensures (λ can. can.peers)
+    blames (view g.S.Store c.args.self.now.conn) (view g.S.Store c.find_peer-found.new.conn) c.args.self.now.well _ _ c.find_peer-found.ensures.looks _ _ c.is_there.result c.args.self.now.refused c.note_fault.new.refused c.note_fault.result
+    c.find_peer-found.ensures.readable c.is_there.ensures.accepts c.note_fault.ensures (λ can. can.peers)
     (λ _ _ _ _. tt)

@@ -7,12 +7,12 @@ use Rattle.goo_tables_rows.specs.Rows.{receipt_in}
 use Rattle.goo_spec_tables.specs.Replies.{receipt_of}
 use Rattle.goo_spec_tables.proofs.Known.{known_kept, receipt_test, receipt_total}
 use Rattle.goo_spec_tables.specs.States.{state_of}
-use Rattle.goo_store_lookups.proofs.Looking.{looked, refused_look, well}
+use Rattle.goo_store_judge.proofs.Looking.{looked, refused_look, well}
 use Rattle.goo_store.proofs.Found.{known}
-use Rattle.goo_store_lookups.proofs.Blaming.{blames, refused_blames}
+use Rattle.goo_store_judge.proofs.Blaming.{blames, refused_blames}
 use Rattle.goo_store_values.proofs.RowsRead.{found_part, each_so}
 use Rattle.goo_spec_tables.specs.Readable.{is_receipt}
-use Rattle.goo_store_lookups.specs.Moments.{tables_in}
+use Rattle.goo_store_judge.specs.Moments.{tables_in}
 use Rattle.goo_store.proofs.Caching.{lasts_on}
 use Rattle.goo_store.proofs.sql_shelf.SqlShelf.look_up_receipt.Goals as goal
 
@@ -23,7 +23,7 @@ pub invariant_of-self : goal.invariant_of-self
 invariant_of-self g c = record {
   outside = c.find_receipt-found.ensures.outside c.args.self.now.outside;
   well = well (view g.S.Store c.args.self.now.conn) (view g.S.Store c.find_receipt-found.new.conn) c.args.self.now.well _ _ c.find_receipt-found.ensures.looks;
-  known = known (view g.S.Store c.args.self.now.conn) (view g.S.Store c.find_receipt-found.new.conn) c.args.self.now.well _ _ c.find_receipt-found.ensures.looks c.args.self.now.findings c.args.self.now.known;
+  known = known (view g.S.Store c.args.self.now.conn) (view g.S.Store c.find_receipt-found.new.conn) c.args.self.now.well _ _ c.find_receipt-found.ensures.looks c.args.self.now.known_rows c.args.self.now.known;
   cached = lasts_on (view g.S.Store c.args.self.now.conn) (view g.S.Store c.find_receipt-found.new.conn) c.args.self.now.well _ _ c.find_receipt-found.ensures.looks c.args.self.now.cache c.is_ok-self.result c.is_ok-self.ensures.value c.args.self.now.cached;
 }
 
@@ -31,7 +31,7 @@ pub returns-clause-looks : goal.returns-clause-looks
 unfolding state_of
 returns-clause-looks g c =
     looked (view g.S.Store c.args.self.now.conn) (view g.S.Store c.find_receipt-found.new.conn) c.args.self.now.well _ _ c.find_receipt-found.ensures.looks _ _ c.read_receipt.result
-    c.args.self.now.refused c.told.new.refused c.told.result (λ live db may. g.met.S.Store.settled c.args.self.now.conn.store db live may) c.if-self.false c.read_receipt.ensures.value c.told.ensures
+    c.args.self.now.refused c.note_fault.new.refused c.note_fault.result (λ live db may. g.met.S.Store.settled c.args.self.now.conn.store db live may) c.if-self.false c.read_receipt.ensures.value c.note_fault.ensures
     (λ kept row receipt found read.
     let caller = c.args.caller.now in
     let key = c.args.key.now in
@@ -44,6 +44,6 @@ returns-then-self-clause-store g c = refused_blames (view g.S.Store c.args.self.
 
 pub returns-clause-store : goal.returns-clause-store
 returns-clause-store g c =
-    blames (view g.S.Store c.args.self.now.conn) (view g.S.Store c.find_receipt-found.new.conn) c.args.self.now.well _ _ c.find_receipt-found.ensures.looks _ _ c.read_receipt.result c.args.self.now.refused c.told.new.refused c.told.result
-    c.find_receipt-found.ensures.readable c.read_receipt.ensures.accepts c.told.ensures (λ can. can.receipts)
+    blames (view g.S.Store c.args.self.now.conn) (view g.S.Store c.find_receipt-found.new.conn) c.args.self.now.well _ _ c.find_receipt-found.ensures.looks _ _ c.read_receipt.result c.args.self.now.refused c.note_fault.new.refused c.note_fault.result
+    c.find_receipt-found.ensures.readable c.read_receipt.ensures.accepts c.note_fault.ensures (λ can. can.receipts)
     (λ stands kept row found. found_part (λ k. k.1) receipt_in (λ r. IsTrue (is_receipt (pos 0, r))) _ (tables_in (view g.S.Store c.args.self.now.conn)).receipts (each_so is_receipt (λ k. IsTrue (is_receipt k)) (λ _ good. good) (tables_in (view g.S.Store c.args.self.now.conn)).receipts kept.readable.receipts) row found)

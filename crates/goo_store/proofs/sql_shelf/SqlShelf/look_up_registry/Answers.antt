@@ -1,8 +1,8 @@
 use Rattle.sqlite.specs.Held.{state as view}
-use Rattle.goo_store_lookups.specs.Moments.{tables_in}
-use Rattle.goo_store_lookups.proofs.Looking.{looked, refused_look, well}
+use Rattle.goo_store_judge.specs.Moments.{tables_in}
+use Rattle.goo_store_judge.proofs.Looking.{looked, refused_look, well}
 use Rattle.goo_store.proofs.Found.{own_known}
-use Rattle.goo_store_lookups.proofs.Blaming.{blames, refused_blames}
+use Rattle.goo_store_judge.proofs.Blaming.{blames, refused_blames}
 use Rattle.goo_store.proofs.RowsRead.{meta_found}
 use Rattle.goo_store_values.proofs.RowsRead.{meta_read}
 use Rattle.goo_store.proofs.Caching.{kept_blames, kept_look, lasts_on}
@@ -15,14 +15,14 @@ pub invariant_of-self : goal.invariant_of-self
 invariant_of-self g c = record {
   outside = c.find_meta-found.ensures.outside c.args.self.now.outside;
   well = well (view g.S.Store c.args.self.now.conn) (view g.S.Store c.find_meta-found.new.conn) c.args.self.now.well _ _ c.find_meta-found.ensures.looks;
-  known = own_known (view g.S.Store c.args.self.now.conn) (view g.S.Store c.find_meta-found.new.conn) c.args.self.now.well _ c.find_meta-found.ensures.looks c.args.self.now.findings c.read_meta.new.own c.args.self.now.known c.read_meta.ensures.kept;
+  known = own_known (view g.S.Store c.args.self.now.conn) (view g.S.Store c.find_meta-found.new.conn) c.args.self.now.well _ c.find_meta-found.ensures.looks c.args.self.now.known_rows c.read_meta.new.own c.args.self.now.known c.read_meta.ensures.kept;
   cached = lasts_on (view g.S.Store c.args.self.now.conn) (view g.S.Store c.find_meta-found.new.conn) c.args.self.now.well _ _ c.find_meta-found.ensures.looks c.args.self.now.cache c.is_ok-self.result c.is_ok-self.ensures.value c.args.self.now.cached;
 }
 
 pub returns-clause-looks : goal.returns-clause-looks
 returns-clause-looks g c =
     looked (view g.S.Store c.args.self.now.conn) (view g.S.Store c.find_meta-found.new.conn) c.args.self.now.well _ _ c.find_meta-found.ensures.looks _ _ c.read_meta.result
-    c.args.self.now.refused c.told.new.refused c.told.result (λ live db may. g.met.S.Store.settled c.args.self.now.conn.store db live may) c.if-self.false c.read_meta.ensures.value c.told.ensures
+    c.args.self.now.refused c.note_fault.new.refused c.note_fault.result (λ live db may. g.met.S.Store.settled c.args.self.now.conn.store db live may) c.if-self.false c.read_meta.ensures.value c.note_fault.ensures
     (λ kept row meta found read. read (tables_in (view g.S.Store c.args.self.now.conn)) found)
 
 pub returns-then-self-clause-store : goal.returns-then-self-clause-store
@@ -30,8 +30,8 @@ returns-then-self-clause-store g c = refused_blames (view g.S.Store c.args.self.
 
 pub returns-clause-store : goal.returns-clause-store
 returns-clause-store g c =
-    blames (view g.S.Store c.args.self.now.conn) (view g.S.Store c.find_meta-found.new.conn) c.args.self.now.well _ _ c.find_meta-found.ensures.looks _ _ c.read_meta.result c.args.self.now.refused c.told.new.refused c.told.result
-    c.find_meta-found.ensures.readable c.read_meta.ensures.accepts c.told.ensures (meta_read (tables_in (view g.S.Store c.args.self.now.conn)))
+    blames (view g.S.Store c.args.self.now.conn) (view g.S.Store c.find_meta-found.new.conn) c.args.self.now.well _ _ c.find_meta-found.ensures.looks _ _ c.read_meta.result c.args.self.now.refused c.note_fault.new.refused c.note_fault.result
+    c.find_meta-found.ensures.readable c.read_meta.ensures.accepts c.note_fault.ensures (meta_read (tables_in (view g.S.Store c.args.self.now.conn)))
     (λ stands kept row found. meta_found (tables_in (view g.S.Store c.args.self.now.conn)).meta kept.readable.meta row found)
 
 pub returns-in-Some-clause-looks : goal.returns-in-Some-clause-looks

@@ -2,8 +2,8 @@ use Rattle.std.proofs.Common.{◌∙◌, ap, sym}
 use Rattle.sqlite.specs.Held.{state as view}
 use Rattle.goo_core_shelf.specs.Shelf.{totals_of}
 use Rattle.goo_spec.specs.State.{State}
-use Rattle.goo_store_lookups.proofs.Looking.{looked_then}
-use Rattle.goo_store_lookups.proofs.Blaming.{blamed_then}
+use Rattle.goo_store_judge.proofs.Looking.{looked_then}
+use Rattle.goo_store_judge.proofs.Blaming.{blamed_then}
 use Rattle.goo_store.proofs.sql_shelf.SqlShelf.look_up_totals.Goals as goal
 
 pub returns-clause-looks : goal.returns-clause-looks

@@ -5,9 +5,9 @@ use Rattle.goo_spec.specs.State.{State}
 use Rattle.goo_types.specs.declared.piece.Piece.{Piece}
 use Rattle.goo_store_audit.specs.NetCounting.{IsDeclaredTo, IsNetPageAdded}
 use Rattle.goo_store_audit.proofs.NetLemmas.{declaring_begins, declaring_goes, declaring_ends}
-use Rattle.goo_store_lookups.specs.Moments.{moment, tables_in}
-use Rattle.goo_store_lookups.proofs.Looking.{failed_then}
-use Rattle.goo_store_lookups.proofs.Blaming.{blamed_then, blamed_err}
+use Rattle.goo_store_judge.specs.Moments.{moment, tables_in}
+use Rattle.goo_store_judge.proofs.Looking.{failed_then}
+use Rattle.goo_store_judge.proofs.Blaming.{blamed_then, blamed_err}
 use Rattle.goo_tables_rows.specs.Rows.{Tables}
 use Rattle.goo_store.proofs.sql_shelf.SqlShelf.net_energy.Goals as goal
 

@@ -3,8 +3,8 @@ use Rattle.sqlite.specs.Held.{state as view}
 use Rattle.goo_core_shelf.specs.Shelf.{Looks}
 use Rattle.goo_store_audit.specs.NetCounting.{IsDeclaredTo, IsSumBelow}
 use Rattle.goo_store.proofs.sql_shelf.SqlShelf.net_energy.Given as goal
-use Rattle.goo_store_lookups.specs.Moments.{moment, tables_in}
-use Rattle.goo_store_lookups.specs.StoreFaults.{BlamesStore}
+use Rattle.goo_store_judge.specs.Moments.{moment, tables_in}
+use Rattle.goo_store_judge.specs.StoreFaults.{BlamesStore}
 use Rattle.goo_tables_rows.specs.Stands.{doubts}
 
 -- the declarations below a number are added up, those from there on are left

@@ -3,9 +3,9 @@ use Rattle.sqlite.specs.Held.{state as view}
 use Rattle.sqlite_keyed.specs.Keyed.{IsKeyedBy}
 use Rattle.goo_core_shelf.proofs.Looking as shelf
 use Rattle.goo_store_audit.specs.NetCounting.{IsNetPageAdded}
-use Rattle.goo_store_lookups.specs.Moments.{moment, tables_in}
-use Rattle.goo_store_lookups.proofs.Looking.{looked, refused_look, tables_same, well}
-use Rattle.goo_store_lookups.proofs.Blaming.{blames, refused_blames}
+use Rattle.goo_store_judge.specs.Moments.{moment, tables_in}
+use Rattle.goo_store_judge.proofs.Looking.{looked, refused_look, tables_same, well}
+use Rattle.goo_store_judge.proofs.Blaming.{blames, refused_blames}
 use Rattle.goo_store.proofs.Found.{known}
 use Rattle.goo_store_audit.proofs.NetLemmas.{net_page_added, nets_read, nets_shown}
 use Rattle.goo_store.proofs.Caching.{lasts_on}
@@ -23,7 +23,7 @@ pub invariant_of-self : goal.invariant_of-self
 invariant_of-self g c = record {
   outside = c.page_of_declarations-found.ensures.outside c.args.self.now.outside;
   well = well (view g.S.Store c.args.self.now.conn) (view g.S.Store c.page_of_declarations-found.new.conn) c.args.self.now.well _ _ c.page_of_declarations-found.ensures.looks;
-  known = known (view g.S.Store c.args.self.now.conn) (view g.S.Store c.page_of_declarations-found.new.conn) c.args.self.now.well _ _ c.page_of_declarations-found.ensures.looks c.args.self.now.findings c.args.self.now.known;
+  known = known (view g.S.Store c.args.self.now.conn) (view g.S.Store c.page_of_declarations-found.new.conn) c.args.self.now.well _ _ c.page_of_declarations-found.ensures.looks c.args.self.now.known_rows c.args.self.now.known;
   cached = lasts_on (view g.S.Store c.args.self.now.conn) (view g.S.Store c.page_of_declarations-found.new.conn) c.args.self.now.well _ _ c.page_of_declarations-found.ensures.looks c.args.self.now.cache c.is_ok-self.result c.is_ok-self.ensures.value c.args.self.now.cached;
 }
 
@@ -32,17 +32,17 @@ returns-clause-looks g c =
     let old = view g.S.Store c.args.self.now.conn in
     let new = view g.S.Store c.page_of_declarations-found.new.conn in
     let ds = (tables_in old).declarations in
-    shelf.looked_as (moment old c.args.self.now.refused) (moment new c.told.new.refused) c.told.result (λ next. IsKeyedBy declaration_key ds → IsNetPageAdded ds c.args.low next c.args.sums.now c.add_found-next.new.sums) _
+    shelf.looked_as (moment old c.args.self.now.refused) (moment new c.note_fault.new.refused) c.note_fault.result (λ next. IsKeyedBy declaration_key ds → IsNetPageAdded ds c.args.low next c.args.sums.now c.add_found-next.new.sums) _
     (looked old new c.args.self.now.well _ _ c.page_of_declarations-found.ensures.looks _ _ c.add_found-next.result
-    c.args.self.now.refused c.told.new.refused c.told.result (λ live db may. g.met.S.Store.settled c.args.self.now.conn.store db live may) c.if-self.false c.add_found-next.ensures.value c.told.ensures
+    c.args.self.now.refused c.note_fault.new.refused c.note_fault.result (λ live db may. g.met.S.Store.settled c.args.self.now.conn.store db live may) c.if-self.false c.add_found-next.ensures.value c.note_fault.ensures
     (λ kept rows next found added keyed. net_page_added ds keyed c.args.low c.args.sums.now c.add_found-next.new.sums (map net_in rows.items) next found added.0 added.1))
     (λ fine next it. it (c.args.self.now.well.stands fine).declarations.rise)
 
 pub returns-clause-store : goal.returns-clause-store
 returns-clause-store g c =
     let old = view g.S.Store c.args.self.now.conn in
-    blames old (view g.S.Store c.page_of_declarations-found.new.conn) c.args.self.now.well _ _ c.page_of_declarations-found.ensures.looks _ _ c.add_found-next.result c.args.self.now.refused c.told.new.refused c.told.result
-    c.page_of_declarations-found.ensures.readable c.add_found-next.ensures.accepts c.told.ensures (λ can. nets_read (tables_in old).declarations can.declarations)
+    blames old (view g.S.Store c.page_of_declarations-found.new.conn) c.args.self.now.well _ _ c.page_of_declarations-found.ensures.looks _ _ c.add_found-next.result c.args.self.now.refused c.note_fault.new.refused c.note_fault.result
+    c.page_of_declarations-found.ensures.readable c.add_found-next.ensures.accepts c.note_fault.ensures (λ can. nets_read (tables_in old).declarations can.declarations)
     (λ stands kept rows found. nets_shown (tables_in old).declarations stands.declarations.rise kept.readable.declarations c.args.low rows.items found)
 
 pub returns-then-self-clause-tables : goal.returns-then-self-clause-tables

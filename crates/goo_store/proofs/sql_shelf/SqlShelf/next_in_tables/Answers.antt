@@ -3,8 +3,8 @@ use Rattle.goo_spec.specs.State.{State}
 use Rattle.goo_types.specs.declared.piece.Piece.{Piece}
 use Rattle.sqlite.specs.Held.{state as view}
 use Rattle.goo_core_shelf.proofs.Looking.{looked_as, looked_then}
-use Rattle.goo_store_lookups.specs.Moments.{moment}
-use Rattle.goo_store_lookups.proofs.Blaming.{blamed_then}
+use Rattle.goo_store_judge.specs.Moments.{moment}
+use Rattle.goo_store_judge.proofs.Blaming.{blamed_then}
 use Rattle.goo_store.proofs.sql_shelf.SqlShelf.next_in_tables.Goals as goal
 
 pub returns-in-Some-clause-looks : goal.returns-in-Some-clause-looks

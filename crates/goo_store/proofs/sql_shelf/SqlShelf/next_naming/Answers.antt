@@ -1,7 +1,7 @@
 use Rattle.sqlite.specs.Held.{state as view}
-use Rattle.goo_store_lookups.specs.Moments.{tables_in}
-use Rattle.goo_store_lookups.proofs.Looking.{refused_look}
-use Rattle.goo_store_lookups.proofs.Blaming.{refused_blames}
+use Rattle.goo_store_judge.specs.Moments.{tables_in}
+use Rattle.goo_store_judge.proofs.Looking.{refused_look}
+use Rattle.goo_store_judge.proofs.Blaming.{refused_blames}
 use Rattle.goo_store.proofs.Caching.{kept_blames, kept_look}
 use Rattle.goo_store.proofs.sql_shelf.SqlShelf.next_naming.Goals as goal
 

@@ -5,8 +5,8 @@ use Rattle.sqlite.specs.Held.{state as view}
 use Rattle.goo_spec_tables.specs.Places.{rows_of}
 use Rattle.goo_core_shelf.specs.Sought.{is_sought}
 use Rattle.goo_core_shelf.proofs.Looking.{looked, looked_as, looked_then}
-use Rattle.goo_store_lookups.specs.Moments.{moment, tables_in}
-use Rattle.goo_store_lookups.proofs.Blaming.{blamed_then}
+use Rattle.goo_store_judge.specs.Moments.{moment, tables_in}
+use Rattle.goo_store_judge.proofs.Blaming.{blamed_then}
 use Rattle.goo_store_plans.specs.Found.{IsEdge}
 use Rattle.goo_store.proofs.Edges.{next_behind}
 use Rattle.goo_store.proofs.NextRow.{before_forward, next_before, next_later, first_of_all}

@@ -10,9 +10,9 @@ use Rattle.goo_spec_tables.specs.Renewed.{renewed}
 use Rattle.goo_spec_tables.specs.States.{state_of}
 use Rattle.goo_store_open.specs.Reading.{IsMet}
 use Rattle.goo_store_open.specs.declared.layout.Layout.TheVariants.{Ours}
-use Rattle.goo_store_lookups.specs.Moments.{count, tables_in}
-use Rattle.goo_store_lookups.specs.Holding.{is_sure, safe, sure}
-use Rattle.goo_store_lookups.proofs.Judging.{met_ours, opened_well, opened_state, opened_kept, rows_fit}
+use Rattle.goo_store_judge.specs.Moments.{count, tables_in}
+use Rattle.goo_store_judge.specs.Holding.{is_sure, safe, sure}
+use Rattle.goo_store_judge.proofs.Judging.{met_ours, opened_well, opened_state, opened_kept, rows_fit}
 use Rattle.goo_store.specs.Versions.{state_held}
 use Rattle.goo_store.proofs.HeldLemmas.{held_ours, state_renewed}
 use Rattle.goo_store.proofs.FirstTables.{renewed_well, same_state, now_renewed, first_not_ours, met_first}

@@ -2,12 +2,12 @@ use Rattle.std.proofs.Common.{refl}
 use Rattle.sqlite.specs.Held.{state as view}
 use Rattle.std.proofs.Common.{nat_le, ◌&&◌}
 use Rattle.goo_tables_rows.specs.Beside.{pieces_beside}
-use Rattle.goo_store_lookups.specs.Moments.{tables_in}
+use Rattle.goo_store_judge.specs.Moments.{tables_in}
 use Rattle.goo_spec_tables.specs.Places.{rows_of}
 use Rattle.goo_spec_tables.proofs.RowsFound.{filtered}
-use Rattle.goo_store_lookups.proofs.Looking.{looked, refused_look, well}
+use Rattle.goo_store_judge.proofs.Looking.{looked, refused_look, well}
 use Rattle.goo_store.proofs.Found.{lots_known, some_beside}
-use Rattle.goo_store_lookups.proofs.Blaming.{blames, refused_blames}
+use Rattle.goo_store_judge.proofs.Blaming.{blames, refused_blames}
 use Rattle.goo_store.proofs.RowsRead.{pieces_found, pieces_read}
 use Rattle.goo_store.proofs.Caching.{lasts_on}
 use Rattle.goo_store.proofs.sql_shelf.SqlShelf.rows_beginning.Goals as goal
@@ -22,7 +22,7 @@ invariant_of-self g c = record {
   known =
       lots_known (view g.S.Store c.args.self.now.conn) (view g.S.Store c.pieces_beginning-found.new.conn) c.args.self.now.well _ _ c.pieces_beginning-found.ensures.looks (λ rows. rows.items)
       (λ rows is. some_beside (tables_in (view g.S.Store c.args.self.now.conn)) _ rows.items is)
-      c.args.self.now.findings (record { own = c.args.self.now.findings.own; basis = c.args.self.now.findings.basis; lots = c.read_rising-rows.new.lots; edges = c.args.self.now.findings.edges }) refl refl (λ none is. is) c.args.self.now.known c.read_rising-rows.ensures.kept;
+      c.args.self.now.known_rows (record { own = c.args.self.now.known_rows.own; basis = c.args.self.now.known_rows.basis; lots = c.read_rising-rows.new.lots; edges = c.args.self.now.known_rows.edges }) refl refl (λ none is. is) c.args.self.now.known c.read_rising-rows.ensures.kept;
   cached = lasts_on (view g.S.Store c.args.self.now.conn) (view g.S.Store c.pieces_beginning-found.new.conn) c.args.self.now.well _ _ c.pieces_beginning-found.ensures.looks c.args.self.now.cache c.is_ok-self.result c.is_ok-self.ensures.value c.args.self.now.cached;
 }
 
@@ -30,7 +30,7 @@ pub returns-clause-looks : goal.returns-clause-looks
 unfolding rows_of
 returns-clause-looks g c =
     looked (view g.S.Store c.args.self.now.conn) (view g.S.Store c.pieces_beginning-found.new.conn) c.args.self.now.well _ _ c.pieces_beginning-found.ensures.looks _ _ c.read_rising-rows.result
-    c.args.self.now.refused c.told.new.refused c.told.result (λ live db may. g.met.S.Store.settled c.args.self.now.conn.store db live may) c.if-self.false c.read_rising-rows.ensures.value c.told.ensures
+    c.args.self.now.refused c.note_fault.new.refused c.note_fault.result (λ live db may. g.met.S.Store.settled c.args.self.now.conn.store db live may) c.if-self.false c.read_rising-rows.ensures.value c.note_fault.ensures
     (λ kept rows pieces found read.
     filtered (λ a. nat_le c.args.low a.0.first && nat_le a.0.first c.args.high) (λ p. nat_le c.args.low p.first && nat_le p.first c.args.high) (λ a. refl) (pieces_beside (tables_in (view g.S.Store c.args.self.now.conn))) _ _ found read)
 
@@ -39,6 +39,6 @@ returns-then-self-clause-store g c = refused_blames (view g.S.Store c.args.self.
 
 pub returns-clause-store : goal.returns-clause-store
 returns-clause-store g c =
-    blames (view g.S.Store c.args.self.now.conn) (view g.S.Store c.pieces_beginning-found.new.conn) c.args.self.now.well _ _ c.pieces_beginning-found.ensures.looks _ _ c.read_rising-rows.result c.args.self.now.refused c.told.new.refused c.told.result
-    c.pieces_beginning-found.ensures.readable c.read_rising-rows.ensures.accepts c.told.ensures (pieces_read (tables_in (view g.S.Store c.args.self.now.conn)))
+    blames (view g.S.Store c.args.self.now.conn) (view g.S.Store c.pieces_beginning-found.new.conn) c.args.self.now.well _ _ c.pieces_beginning-found.ensures.looks _ _ c.read_rising-rows.result c.args.self.now.refused c.note_fault.new.refused c.note_fault.result
+    c.pieces_beginning-found.ensures.readable c.read_rising-rows.ensures.accepts c.note_fault.ensures (pieces_read (tables_in (view g.S.Store c.args.self.now.conn)))
     (λ stands kept rows found. pieces_found (view g.S.Store c.args.self.now.conn).now (tables_in (view g.S.Store c.args.self.now.conn)) stands kept _ rows.items found)

@@ -1,14 +1,14 @@
 use Rattle.std.proofs.Common.{◌≡◌, ◌∙◌, map, rules, subst, Err}
 use Rattle.sqlite.specs.Held.{state as view}
 use Rattle.goo_tables_rows.proofs.Results.{if_ok}
-use Rattle.goo_store_lookups.specs.Moments.{tables_in}
+use Rattle.goo_store_judge.specs.Moments.{tables_in}
 use Rattle.goo_store_audit.specs.Counting.{IsTallyOf}
 use Rattle.goo_store_audit.specs.Summing.{summed_for}
-use Rattle.goo_store_lookups.proofs.Looking.{failed_then, looked_both}
+use Rattle.goo_store_judge.proofs.Looking.{failed_then, looked_both}
 use Rattle.goo_store.proofs.WholeLemmas.{state_totals, told_each}
 use Rattle.goo_spec_tables.specs.Places.{rows_of}
 use Rattle.goo_spec_tables.specs.States.{state_of}
-use Rattle.goo_store_lookups.proofs.Blaming.{blamed_then, blamed_both, blamed_err}
+use Rattle.goo_store_judge.proofs.Blaming.{blamed_then, blamed_both, blamed_err}
 use Rattle.goo_store.proofs.sql_shelf.SqlShelf.totals_beside.Goals as goal
 
 pub returns-in_err-tally-clause-looks : goal.returns-in_err-tally-clause-looks
@@ -27,8 +27,8 @@ returns-clause-looks g c =
     let t = tables_in old in
     let s = state_of t in
     let taken = c.args.taken.now in
-    looked_both old (view g.S.Store mid.conn) (view g.S.Store new.conn) c.args.self.now.refused mid.refused new.refused c.told.new.refused
-    c.in_ok-declared.declared _ c.in_ok-declared.ensures.looks c.in_ok-tally.tally _ _ c.totals_over-totals.result c.told.result c.in_ok-tally.ensures.looks c.told.ensures
+    looked_both old (view g.S.Store mid.conn) (view g.S.Store new.conn) c.args.self.now.refused mid.refused new.refused c.note_fault.new.refused
+    c.in_ok-declared.declared _ c.in_ok-declared.ensures.looks c.in_ok-tally.tally _ _ c.totals_over-totals.result c.note_fault.result c.in_ok-tally.ensures.looks c.note_fault.ensures
     (λ fine same declared counted.
     if_ok c.totals_over-totals.result c.totals_over-totals.ensures.value (λ totals is own devices took.
     let counts = subst (λ rows. IsTallyOf c.args.own s.corrections rows c.in_ok-tally.tally) same (counted s.corrections took.withdrawals) in
@@ -52,6 +52,6 @@ returns-clause-store g c =
     let mid = c.net_energy.new.self in
     let new = c.count_pages.new.self in
     blamed_both old (view g.S.Store mid.conn) (view g.S.Store new.conn) c.args.self.now.refused mid.refused new.refused
-    c.in_ok-declared.declared _ c.in_ok-declared.ensures.looks c.in_ok-declared.ensures.store c.in_ok-tally.tally _ c.told.new.refused c.totals_over-totals.result c.told.result
-    c.in_ok-tally.ensures.looks c.in_ok-tally.ensures.store c.told.ensures
+    c.in_ok-declared.declared _ c.in_ok-declared.ensures.looks c.in_ok-declared.ensures.store c.in_ok-tally.tally _ c.note_fault.new.refused c.totals_over-totals.result c.note_fault.result
+    c.in_ok-tally.ensures.looks c.in_ok-tally.ensures.store c.note_fault.ensures
     (λ fine same declared counted. c.totals_over-totals.ensures.memory)

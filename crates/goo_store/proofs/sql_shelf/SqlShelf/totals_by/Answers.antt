@@ -3,8 +3,8 @@ use Rattle.std.specs.FinMap.{keys}
 use Rattle.sqlite.specs.Held.{state as view}
 use Rattle.goo_core_shelf.specs.Shelf.{totals_of}
 use Rattle.goo_spec.specs.State.{State}
-use Rattle.goo_store_lookups.proofs.Looking.{looked_then}
-use Rattle.goo_store_lookups.proofs.Blaming.{blamed_then}
+use Rattle.goo_store_judge.proofs.Looking.{looked_then}
+use Rattle.goo_store_judge.proofs.Blaming.{blamed_then}
 use Rattle.goo_store.proofs.sql_shelf.SqlShelf.totals_by.Goals as goal
 
 pub returns-clause-looks : goal.returns-clause-looks

@@ -4,8 +4,8 @@ use Rattle.sqlite.specs.Held.{state as view}
 use Rattle.goo_core_shelf.specs.Shelf.{totals_of}
 use Rattle.goo_spec.specs.State.{State}
 use Rattle.goo_store_audit.specs.Summing.{AreTakenBy}
-use Rattle.goo_store_lookups.proofs.Looking.{looked_then}
-use Rattle.goo_store_lookups.proofs.Blaming.{blamed_then}
+use Rattle.goo_store_judge.proofs.Looking.{looked_then}
+use Rattle.goo_store_judge.proofs.Blaming.{blamed_then}
 use Rattle.goo_store.proofs.sql_shelf.SqlShelf.totals_of_devices.Goals as goal
 
 pub returns-clause-looks : goal.returns-clause-looks

@@ -1,5 +1,0 @@
-use Rattle.std.proofs.Common.{rules}
-use Rattle.goo_core_answers.proofs.access.shown.Goals as goal
-
-pub returns-else-may_see : goal.returns-else-may_see
-returns-else-may_see c = search rules

@@ -1,9 +1,0 @@
-use Rattle.goo_core_answers.proofs.Keeping.{named_runs}
-use Rattle.goo_core_shelf.proofs.Looking.{looks_as}
-use Rattle.goo_core_answers.proofs.holdings.runs_naming.Goals as goal
-
-pub returns : goal.returns
-returns g c =
-    looks_as _ _ c.in_ok-rows.rows c.in_ok-runs.runs _ _ c.in_ok-rows.ensures.looks (λ none found.
-    let sure = c.in_ok-rows.ensures.looks.doubted none in
-    named_runs _ _ _ _ _ (c.requires sure) found c.in_ok-runs.ensures.runs)

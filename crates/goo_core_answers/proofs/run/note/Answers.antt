@@ -1,5 +1,0 @@
-use Rattle.std.proofs.Common.{rules}
-use Rattle.goo_core_answers.proofs.run.note.Goals as goal
-
-pub returns-in-Err-clause-noted : goal.returns-in-Err-clause-noted
-returns-in-Err-clause-noted g c = search rules

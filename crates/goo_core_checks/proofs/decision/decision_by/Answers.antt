@@ -1,5 +1,0 @@
-use Rattle.std.proofs.Common.{rules}
-use Rattle.goo_core_checks.proofs.decision.decision_by.Goals as goal
-
-pub returns-in-Refused-clause-decision : goal.returns-in-Refused-clause-decision
-returns-in-Refused-clause-decision c = search rules

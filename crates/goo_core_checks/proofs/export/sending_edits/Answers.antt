@@ -1,5 +1,0 @@
-use Rattle.std.proofs.Common.{rules}
-use Rattle.goo_core_checks.proofs.export.sending_edits.Goals as goal
-
-pub returns-clause-edits : goal.returns-clause-edits
-returns-clause-edits c = search rules

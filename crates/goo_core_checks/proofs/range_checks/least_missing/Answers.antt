@@ -1,5 +1,0 @@
-use Rattle.std.proofs.Common.{rules}
-use Rattle.goo_core_checks.proofs.range_checks.least_missing.Goals as goal
-
-pub returns : goal.returns
-returns c = search rules

@@ -1,5 +1,0 @@
-use Rattle.std.proofs.Common.{rules}
-use Rattle.goo_core_checks.proofs.range_checks.trade_refusal.Goals as goal
-
-pub returns-in-Some-least_not_held_by : goal.returns-in-Some-least_not_held_by
-returns-in-Some-least_not_held_by c = search rules

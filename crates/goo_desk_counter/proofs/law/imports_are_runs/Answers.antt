@@ -1,5 +1,0 @@
-use Rattle.goo_desk_counter.proofs.TableFacts.{imports_are_runs}
-use Rattle.goo_desk_counter.proofs.law.imports_are_runs.Goals as goal
-
-pub returns : goal.returns
-returns c = imports_are_runs

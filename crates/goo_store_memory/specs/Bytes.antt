@@ -1,6 +1,0 @@
--- What a file in memory holds.
-use Rattle.std.specs.Prelude.{ℕ, List}
-use Rattle.goo_store_memory.specs.declared.memory_file.MemoryFile.{MemoryFile}
-
-abbrev pub bytes_of : MemoryFile → List ℕ
-bytes_of file = file.bytes.items

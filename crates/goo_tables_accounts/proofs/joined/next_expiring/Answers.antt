@@ -1,0 +1,20 @@
+use Rattle.sqlite.specs.Held.{state}
+use Rattle.goo_tables_rows.specs.Readable.{joined_readable}
+use Rattle.goo_tables_accounts.proofs.PiecesBeside.{next_due_shows, next_due_asks, readable_first}
+use Rattle.goo_tables_accounts.proofs.joined.next_expiring.Goals as goal
+use Rattle.goo_tables_accounts.proofs.Asking.{looks_up, refused, refused_readable}
+
+pub returns-clause-looks : goal.returns-clause-looks
+returns-clause-looks g c =
+    let old = state g.S.Store c.args.conn.now in
+    looks_up next_due_asks (c.args.day.now, c.args.after) old (state g.S.Store c.ask_first.new.conn) c.ask_first.result _ _ (next_due_shows old c.args.day.now c.args.after)
+    (rw (c.text.ensures, c.number.ensures) at c.ask_first.ensures.read) (rw (c.text.ensures, c.number.ensures) at c.ask_first.ensures.ran) (rw (c.text.ensures, c.number.ensures) at c.ask_first.ensures.survives)
+
+pub returns-clause-refused : goal.returns-clause-refused
+returns-clause-refused g c clean has unlimited =
+    refused next_due_asks (c.args.day.now, c.args.after) (state g.S.Store c.args.conn.now) (state g.S.Store c.ask_first.new.conn) c.ask_first.result joined_readable has unlimited (rw (c.text.ensures, c.number.ensures) at (c.ask_first.ensures.refused clean))
+
+pub returns-clause-readable : goal.returns-clause-readable
+returns-clause-readable g c clean unlimited t it fits =
+    let old = state g.S.Store c.args.conn.now in
+    refused_readable next_due_asks (c.args.day.now, c.args.after) old (state g.S.Store c.ask_first.new.conn) c.ask_first.result joined_readable it.schema unlimited (readable_first _ _ old t it fits) (rw (c.text.ensures, c.number.ensures) at (c.ask_first.ensures.refused clean))
