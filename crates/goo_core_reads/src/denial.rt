@@ -1,5 +1,7 @@
 //! Why something isn't shown to a caller.
 
+use std::{error, fmt};
+
 /// Why something isn't shown.
 #[derive(Clone, Copy, Debug, PartialEq, Eq)]
 pub enum Denial {
@@ -8,3 +10,16 @@ pub enum Denial {
     /// There is no such thing, or none that the caller may know of.
     Unknown,
 }
+
+impl fmt::Display for Denial {
+    fn fmt<W: fmt::Write>(&self, f: &mut fmt::Formatter<W>) -> fmt::Result {
+        match self {
+            Denial::NotAllowed => f.write_str("the caller may not see it"),
+            Denial::Unknown => f.write_str(
+                "there is no such thing, or none that the caller may know of",
+            ),
+        }
+    }
+}
+
+impl error::Error for Denial {}

@@ -5,6 +5,7 @@ ghost use Rattle.goo_desk_body.specs.BodyFaults.{of_value};
 
 use goo_notice_json::value_fault::ValueFault;
 use std::alloc::AllocError;
+use std::{error, fmt};
 
 /// Why a body states no request: the first of these that holds.
 #[derive(Clone, Copy, Debug, PartialEq, Eq)]
@@ -18,6 +19,21 @@ pub enum BodyFault {
     /// An allocation was refused.
     Memory,
 }
+
+impl fmt::Display for BodyFault {
+    fn fmt<W: fmt::Write>(&self, f: &mut fmt::Formatter<W>) -> fmt::Result {
+        match self {
+            BodyFault::NotJson => f.write_str("the bytes are no JSON text"),
+            BodyFault::Shape => f.write_str(
+                "a key is missing or too many, or a value is of the wrong kind",
+            ),
+            BodyFault::Field => f.write_str("a value is refused by its reader"),
+            BodyFault::Memory => f.write_str("out of memory"),
+        }
+    }
+}
+
+impl error::Error for BodyFault {}
 
 impl From<AllocError> for BodyFault {
     ghost from_gives = { λ _ fault. fault ≡ Memory };

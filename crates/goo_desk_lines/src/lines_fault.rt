@@ -5,6 +5,7 @@ ghost use Rattle.goo_desk_lines.specs.declared.lines_fault.LinesFault.TheVariant
 
 use goo_files_streams::{InputFault, WriteFault};
 use goo_types::fault::Fault;
+use std::{error, fmt};
 
 /// Why the lines after some were not answered.
 #[derive(Debug, Clone, Copy, PartialEq, Eq)]
@@ -19,6 +20,19 @@ pub enum LinesFault {
     /// There was no room. The lines before stand, and their outcomes are written.
     Memory,
 }
+
+impl fmt::Display for LinesFault {
+    fn fmt<W: fmt::Write>(&self, f: &mut fmt::Formatter<W>) -> fmt::Result {
+        match self {
+            LinesFault::Read => f.write_str("the input failed or was too long"),
+            LinesFault::Write => f.write_str("the output failed"),
+            LinesFault::Store => f.write_str("the records failed"),
+            LinesFault::Memory => f.write_str("out of memory"),
+        }
+    }
+}
+
+impl error::Error for LinesFault {}
 
 impl From<InputFault> for LinesFault {
     ghost from_gives = { λ of fault. fault ≡ of_reading of };

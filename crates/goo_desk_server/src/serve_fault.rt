@@ -3,6 +3,7 @@ ghost use Rattle.goo_desk_server.specs.ConnectionFaults.{of_reading};
 ghost use Rattle.goo_desk_server.specs.declared.serve_fault.ServeFault.TheVariants.{Write};
 
 use goo_files_streams::{InputFault, WriteFault};
+use std::{error, fmt};
 
 /// Why a connection was not served.
 #[derive(Debug, Clone, Copy, PartialEq, Eq)]
@@ -17,6 +18,19 @@ pub enum ServeFault {
     /// is answered.
     Memory,
 }
+
+impl fmt::Display for ServeFault {
+    fn fmt<W: fmt::Write>(&self, f: &mut fmt::Formatter<W>) -> fmt::Result {
+        match self {
+            ServeFault::Read => f.write_str("the request was not read"),
+            ServeFault::Write => f.write_str("the response was not written"),
+            ServeFault::Store => f.write_str("the records failed"),
+            ServeFault::Memory => f.write_str("out of memory"),
+        }
+    }
+}
+
+impl error::Error for ServeFault {}
 
 impl From<InputFault> for ServeFault {
     ghost from_gives = { λ of fault. fault ≡ of_reading of };

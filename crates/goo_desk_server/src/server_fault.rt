@@ -1,3 +1,7 @@
+//! Why a server ended.
+
+use std::{error, fmt};
+
 /// Why a server ended before it had served all its connections.
 #[derive(Debug, Clone, Copy, PartialEq, Eq, Drop)]
 pub enum ServerFault {
@@ -10,3 +14,16 @@ pub enum ServerFault {
     /// There was no room for the routes. Nobody was told that it listens.
     Memory,
 }
+
+impl fmt::Display for ServerFault {
+    fn fmt<W: fmt::Write>(&self, f: &mut fmt::Formatter<W>) -> fmt::Result {
+        match self {
+            ServerFault::Write => f.write_str("the line that tells the port was not written"),
+            ServerFault::Accept => f.write_str("no connection could be accepted"),
+            ServerFault::Store => f.write_str("the records failed"),
+            ServerFault::Memory => f.write_str("out of memory"),
+        }
+    }
+}
+
+impl error::Error for ServerFault {}

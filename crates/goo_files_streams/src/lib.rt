@@ -14,6 +14,7 @@ ghost use Rattle.goo_files_streams.specs.declared.InputFault.TheVariants.{Memory
 
 use std::alloc::{AllocError, Global};
 use std::io::{ErrorKind, Read, Write};
+use std::{error, fmt};
 
 /// How many times in a row a stream may answer that a signal interrupted it.
 pub const MOST_INTERRUPTIONS: u32 = 1_000;
@@ -26,6 +27,17 @@ pub enum InputFault {
     /// There was no room for the input.
     Memory,
 }
+
+impl fmt::Display for InputFault {
+    fn fmt<W: fmt::Write>(&self, f: &mut fmt::Formatter<W>) -> fmt::Result {
+        match self {
+            InputFault::Read => f.write_str("the input failed or was too long"),
+            InputFault::Memory => f.write_str("out of memory"),
+        }
+    }
+}
+
+impl error::Error for InputFault {}
 
 impl From<AllocError> for InputFault {
     ghost from_gives = { λ _ fault. fault ≡ Memory };

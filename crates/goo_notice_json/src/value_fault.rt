@@ -8,6 +8,7 @@ use goo_types::notice::RuleFault;
 use goo_types::number::NumberFault;
 use goo_types::text_fault::TextFault;
 use std::alloc::{AllocError, AllocFailed};
+use std::{error, fmt};
 
 /// Why a JSON value does not state what is asked for: the first of these that holds.
 #[derive(Clone, Copy, Debug, PartialEq, Eq)]
@@ -19,6 +20,20 @@ pub enum ValueFault {
     /// An allocation was refused.
     Memory,
 }
+
+impl fmt::Display for ValueFault {
+    fn fmt<W: fmt::Write>(&self, f: &mut fmt::Formatter<W>) -> fmt::Result {
+        match self {
+            ValueFault::Shape => f.write_str(
+                "a key is missing or too many, or a value is of the wrong kind",
+            ),
+            ValueFault::Field => f.write_str("a value is refused by its reader"),
+            ValueFault::Memory => f.write_str("out of memory"),
+        }
+    }
+}
+
+impl error::Error for ValueFault {}
 
 impl From<AllocError> for ValueFault {
     ghost from_gives = { λ _ fault. fault ≡ Memory };

@@ -5,6 +5,7 @@ ghost use Rattle.goo_notice_text.specs.NoticeFaults.{of_value};
 
 use goo_notice_json::value_fault::ValueFault;
 use std::alloc::AllocError;
+use std::{error, fmt};
 
 /// Why a text or a JSON value is no notice: the first of these that holds.
 #[derive(Clone, Copy, Debug, PartialEq, Eq)]
@@ -21,6 +22,24 @@ pub enum NoticeFault {
     /// An allocation was refused.
     Memory,
 }
+
+impl fmt::Display for NoticeFault {
+    fn fmt<W: fmt::Write>(&self, f: &mut fmt::Formatter<W>) -> fmt::Result {
+        match self {
+            NoticeFault::NotJson => f.write_str("the bytes are no JSON text"),
+            NoticeFault::Shape => f.write_str(
+                "a key is missing or too many, or a value is of the wrong kind",
+            ),
+            NoticeFault::Field => f.write_str("a value is refused, or the contents are no notice"),
+            NoticeFault::Canonical => f.write_str(
+                "the bytes are not those that are written for the notice",
+            ),
+            NoticeFault::Memory => f.write_str("out of memory"),
+        }
+    }
+}
+
+impl error::Error for NoticeFault {}
 
 impl From<AllocError> for NoticeFault {
     ghost from_gives = { λ _ fault. fault ≡ Memory };

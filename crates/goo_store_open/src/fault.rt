@@ -6,9 +6,10 @@ ghost use Rattle.goo_tables_rows.specs.Refused.{is_store_error};
 ghost use Rattle.goo_store_open.specs.Found.{word_of};
 
 use sqlite::{Error, ErrorCode};
+use std::{error, fmt};
 
 /// Why tables are not opened as a registry, or not made one.
-#[derive(Clone, Copy, PartialEq, Eq)]
+#[derive(Clone, Copy, Debug, PartialEq, Eq)]
 pub enum OpenFault {
     /// A table of a registry is there already.
     AlreadyThere,
@@ -23,6 +24,23 @@ pub enum OpenFault {
     /// An allocation was refused.
     Memory,
 }
+
+impl fmt::Display for OpenFault {
+    fn fmt<W: fmt::Write>(&self, f: &mut fmt::Formatter<W>) -> fmt::Result {
+        match self {
+            OpenFault::AlreadyThere => f.write_str("a table is there already"),
+            OpenFault::NotARegistry => f.write_str("not a registry"),
+            OpenFault::Version(version) => write!(f, "version {version} is not read here"),
+            OpenFault::Damaged => f.write_str(
+                "a table is missing, or a rule of the tables is broken",
+            ),
+            OpenFault::Store => f.write_str("the database failed"),
+            OpenFault::Memory => f.write_str("out of memory"),
+        }
+    }
+}
+
+impl error::Error for OpenFault {}
 
 /// The word for the error of a statement; `missing` is the one where the statement's table or a
 /// column of it is missing.
