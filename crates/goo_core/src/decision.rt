@@ -4,7 +4,7 @@ ghost use Rattle.std.specs.FinMap.{get};
 ghost use Rattle.goo_spec.specs.Sound.{IsSound};
 ghost use Rattle.goo_ranges_rows.specs.Rows.{AreRowsOf};
 ghost use Rattle.goo_core_shelf.specs.Shelf.{Looks, IsReady};
-ghost use Rattle.goo_core.specs.Decision.{IsDecision, IsQuietRuling};
+ghost use Rattle.goo_core.specs.Decision.{IsDecision, IsRulingWithoutEdits};
 ghost use Rattle.goo_core.specs.Ruling.{IsRuling, meaning_of};
 
 use crate::add_peer::judge_add_peer;
@@ -32,8 +32,8 @@ use goo_types::request::Request;
 use std::alloc::Global;
 
 /// The ruling on a command that leaves the rows as they are.
-fn quiet(alloc: Global, verdict: Verdict) -> Ruling
-    ensures { IsQuietRuling verdict result }
+fn without_edits(alloc: Global, verdict: Verdict) -> Ruling
+    ensures { IsRulingWithoutEdits verdict result }
 {
     match verdict {
         Verdict::Fails(refusal) => Ruling::Refused(refusal),
@@ -61,17 +61,23 @@ fn judge<S: Shelf>(
         (S.seen shelf.old).rows) }
 {
     match command {
-        Command::OpenHolder(x) => Ok(quiet(alloc, judge_open_holder(shelf, caller, x)?)),
-        Command::OpenAccount(x) => Ok(quiet(alloc, judge_open_account(shelf, caller, x)?)),
-        Command::CloseAccount(x) => Ok(quiet(alloc, judge_close_account(shelf, caller, x)?)),
-        Command::RegisterDevice(x) => Ok(quiet(alloc, judge_register_device(shelf, caller, x)?)),
+        Command::OpenHolder(x) => Ok(without_edits(alloc, judge_open_holder(shelf, caller, x)?)),
+        Command::OpenAccount(x) => Ok(without_edits(alloc, judge_open_account(shelf, caller, x)?)),
+        Command::CloseAccount(x) => Ok(without_edits(
+            alloc,
+            judge_close_account(shelf, caller, x)?,
+        )),
+        Command::RegisterDevice(x) => Ok(without_edits(
+            alloc,
+            judge_register_device(shelf, caller, x)?,
+        )),
         Command::Declare(x) => judge_declare(alloc, shelf, caller, x),
         Command::Correct(x) => judge_correct(alloc, shelf, caller, x),
         Command::Transfer(x) => judge_transfer(alloc, shelf, caller, x),
         Command::Cancel(x) => judge_cancel(alloc, shelf, caller, x),
         Command::Withdraw(x) => judge_withdraw(alloc, shelf, caller, x),
         Command::Advance(x) => judge_advance(alloc, shelf, caller, x),
-        Command::AddPeer(x) => Ok(quiet(alloc, judge_add_peer(shelf, caller, x)?)),
+        Command::AddPeer(x) => Ok(without_edits(alloc, judge_add_peer(shelf, caller, x)?)),
         Command::Export(x) => judge_export(alloc, shelf, caller, x),
         Command::Import(x) => judge_import(alloc, shelf, caller, x),
     }

@@ -19,8 +19,8 @@ returns-in_ok-judge_open_holder-in-OpenHolder g c =
     let caller = c.args.caller.now in
     let x = c.in-OpenHolder.x in
     looked old _ _ _ _ _ c.in_ok-judge_open_holder-in-OpenHolder.ensures (λ none is.
-    subst (λ command. IsRuling (meaning_of s caller command) old.rows c.quiet.result) (sym c.in-OpenHolder.is)
-    (quiet_ruled (open_holder_refusal s caller x) (open_holder_reply s x) s.at (with_holder s x).at old.rows c.in_ok-judge_open_holder-in-OpenHolder.field-0 c.quiet.result (c.requires.rows none) refl is c.quiet.ensures))
+    subst (λ command. IsRuling (meaning_of s caller command) old.rows c.without_edits.result) (sym c.in-OpenHolder.is)
+    (quiet_ruled (open_holder_refusal s caller x) (open_holder_reply s x) s.at (with_holder s x).at old.rows c.in_ok-judge_open_holder-in-OpenHolder.field-0 c.without_edits.result (c.requires.rows none) refl is c.without_edits.ensures))
 
 pub returns-in_ok-judge_open_account-in-OpenAccount : goal.returns-in_ok-judge_open_account-in-OpenAccount
 unfolding with_account
@@ -30,8 +30,8 @@ returns-in_ok-judge_open_account-in-OpenAccount g c =
     let caller = c.args.caller.now in
     let x = c.in-OpenAccount.x in
     looked old _ _ _ _ _ c.in_ok-judge_open_account-in-OpenAccount.ensures (λ none is.
-    subst (λ command. IsRuling (meaning_of s caller command) old.rows c.quiet-in-OpenAccount.result) (sym c.in-OpenAccount.is)
-    (quiet_ruled (open_account_refusal s caller x) (open_account_reply s x) s.at (with_account s x).at old.rows c.in_ok-judge_open_account-in-OpenAccount.field-0 c.quiet-in-OpenAccount.result (c.requires.rows none) refl is c.quiet-in-OpenAccount.ensures))
+    subst (λ command. IsRuling (meaning_of s caller command) old.rows c.without_edits-in-OpenAccount.result) (sym c.in-OpenAccount.is)
+    (quiet_ruled (open_account_refusal s caller x) (open_account_reply s x) s.at (with_account s x).at old.rows c.in_ok-judge_open_account-in-OpenAccount.field-0 c.without_edits-in-OpenAccount.result (c.requires.rows none) refl is c.without_edits-in-OpenAccount.ensures))
 
 pub returns-in_ok-judge_close_account-in-CloseAccount : goal.returns-in_ok-judge_close_account-in-CloseAccount
 unfolding with_closed
@@ -41,8 +41,8 @@ returns-in_ok-judge_close_account-in-CloseAccount g c =
     let caller = c.args.caller.now in
     let x = c.in-CloseAccount.x in
     looked old _ _ _ _ _ c.in_ok-judge_close_account-in-CloseAccount.ensures (λ none is.
-    subst (λ command. IsRuling (meaning_of s caller command) old.rows c.quiet-in-CloseAccount.result) (sym c.in-CloseAccount.is)
-    (quiet_ruled (close_account_refusal s caller x) (close_account_reply s x) s.at (with_closed s x).at old.rows c.in_ok-judge_close_account-in-CloseAccount.field-0 c.quiet-in-CloseAccount.result (c.requires.rows none) refl is c.quiet-in-CloseAccount.ensures))
+    subst (λ command. IsRuling (meaning_of s caller command) old.rows c.without_edits-in-CloseAccount.result) (sym c.in-CloseAccount.is)
+    (quiet_ruled (close_account_refusal s caller x) (close_account_reply s x) s.at (with_closed s x).at old.rows c.in_ok-judge_close_account-in-CloseAccount.field-0 c.without_edits-in-CloseAccount.result (c.requires.rows none) refl is c.without_edits-in-CloseAccount.ensures))
 
 pub returns-in_ok-judge_register_device-in-RegisterDevice : goal.returns-in_ok-judge_register_device-in-RegisterDevice
 unfolding with_device
@@ -52,8 +52,8 @@ returns-in_ok-judge_register_device-in-RegisterDevice g c =
     let caller = c.args.caller.now in
     let x = c.in-RegisterDevice.x in
     looked old _ _ _ _ _ c.in_ok-judge_register_device-in-RegisterDevice.ensures (λ none is.
-    subst (λ command. IsRuling (meaning_of s caller command) old.rows c.quiet-in-RegisterDevice.result) (sym c.in-RegisterDevice.is)
-    (quiet_ruled (register_device_refusal s caller x) (register_device_reply s x) s.at (with_device s x).at old.rows c.in_ok-judge_register_device-in-RegisterDevice.field-0 c.quiet-in-RegisterDevice.result (c.requires.rows none) refl is c.quiet-in-RegisterDevice.ensures))
+    subst (λ command. IsRuling (meaning_of s caller command) old.rows c.without_edits-in-RegisterDevice.result) (sym c.in-RegisterDevice.is)
+    (quiet_ruled (register_device_refusal s caller x) (register_device_reply s x) s.at (with_device s x).at old.rows c.in_ok-judge_register_device-in-RegisterDevice.field-0 c.without_edits-in-RegisterDevice.result (c.requires.rows none) refl is c.without_edits-in-RegisterDevice.ensures))
 
 pub returns-in_ok-judge_add_peer-in-AddPeer : goal.returns-in_ok-judge_add_peer-in-AddPeer
 unfolding with_peer
@@ -63,8 +63,8 @@ returns-in_ok-judge_add_peer-in-AddPeer g c =
     let caller = c.args.caller.now in
     let x = c.in-AddPeer.x in
     looked old _ _ _ _ _ c.in_ok-judge_add_peer-in-AddPeer.ensures (λ none is.
-    subst (λ command. IsRuling (meaning_of s caller command) old.rows c.quiet-in-AddPeer.result) (sym c.in-AddPeer.is)
-    (quiet_ruled (add_peer_refusal s caller x) (add_peer_reply s x) s.at (with_peer s x).at old.rows c.in_ok-judge_add_peer-in-AddPeer.field-0 c.quiet-in-AddPeer.result (c.requires.rows none) refl is c.quiet-in-AddPeer.ensures))
+    subst (λ command. IsRuling (meaning_of s caller command) old.rows c.without_edits-in-AddPeer.result) (sym c.in-AddPeer.is)
+    (quiet_ruled (add_peer_refusal s caller x) (add_peer_reply s x) s.at (with_peer s x).at old.rows c.in_ok-judge_add_peer-in-AddPeer.field-0 c.without_edits-in-AddPeer.result (c.requires.rows none) refl is c.without_edits-in-AddPeer.ensures))
 
 pub returns-in_err-judge_open_holder-in-OpenHolder : goal.returns-in_err-judge_open_holder-in-OpenHolder
 returns-in_err-judge_open_holder-in-OpenHolder g c = looked_failed _ _ _ _ _ _ c.from_residual.ensures.1 c.in_err-judge_open_holder-in-OpenHolder.ensures
