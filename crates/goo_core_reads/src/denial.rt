@@ -14,8 +14,8 @@ pub enum Denial {
 impl fmt::Display for Denial {
     fn fmt<W: fmt::Write>(&self, f: &mut fmt::Formatter<W>) -> fmt::Result {
         match self {
-            Denial::NotAllowed => f.write_str("the caller may not see it"),
-            Denial::Unknown => f.write_str(
+            Self::NotAllowed => f.write_str("the caller may not see it"),
+            Self::Unknown => f.write_str(
                 "there is no such thing, or none that the caller may know of",
             ),
         }

@@ -23,12 +23,12 @@ pub enum BodyFault {
 impl fmt::Display for BodyFault {
     fn fmt<W: fmt::Write>(&self, f: &mut fmt::Formatter<W>) -> fmt::Result {
         match self {
-            BodyFault::NotJson => f.write_str("the bytes are no JSON text"),
-            BodyFault::Shape => f.write_str(
+            Self::NotJson => f.write_str("the bytes are no JSON text"),
+            Self::Shape => f.write_str(
                 "a key is missing or too many, or a value is of the wrong kind",
             ),
-            BodyFault::Field => f.write_str("a value is refused by its reader"),
-            BodyFault::Memory => f.write_str("out of memory"),
+            Self::Field => f.write_str("a value is refused by its reader"),
+            Self::Memory => f.write_str("out of memory"),
         }
     }
 }

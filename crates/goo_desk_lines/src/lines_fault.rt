@@ -24,10 +24,10 @@ pub enum LinesFault {
 impl fmt::Display for LinesFault {
     fn fmt<W: fmt::Write>(&self, f: &mut fmt::Formatter<W>) -> fmt::Result {
         match self {
-            LinesFault::Read => f.write_str("the input failed or was too long"),
-            LinesFault::Write => f.write_str("the output failed"),
-            LinesFault::Store => f.write_str("the records failed"),
-            LinesFault::Memory => f.write_str("out of memory"),
+            Self::Read => f.write_str("the input failed or was too long"),
+            Self::Write => f.write_str("the output failed"),
+            Self::Store => f.write_str("the records failed"),
+            Self::Memory => f.write_str("out of memory"),
         }
     }
 }

@@ -22,10 +22,10 @@ pub enum ServeFault {
 impl fmt::Display for ServeFault {
     fn fmt<W: fmt::Write>(&self, f: &mut fmt::Formatter<W>) -> fmt::Result {
         match self {
-            ServeFault::Read => f.write_str("the request was not read"),
-            ServeFault::Write => f.write_str("the response was not written"),
-            ServeFault::Store => f.write_str("the records failed"),
-            ServeFault::Memory => f.write_str("out of memory"),
+            Self::Read => f.write_str("the request was not read"),
+            Self::Write => f.write_str("the response was not written"),
+            Self::Store => f.write_str("the records failed"),
+            Self::Memory => f.write_str("out of memory"),
         }
     }
 }

@@ -18,10 +18,10 @@ pub enum ServerFault {
 impl fmt::Display for ServerFault {
     fn fmt<W: fmt::Write>(&self, f: &mut fmt::Formatter<W>) -> fmt::Result {
         match self {
-            ServerFault::Write => f.write_str("the line that tells the port was not written"),
-            ServerFault::Accept => f.write_str("no connection could be accepted"),
-            ServerFault::Store => f.write_str("the records failed"),
-            ServerFault::Memory => f.write_str("out of memory"),
+            Self::Write => f.write_str("the line that tells the port was not written"),
+            Self::Accept => f.write_str("no connection could be accepted"),
+            Self::Store => f.write_str("the records failed"),
+            Self::Memory => f.write_str("out of memory"),
         }
     }
 }

@@ -31,8 +31,8 @@ pub enum InputFault {
 impl fmt::Display for InputFault {
     fn fmt<W: fmt::Write>(&self, f: &mut fmt::Formatter<W>) -> fmt::Result {
         match self {
-            InputFault::Read => f.write_str("the input failed or was too long"),
-            InputFault::Memory => f.write_str("out of memory"),
+            Self::Read => f.write_str("the input failed or was too long"),
+            Self::Memory => f.write_str("out of memory"),
         }
     }
 }

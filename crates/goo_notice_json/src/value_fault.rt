@@ -24,11 +24,11 @@ pub enum ValueFault {
 impl fmt::Display for ValueFault {
     fn fmt<W: fmt::Write>(&self, f: &mut fmt::Formatter<W>) -> fmt::Result {
         match self {
-            ValueFault::Shape => f.write_str(
+            Self::Shape => f.write_str(
                 "a key is missing or too many, or a value is of the wrong kind",
             ),
-            ValueFault::Field => f.write_str("a value is refused by its reader"),
-            ValueFault::Memory => f.write_str("out of memory"),
+            Self::Field => f.write_str("a value is refused by its reader"),
+            Self::Memory => f.write_str("out of memory"),
         }
     }
 }

@@ -26,15 +26,15 @@ pub enum NoticeFault {
 impl fmt::Display for NoticeFault {
     fn fmt<W: fmt::Write>(&self, f: &mut fmt::Formatter<W>) -> fmt::Result {
         match self {
-            NoticeFault::NotJson => f.write_str("the bytes are no JSON text"),
-            NoticeFault::Shape => f.write_str(
+            Self::NotJson => f.write_str("the bytes are no JSON text"),
+            Self::Shape => f.write_str(
                 "a key is missing or too many, or a value is of the wrong kind",
             ),
-            NoticeFault::Field => f.write_str("a value is refused, or the contents are no notice"),
-            NoticeFault::Canonical => f.write_str(
+            Self::Field => f.write_str("a value is refused, or the contents are no notice"),
+            Self::Canonical => f.write_str(
                 "the bytes are not those that are written for the notice",
             ),
-            NoticeFault::Memory => f.write_str("out of memory"),
+            Self::Memory => f.write_str("out of memory"),
         }
     }
 }

@@ -14,11 +14,8 @@ pub enum BookFault {
 impl fmt::Display for BookFault {
     fn fmt<W: fmt::Write>(&self, f: &mut fmt::Formatter<W>) -> fmt::Result {
         match self {
-            BookFault::Backwards(at) => write!(
-                f,
-                "piece {at} ends before it begins, or has two codes"
-            ),
-            BookFault::Overlap(at) => write!(f, "piece {at} begins before the one before it ends"),
+            Self::Backwards(at) => write!(f, "piece {at} ends before it begins, or has two codes"),
+            Self::Overlap(at) => write!(f, "piece {at} begins before the one before it ends"),
         }
     }
 }

@@ -28,14 +28,12 @@ pub enum OpenFault {
 impl fmt::Display for OpenFault {
     fn fmt<W: fmt::Write>(&self, f: &mut fmt::Formatter<W>) -> fmt::Result {
         match self {
-            OpenFault::AlreadyThere => f.write_str("a table is there already"),
-            OpenFault::NotARegistry => f.write_str("not a registry"),
-            OpenFault::Version(version) => write!(f, "version {version} is not read here"),
-            OpenFault::Damaged => f.write_str(
-                "a table is missing, or a rule of the tables is broken",
-            ),
-            OpenFault::Store => f.write_str("the database failed"),
-            OpenFault::Memory => f.write_str("out of memory"),
+            Self::AlreadyThere => f.write_str("a table is there already"),
+            Self::NotARegistry => f.write_str("not a registry"),
+            Self::Version(version) => write!(f, "version {version} is not read here"),
+            Self::Damaged => f.write_str("a table is missing, or a rule of the tables is broken"),
+            Self::Store => f.write_str("the database failed"),
+            Self::Memory => f.write_str("out of memory"),
         }
     }
 }
