@@ -4,9 +4,7 @@ ghost use Rattle.std.specs.Io.Buffered.{writer_contents};
 ghost use Rattle.std.specs.Io.KnownBytes.{Appends};
 ghost use Rattle.sqlite.specs.Files.{image_of, HoldsDatabase};
 ghost use Rattle.sqlite.specs.Held.{state as view};
-ghost use Rattle.sqlite.specs.State.{HasCleanDisk};
 ghost use Rattle.sqlite.specs.Tree.{Trees};
-ghost use Rattle.goo_tables_rows.specs.Met.{IsInKeyOrder};
 ghost use Rattle.goo_spec.specs.Created.{created};
 ghost use Rattle.goo_store.specs.Versions.{state_held};
 ghost use Rattle.goo_store_judge.specs.Moments.{moment};
@@ -26,7 +24,6 @@ use goo_cli_registry::closing::{Left, close_registry};
 use goo_cli_registry::in_memory::open_in_memory;
 use goo_cli_registry::opening::{begin, failure_of, open_registry};
 use goo_cli_registry::renewal_line::RenewalLine;
-use goo_cli_registry::start::Start;
 use goo_desk_server::{Listener, LocalListener};
 use goo_registry::Registry;
 use sqlite::{Alter, Connection, Files};
@@ -49,7 +46,6 @@ fn serve_new<S: Alter, L: Listener, W: Write + Drop>(
     writer: &mut BufWriter<W>,
 ) -> (Ending, Connection<S>)
     requires outside { conn.in_transaction ≡ false }
-    requires ordered { HasCleanDisk (view S.Store conn) → IsInKeyOrder (view S.Store conn).now }
     ensures announced { status_of result.0 ≡ 0
         → Appends (writer_contents W.contents writer.old) (writer_contents W.contents writer.new)
         (listening_text serving.port) }
@@ -61,7 +57,7 @@ fn serve_new<S: Alter, L: Listener, W: Write + Drop>(
         (created opening.code opening.today opening.next_serial)
         (moment (view S.Store result.1) false).state }
 {
-    match begin(alloc, conn, Start::New(opening)) {
+    match begin(alloc, conn, opening) {
         Ok(shelf) => {
             let mut registry = Registry::new(shelf);
             let ending = serve_registry(alloc, &mut registry, serving, listener, writer);

@@ -49,10 +49,8 @@ use Rattle.goo_cli_ending.specs.Endings.{failure_of_desk, status_of}
 use Rattle.goo_types.specs.declared.fault.Fault.{Fault}
 use Rattle.goo_types.specs.declared.fault.Fault.TheVariants as desk
 use Rattle.goo_desk_lines.specs.Fold.{lines}
-use Rattle.goo_cli_registry.specs.Openings.{ending_of_opening, failure_of_opening, IsBlamed, IsRun, MayBegin}
+use Rattle.goo_cli_registry.specs.Openings.{ending_of_opening, failure_of_opening, IsBlamed, IsRun}
 use Rattle.goo_cli_registry.specs.Closings.{HoldRegistry, HoldState, IfRefused, IfWhole, IsClean, IsKept, IsThere, LeavesOr, LeavesRegistry, SparesOrMakes, WasRenewed}
-use Rattle.goo_cli.specs.declared.task.Opening.{Opening}
-use Rattle.goo_cli_registry.specs.declared.start.Start.TheVariants.{New, Kept}
 use Rattle.goo_cli_registry.specs.declared.closing.Left.{Left}
 use Rattle.goo_cli_registry.specs.declared.closing.Left.TheVariants as left
 
@@ -131,15 +129,6 @@ opens_renewed old db it = (
   subst (λ (t : Tables). Holds t db × AreKept t × (state_held old.trees ≡ state_of t)) (sym (decoded (record { schema = registry_schema; trees = db }) (renewed it.0) it.4))
       (it.4, it.3, ap state_of (sym (held_first old it.0 it.1 it.2)) ∙ sym (renewed_state it.0 it.2)),
 )
-
--- what a start that failed leaves of a registry that was there
-pub kept_or_renewed : (old new : State) → (HasCleanDisk new → (db : Trees) → new.may_leave db → old.may_leave db ⊎ HoldsRenewed old.now db)
-    → HasCleanDisk new → (db : Trees) → new.may_leave db → old.may_leave db ⊎ MayBegin Kept old db
-kept_or_renewed old new left clean db may = go (left clean db may)
-  where
-    go : old.may_leave db ⊎ HoldsRenewed old.now db → old.may_leave db ⊎ MayBegin Kept old db
-    go (inl before) = inl before
-    go (inr it) = inr (it.1.0, opens_renewed old.now db it)
 
 -- trees that hold the tables of a new registry stand for it
 stand_begun : (code : ℕ) (today : CalendarDay) (next_serial : ℕ) → IsFirst code today next_serial → (db : Trees) → Holds (begun (meta_of code today next_serial)) db → StandFor db (created code today next_serial)
@@ -234,6 +223,3 @@ only_there opening.NotARegistry is = absurd cc
 only_there (opening.Version version) is = absurd cc
 only_there opening.Damaged is = absurd cc
 only_there opening.Store is = absurd cc
-
-pub new_not_kept : (opening : Opening) → New opening ≡ Kept → ⊥
-new_not_kept opening same = cc same

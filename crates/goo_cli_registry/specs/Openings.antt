@@ -7,12 +7,10 @@ use Rattle.sqlite.specs.declared.file.Leftover.{Leftover}
 use Rattle.sqlite.specs.Files.{image_of, faults_of, faults_left, HoldsDatabase, IsFullLeft, IsNothing}
 use Rattle.sqlite.specs.Tree.{Trees}
 use Rattle.sqlite.specs.State as sqlite
-use Rattle.goo_tables_rows.specs.Columns.{first_schema}
 use Rattle.goo_spec.specs.State.{State}
 use Rattle.goo_spec.specs.Created.{created}
-use Rattle.goo_store_judge.specs.Moments.{OpensAs, StandFor}
+use Rattle.goo_store_judge.specs.Moments.{StandFor}
 use Rattle.goo_tables_rows.specs.Stands.{AreOurs}
-use Rattle.goo_store.specs.Versions.{state_held}
 use Rattle.goo_store_open.specs.declared.fault.OpenFault.{OpenFault}
 use Rattle.goo_store_open.specs.declared.fault.OpenFault.TheVariants as opening
 use Rattle.goo_cli_ending.specs.declared.ending.Ending.{Ending}
@@ -20,19 +18,11 @@ use Rattle.goo_cli_ending.specs.declared.ending.Ending.TheVariants as ending
 use Rattle.goo_cli_ending.specs.declared.ending.NotDone.TheVariants as denial
 use Rattle.goo_cli_ending.specs.declared.ending.Failure.{Failure}
 use Rattle.goo_cli_ending.specs.declared.ending.Failure.TheVariants as failure
-use Rattle.goo_cli_registry.specs.declared.start.Start.{Start}
-use Rattle.goo_cli_registry.specs.declared.start.Start.TheVariants.{New, Kept}
+use Rattle.goo_cli.specs.declared.task.Opening.{Opening}
 
--- the state that a run begins with, over what the database holds
-abbrev pub begun : Start → sqlite.State → State
-begun (New opening) s = created opening.code opening.today opening.next_serial
-begun Kept s = state_held s.now.trees
-
--- what a start that failed may have committed nevertheless, where a crash follows: a new registry, which opens as one where the connection was open, or that of
--- version 1 in version 2
-abbrev pub MayBegin : Start → sqlite.State → Trees → Type 0
-MayBegin (New opening) s db = StandFor db (created opening.code opening.today opening.next_serial) × (IsTrue s.is_open → AreOurs db)
-MayBegin Kept s db = (s.now.schema ≡ first_schema) × OpensAs db (Some (state_held s.now.trees))
+-- what a start that failed may have committed nevertheless, where a crash follows: the new registry, which opens as one where the connection was open
+abbrev pub MayBegin : Opening → sqlite.State → Trees → Type 0
+MayBegin opening s db = StandFor db (created opening.code opening.today opening.next_serial) × (IsTrue s.is_open → AreOurs db)
 
 -- why there is no registry to run; a new one is made in an empty database alone, and the number of a version that is read here is told of
 -- tables that are not those of that version

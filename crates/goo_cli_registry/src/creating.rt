@@ -10,7 +10,6 @@ ghost use Rattle.goo_cli_registry.specs.Closings.{Spares, SparesOrMakes, is_whol
 
 use crate::closing::{Left, close_registry};
 use crate::opening::{begin, failure_of, file_options, open_database};
-use crate::start::Start;
 use goo_cli::Opening;
 use goo_cli_ending::{Ending, Failure, NotDone};
 use goo_store_open::fault::OpenFault;
@@ -65,7 +64,7 @@ fn create_registry<D: Disk + Drop>(
             return Err((Ending::Failed(Failure::from(fault)), Left::Parts(left)));
         }
     };
-    match begin(alloc, conn, Start::New(opening)) {
+    match begin(alloc, conn, opening) {
         Ok(shelf) => Ok(close_registry(shelf)),
         Err((conn, fault)) => {
             let left = Leftover::Store(conn.into_store());

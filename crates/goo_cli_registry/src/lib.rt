@@ -14,4 +14,3 @@ pub mod opening;
 pub mod renewal_line;
 pub mod running;
 pub mod settling;
-pub mod start;

@@ -8,16 +8,16 @@ ghost use Rattle.sqlite.specs.Tree.{Trees};
 ghost use Rattle.goo_tables_rows.specs.Met.{IsInKeyOrder};
 ghost use Rattle.goo_store.specs.Versions.{state_held};
 ghost use Rattle.goo_store_judge.specs.Moments.{OpensAsEither, moment};
-ghost use Rattle.goo_store_open.specs.Foreign.{LacksMeta};
 ghost use Rattle.goo_ranges_rows.specs.Rows.{AreRowsOf};
 ghost use Rattle.goo_core_shelf.specs.Shelf.{IsReady};
+ghost use Rattle.goo_spec.specs.Created.{created};
 ghost use Rattle.goo_spec.specs.Sound.{IsSound};
 ghost use Rattle.goo_spec.specs.State.{State};
 ghost use Rattle.goo_cli_registry.specs.Closings.{LeavesRegistry};
-ghost use Rattle.goo_cli_registry.specs.Openings.{begun, failure_of_opening, IsBlamed, MayBegin};
+ghost use Rattle.goo_cli_registry.specs.Openings.{failure_of_opening, IsBlamed, MayBegin};
 
 use crate::renewal_line::RenewalLine;
-use crate::start::Start;
+use goo_cli::Opening;
 use goo_cli_ending::Failure;
 use goo_store::sql_shelf::SqlShelf;
 use goo_store_open::connecting::open_ordered;
@@ -98,23 +98,22 @@ pub fn failure_of(fault: OpenFault) -> Failure
     }
 }
 
-/// The registry that a run begins with, over a database.
+/// A new registry in an empty database, as `--memory` and `init` ask for.
 ///
 /// # Errors
 ///
-/// As `SqlShelf::create` and `SqlShelf::open`: the database, unchanged. After a crash that follows,
-/// a new registry may be there.
+/// As `SqlShelf::create`: the database, unchanged. After a crash that follows, the new registry may
+/// be there.
 pub fn begin<S: Alter>(
     alloc: Global,
     conn: Connection<S>,
-    start: Start,
+    opening: Opening,
 ) -> Result<SqlShelf<S>, (Connection<S>, OpenFault)>
     requires outside { conn.in_transaction ≡ false }
-    requires ordered { HasCleanDisk (view S.Store conn) → IsInKeyOrder (view S.Store conn).now }
     ensures state { IfOk result
         (λ shelf. (moment (view S.Store shelf.conn) shelf.refused).doubts ≡ 0
         → (moment (view S.Store shelf.conn) shelf.refused).state
-        ≡ begun start (view S.Store conn)) }
+        ≡ created opening.code opening.today opening.next_serial) }
     ensures sound { IfOk result
         (λ shelf. (moment (view S.Store shelf.conn) shelf.refused).doubts ≡ 0
         → IsSound (moment (view S.Store shelf.conn) shelf.refused).state) }
@@ -124,32 +123,24 @@ pub fn begin<S: Alter>(
         (moment (view S.Store shelf.conn) shelf.refused).rows) }
     ensures ready { IfOk result
         (λ shelf. IsReady (moment (view S.Store shelf.conn) shelf.refused)) }
-    ensures lacking { start ≡ Start.Kept → LacksMeta (view S.Store conn).now.schema
-        → result ≡ Err (conn, OpenFault.NotARegistry) }
     ensures outside { IfErr result (λ e. e.0.in_transaction ≡ false) }
-    ensures there { IfErr result
-        (λ e. e.1 ≡ OpenFault.AlreadyThere → start ≢ Start.Kept → e.0 ≡ conn) }
+    ensures there { IfErr result (λ e. e.1 ≡ OpenFault.AlreadyThere → e.0 ≡ conn) }
     ensures clean { IfErr result
         (λ e. HasCleanDisk (view S.Store e.0) → HasCleanDisk (view S.Store conn)) }
     ensures crash { IfErr result
         (λ e. HasCleanDisk (view S.Store e.0) → (db : Trees) → (view S.Store e.0).may_leave db
-        → (view S.Store conn).may_leave db ⊎ MayBegin start (view S.Store conn) db) }
+        → (view S.Store conn).may_leave db ⊎ MayBegin opening (view S.Store conn) db) }
 {
-    match start {
-        Start::New(opening) => {
-            let _code = opening.code.get();
-            let _serial = opening.next_serial.get();
-            let _day = opening.today.text();
-            SqlShelf::create(
-                alloc,
-                conn,
-                opening.code,
-                opening.next_serial,
-                opening.today,
-            )
-        }
-        Start::Kept => SqlShelf::open(alloc, conn),
-    }
+    let _code = opening.code.get();
+    let _serial = opening.next_serial.get();
+    let _day = opening.today.text();
+    SqlShelf::create(
+        alloc,
+        conn,
+        opening.code,
+        opening.next_serial,
+        opening.today,
+    )
 }
 
 /// The registry that files hold. One of version 1 becomes one of version 2, which `line` tells

@@ -4,10 +4,8 @@ ghost use Rattle.std.specs.Io.Buffered.{writer_buffer, writer_contents};
 ghost use Rattle.std.specs.Io.KnownBytes.{Appends};
 ghost use Rattle.sqlite.specs.Files.{image_of, HoldsDatabase};
 ghost use Rattle.sqlite.specs.Held.{state as view};
-ghost use Rattle.sqlite.specs.State.{HasCleanDisk};
 ghost use Rattle.sqlite.specs.Tree.{Trees};
 ghost use Rattle.sqlite_trees.specs.View.{doubt};
-ghost use Rattle.goo_tables_rows.specs.Met.{IsInKeyOrder};
 ghost use Rattle.goo_store.specs.Versions.{state_held};
 ghost use Rattle.goo_store_judge.specs.Moments.{IsWell};
 ghost use Rattle.goo_spec.specs.Created.{created};
@@ -20,8 +18,7 @@ ghost use Rattle.goo_cli_ending.specs.Promised.{KeepsPromise};
 ghost use Rattle.goo_cli_ending.specs.Stopped.{IsStopped};
 ghost use Rattle.goo_cli_registry.specs.Durable.{FindsAcknowledged};
 ghost use Rattle.goo_cli_registry.specs.Stopped.{HoldsStopped, IfOpened};
-ghost use Rattle.goo_store_open.specs.Foreign.{LacksMeta};
-ghost use Rattle.goo_cli_registry.specs.Openings.{begun, IsRun};
+ghost use Rattle.goo_cli_registry.specs.Openings.{IsRun};
 ghost use Rattle.goo_cli_registry.specs.Closings.{HasSpareLog, IfRefused, IfWhole, IsClean};
 ghost use Rattle.goo_cli_registry.specs.Closings.{HoldState, LeavesRegistry};
 
@@ -29,7 +26,6 @@ use crate::closing::{Left, close_registry};
 use crate::in_memory::open_in_memory;
 use crate::opening::{begin, failure_of, open_registry};
 use crate::renewal_line::RenewalLine;
-use crate::start::Start;
 use goo_cli::Opening;
 use goo_cli_ending::{Ending, Failure, answer_input};
 use goo_core_shelf::shelf::Shelf;
@@ -86,40 +82,38 @@ pub fn answer_by<S: Shelf, R: Read, W: Write + Drop>(
     (ending, registry.into_shelf())
 }
 
-/// Answers the lines of an input by the registry of a database, new or kept, and hands the database
+/// Answers the lines of an input by a new registry in an empty database, and hands the database
 /// back.
 pub fn answer_by_tables<S: Alter, R: Read, W: Write + Drop>(
     alloc: Global,
     conn: Connection<S>,
-    start: Start,
+    opening: Opening,
     reader: &mut R,
     writer: &mut BufWriter<W>,
 ) -> (Ending, Connection<S>)
     requires outside { conn.in_transaction ≡ false }
-    requires ordered { HasCleanDisk (view S.Store conn) → IsInKeyOrder (view S.Store conn).now }
     ensures all_done { doubt (view S.Store result.1).is_clean ≡ 0 → status_of result.0 ≡ 0
         → IfSome (R.remaining reader.old)
-        (λ input. (lines (begun start (view S.Store conn)) input).bad ≡ 0) }
+        (λ input. (lines (created opening.code opening.today opening.next_serial) input).bad ≡ 0) }
     ensures not_all_done { doubt (view S.Store result.1).is_clean ≡ 0 → status_of result.0 ≡ 1
         → IfSome (R.remaining reader.old)
-        (λ input. (lines (begun start (view S.Store conn)) input).bad ≢ 0) }
+        (λ input. (lines (created opening.code opening.today opening.next_serial) input).bad ≢ 0) }
     ensures written { doubt (view S.Store result.1).is_clean ≡ 0 → status_of result.0 < 2
         → IfSome (R.remaining reader.old)
         (λ input. Appends (writer_contents W.contents writer.old)
         (writer_contents W.contents writer.new)
-        (lines (begun start (view S.Store conn)) input).text) }
+        (lines (created opening.code opening.today opening.next_serial) input).text) }
     ensures flushed { status_of result.0 < 2 → writer_buffer writer.new ≡ [] }
     ensures no_words { status_of result.0 ≢ 2 }
-    ensures promised { IsSound (begun start (view S.Store conn))
+    ensures promised { IsSound (created opening.code opening.today opening.next_serial)
         → doubt (view S.Store result.1).is_clean ≡ 0
         → IfSome (R.remaining reader.old)
-        (λ input. KeepsPromise result.0 input (begun start (view S.Store conn))
+        (λ input. KeepsPromise result.0 input
+        (created opening.code opening.today opening.next_serial)
         (writer_contents W.contents writer.old) (writer_contents W.contents writer.new) (λ t. ⊤)) }
-    ensures lacking { start ≡ Start.Kept → LacksMeta (view S.Store conn).now.schema
-        → result ≡ (Ending.Failed Failure.NotARegistry, conn) }
     ensures run { IsRun result.0 → IsWell (view S.Store result.1) }
 {
-    match begin(alloc, conn, start) {
+    match begin(alloc, conn, opening) {
         Ok(shelf) => {
             let (ending, shelf) = answer_by(alloc, Registry::new(shelf), reader, writer);
             (ending, shelf.into_connection())
@@ -168,7 +162,7 @@ pub fn run_in_memory<R: Read, W: Write + Drop>(
         Ok(conn) => conn,
         Err(failure) => return Ending::Failed(failure),
     };
-    let (ending, _conn) = answer_by_tables(alloc, conn, Start::New(opening), reader, writer);
+    let (ending, _conn) = answer_by_tables(alloc, conn, opening, reader, writer);
     ending
 }
 

@@ -5,7 +5,7 @@ use Rattle.sqlite_store.specs.FileStore.{recovers}
 use Rattle.goo_spec.specs.Created.{created}
 use Rattle.goo_spec.specs.State.{State}
 use Rattle.goo_cli_registry.specs.Closings.{IsKept}
-use Rattle.goo_cli_registry.proofs.Files.{clean_before, kept_spares, leaves_or, leaves_or_made, leaves_store, made_open, new_not_kept, only_there, whole_as, word_of_desk}
+use Rattle.goo_cli_registry.proofs.Files.{clean_before, kept_spares, leaves_or, leaves_or_made, leaves_store, made_open, only_there, whole_as, word_of_desk}
 use Rattle.goo_cli_registry.proofs.creating.create_registry.Goals as goal
 
 pub returns-in-Err-clause-words : goal.returns-in-Err-clause-words
@@ -30,7 +30,7 @@ untouched : goal.returns-in-AlreadyThere-clause-left
 untouched g c = λ clean.
     let late : HasCleanDisk (file_state c.in-Err-begin.conn) = clean_before _ _ c.into_store.ensures.quiet.clean clean in
     let before : HasCleanDisk (file_state c.in-Ok.conn) = c.in-Err-begin.ensures.clean late in
-    let same = c.in-Err-begin.ensures.there c.in-AlreadyThere.is (new_not_kept c.args.opening) in
+    let same = c.in-Err-begin.ensures.there c.in-AlreadyThere.is in
     leaves_store c.args.files g.met.D.Disk.seen_may_stay c.in-Ok.conn (c.in-Ok.ensures.opened before).0.is_open (c.in-Ok.ensures.found before) c.into_store.result
     (λ db may. subst (λ conn. recovers conn.store db) same (c.into_store.ensures.quiet.outcomes db may))
 
