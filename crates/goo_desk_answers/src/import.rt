@@ -16,14 +16,14 @@ use goo_types::holder_code::HolderCode;
 use std::alloc::{AllocError, Global};
 
 /// The answer that reports an import.
-fn answer_imported(alloc: Global, imported: &Imported) -> Result<Answer, AllocError>
+fn answer_imported(alloc: Global, imported: Imported) -> Result<Answer, AllocError>
     ensures { IfOk result
         (λ answer. IsGiven
-        (import_response (report_of imported.now)) answer.status answer.bytes.items) }
+        (import_response (report_of imported)) answer.status answer.bytes.items) }
 {
     match imported {
         Imported::Report(report) => {
-            let bytes = long_response(alloc, Status::Done, Content::Text, report)?;
+            let bytes = long_response(Status::Done, Content::Text, report)?;
             Ok(Answer {
                 status: Status::Done,
                 bytes,
@@ -60,5 +60,5 @@ pub(crate) fn answer_import<D: Backend>(
         → FindsAmong (D.leaves desk.new) (D.begins (D.seen desk.old).state caller.now body.now) }
 {
     let imported = desk.import(alloc, caller, body)?;
-    Ok(answer_imported(alloc, &imported)?)
+    Ok(answer_imported(alloc, imported)?)
 }

@@ -39,20 +39,20 @@ fn status_of(denial: Denial) -> Status
 }
 
 /// The answer that shows something.
-fn answer_shown(alloc: Global, subject: &Subject, shown: &Shown) -> Result<Answer, AllocError>
+fn answer_shown(alloc: Global, subject: &Subject, shown: Shown) -> Result<Answer, AllocError>
     ensures { IfOk result
         (λ answer. IsGiven
-        (show_response subject.now (text_shown shown.now)) answer.status answer.bytes.items) }
+        (show_response subject.now (text_shown shown)) answer.status answer.bytes.items) }
 {
     match shown {
         Shown::Text(text) => {
-            let bytes = long_response(alloc, Status::Done, content_of(subject), text)?;
+            let bytes = long_response(Status::Done, content_of(subject), text)?;
             Ok(Answer {
                 status: Status::Done,
                 bytes,
             })
         }
-        Shown::Denied(denial) => answer_fixed(alloc, status_of(*denial), None, false),
+        Shown::Denied(denial) => answer_fixed(alloc, status_of(denial), None, false),
     }
 }
 
@@ -81,5 +81,5 @@ pub(crate) fn answer_show<D: Backend>(
         → FindsOnly (D.leaves desk.new) (D.seen desk.old).state }
 {
     let shown = desk.show(alloc, caller, subject)?;
-    Ok(answer_shown(alloc, &subject, &shown)?)
+    Ok(answer_shown(alloc, &subject, shown)?)
 }

@@ -105,22 +105,19 @@ pub fn fixed_response(status: Status, allow: Option<Method>, for_head: bool) -> 
     out
 }
 
-/// A response with a body of any length.
+/// A response with a body of any length. The head goes into the body's own memory, so that a long
+/// text is held once.
 ///
 /// # Errors
 ///
 /// `AllocError` where memory for it was refused.
-pub fn long_response(
-    alloc: Global,
-    status: Status,
-    content: Content,
-    body: &[u8],
-) -> Result<Vec<u8>, AllocError>
+pub fn long_response(status: Status, content: Content, body: Vec<u8>) -> Result<Vec<u8>, AllocError>
     ensures { IfOk result
-        (λ bytes. bytes.items ≡ response_text false (response_of status content body.now)) }
+        (λ bytes. bytes.items ≡ response_text false (response_of status content body.items)) }
 {
     let head = head(status, content, None, body.len() as u64);
-    let mut bytes = Vec::from_slice(alloc, head.as_str().as_bytes())?;
-    bytes.extend_from_slice(body)?;
+    let mut bytes = body;
+    bytes.extend_from_slice(head.as_str().as_bytes())?;
+    bytes.rotate_right(head.len());
     Ok(bytes)
 }
