@@ -15,8 +15,9 @@ ghost use Rattle.goo_tables_rows.specs.Met.{HasOurTables};
 ghost use Rattle.goo_tables_rows.specs.First.{ReadsFirst};
 ghost use Rattle.goo_tables_accounts.specs.Changes.{with_cancellation, CancellationFits};
 
-use goo_tables_rows::ask::{ask_all, ask_first};
+use goo_tables_rows::ask::ask_first;
 use goo_tables_rows::cancellation::CancellationRow;
+use goo_tables_rows::each::ask_each;
 use goo_tables_rows::put::put;
 use goo_tables_rows::values::{number, small, text};
 use sqlite::{Alter, Connection, Error, Transaction};
@@ -122,7 +123,7 @@ pub fn all_cancellations<S: Alter>(
         (map cancellation_in found.items))
         (λ t. All cancellation_readable (map cancellation_columns t.cancellations)) }
 {
-    ask_all(
+    ask_each(
         alloc,
         conn,
         "SELECT number, account, first, last, beneficiary, use_first, use_last, day FROM cancellation ORDER BY number",

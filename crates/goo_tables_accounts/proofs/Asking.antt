@@ -8,7 +8,7 @@ use Rattle.sqlite.specs.Listing.{understood, reads_listing}
 use Rattle.sqlite.specs.State.{State, HasCleanDisk, Survives, CommitsShowing}
 use Rattle.sqlite.specs.declared.error.Error.{Error}
 use Rattle.sqlite.proofs.Callers.{IsPlain, command_of}
-use Rattle.goo_tables_rows.specs.Asked.{Answered, IsRead, FailsToAsk}
+use Rattle.goo_tables_rows.specs.Asked.{Answered, IsRead, FailsToAsk, Gave, IsReadThrough, FailsToGive}
 use Rattle.sqlite.specs.Effect.{Database}
 use Rattle.goo_tables_rows.specs.Columns.{registry_schema, first_schema}
 use Rattle.goo_tables_rows.specs.First.{IsFirst, HasFirstTables, ReadsFirst}
@@ -19,6 +19,7 @@ use Rattle.goo_tables_rows.specs.Rows.{Tables}
 use Rattle.goo_tables_rows.specs.Stands.{Stands, Looks}
 use Rattle.goo_tables_rows.proofs.Reading.{looks, looks_first, meets}
 use Rattle.goo_tables_rows.proofs.Refusing.{fails_by, fails_readable}
+use Rattle.goo_tables_rows.proofs.Through.{given_of, looks_through, looks_first_through, fails_through, fails_readable_through}
 
 -- the text asks this query, and is one statement that parameters made so suit
 pub record Asks {A : Type 0} (sql : List ℕ) (q : Query) (params : A → Row) : Type 0 where
@@ -77,4 +78,36 @@ module _ {X : Type 0} {sql : List ℕ} {q : Query} (asks : AsksFirst sql q) (old
     met = λ clean it. meets first_schema sql q asks.names asks.is asks.plain asks.unlisted [] old new R (Shows old.now) it.schema (tells it) r (read clean);
     refused = λ clean has unlimited. fails_by first_schema sql q asks.names asks.is asks.plain asks.unlisted [] asks.suits old new has unlimited readable r (fails clean);
     readable = λ clean unlimited t it can. fails_readable first_schema sql q asks.names asks.is asks.plain asks.unlisted [] asks.suits old new it.0 unlimited readable (reads t it can) r (fails clean);
+  }
+
+-- ---- a whole table that is read row by row
+
+module _ {A X : Type 0} {sql : List ℕ} {q : Query} {params : A → Row} (asks : Asks sql q params) (a : A) (old new : State) (r : Result X Error) where
+  pub looks_through_all : (R : X → List Row → Type 0) (right : Tables → X → Type 0) → Says old q (params a) R right
+      → (HasCleanDisk new → IfOk r (λ x. Gave sql (params a) old new (R x))) → (HasCleanDisk new → IsReadThrough sql (params a) old new) → Survives old new (CommitsShowing sql (params a) old) → Looks old new r right
+  looks_through_all R right says = looks_through sql q asks.names asks.is asks.plain asks.unlisted (params a) old new R right says r
+
+  pub met_each : (R : X → List Row → Type 0) (right : X → Type 0) → HasOurTables old.now → Tells old q (params a) R right
+      → IfOk r (λ x. Gave sql (params a) old new (R x)) → IfOk r right
+  met_each R right it says h =
+      meets registry_schema sql q asks.names asks.is asks.plain asks.unlisted (params a) old new R right it.schema says r (given_of registry_schema sql asks.plain (params a) old new it.schema R r h)
+
+  pub refused_each : (readable : Row → Type 0) → old.now.schema ≡ registry_schema → old.step_limit ≡ None → IfErr r (FailsToGive sql (params a) old new readable) → IfErr r (λ e. IsFault old new e ⊎ IsTrue (is_read_error e))
+  refused_each readable has unlimited = fails_through registry_schema sql q asks.names asks.is asks.plain asks.unlisted (params a) (asks.suits a) old new has unlimited readable r
+
+  -- each row that the query shows can be read
+  pub refused_readable_each : (readable : Row → Type 0) → old.now.schema ≡ registry_schema → old.step_limit ≡ None → ((rows : List Row) → IsAnswer q (overlay old.now.trees []) (params a) rows → All readable rows)
+      → IfErr r (FailsToGive sql (params a) old new readable) → IfErr r (IsFault old new)
+  refused_readable_each readable has unlimited right = fails_readable_through registry_schema sql q asks.names asks.is asks.plain asks.unlisted (params a) (asks.suits a) old new has unlimited readable right r
+
+module _ {X : Type 0} {sql : List ℕ} {q : Query} (asks : AsksFirst sql q) (old new : State) (r : Result X Error) where
+  pub reads_first_each : (R : X → List Row → Type 0) (right : Tables → X → Type 0) (Shows : Database → X → Type 0) (readable : Row → Type 0) (CanBeRead : Tables → Type 0)
+      → SaysFirst old q R right → (HasFirstTables old.now → Tells old q [] R (Shows old.now)) → ((t : Tables) → IsFirst old.now t → CanBeRead t → (rows : List Row) → IsAnswer q (overlay old.now.trees []) [] rows → All readable rows)
+      → (HasCleanDisk new → IfOk r (λ x. Gave sql [] old new (R x))) → (HasCleanDisk new → IsReadThrough sql [] old new) → Survives old new (CommitsShowing sql [] old) → (HasCleanDisk new → IfErr r (FailsToGive sql [] old new readable))
+      → ReadsFirst old new r right Shows CanBeRead
+  reads_first_each R right Shows readable CanBeRead says tells reads read ran survives fails = record {
+    looks = looks_first_through sql q asks.names asks.is asks.plain asks.unlisted [] old new R right says r read ran survives;
+    met = λ clean it. meets first_schema sql q asks.names asks.is asks.plain asks.unlisted [] old new R (Shows old.now) it.schema (tells it) r (given_of first_schema sql asks.plain [] old new it.schema R r (read clean));
+    refused = λ clean has unlimited. fails_through first_schema sql q asks.names asks.is asks.plain asks.unlisted [] asks.suits old new has unlimited readable r (fails clean);
+    readable = λ clean unlimited t it can. fails_readable_through first_schema sql q asks.names asks.is asks.plain asks.unlisted [] asks.suits old new it.0 unlimited readable (reads t it can) r (fails clean);
   }

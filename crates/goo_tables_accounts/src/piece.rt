@@ -18,7 +18,8 @@ ghost use Rattle.goo_tables_rows.specs.First.{ReadsFirst};
 ghost use Rattle.goo_tables_accounts.specs.Changes.{begins_as, with_piece, with_piece_set};
 ghost use Rattle.goo_tables_accounts.specs.Changes.{without_piece, PieceFits};
 
-use goo_tables_rows::ask::{ask_all, ask_first};
+use goo_tables_rows::ask::ask_first;
+use goo_tables_rows::each::ask_each;
 use goo_tables_rows::piece::PieceRow;
 use goo_tables_rows::put::put;
 use goo_tables_rows::values::{number, small};
@@ -206,7 +207,7 @@ pub fn all_pieces<S: Alter>(alloc: Global, conn: &mut Connection<S>) -> Result<V
         (λ db found. Keeps (db.trees 10) piece_row piece_key found.items)
         (λ t. All piece_readable (map piece_columns t.pieces)) }
 {
-    ask_all(
+    ask_each(
         alloc,
         conn,
         "SELECT first, last, lot, kind, account, act FROM piece ORDER BY first",

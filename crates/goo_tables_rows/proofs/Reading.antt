@@ -58,7 +58,7 @@ rests_failed sql params a b e settled (inl (inl h)) = rests_unchanged a b h.1
 rests_failed sql params a b e settled (inl (inr h)) = rests_undone a b settled h.3
 rests_failed sql params a b e settled (inr h) = rests_refused sql _ a b e h.0 settled h.0.returning h.2
 
-was_open_shown : (sql : List ℕ) (params : Row) (a b : State) (c : Compiled) (rows : List Row) (r : Option Returning) → ShowsRows a b sql c params rows r → IsTrue a.is_open
+pub was_open_shown : (sql : List ℕ) (params : Row) (a b : State) (c : Compiled) (rows : List Row) (r : Option Returning) → ShowsRows a b sql c params rows r → IsTrue a.is_open
 was_open_shown sql params a b c rows None h = h.3.0.was_open
 was_open_shown sql params a b c rows (Some what) h = h.1.shown.was_open
 
@@ -67,13 +67,13 @@ was_open_refused sql params a b e c None h live = h.3.0.was_open
 was_open_refused sql params a b e c (Some what) (inl h) live = h.1.0.was_open
 was_open_refused sql params a b e c (Some what) (inr h) live = h.3.was_open live
 
-was_open_failed : (sql : List ℕ) (params : Row) (a b : State) (e : Error) → FailsToQuery sql params a b e → IsTrue b.is_open → IsTrue a.is_open
+pub was_open_failed : (sql : List ℕ) (params : Row) (a b : State) (e : Error) → FailsToQuery sql params a b e → IsTrue b.is_open → IsTrue a.is_open
 unfolding FailsToQuery IsNotRun
 was_open_failed sql params a b e (inl (inl h)) live = h.1.0.was_open
 was_open_failed sql params a b e (inl (inr h)) live = h.3.was_open live
 was_open_failed sql params a b e (inr h) live = was_open_refused sql _ a b e h.0 h.0.returning h.2 live
 
-open_shown : (sql : List ℕ) (params : Row) (a b : State) (c : Compiled) (rows : List Row) (r : Option Returning) → ShowsRows a b sql c params rows r → IsTrue b.is_open
+pub open_shown : (sql : List ℕ) (params : Row) (a b : State) (c : Compiled) (rows : List Row) (r : Option Returning) → ShowsRows a b sql c params rows r → IsTrue b.is_open
 open_shown sql params a b c rows None h = h.3.0.is_open
 open_shown sql params a b c rows (Some what) h = h.1.shown.is_open
 
