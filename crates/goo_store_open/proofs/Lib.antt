@@ -4,3 +4,4 @@ pub mod Chaining
 pub mod Earning
 pub mod OnFiles
 pub mod Selecting
+pub mod Judging

@@ -1,5 +1,6 @@
-//! The rows of all tables but `meta`, each table in the order of its rowids.
+//! What is kept of the rows of all tables but `meta`, each table in the order of its rowids.
 
+use goo_store_receipts::receipts::JudgedReceipt;
 use goo_tables_rows::account::AccountRow;
 use goo_tables_rows::cancellation::CancellationRow;
 use goo_tables_rows::correction::CorrectionRow;
@@ -13,7 +14,6 @@ use goo_tables_rows::notice_in::NoticeInRow;
 use goo_tables_rows::notice_out::NoticeOutRow;
 use goo_tables_rows::peer::PeerRow;
 use goo_tables_rows::piece::PieceRow;
-use goo_tables_rows::receipt::ReceiptRow;
 use goo_tables_rows::withdrawal::WithdrawalRow;
 
 /// Those that the registry knows.
@@ -34,10 +34,11 @@ pub struct Production {
     pub pieces: Vec<PieceRow>,
 }
 
-/// The requests that were accepted, and the records of acts.
+/// The requests that were accepted, of whose receipts only the judgment is kept, and the records
+/// of acts.
 #[derive(Drop)]
 pub struct Acts {
-    pub receipts: Vec<ReceiptRow>,
+    pub receipts: Vec<JudgedReceipt>,
     pub cancellations: Vec<CancellationRow>,
     pub withdrawals: Vec<WithdrawalRow>,
 }

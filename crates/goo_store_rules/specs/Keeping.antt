@@ -1,8 +1,8 @@
 -- The rules over all that was read.
 use Rattle.std.specs.Prelude.{◌&&◌, Bool, None, pos, string_bytes, map}
 use Rattle.std.specs.List.{list_all}
-use Rattle.goo_tables_rows.specs.Rows.{meta_in, holder_in, account_in, device_in, declaration_in, correction_in, lot_in, receipt_in, cancellation_in, withdrawal_in, notice_out_in, notice_in_in, device_carrier_in, lot_carrier_in}
-use Rattle.goo_spec_tables.specs.Readable.{is_meta, is_holder, is_account, is_device, is_declaration, is_lot, is_piece, is_peer, is_receipt, is_cancellation, is_withdrawal, is_correction, is_notice_out, is_notice_in, is_device_carrier, is_lot_carrier}
+use Rattle.goo_tables_rows.specs.Rows.{meta_in, holder_in, account_in, device_in, declaration_in, correction_in, lot_in, cancellation_in, withdrawal_in, notice_out_in, notice_in_in, device_carrier_in, lot_carrier_in}
+use Rattle.goo_spec_tables.specs.Readable.{is_meta, is_holder, is_account, is_device, is_declaration, is_lot, is_piece, is_peer, is_cancellation, is_withdrawal, is_correction, is_notice_out, is_notice_in, is_device_carrier, is_lot_carrier}
 use Rattle.goo_types.specs.Number.{code_of}
 use Rattle.goo_store_rules.specs.WellKept.{is_no_issuer, is_another, covers_aux, account_given, cancellation_given, withdrawal_given, notice_given, is_issued, are_apart, has_holder, has_account, has_device, has_lot, has_cancellation, has_withdrawal, has_sent, has_lot_of, has_over, has_closed, act_in, is_timely, has_declaration, is_declared, is_withdrawn}
 use Rattle.goo_store_open.specs.declared.finding.Found.{Found}
@@ -18,7 +18,7 @@ has_good_values x =
     && (list_all (λ row. is_declaration (declaration_in row)) x.rows.production.declarations.items
     && (list_all (λ row. is_lot (lot_in row)) x.rows.production.lots.items
     && (list_all is_piece x.rows.production.pieces.items
-    && (list_all (λ row. is_receipt (pos 0, receipt_in row)) x.rows.acts.receipts.items
+    && (list_all (λ row. row.is_good) x.rows.acts.receipts.items
     && (list_all (λ row. is_cancellation (cancellation_in row)) x.rows.acts.cancellations.items
     && list_all (λ row. is_withdrawal (withdrawal_in row)) x.rows.acts.withdrawals.items)))))))))
 

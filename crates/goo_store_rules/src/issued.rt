@@ -16,7 +16,7 @@ ghost use Rattle.goo_store_rules.specs.Summing.{sum_at, left_at};
 
 use crate::declares::gsrn_in;
 use crate::energy::{Energy, left_for};
-use crate::numbers::CERTIFICATE;
+use goo_store_receipts::numbers::CERTIFICATE;
 use crate::sums::{add_to, sum_for};
 use crate::taken_back::is_taken;
 use goo_tables_rows::lot::LotRow;

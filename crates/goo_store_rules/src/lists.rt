@@ -3,23 +3,23 @@
 ghost use Rattle.std.specs.Prelude.{◌≡◌, pos};
 ghost use Rattle.std.specs.List.{list_all};
 ghost use Rattle.goo_tables_rows.specs.Rows.{holder_in, account_in, device_in, declaration_in};
-ghost use Rattle.goo_tables_rows.specs.Rows.{lot_in, receipt_in, cancellation_in, withdrawal_in};
+ghost use Rattle.goo_tables_rows.specs.Rows.{lot_in, cancellation_in, withdrawal_in};
 ghost use Rattle.goo_tables_rows.specs.Rows.{correction_in, notice_out_in, device_carrier_in};
 ghost use Rattle.goo_tables_rows.specs.Rows.{lot_carrier_in};
 ghost use Rattle.goo_spec_tables.specs.Readable.{is_holder, is_account, is_device, is_declaration};
-ghost use Rattle.goo_spec_tables.specs.Readable.{is_lot, is_piece, is_peer, is_receipt};
+ghost use Rattle.goo_spec_tables.specs.Readable.{is_lot, is_piece, is_peer};
 ghost use Rattle.goo_spec_tables.specs.Readable.{is_cancellation, is_withdrawal, is_correction};
 ghost use Rattle.goo_spec_tables.specs.Readable.{is_device_carrier, is_lot_carrier};
 ghost use Rattle.goo_store_rules.specs.WellKept.{is_no_issuer, is_another, covers_aux};
 ghost use Rattle.goo_store_rules.specs.WellKept.{account_given, cancellation_given};
 ghost use Rattle.goo_store_rules.specs.WellKept.{withdrawal_given, notice_given, is_issued};
 
-use crate::receipts::accepts_receipt;
 use crate::values::{
     accepts_account, accepts_cancellation, accepts_correction, accepts_declaration, accepts_device,
     accepts_device_carrier, accepts_holder, accepts_lot, accepts_lot_carrier, accepts_peer,
     accepts_piece, accepts_withdrawal,
 };
+use goo_store_receipts::receipts::JudgedReceipt;
 use goo_tables_rows::account::AccountRow;
 use goo_tables_rows::cancellation::CancellationRow;
 use goo_tables_rows::correction::CorrectionRow;
@@ -32,7 +32,6 @@ use goo_tables_rows::lot_carrier::LotCarrierRow;
 use goo_tables_rows::notice_out::NoticeOutRow;
 use goo_tables_rows::peer::PeerRow;
 use goo_tables_rows::piece::PieceRow;
-use goo_tables_rows::receipt::ReceiptRow;
 use goo_tables_rows::withdrawal::WithdrawalRow;
 use goo_types::limits::{ISSUER, SERIALS};
 
@@ -85,11 +84,11 @@ pub fn accepts_peers(rows: &[PeerRow]) -> bool
     rows.iter().all(|row| accepts_peer(row))
 }
 
-/// The same of the receipts.
-pub fn accepts_receipts(rows: &[ReceiptRow]) -> bool
-    ensures { result ≡ list_all (λ row. is_receipt (pos 0, receipt_in row)) rows.now }
+/// The same of the receipts, which were judged as they were read.
+pub fn accepts_receipts(rows: &[JudgedReceipt]) -> bool
+    ensures { result ≡ list_all (λ row. row.is_good) rows.now }
 {
-    rows.iter().all(|row| accepts_receipt(row))
+    rows.iter().all(|row| row.is_good)
 }
 
 /// The same of the cancellations.

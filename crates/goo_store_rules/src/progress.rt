@@ -15,7 +15,7 @@ ghost use Rattle.goo_store_rules.specs.Summing.{left_at};
 
 use crate::declares::gsrn_in;
 use crate::energy::{Energy, left_for};
-use crate::numbers::CERTIFICATE;
+use goo_store_receipts::numbers::CERTIFICATE;
 use crate::periods::last_day_of;
 use goo_tables_rows::device::DeviceRow;
 use goo_types::day::Day;

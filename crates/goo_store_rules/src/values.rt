@@ -2,19 +2,19 @@
 
 ghost use Rattle.std.specs.Prelude.{◌≡◌, pos};
 ghost use Rattle.goo_tables_rows.specs.Rows.{plant_in, meta_in, holder_in, account_in, device_in};
-ghost use Rattle.goo_tables_rows.specs.Rows.{declaration_in, lot_in, receipt_in, cancellation_in};
+ghost use Rattle.goo_tables_rows.specs.Rows.{declaration_in, lot_in, cancellation_in};
 ghost use Rattle.goo_tables_rows.specs.Rows.{withdrawal_in, correction_in, device_carrier_in};
 ghost use Rattle.goo_tables_rows.specs.Rows.{lot_carrier_in};
 ghost use Rattle.goo_spec_tables.specs.Readable.{is_meta, is_holder, is_account, is_plant};
 ghost use Rattle.goo_spec_tables.specs.Readable.{is_device, is_declaration, is_lot, is_piece};
-ghost use Rattle.goo_spec_tables.specs.Readable.{is_peer, is_receipt, is_cancellation};
+ghost use Rattle.goo_spec_tables.specs.Readable.{is_peer, is_cancellation};
 ghost use Rattle.goo_spec_tables.specs.Readable.{is_withdrawal, is_correction, is_device_carrier};
 ghost use Rattle.goo_spec_tables.specs.Readable.{is_lot_carrier};
 
-use crate::numbers::{
+use goo_store_receipts::numbers::{
     has_act, is_energy, is_free, is_given, is_given_or_none, is_range, is_registry,
 };
-use crate::texts::{
+use goo_store_receipts::texts::{
     is_code_text, is_country, is_day, is_day_or_none, is_gsrn, is_key, is_name, is_other_carrier,
     is_other_or_none, is_source, is_support, is_tech,
 };

@@ -1,4 +1,4 @@
-//! Receipts: what accepted requests left.
+//! Receipts: what accepted requests left. Of each row is kept only whether it keeps the rules.
 
 ghost use Rattle.std.specs.Prelude.{◌≡◌, ◌==◌, ◌&&◌, ◌||◌, pos};
 ghost use Rattle.goo_tables_rows.specs.Rows.{receipt_in};
@@ -7,7 +7,17 @@ ghost use Rattle.goo_spec_tables.specs.Readable.{are_ends};
 
 use crate::numbers::{is_given_long, is_given_or_none, is_range};
 use crate::texts::{is_code_text, is_key};
+use goo_tables_rows::from_row::FromRow;
 use goo_tables_rows::receipt::ReceiptRow;
+use sqlite::{Error, Row};
+use std::alloc::Global;
+
+/// A receipt that was judged as it was read.
+#[derive(Drop)]
+pub struct JudgedReceipt {
+    /// Whether each of its values is one that its reader or its limit accepts.
+    pub is_good: bool,
+}
 
 /// Whether these are the first and the last number that a declaration issued, or 0 and 0 where it
 /// issued none.
@@ -37,4 +47,20 @@ pub fn accepts_receipt(row: &ReceiptRow) -> bool
     ensures { result ≡ is_receipt (pos 0, receipt_in row.now) }
 {
     is_code_text(&row.caller) && is_key(&row.key) && accepts_reply(row.kind, row.n1, row.n2, row.n3)
+}
+
+impl FromRow for JudgedReceipt {
+    ghost use Rattle.goo_tables_rows.specs.Readable.{receipt_readable};
+    ghost use Rattle.goo_store_receipts.specs.Judged.{judged_reads};
+
+    ghost reads = { judged_reads };
+
+    ghost readable = { receipt_readable };
+
+    fn from_row(alloc: Global, row: &Row) -> Result<JudgedReceipt, Error> {
+        let receipt = ReceiptRow::from_row(alloc, row)?;
+        Ok(JudgedReceipt {
+            is_good: accepts_receipt(&receipt),
+        })
+    }
 }
