@@ -1,13 +1,12 @@
 //! A request that is applied.
-ghost use Rattle.std.specs.Prelude.{◌≡◌, ◌≤◌, [], IfOk, OnOk, OnErr, length, vec_len, vec_capacity};
+ghost use Rattle.std.specs.Prelude.{◌≡◌, ◌≤◌, [], IfOk, OnOk, OnErr, vec_len, vec_capacity};
 ghost use Rattle.goo_desk_body.specs.Body.{body_of};
 ghost use Rattle.goo_desk_lines.specs.Lines.{body_reading};
 ghost use Rattle.goo_desk_lines.specs.Reading.{Reads};
-ghost use Rattle.goo_core_shelf.specs.Shelf.{IsTold};
 ghost use Rattle.goo_core_shelf.specs.Crash.{FindsEither};
-ghost use Rattle.goo_core_shelf.specs.Desk.{StaysSure};
 ghost use Rattle.goo_desk_answers.specs.Responds.{Does, applied, state_applied, status_of_refusal};
 ghost use Rattle.goo_desk_answers.specs.Responds.{status_of_outcome, status_of_answer};
+ghost use Rattle.goo_desk_answers.specs.Reliable.{StaysReliable};
 ghost use Rattle.goo_desk_routes.specs.declared.task.Task.TheVariants.{Apply};
 
 use crate::answered::Answer;
@@ -76,13 +75,7 @@ fn apply_body<D: Backend>(
         ((D.seen desk.new).state ≡ state_applied (D.seen desk.old).state caller.now body.now) }
     ensures unchanged { (D.seen desk.new).doubts ≡ 0
         → OnErr result ((D.seen desk.new).state ≡ (D.seen desk.old).state) }
-    ensures doubted { (D.seen desk.new).doubts ≡ 0 → (D.seen desk.old).doubts ≡ 0 }
-    ensures lied { (D.seen desk.new).lies ≡ 0 → (D.seen desk.old).lies ≡ 0 }
-    ensures told { (D.seen desk.old).refusals ≡ 0 → IsTold result (D.seen desk.new).refusals }
-    ensures works { (D.seen desk.new).lies ≡ 0 → (D.seen desk.old).doubts ≡ 0
-        → OnOk result ((D.seen desk.new).doubts ≡ 0) }
-    ensures stays { (D.seen desk.new).lies ≡ 0 → (D.seen desk.old).doubts ≡ 0
-        → StaysSure (D.seen desk.old) (D.seen desk.new) }
+    ensures reliable { StaysReliable (D.seen desk.old) (D.seen desk.new) result }
     ensures crash { (D.seen desk.new).lies ≡ 0 → (D.seen desk.old).doubts ≡ 0
         → FindsEither (D.leaves desk.new) (D.seen desk.old).state
         (state_applied (D.seen desk.old).state caller.now body.now) }
@@ -122,13 +115,7 @@ pub(crate) fn answer_apply<D: Backend>(
         (D.seen desk.new).state) }
     ensures unchanged { (D.seen desk.new).doubts ≡ 0
         → OnErr result ((D.seen desk.new).state ≡ (D.seen desk.old).state) }
-    ensures doubted { (D.seen desk.new).doubts ≡ 0 → (D.seen desk.old).doubts ≡ 0 }
-    ensures lied { (D.seen desk.new).lies ≡ 0 → (D.seen desk.old).lies ≡ 0 }
-    ensures told { (D.seen desk.old).refusals ≡ 0 → IsTold result (D.seen desk.new).refusals }
-    ensures works { (D.seen desk.new).lies ≡ 0 → (D.seen desk.old).doubts ≡ 0
-        → OnOk result ((D.seen desk.new).doubts ≡ 0) }
-    ensures stays { (D.seen desk.new).lies ≡ 0 → (D.seen desk.old).doubts ≡ 0
-        → StaysSure (D.seen desk.old) (D.seen desk.new) }
+    ensures reliable { StaysReliable (D.seen desk.old) (D.seen desk.new) result }
     ensures crash { (D.seen desk.new).lies ≡ 0 → (D.seen desk.old).doubts ≡ 0
         → FindsEither (D.leaves desk.new) (D.seen desk.old).state
         (state_applied (D.seen desk.old).state caller.now body.now) }

@@ -1,15 +1,14 @@
 //! The answer to all the bytes of a stream: the request that they are goes to what answers it.
-ghost use Rattle.std.specs.Prelude.{◌≡◌, ◌⊎◌, IfOk, OnErr, OnOk};
+ghost use Rattle.std.specs.Prelude.{◌≡◌, IfOk, OnErr};
 ghost use Rattle.goo_desk_heads.specs.Requests.{seen as parts_seen, parts_of};
 ghost use Rattle.goo_desk_responses.specs.Responses.{response_text, fixed};
-ghost use Rattle.goo_core_shelf.specs.Shelf.{IsTold};
-ghost use Rattle.goo_core_shelf.specs.Desk.{StaysSure};
 ghost use Rattle.goo_spec.specs.Sound.{IsSound};
 ghost use Rattle.goo_desk_backend.specs.Tables.{ImportsAreRuns};
 ghost use Rattle.goo_desk_answers.specs.Brought.{BringsBy, BringsIn, FindsLed, FindsLeft};
 ghost use Rattle.goo_desk_answers.specs.Brought.{KeepsPromise, MayBring};
 ghost use Rattle.goo_desk_answers.specs.Responds.{Does, Handles, RespondsTo, Responds, Stops};
 ghost use Rattle.goo_desk_answers.specs.Responds.{StopsIn, StopsAt, Fails, status_of_head};
+ghost use Rattle.goo_desk_answers.specs.Reliable.{StaysReliable};
 
 use crate::answered::Answer;
 use crate::apply::answer_apply;
@@ -68,13 +67,7 @@ fn answer_task<D: Backend>(
         → OnErr result
         (Stops D.imports D.begins (D.seen desk.old).state caller.now body.now task
         (D.seen desk.new).state) }
-    ensures doubted { (D.seen desk.new).doubts ≡ 0 → (D.seen desk.old).doubts ≡ 0 }
-    ensures lied { (D.seen desk.new).lies ≡ 0 → (D.seen desk.old).lies ≡ 0 }
-    ensures told { (D.seen desk.old).refusals ≡ 0 → IsTold result (D.seen desk.new).refusals }
-    ensures works { (D.seen desk.new).lies ≡ 0 → (D.seen desk.old).doubts ≡ 0
-        → OnOk result ((D.seen desk.new).doubts ≡ 0) }
-    ensures stays { (D.seen desk.new).lies ≡ 0 → (D.seen desk.old).doubts ≡ 0
-        → StaysSure (D.seen desk.old) (D.seen desk.new) }
+    ensures reliable { StaysReliable (D.seen desk.old) (D.seen desk.new) result }
     ensures crash { ImportsAreRuns D.imports D.begins → (D.seen desk.new).lies ≡ 0
         → (D.seen desk.old).doubts ≡ 0
         → FindsLed (D.leaves desk.new) (D.seen desk.old).state (MayBring caller.now body.now task) }
@@ -101,13 +94,7 @@ fn answer_handled<D: Backend>(
         → OnErr result
         (StopsIn D.imports D.begins (D.seen desk.old).state (parts_of request.now) handling
         (D.seen desk.new).state) }
-    ensures doubted { (D.seen desk.new).doubts ≡ 0 → (D.seen desk.old).doubts ≡ 0 }
-    ensures lied { (D.seen desk.new).lies ≡ 0 → (D.seen desk.old).lies ≡ 0 }
-    ensures told { (D.seen desk.old).refusals ≡ 0 → IsTold result (D.seen desk.new).refusals }
-    ensures works { (D.seen desk.new).lies ≡ 0 → (D.seen desk.old).doubts ≡ 0
-        → OnOk result ((D.seen desk.new).doubts ≡ 0) }
-    ensures stays { (D.seen desk.new).lies ≡ 0 → (D.seen desk.old).doubts ≡ 0
-        → StaysSure (D.seen desk.old) (D.seen desk.new) }
+    ensures reliable { StaysReliable (D.seen desk.old) (D.seen desk.new) result }
     ensures crash { ImportsAreRuns D.imports D.begins → (D.seen desk.new).lies ≡ 0
         → (D.seen desk.old).doubts ≡ 0
         → FindsLed (D.leaves desk.new) (D.seen desk.old).state
@@ -136,13 +123,7 @@ fn answer_request<D: Backend>(
         → OnErr result
         (StopsAt D.imports D.begins (D.seen desk.old).state (parts_seen request.now)
         (D.seen desk.new).state) }
-    ensures doubted { (D.seen desk.new).doubts ≡ 0 → (D.seen desk.old).doubts ≡ 0 }
-    ensures lied { (D.seen desk.new).lies ≡ 0 → (D.seen desk.old).lies ≡ 0 }
-    ensures told { (D.seen desk.old).refusals ≡ 0 → IsTold result (D.seen desk.new).refusals }
-    ensures works { (D.seen desk.new).lies ≡ 0 → (D.seen desk.old).doubts ≡ 0
-        → OnOk result ((D.seen desk.new).doubts ≡ 0) }
-    ensures stays { (D.seen desk.new).lies ≡ 0 → (D.seen desk.old).doubts ≡ 0
-        → StaysSure (D.seen desk.old) (D.seen desk.new) }
+    ensures reliable { StaysReliable (D.seen desk.old) (D.seen desk.new) result }
     ensures crash { ImportsAreRuns D.imports D.begins → (D.seen desk.new).lies ≡ 0
         → (D.seen desk.old).doubts ≡ 0
         → FindsLed (D.leaves desk.new) (D.seen desk.old).state
@@ -179,16 +160,10 @@ pub fn answer_by_routes<D: Backend>(
     ensures stopped { (D.seen desk.new).doubts ≡ 0
         → OnErr result
         (Fails D.imports D.begins (D.seen desk.old).state bytes.now (D.seen desk.new).state) }
-    ensures doubted { (D.seen desk.new).doubts ≡ 0 → (D.seen desk.old).doubts ≡ 0 }
-    ensures lied { (D.seen desk.new).lies ≡ 0 → (D.seen desk.old).lies ≡ 0 }
-    ensures told { (D.seen desk.old).refusals ≡ 0 → IsTold result (D.seen desk.new).refusals }
+    ensures reliable { StaysReliable (D.seen desk.old) (D.seen desk.new) result }
     ensures promised { ImportsAreRuns D.imports D.begins → IsSound (D.seen desk.old).state
         → (D.seen desk.new).lies ≡ 0
         → KeepsPromise bytes.now (D.seen desk.old).state (D.seen desk.new) result }
-    ensures works { (D.seen desk.new).lies ≡ 0 → (D.seen desk.old).doubts ≡ 0
-        → OnOk result ((D.seen desk.new).doubts ≡ 0) }
-    ensures stays { (D.seen desk.new).lies ≡ 0 → (D.seen desk.old).doubts ≡ 0
-        → StaysSure (D.seen desk.old) (D.seen desk.new) }
     ensures crash { ImportsAreRuns D.imports D.begins → (D.seen desk.new).lies ≡ 0
         → (D.seen desk.old).doubts ≡ 0
         → FindsLeft (D.leaves desk.new) (D.seen desk.old).state bytes.now }
@@ -220,16 +195,10 @@ pub fn answer<D: Backend>(alloc: Global, desk: &mut D, bytes: &[u8]) -> Result<A
     ensures stopped { (D.seen desk.new).doubts ≡ 0
         → OnErr result
         (Fails D.imports D.begins (D.seen desk.old).state bytes.now (D.seen desk.new).state) }
-    ensures doubted { (D.seen desk.new).doubts ≡ 0 → (D.seen desk.old).doubts ≡ 0 }
-    ensures lied { (D.seen desk.new).lies ≡ 0 → (D.seen desk.old).lies ≡ 0 }
-    ensures told { (D.seen desk.old).refusals ≡ 0 → IsTold result (D.seen desk.new).refusals }
+    ensures reliable { StaysReliable (D.seen desk.old) (D.seen desk.new) result }
     ensures promised { ImportsAreRuns D.imports D.begins → IsSound (D.seen desk.old).state
         → (D.seen desk.new).lies ≡ 0
         → KeepsPromise bytes.now (D.seen desk.old).state (D.seen desk.new) result }
-    ensures works { (D.seen desk.new).lies ≡ 0 → (D.seen desk.old).doubts ≡ 0
-        → OnOk result ((D.seen desk.new).doubts ≡ 0) }
-    ensures stays { (D.seen desk.new).lies ≡ 0 → (D.seen desk.old).doubts ≡ 0
-        → StaysSure (D.seen desk.old) (D.seen desk.new) }
     ensures crash { ImportsAreRuns D.imports D.begins → (D.seen desk.new).lies ≡ 0
         → (D.seen desk.old).doubts ≡ 0
         → FindsLeft (D.leaves desk.new) (D.seen desk.old).state bytes.now }

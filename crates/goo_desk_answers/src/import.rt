@@ -1,10 +1,9 @@
 //! An import of declarations.
-ghost use Rattle.std.specs.Prelude.{◌≡◌, IfOk, OnErr, OnOk};
+ghost use Rattle.std.specs.Prelude.{◌≡◌, IfOk, OnErr};
 ghost use Rattle.goo_desk_backend.specs.Backends.{report_of};
 ghost use Rattle.goo_desk_backend.specs.Durable.{FindsAmong};
-ghost use Rattle.goo_core_shelf.specs.Shelf.{IsTold};
-ghost use Rattle.goo_core_shelf.specs.Desk.{StaysSure};
 ghost use Rattle.goo_desk_answers.specs.Responds.{Does, Stopped, IsGiven, import_response};
+ghost use Rattle.goo_desk_answers.specs.Reliable.{StaysReliable};
 ghost use Rattle.goo_desk_routes.specs.declared.task.Task.TheVariants.{Import};
 
 use crate::answered::Answer;
@@ -49,13 +48,7 @@ pub(crate) fn answer_import<D: Backend>(
         → OnErr result
         (Stopped D.imports D.begins (D.seen desk.old).state caller.now body.now
         (D.seen desk.new).state) }
-    ensures doubted { (D.seen desk.new).doubts ≡ 0 → (D.seen desk.old).doubts ≡ 0 }
-    ensures lied { (D.seen desk.new).lies ≡ 0 → (D.seen desk.old).lies ≡ 0 }
-    ensures told { (D.seen desk.old).refusals ≡ 0 → IsTold result (D.seen desk.new).refusals }
-    ensures works { (D.seen desk.new).lies ≡ 0 → (D.seen desk.old).doubts ≡ 0
-        → OnOk result ((D.seen desk.new).doubts ≡ 0) }
-    ensures stays { (D.seen desk.new).lies ≡ 0 → (D.seen desk.old).doubts ≡ 0
-        → StaysSure (D.seen desk.old) (D.seen desk.new) }
+    ensures reliable { StaysReliable (D.seen desk.old) (D.seen desk.new) result }
     ensures crash { (D.seen desk.new).lies ≡ 0 → (D.seen desk.old).doubts ≡ 0
         → FindsAmong (D.leaves desk.new) (D.begins (D.seen desk.old).state caller.now body.now) }
 {

@@ -1,11 +1,10 @@
 //! What is shown.
-ghost use Rattle.std.specs.Prelude.{◌≡◌, IfOk, OnErr, OnOk};
+ghost use Rattle.std.specs.Prelude.{◌≡◌, IfOk, OnErr};
 ghost use Rattle.goo_desk_backend.specs.Backends.{text_shown};
-ghost use Rattle.goo_core_shelf.specs.Shelf.{IsTold};
 ghost use Rattle.goo_core_shelf.specs.Crash.{FindsOnly};
-ghost use Rattle.goo_core_shelf.specs.Desk.{StaysSure};
 ghost use Rattle.goo_desk_answers.specs.Responds.{Does, IsGiven, content_of as content_stated};
 ghost use Rattle.goo_desk_answers.specs.Responds.{status_of_denial, show_response};
+ghost use Rattle.goo_desk_answers.specs.Reliable.{StaysReliable};
 ghost use Rattle.goo_desk_routes.specs.declared.task.Task.TheVariants.{Show};
 
 use crate::answered::Answer;
@@ -70,13 +69,7 @@ pub(crate) fn answer_show<D: Backend>(
         (Show subject) answer.status answer.bytes.items (D.seen desk.new).state) }
     ensures unchanged { (D.seen desk.new).doubts ≡ 0
         → OnErr result ((D.seen desk.new).state ≡ (D.seen desk.old).state) }
-    ensures doubted { (D.seen desk.new).doubts ≡ 0 → (D.seen desk.old).doubts ≡ 0 }
-    ensures lied { (D.seen desk.new).lies ≡ 0 → (D.seen desk.old).lies ≡ 0 }
-    ensures told { (D.seen desk.old).refusals ≡ 0 → IsTold result (D.seen desk.new).refusals }
-    ensures works { (D.seen desk.new).lies ≡ 0 → (D.seen desk.old).doubts ≡ 0
-        → OnOk result ((D.seen desk.new).doubts ≡ 0) }
-    ensures stays { (D.seen desk.new).lies ≡ 0 → (D.seen desk.old).doubts ≡ 0
-        → StaysSure (D.seen desk.old) (D.seen desk.new) }
+    ensures reliable { StaysReliable (D.seen desk.old) (D.seen desk.new) result }
     ensures crash { (D.seen desk.new).lies ≡ 0 → (D.seen desk.old).doubts ≡ 0
         → FindsOnly (D.leaves desk.new) (D.seen desk.old).state }
 {

@@ -84,31 +84,31 @@ returns-in-Err-Store-clause-found g c lies sure =
     (rw (c.as_bytes-in-Err-Store.ensures.value, c.as_str-in-Err-Store.ensures.value) at c.write_whole-in-Err-Store.ensures.prefix)
 
 pub returns-in_err-write_whole-in-Ok-clause-stays : goal.returns-in_err-write_whole-in-Ok-clause-stays
-returns-in_err-write_whole-in-Ok-clause-stays g c = c.answer_by_routes.ensures.stays
+returns-in_err-write_whole-in-Ok-clause-stays g c = c.answer_by_routes.ensures.reliable.stays
 
 pub returns-in_err-write_whole-in-Ok-clause-crash : goal.returns-in_err-write_whole-in-Ok-clause-crash
 returns-in_err-write_whole-in-Ok-clause-crash g c = c.answer_by_routes.ensures.crash
 
 pub returns-in_ok-write_whole-in-Ok-clause-stays : goal.returns-in_ok-write_whole-in-Ok-clause-stays
-returns-in_ok-write_whole-in-Ok-clause-stays g c = c.answer_by_routes.ensures.stays
+returns-in_ok-write_whole-in-Ok-clause-stays g c = c.answer_by_routes.ensures.reliable.stays
 
 pub returns-in_ok-write_whole-in-Ok-clause-crash : goal.returns-in_ok-write_whole-in-Ok-clause-crash
 returns-in_ok-write_whole-in-Ok-clause-crash g c = c.answer_by_routes.ensures.crash
 
 pub returns-in_err-write_whole-in-Err-Memory-clause-stays : goal.returns-in_err-write_whole-in-Err-Memory-clause-stays
-returns-in_err-write_whole-in-Err-Memory-clause-stays g c = c.answer_by_routes.ensures.stays
+returns-in_err-write_whole-in-Err-Memory-clause-stays g c = c.answer_by_routes.ensures.reliable.stays
 
 pub returns-in_err-write_whole-in-Err-Memory-clause-crash : goal.returns-in_err-write_whole-in-Err-Memory-clause-crash
 returns-in_err-write_whole-in-Err-Memory-clause-crash g c = c.answer_by_routes.ensures.crash
 
 pub returns-in_ok-write_whole-in-Err-Memory-clause-stays : goal.returns-in_ok-write_whole-in-Err-Memory-clause-stays
-returns-in_ok-write_whole-in-Err-Memory-clause-stays g c = c.answer_by_routes.ensures.stays
+returns-in_ok-write_whole-in-Err-Memory-clause-stays g c = c.answer_by_routes.ensures.reliable.stays
 
 pub returns-in_ok-write_whole-in-Err-Memory-clause-crash : goal.returns-in_ok-write_whole-in-Err-Memory-clause-crash
 returns-in_ok-write_whole-in-Err-Memory-clause-crash g c = c.answer_by_routes.ensures.crash
 
 pub returns-in-Err-Store-clause-stays : goal.returns-in-Err-Store-clause-stays
-returns-in-Err-Store-clause-stays g c = c.answer_by_routes.ensures.stays
+returns-in-Err-Store-clause-stays g c = c.answer_by_routes.ensures.reliable.stays
 
 pub returns-in-Err-Store-clause-crash : goal.returns-in-Err-Store-clause-crash
 returns-in-Err-Store-clause-crash g c = c.answer_by_routes.ensures.crash
