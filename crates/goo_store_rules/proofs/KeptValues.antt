@@ -6,6 +6,7 @@ use Rattle.std.proofs.lemmas.List.Folds.{list_all-map}
 use Rattle.goo_tables_rows.specs.Rows.{Tables, Kept, Device, Lot, AreCarriedDevices, AreCarriedLots, bare_device, bare_lot, holder_in, account_in, device_in, declaration_in, correction_in, device_carrier_in, lot_carrier_in, lot_in, cancellation_in, withdrawal_in, notice_out_in, notice_in_in}
 use Rattle.goo_tables_rows.specs.declared.device.DeviceRow.{DeviceRow}
 use Rattle.goo_tables_rows.specs.declared.lot.LotRow.{LotRow}
+use Rattle.goo_store_receipts.specs.declared.receipts.JudgedReceipt.{JudgedReceipt}
 use Rattle.goo_store_open.specs.Found.{AreOf, values}
 use Rattle.goo_store_open.specs.declared.finding.Found.{Found}
 use Rattle.goo_spec_tables.specs.Kept.{AreReadableIn}
@@ -40,7 +41,7 @@ module _ (t : Tables) (x : Found) (are : AreOf t x) where
       let devices = devices_same (λ d. is_device (pos 0, d)) x.rows.production.devices.items t.devices are.devices in
       let declarations = rows_same is_declaration declaration_in x.rows.production.declarations.items t.declarations are.declarations in
       let lots = lots_same is_lot x.rows.production.lots.items t.lots are.lots in
-      let receipts : list_all (λ row. row.is_good) x.rows.acts.receipts.items ≡ list_all is_receipt t.receipts = rows_same (λ b. b) (λ row. row.is_good) x.rows.acts.receipts.items (map is_receipt t.receipts) are.receipts ∙ list_all-map (λ b. b) is_receipt t.receipts in
+      let receipts : list_all (λ row. row.is_good) x.rows.acts.receipts.items ≡ list_all is_receipt t.receipts = rows_same (λ (good : Bool). good) (λ (row : JudgedReceipt). row.is_good) x.rows.acts.receipts.items (map is_receipt t.receipts) are.receipts ∙ list_all-map (λ (good : Bool). good) is_receipt t.receipts in
       let cancellations = rows_same is_cancellation cancellation_in x.rows.acts.cancellations.items t.cancellations are.cancellations in
       let withdrawals = rows_same is_withdrawal withdrawal_in x.rows.acts.withdrawals.items t.withdrawals are.withdrawals in
       λ i. is_meta (are.meta i) && (holders i && (accounts i && (peers i && (devices i && (declarations i && (lots i && (list_all is_piece (are.pieces i) && (receipts i && (cancellations i && withdrawals i)))))))))

@@ -16,9 +16,9 @@ ghost use Rattle.goo_store_rules.specs.Summing.{sum_at, left_at};
 
 use crate::declares::gsrn_in;
 use crate::energy::{Energy, left_for};
-use goo_store_receipts::numbers::CERTIFICATE;
 use crate::sums::{add_to, sum_for};
 use crate::taken_back::is_taken;
+use goo_store_receipts::numbers::CERTIFICATE;
 use goo_tables_rows::lot::LotRow;
 use goo_tables_rows::piece::PieceRow;
 use goo_types::command::Declare;

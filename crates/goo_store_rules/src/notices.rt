@@ -6,8 +6,8 @@ ghost use Rattle.goo_notice_text.specs.NoticeText.{notice_in};
 ghost use Rattle.goo_tables_rows.specs.Rows.{notice_out_in, notice_in_in};
 ghost use Rattle.goo_spec_tables.specs.Readable.{is_notice_of, is_notice_out, is_notice_in};
 
-use goo_store_receipts::numbers::is_given;
 use goo_notice::{NoticeFault, read};
+use goo_store_receipts::numbers::is_given;
 use goo_tables_rows::notice_in::NoticeInRow;
 use goo_tables_rows::notice_out::NoticeOutRow;
 use std::alloc::{AllocError, Global};

@@ -15,8 +15,8 @@ ghost use Rattle.goo_store_rules.specs.Summing.{left_at};
 
 use crate::declares::gsrn_in;
 use crate::energy::{Energy, left_for};
-use goo_store_receipts::numbers::CERTIFICATE;
 use crate::periods::last_day_of;
+use goo_store_receipts::numbers::CERTIFICATE;
 use goo_tables_rows::device::DeviceRow;
 use goo_types::day::Day;
 use goo_types::gsrn::Gsrn;
