@@ -55,13 +55,13 @@ pub returns-in_err-write_whole-in-Ok-clause-found : goal.returns-in_err-write_wh
 returns-in_err-write_whole-in-Ok-clause-found g c lies sure =
     answer-found g.D.Backend.shows g.D.Backend.imports (g.D.Desk.seen c.args.desk.now).state c.args.bytes.now c.in-Ok.answer.status c.in-Ok.answer.bytes.items (g.D.Desk.seen c.answer_by_routes.new.desk).state
     (g.W.Write.contents c.args.writer.now) (g.W.Write.contents c.write_whole.new.writer) (g.D.Desk.leaves c.answer_by_routes.new.desk)
-    (c.in-Ok.ensures.answered lies) (rw c.deref.ensures.value at c.in_err-write_whole-in-Ok.ensures.prefix) (g.met.D.Desk.settled c.answer_by_routes.new.desk (c.in-Ok.ensures.works lies sure))
+    (c.in-Ok.ensures.answered lies) (rw c.deref.ensures.value at c.in_err-write_whole-in-Ok.ensures.prefix) (g.met.D.Desk.settled c.answer_by_routes.new.desk (c.in-Ok.ensures.reliable.works lies sure))
 
 pub returns-in_ok-write_whole-in-Ok-clause-found : goal.returns-in_ok-write_whole-in-Ok-clause-found
 returns-in_ok-write_whole-in-Ok-clause-found g c lies sure =
     answer-found g.D.Backend.shows g.D.Backend.imports (g.D.Desk.seen c.args.desk.now).state c.args.bytes.now c.in-Ok.answer.status c.in-Ok.answer.bytes.items (g.D.Desk.seen c.answer_by_routes.new.desk).state
     (g.W.Write.contents c.args.writer.now) (g.W.Write.contents c.write_whole.new.writer) (g.D.Desk.leaves c.answer_by_routes.new.desk)
-    (c.in-Ok.ensures.answered lies) (prefix-whole _ _ _ (rw c.deref.ensures.value at c.in_ok-write_whole-in-Ok.ensures.written)) (g.met.D.Desk.settled c.answer_by_routes.new.desk (c.in-Ok.ensures.works lies sure))
+    (c.in-Ok.ensures.answered lies) (prefix-whole _ _ _ (rw c.deref.ensures.value at c.in_ok-write_whole-in-Ok.ensures.written)) (g.met.D.Desk.settled c.answer_by_routes.new.desk (c.in-Ok.ensures.reliable.works lies sure))
 
 pub returns-in_err-write_whole-in-Err-Memory-clause-found : goal.returns-in_err-write_whole-in-Err-Memory-clause-found
 returns-in_err-write_whole-in-Err-Memory-clause-found g c lies sure =
