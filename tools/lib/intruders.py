@@ -425,13 +425,13 @@ def watches(tally, place):
         large.truncate(100 << 20)
     out = run(str(2 << 30))
     tally.check('watch: 100 MB in 2 GB is well', out.returncode == 0 and '100 MB' in out.stdout, out)
-    out = run(str(500 << 20))
-    tally.check('in 500 MB it warns: status 1', out.returncode == 1 and 'MemoryMax' in out.stderr, out)
+    out = run(str(250 << 20))
+    tally.check('in 250 MB it warns: status 1', out.returncode == 1 and 'MemoryMax' in out.stderr, out)
     out = run('infinity')
     tally.check("without a limit the host's memory counts", out.returncode == 0, out)
     with open(f'{file}-wal', 'wb') as log:
         log.truncate(400 << 20)
-    out = run(str(2 << 30))
+    out = run(str(1 << 30))
     tally.check('the log beside it counts', out.returncode == 1, out)
     with open(file, 'wb') as large:
         large.truncate(1 << 50)
