@@ -4,6 +4,7 @@ usage: python3 bench/instructions.py statements             by kind of request, 
        python3 bench/instructions.py opening                opening a file and a statement, by size, beside SQLite's own check of the file
        python3 bench/instructions.py growth                 whole runs of requests, by how many there are
        python3 bench/instructions.py shares                 where the instructions of requests go: by crate, and by function of the library and of ours
+       python3 bench/instructions.py reads                  where the instructions of an audit and of a statement go, beside those of SQLite for queries that add up or list the same
        python3 bench/instructions.py costly WORKLOAD N      the costliest functions of N requests more in memory, and the shares of the crates
        python3 bench/instructions.py costly WORKLOAD N file the same on a file
 
@@ -22,6 +23,7 @@ import sys
 import kinds
 import requests
 import workloads
+from country import ADDED, STATED
 from measured import NEW, PROGRAM, SECONDS, fast, goo, head, ratio, room, row, rust, say, workload
 
 STATEMENT = re.compile(r'Entry.*fetch')
@@ -30,6 +32,7 @@ OPENED = (8_000, 32_000)
 ANSWERED = {'table': (2_000, 8_000), 'declarations': (2_000, 8_000), 'trades': (3_000, 12_000)}
 OF_FILES = ['Work', 'n', 'Statements', 'Instructions', 'of them in the library\'s check', 'Grows as', '`integrity_check`', 'Ratio', 'Grows as']
 SHARED = [('trades', False), ('trades', True), ('declarations', False), ('declarations', True)]
+OF_READS = ['Share of the instructions beyond opening', 'Audit, 8,000 declarations', 'Statement, 8,000 runs']
 OF_SHARES = ['Share of the instructions', 'Trades in memory', 'Trades on a file', 'Declarations in memory', 'Declarations on a file']
 HEAD = ['Request', 'Statements', 'Instructions in memory', 'Rust', 'Ratio', 'Instructions on a file', 'Rust', 'Ratio']
 
@@ -128,7 +131,7 @@ def asked(found):
     """How often each function of goo_tables and goo_tables_accounts was called, in words."""
     counts = collections.Counter()
     for name, count in found.calls.items():
-        if match := re.match(r'goo_(?:tables|tables_holdings)::\w+::(\w+)', name):
+        if match := re.match(r'goo_(?:tables|tables_accounts)::\w+::(\w+)', name):
             counts[match[1]] += count
     return ', '.join(name if count == 10 else f'{name} {count / 10:.3g}' for name, count in counts.most_common() if count)
 
@@ -247,6 +250,35 @@ def shares(count=400, crates=9, functions=16):
         line(function, [each.own for each in found], f'`{function}`')
 
 
+def read_of(folder, path, words, queries):
+    """What a command takes beyond opening the file, and what sqlite3 takes for these queries beyond its start."""
+    ours = profiled(folder, [PROGRAM, *words, '--db', path]).minus(profiled(folder, [PROGRAM, 'run', '--db', path]))
+    if not shutil.which('sqlite3'):
+        return ours, None
+    return ours, profiled(folder, ['sqlite3', path, *queries]).minus(profiled(folder, ['sqlite3', path, 'SELECT 1']))
+
+
+def reads(size=8_000, crates=9, functions=12):
+    """Prints where the instructions of an audit of so many declarations and of a statement of so many runs go."""
+    with room(fast()) as folder:
+        found = []
+        for name, words, queries in (('declarations', ['audit'], ADDED), ('runs', ['statement', '1'], [STATED.replace('?', '1')])):
+            path = folder / name
+            workload(name, size, folder / 'lines')
+            goo('init', '--db', path, *NEW)
+            goo('run', '--db', path, given=folder / 'lines')
+            found.append(read_of(folder, path, words, queries))
+    head(OF_READS)
+    row(['instructions', *(f'{all_of(ours):,}' for ours, _ in found)])
+    row(['of them beside those of SQLite', *(ratio(all_of(ours), all_of(theirs)) if theirs else '' for ours, theirs in found)])
+    own = [by_crate(ours) for ours, _ in found]
+    totals = [all_of(ours) for ours, _ in found]
+    for crate in ['ours (goo_*)', *[crate for crate, _ in own[0].most_common() if not crate.startswith('ours')][:crates]]:
+        row([crate, *(f'{each[crate] / total:.1%}' for each, total in zip(own, totals))])
+    for function, _ in found[0][0].own.most_common(functions):
+        row([f'`{function}`', *(f'{ours.own[function] / total:.1%}' for (ours, _), total in zip(found, totals))])
+
+
 def costly(name, count, on_file):
     found, more = beyond(name, count, on_file)
     total = sum(found.own.values())
@@ -288,6 +320,9 @@ if __name__ == '__main__':
         if is_there():
             head(OF_SHARES)
             shares()
+    elif sys.argv[1:] == ['reads']:
+        if is_there():
+            reads()
     elif len(sys.argv) in (4, 5) and sys.argv[1] == 'costly' and sys.argv[2] in ('declarations', 'trades') and sys.argv[4:] in ([], ['file']):
         if is_there():
             costly(sys.argv[2], int(sys.argv[3]), len(sys.argv) == 5)
