@@ -7,7 +7,7 @@ use Rattle.sqlite.specs.declared.error.Error.{Error}
 use Rattle.sqlite.specs.declared.error.Error.TheVariants.{SqliteFailure}
 use Rattle.sqlite.specs.declared.error.ErrorCode.TheVariants.{OutOfMemory}
 use Rattle.goo_tables_rows.specs.Readable.{is_read_error}
-use Rattle.goo_tables_rows.specs.Rows.{Tables, Meta, Numbered, meta_row, meta_at, numbered_row, numbered_key, meta_in, account_in, declaration_in, lot_in, cancellation_in, withdrawal_in, notice_out_in, correction_in, lot_carrier_in, device_in, carried_device, carried_lot}
+use Rattle.goo_tables_rows.specs.Rows.{Tables, Meta, Numbered, meta_row, meta_at, numbered_row, numbered_key, meta_in, account_in, declaration_in, lot_in, withdrawal_in, notice_out_in, correction_in, lot_carrier_in, device_in, carried_device, carried_lot}
 use Rattle.goo_tables_rows.specs.Columns.{registry_schema}
 use Rattle.goo_tables_rows.specs.Cells.{number_in}
 use Rattle.goo_tables_rows.specs.Refused.{IsFault, is_store_error}
@@ -36,7 +36,7 @@ tables m db x shows = record {
   pieces = x.production.pieces.items;
   peers = shows.members.peers.0;
   receipts = shows.acts.receipts.0;
-  cancellations = map cancellation_in x.acts.cancellations.items;
+  cancellations = shows.acts.cancellations.0;
   withdrawals = map withdrawal_in x.acts.withdrawals.items;
   notices_out = map notice_out_in x.notices.sent.items;
   notices_in = shows.notices.came.0;
@@ -59,7 +59,7 @@ earned layout db m x ours one all = (
     pieces = all.production.pieces;
     peers = all.members.peers.1;
     receipts = all.acts.receipts.1;
-    cancellations = all.acts.cancellations;
+    cancellations = all.acts.cancellations.1;
     withdrawals = all.acts.withdrawals;
     notices_out = all.notices.sent;
     notices_in = all.notices.came.1;
@@ -79,7 +79,7 @@ earned layout db m x ours one all = (
     lots = lots_bare (map lot_carrier_in x.carriers.lots.items) (map lot_in x.production.lots.items) all.production.bare_lots;
     pieces = refl;
     receipts = all.acts.receipts.2;
-    cancellations = refl;
+    cancellations = all.acts.cancellations.2;
     withdrawals = refl;
     notices_out = refl;
     notices_in = sym all.notices.came.2;

@@ -7,10 +7,11 @@ use Rattle.sqlite.specs.declared.error.Error.{Error}
 use Rattle.sqlite.specs.declared.error.Error.TheVariants.{SqliteFailure, SqlInputError, InvalidColumnIndex, InvalidColumnType, IntegralValueOutOfRange, Utf8Error}
 use Rattle.sqlite.specs.declared.error.ErrorCode.TheVariants.{OutOfMemory}
 use Rattle.sqlite.specs.Effect.{Database}
-use Rattle.goo_tables_rows.specs.Rows.{Tables, Kept, Numbered, meta_row, meta_in, holder_in, account_in, device_in, declaration_in, lot_in, cancellation_in, withdrawal_in, notice_out_in, notice_in_in, correction_in, device_carrier_in, lot_carrier_in, bare_device, bare_lot}
+use Rattle.goo_tables_rows.specs.Rows.{Tables, Kept, Numbered, meta_row, meta_in, holder_in, account_in, device_in, declaration_in, lot_in, withdrawal_in, notice_out_in, notice_in_in, correction_in, device_carrier_in, lot_carrier_in, bare_device, bare_lot}
 use Rattle.goo_tables_rows.specs.Stands.{Stands, Rests}
 use Rattle.goo_tables_rows.specs.declared.meta.MetaRow.{MetaRow}
 use Rattle.goo_spec_tables.specs.Readable.{is_receipt}
+use Rattle.goo_store_receipts.specs.Judged.{judged_cancellation}
 use Rattle.goo_store_receipts.specs.declared.receipts.JudgedReceipt.{JudgedReceipt}
 use Rattle.goo_store_open.specs.Layout.{number_of, seen_by}
 use Rattle.goo_store_open.specs.Reading.{CanBeRead, IsMet}
@@ -23,8 +24,8 @@ use Rattle.goo_store_open.specs.declared.layout.Layout.{Layout}
 abbrev pub values : {X : Type 0} → List (Kept X) → List X
 values = map (λ k. k.1)
 
--- What was read is what these tables hold: of a receipt whether it keeps the rules, and devices and lots without their carriers, which are
--- read from tables of their own.
+-- What was read is what these tables hold: of a receipt whether it keeps the rules, of a cancellation that, its number and its account, and
+-- devices and lots without their carriers, which are read from tables of their own.
 pub record AreOf (t : Tables) (x : Found) : Type 0 where
   pub meta : meta_in x.meta ≡ t.meta
   pub holders : map holder_in x.rows.members.holders.items ≡ values t.holders
@@ -35,7 +36,7 @@ pub record AreOf (t : Tables) (x : Found) : Type 0 where
   pub lots : map lot_in x.rows.production.lots.items ≡ map bare_lot t.lots
   pub pieces : x.rows.production.pieces.items ≡ t.pieces
   pub receipts : map (λ (r : JudgedReceipt). r.is_good) x.rows.acts.receipts.items ≡ map is_receipt t.receipts
-  pub cancellations : map cancellation_in x.rows.acts.cancellations.items ≡ t.cancellations
+  pub cancellations : x.rows.acts.cancellations.items ≡ map judged_cancellation t.cancellations
   pub withdrawals : map withdrawal_in x.rows.acts.withdrawals.items ≡ t.withdrawals
   pub notices_out : map notice_out_in x.rows.notices.sent.items ≡ t.notices_out
   pub notices_in : map notice_in_in x.rows.notices.came.items ≡ values t.notices_in

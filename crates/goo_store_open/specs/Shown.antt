@@ -2,11 +2,13 @@
 use Rattle.std.specs.Prelude.{◌≡◌, List, map}
 use Rattle.sqlite.specs.Effect.{Database}
 use Rattle.sqlite.specs.Order.{Row}
-use Rattle.goo_tables_rows.specs.Rows.{Kept, kept_key, Receipt, holder_row, holder_in, account_row, account_key, account_in, device_row, device_in, declaration_row, declaration_key, declaration_in, lot_row, lot_key, lot_in, bare_device, bare_lot, piece_row, piece_key, peer_row, receipt_row, cancellation_row, cancellation_key, cancellation_in, withdrawal_row, withdrawal_key, withdrawal_in, notice_out_row, notice_out_key, notice_out_in, notice_in_row, notice_in_in, correction_row, correction_key, correction_in, device_carrier_row, device_carrier_in, lot_carrier_row, lot_carrier_key, lot_carrier_in}
+use Rattle.goo_tables_rows.specs.Rows.{Kept, kept_key, Receipt, Cancellation, holder_row, holder_in, account_row, account_key, account_in, device_row, device_in, declaration_row, declaration_key, declaration_in, lot_row, lot_key, lot_in, bare_device, bare_lot, piece_row, piece_key, peer_row, receipt_row, cancellation_row, cancellation_key, withdrawal_row, withdrawal_key, withdrawal_in, notice_out_row, notice_out_key, notice_out_in, notice_in_row, notice_in_in, correction_row, correction_key, correction_in, device_carrier_row, device_carrier_in, lot_carrier_row, lot_carrier_key, lot_carrier_in}
 use Rattle.goo_tables_rows.specs.Stands.{Keeps}
 use Rattle.goo_tables_rows.specs.Met.{KeepsSome}
 use Rattle.goo_spec_tables.specs.Readable.{is_receipt}
+use Rattle.goo_store_receipts.specs.Judged.{judged_cancellation}
 use Rattle.goo_store_receipts.specs.declared.receipts.JudgedReceipt.{JudgedReceipt}
+use Rattle.goo_store_receipts.specs.declared.cancellations.JudgedCancellation.{JudgedCancellation}
 use Rattle.goo_store_open.specs.declared.rows.Members.{Members}
 use Rattle.goo_store_open.specs.declared.rows.Production.{Production}
 use Rattle.goo_store_open.specs.declared.reading.Issued.{Issued}
@@ -35,9 +37,13 @@ pub record ShowsIssued (db : Database) (x : Issued) : Type 0 where
 abbrev pub KeepsJudged : List Row → List JudgedReceipt → Type 0
 KeepsJudged rows xs = (ks : List (Kept Receipt)) × Keeps rows receipt_row kept_key ks × (map (λ (x : JudgedReceipt). x.is_good) xs ≡ map is_receipt ks)
 
+-- the rows of the table are cancellations, by their numbers, of which this is kept
+abbrev pub KeepsJudgedCancellations : List Row → List JudgedCancellation → Type 0
+KeepsJudgedCancellations rows xs = (cs : List Cancellation) × Keeps rows cancellation_row cancellation_key cs × (xs ≡ map judged_cancellation cs)
+
 pub record ShowsActs (db : Database) (x : Acts) : Type 0 where
   pub receipts : KeepsJudged (db.trees 13) x.receipts.items
-  pub cancellations : Keeps (db.trees 15) cancellation_row cancellation_key (map cancellation_in x.cancellations.items)
+  pub cancellations : KeepsJudgedCancellations (db.trees 15) x.cancellations.items
   pub withdrawals : Keeps (db.trees 16) withdrawal_row withdrawal_key (map withdrawal_in x.withdrawals.items)
 
 pub record ShowsNotices (db : Database) (x : Notices) : Type 0 where

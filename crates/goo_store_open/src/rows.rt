@@ -1,8 +1,8 @@
 //! What is kept of the rows of all tables but `meta`, each table in the order of its rowids.
 
+use goo_store_receipts::cancellations::JudgedCancellation;
 use goo_store_receipts::receipts::JudgedReceipt;
 use goo_tables_rows::account::AccountRow;
-use goo_tables_rows::cancellation::CancellationRow;
 use goo_tables_rows::correction::CorrectionRow;
 use goo_tables_rows::declaration::DeclarationRow;
 use goo_tables_rows::device::DeviceRow;
@@ -35,11 +35,11 @@ pub struct Production {
 }
 
 /// The requests that were accepted, of whose receipts only the judgment is kept, and the records
-/// of acts.
+/// of acts: of a cancellation its number, its account and the judgment.
 #[derive(Drop)]
 pub struct Acts {
     pub receipts: Vec<JudgedReceipt>,
-    pub cancellations: Vec<CancellationRow>,
+    pub cancellations: Vec<JudgedCancellation>,
     pub withdrawals: Vec<WithdrawalRow>,
 }
 

@@ -1,5 +1,5 @@
 -- What the statements on `cancellation` do and show.
-use Rattle.std.proofs.Common.{◌≡◌, ◌<◌, ◌^◌, None, ℕ, pos, List, [], ◌∷◌, map, find, codes, false, Option, option_map, Result, OnOk, refl, ◌∙◌, map-id, int_eq}
+use Rattle.std.proofs.Common.{◌≡◌, ◌<◌, ◌^◌, None, ℕ, pos, List, [], ◌∷◌, map, find, codes, false, Option, option_map, Result, OnOk, refl, ◌∙◌, int_eq, subst}
 use Rattle.std.specs.List.{AllZip}
 use Rattle.sqlite_tied.specs.Compute.{everything}
 use Rattle.sqlite.specs.declared.types.Value.TheVariants.{Null, Int}
@@ -25,6 +25,7 @@ use Rattle.goo_tables_rows.proofs.Alone.{cancellations_stand}
 use Rattle.goo_tables_rows.proofs.Living.{KeepsLive, keeps_live}
 use Rattle.goo_tables_rows.proofs.Same.{cancellation_same}
 use Rattle.goo_tables_accounts.specs.Changes.{with_cancellation}
+use Rattle.goo_tables.specs.Cancellations.{ReadAsCancellations, KeepsCancellations}
 use Rattle.goo_tables_accounts.proofs.Queries.{in_order}
 use Rattle.goo_tables_rows.specs.First.{IsFirst, HasFirstTables}
 use Rattle.goo_tables_rows.specs.Met.{HasOurTables}
@@ -38,7 +39,7 @@ use Rattle.goo_tables_rows.proofs.Stored.{cancellation_stored}
 use Rattle.goo_tables_rows.specs.Refused.{IsTooBig, IsSmall}
 use Rattle.goo_tables_accounts.proofs.Adding.{Adds, adds_row}
 use Rattle.goo_tables_accounts.proofs.Failing.{FailsOnly, not_there, adding_fails}
-use Rattle.goo_tables_accounts.proofs.AnyTable.{TableOf, shown, shows_each, finds_one, IsListed, meets_listed}
+use Rattle.goo_tables_accounts.proofs.AnyTable.{TableOf, shown, finds_one, IsListed, meets_listed}
 use Rattle.goo_tables_accounts.proofs.Asking.{Asks, AsksFirst, SaysFirst, Tells, Says}
 use Rattle.goo_tables_accounts.proofs.Values.{whole_is, null_at_key}
 
@@ -118,8 +119,8 @@ all_asks = record { names = _; is = refl; plain = (refl, refl); unlisted = refl;
 pub shown_all : (old : State) (t : Tables) → Stands old.now t → (rows : List Row) → IsAnswer all_query (overlay old.now.trees []) [] rows → rows ≡ map (λ (x : Cancellation). cancellation_columns x) t.cancellations
 shown_all old t it = shown cancellations old it.cancellations
 
-pub shows_all : (old : State) → Says old all_query [] (λ (xs : List CancellationRow) rows. AllZip cancellation_reads rows xs) (λ t xs. map cancellation_in xs ≡ t.cancellations)
-shows_all old t it xs rows answer read = shows_each cancellations old it.cancellations xs rows answer read ∙ map-id _
+pub reads_all : {T : Type 0} (reads : Row → T → Type 0) (old : State) → Says old all_query [] (λ (xs : List T) rows. AllZip reads rows xs) (λ t xs. AllZip reads (map cancellation_columns t.cancellations) xs)
+reads_all reads old t it xs rows answer read = subst (λ l. AllZip reads l xs) (shown_all old t it rows answer) read
 
 -- ---- cancellation: the whole table, met as it is
 
@@ -127,8 +128,28 @@ cancellation_is : IsListed cancellations
 cancellation_is k x fits reads =
     (whole_is cancellation 7 refl k fits (λ none. no_text (none ∙ reads.7)) ∙ then_value reads.0 (then_value (null_at_key cancellation.columns k.1 fits) (then_value reads.1 (then_value reads.2 (then_value reads.3 (then_value reads.4 (then_value reads.5 (then_value reads.6 (then_value reads.7 refl)))))))), int_same reads.0)
 
-pub meets_all : (old : State) → HasOurTables old.now → Tells old all_query [] (λ (xs : List CancellationRow) rows. AllZip cancellation_reads rows xs) (λ xs. Keeps (old.now.trees 15) cancellation_row cancellation_key (map cancellation_in xs))
+meets_all : (old : State) → HasOurTables old.now → Tells old all_query [] (λ (xs : List CancellationRow) rows. AllZip cancellation_reads rows xs) (λ xs. Keeps (old.now.trees 15) cancellation_row cancellation_key (map cancellation_in xs))
 meets_all old it = meets_listed cancellations old (shape_rules old.now it).1.1.1.1.1.1.1.1.1.0 (type_rules old.now it).1.1.1.1.1.1.1.1.1.0 cancellation_is
+
+-- what reads as cancellations too, as cancellations
+as_cancellations : {T : Type 0} (reads : Row → T → Type 0) → ReadAsCancellations reads → (rows : List Row) (xs : List T) → AllZip reads rows xs → (cancellations : List CancellationRow) × AllZip cancellation_reads rows cancellations
+as_cancellations reads are [] [] all = ([], tt)
+as_cancellations reads are [] (x ∷ xs) all = absurd all
+as_cancellations reads are (r ∷ rows) [] all = absurd all
+as_cancellations reads are (r ∷ rows) (x ∷ xs) all =
+    let one = are r x all.0 in
+    let rest = as_cancellations reads are rows xs all.1 in
+    (one.cancellation ∷ rest.0, (one.reads, rest.1))
+
+-- rows that keep cancellations, whatever each was read as
+kept_read : {T : Type 0} (reads : Row → T → Type 0) (old : State) (xs : List T) (rows : List Row) → IsAnswer all_query (overlay old.now.trees []) [] rows → AllZip reads rows xs → (listed : List CancellationRow)
+    → Keeps (old.now.trees 15) cancellation_row cancellation_key (map cancellation_in listed) → KeepsCancellations (old.now.trees 15) reads xs
+kept_read reads old xs rows answer read listed kept = (map cancellation_in listed, kept, subst (λ l. AllZip reads l xs) (shown cancellations old kept rows answer) read)
+
+pub meets_read : {T : Type 0} (reads : Row → T → Type 0) → ReadAsCancellations reads → (old : State) → HasOurTables old.now → Tells old all_query [] (λ (xs : List T) rows. AllZip reads rows xs) (λ xs. KeepsCancellations (old.now.trees 15) reads xs)
+meets_read reads are old it xs rows answer read =
+    let them = as_cancellations reads are rows xs read in
+    kept_read reads old xs rows answer read them.0 (meets_all old it them.0 rows answer them.1)
 
 -- ---- cancellation: the whole table of version 1
 
@@ -139,8 +160,13 @@ first_asks = record { names = _; is = refl; plain = (refl, refl); unlisted = ref
 pub shown_first : (old : State) (t : Tables) → IsFirst old.now t → (rows : List Row) → IsAnswer all_query (overlay old.now.trees []) [] rows → rows ≡ map (λ (x : Cancellation). cancellation_columns x) t.cancellations
 shown_first old t it = shown cancellations old it.1.cancellations
 
-pub shows_first : (old : State) → SaysFirst old all_query (λ (xs : List CancellationRow) rows. AllZip cancellation_reads rows xs) (λ t xs. map cancellation_in xs ≡ t.cancellations)
-shows_first old t it xs rows answer read = shows_each cancellations old it.1.cancellations xs rows answer read ∙ map-id _
+pub first_reads : {T : Type 0} (reads : Row → T → Type 0) (old : State) → SaysFirst old all_query (λ (xs : List T) rows. AllZip reads rows xs) (λ t xs. AllZip reads (map cancellation_columns t.cancellations) xs)
+first_reads reads old t it xs rows answer read = subst (λ l. AllZip reads l xs) (shown_first old t it rows answer) read
 
-pub meets_first : (old : State) → HasFirstTables old.now → Tells old all_query [] (λ (xs : List CancellationRow) rows. AllZip cancellation_reads rows xs) (λ xs. Keeps (old.now.trees 15) cancellation_row cancellation_key (map cancellation_in xs))
+meets_first : (old : State) → HasFirstTables old.now → Tells old all_query [] (λ (xs : List CancellationRow) rows. AllZip cancellation_reads rows xs) (λ xs. Keeps (old.now.trees 15) cancellation_row cancellation_key (map cancellation_in xs))
 meets_first old it = meets_listed cancellations old (first_shape_rules old.now it).1.1.1.1.1.1.1.1.1.0 (first_type_rules old.now it).1.1.1.1.1.1.1.1.1.0 cancellation_is
+
+pub meets_read_first : {T : Type 0} (reads : Row → T → Type 0) → ReadAsCancellations reads → (old : State) → HasFirstTables old.now → Tells old all_query [] (λ (xs : List T) rows. AllZip reads rows xs) (λ xs. KeepsCancellations (old.now.trees 15) reads xs)
+meets_read_first reads are old it xs rows answer read =
+    let them = as_cancellations reads are rows xs read in
+    kept_read reads old xs rows answer read them.0 (meets_first old it them.0 rows answer them.1)

@@ -1,6 +1,7 @@
 //! The statements on `cancellation`.
 
 ghost use Rattle.std.specs.Prelude.{◌≡◌, None, false, pos, map, IfOk, OnOk, option_map, All};
+ghost use Rattle.std.specs.List.{AllZip};
 ghost use Rattle.sqlite.specs.State.{HasCleanDisk, KeepsCommit, Survives};
 ghost use Rattle.sqlite.specs.Held.{state};
 ghost use Rattle.sqlite_keyed.specs.Keyed.{get_by};
@@ -10,14 +11,16 @@ ghost use Rattle.goo_tables_rows.specs.Readable.{cancellation_readable};
 ghost use Rattle.goo_tables_rows.specs.Refused.{FailsByFault, FailsOnlyByFault, ChangeFailsBy};
 ghost use Rattle.goo_tables_rows.specs.Refused.{IsTooBig, IsSmall};
 ghost use Rattle.goo_tables_rows.specs.Lives.{LeavesLive};
-ghost use Rattle.goo_tables_rows.specs.Stands.{Sees, Looks, Keeps};
+ghost use Rattle.goo_tables_rows.specs.Stands.{Sees, Looks};
 ghost use Rattle.goo_tables_rows.specs.Met.{HasOurTables};
 ghost use Rattle.goo_tables_rows.specs.First.{ReadsFirst};
 ghost use Rattle.goo_tables_accounts.specs.Changes.{with_cancellation, CancellationFits};
+ghost use Rattle.goo_tables.specs.Cancellations.{ReadAsCancellations, KeepsCancellations};
 
 use goo_tables_rows::ask::ask_first;
 use goo_tables_rows::cancellation::CancellationRow;
 use goo_tables_rows::each::ask_each;
+use goo_tables_rows::from_row::FromRow;
 use goo_tables_rows::put::put;
 use goo_tables_rows::values::{number, small, text};
 use sqlite::{Alter, Connection, Error, Transaction};
@@ -96,32 +99,32 @@ pub fn find_cancellation<S: Alter>(
     )
 }
 
-/// All cancellations, by their numbers.
+/// All cancellations, by their numbers, each read as a `T`.
 ///
 /// # Errors
 ///
 /// On the tables of a registry: `SqliteFailure` where memory was refused, the disk failed or an
 /// earlier failure shut the connection, and an error of reading where a row can't be read. The
 /// database stays as it was.
-pub fn all_cancellations<S: Alter>(
+pub fn all_cancellations<S: Alter, T: FromRow + Drop>(
     alloc: Global,
     conn: &mut Connection<S>,
-) -> Result<Vec<CancellationRow>, Error>
+) -> Result<Vec<T>, Error>
     ensures looks { Looks (state S.Store conn.old) (state S.Store conn.new) result
-        (λ t found. map cancellation_in found.items ≡ t.cancellations) }
-    ensures met { HasCleanDisk (state S.Store conn.new) → HasOurTables (state S.Store conn.old).now
+        (λ t found. AllZip T.reads (map cancellation_columns t.cancellations) found.items) }
+    ensures met { ReadAsCancellations T.reads → HasCleanDisk (state S.Store conn.new)
+        → HasOurTables (state S.Store conn.old).now
         → IfOk result
-        (λ found. Keeps ((state S.Store conn.old).now.trees 15) cancellation_row cancellation_key
-        (map cancellation_in found.items)) }
+        (λ found. KeepsCancellations ((state S.Store conn.old).now.trees 15) T.reads found.items) }
     ensures readable { FailsOnlyByFault (state S.Store conn.old) (state S.Store conn.new) result
-        (λ t. All cancellation_readable (map cancellation_columns t.cancellations)) }
+        (λ t. All T.readable (map cancellation_columns t.cancellations)) }
     ensures refused { FailsByFault (state S.Store conn.old) (state S.Store conn.new) result }
     ensures outside { conn.old.in_transaction ≡ false → conn.new.in_transaction ≡ false }
-    ensures first { ReadsFirst (state S.Store conn.old) (state S.Store conn.new) result
-        (λ t found. map cancellation_in found.items ≡ t.cancellations)
-        (λ db found. Keeps (db.trees 15) cancellation_row cancellation_key
-        (map cancellation_in found.items))
-        (λ t. All cancellation_readable (map cancellation_columns t.cancellations)) }
+    ensures first { ReadAsCancellations T.reads
+        → ReadsFirst (state S.Store conn.old) (state S.Store conn.new) result
+        (λ t found. AllZip T.reads (map cancellation_columns t.cancellations) found.items)
+        (λ db found. KeepsCancellations (db.trees 15) T.reads found.items)
+        (λ t. All T.readable (map cancellation_columns t.cancellations)) }
 {
     ask_each(
         alloc,
