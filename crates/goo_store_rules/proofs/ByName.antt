@@ -12,7 +12,7 @@ use Rattle.goo_spec.specs.Energy.{corrects}
 use Rattle.goo_spec.specs.Sound.{AreLots, AreRecordsThere, AreHeld, AreRegistered, AreBelow, declares, is_withdrawal_there}
 use Rattle.goo_spec.specs.State.{Account, text_cmp}
 use Rattle.goo_tables_rows.specs.Rows as row
-use Rattle.goo_tables_rows.specs.Rows.{Tables, Kept, holder_in, account_in, device_in, declaration_in, lot_in, cancellation_in, withdrawal_in, notice_out_in}
+use Rattle.goo_tables_rows.specs.Rows.{Tables, Kept, holder_in, account_in, device_in, declaration_in, lot_in, withdrawal_in, notice_out_in}
 use Rattle.sqlite_keyed.proofs.ListLemmas.{all_of}
 use Rattle.goo_store_open.specs.Found.{AreOf}
 use Rattle.goo_store_open.specs.declared.finding.Found.{Found}
@@ -49,7 +49,7 @@ pub record KeepsNames (x : Found) : Type 0 where
   pub others : list_all (is_another x.meta.code) x.rows.members.peers.items ≡ true
   pub aux : list_all (λ r. covers_aux (declaration_in r)) x.rows.production.declarations.items ≡ true
   pub accounts_given : list_all (λ r. account_given x.meta.next_account (account_in r)) x.rows.members.accounts.items ≡ true
-  pub cancellations_given : list_all (λ r. cancellation_given x.meta.next_cancellation (cancellation_in r)) x.rows.acts.cancellations.items ≡ true
+  pub cancellations_given : list_all (cancellation_given x.meta.next_cancellation) x.rows.acts.cancellations.items ≡ true
   pub withdrawals_given : list_all (λ r. withdrawal_given x.meta.next_withdrawal (withdrawal_in r)) x.rows.acts.withdrawals.items ≡ true
   pub notices_given : list_all (λ r. notice_given x.meta.next_notice (notice_out_in r)) x.rows.notices.sent.items ≡ true
   pub holders : list_all (λ r. has_holder (map holder_in x.rows.members.holders.items) (string_bytes r.holder)) x.rows.members.accounts.items ≡ true

@@ -3,7 +3,7 @@ use Rattle.std.proofs.Common.{◌≡◌, ℕ, zero, suc, ◌<◌, ◌≤◌, ◌
 use Rattle.std.specs.Prelude.{nat_le, nat_lt}
 use Rattle.std.specs.List.{list_all}
 use Rattle.std.specs.Option.{option_map_or}
-use Rattle.std.specs.Ordering.{nat_cmp}
+use Rattle.std.specs.Ordering.{nat_cmp, eq_by_cmp}
 use Rattle.std.specs.Cmp.{nat_cmp_total}
 use Rattle.std.specs.FinMap.{get, contains_key, from_entries}
 use Rattle.std.proofs.lemmas.Bool.{and_parts, leb-true, eqb-true, eq-eqb, ltb-true, lt-ltb}
@@ -19,7 +19,9 @@ use Rattle.goo_spec_tables.specs.Places.{place_of, lot_of, rows_of}
 use Rattle.goo_spec_tables.specs.Readable.{is_between, is_act, are_ends, names_act, is_piece}
 use Rattle.goo_spec_tables.specs.States.{state_of, known_account, known_cancellation, known_withdrawal, known_sent}
 use Rattle.goo_spec_tables.proofs.RowsFound.{place_account}
+use Rattle.goo_store_receipts.specs.Judged.{judged_cancellation}
 use Rattle.goo_store_rules.specs.WellKept.{has_account, has_cancellation, has_withdrawal, has_sent}
+use Rattle.goo_store_rules.proofs.EachRow.{list_any-map}
 use Rattle.goo_store_rules.proofs.RowsByKey.{row_under, there}
 use Rattle.goo_store_rules.proofs.KeptCertificates.{HasItsCertificates, have_lots, judged, judged_back}
 use Rattle.goo_store_rules.proofs.KeptPieces.{row_ends, of_origin}
@@ -72,9 +74,9 @@ module _ (t : Tables) where
       ≡ is_act_there (from_entries (map known_cancellation t.cancellations)) (from_entries (map known_withdrawal t.withdrawals)) (from_entries (map known_sent t.notices_out)) (place_of p.kind p.account p.act)
   act_same p good =
       let kinds = kind_within p.kind p.act ((and_parts (is_act p.account) (names_act p.kind p.act) (and_parts (are_ends p.first p.last) (is_act p.account && names_act p.kind p.act) good).1).1) in
-      by_kind (λ kind. cond (kind == 2) (has_cancellation t.cancellations p.act) (cond (kind == 4) (has_withdrawal t.withdrawals p.act) (cond (kind == 5) (has_sent t.notices_out p.act) true))
+      by_kind (λ kind. cond (kind == 2) (has_cancellation (map judged_cancellation t.cancellations) p.act) (cond (kind == 4) (has_withdrawal t.withdrawals p.act) (cond (kind == 5) (has_sent t.notices_out p.act) true))
       ≡ is_act_there (from_entries (map known_cancellation t.cancellations)) (from_entries (map known_withdrawal t.withdrawals)) (from_entries (map known_sent t.notices_out)) (place_of kind p.account p.act))
-      refl (there nat_cmp_total known_cancellation p.act t.cancellations) refl (there nat_cmp_total known_withdrawal p.act t.withdrawals) (there nat_cmp_total known_sent p.act t.notices_out)
+      refl (list_any-map (λ c. eq_by_cmp nat_cmp p.act c.number) judged_cancellation t.cancellations ∙ there nat_cmp_total known_cancellation p.act t.cancellations) refl (there nat_cmp_total known_withdrawal p.act t.withdrawals) (there nat_cmp_total known_sent p.act t.notices_out)
       p.kind kinds.0 kinds.1
 
   account_same : (p : PieceRow) → has_account t.accounts p.account ≡ contains_key (from_entries {R = nat_cmp} (map known_account t.accounts)) (account_of (place_of p.kind p.account p.act))

@@ -3,10 +3,12 @@ use Rattle.std.proofs.Common.{◌≡◌, Bool, true, ◌&&◌, List, map, pos, r
 use Rattle.std.specs.List.{list_all}
 use Rattle.std.proofs.lemmas.Bool.{and_parts, and_from}
 use Rattle.std.proofs.lemmas.List.Folds.{list_all-map}
-use Rattle.goo_tables_rows.specs.Rows.{Tables, Kept, Device, Lot, AreCarriedDevices, AreCarriedLots, bare_device, bare_lot, holder_in, account_in, device_in, declaration_in, correction_in, device_carrier_in, lot_carrier_in, lot_in, cancellation_in, withdrawal_in, notice_out_in, notice_in_in}
+use Rattle.goo_tables_rows.specs.Rows.{Tables, Kept, Device, Lot, Cancellation, AreCarriedDevices, AreCarriedLots, bare_device, bare_lot, holder_in, account_in, device_in, declaration_in, correction_in, device_carrier_in, lot_carrier_in, lot_in, withdrawal_in, notice_out_in, notice_in_in}
 use Rattle.goo_tables_rows.specs.declared.device.DeviceRow.{DeviceRow}
 use Rattle.goo_tables_rows.specs.declared.lot.LotRow.{LotRow}
+use Rattle.goo_store_receipts.specs.Judged.{judged_cancellation}
 use Rattle.goo_store_receipts.specs.declared.receipts.JudgedReceipt.{JudgedReceipt}
+use Rattle.goo_store_receipts.specs.declared.cancellations.JudgedCancellation.{JudgedCancellation}
 use Rattle.goo_store_open.specs.Found.{AreOf, values}
 use Rattle.goo_store_open.specs.declared.finding.Found.{Found}
 use Rattle.goo_spec_tables.specs.Kept.{AreReadableIn}
@@ -29,6 +31,10 @@ devices_same p items ks is = rows_same p device_in items (map bare_device (value
 pub lots_same : (p : Lot → Bool) (items : List LotRow) (ls : List Lot) → map lot_in items ≡ map bare_lot ls → list_all (λ row. p (lot_in row)) items ≡ list_all (λ l. p (bare_lot l)) ls
 lots_same p items ls is = rows_same p lot_in items (map bare_lot ls) is ∙ list_all-map p bare_lot ls
 
+-- the same of cancellations, which were judged as they were read
+pub judged_same : (p : JudgedCancellation → Bool) (items : List JudgedCancellation) (cs : List Cancellation) → items ≡ map judged_cancellation cs → list_all p items ≡ list_all (λ c. p (judged_cancellation c)) cs
+judged_same p items cs is = ap (list_all p) is ∙ list_all-map p judged_cancellation cs
+
 module _ (t : Tables) (x : Found) (are : AreOf t x) where
   -- each of the rules on values, and all of them
   good_values : has_good_values x
@@ -42,7 +48,7 @@ module _ (t : Tables) (x : Found) (are : AreOf t x) where
       let declarations = rows_same is_declaration declaration_in x.rows.production.declarations.items t.declarations are.declarations in
       let lots = lots_same is_lot x.rows.production.lots.items t.lots are.lots in
       let receipts : list_all (λ row. row.is_good) x.rows.acts.receipts.items ≡ list_all is_receipt t.receipts = rows_same (λ (good : Bool). good) (λ (row : JudgedReceipt). row.is_good) x.rows.acts.receipts.items (map is_receipt t.receipts) are.receipts ∙ list_all-map (λ (good : Bool). good) is_receipt t.receipts in
-      let cancellations = rows_same is_cancellation cancellation_in x.rows.acts.cancellations.items t.cancellations are.cancellations in
+      let cancellations = judged_same (λ row. row.is_good) x.rows.acts.cancellations.items t.cancellations are.cancellations in
       let withdrawals = rows_same is_withdrawal withdrawal_in x.rows.acts.withdrawals.items t.withdrawals are.withdrawals in
       λ i. is_meta (are.meta i) && (holders i && (accounts i && (peers i && (devices i && (declarations i && (lots i && (list_all is_piece (are.pieces i) && (receipts i && (cancellations i && withdrawals i)))))))))
 

@@ -12,7 +12,7 @@ use Rattle.goo_spec.specs.Sound.{is_withdrawal_there}
 use Rattle.goo_spec.specs.State as state
 use Rattle.goo_spec.specs.State.{text_cmp, Account, Device}
 use Rattle.goo_tables_rows.specs.Rows as row
-use Rattle.goo_tables_rows.specs.Rows.{Tables, Kept, bare_device, holder_in, account_in, device_in, declaration_in, correction_in, cancellation_in, withdrawal_in, notice_out_in}
+use Rattle.goo_tables_rows.specs.Rows.{Tables, Kept, bare_device, holder_in, account_in, device_in, declaration_in, correction_in, withdrawal_in, notice_out_in}
 use Rattle.goo_tables_rows.specs.declared.peer.PeerRow.{PeerRow}
 use Rattle.goo_store_open.specs.Found.{AreOf, values}
 use Rattle.goo_store_open.specs.declared.finding.Found.{Found}
@@ -23,7 +23,7 @@ use Rattle.goo_spec_tables.proofs.Known.{number_is, number_test}
 use Rattle.goo_store_rules.specs.WellKept.{is_no_issuer, is_another, covers_aux, account_given, cancellation_given, withdrawal_given, notice_given, has_holder, has_account, has_device, has_withdrawal, is_withdrawn}
 use Rattle.goo_store_rules.proofs.EachRow.{none_all, list_any-map}
 use Rattle.goo_store_rules.proofs.RowsKnown.{is_there}
-use Rattle.goo_store_rules.proofs.KeptValues.{rows_same, kept_same, devices_same}
+use Rattle.goo_store_rules.proofs.KeptValues.{rows_same, kept_same, devices_same, judged_same}
 
 pub str_test : (a q : List ℕ) → bytes_eq a q ≡ eq_by_cmp text_cmp q a
 str_test a q = texts_ties a q ∙ (eq_by_cmp_equiv nat_list_cmp_total).symm a q
@@ -122,7 +122,7 @@ module _ (t : Tables) (x : Found) (are : AreOf t x) where
   pub cancellation_account_rule : list_all (λ r. has_account (map account_in x.rows.members.accounts.items) r.account) x.rows.acts.cancellations.items
       ≡ list_all (λ c. contains_key accounts c.account) t.cancellations
   cancellation_account_rule =
-      rows_same (λ c. has_account (map account_in x.rows.members.accounts.items) c.account) cancellation_in x.rows.acts.cancellations.items t.cancellations are.cancellations
+      judged_same (λ c. has_account (map account_in x.rows.members.accounts.items) c.account) x.rows.acts.cancellations.items t.cancellations are.cancellations
       ∙ (λ i. list_all (λ c. account_there c.account i) t.cancellations)
 
   pub notice_account_rule : list_all (λ r. has_account (map account_in x.rows.members.accounts.items) r.account) x.rows.notices.sent.items
@@ -136,10 +136,10 @@ module _ (t : Tables) (x : Found) (are : AreOf t x) where
   account_rule =
       rows_same (account_given x.meta.next_account) account_in x.rows.members.accounts.items t.accounts are.accounts ∙ (λ i. list_all (account_given (are.meta i).next_account) t.accounts)
 
-  pub cancellation_rule : list_all (λ r. cancellation_given x.meta.next_cancellation (cancellation_in r)) x.rows.acts.cancellations.items ≡ list_all (λ c. nat_lt c.number t.meta.next_cancellation) t.cancellations
+  pub cancellation_rule : list_all (cancellation_given x.meta.next_cancellation) x.rows.acts.cancellations.items ≡ list_all (λ c. nat_lt c.number t.meta.next_cancellation) t.cancellations
   cancellation_rule =
-      rows_same (cancellation_given x.meta.next_cancellation) cancellation_in x.rows.acts.cancellations.items t.cancellations are.cancellations
-      ∙ (λ i. list_all (cancellation_given (are.meta i).next_cancellation) t.cancellations)
+      judged_same (cancellation_given x.meta.next_cancellation) x.rows.acts.cancellations.items t.cancellations are.cancellations
+      ∙ (λ i. list_all (λ c. nat_lt c.number (are.meta i).next_cancellation) t.cancellations)
 
   pub withdrawal_rule : list_all (λ r. withdrawal_given x.meta.next_withdrawal (withdrawal_in r)) x.rows.acts.withdrawals.items ≡ list_all (λ w. nat_lt w.number t.meta.next_withdrawal) t.withdrawals
   withdrawal_rule =

@@ -1,5 +1,5 @@
 -- The rules of pieces over the tables, and what the state asks of single certificates.
-use Rattle.std.specs.Prelude.{◌≡◌, Bool, true, None}
+use Rattle.std.specs.Prelude.{◌≡◌, Bool, true, None, map}
 use Rattle.std.specs.List.{list_all}
 use Rattle.goo_types.specs.Number.{code_of}
 use Rattle.goo_types.specs.Piece.{IsRising}
@@ -8,6 +8,7 @@ use Rattle.goo_tables_rows.specs.Rows.{Tables}
 use Rattle.goo_tables_rows.specs.declared.piece.PieceRow.{PieceRow}
 use Rattle.goo_spec_tables.specs.Places.{rows_of}
 use Rattle.goo_spec_tables.specs.States.{state_of}
+use Rattle.goo_store_receipts.specs.Judged.{judged_cancellation}
 use Rattle.goo_store_rules.specs.WellKept.{is_issued, are_apart, has_account, has_cancellation, has_withdrawal, has_sent, has_lot_of, has_over, has_closed, act_in, is_timely}
 use Rattle.goo_store_rules.proofs.KeptCertificates.{have_lots}
 
@@ -20,7 +21,7 @@ abbrev pub has_its_account : Tables → PieceRow → Bool
 has_its_account t p = has_account t.accounts p.account
 
 abbrev pub has_its_act : Tables → PieceRow → Bool
-has_its_act t = act_in (has_cancellation t.cancellations) (has_withdrawal t.withdrawals) (has_sent t.notices_out)
+has_its_act t = act_in (has_cancellation (map judged_cancellation t.cancellations)) (has_withdrawal t.withdrawals) (has_sent t.notices_out)
 
 abbrev pub has_its_lot : Tables → PieceRow → Bool
 has_its_lot t p = has_lot_of (code_of p.first) t.lots p.lot

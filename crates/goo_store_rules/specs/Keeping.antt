@@ -1,8 +1,8 @@
 -- The rules over all that was read.
 use Rattle.std.specs.Prelude.{◌&&◌, Bool, None, pos, string_bytes, map}
 use Rattle.std.specs.List.{list_all}
-use Rattle.goo_tables_rows.specs.Rows.{meta_in, holder_in, account_in, device_in, declaration_in, correction_in, lot_in, cancellation_in, withdrawal_in, notice_out_in, notice_in_in, device_carrier_in, lot_carrier_in}
-use Rattle.goo_spec_tables.specs.Readable.{is_meta, is_holder, is_account, is_device, is_declaration, is_lot, is_piece, is_peer, is_cancellation, is_withdrawal, is_correction, is_notice_out, is_notice_in, is_device_carrier, is_lot_carrier}
+use Rattle.goo_tables_rows.specs.Rows.{meta_in, holder_in, account_in, device_in, declaration_in, correction_in, lot_in, withdrawal_in, notice_out_in, notice_in_in, device_carrier_in, lot_carrier_in}
+use Rattle.goo_spec_tables.specs.Readable.{is_meta, is_holder, is_account, is_device, is_declaration, is_lot, is_piece, is_peer, is_withdrawal, is_correction, is_notice_out, is_notice_in, is_device_carrier, is_lot_carrier}
 use Rattle.goo_types.specs.Number.{code_of}
 use Rattle.goo_store_rules.specs.WellKept.{is_no_issuer, is_another, covers_aux, account_given, cancellation_given, withdrawal_given, notice_given, is_issued, are_apart, has_holder, has_account, has_device, has_lot, has_cancellation, has_withdrawal, has_sent, has_lot_of, has_over, has_closed, act_in, is_timely, has_declaration, is_declared, is_withdrawn}
 use Rattle.goo_store_open.specs.declared.finding.Found.{Found}
@@ -19,7 +19,7 @@ has_good_values x =
     && (list_all (λ row. is_lot (lot_in row)) x.rows.production.lots.items
     && (list_all is_piece x.rows.production.pieces.items
     && (list_all (λ row. row.is_good) x.rows.acts.receipts.items
-    && (list_all (λ row. is_cancellation (cancellation_in row)) x.rows.acts.cancellations.items
+    && (list_all (λ row. row.is_good) x.rows.acts.cancellations.items
     && list_all (λ row. is_withdrawal (withdrawal_in row)) x.rows.acts.withdrawals.items)))))))))
 
 -- the same of corrections and carriers
@@ -37,7 +37,7 @@ has_its_numbers x =
     && (are_apart None x.rows.production.pieces.items
     && (list_all (is_issued x.meta.code x.meta.next_serial) x.rows.production.pieces.items
     && (list_all (λ row. account_given x.meta.next_account (account_in row)) x.rows.members.accounts.items
-    && (list_all (λ row. cancellation_given x.meta.next_cancellation (cancellation_in row)) x.rows.acts.cancellations.items
+    && (list_all (cancellation_given x.meta.next_cancellation) x.rows.acts.cancellations.items
     && (list_all (λ row. withdrawal_given x.meta.next_withdrawal (withdrawal_in row)) x.rows.acts.withdrawals.items
     && list_all (λ row. notice_given x.meta.next_notice (notice_out_in row)) x.rows.notices.sent.items)))))))
 
@@ -54,7 +54,7 @@ has_its_names x =
 abbrev pub has_its_places : Found → Bool
 has_its_places x =
     let lots = map lot_in x.rows.production.lots.items in
-    list_all (act_in (has_cancellation (map cancellation_in x.rows.acts.cancellations.items)) (has_withdrawal (map withdrawal_in x.rows.acts.withdrawals.items)) (has_sent (map notice_out_in x.rows.notices.sent.items))) x.rows.production.pieces.items
+    list_all (act_in (has_cancellation x.rows.acts.cancellations.items) (has_withdrawal (map withdrawal_in x.rows.acts.withdrawals.items)) (has_sent (map notice_out_in x.rows.notices.sent.items))) x.rows.production.pieces.items
     && (list_all (λ row. has_lot_of (code_of row.first) lots row.lot) x.rows.production.pieces.items
     && list_all (is_timely (has_over (string_bytes x.meta.today) lots) (has_closed (map account_in x.rows.members.accounts.items))) x.rows.production.pieces.items)
 

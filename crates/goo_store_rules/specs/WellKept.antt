@@ -10,10 +10,11 @@ use Rattle.goo_types.specs.Number.{code_of, serial_of}
 use Rattle.std.specs.Ordering.{nat_cmp, eq_by_cmp, is_lt, ordering_then}
 use Rattle.goo_spec.specs.State.{text_cmp}
 use Rattle.goo_spec.specs.Checks.{issuer}
-use Rattle.goo_tables_rows.specs.Rows.{Holder, Account, Lot, Device, Declaration, Cancellation, Withdrawal, NoticeOut}
+use Rattle.goo_tables_rows.specs.Rows.{Holder, Account, Lot, Device, Declaration, Withdrawal, NoticeOut}
 use Rattle.goo_tables_rows.specs.declared.peer.PeerRow.{PeerRow}
 use Rattle.goo_tables_rows.specs.declared.piece.PieceRow.{PieceRow}
 use Rattle.goo_spec_tables.specs.Renewed.{goes_on}
+use Rattle.goo_store_receipts.specs.declared.cancellations.JudgedCancellation.{JudgedCancellation}
 
 -- the issuing body is no holder
 abbrev pub is_no_issuer : Holder → Bool
@@ -31,7 +32,7 @@ covers_aux d = nat_le d.aux d.gross
 abbrev pub account_given : ℕ → Account → Bool
 account_given next a = nat_lt a.number next
 
-abbrev pub cancellation_given : ℕ → Cancellation → Bool
+abbrev pub cancellation_given : ℕ → JudgedCancellation → Bool
 cancellation_given next c = nat_lt c.number next
 
 abbrev pub withdrawal_given : ℕ → Withdrawal → Bool
@@ -71,7 +72,7 @@ has_device devices gsrn = list_any (λ d. eq_by_cmp text_cmp gsrn d.gsrn) device
 abbrev pub has_lot : List Lot → ℕ → Bool
 has_lot lots id = list_any (λ l. eq_by_cmp nat_cmp id l.id) lots
 
-abbrev pub has_cancellation : List Cancellation → ℕ → Bool
+abbrev pub has_cancellation : List JudgedCancellation → ℕ → Bool
 has_cancellation acts number = list_any (λ c. eq_by_cmp nat_cmp number c.number) acts
 
 abbrev pub has_withdrawal : List Withdrawal → ℕ → Bool

@@ -3,25 +3,25 @@
 ghost use Rattle.std.specs.Prelude.{◌≡◌, pos};
 ghost use Rattle.std.specs.List.{list_all};
 ghost use Rattle.goo_tables_rows.specs.Rows.{holder_in, account_in, device_in, declaration_in};
-ghost use Rattle.goo_tables_rows.specs.Rows.{lot_in, cancellation_in, withdrawal_in};
+ghost use Rattle.goo_tables_rows.specs.Rows.{lot_in, withdrawal_in};
 ghost use Rattle.goo_tables_rows.specs.Rows.{correction_in, notice_out_in, device_carrier_in};
 ghost use Rattle.goo_tables_rows.specs.Rows.{lot_carrier_in};
 ghost use Rattle.goo_spec_tables.specs.Readable.{is_holder, is_account, is_device, is_declaration};
 ghost use Rattle.goo_spec_tables.specs.Readable.{is_lot, is_piece, is_peer};
-ghost use Rattle.goo_spec_tables.specs.Readable.{is_cancellation, is_withdrawal, is_correction};
+ghost use Rattle.goo_spec_tables.specs.Readable.{is_withdrawal, is_correction};
 ghost use Rattle.goo_spec_tables.specs.Readable.{is_device_carrier, is_lot_carrier};
 ghost use Rattle.goo_store_rules.specs.WellKept.{is_no_issuer, is_another, covers_aux};
 ghost use Rattle.goo_store_rules.specs.WellKept.{account_given, cancellation_given};
 ghost use Rattle.goo_store_rules.specs.WellKept.{withdrawal_given, notice_given, is_issued};
 
 use crate::values::{
-    accepts_account, accepts_cancellation, accepts_correction, accepts_declaration, accepts_device,
+    accepts_account, accepts_correction, accepts_declaration, accepts_device,
     accepts_device_carrier, accepts_holder, accepts_lot, accepts_lot_carrier, accepts_peer,
     accepts_piece, accepts_withdrawal,
 };
+use goo_store_receipts::cancellations::JudgedCancellation;
 use goo_store_receipts::receipts::JudgedReceipt;
 use goo_tables_rows::account::AccountRow;
-use goo_tables_rows::cancellation::CancellationRow;
 use goo_tables_rows::correction::CorrectionRow;
 use goo_tables_rows::declaration::DeclarationRow;
 use goo_tables_rows::device::DeviceRow;
@@ -91,11 +91,11 @@ pub fn accepts_receipts(rows: &[JudgedReceipt]) -> bool
     rows.iter().all(|row| row.is_good)
 }
 
-/// The same of the cancellations.
-pub fn accepts_cancellations(rows: &[CancellationRow]) -> bool
-    ensures { result ≡ list_all (λ row. is_cancellation (cancellation_in row)) rows.now }
+/// The same of the cancellations, which were judged as they were read.
+pub fn accepts_cancellations(rows: &[JudgedCancellation]) -> bool
+    ensures { result ≡ list_all (λ row. row.is_good) rows.now }
 {
-    rows.iter().all(|row| accepts_cancellation(row))
+    rows.iter().all(|cancellation| cancellation.is_good)
 }
 
 /// The same of the withdrawals.
@@ -156,8 +156,8 @@ pub fn are_given_accounts(next: u32, rows: &[AccountRow]) -> bool
 }
 
 /// The same of the cancellations.
-pub fn are_given_cancellations(next: u32, rows: &[CancellationRow]) -> bool
-    ensures { result ≡ list_all (λ row. cancellation_given next (cancellation_in row)) rows.now }
+pub fn are_given_cancellations(next: u32, rows: &[JudgedCancellation]) -> bool
+    ensures { result ≡ list_all (cancellation_given next) rows.now }
 {
     rows.iter().all(|cancellation| cancellation.number < next)
 }

@@ -3,13 +3,13 @@
 ghost use Rattle.std.specs.Prelude.{◌≡◌, ℕ, List, map, IfOk};
 ghost use Rattle.std.specs.Ordering.{nat_cmp};
 ghost use Rattle.std.specs.BTreeSet.{contains};
-ghost use Rattle.goo_tables_rows.specs.Rows.{account_in, lot_in, cancellation_in, withdrawal_in};
+ghost use Rattle.goo_tables_rows.specs.Rows.{account_in, lot_in, withdrawal_in};
 ghost use Rattle.goo_tables_rows.specs.Rows.{notice_out_in};
 ghost use Rattle.goo_store_rules.specs.WellKept.{has_account, has_lot, has_cancellation};
 ghost use Rattle.goo_store_rules.specs.WellKept.{has_withdrawal, has_sent};
 
+use goo_store_receipts::cancellations::JudgedCancellation;
 use goo_tables_rows::account::AccountRow;
-use goo_tables_rows::cancellation::CancellationRow;
 use goo_tables_rows::lot::LotRow;
 use goo_tables_rows::notice_out::NoticeOutRow;
 use goo_tables_rows::withdrawal::WithdrawalRow;
@@ -55,11 +55,10 @@ pub fn lot_numbers(alloc: Global, rows: &[LotRow]) -> Result<BTreeSet<u64>, Allo
 /// Where an allocation is refused.
 pub fn cancellation_numbers(
     alloc: Global,
-    rows: &[CancellationRow],
+    rows: &[JudgedCancellation],
 ) -> Result<BTreeSet<u32>, AllocError>
     ensures { IfOk result
-        (λ set. (n : ℕ)
-        → contains nat_cmp set n ≡ has_cancellation (map cancellation_in rows.now) n) }
+        (λ set. (n : ℕ) → contains nat_cmp set n ≡ has_cancellation rows.now n) }
 {
     let mut set = BTreeSet::new(alloc);
     for cancellation in rows {

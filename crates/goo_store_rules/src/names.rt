@@ -4,7 +4,7 @@ ghost use Rattle.std.specs.Prelude.{◌≡◌, ◌&&◌, map, string_bytes, IfOk
 ghost use Rattle.std.specs.List.{list_all};
 ghost use Rattle.goo_types.specs.Number.{code_of};
 ghost use Rattle.goo_tables_rows.specs.Rows.{holder_in, account_in, device_in, declaration_in};
-ghost use Rattle.goo_tables_rows.specs.Rows.{lot_in, cancellation_in, withdrawal_in, notice_out_in};
+ghost use Rattle.goo_tables_rows.specs.Rows.{lot_in, withdrawal_in, notice_out_in};
 ghost use Rattle.goo_store_rules.specs.WellKept.{has_holder, has_account, has_device, has_lot};
 ghost use Rattle.goo_store_rules.specs.WellKept.{has_cancellation, has_withdrawal, has_sent};
 ghost use Rattle.goo_store_rules.specs.WellKept.{has_lot_of, has_over, has_closed, act_in};
@@ -23,8 +23,8 @@ use crate::there::{
     devices_have_accounts, notices_have_accounts, pieces_are_in_time, pieces_are_of_origins,
     pieces_have_accounts, pieces_have_acts,
 };
+use goo_store_receipts::cancellations::JudgedCancellation;
 use goo_tables_rows::account::AccountRow;
-use goo_tables_rows::cancellation::CancellationRow;
 use goo_tables_rows::correction::CorrectionRow;
 use goo_tables_rows::declaration::DeclarationRow;
 use goo_tables_rows::device::DeviceRow;
@@ -141,7 +141,7 @@ pub fn accounts_are_there(
 pub fn accounts_of_acts_are_there(
     alloc: Global,
     accounts: &[AccountRow],
-    cancellations: &[CancellationRow],
+    cancellations: &[JudgedCancellation],
     sent: &[NoticeOutRow],
 ) -> Result<bool, AllocError>
     ensures { IfOk result
@@ -165,14 +165,14 @@ pub fn accounts_of_acts_are_there(
 pub fn acts_are_there(
     alloc: Global,
     pieces: &[PieceRow],
-    cancellations: &[CancellationRow],
+    cancellations: &[JudgedCancellation],
     withdrawals: &[WithdrawalRow],
     sent: &[NoticeOutRow],
 ) -> Result<bool, AllocError>
     ensures { IfOk result
         (λ yes. yes
         ≡ list_all
-        (act_in (has_cancellation (map cancellation_in cancellations.now))
+        (act_in (has_cancellation cancellations.now)
         (has_withdrawal (map withdrawal_in withdrawals.now))
         (has_sent (map notice_out_in sent.now))) pieces.now) }
 {

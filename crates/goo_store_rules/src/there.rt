@@ -9,8 +9,8 @@ ghost use Rattle.goo_store_rules.specs.WellKept.{has_text, act_in, is_timely, pa
 ghost use Rattle.goo_store_rules.specs.WellKept.{is_withdrawn};
 
 use crate::keys::has;
+use goo_store_receipts::cancellations::JudgedCancellation;
 use goo_tables_rows::account::AccountRow;
-use goo_tables_rows::cancellation::CancellationRow;
 use goo_tables_rows::correction::CorrectionRow;
 use goo_tables_rows::declaration::DeclarationRow;
 use goo_tables_rows::device::DeviceRow;
@@ -72,7 +72,7 @@ pub fn pieces_have_accounts(rows: &[PieceRow], accounts: &BTreeSet<u32>) -> bool
 }
 
 /// Whether each cancellation's account is one of these.
-pub fn cancellations_have_accounts(rows: &[CancellationRow], accounts: &BTreeSet<u32>) -> bool
+pub fn cancellations_have_accounts(rows: &[JudgedCancellation], accounts: &BTreeSet<u32>) -> bool
     ensures { result ≡ list_all (λ row. contains nat_cmp accounts.now row.account) rows.now }
 {
     rows.iter()

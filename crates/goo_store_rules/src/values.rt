@@ -2,12 +2,12 @@
 
 ghost use Rattle.std.specs.Prelude.{◌≡◌, pos};
 ghost use Rattle.goo_tables_rows.specs.Rows.{plant_in, meta_in, holder_in, account_in, device_in};
-ghost use Rattle.goo_tables_rows.specs.Rows.{declaration_in, lot_in, cancellation_in};
+ghost use Rattle.goo_tables_rows.specs.Rows.{declaration_in, lot_in};
 ghost use Rattle.goo_tables_rows.specs.Rows.{withdrawal_in, correction_in, device_carrier_in};
 ghost use Rattle.goo_tables_rows.specs.Rows.{lot_carrier_in};
 ghost use Rattle.goo_spec_tables.specs.Readable.{is_meta, is_holder, is_account, is_plant};
 ghost use Rattle.goo_spec_tables.specs.Readable.{is_device, is_declaration, is_lot, is_piece};
-ghost use Rattle.goo_spec_tables.specs.Readable.{is_peer, is_cancellation};
+ghost use Rattle.goo_spec_tables.specs.Readable.{is_peer};
 ghost use Rattle.goo_spec_tables.specs.Readable.{is_withdrawal, is_correction, is_device_carrier};
 ghost use Rattle.goo_spec_tables.specs.Readable.{is_lot_carrier};
 
@@ -19,7 +19,6 @@ use goo_store_receipts::texts::{
     is_other_or_none, is_source, is_support, is_tech,
 };
 use goo_tables_rows::account::AccountRow;
-use goo_tables_rows::cancellation::CancellationRow;
 use goo_tables_rows::correction::CorrectionRow;
 use goo_tables_rows::declaration::DeclarationRow;
 use goo_tables_rows::device::DeviceRow;
@@ -124,19 +123,6 @@ pub fn accepts_peer(peer: &PeerRow) -> bool
     ensures { result ≡ is_peer (pos 0, peer.now) }
 {
     is_registry(peer.code)
-}
-
-/// A cancellation.
-pub fn accepts_cancellation(row: &CancellationRow) -> bool
-    ensures { result ≡ is_cancellation (cancellation_in row.now) }
-{
-    is_given(row.number)
-        && is_given(row.account)
-        && is_range(row.first, row.last)
-        && is_name(&row.beneficiary)
-        && is_day(&row.use_first)
-        && is_day(&row.use_last)
-        && is_day(&row.day)
 }
 
 /// A withdrawal.
