@@ -1,4 +1,4 @@
--- One more text among those that are there.
+-- One more text or number among those that are there.
 use Rattle.std.proofs.Common.{◌≡◌, ◌<◌, ◌+◌, ℕ, Bool, true, false, cond, ◌||◌, List, [], ◌∷◌, ◌++◌, map, take, length, get_or, refl, sym, ap, ◌∙◌}
 use Rattle.std.proofs.lemmas.List.{take_more, map-append}
 use Rattle.std.specs.List.{list_any}
@@ -33,6 +33,15 @@ module _ {K : Type 0} {R : K → K → Ordering} (o : IsTotalOrder R) where
       let more : take (i + 1) xs ≡ take i xs ++ x ∷ [] = take_more xs i x low ∙ ap (λ z. take i xs ++ z ∷ []) (sym at) in
       let all : map f (take (i + 1) xs) ≡ map f (take i xs) ++ f x ∷ [] = ap (map f) more ∙ map-append f (take i xs) (x ∷ []) in
       is ∙ ap (λ b. cond b true old) ((eq_by_cmp_equiv o).symm (key (f x)) q) ∙ ap (cond (test (f x)) true) before ∙ sym (any-push test (map f (take i xs)) (f x)) ∙ ap (list_any test) (sym all)
+
+  -- the same of the rows themselves
+  pub row_noted : {X : Type 0} (key : X → K) (xs : List X) (i : ℕ) (none : X) (q : K) (old new : Bool) → i < length xs
+      → old ≡ list_any (λ y. eq_by_cmp R q (key y)) (take i xs) → new ≡ cond (eq_by_cmp R (key (get_or xs i none)) q) true old
+      → new ≡ list_any (λ y. eq_by_cmp R q (key y)) (take (i + 1) xs)
+  row_noted {X} key xs i none q old new low before is =
+      let test : X → Bool = λ y. eq_by_cmp R q (key y) in
+      let x = get_or xs i none in
+      is ∙ ap (λ b. cond b true old) ((eq_by_cmp_equiv o).symm (key x) q) ∙ ap (cond (test x) true) before ∙ sym (any-push test (take i xs) x) ∙ ap (list_any test) (sym (take_more xs i none low))
 
 pub text_noted : {X Y : Type 0} (f : X → Y) (key : Y → List ℕ) (xs : List X) (i : ℕ) (x : X) (q : List ℕ) (old new : Bool) → i < length xs → x ≡ get_or xs i x
     → old ≡ list_any (λ y. eq_by_cmp text_cmp q (key y)) (map f (take i xs)) → new ≡ cond (eq_by_cmp text_cmp (key (f x)) q) true old
