@@ -23,10 +23,10 @@ use Rattle.goo_cli_ending.specs.Endings.{ending_of, status_of}
 use Rattle.goo_cli_ending.specs.Promised.{KeepsPromise}
 use Rattle.goo_cli_ending.proofs.EndingLemmas.{kept}
 
-module _ (told : Ending) (input : List ℕ) (old new : State) (doubts : ℕ) (had has : Option (List ℕ)) (sound : IsSound old) where
+module _ (told : Ending) (input : List ℕ) (old new : State) (defects : ℕ) (had has : Option (List ℕ)) (sound : IsSound old) where
   -- so many lines were answered, and no more
-  by_lines : (done left : List (List ℕ)) → lines_of input ≡ done ++ left → (status_of told < 2 → left ≡ []) → (doubts ≡ 0 → new ≡ (answering old done).state)
-      → (told ≢ ending.Failed failure.Write → Appends had has (answering old done).text) → KeepsPromise told input old had has (λ t. doubts ≡ 0 → new ≡ t)
+  by_lines : (done left : List (List ℕ)) → lines_of input ≡ done ++ left → (status_of told < 2 → left ≡ []) → (defects ≡ 0 → new ≡ (answering old done).state)
+      → (told ≢ ending.Failed failure.Write → Appends had has (answering old done).text) → KeepsPromise told input old had has (λ t. defects ≡ 0 → new ≡ t)
   by_lines done left order all state text = record {
     done = done;
     left = left;
@@ -38,7 +38,7 @@ module _ (told : Ending) (input : List ℕ) (old new : State) (doubts : ℕ) (ha
     written = λ other. subst (λ (l : List ℕ). Appends had has l) (lines_are_a_run old done).text (text other);
   }
 
-  by_none : (status_of told < 2 → lines_of input ≡ []) → new ≡ old → Appends had has [] → KeepsPromise told input old had has (λ t. doubts ≡ 0 → new ≡ t)
+  by_none : (status_of told < 2 → lines_of input ≡ []) → new ≡ old → Appends had has [] → KeepsPromise told input old had has (λ t. defects ≡ 0 → new ≡ t)
   by_none all state text = record {
     done = [];
     left = lines_of input;
@@ -65,22 +65,22 @@ pub promised_from : (answered : Result Tally LinesFault) (flushed : Bool) (read 
     → IfSome read (λ input. IfErr answered (λ why. IsBetweenLines why → StandsWhole input old.state new had between))
     → IfSome read (λ input. IfErr answered (λ why. why ≡ fault.Write → StandsInPart input old.state new.state had between))
     → IfErr answered (λ why. why ≡ fault.Read → new.state ≡ old.state) → IfErr answered (λ why. why ≡ fault.Read → Keeps had between) → Keeps between has
-    → IfSome read (λ input. KeepsPromise (ending_of answered flushed) input old.state had has (λ t. new.doubts ≡ 0 → new.state ≡ t))
+    → IfSome read (λ input. KeepsPromise (ending_of answered flushed) input old.state had has (λ t. new.defects ≡ 0 → new.state ≡ t))
 promised_from answered flushed None old new had between has sound state text whole part unread silent same = tt
 promised_from (Ok tally) flushed (Some input) old new had between has sound state text whole part unread silent same =
-    by_lines (ending_of (Ok tally) flushed) input old.state new.state new.doubts had has sound (lines_of input) [] (sym (append-nil (lines_of input))) (λ low. refl) (λ none. state)
+    by_lines (ending_of (Ok tally) flushed) input old.state new.state new.defects had has sound (lines_of input) [] (sym (append-nil (lines_of input))) (λ low. refl) (λ none. state)
     (λ other. kept had between has _ text same)
 promised_from (Err fault.Store) flushed (Some input) old new had between has sound state text whole part unread silent same =
     let it = whole tt in
-    by_lines (ending.Failed failure.Store) input old.state new.state new.doubts had has sound it.done it.left it.order (λ low. not_done failure.Store _ low) it.state (λ other. kept had between has _ it.text same)
+    by_lines (ending.Failed failure.Store) input old.state new.state new.defects had has sound it.done it.left it.order (λ low. not_done failure.Store _ low) it.state (λ other. kept had between has _ it.text same)
 promised_from (Err fault.Memory) flushed (Some input) old new had between has sound state text whole part unread silent same =
     let it = whole tt in
-    by_lines (ending.Failed failure.Memory) input old.state new.state new.doubts had has sound it.done it.left it.order (λ low. not_done failure.Memory _ low) it.state (λ other. kept had between has _ it.text same)
+    by_lines (ending.Failed failure.Memory) input old.state new.state new.defects had has sound it.done it.left it.order (λ low. not_done failure.Memory _ low) it.state (λ other. kept had between has _ it.text same)
 promised_from (Err fault.Read) flushed (Some input) old new had between has sound state text whole part unread silent same =
-    by_none (ending.Failed failure.Read) input old.state new.state new.doubts had has sound (λ low. not_done failure.Read _ low) (unread refl) (nothing had between has (silent refl) same)
+    by_none (ending.Failed failure.Read) input old.state new.state new.defects had has sound (λ low. not_done failure.Read _ low) (unread refl) (nothing had between has (silent refl) same)
 promised_from (Err fault.Write) flushed (Some input) old new had between has sound state text whole part unread silent same =
     let it = part refl in
-    by_lines (ending.Failed failure.Write) input old.state new.state new.doubts had has sound (it.done ++ it.last ∷ []) it.left (it.order ∙ sym (append_assoc it.done (it.last ∷ []) it.left))
+    by_lines (ending.Failed failure.Write) input old.state new.state new.defects had has sound (it.done ++ it.last ∷ []) it.left (it.order ∙ sym (append_assoc it.done (it.last ∷ []) it.left))
     (λ low. not_done failure.Write _ low) (λ none. it.state) (λ other. absurd (other refl))
 
 -- nothing was answered, and nothing written

@@ -31,7 +31,8 @@ use std::io::{BufWriter, Read, Write};
 /// - `promised`: what a registry promises after any list of requests holds of the requests of the
 ///   lines that were answered, with status 0 and 1 of all lines, and their outcomes are what was
 ///   written.
-/// - `lied`: what lies below the desk returned what was written before, where it did so to the end.
+/// - `corruptions_stay`: what lies below the desk returned what was written
+///   before, where it did so to the end.
 /// - `found`: however it ends, all that was handed to the writer, flushed or not, are answers to
 ///   first lines that a crash finds carried out, and at most one line more.
 pub fn answer_input<D: Desk, R: Read, W: Write + Drop>(
@@ -40,33 +41,34 @@ pub fn answer_input<D: Desk, R: Read, W: Write + Drop>(
     reader: &mut R,
     writer: &mut BufWriter<W>,
 ) -> Ending
-    ensures all_done { (D.seen desk.new).lies ≡ 0 → status_of result ≡ 0
+    ensures all_done { (D.seen desk.new).corruptions ≡ 0 → status_of result ≡ 0
         → IfSome (R.remaining reader.old) (λ input. (lines (D.seen desk.old).state input).bad ≡ 0) }
-    ensures not_all_done { (D.seen desk.new).lies ≡ 0 → status_of result ≡ 1
+    ensures not_all_done { (D.seen desk.new).corruptions ≡ 0 → status_of result ≡ 1
         → IfSome (R.remaining reader.old) (λ input. (lines (D.seen desk.old).state input).bad ≢ 0) }
-    ensures written { (D.seen desk.new).lies ≡ 0 → status_of result < 2
+    ensures written { (D.seen desk.new).corruptions ≡ 0 → status_of result < 2
         → IfSome (R.remaining reader.old)
         (λ input. Appends (writer_contents W.contents writer.old)
         (writer_contents W.contents writer.new) (lines (D.seen desk.old).state input).text) }
-    ensures kept { (D.seen desk.new).lies ≡ 0 → status_of result < 2
+    ensures kept { (D.seen desk.new).corruptions ≡ 0 → status_of result < 2
         → IfSome (R.remaining reader.old)
         (λ input. (D.seen desk.new).state ≡ (lines (D.seen desk.old).state input).state) }
-    ensures stopped { (D.seen desk.new).lies ≡ 0
+    ensures stopped { (D.seen desk.new).corruptions ≡ 0
         → IfSome (R.remaining reader.old)
         (λ input. IsStopped result input (D.seen desk.old).state (D.seen desk.new).state
-        (D.seen desk.new).doubts (writer_contents W.contents writer.old)
+        (D.seen desk.new).defects (writer_contents W.contents writer.old)
         (writer_contents W.contents writer.new)) }
     ensures flushed { status_of result < 2 → writer_buffer writer.new ≡ [] }
     ensures words { IsOfLines result }
     ensures read { IsAfterInput result → IsAtEnd (R.remaining reader.new) }
     ensures told { (D.seen desk.old).refusals ≡ 0 → IsToldOf result (D.seen desk.new).refusals }
-    ensures promised { IsSound (D.seen desk.old).state → (D.seen desk.new).lies ≡ 0
+    ensures promised { IsSound (D.seen desk.old).state → (D.seen desk.new).corruptions ≡ 0
         → IfSome (R.remaining reader.old)
         (λ input. KeepsPromise result input (D.seen desk.old).state
         (writer_contents W.contents writer.old) (writer_contents W.contents writer.new)
-        (λ t. (D.seen desk.new).doubts ≡ 0 → (D.seen desk.new).state ≡ t)) }
-    ensures lied { (D.seen desk.new).lies ≡ 0 → (D.seen desk.old).lies ≡ 0 }
-    ensures found { (D.seen desk.new).lies ≡ 0 → (D.seen desk.old).doubts ≡ 0
+        (λ t. (D.seen desk.new).defects ≡ 0 → (D.seen desk.new).state ≡ t)) }
+    ensures corruptions_stay { (D.seen desk.new).corruptions ≡ 0
+        → (D.seen desk.old).corruptions ≡ 0 }
+    ensures found { (D.seen desk.new).corruptions ≡ 0 → (D.seen desk.old).defects ≡ 0
         → IfSome (R.remaining reader.old) (λ input.
         FindsAnswered input (D.seen desk.old).state (D.seen desk.new)
         (writer_contents W.contents writer.old) (writer_contents W.contents writer.new)

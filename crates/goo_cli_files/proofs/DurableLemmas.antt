@@ -19,7 +19,7 @@ use Rattle.goo_cli_texts.specs.Durable.{FindsDeclared}
 use Rattle.goo_cli_files.specs.Durable.{FindsConnections, FindsImported, MayBeFound}
 use Rattle.goo_cli_files.proofs.Stopping.{opened}
 
-module _ {D : Type 0} {g : Ghosts D} (of : Left D g) (new : Moment) (whole : IfWhole of (λ files. HoldState g files new.state)) (sure : IfWhole of (λ files. AreClean g files.log files.db → new.doubts ≡ 0))
+module _ {D : Type 0} {g : Ghosts D} (of : Left D g) (new : Moment) (whole : IfWhole of (λ files. HoldState g files new.state)) (sure : IfWhole of (λ files. AreClean g files.log files.db → new.defects ≡ 0))
     (parts : IfParts of (FindsRight new.leaves)) where
   imported : (input : List ℕ) (s : State) (had has : Option (List ℕ)) → FindsDeclared input s (seen_of new) had has new.leaves → FindsImported of input s had has
   imported input s had has it = record {
@@ -37,7 +37,7 @@ module _ {D : Type 0} {g : Ghosts D} (of : Left D g) (new : Moment) (whole : IfW
   rows_found (Some input) seen begun had has same it =
       opened of _ (imported input begun had has (subst (λ (s : State). FindsDeclared input s (seen_of new) had has new.leaves) same it))
 
-pub connections_found : {D : Type 0} {g : Ghosts D} (of : Left D g) (sends : ℕ → Option (List ℕ)) (was now : ℕ) (first : Seen) (new : Moment) (begun : State) → first.state ≡ begun → first.doubts ≡ 0 → new.lies ≡ 0
+pub connections_found : {D : Type 0} {g : Ghosts D} (of : Left D g) (sends : ℕ → Option (List ℕ)) (was now : ℕ) (first : Seen) (new : Moment) (begun : State) → first.state ≡ begun → first.defects ≡ 0 → new.corruptions ≡ 0
     → FindsServed sends was now first (seen_of new) new.leaves → IfParts of (FindsRight new.leaves) → IfParts of (FindsConnections sends was now begun)
 connections_found (Whole files) sends was now first new begun same sure low served parts = tt
 connections_found (Refused left) sends was now first new begun same sure low served parts = tt

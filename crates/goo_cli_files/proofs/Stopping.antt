@@ -18,27 +18,27 @@ use Rattle.goo_cli_registry.proofs.Finding.{kept_has}
 use Rattle.goo_cli_texts.specs.Stopped.{IsStopped, NoneStand, RowsStand}
 use Rattle.goo_cli_files.specs.StoppedImports.{HoldsNone, HoldsRows, HoldsStopped}
 
--- what was copied into the database file is in no doubt
-held_as : {D : Type 0} {g : Ghosts D} (rest : Left D g) (new t : State) (doubts : ℕ) → (doubts ≡ 0 → new ≡ t) → IfWhole rest (λ files. HoldState g files new)
-    → IfWhole rest (λ files. AreClean g files.log files.db → doubts ≡ 0) → IfWhole rest (λ files. HoldState g files t)
-held_as {D} {g} (Whole files) new t doubts same held sure = λ clean. subst (HoldRegistry g files) (same (sure clean)) (held clean)
-held_as (Refused rest) new t doubts same held sure = tt
-held_as (Parts rest) new t doubts same held sure = tt
+-- what was copied into the database file has no defect
+held_as : {D : Type 0} {g : Ghosts D} (rest : Left D g) (new t : State) (defects : ℕ) → (defects ≡ 0 → new ≡ t) → IfWhole rest (λ files. HoldState g files new)
+    → IfWhole rest (λ files. AreClean g files.log files.db → defects ≡ 0) → IfWhole rest (λ files. HoldState g files t)
+held_as {D} {g} (Whole files) new t defects same held sure = λ clean. subst (HoldRegistry g files) (same (sure clean)) (held clean)
+held_as (Refused rest) new t defects same held sure = tt
+held_as (Parts rest) new t defects same held sure = tt
 
 module _ {D : Type 0} {g : Ghosts D} (rest : Left D g) (input : List ℕ) (old new : Seen) (had has : Option (List ℕ)) (held : IfWhole rest (λ files. HoldState g files new.state))
-    (sure : IfWhole rest (λ files. AreClean g files.log files.db → new.doubts ≡ 0)) (kept : new.doubts ≡ 0 → IsKept new.state rest) (before : old.doubts ≡ 0) where
-  holds_rows : (AreThese : List (List (List ℕ)) → Type 0) (doubts : ℕ) → (new.doubts ≡ 0 → doubts ≡ 0) → RowsStand AreThese old.state new.state doubts had has → HoldsRows rest input old.state had has AreThese
-  holds_rows AreThese doubts none it = record { rows = it.rows; are = it.are; held = held_as rest new.state (importing old.state issuer it.rows).state new.doubts (λ sure. it.state (none sure)) held sure; begun = it.begun }
+    (sure : IfWhole rest (λ files. AreClean g files.log files.db → new.defects ≡ 0)) (kept : new.defects ≡ 0 → IsKept new.state rest) (before : old.defects ≡ 0) where
+  holds_rows : (AreThese : List (List (List ℕ)) → Type 0) (defects : ℕ) → (new.defects ≡ 0 → defects ≡ 0) → RowsStand AreThese old.state new.state defects had has → HoldsRows rest input old.state had has AreThese
+  holds_rows AreThese defects none it = record { rows = it.rows; are = it.are; held = held_as rest new.state (importing old.state issuer it.rows).state new.defects (λ sure. it.state (none sure)) held sure; begun = it.begun }
 
   holds_none : NoneStand old new had has → HoldsNone rest input old.state had has
   holds_none it = record {
-    kept = subst (λ (s : State). HasState s rest) (ap (λ (m : Seen). m.state) it.same) (kept_has rest new.state (kept (ap (λ (m : Seen). m.doubts) it.same ∙ before)));
+    kept = subst (λ (s : State). HasState s rest) (ap (λ (m : Seen). m.state) it.same) (kept_has rest new.state (kept (ap (λ (m : Seen). m.defects) it.same ∙ before)));
     silent = it.silent;
   }
 
   stopped_in : (told : Ending) → IsStopped told input old new had has → HoldsStopped rest input old.state had has told
-  stopped_in (ending.Failed failure.Store) it = holds_rows _ new.doubts (λ none. none) it
-  stopped_in (ending.Failed failure.Memory) it = holds_rows _ new.doubts (λ none. none) it
+  stopped_in (ending.Failed failure.Store) it = holds_rows _ new.defects (λ none. none) it
+  stopped_in (ending.Failed failure.Memory) it = holds_rows _ new.defects (λ none. none) it
   stopped_in (ending.Failed failure.Write) it = holds_rows _ 0 (λ none. refl) it
   stopped_in (ending.Failed failure.Read) it = holds_none it
   stopped_in (ending.Failed failure.NotARegistry) it = tt
@@ -56,9 +56,9 @@ opened (Refused rest) Holds holds = tt
 opened (Parts rest) Holds holds = holds
 
 -- from the state that the files held
-pub rows_stopped : {D : Type 0} {g : Ghosts D} (rest : Left D g) (read : Option (List ℕ)) (told : Ending) (seen new : Seen) (begun : State) (had has : Option (List ℕ)) → seen.state ≡ begun → seen.doubts ≡ 0
-    → IfSome read (λ input. IsStopped told input seen new had has) → IfWhole rest (λ files. HoldState g files new.state) → IfWhole rest (λ files. AreClean g files.log files.db → new.doubts ≡ 0)
-    → (new.doubts ≡ 0 → IsKept new.state rest) → IfSome read (λ input. IfOpened rest (HoldsStopped rest input begun had has told))
+pub rows_stopped : {D : Type 0} {g : Ghosts D} (rest : Left D g) (read : Option (List ℕ)) (told : Ending) (seen new : Seen) (begun : State) (had has : Option (List ℕ)) → seen.state ≡ begun → seen.defects ≡ 0
+    → IfSome read (λ input. IsStopped told input seen new had has) → IfWhole rest (λ files. HoldState g files new.state) → IfWhole rest (λ files. AreClean g files.log files.db → new.defects ≡ 0)
+    → (new.defects ≡ 0 → IsKept new.state rest) → IfSome read (λ input. IfOpened rest (HoldsStopped rest input begun had has told))
 rows_stopped rest None told seen new begun had has same before it held sure kept = tt
 rows_stopped rest (Some input) told seen new begun had has same before it held sure kept =
     opened rest _ (subst (λ (s : State). HoldsStopped rest input s had has told) same (stopped_in rest input seen new had has held sure kept before told it))

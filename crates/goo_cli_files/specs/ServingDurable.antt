@@ -10,6 +10,6 @@ module _ (sends : ℕ → Option (List ℕ)) (was now : ℕ) (first last : Seen)
   abbrev pub FindsTo : Type 0
   FindsTo = server.FindsTo shown_by imported_by begun_by sends was now first last leaves
 
-  -- where nothing lied, and nothing was in doubt at first
+  -- where nothing was corrupted, and there was no defect at first
   abbrev pub FindsServed : Type 0
   FindsServed = server.FindsServed shown_by imported_by begun_by sends was now first last leaves

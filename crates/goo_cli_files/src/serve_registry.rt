@@ -40,7 +40,8 @@ fn ending_of(served: Result<(), ServerFault>) -> Ending
 /// - `promised`: what a registry promises after any list of requests holds of those that the
 ///   connections left applied. The bytes of each connection are those that its client sent, where
 ///   the listener tells them.
-/// - `lied`: what keeps the records returned what was written before, where it did so to the end.
+/// - `corruptions_stay`: what keeps the records returned what was written before, where it did so to
+///   the end.
 /// - `found`: however it ends, a crash finds what the connections leave; of the last one's requests
 ///   perhaps those alone that stand after a fault.
 pub(crate) fn serve_registry<S: Shelf, L: Listener, W: Write + Drop>(
@@ -57,10 +58,11 @@ pub(crate) fn serve_registry<S: Shelf, L: Listener, W: Write + Drop>(
     ensures counted { IsCounted result (L.accepted listener.old)
         (L.accepted listener.new) serving.count }
     ensures promised { IsSound (S.seen registry.old.shelf).state
-        → (S.seen registry.new.shelf).lies ≡ 0 → (S.seen registry.new.shelf).doubts ≡ 0
+        → (S.seen registry.new.shelf).corruptions ≡ 0 → (S.seen registry.new.shelf).defects ≡ 0
         → KeepsPromise (L.sends listener.old) (L.accepted listener.old) (L.accepted listener.new)
         (S.seen registry.old.shelf).state (S.seen registry.new.shelf).state }
-    ensures lied { (S.seen registry.new.shelf).lies ≡ 0 → (S.seen registry.old.shelf).lies ≡ 0 }
+    ensures corruptions_stay { (S.seen registry.new.shelf).corruptions ≡ 0
+        → (S.seen registry.old.shelf).corruptions ≡ 0 }
     ensures found { FindsServed (L.sends listener.old) (L.accepted listener.old)
         (L.accepted listener.new)
         (seen_of (S.seen registry.old.shelf)) (seen_of (S.seen registry.new.shelf))

@@ -51,8 +51,8 @@ fn serve_new<S: Alter, L: Listener, W: Write + Drop>(
         (listening_text serving.port) }
     ensures counted { IsCounted result.0 (L.accepted listener.old)
         (L.accepted listener.new) serving.count }
-    ensures promised { IsRun result.0 → (moment (view S.Store result.1) false).lies ≡ 0
-        → (moment (view S.Store result.1) false).doubts ≡ 0
+    ensures promised { IsRun result.0 → (moment (view S.Store result.1) false).corruptions ≡ 0
+        → (moment (view S.Store result.1) false).defects ≡ 0
         → KeepsPromise (L.sends listener.old) (L.accepted listener.old) (L.accepted listener.new)
         (created opening.code opening.today opening.next_serial)
         (moment (view S.Store result.1) false).state }

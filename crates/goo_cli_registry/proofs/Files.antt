@@ -23,7 +23,7 @@ use Rattle.goo_tables_rows.proofs.Committed.{holds_from}
 use Rattle.goo_tables_rows.proofs.Decoded.{decoded}
 use Rattle.goo_tables_rows.specs.Columns.{registry_schema}
 use Rattle.goo_tables_rows.specs.Rows.{Tables}
-use Rattle.goo_tables_rows.specs.Stands.{doubts, AreOurs, Holds, HoldsOurs}
+use Rattle.goo_tables_rows.specs.Stands.{defects, AreOurs, Holds, HoldsOurs}
 use Rattle.goo_spec.specs.Created.{created}
 use Rattle.goo_spec_tables.specs.Kept.{AreKept}
 use Rattle.goo_store.proofs.Created.{begun_kept, begun_state}
@@ -54,7 +54,7 @@ use Rattle.goo_cli_registry.specs.Closings.{HoldRegistry, HoldState, IfRefused, 
 use Rattle.goo_cli_registry.specs.declared.closing.Left.{Left}
 use Rattle.goo_cli_registry.specs.declared.closing.Left.TheVariants as left
 
--- what told no lie is in no doubt
+-- what corrupted nothing has no defect
 pub honest : (clean : Bool) → clean ≡ true → doubt clean ≡ 0
 unfolding doubt
 honest true same = refl
@@ -80,7 +80,7 @@ not_run (opening.Version version) told = not_run_either ((version == 1) || (vers
 not_run opening.Damaged told = told
 not_run opening.Store told = told
 
--- what told no lie in the end told none before
+-- what corrupted nothing in the end corrupted nothing before
 pub clean_before : (a b : Bool) → doubt a ≤ doubt b → b ≡ true → doubt a ≡ 0
 clean_before a b rises clean = omega (arith, rises, honest b clean)
 
@@ -118,7 +118,7 @@ kept_begun rest None s seen begun same told holds = tt
 kept_begun rest (Some input) s seen begun same told holds = kept_in rest s (lines begun input).state (told ∙ ap (λ (m : registry.State). (lines m input).state) same) holds
 
 -- what was committed last opens as the state that is seen
-pub opens_committed : (s : State) → IsWell s → doubts s ≡ 0 → OpensAs s.committed.trees (Some (state_of (tables_in s)))
+pub opens_committed : (s : State) → IsWell s → defects s ≡ 0 → OpensAs s.committed.trees (Some (state_of (tables_in s)))
 opens_committed s well none =
     subst (λ (d : Database). OpensAs d.trees (Some (state_of (tables_in s)))) (well.settled none) (well.ours none, (holds_from s.now (tables_in s) (well.stands none), well.kept none, refl))
 

@@ -84,8 +84,8 @@ impl<D: Disk> Left<D> {
 /// committed stands, and the next opening finds it.
 ///
 /// - `whole`, `copied`, `sure`: where the log was copied, the database file alone holds the
-///   registry, which is in no doubt, and the log may go.
-/// - `kept`: while nothing was in doubt, the state is kept, in the database file alone or in the
+///   registry, which has no defect, and the log may go.
+/// - `kept`: while there was no defect, the state is kept, in the database file alone or in the
 ///   file and its log.
 /// - `found`: where the log was not copied, the next opening finds what a crash before the close
 ///   might have left, and nothing else.
@@ -96,9 +96,9 @@ pub fn close_registry<D: Disk + Drop>(shelf: SqlShelf<FileStore<D>>) -> Left<D>
     ensures copied { HasSpareLog result }
     ensures sure { IfWhole result
         (λ files. AreClean D.Disk files.log files.db
-        → (moment (file_state shelf.conn) shelf.refused).doubts ≡ 0) }
+        → (moment (file_state shelf.conn) shelf.refused).defects ≡ 0) }
     ensures opened { IfRefused result (λ _. ⊥) }
-    ensures kept { (moment (file_state shelf.conn) shelf.refused).doubts ≡ 0
+    ensures kept { (moment (file_state shelf.conn) shelf.refused).defects ≡ 0
         → IsKept (moment (file_state shelf.conn) shelf.refused).state result }
     ensures found { IfParts result
         (FindsRight (moment (file_state shelf.conn) shelf.refused).leaves) }

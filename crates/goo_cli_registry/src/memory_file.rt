@@ -12,7 +12,8 @@ use std::io;
 
 /// A file in memory. What is written is there at once, so a crash of what is above it leaves what
 /// it holds; it never answers with other bytes than were written, so nothing has to be supposed of
-/// it, and a read need not judge digests.
+/// it, and a read need not judge digests. The kit's `MemStore` copies all it holds at each sync, so
+/// that many commits take quadratic time; this file copies nothing.
 #[derive(Drop)]
 pub struct MemoryFile {
     bytes: Vec<u8>,
@@ -65,7 +66,7 @@ impl Disk for MemoryFile {
         false
     }
 
-    // It tells no lie, so it needs no secret.
+    // It corrupts nothing, so it needs no secret.
     fn key(&self) -> u64 {
         0
     }

@@ -111,14 +111,14 @@ pub fn begin<S: Alter>(
 ) -> Result<SqlShelf<S>, (Connection<S>, OpenFault)>
     requires outside { conn.in_transaction ≡ false }
     ensures state { IfOk result
-        (λ shelf. (moment (view S.Store shelf.conn) shelf.refused).doubts ≡ 0
+        (λ shelf. (moment (view S.Store shelf.conn) shelf.refused).defects ≡ 0
         → (moment (view S.Store shelf.conn) shelf.refused).state
         ≡ created opening.code opening.today opening.next_serial) }
     ensures sound { IfOk result
-        (λ shelf. (moment (view S.Store shelf.conn) shelf.refused).doubts ≡ 0
+        (λ shelf. (moment (view S.Store shelf.conn) shelf.refused).defects ≡ 0
         → IsSound (moment (view S.Store shelf.conn) shelf.refused).state) }
     ensures rows_fit { IfOk result
-        (λ shelf. (moment (view S.Store shelf.conn) shelf.refused).doubts ≡ 0
+        (λ shelf. (moment (view S.Store shelf.conn) shelf.refused).defects ≡ 0
         → AreRowsOf (moment (view S.Store shelf.conn) shelf.refused).state.at
         (moment (view S.Store shelf.conn) shelf.refused).rows) }
     ensures ready { IfOk result
@@ -164,19 +164,19 @@ pub fn open_registry<D: Disk + Drop, T: Write>(
     requires db { IsTrue (D.Disk.is_usable files.db) }
     ensures state { IfOk result
         (λ shelf. (db : Trees) → HoldsDatabase (image_of D.Disk files) db
-        → (moment (file_state shelf.conn) shelf.refused).doubts ≡ 0
+        → (moment (file_state shelf.conn) shelf.refused).defects ≡ 0
         → (moment (file_state shelf.conn) shelf.refused).state ≡ state_held db) }
     ensures sound { IfOk result
-        (λ shelf. (moment (file_state shelf.conn) shelf.refused).doubts ≡ 0
+        (λ shelf. (moment (file_state shelf.conn) shelf.refused).defects ≡ 0
         → IsSound (moment (file_state shelf.conn) shelf.refused).state) }
     ensures rows_fit { IfOk result
-        (λ shelf. (moment (file_state shelf.conn) shelf.refused).doubts ≡ 0
+        (λ shelf. (moment (file_state shelf.conn) shelf.refused).defects ≡ 0
         → AreRowsOf (moment (file_state shelf.conn) shelf.refused).state.at
         (moment (file_state shelf.conn) shelf.refused).rows) }
     ensures ready { IfOk result (λ shelf. IsReady (moment (file_state shelf.conn) shelf.refused)) }
     ensures again { IfOk result
         (λ shelf. (db : Trees) → HoldsDatabase (image_of D.Disk files) db → (s t : State)
-        → OpensAsEither db s t → (moment (file_state shelf.conn) shelf.refused).doubts ≡ 0
+        → OpensAsEither db s t → (moment (file_state shelf.conn) shelf.refused).defects ≡ 0
         → ((moment (file_state shelf.conn) shelf.refused).state ≡ s)
         ⊎ ((moment (file_state shelf.conn) shelf.refused).state ≡ t)) }
     ensures never_foreign { IfErr result
@@ -185,7 +185,7 @@ pub fn open_registry<D: Disk + Drop, T: Write>(
     ensures unharmed { IfErr result (λ e. IsCleanLeft e.1 → LeavesRegistry files e.1) }
 {
     match open_database(alloc, files, file_options(seed)) {
-        Ok(conn) => match SqlShelf::open_telling(alloc, conn, line) {
+        Ok(conn) => match SqlShelf::open_observed(alloc, conn, line) {
             Ok(shelf) => Ok(shelf),
             Err((conn, fault)) => Err((failure_of(fault), Leftover::Store(conn.into_store()))),
         },

@@ -1,6 +1,6 @@
 //! What is told of a registry of version 1 before it becomes one of version 2.
 
-use goo_store::renewal::Renewal;
+use goo_store::renewal::RenewalObserver;
 use sqlite::{Alter, Connection};
 use std::io::Write;
 
@@ -20,7 +20,7 @@ impl<'a, T: Write> RenewalLine<'a, T> {
     }
 }
 
-impl<'a, T: Write> Renewal for RenewalLine<'a, T> {
+impl<'a, T: Write> RenewalObserver for RenewalLine<'a, T> {
     fn begins<S: Alter>(&mut self, _conn: &Connection<S>) {
         for part in ["goo: ", self.path, ": version 1 becomes version 2\n"] {
             if self.errors.write_all(part.as_bytes()).is_err() {

@@ -43,35 +43,36 @@ pub fn answer_by<S: Shelf, R: Read, W: Write + Drop>(
     reader: &mut R,
     writer: &mut BufWriter<W>,
 ) -> (Ending, S)
-    ensures all_done { (S.seen result.1).lies ≡ 0 → status_of result.0 ≡ 0
+    ensures all_done { (S.seen result.1).corruptions ≡ 0 → status_of result.0 ≡ 0
         → IfSome (R.remaining reader.old)
         (λ input. (lines (S.seen registry.shelf).state input).bad ≡ 0) }
-    ensures not_all_done { (S.seen result.1).lies ≡ 0 → status_of result.0 ≡ 1
+    ensures not_all_done { (S.seen result.1).corruptions ≡ 0 → status_of result.0 ≡ 1
         → IfSome (R.remaining reader.old)
         (λ input. (lines (S.seen registry.shelf).state input).bad ≢ 0) }
-    ensures written { (S.seen result.1).lies ≡ 0 → status_of result.0 < 2
+    ensures written { (S.seen result.1).corruptions ≡ 0 → status_of result.0 < 2
         → IfSome (R.remaining reader.old)
         (λ input. Appends (writer_contents W.contents writer.old)
         (writer_contents W.contents writer.new) (lines (S.seen registry.shelf).state input).text) }
-    ensures kept { (S.seen result.1).lies ≡ 0 → status_of result.0 < 2
+    ensures kept { (S.seen result.1).corruptions ≡ 0 → status_of result.0 < 2
         → IfSome (R.remaining reader.old)
         (λ input. (S.seen result.1).state ≡ (lines (S.seen registry.shelf).state input).state) }
-    ensures stopped { (S.seen result.1).lies ≡ 0
+    ensures stopped { (S.seen result.1).corruptions ≡ 0
         → IfSome (R.remaining reader.old)
         (λ input. IsStopped result.0 input (S.seen registry.shelf).state (S.seen result.1).state
-        (S.seen result.1).doubts (writer_contents W.contents writer.old)
+        (S.seen result.1).defects (writer_contents W.contents writer.old)
         (writer_contents W.contents writer.new)) }
     ensures flushed { status_of result.0 < 2 → writer_buffer writer.new ≡ [] }
     ensures no_words { status_of result.0 ≢ 2 }
     ensures told { (S.seen registry.shelf).refusals ≡ 0
         → IsToldOf result.0 (S.seen result.1).refusals }
-    ensures promised { IsSound (S.seen registry.shelf).state → (S.seen result.1).lies ≡ 0
+    ensures promised { IsSound (S.seen registry.shelf).state → (S.seen result.1).corruptions ≡ 0
         → IfSome (R.remaining reader.old)
         (λ input. KeepsPromise result.0 input (S.seen registry.shelf).state
         (writer_contents W.contents writer.old) (writer_contents W.contents writer.new)
-        (λ t. (S.seen result.1).doubts ≡ 0 → (S.seen result.1).state ≡ t)) }
-    ensures lied { (S.seen result.1).lies ≡ 0 → (S.seen registry.shelf).lies ≡ 0 }
-    ensures found { (S.seen result.1).lies ≡ 0 → (S.seen registry.shelf).doubts ≡ 0
+        (λ t. (S.seen result.1).defects ≡ 0 → (S.seen result.1).state ≡ t)) }
+    ensures corruptions_stay { (S.seen result.1).corruptions ≡ 0
+        → (S.seen registry.shelf).corruptions ≡ 0 }
+    ensures found { (S.seen result.1).corruptions ≡ 0 → (S.seen registry.shelf).defects ≡ 0
         → IfSome (R.remaining reader.old) (λ input.
         FindsAnswered input (S.seen registry.shelf).state (seen_of (S.seen result.1))
         (writer_contents W.contents writer.old) (writer_contents W.contents writer.new)

@@ -39,7 +39,7 @@ module _ (told : Ending) (caller : List ℕ) (same : caller ≡ issuer) where
   of_none input old new sound is = ([], inl refl, promised old.state new.state [] (rows_obey issuer []) sound (ap (λ (m : Seen). m.state) is))
 
   by_cause : (cause : Cause) (input : List ℕ) (old new : Seen) (lines : List RowResult) → IsSound old.state → (IsBeforeRows cause → new ≡ old) → (IsBetweenRows cause → StandsInPart caller input old.state new lines)
-      → new.doubts ≡ 0 → (rows : List (List (List ℕ))) × AreFirstRows input rows × IsPromised old.state (requests_of issuer rows) new.state
+      → new.defects ≡ 0 → (rows : List (List (List ℕ))) × AreFirstRows input rows × IsPromised old.state (requests_of issuer rows) new.state
   by_cause Header input old new lines sound before part sure = of_none input old new sound (before tt)
   by_cause Read input old new lines sound before part sure = of_none input old new sound (before tt)
   by_cause Store input old new lines sound before part sure = let stands = part tt in (stands.rows, stands.are_first, as_issuer old.state new.state stands.rows (of_rows old.state new.state caller stands.rows sound (stands.state sure)))
@@ -57,7 +57,7 @@ stopped (ending.Failed why) input old new cause lines had has sent it = (it.0, i
 
 -- an import that did
 pub part_promised : (told : Ending) (caller : List ℕ) → caller ≡ issuer → (known : Option (List ℕ)) (old new : Seen) (cause : Cause) (lines : List RowResult) (had has : Option (List ℕ)) → Finishes (Some cause) lines had has told
-    → IsSound old.state → (IsBeforeRows cause → new ≡ old) → IfSome known (λ input. IsBetweenRows cause → StandsInPart caller input old.state new lines) → new.doubts ≡ 0 → IfSome known (λ input. KeepsPromise told input old.state new.state)
+    → IsSound old.state → (IsBeforeRows cause → new ≡ old) → IfSome known (λ input. IsBetweenRows cause → StandsInPart caller input old.state new lines) → new.defects ≡ 0 → IfSome known (λ input. KeepsPromise told input old.state new.state)
 part_promised told caller same None old new cause lines had has sent sound before part sure = tt
 part_promised told caller same (Some input) old new cause lines had has sent sound before part sure =
     stopped told input old.state new.state cause lines had has sent (by_cause told caller same cause input old new lines sound before part sure)

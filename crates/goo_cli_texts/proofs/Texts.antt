@@ -34,7 +34,7 @@ keeps_on (Some xs) (Some ys) None a b = absurd b
 keeps_on (Some xs) (Some ys) (Some zs) a b = b ∙ a
 
 module _ (old new : Moment) (before mid after : Option (List ℕ)) (denial : Option Denial) (right : List ℕ → Type 0) where
-  pub shown : (result : Result (Unit {0}) ShowFault) (out : Bool) → Writes old new before mid result denial (λ u given. right given) → Keeps mid after → new.lies ≡ 0 → status_of (ending_of_text result out) ≡ 0 → Wrote before after right
+  pub shown : (result : Result (Unit {0}) ShowFault) (out : Bool) → Writes old new before mid result denial (λ u given. right given) → Keeps mid after → new.corruptions ≡ 0 → status_of (ending_of_text result out) ≡ 0 → Wrote before after right
   shown (Ok done) true writes keeps clean status =
       let text = writes.whole (writes.looks.works clean) in
       (text.0, text.1, kept before mid after text.0 text.2 keeps)
@@ -45,7 +45,7 @@ module _ (old new : Moment) (before mid after : Option (List ℕ)) (denial : Opt
   shown (Err text.Store) out writes keeps clean status = absurd (omega (arith, status))
   shown (Err text.Memory) out writes keeps clean status = absurd (omega (arith, status))
 
-  pub silent : (result : Result (Unit {0}) ShowFault) (out : Bool) → Writes old new before mid result denial (λ u given. right given) → Keeps mid after → new.lies ≡ 0 → status_of (ending_of_text result out) ≡ 1 → Keeps before after
+  pub silent : (result : Result (Unit {0}) ShowFault) (out : Bool) → Writes old new before mid result denial (λ u given. right given) → Keeps mid after → new.corruptions ≡ 0 → status_of (ending_of_text result out) ≡ 1 → Keeps before after
   silent (Ok done) true writes keeps clean status = absurd (omega (arith, status))
   silent (Ok done) false writes keeps clean status = absurd (omega (arith, status))
   silent (Err text.NotAllowed) out writes keeps clean status = keeps_on before mid after (writes.silent (writes.looks.works clean) tt) keeps
@@ -59,7 +59,7 @@ absent caller same None why e = refl
 absent caller same (Some account) why e = cc (rw same at e)
 
 module _ (old new : Moment) (before mid : Option (List ℕ)) (caller : List ℕ) (same : caller ≡ issuer) (row : Option Account) (right : List ℕ → Type 0) where
-  pub unknown : (result : Result (Unit {0}) ShowFault) (out : Bool) → Writes old new before mid result (account_denial caller row) (λ u given. right given) → new.lies ≡ 0 → status_of (ending_of_text result out) ≡ 1 → row ≡ None
+  pub unknown : (result : Result (Unit {0}) ShowFault) (out : Bool) → Writes old new before mid result (account_denial caller row) (λ u given. right given) → new.corruptions ≡ 0 → status_of (ending_of_text result out) ≡ 1 → row ≡ None
   unknown (Ok done) true writes clean status = absurd (omega (arith, status))
   unknown (Ok done) false writes clean status = absurd (omega (arith, status))
   unknown (Err text.NotAllowed) out writes clean status = absent caller same row _ (writes.denied (writes.looks.works clean))

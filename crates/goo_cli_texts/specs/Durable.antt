@@ -16,5 +16,5 @@ pub record FindsDeclared (input : List ℕ) (old : State) (new : Seen) (had has 
   pub upto : List (List (List ℕ))
   pub are : AreUpTo input rows upto
   pub begun : AppendsPrefix had has (report_text (importing old issuer rows).lines)
-  pub state : new.doubts ≡ 0 → new.state ≡ (importing old issuer rows).state
+  pub state : new.defects ≡ 0 → new.state ≡ (importing old issuer rows).state
   pub found : FindsEither leaves (importing old issuer rows).state (importing old issuer upto).state

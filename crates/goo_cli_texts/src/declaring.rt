@@ -95,7 +95,8 @@ fn finish<W: Write + Drop>(
 ///   one of the input, and where the header is missing, nothing has changed and nothing is written.
 /// - `promised`: what a registry promises after any list of requests holds of the requests of the
 ///   rows that were applied, after a fault of the first ones.
-/// - `lied`: what keeps the records returned what was written before, where it did so to the end.
+/// - `corruptions_stay`: what keeps the records returned what was written before, where it did so to
+///   the end.
 /// - `found`: however it ends, the rows whose report is written, whole or in part, are first rows,
 ///   and a crash finds them imported, and at most one row more.
 pub fn declare<S: Shelf, R: Read, W: Write + Drop, T: Write>(
@@ -105,24 +106,26 @@ pub fn declare<S: Shelf, R: Read, W: Write + Drop, T: Write>(
     writer: &mut BufWriter<W>,
     line: &mut ProgressLine<T>,
 ) -> Ending
-    ensures done { (S.seen registry.new.shelf).lies ≡ 0
+    ensures done { (S.seen registry.new.shelf).corruptions ≡ 0
         → IfSome (R.remaining reader.old)
         (λ input. IsDeclared input (S.seen registry.old.shelf).state
         (S.seen registry.new.shelf).state (writer_contents W.contents writer.old)
         (writer_contents W.contents writer.new) result) }
-    ensures stopped { (S.seen registry.new.shelf).lies ≡ 0
+    ensures stopped { (S.seen registry.new.shelf).corruptions ≡ 0
         → IfSome (R.remaining reader.old)
         (λ input. IsStopped result input (seen_of (S.seen registry.old.shelf))
         (seen_of (S.seen registry.new.shelf)) (writer_contents W.contents writer.old)
         (writer_contents W.contents writer.new)) }
     ensures promised { IsSound (S.seen registry.old.shelf).state
-        → (S.seen registry.new.shelf).lies ≡ 0 → (S.seen registry.new.shelf).doubts ≡ 0
+        → (S.seen registry.new.shelf).corruptions ≡ 0 → (S.seen registry.new.shelf).defects ≡ 0
         → IfSome (R.remaining reader.old)
         (λ input. KeepsPromise result input (S.seen registry.old.shelf).state
         (S.seen registry.new.shelf).state) }
-    ensures lied { (S.seen registry.new.shelf).lies ≡ 0 → (S.seen registry.old.shelf).lies ≡ 0 }
+    ensures corruptions_stay { (S.seen registry.new.shelf).corruptions ≡ 0
+        → (S.seen registry.old.shelf).corruptions ≡ 0 }
     ensures flushed { status_of result ≡ 0 → writer_buffer writer.new ≡ [] }
-    ensures found { (S.seen registry.new.shelf).lies ≡ 0 → (S.seen registry.old.shelf).doubts ≡ 0
+    ensures found { (S.seen registry.new.shelf).corruptions ≡ 0
+        → (S.seen registry.old.shelf).defects ≡ 0
         → IfSome (R.remaining reader.old) (λ input.
         FindsDeclared input (S.seen registry.old.shelf).state
         (seen_of (S.seen registry.new.shelf))

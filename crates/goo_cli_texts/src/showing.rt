@@ -39,25 +39,28 @@ fn ending_of(written: Result<(), ShowFault>, flushed: bool) -> Ending
 /// - `unknown`: status 1 only where there is no such account, and nothing is written then.
 /// - `rests`: the registry stays as it is.
 /// - `safe`: a crash that follows finds it as it was, and finds nothing else, whatever the status.
-/// - `lied`: what keeps the records returned what was written before, where it did so to the end.
+/// - `corruptions_stay`: what keeps the records returned what was written before, where it did so to
+///   the end.
 pub fn show_statement<S: Shelf, W: Write + Drop>(
     registry: &mut Registry<S>,
     account: AccountNo,
     writer: &mut BufWriter<W>,
 ) -> Ending
-    ensures shown { (S.seen registry.new.shelf).lies ≡ 0 → status_of result ≡ 0
+    ensures shown { (S.seen registry.new.shelf).corruptions ≡ 0 → status_of result ≡ 0
         → Wrote (writer_contents W.contents writer.old) (writer_contents W.contents writer.new)
         (IsStatement (S.seen registry.old.shelf).state account) }
-    ensures unknown { (S.seen registry.new.shelf).lies ≡ 0 → status_of result ≡ 1
+    ensures unknown { (S.seen registry.new.shelf).corruptions ≡ 0 → status_of result ≡ 1
         → get (S.seen registry.old.shelf).state.accounts account ≡ None }
-    ensures silent { (S.seen registry.new.shelf).lies ≡ 0 → status_of result ≡ 1
+    ensures silent { (S.seen registry.new.shelf).corruptions ≡ 0 → status_of result ≡ 1
         → Keeps (writer_contents W.contents writer.old) (writer_contents W.contents writer.new) }
     ensures flushed { status_of result ≡ 0 → writer_buffer writer.new ≡ [] }
-    ensures rests { (S.seen registry.new.shelf).doubts ≡ 0
+    ensures rests { (S.seen registry.new.shelf).defects ≡ 0
         → (S.seen registry.new.shelf).state ≡ (S.seen registry.old.shelf).state }
-    ensures safe { (S.seen registry.new.shelf).lies ≡ 0 → (S.seen registry.old.shelf).doubts ≡ 0
+    ensures safe { (S.seen registry.new.shelf).corruptions ≡ 0
+        → (S.seen registry.old.shelf).defects ≡ 0
         → IsSafe (S.seen registry.new.shelf) (S.seen registry.old.shelf).state }
-    ensures lied { (S.seen registry.new.shelf).lies ≡ 0 → (S.seen registry.old.shelf).lies ≡ 0 }
+    ensures corruptions_stay { (S.seen registry.new.shelf).corruptions ≡ 0
+        → (S.seen registry.old.shelf).corruptions ≡ 0 }
 {
     let written = write_statement(registry, &issuer(), account, writer);
     let flushed = writer.flush().is_ok();
@@ -71,23 +74,26 @@ pub fn show_statement<S: Shelf, W: Write + Drop>(
 /// - `silent`: with status 1 nothing is written.
 /// - `rests`: the registry stays as it is.
 /// - `safe`: a crash that follows finds it as it was, and finds nothing else, whatever the status.
-/// - `lied`: what keeps the records returned what was written before, where it did so to the end.
+/// - `corruptions_stay`: what keeps the records returned what was written before, where it did so to
+///   the end.
 pub fn show_audit<S: Shelf, W: Write + Drop>(
     alloc: Global,
     registry: &mut Registry<S>,
     writer: &mut BufWriter<W>,
 ) -> Ending
-    ensures shown { (S.seen registry.new.shelf).lies ≡ 0 → status_of result ≡ 0
+    ensures shown { (S.seen registry.new.shelf).corruptions ≡ 0 → status_of result ≡ 0
         → Wrote (writer_contents W.contents writer.old) (writer_contents W.contents writer.new)
         (IsAuditText (S.seen registry.old.shelf).state) }
-    ensures silent { (S.seen registry.new.shelf).lies ≡ 0 → status_of result ≡ 1
+    ensures silent { (S.seen registry.new.shelf).corruptions ≡ 0 → status_of result ≡ 1
         → Keeps (writer_contents W.contents writer.old) (writer_contents W.contents writer.new) }
     ensures flushed { status_of result ≡ 0 → writer_buffer writer.new ≡ [] }
-    ensures rests { (S.seen registry.new.shelf).doubts ≡ 0
+    ensures rests { (S.seen registry.new.shelf).defects ≡ 0
         → (S.seen registry.new.shelf).state ≡ (S.seen registry.old.shelf).state }
-    ensures safe { (S.seen registry.new.shelf).lies ≡ 0 → (S.seen registry.old.shelf).doubts ≡ 0
+    ensures safe { (S.seen registry.new.shelf).corruptions ≡ 0
+        → (S.seen registry.old.shelf).defects ≡ 0
         → IsSafe (S.seen registry.new.shelf) (S.seen registry.old.shelf).state }
-    ensures lied { (S.seen registry.new.shelf).lies ≡ 0 → (S.seen registry.old.shelf).lies ≡ 0 }
+    ensures corruptions_stay { (S.seen registry.new.shelf).corruptions ≡ 0
+        → (S.seen registry.old.shelf).corruptions ≡ 0 }
 {
     let written = write_audit(alloc, registry, &issuer(), writer);
     let flushed = writer.flush().is_ok();

@@ -78,7 +78,7 @@ fn enter<S: Shelf>(
     correct: &Correct,
 ) -> Result<Result<u64, Refusal>, Fault>
     requires ready { IsReady (S.seen shelf.old) }
-    requires sound { (S.seen shelf.old).doubts ≡ 0 → IsSound (S.seen shelf.old).state }
+    requires sound { (S.seen shelf.old).defects ≡ 0 → IsSound (S.seen shelf.old).state }
     ensures { Looks (S.seen shelf.old) (S.seen shelf.new) result
         (IsEntry (S.seen shelf.old).state caller.now correct.now) }
 {
@@ -186,8 +186,8 @@ pub fn judge_correct<S: Shelf>(
     correct: &Correct,
 ) -> Result<Ruling, Fault>
     requires ready { IsReady (S.seen shelf.old) }
-    requires sound { (S.seen shelf.old).doubts ≡ 0 → IsSound (S.seen shelf.old).state }
-    requires rows { (S.seen shelf.old).doubts ≡ 0
+    requires sound { (S.seen shelf.old).defects ≡ 0 → IsSound (S.seen shelf.old).state }
+    requires rows { (S.seen shelf.old).defects ≡ 0
         → AreRowsOf (S.seen shelf.old).state.at (S.seen shelf.old).rows }
     ensures { Looks (S.seen shelf.old) (S.seen shelf.new) result
         (IsRuling

@@ -53,8 +53,8 @@ fn judge<S: Shelf>(
     command: &Command,
 ) -> Result<Ruling, Fault>
     requires ready { IsReady (S.seen shelf.old) }
-    requires sound { (S.seen shelf.old).doubts ≡ 0 → IsSound (S.seen shelf.old).state }
-    requires rows { (S.seen shelf.old).doubts ≡ 0
+    requires sound { (S.seen shelf.old).defects ≡ 0 → IsSound (S.seen shelf.old).state }
+    requires rows { (S.seen shelf.old).defects ≡ 0
         → AreRowsOf (S.seen shelf.old).state.at (S.seen shelf.old).rows }
     ensures { Looks (S.seen shelf.old) (S.seen shelf.new) result
         (IsRuling (meaning_of (S.seen shelf.old).state caller.now command.now)
@@ -90,10 +90,10 @@ fn decide_fresh<S: Shelf>(
     request: &Request,
 ) -> Result<Decision, Fault>
     requires ready { IsReady (S.seen shelf.old) }
-    requires sound { (S.seen shelf.old).doubts ≡ 0 → IsSound (S.seen shelf.old).state }
-    requires rows { (S.seen shelf.old).doubts ≡ 0
+    requires sound { (S.seen shelf.old).defects ≡ 0 → IsSound (S.seen shelf.old).state }
+    requires rows { (S.seen shelf.old).defects ≡ 0
         → AreRowsOf (S.seen shelf.old).state.at (S.seen shelf.old).rows }
-    requires fresh { (S.seen shelf.old).doubts ≡ 0
+    requires fresh { (S.seen shelf.old).defects ≡ 0
         → get (S.seen shelf.old).state.receipts (request.now.caller, request.now.key) ≡ None }
     ensures { Looks (S.seen shelf.old) (S.seen shelf.new) result
         (IsDecision (S.seen shelf.old).state (S.seen shelf.old).rows request.now) }
@@ -128,8 +128,8 @@ fn decide_fresh<S: Shelf>(
 /// }
 /// ```
 pub fn decide<S: Shelf>(alloc: Global, shelf: &mut S, request: &Request) -> Result<Decision, Fault>
-    requires sound { (S.seen shelf.old).doubts ≡ 0 → IsSound (S.seen shelf.old).state }
-    requires rows { (S.seen shelf.old).doubts ≡ 0
+    requires sound { (S.seen shelf.old).defects ≡ 0 → IsSound (S.seen shelf.old).state }
+    requires rows { (S.seen shelf.old).defects ≡ 0
         → AreRowsOf (S.seen shelf.old).state.at (S.seen shelf.old).rows }
     ensures { Looks (S.seen shelf.old) (S.seen shelf.new) result
         (IsDecision (S.seen shelf.old).state (S.seen shelf.old).rows request.now) }

@@ -217,7 +217,7 @@ pub fn appraise<S: Shelf>(
     declaration: &Declare,
 ) -> Result<Appraisal, Fault>
     requires ready { IsReady (S.seen shelf.old) }
-    requires sound { (S.seen shelf.old).doubts ≡ 0 → IsSound (S.seen shelf.old).state }
+    requires sound { (S.seen shelf.old).defects ≡ 0 → IsSound (S.seen shelf.old).state }
     ensures { Looks (S.seen shelf.old) (S.seen shelf.new) result
         (λ appraisal. appraisal
         ≡ appraisal_of (S.seen shelf.old).state caller.now declaration.now) }
@@ -244,8 +244,8 @@ pub fn judge_declare<S: Shelf>(
     declaration: &Declare,
 ) -> Result<Ruling, Fault>
     requires ready { IsReady (S.seen shelf.old) }
-    requires sound { (S.seen shelf.old).doubts ≡ 0 → IsSound (S.seen shelf.old).state }
-    requires rows { (S.seen shelf.old).doubts ≡ 0
+    requires sound { (S.seen shelf.old).defects ≡ 0 → IsSound (S.seen shelf.old).state }
+    requires rows { (S.seen shelf.old).defects ≡ 0
         → AreRowsOf (S.seen shelf.old).state.at (S.seen shelf.old).rows }
     ensures { Looks (S.seen shelf.old) (S.seen shelf.new) result
         (IsRuling

@@ -171,7 +171,7 @@ pub fn judge_withdraw<S: Shelf>(
     withdraw: &Withdraw,
 ) -> Result<Ruling, Fault>
     requires ready { IsReady (S.seen shelf.old) }
-    requires rows { (S.seen shelf.old).doubts ≡ 0
+    requires rows { (S.seen shelf.old).defects ≡ 0
         → AreRowsOf (S.seen shelf.old).state.at (S.seen shelf.old).rows }
     ensures { Looks (S.seen shelf.old) (S.seen shelf.new) result
         (IsRuling

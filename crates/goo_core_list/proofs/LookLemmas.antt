@@ -14,8 +14,8 @@ looks s (Ok x) right found memory = record {
   found = λ _. found;
   same = λ _. refl;
   rows_same = λ _. refl;
-  doubted = λ _. refl;
-  lied = λ _. refl;
+  defects_stay = λ _. refl;
+  corruptions_stay = λ _. refl;
   kept = omega arith;
   told = refl;
   works = λ _. refl;
@@ -26,8 +26,8 @@ looks {T = T} s (Err fault) right found memory = record {
   found = λ _. tt;
   same = λ _. refl;
   rows_same = λ _. refl;
-  doubted = λ _. refl;
-  lied = λ _. refl;
+  defects_stay = λ _. refl;
+  corruptions_stay = λ _. refl;
   kept = omega arith;
   told = subst (λ f. IsTold {T = T} (Err f) 0) (sym memory) refl;
   works = tt;

@@ -167,5 +167,5 @@ impl Shelf for ListShelf {
 
     ghost settled = { safe_in };
 
-    ghost unlied = { λ s none. none };
+    ghost uncorrupted = { λ s none. none };
 }

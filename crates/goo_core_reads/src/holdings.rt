@@ -40,7 +40,7 @@ pub fn runs_naming<S: Shelf>(
     shelf: &mut S,
     account: AccountNo,
 ) -> Result<Vec<Piece>, Fault>
-    requires { (S.seen shelf.old).doubts ≡ 0
+    requires { (S.seen shelf.old).defects ≡ 0
         → AreRowsOf (S.seen shelf.old).state.at (S.seen shelf.old).rows }
     ensures { Looks (S.seen shelf.old) (S.seen shelf.new) result
         (λ runs. AreRunsOf

@@ -59,9 +59,9 @@ fn reach<S: Shelf>(
     row: &Piece,
     after: &Option<Number>,
 ) -> Result<(Piece, RunPlace), Fault>
-    requires rows { (S.seen shelf.old).doubts ≡ 0
+    requires rows { (S.seen shelf.old).defects ≡ 0
         → AreRowsOf (S.seen shelf.old).state.at (S.seen shelf.old).rows }
-    requires sound { (S.seen shelf.old).doubts ≡ 0 → IsSound (S.seen shelf.old).state }
+    requires sound { (S.seen shelf.old).defects ≡ 0 → IsSound (S.seen shelf.old).state }
     requires ahead { EndsFrom (from_of after.now) row.now }
     ensures looks { Looks (S.seen shelf.old) (S.seen shelf.new) result
         (λ found.
@@ -91,9 +91,9 @@ fn read_from<S: Shelf>(
     row: &Piece,
     place: &mut RunPlace,
 ) -> Result<Option<Piece>, Fault>
-    requires rows { (S.seen shelf.old).doubts ≡ 0
+    requires rows { (S.seen shelf.old).defects ≡ 0
         → AreRowsOf (S.seen shelf.old).state.at (S.seen shelf.old).rows }
-    requires sound { (S.seen shelf.old).doubts ≡ 0 → IsSound (S.seen shelf.old).state }
+    requires sound { (S.seen shelf.old).defects ≡ 0 → IsSound (S.seen shelf.old).state }
     requires ahead { EndsFrom (from_of place.old.after) row.now }
     ensures looks { Looks (S.seen shelf.old) (S.seen shelf.new) result
         (λ found. Some row.now ≡ next_row account place.old.after (S.seen shelf.old).rows
@@ -102,7 +102,7 @@ fn read_from<S: Shelf>(
     ensures begins { IfOk result (λ found. IfSome found (BeginsFrom (from_of place.old.after))) }
     ensures place { IfOk result (λ found. IsPlaceAfter place.old found place.new) }
     ensures stays { OnErr result (place.new ≡ place.old) }
-    ensures ahead { (S.seen shelf.new).doubts ≡ 0
+    ensures ahead { (S.seen shelf.new).defects ≡ 0
         → IfOk result
         (λ found. IfSome found
         (λ run. IsSeen account (Some run.last) (S.seen shelf.old).rows place.new.ahead)) }
@@ -125,9 +125,9 @@ pub fn next_run_naming<S: Shelf>(
     account: AccountNo,
     place: &mut RunPlace,
 ) -> Result<Option<Piece>, Fault>
-    requires rows { (S.seen shelf.old).doubts ≡ 0
+    requires rows { (S.seen shelf.old).defects ≡ 0
         → AreRowsOf (S.seen shelf.old).state.at (S.seen shelf.old).rows }
-    requires sound { (S.seen shelf.old).doubts ≡ 0 → IsSound (S.seen shelf.old).state }
+    requires sound { (S.seen shelf.old).defects ≡ 0 → IsSound (S.seen shelf.old).state }
     ensures looks { Looks (S.seen shelf.old) (S.seen shelf.new) result
         (λ found. IsSeen account place.old.after (S.seen shelf.old).rows place.old.ahead
         → IsNextRun (kept_where (names account) (get (S.seen shelf.old).state.at))
@@ -135,7 +135,7 @@ pub fn next_run_naming<S: Shelf>(
     ensures begins { IfOk result (λ found. IfSome found (BeginsFrom (from_of place.old.after))) }
     ensures place { IfOk result (λ found. IsPlaceAfter place.old found place.new) }
     ensures stays { OnErr result (place.new ≡ place.old) }
-    ensures ahead { (S.seen shelf.new).doubts ≡ 0
+    ensures ahead { (S.seen shelf.new).defects ≡ 0
         → IfOk result
         (λ found. IfSome found
         (λ run. IsSeen account (Some run.last) (S.seen shelf.old).rows place.new.ahead)) }

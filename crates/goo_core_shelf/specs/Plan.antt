@@ -49,16 +49,16 @@ pub record Fits (s : State) (rows : List Piece) (plan : Plan) : Type 0 where
 abbrev pub IsEither : Moment → State → State → Type 0
 IsEither m s t = (o : Option State) → m.leaves o → (o ≡ Some s) ⊎ (o ≡ Some t)
 
--- the whole change or none, a fault is told, only a failed call brings a doubt, and a crash finds the state before it or after it
+-- the whole change or none, a fault is told, only a failed call brings a defect, and a crash finds the state before it or after it
 pub record Commits (old new : Moment) (result : Result (Unit {0}) Fault) (plan : Plan) : Type 0 where
-  pub done : new.doubts ≡ 0 → OnOk result (new.state ≡ accept old.state plan.request)
-  pub rows_done : new.doubts ≡ 0 → OnOk result (new.rows ≡ edited_all plan.edits.items old.rows)
-  pub undone : new.doubts ≡ 0 → OnErr result (new.state ≡ old.state)
-  pub rows_undone : new.doubts ≡ 0 → OnErr result (new.rows ≡ old.rows)
-  pub doubted : new.doubts ≡ 0 → old.doubts ≡ 0
-  pub lied : new.lies ≡ 0 → old.lies ≡ 0
+  pub done : new.defects ≡ 0 → OnOk result (new.state ≡ accept old.state plan.request)
+  pub rows_done : new.defects ≡ 0 → OnOk result (new.rows ≡ edited_all plan.edits.items old.rows)
+  pub undone : new.defects ≡ 0 → OnErr result (new.state ≡ old.state)
+  pub rows_undone : new.defects ≡ 0 → OnErr result (new.rows ≡ old.rows)
+  pub defects_stay : new.defects ≡ 0 → old.defects ≡ 0
+  pub corruptions_stay : new.corruptions ≡ 0 → old.corruptions ≡ 0
   pub kept : old.refusals ≤ new.refusals
   pub told : IsTold result new.refusals
-  pub works : OnOk result (new.lies ≡ 0 → new.doubts ≡ 0)
-  pub stays : new.lies ≡ 0 → old.doubts ≡ 0 → StaysSure old new
-  pub crash : new.lies ≡ 0 → old.doubts ≡ 0 → IsEither new old.state (accept old.state plan.request)
+  pub works : OnOk result (new.corruptions ≡ 0 → new.defects ≡ 0)
+  pub stays : new.corruptions ≡ 0 → old.defects ≡ 0 → StaysSure old new
+  pub crash : new.corruptions ≡ 0 → old.defects ≡ 0 → IsEither new old.state (accept old.state plan.request)

@@ -31,9 +31,9 @@ pub record Moment : Type 1 where
   -- how often a call was refused by what lies below: once at most
   pub refusals : ℕ
   -- 0 while what lies below has returned what was written, and nobody else wrote there
-  pub lies : ℕ
+  pub corruptions : ℕ
   -- 0 while, besides, it works
-  pub doubts : ℕ
+  pub defects : ℕ
   -- how many calls have failed, as what lies below counts them, to 2 ^ 64 - 1 at most
   pub failures : ℕ
   -- a crash at this moment may leave what opens with that state, or with none
@@ -53,29 +53,29 @@ IsSafe m s = (o : Option State) → m.leaves o → o ≡ Some s
 abbrev pub HasFailed : Moment → Moment → Type 0
 HasFailed old new = min (old.failures + 1) (2 ^ 64 - 1) ≤ new.failures
 
--- unless a call has failed in between, nothing is in doubt; no failure is forgotten
+-- unless a call has failed in between, there is no defect; no failure is forgotten
 pub record StaysSure (old new : Moment) : Type 0 where
   pub counts : old.failures ≤ new.failures
-  pub sure : ¬ HasFailed old new → new.doubts ≡ 0
+  pub sure : ¬ HasFailed old new → new.defects ≡ 0
 
--- the last call was answered: no call was refused yet, without a lie there is no doubt, and without a doubt a crash finds the state
+-- the last call was answered: no call was refused yet, without a corruption there is no defect, and without a defect a crash finds the state
 pub record IsReady (m : Moment) : Type 0 where
   pub told : m.refusals ≡ 0
-  pub works : m.lies ≡ 0 → m.doubts ≡ 0
-  pub settled : m.doubts ≡ 0 → IsSafe m m.state
+  pub works : m.corruptions ≡ 0 → m.defects ≡ 0
+  pub settled : m.defects ≡ 0 → IsSafe m m.state
 
--- a look-up: what is found is right, the state and the rows stay, a fault is told, only a failed call brings a doubt, and a crash after it finds the state
+-- a look-up: what is found is right, the state and the rows stay, a fault is told, only a failed call brings a defect, and a crash after it finds the state
 pub record Looks {T : Type 0} (old new : Moment) (result : Result T Fault) (right : T → Type 0) : Type 0 where
-  pub found : new.doubts ≡ 0 → IfOk result right
-  pub same : new.doubts ≡ 0 → new.state ≡ old.state
-  pub rows_same : new.doubts ≡ 0 → new.rows ≡ old.rows
-  pub doubted : new.doubts ≡ 0 → old.doubts ≡ 0
-  pub lied : new.lies ≡ 0 → old.lies ≡ 0
+  pub found : new.defects ≡ 0 → IfOk result right
+  pub same : new.defects ≡ 0 → new.state ≡ old.state
+  pub rows_same : new.defects ≡ 0 → new.rows ≡ old.rows
+  pub defects_stay : new.defects ≡ 0 → old.defects ≡ 0
+  pub corruptions_stay : new.corruptions ≡ 0 → old.corruptions ≡ 0
   pub kept : old.refusals ≤ new.refusals
   pub told : IsTold result new.refusals
-  pub works : OnOk result (new.lies ≡ 0 → new.doubts ≡ 0)
-  pub stays : new.lies ≡ 0 → old.doubts ≡ 0 → StaysSure old new
-  pub crash : new.lies ≡ 0 → old.doubts ≡ 0 → IsSafe new old.state
+  pub works : OnOk result (new.corruptions ≡ 0 → new.defects ≡ 0)
+  pub stays : new.corruptions ≡ 0 → old.defects ≡ 0 → StaysSure old new
+  pub crash : new.corruptions ≡ 0 → old.defects ≡ 0 → IsSafe new old.state
 
 -- all is as it was: the state, the rows, and what a crash finds
 pub record IsSpared (old new : Moment) : Type 0 where
@@ -83,9 +83,9 @@ pub record IsSpared (old new : Moment) : Type 0 where
   pub rows : new.rows ≡ old.rows
   pub crash : IsSafe new old.state
 
--- where nothing lied, a fault that comes with no failed call leaves all as it was
+-- where nothing was corrupted, a fault that comes with no failed call leaves all as it was
 abbrev pub Spares : {T : Type 0} → Moment → Moment → Result T Fault → Type 0
-Spares old new result = new.lies ≡ 0 → old.doubts ≡ 0 → ¬ HasFailed old new → OnErr result (IsSpared old new)
+Spares old new result = new.corruptions ≡ 0 → old.defects ≡ 0 → ¬ HasFailed old new → OnErr result (IsSpared old new)
 
 abbrev pub progress_of : State → List ℕ → Progress
 progress_of s device = record { last_day = last_end None (declared_by device s.declarations); carry = carry s device }

@@ -24,11 +24,11 @@ pub trait Desk {
     /// after an outcome it finds the one after it (`settled`).
     fn apply(&mut self, alloc: Global, request: &Request) -> Result<Outcome, Fault>
         ensures applies { Applies (seen self.old) (seen self.new) request.now result }
-        ensures crash { (seen self.new).lies ≡ 0 → (seen self.old).doubts ≡ 0
+        ensures crash { (seen self.new).corruptions ≡ 0 → (seen self.old).defects ≡ 0
             → FindsEither (leaves self.new) (seen self.old).state
             (next (seen self.old).state request.now) };
 
-    /// While nothing is in doubt, a crash finds the state.
-    ghost settled: { (desk : Self) → (seen desk).doubts ≡ 0
+    /// While there is no defect, a crash finds the state.
+    ghost settled: { (desk : Self) → (seen desk).defects ≡ 0
         → FindsOnly (leaves desk) (seen desk).state };
 }

@@ -308,13 +308,13 @@ pub trait Shelf {
     /// `Store` where `refused_calls` is 1 as the call ends, `Memory` where memory was refused.
     /// Nothing of the change is done: state and rows stay.
     fn commit(&mut self, alloc: Global, plan: &Plan) -> Result<(), Fault>
-        requires { (seen self.old).doubts ≡ 0
+        requires { (seen self.old).defects ≡ 0
             → Fits (seen self.old).state (seen self.old).rows plan.now }
         ensures { Commits (seen self.old) (seen self.new) result plan.now };
 
-    /// While nothing is in doubt, a crash leaves the state and nothing else.
-    ghost settled: { (s : Self) → (seen s).doubts ≡ 0 → IsSafe (seen s) (seen s).state };
+    /// While there is no defect, a crash leaves the state and nothing else.
+    ghost settled: { (s : Self) → (seen s).defects ≡ 0 → IsSafe (seen s) (seen s).state };
 
-    /// Nothing has lied where nothing is in doubt.
-    ghost unlied: { (s : Self) → (seen s).doubts ≡ 0 → (seen s).lies ≡ 0 };
+    /// Nothing is corrupted where there is no defect.
+    ghost uncorrupted: { (s : Self) → (seen s).defects ≡ 0 → (seen s).corruptions ≡ 0 };
 }

@@ -31,4 +31,4 @@ TellsNothing parts why text = (text ≡ response_text false (fixed (status_of_de
 abbrev pub DeniedSeeNothing : Type 0
 DeniedSeeNothing =
     (s : State) (bytes : List ℕ) (parts : Parts) (why : Denial) (status : Status) (text : List ℕ) (new : Seen)
-    → IsDeniedTo s bytes parts why → IsServed shown_by imported_by begun_by s bytes status text new → new.lies ≡ 0 → TellsNothing parts why text
+    → IsDeniedTo s bytes parts why → IsServed shown_by imported_by begun_by s bytes status text new → new.corruptions ≡ 0 → TellsNothing parts why text

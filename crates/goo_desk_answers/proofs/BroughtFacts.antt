@@ -113,7 +113,7 @@ module _ (shows : Showing) (imports : Importing) (begins : Beginning) (runs : Im
   -- ---- the promise
 
   pub keeps_promise : (old new : Seen) (bytes : List ℕ) (r : Result Answer Fault) → IsSound old.state → IfOk r (λ answer. Responds shows imports old.state bytes answer.status answer.bytes.items new.state)
-      → (new.doubts ≡ 0 → OnErr r (Fails imports begins old.state bytes new.state)) → KeepsPromise bytes old.state new r
+      → (new.defects ≡ 0 → OnErr r (Fails imports begins old.state bytes new.state)) → KeepsPromise bytes old.state new r
   keeps_promise old new bytes (Ok answer) sound is fails =
       let (qs, are, obey, final_is) = responds_lead old.state new.state bytes answer.status answer.bytes.items is in
       (qs, are, promised old.state new.state qs obey sound final_is)

@@ -59,7 +59,7 @@ AreFirstBrought bytes qs = (qs ≡ []) ⊎ ((d : Result Parts RefusedHead) × De
 -- what is promised of the requests that bytes bring, and after a fault of those that stand
 abbrev pub KeepsPromise : {T : Type 0} → List ℕ → State → Seen → Result T Fault → Type 0
 KeepsPromise bytes old new (Ok answer) = (qs : List Request) × AreBrought bytes qs × IsPromised old qs new.state
-KeepsPromise bytes old new (Err fault) = new.doubts ≡ 0 → (qs : List Request) × AreFirstBrought bytes qs × IsPromised old qs new.state
+KeepsPromise bytes old new (Err fault) = new.defects ≡ 0 → (qs : List Request) × AreFirstBrought bytes qs × IsPromised old qs new.state
 
 -- the requests of its bytes that a connection leaves applied, whatever its client does: all, or those that stand after a fault
 abbrev pub AreLeft : List ℕ → List Request → Type 0

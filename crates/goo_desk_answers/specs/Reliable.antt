@@ -5,13 +5,13 @@ use Rattle.goo_core_shelf.specs.Shelf.{IsTold}
 use Rattle.goo_core_shelf.specs.Desk.{Seen, StaysSure}
 
 pub record StaysReliable {T : Type 0} (old new : Seen) (result : Result T Fault) : Type 0 where
-  -- no doubt is forgotten
-  pub doubted : new.doubts ≡ 0 → old.doubts ≡ 0
-  -- no lie is forgotten
-  pub lied : new.lies ≡ 0 → old.lies ≡ 0
+  -- no defect is forgotten
+  pub defects_stay : new.defects ≡ 0 → old.defects ≡ 0
+  -- no corruption is forgotten
+  pub corruptions_stay : new.corruptions ≡ 0 → old.corruptions ≡ 0
   -- a store fault is answered just where a call was refused
   pub told : old.refusals ≡ 0 → IsTold result new.refusals
-  -- where nothing lied, nothing is in doubt after an answer
-  pub works : new.lies ≡ 0 → old.doubts ≡ 0 → OnOk result (new.doubts ≡ 0)
+  -- where nothing was corrupted, there is no defect after an answer
+  pub works : new.corruptions ≡ 0 → old.defects ≡ 0 → OnOk result (new.defects ≡ 0)
   -- nor after a fault, unless a call failed
-  pub stays : new.lies ≡ 0 → old.doubts ≡ 0 → StaysSure old new
+  pub stays : new.corruptions ≡ 0 → old.defects ≡ 0 → StaysSure old new

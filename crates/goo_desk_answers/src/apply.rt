@@ -68,15 +68,15 @@ fn apply_body<D: Backend>(
     caller: &HolderCode,
     body: &[u8],
 ) -> Result<Given, Fault>
-    ensures given { (D.seen desk.new).lies ≡ 0
+    ensures given { (D.seen desk.new).corruptions ≡ 0
         → IfOk result (λ given. given ≡ applied (D.seen desk.old).state caller.now body.now) }
-    ensures state { (D.seen desk.new).lies ≡ 0
+    ensures state { (D.seen desk.new).corruptions ≡ 0
         → OnOk result
         ((D.seen desk.new).state ≡ state_applied (D.seen desk.old).state caller.now body.now) }
-    ensures unchanged { (D.seen desk.new).doubts ≡ 0
+    ensures unchanged { (D.seen desk.new).defects ≡ 0
         → OnErr result ((D.seen desk.new).state ≡ (D.seen desk.old).state) }
     ensures reliable { StaysReliable (D.seen desk.old) (D.seen desk.new) result }
-    ensures crash { (D.seen desk.new).lies ≡ 0 → (D.seen desk.old).doubts ≡ 0
+    ensures crash { (D.seen desk.new).corruptions ≡ 0 → (D.seen desk.old).defects ≡ 0
         → FindsEither (D.leaves desk.new) (D.seen desk.old).state
         (state_applied (D.seen desk.old).state caller.now body.now) }
 {
@@ -108,15 +108,15 @@ pub(crate) fn answer_apply<D: Backend>(
     caller: &HolderCode,
     body: &[u8],
 ) -> Result<Answer, Fault>
-    ensures answered { (D.seen desk.new).lies ≡ 0
+    ensures answered { (D.seen desk.new).corruptions ≡ 0
         → IfOk result
         (λ answer. Does D.shows D.imports
         (D.seen desk.old).state caller.now body.now Apply answer.status answer.bytes.items
         (D.seen desk.new).state) }
-    ensures unchanged { (D.seen desk.new).doubts ≡ 0
+    ensures unchanged { (D.seen desk.new).defects ≡ 0
         → OnErr result ((D.seen desk.new).state ≡ (D.seen desk.old).state) }
     ensures reliable { StaysReliable (D.seen desk.old) (D.seen desk.new) result }
-    ensures crash { (D.seen desk.new).lies ≡ 0 → (D.seen desk.old).doubts ≡ 0
+    ensures crash { (D.seen desk.new).corruptions ≡ 0 → (D.seen desk.old).defects ≡ 0
         → FindsEither (D.leaves desk.new) (D.seen desk.old).state
         (state_applied (D.seen desk.old).state caller.now body.now) }
 {

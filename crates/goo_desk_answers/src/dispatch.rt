@@ -58,18 +58,18 @@ fn answer_task<D: Backend>(
     body: &[u8],
     task: Task,
 ) -> Result<Answer, Fault>
-    ensures answered { (D.seen desk.new).lies ≡ 0
+    ensures answered { (D.seen desk.new).corruptions ≡ 0
         → IfOk result
         (λ answer. Does D.shows D.imports
         (D.seen desk.old).state caller.now body.now task answer.status answer.bytes.items
         (D.seen desk.new).state) }
-    ensures stopped { (D.seen desk.new).doubts ≡ 0
+    ensures stopped { (D.seen desk.new).defects ≡ 0
         → OnErr result
         (Stops D.imports D.begins (D.seen desk.old).state caller.now body.now task
         (D.seen desk.new).state) }
     ensures reliable { StaysReliable (D.seen desk.old) (D.seen desk.new) result }
-    ensures crash { ImportsAreRuns D.imports D.begins → (D.seen desk.new).lies ≡ 0
-        → (D.seen desk.old).doubts ≡ 0
+    ensures crash { ImportsAreRuns D.imports D.begins → (D.seen desk.new).corruptions ≡ 0
+        → (D.seen desk.old).defects ≡ 0
         → FindsLed (D.leaves desk.new) (D.seen desk.old).state (MayBring caller.now body.now task) }
 {
     match task {
@@ -86,17 +86,17 @@ fn answer_handled<D: Backend>(
     request: &Received<'_>,
     handling: Handling,
 ) -> Result<Answer, Fault>
-    ensures answered { (D.seen desk.new).lies ≡ 0
+    ensures answered { (D.seen desk.new).corruptions ≡ 0
         → IfOk result
         (λ answer. Handles D.shows D.imports (D.seen desk.old).state
         (parts_of request.now) handling answer.status answer.bytes.items (D.seen desk.new).state) }
-    ensures stopped { (D.seen desk.new).doubts ≡ 0
+    ensures stopped { (D.seen desk.new).defects ≡ 0
         → OnErr result
         (StopsIn D.imports D.begins (D.seen desk.old).state (parts_of request.now) handling
         (D.seen desk.new).state) }
     ensures reliable { StaysReliable (D.seen desk.old) (D.seen desk.new) result }
-    ensures crash { ImportsAreRuns D.imports D.begins → (D.seen desk.new).lies ≡ 0
-        → (D.seen desk.old).doubts ≡ 0
+    ensures crash { ImportsAreRuns D.imports D.begins → (D.seen desk.new).corruptions ≡ 0
+        → (D.seen desk.old).defects ≡ 0
         → FindsLed (D.leaves desk.new) (D.seen desk.old).state
         (BringsBy MayBring (parts_of request.now) handling) }
 {
@@ -115,17 +115,17 @@ fn answer_request<D: Backend>(
     desk: &mut D,
     request: &Result<Received<'_>, RefusedHead>,
 ) -> Result<Answer, Fault>
-    ensures answered { (D.seen desk.new).lies ≡ 0
+    ensures answered { (D.seen desk.new).corruptions ≡ 0
         → IfOk result
         (λ answer. RespondsTo D.shows D.imports (D.seen desk.old).state
         (parts_seen request.now) answer.status answer.bytes.items (D.seen desk.new).state) }
-    ensures stopped { (D.seen desk.new).doubts ≡ 0
+    ensures stopped { (D.seen desk.new).defects ≡ 0
         → OnErr result
         (StopsAt D.imports D.begins (D.seen desk.old).state (parts_seen request.now)
         (D.seen desk.new).state) }
     ensures reliable { StaysReliable (D.seen desk.old) (D.seen desk.new) result }
-    ensures crash { ImportsAreRuns D.imports D.begins → (D.seen desk.new).lies ≡ 0
-        → (D.seen desk.old).doubts ≡ 0
+    ensures crash { ImportsAreRuns D.imports D.begins → (D.seen desk.new).corruptions ≡ 0
+        → (D.seen desk.old).defects ≡ 0
         → FindsLed (D.leaves desk.new) (D.seen desk.old).state
         (BringsIn MayBring (parts_seen request.now)) }
 {
@@ -152,20 +152,20 @@ pub fn answer_by_routes<D: Backend>(
     desk: &mut D,
     bytes: &[u8],
 ) -> Result<Answer, Fault>
-    ensures answered { (D.seen desk.new).lies ≡ 0
+    ensures answered { (D.seen desk.new).corruptions ≡ 0
         → IfOk result
         (λ answer. Responds D.shows D.imports
         (D.seen desk.old).state bytes.now answer.status answer.bytes.items
         (D.seen desk.new).state) }
-    ensures stopped { (D.seen desk.new).doubts ≡ 0
+    ensures stopped { (D.seen desk.new).defects ≡ 0
         → OnErr result
         (Fails D.imports D.begins (D.seen desk.old).state bytes.now (D.seen desk.new).state) }
     ensures reliable { StaysReliable (D.seen desk.old) (D.seen desk.new) result }
     ensures promised { ImportsAreRuns D.imports D.begins → IsSound (D.seen desk.old).state
-        → (D.seen desk.new).lies ≡ 0
+        → (D.seen desk.new).corruptions ≡ 0
         → KeepsPromise bytes.now (D.seen desk.old).state (D.seen desk.new) result }
-    ensures crash { ImportsAreRuns D.imports D.begins → (D.seen desk.new).lies ≡ 0
-        → (D.seen desk.old).doubts ≡ 0
+    ensures crash { ImportsAreRuns D.imports D.begins → (D.seen desk.new).corruptions ≡ 0
+        → (D.seen desk.old).defects ≡ 0
         → FindsLeft (D.leaves desk.new) (D.seen desk.old).state bytes.now }
 {
     answer_request(alloc, routes, desk, &read_request(bytes))
@@ -177,7 +177,7 @@ pub fn answer_by_routes<D: Backend>(
 /// bytes bring, and after a fault of those that stand. Its first premise is that the desk's imports
 /// are runs, as a registry's are ([`imports_are_runs`](goo_desk_backend::imports_are_runs)).
 ///
-/// `stays`: nothing is in doubt unless a call below failed. So after a `Memory` with no failed call
+/// `stays`: there is no defect unless a call below failed. So after a `Memory` with no failed call
 /// the state is known, and a crash finds it.
 /// `crash`: whatever is answered, a crash finds the state that some of the bytes' requests lead to.
 ///
@@ -187,20 +187,20 @@ pub fn answer_by_routes<D: Backend>(
 /// then, but for an import of declarations: the rows before the fault stand, and the file is to be
 /// sent again.
 pub fn answer<D: Backend>(alloc: Global, desk: &mut D, bytes: &[u8]) -> Result<Answer, Fault>
-    ensures answered { (D.seen desk.new).lies ≡ 0
+    ensures answered { (D.seen desk.new).corruptions ≡ 0
         → IfOk result
         (λ answer. Responds D.shows D.imports
         (D.seen desk.old).state bytes.now answer.status answer.bytes.items
         (D.seen desk.new).state) }
-    ensures stopped { (D.seen desk.new).doubts ≡ 0
+    ensures stopped { (D.seen desk.new).defects ≡ 0
         → OnErr result
         (Fails D.imports D.begins (D.seen desk.old).state bytes.now (D.seen desk.new).state) }
     ensures reliable { StaysReliable (D.seen desk.old) (D.seen desk.new) result }
     ensures promised { ImportsAreRuns D.imports D.begins → IsSound (D.seen desk.old).state
-        → (D.seen desk.new).lies ≡ 0
+        → (D.seen desk.new).corruptions ≡ 0
         → KeepsPromise bytes.now (D.seen desk.old).state (D.seen desk.new) result }
-    ensures crash { ImportsAreRuns D.imports D.begins → (D.seen desk.new).lies ≡ 0
-        → (D.seen desk.old).doubts ≡ 0
+    ensures crash { ImportsAreRuns D.imports D.begins → (D.seen desk.new).corruptions ≡ 0
+        → (D.seen desk.old).defects ≡ 0
         → FindsLeft (D.leaves desk.new) (D.seen desk.old).state bytes.now }
 {
     let request = read_request(bytes);

@@ -39,17 +39,17 @@ pub(crate) fn answer_import<D: Backend>(
     caller: &HolderCode,
     body: &[u8],
 ) -> Result<Answer, Fault>
-    ensures answered { (D.seen desk.new).lies ≡ 0
+    ensures answered { (D.seen desk.new).corruptions ≡ 0
         → IfOk result
         (λ answer. Does D.shows D.imports
         (D.seen desk.old).state caller.now body.now Import answer.status answer.bytes.items
         (D.seen desk.new).state) }
-    ensures stopped { (D.seen desk.new).doubts ≡ 0
+    ensures stopped { (D.seen desk.new).defects ≡ 0
         → OnErr result
         (Stopped D.imports D.begins (D.seen desk.old).state caller.now body.now
         (D.seen desk.new).state) }
     ensures reliable { StaysReliable (D.seen desk.old) (D.seen desk.new) result }
-    ensures crash { (D.seen desk.new).lies ≡ 0 → (D.seen desk.old).doubts ≡ 0
+    ensures crash { (D.seen desk.new).corruptions ≡ 0 → (D.seen desk.old).defects ≡ 0
         → FindsAmong (D.leaves desk.new) (D.begins (D.seen desk.old).state caller.now body.now) }
 {
     let imported = desk.import(alloc, caller, body)?;

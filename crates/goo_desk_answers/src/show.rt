@@ -63,14 +63,14 @@ pub(crate) fn answer_show<D: Backend>(
     body: &[u8],
     subject: Subject,
 ) -> Result<Answer, Fault>
-    ensures answered { (D.seen desk.new).lies ≡ 0
+    ensures answered { (D.seen desk.new).corruptions ≡ 0
         → IfOk result
         (λ answer. Does D.shows D.imports (D.seen desk.old).state caller.now body.now
         (Show subject) answer.status answer.bytes.items (D.seen desk.new).state) }
-    ensures unchanged { (D.seen desk.new).doubts ≡ 0
+    ensures unchanged { (D.seen desk.new).defects ≡ 0
         → OnErr result ((D.seen desk.new).state ≡ (D.seen desk.old).state) }
     ensures reliable { StaysReliable (D.seen desk.old) (D.seen desk.new) result }
-    ensures crash { (D.seen desk.new).lies ≡ 0 → (D.seen desk.old).doubts ≡ 0
+    ensures crash { (D.seen desk.new).corruptions ≡ 0 → (D.seen desk.old).defects ≡ 0
         → FindsOnly (D.leaves desk.new) (D.seen desk.old).state }
 {
     let shown = desk.show(alloc, caller, subject)?;

@@ -27,8 +27,8 @@ shows-text old new caller subject bytes before (Ok u) denial right none is w = r
   text = λ fine. let (text, good, appended) = w.whole fine in is (Ok bytes.items) (w.shown fine, subst right (sym (rw none at appended)) good);
   same = w.looks.same;
   works = w.looks.works;
-  doubted = w.looks.doubted;
-  lied = w.looks.lied;
+  defects_stay = w.looks.defects_stay;
+  corruptions_stay = w.looks.corruptions_stay;
   told = w.looks.told;
   stays = λ honest sure. stays_seen old new (w.looks.stays honest sure);
 }
@@ -36,8 +36,8 @@ shows-text old new caller subject bytes before (Err fault.NotAllowed) denial rig
   text = λ fine. is (Err denied.NotAllowed) (w.denied fine);
   same = w.looks.same;
   works = w.looks.works;
-  doubted = w.looks.doubted;
-  lied = w.looks.lied;
+  defects_stay = w.looks.defects_stay;
+  corruptions_stay = w.looks.corruptions_stay;
   told = w.looks.told;
   stays = λ honest sure. stays_seen old new (w.looks.stays honest sure);
 }
@@ -45,8 +45,8 @@ shows-text old new caller subject bytes before (Err fault.Unknown) denial right 
   text = λ fine. is (Err denied.Unknown) (w.denied fine);
   same = w.looks.same;
   works = w.looks.works;
-  doubted = w.looks.doubted;
-  lied = w.looks.lied;
+  defects_stay = w.looks.defects_stay;
+  corruptions_stay = w.looks.corruptions_stay;
   told = w.looks.told;
   stays = λ honest sure. stays_seen old new (w.looks.stays honest sure);
 }
@@ -54,8 +54,8 @@ shows-text old new caller subject bytes before (Err fault.Write) denial right no
   text = λ fine. tt;
   same = w.looks.same;
   works = tt;
-  doubted = w.looks.doubted;
-  lied = w.looks.lied;
+  defects_stay = w.looks.defects_stay;
+  corruptions_stay = w.looks.corruptions_stay;
   told = w.looks.told;
   stays = λ honest sure. stays_seen old new (w.looks.stays honest sure);
 }
@@ -63,8 +63,8 @@ shows-text old new caller subject bytes before (Err fault.Store) denial right no
   text = λ fine. tt;
   same = w.looks.same;
   works = tt;
-  doubted = w.looks.doubted;
-  lied = w.looks.lied;
+  defects_stay = w.looks.defects_stay;
+  corruptions_stay = w.looks.corruptions_stay;
   told = w.looks.told;
   stays = λ honest sure. stays_seen old new (w.looks.stays honest sure);
 }
@@ -72,8 +72,8 @@ shows-text old new caller subject bytes before (Err fault.Memory) denial right n
   text = λ fine. tt;
   same = w.looks.same;
   works = tt;
-  doubted = w.looks.doubted;
-  lied = w.looks.lied;
+  defects_stay = w.looks.defects_stay;
+  corruptions_stay = w.looks.corruptions_stay;
   told = w.looks.told;
   stays = λ honest sure. stays_seen old new (w.looks.stays honest sure);
 }

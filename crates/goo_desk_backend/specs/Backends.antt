@@ -28,27 +28,27 @@ abbrev pub report_of : Imported → Option (List ℕ)
 report_of (imported.Report report) = Some report.items
 report_of imported.NoHeader = None
 
--- what is shown is right, and nothing changes; no doubt and no lie is forgotten, and only a failed call brings a doubt
+-- what is shown is right, and nothing changes; no defect and no corruption is forgotten, and only a failed call brings a defect
 pub record Shows (shows : Showing) (old new : Seen) (caller : List ℕ) (subject : Subject) (result : Result Shown Fault) : Type 0 where
-  pub text : new.doubts ≡ 0 → IfOk result (λ given. shows old.state caller subject (text_shown given))
-  pub same : new.doubts ≡ 0 → new.state ≡ old.state
-  pub works : OnOk result (new.lies ≡ 0 → new.doubts ≡ 0)
-  pub doubted : new.doubts ≡ 0 → old.doubts ≡ 0
-  pub lied : new.lies ≡ 0 → old.lies ≡ 0
+  pub text : new.defects ≡ 0 → IfOk result (λ given. shows old.state caller subject (text_shown given))
+  pub same : new.defects ≡ 0 → new.state ≡ old.state
+  pub works : OnOk result (new.corruptions ≡ 0 → new.defects ≡ 0)
+  pub defects_stay : new.defects ≡ 0 → old.defects ≡ 0
+  pub corruptions_stay : new.corruptions ≡ 0 → old.corruptions ≡ 0
   pub told : IsTold result new.refusals
-  pub stays : new.lies ≡ 0 → old.doubts ≡ 0 → StaysSure old new
+  pub stays : new.corruptions ≡ 0 → old.defects ≡ 0 → StaysSure old new
 
--- The report and the state are right, where nothing lied and while nothing is in doubt; after a fault the first rows stand. Only a
--- failed call brings a doubt.
+-- The report and the state are right, where nothing was corrupted and while there is no defect; after a fault the first rows stand. Only a
+-- failed call brings a defect.
 pub record Imports (imports : Importing) (begins : Beginning) (old new : Seen) (caller rows : List ℕ) (result : Result Imported Fault) : Type 0 where
-  pub report : new.lies ≡ 0 → IfOk result (λ given. imports old.state caller rows (report_of given) new.state)
-  pub sure : new.doubts ≡ 0 → IfOk result (λ given. imports old.state caller rows (report_of given) new.state)
-  pub part : new.doubts ≡ 0 → OnErr result (begins old.state caller rows new.state)
-  pub doubted : new.doubts ≡ 0 → old.doubts ≡ 0
-  pub lied : new.lies ≡ 0 → old.lies ≡ 0
+  pub report : new.corruptions ≡ 0 → IfOk result (λ given. imports old.state caller rows (report_of given) new.state)
+  pub sure : new.defects ≡ 0 → IfOk result (λ given. imports old.state caller rows (report_of given) new.state)
+  pub part : new.defects ≡ 0 → OnErr result (begins old.state caller rows new.state)
+  pub defects_stay : new.defects ≡ 0 → old.defects ≡ 0
+  pub corruptions_stay : new.corruptions ≡ 0 → old.corruptions ≡ 0
   pub told : old.refusals ≡ 0 → IsTold result new.refusals
-  pub works : new.lies ≡ 0 → old.doubts ≡ 0 → OnOk result (new.doubts ≡ 0)
-  pub stays : new.lies ≡ 0 → old.doubts ≡ 0 → StaysSure old new
+  pub works : new.corruptions ≡ 0 → old.defects ≡ 0 → OnOk result (new.defects ≡ 0)
+  pub stays : new.corruptions ≡ 0 → old.defects ≡ 0 → StaysSure old new
 
 -- a subject is shown in one way
 abbrev pub ShowsOne : Showing → Type 0

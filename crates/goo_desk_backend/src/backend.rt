@@ -46,7 +46,7 @@ pub trait Backend: Desk {
     fn show(&mut self, alloc: Global, caller: &HolderCode, subject: Subject) -> Result<Shown, Fault>
         ensures shows { Shows shows (Self.seen self.old)
             (Self.seen self.new) caller.now subject result }
-        ensures crash { (Self.seen self.new).lies ≡ 0 → (Self.seen self.old).doubts ≡ 0
+        ensures crash { (Self.seen self.new).corruptions ≡ 0 → (Self.seen self.old).defects ≡ 0
             → FindsOnly (Self.leaves self.new) (Self.seen self.old).state };
 
     /// Takes in declarations in CSV. After a fault the rows before it stand. Whatever is answered,
@@ -54,7 +54,7 @@ pub trait Backend: Desk {
     fn import(&mut self, alloc: Global, caller: &HolderCode, rows: &[u8]) -> Result<Imported, Fault>
         ensures imports { Imports imports begins (Self.seen self.old)
             (Self.seen self.new) caller.now rows.now result }
-        ensures crash { (Self.seen self.new).lies ≡ 0 → (Self.seen self.old).doubts ≡ 0
+        ensures crash { (Self.seen self.new).corruptions ≡ 0 → (Self.seen self.old).defects ≡ 0
             → FindsAmong (Self.leaves self.new)
             (begins (Self.seen self.old).state caller.now rows.now) };
 }

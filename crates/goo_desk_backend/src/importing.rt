@@ -49,7 +49,8 @@ pub(crate) fn import_rows<S: Shelf>(
 ) -> Result<Imported, Fault>
     ensures imports { Imports imported_by begun_by (seen_of (S.seen registry.old.shelf))
         (seen_of (S.seen registry.new.shelf)) caller.now rows.now result }
-    ensures crash { (S.seen registry.new.shelf).lies ≡ 0 → (S.seen registry.old.shelf).doubts ≡ 0
+    ensures crash { (S.seen registry.new.shelf).corruptions ≡ 0
+        → (S.seen registry.old.shelf).defects ≡ 0
         → FindsAmong (S.seen registry.new.shelf).leaves
         (begun_by (S.seen registry.old.shelf).state caller.now rows.now) }
 {

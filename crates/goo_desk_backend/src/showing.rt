@@ -61,7 +61,8 @@ fn show_statement<S: Shelf>(
 ) -> Result<Shown, Fault>
     ensures shows { Shows shown_by (seen_of (S.seen registry.old.shelf))
         (seen_of (S.seen registry.new.shelf)) caller.now (Statement account) result }
-    ensures crash { (S.seen registry.new.shelf).lies ≡ 0 → (S.seen registry.old.shelf).doubts ≡ 0
+    ensures crash { (S.seen registry.new.shelf).corruptions ≡ 0
+        → (S.seen registry.old.shelf).defects ≡ 0
         → FindsOnly (S.seen registry.new.shelf).leaves (S.seen registry.old.shelf).state }
 {
     let mut text = Vec::new(alloc);
@@ -78,7 +79,8 @@ fn show_certificate<S: Shelf>(
 ) -> Result<Shown, Fault>
     ensures shows { Shows shown_by (seen_of (S.seen registry.old.shelf))
         (seen_of (S.seen registry.new.shelf)) caller.now (Certificate number) result }
-    ensures crash { (S.seen registry.new.shelf).lies ≡ 0 → (S.seen registry.old.shelf).doubts ≡ 0
+    ensures crash { (S.seen registry.new.shelf).corruptions ≡ 0
+        → (S.seen registry.old.shelf).defects ≡ 0
         → FindsOnly (S.seen registry.new.shelf).leaves (S.seen registry.old.shelf).state }
 {
     match split_denial(registry.place_of(alloc, caller, number))? {
@@ -96,7 +98,8 @@ fn show_cancellation<S: Shelf>(
 ) -> Result<Shown, Fault>
     ensures shows { Shows shown_by (seen_of (S.seen registry.old.shelf))
         (seen_of (S.seen registry.new.shelf)) caller.now (Cancellation act) result }
-    ensures crash { (S.seen registry.new.shelf).lies ≡ 0 → (S.seen registry.old.shelf).doubts ≡ 0
+    ensures crash { (S.seen registry.new.shelf).corruptions ≡ 0
+        → (S.seen registry.old.shelf).defects ≡ 0
         → FindsOnly (S.seen registry.new.shelf).leaves (S.seen registry.old.shelf).state }
 {
     let mut text = Vec::new(alloc);
@@ -113,7 +116,8 @@ fn show_notice<S: Shelf>(
 ) -> Result<Shown, Fault>
     ensures shows { Shows shown_by (seen_of (S.seen registry.old.shelf))
         (seen_of (S.seen registry.new.shelf)) caller.now (SentNotice act) result }
-    ensures crash { (S.seen registry.new.shelf).lies ≡ 0 → (S.seen registry.old.shelf).doubts ≡ 0
+    ensures crash { (S.seen registry.new.shelf).corruptions ≡ 0
+        → (S.seen registry.old.shelf).defects ≡ 0
         → FindsOnly (S.seen registry.new.shelf).leaves (S.seen registry.old.shelf).state }
 {
     match split_denial(registry.notice(alloc, caller, act))? {
@@ -130,7 +134,8 @@ fn show_audit<S: Shelf>(
 ) -> Result<Shown, Fault>
     ensures shows { Shows shown_by (seen_of (S.seen registry.old.shelf))
         (seen_of (S.seen registry.new.shelf)) caller.now Audit result }
-    ensures crash { (S.seen registry.new.shelf).lies ≡ 0 → (S.seen registry.old.shelf).doubts ≡ 0
+    ensures crash { (S.seen registry.new.shelf).corruptions ≡ 0
+        → (S.seen registry.old.shelf).defects ≡ 0
         → FindsOnly (S.seen registry.new.shelf).leaves (S.seen registry.old.shelf).state }
 {
     let mut text = Vec::new(alloc);
@@ -147,7 +152,8 @@ pub(crate) fn show_subject<S: Shelf>(
 ) -> Result<Shown, Fault>
     ensures shows { Shows shown_by (seen_of (S.seen registry.old.shelf))
         (seen_of (S.seen registry.new.shelf)) caller.now subject result }
-    ensures crash { (S.seen registry.new.shelf).lies ≡ 0 → (S.seen registry.old.shelf).doubts ≡ 0
+    ensures crash { (S.seen registry.new.shelf).corruptions ≡ 0
+        → (S.seen registry.old.shelf).defects ≡ 0
         → FindsOnly (S.seen registry.new.shelf).leaves (S.seen registry.old.shelf).state }
 {
     match subject {

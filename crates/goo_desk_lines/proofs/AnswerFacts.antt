@@ -120,7 +120,7 @@ stands-next first s new had mid has done line t after stood next =
     }
 
 pub whole-at : (first s : State) (new : Seen) (had mid has : Option (List ℕ)) (input : List ℕ) (done left : List (List ℕ)) (t : Tally) → lines_of input ≡ done ++ left → Stands first s had mid done t
-    → (new.doubts ≡ 0 → new.state ≡ s) → Keeps mid has → StandsWhole input first new had has
+    → (new.defects ≡ 0 → new.state ≡ s) → Keeps mid has → StandsWhole input first new had has
 whole-at first s new had mid has input done left t order stood same kept = record {
   done = done;
   left = left;

@@ -36,7 +36,7 @@ pub untouched : (m : Seen) (line : List ℕ) (w : Option (List ℕ)) (leaves : O
 untouched m line w leaves only = inl (record { silent = keeps-same w; state = λ sure. refl; found = first_found leaves m.state (state_with m.state line) only })
 
 -- it was carried out, or was not, and nothing of its answer is written
-pub unanswered : (s : State) (new : Seen) (line : List ℕ) (w : Option (List ℕ)) (leaves : Option State → Type 0) → 0 < length line → (new.doubts ≡ 0 → new.state ≡ s) → FindsEither leaves s (state_after s line)
+pub unanswered : (s : State) (new : Seen) (line : List ℕ) (w : Option (List ℕ)) (leaves : Option State → Type 0) → 0 < length line → (new.defects ≡ 0 → new.state ≡ s) → FindsEither leaves s (state_after s line)
     → FindsLine s line new w w leaves
 unanswered s new line w leaves some same either = inl (record { silent = keeps-same w; state = same; found = subst (FindsEither leaves s) (sym (state-on s line some)) either })
 

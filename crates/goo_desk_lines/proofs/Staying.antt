@@ -1,9 +1,9 @@
--- Only a failed call brings a doubt, line after line.
+-- Only a failed call brings a defect, line after line.
 use Rattle.std.proofs.Common.{◌≡◌, arith}
 use Rattle.goo_core_shelf.specs.Desk.{Seen, StaysSure}
 
 -- nothing was called
-pub stays_still : (m : Seen) → m.doubts ≡ 0 → StaysSure m m
+pub stays_still : (m : Seen) → m.defects ≡ 0 → StaysSure m m
 stays_still m none = record { counts = omega arith; sure = λ _. none }
 
 -- one call after another

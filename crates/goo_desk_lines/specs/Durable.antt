@@ -19,13 +19,13 @@ module _ (s : State) (line : List ℕ) (new : Seen) (had has : Option (List ℕ)
   -- nothing of the line's answer is written, and a crash finds what was there before the line, or what it leaves
   pub record IsUntold : Type 0 where
     pub silent : Keeps had has
-    pub state : new.doubts ≡ 0 → new.state ≡ s
+    pub state : new.defects ≡ 0 → new.state ≡ s
     pub found : FindsEither leaves s (state_with s line)
 
   -- a beginning of the line's answer is written, and a crash finds what the line leaves
   pub record IsTold : Type 0 where
     pub begun : AppendsPrefix had has (text_with s line)
-    pub state : new.doubts ≡ 0 → new.state ≡ state_with s line
+    pub state : new.defects ≡ 0 → new.state ≡ state_with s line
     pub found : FindsOnly leaves (state_with s line)
 
   -- so no answer is written before its request is found again
@@ -44,5 +44,5 @@ pub record FindsAnswered (input : List ℕ) (old : State) (new : Seen) (had has 
   pub left : List (List ℕ)
   pub order : lines_of input ≡ done ++ left
   pub written : AppendsPrefix had has (answering old done).text
-  pub state : new.doubts ≡ 0 → new.state ≡ (answering old done).state
+  pub state : new.defects ≡ 0 → new.state ≡ (answering old done).state
   pub found : FindsEither leaves (answering old done).state (answering old (with_next done left)).state

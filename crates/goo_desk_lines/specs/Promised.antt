@@ -17,4 +17,4 @@ pub record IsPromisedOfFirst (lines : List (List ℕ)) (old new : State) : Type 
 -- what is promised of the requests of an input, and after a fault of those that were answered
 abbrev pub KeepsPromise : {T : Type 0} → List ℕ → State → Seen → Result T LinesFault → Type 0
 KeepsPromise input old new (Ok x) = IsPromised old (requests_in input) new.state
-KeepsPromise input old new (Err fault) = new.doubts ≡ 0 → IsPromisedOfFirst (lines_of input) old new.state
+KeepsPromise input old new (Err fault) = new.defects ≡ 0 → IsPromisedOfFirst (lines_of input) old new.state

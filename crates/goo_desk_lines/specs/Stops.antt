@@ -57,7 +57,7 @@ pub record StandsWhole (input : List ℕ) (old : State) (new : Seen) (had has : 
   pub done : List (List ℕ)
   pub left : List (List ℕ)
   pub order : lines_of input ≡ done ++ left
-  pub state : new.doubts ≡ 0 → new.state ≡ (answering old done).state
+  pub state : new.defects ≡ 0 → new.state ≡ (answering old done).state
   pub text : Appends had has (answering old done).text
 
 -- the first of the input's lines stand, `last` among them: the answers of those before it are written whole, and a beginning of its own

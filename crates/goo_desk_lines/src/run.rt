@@ -35,22 +35,23 @@ pub const MOST_INPUT: usize = 16_777_216;
 /// The answer to one line.
 #[tactic(auto, unfolding(crate::specs::Answers::answer_to, crate::specs::Answers::state_after))]
 fn answer_line<D: Desk>(alloc: Global, desk: &mut D, line: &[u8]) -> Result<LineAnswer, Fault>
-    ensures answer { (D.seen desk.new).lies ≡ 0
+    ensures answer { (D.seen desk.new).corruptions ≡ 0
         → IfOk result (λ given. given ≡ answer_to (D.seen desk.old).state line.now) }
-    ensures state { (D.seen desk.new).lies ≡ 0
+    ensures state { (D.seen desk.new).corruptions ≡ 0
         → OnOk result ((D.seen desk.new).state ≡ state_after (D.seen desk.old).state line.now) }
-    ensures unchanged { (D.seen desk.new).doubts ≡ 0
+    ensures unchanged { (D.seen desk.new).defects ≡ 0
         → OnErr result ((D.seen desk.new).state ≡ (D.seen desk.old).state) }
-    ensures lied { (D.seen desk.new).lies ≡ 0 → (D.seen desk.old).lies ≡ 0 }
+    ensures corruptions_stay { (D.seen desk.new).corruptions ≡ 0
+        → (D.seen desk.old).corruptions ≡ 0 }
     ensures unasked { (reason : _) → request_in line.now ≡ Err reason
         → IfErr result (λ fault. fault ≡ Fault.Memory) }
     ensures told { (D.seen desk.old).refusals ≡ 0 → IsTold result (D.seen desk.new).refusals }
-    ensures works { (D.seen desk.new).lies ≡ 0 → (D.seen desk.old).doubts ≡ 0
-        → OnOk result ((D.seen desk.new).doubts ≡ 0) }
-    ensures crash { (D.seen desk.new).lies ≡ 0 → (D.seen desk.old).doubts ≡ 0
+    ensures works { (D.seen desk.new).corruptions ≡ 0 → (D.seen desk.old).defects ≡ 0
+        → OnOk result ((D.seen desk.new).defects ≡ 0) }
+    ensures crash { (D.seen desk.new).corruptions ≡ 0 → (D.seen desk.old).defects ≡ 0
         → FindsEither (D.leaves desk.new) (D.seen desk.old).state
         (state_after (D.seen desk.old).state line.now) }
-    ensures stays { (D.seen desk.new).lies ≡ 0 → (D.seen desk.old).doubts ≡ 0
+    ensures stays { (D.seen desk.new).corruptions ≡ 0 → (D.seen desk.old).defects ≡ 0
         → StaysSure (D.seen desk.old) (D.seen desk.new) }
 {
     match read_line(alloc, line) {
@@ -80,7 +81,7 @@ fn answer_next<D: Desk, W: Write>(
     line: &[u8],
 ) -> Result<(), LinesFault>
     requires { tally.old.good + tally.old.bad + 1 < 2 ^ 64 }
-    ensures answered { (D.seen desk.new).lies ≡ 0
+    ensures answered { (D.seen desk.new).corruptions ≡ 0
         → OnOk result
         (AnswersLine line.now (D.seen desk.old).state (D.seen desk.new).state tally.old tally.new
         (W.contents writer.old) (W.contents writer.new)) }
@@ -88,28 +89,29 @@ fn answer_next<D: Desk, W: Write>(
         (tally.new.good + tally.new.bad ≤ tally.old.good + tally.old.bad + 1) }
     ensures kinds { IfErr result (λ fault. fault ≢ Reading) }
     ensures unchanged { IfErr result
-        (λ fault. IsBetweenLines fault → (D.seen desk.new).doubts ≡ 0
+        (λ fault. IsBetweenLines fault → (D.seen desk.new).defects ≡ 0
         → (D.seen desk.new).state ≡ (D.seen desk.old).state) }
     ensures unwritten { IfErr result
         (λ fault. IsBetweenLines fault → Keeps (W.contents writer.old) (W.contents writer.new)) }
     ensures stands { IfErr result
-        (λ fault. fault ≡ Writing → (D.seen desk.new).lies ≡ 0
+        (λ fault. fault ≡ Writing → (D.seen desk.new).corruptions ≡ 0
         → (D.seen desk.new).state
         ≡ (with_line (counted (D.seen desk.old).state tally.old) line.now).state) }
     ensures prefix { IfErr result
-        (λ fault. fault ≡ Writing → (D.seen desk.new).lies ≡ 0
+        (λ fault. fault ≡ Writing → (D.seen desk.new).corruptions ≡ 0
         → AppendsPrefix (W.contents writer.old) (W.contents writer.new)
         (with_line (counted (D.seen desk.old).state tally.old) line.now).text) }
-    ensures lied { (D.seen desk.new).lies ≡ 0 → (D.seen desk.old).lies ≡ 0 }
+    ensures corruptions_stay { (D.seen desk.new).corruptions ≡ 0
+        → (D.seen desk.old).corruptions ≡ 0 }
     ensures unasked { (reason : _) → request_in line.now ≡ Err reason
         → IfErr result (λ fault. fault ≢ LinesFault.Store) }
     ensures told { (D.seen desk.old).refusals ≡ 0 → IsToldIn result (D.seen desk.new).refusals }
-    ensures works { (D.seen desk.new).lies ≡ 0 → (D.seen desk.old).doubts ≡ 0
-        → OnOk result ((D.seen desk.new).doubts ≡ 0) }
-    ensures found { (D.seen desk.new).lies ≡ 0 → (D.seen desk.old).doubts ≡ 0
+    ensures works { (D.seen desk.new).corruptions ≡ 0 → (D.seen desk.old).defects ≡ 0
+        → OnOk result ((D.seen desk.new).defects ≡ 0) }
+    ensures found { (D.seen desk.new).corruptions ≡ 0 → (D.seen desk.old).defects ≡ 0
         → FindsLine (D.seen desk.old).state line.now (D.seen desk.new)
         (W.contents writer.old) (W.contents writer.new) (D.leaves desk.new) }
-    ensures stays { (D.seen desk.new).lies ≡ 0 → (D.seen desk.old).doubts ≡ 0
+    ensures stays { (D.seen desk.new).corruptions ≡ 0 → (D.seen desk.old).defects ≡ 0
         → StaysSure (D.seen desk.old) (D.seen desk.new) }
 {
     if line.is_empty() {
@@ -133,31 +135,32 @@ fn answer_lines<D: Desk, W: Write>(
     writer: &mut W,
 ) -> Result<Tally, LinesFault>
     requires { length input.now + 3 < 2 ^ 64 }
-    ensures state { (D.seen desk.new).lies ≡ 0
+    ensures state { (D.seen desk.new).corruptions ≡ 0
         → OnOk result ((D.seen desk.new).state ≡ (lines (D.seen desk.old).state input.now).state) }
-    ensures text { (D.seen desk.new).lies ≡ 0
+    ensures text { (D.seen desk.new).corruptions ≡ 0
         → OnOk result
         (Appends (W.contents writer.old) (W.contents writer.new)
         (lines (D.seen desk.old).state input.now).text) }
-    ensures good { (D.seen desk.new).lies ≡ 0
+    ensures good { (D.seen desk.new).corruptions ≡ 0
         → IfOk result (λ tally. tally.good ≡ (lines (D.seen desk.old).state input.now).good) }
-    ensures bad { (D.seen desk.new).lies ≡ 0
+    ensures bad { (D.seen desk.new).corruptions ≡ 0
         → IfOk result (λ tally. tally.bad ≡ (lines (D.seen desk.old).state input.now).bad) }
     ensures kinds { IfErr result (λ fault. fault ≢ Reading) }
     ensures whole { IfErr result
-        (λ fault. IsBetweenLines fault → (D.seen desk.new).lies ≡ 0
+        (λ fault. IsBetweenLines fault → (D.seen desk.new).corruptions ≡ 0
         → StandsWhole input.now (D.seen desk.old).state (D.seen desk.new) (W.contents writer.old)
         (W.contents writer.new)) }
     ensures part { IfErr result
-        (λ fault. fault ≡ Writing → (D.seen desk.new).lies ≡ 0
+        (λ fault. fault ≡ Writing → (D.seen desk.new).corruptions ≡ 0
         → StandsInPart input.now (D.seen desk.old).state (D.seen desk.new).state
         (W.contents writer.old) (W.contents writer.new)) }
-    ensures lied { (D.seen desk.new).lies ≡ 0 → (D.seen desk.old).lies ≡ 0 }
+    ensures corruptions_stay { (D.seen desk.new).corruptions ≡ 0
+        → (D.seen desk.old).corruptions ≡ 0 }
     ensures told { (D.seen desk.old).refusals ≡ 0 → IsToldIn result (D.seen desk.new).refusals }
-    ensures found { (D.seen desk.new).lies ≡ 0 → (D.seen desk.old).doubts ≡ 0
+    ensures found { (D.seen desk.new).corruptions ≡ 0 → (D.seen desk.old).defects ≡ 0
         → FindsAnswered input.now (D.seen desk.old).state (D.seen desk.new)
         (W.contents writer.old) (W.contents writer.new) (D.leaves desk.new) }
-    ensures stays { (D.seen desk.new).lies ≡ 0 → (D.seen desk.old).doubts ≡ 0
+    ensures stays { (D.seen desk.new).corruptions ≡ 0 → (D.seen desk.old).defects ≡ 0
         → StaysSure (D.seen desk.old) (D.seen desk.new) }
 {
     let mut tally = Tally { good: 0, bad: 0 };
@@ -183,7 +186,7 @@ fn answer_lines<D: Desk, W: Write>(
 /// lines that were answered, all of them or the first ones
 /// ([`lines_are_a_run`](crate::lines_are_a_run) says that lines are a run of their requests).
 /// `found`: however it ends, all that is written are answers to first lines that a crash finds
-/// carried out, and at most one line more. `stays`: however it ends, nothing is in doubt unless a
+/// carried out, and at most one line more. `stays`: however it ends, there is no defect unless a
 /// call below failed. So after a `Memory` with no failed call the state is known, and a crash finds
 /// it.
 ///
@@ -201,38 +204,39 @@ pub fn run_lines<D: Desk, R: Read, W: Write>(
     reader: &mut R,
     writer: &mut W,
 ) -> Result<Tally, LinesFault>
-    ensures state { (D.seen desk.new).lies ≡ 0
+    ensures state { (D.seen desk.new).corruptions ≡ 0
         → IfSome (R.remaining reader.old)
         (λ input. OnOk result
         ((D.seen desk.new).state ≡ (lines (D.seen desk.old).state input).state)) }
-    ensures text { (D.seen desk.new).lies ≡ 0
+    ensures text { (D.seen desk.new).corruptions ≡ 0
         → IfSome (R.remaining reader.old)
         (λ input. OnOk result
         (Appends (W.contents writer.old) (W.contents writer.new)
         (lines (D.seen desk.old).state input).text)) }
-    ensures good { (D.seen desk.new).lies ≡ 0
+    ensures good { (D.seen desk.new).corruptions ≡ 0
         → IfSome (R.remaining reader.old)
         (λ input. IfOk result (λ tally. tally.good ≡ (lines (D.seen desk.old).state input).good)) }
-    ensures bad { (D.seen desk.new).lies ≡ 0
+    ensures bad { (D.seen desk.new).corruptions ≡ 0
         → IfSome (R.remaining reader.old)
         (λ input. IfOk result (λ tally. tally.bad ≡ (lines (D.seen desk.old).state input).bad)) }
     ensures unread { IfErr result
         (λ fault. fault ≡ Reading → (D.seen desk.new).state ≡ (D.seen desk.old).state) }
     ensures silent { IfErr result
         (λ fault. fault ≡ Reading → Keeps (W.contents writer.old) (W.contents writer.new)) }
-    ensures whole { (D.seen desk.new).lies ≡ 0
+    ensures whole { (D.seen desk.new).corruptions ≡ 0
         → IfSome (R.remaining reader.old)
         (λ input. IfErr result
         (λ fault. IsBetweenLines fault
         → StandsWhole input (D.seen desk.old).state (D.seen desk.new) (W.contents writer.old)
         (W.contents writer.new))) }
-    ensures part { (D.seen desk.new).lies ≡ 0
+    ensures part { (D.seen desk.new).corruptions ≡ 0
         → IfSome (R.remaining reader.old)
         (λ input. IfErr result
         (λ fault. fault ≡ Writing
         → StandsInPart input (D.seen desk.old).state (D.seen desk.new).state (W.contents writer.old)
         (W.contents writer.new))) }
-    ensures lied { (D.seen desk.new).lies ≡ 0 → (D.seen desk.old).lies ≡ 0 }
+    ensures corruptions_stay { (D.seen desk.new).corruptions ≡ 0
+        → (D.seen desk.old).corruptions ≡ 0 }
     ensures told { (D.seen desk.old).refusals ≡ 0 → IsToldIn result (D.seen desk.new).refusals }
     ensures limit { IfSome (R.remaining reader.old)
         (λ input. 16_777_216 < length input
@@ -240,14 +244,14 @@ pub fn run_lines<D: Desk, R: Read, W: Write>(
         (W.contents writer.new)) }
     ensures end { OnOk result (IsAtEnd (R.remaining reader.new)) }
     ensures read { IfErr result (λ fault. IsAfterReading fault → IsAtEnd (R.remaining reader.new)) }
-    ensures promised { IsSound (D.seen desk.old).state → (D.seen desk.new).lies ≡ 0
+    ensures promised { IsSound (D.seen desk.old).state → (D.seen desk.new).corruptions ≡ 0
         → IfSome (R.remaining reader.old)
         (λ input. KeepsPromise input (D.seen desk.old).state (D.seen desk.new) result) }
-    ensures found { (D.seen desk.new).lies ≡ 0 → (D.seen desk.old).doubts ≡ 0
+    ensures found { (D.seen desk.new).corruptions ≡ 0 → (D.seen desk.old).defects ≡ 0
         → IfSome (R.remaining reader.old) (λ input.
         FindsAnswered input (D.seen desk.old).state (D.seen desk.new)
         (W.contents writer.old) (W.contents writer.new) (D.leaves desk.new)) }
-    ensures stays { (D.seen desk.new).lies ≡ 0 → (D.seen desk.old).doubts ≡ 0
+    ensures stays { (D.seen desk.new).corruptions ≡ 0 → (D.seen desk.old).defects ≡ 0
         → StaysSure (D.seen desk.old) (D.seen desk.new) }
 {
     let input = read_whole(alloc, reader, MOST_INPUT)?;

@@ -39,27 +39,27 @@ read-nothing (Some input) (Some rest) (Some left) bytes taken more = rw more at 
 
 module _ (shows : Showing) (imports : Importing) (begins : Beginning) where
   pub answered-leaves : (s : State) (bytes : List ℕ) (status : Status) (text : List ℕ) (new : Seen)
-      → (new.lies ≡ 0 → Responds shows imports s bytes status text new.state) → Leaves shows imports begins s bytes new
+      → (new.corruptions ≡ 0 → Responds shows imports s bytes status text new.state) → Leaves shows imports begins s bytes new
   answered-leaves s bytes status text new response = (status, text, inl (record { response = response }))
 
   pub excused-leaves : (s : State) (bytes text : List ℕ) (new : Seen)
-      → IsApology bytes text → (new.doubts ≡ 0 → Fails imports begins s bytes new.state) → Leaves shows imports begins s bytes new
+      → IsApology bytes text → (new.defects ≡ 0 → Fails imports begins s bytes new.state) → Leaves shows imports begins s bytes new
   excused-leaves s bytes text new apology state = (Unavailable, text, inr (record { unavailable = refl; text_is = apology; state = state }))
 
   pub part-answered : (s : State) (bytes : List ℕ) (status : Status) (text : List ℕ) (new : Seen) (had has : Option (List ℕ))
-      → (new.lies ≡ 0 → Responds shows imports s bytes status text new.state) → AppendsPrefix had has text → SendsPart shows imports begins s bytes new had has
+      → (new.corruptions ≡ 0 → Responds shows imports s bytes status text new.state) → AppendsPrefix had has text → SendsPart shows imports begins s bytes new had has
   part-answered s bytes status text new had has response prefix = (status, text, inl (record { response = response }), prefix)
 
   pub part-excused : (s : State) (bytes text : List ℕ) (new : Seen) (had has : Option (List ℕ))
-      → IsApology bytes text → (new.doubts ≡ 0 → Fails imports begins s bytes new.state) → AppendsPrefix had has text → SendsPart shows imports begins s bytes new had has
+      → IsApology bytes text → (new.defects ≡ 0 → Fails imports begins s bytes new.state) → AppendsPrefix had has text → SendsPart shows imports begins s bytes new had has
   part-excused s bytes text new had has apology state prefix = (Unavailable, text, inr (record { unavailable = refl; text_is = apology; state = state }), prefix)
 
   pub all-excused : (s : State) (bytes text : List ℕ) (new : Seen) (had has : Option (List ℕ))
-      → IsApology bytes text → (new.doubts ≡ 0 → Fails imports begins s bytes new.state) → Appends had has text → Sends shows imports begins s bytes Unavailable new had has
+      → IsApology bytes text → (new.defects ≡ 0 → Fails imports begins s bytes new.state) → Appends had has text → Sends shows imports begins s bytes Unavailable new had has
   all-excused s bytes text new had has apology state written = (text, inr (record { unavailable = refl; text_is = apology; state = state }), written)
 
   pub excuse-sent : {E : Type 0} (r : Result (Unit {0}) E) (s : State) (bytes text : List ℕ) (new : Seen) (had has : Option (List ℕ))
-      → IsApology bytes text → (new.doubts ≡ 0 → Fails imports begins s bytes new.state) → OnOk r (Appends had has text) → OnErr r (AppendsPrefix had has text) → SendsExcuse shows imports begins s bytes new had has
+      → IsApology bytes text → (new.defects ≡ 0 → Fails imports begins s bytes new.state) → OnOk r (Appends had has text) → OnErr r (AppendsPrefix had has text) → SendsExcuse shows imports begins s bytes new had has
   excuse-sent (Ok u) s bytes text new had has apology state written prefix = (text, record { unavailable = refl; text_is = apology; state = state }, prefix-whole had has text written)
   excuse-sent (Err e) s bytes text new had has apology state written prefix = (text, record { unavailable = refl; text_is = apology; state = state }, prefix)
 
@@ -76,13 +76,13 @@ module _ (shows : Showing) (imports : Importing) (begins : Beginning) where
   leaves-stands None s bytes new stands leaves = (bytes, tt, leaves)
   leaves-stands (Some input) s bytes new stands (status, text, served) = (input, refl, (status, text, served-stands s bytes input status text new stands served))
 
-  pub bytes-connect : (known : Option (List ℕ)) (bytes : List ℕ) (old new : Seen) → StandsFor known bytes → Leaves shows imports begins old.state bytes new → (new.doubts ≡ 0 → old.doubts ≡ 0) → (new.lies ≡ 0 → old.lies ≡ 0)
-      → (new.lies ≡ 0 → old.doubts ≡ 0 → StaysSure old new) → Connects shows imports begins known old new
-  bytes-connect known bytes old new stands leaves doubted lied stays = record { leaves = inr (leaves-stands known old.state bytes new stands leaves); doubted = doubted; lied = lied; stays = stays }
+  pub bytes-connect : (known : Option (List ℕ)) (bytes : List ℕ) (old new : Seen) → StandsFor known bytes → Leaves shows imports begins old.state bytes new → (new.defects ≡ 0 → old.defects ≡ 0) → (new.corruptions ≡ 0 → old.corruptions ≡ 0)
+      → (new.corruptions ≡ 0 → old.defects ≡ 0 → StaysSure old new) → Connects shows imports begins known old new
+  bytes-connect known bytes old new stands leaves defects_stay corruptions_stay stays = record { leaves = inr (leaves-stands known old.state bytes new stands leaves); defects_stay = defects_stay; corruptions_stay = corruptions_stay; stays = stays }
 
   -- nothing was read
   pub none-connect : (known : Option (List ℕ)) (m : Seen) → Connects shows imports begins known m m
-  none-connect known m = record { leaves = inl refl; doubted = λ none. none; lied = λ none. none; stays = λ none sure. record { counts = omega arith; sure = λ _. sure } }
+  none-connect known m = record { leaves = inl refl; defects_stay = λ none. none; corruptions_stay = λ none. none; stays = λ none sure. record { counts = omega arith; sure = λ _. sure } }
 
   pub sends-stands : {E : Type 0} (r : Result Served E) (known : Option (List ℕ)) (s : State) (bytes : List ℕ) (new : Seen) (had has : Option (List ℕ)) → StandsFor known bytes
       → IfOk r (λ served. Sends shows imports begins s bytes served.status new had has) → IfSome known (λ input. IfOk r (λ served. Sends shows imports begins s input served.status new had has))

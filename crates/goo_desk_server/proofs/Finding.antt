@@ -10,12 +10,12 @@ use Rattle.goo_desk_server.specs.Durable.{NoneFailed, FindsTo, FindsServed}
 use Rattle.goo_desk_server.specs.Serving.{Steps, StepsTo}
 
 module _ (shows : Showing) (imports : Importing) (begins : Beginning) where
-  -- only a failed call brings a doubt
-  steps_sure : (sends : ℕ → Option (List ℕ)) (was count : ℕ) (first last : Seen) (steps : Steps shows imports begins sends was count first last) → last.lies ≡ 0 → first.doubts ≡ 0
-      → NoneFailed shows imports begins sends was count first last steps → last.doubts ≡ 0
-  steps_sure sends was zero first last steps honest sure none = subst (λ (m : Seen). m.doubts ≡ 0) (sym steps) sure
+  -- only a failed call brings a defect
+  steps_sure : (sends : ℕ → Option (List ℕ)) (was count : ℕ) (first last : Seen) (steps : Steps shows imports begins sends was count first last) → last.corruptions ≡ 0 → first.defects ≡ 0
+      → NoneFailed shows imports begins sends was count first last steps → last.defects ≡ 0
+  steps_sure sends was zero first last steps honest sure none = subst (λ (m : Seen). m.defects ≡ 0) (sym steps) sure
   steps_sure sends was (suc count) first last (mid, steps, connects) honest sure (before, unfailed) =
-      (connects.stays honest (steps_sure sends was count first mid steps (connects.lied honest) sure before)).sure unfailed
+      (connects.stays honest (steps_sure sends was count first mid steps (connects.corruptions_stay honest) sure before)).sure unfailed
 
   -- none was served
   pub none_served : (sends : ℕ → Option (List ℕ)) (was now : ℕ) (m : Seen) (leaves : Option State → Type 0) → now ≡ was → FindsOnly leaves m.state → FindsTo shows imports begins sends was now m m leaves
@@ -23,7 +23,7 @@ module _ (shows : Showing) (imports : Importing) (begins : Beginning) where
 
   -- one more was
   pub one_served : (sends : ℕ → Option (List ℕ)) (known : Option (List ℕ)) (was half now : ℕ) (first mid last : Seen) (leaves : Option State → Type 0) → known ≡ sends half → now ≡ half + 1
-      → StepsTo shows imports begins sends was half first mid → Connects shows imports begins known mid last → (last.lies ≡ 0 → mid.doubts ≡ 0 → FindsHeard known leaves mid.state)
+      → StepsTo shows imports begins sends was half first mid → Connects shows imports begins known mid last → (last.corruptions ≡ 0 → mid.defects ≡ 0 → FindsHeard known leaves mid.state)
       → FindsServed shows imports begins sends was now first last leaves
   one_served sends known was half now first mid last leaves heard is (count, at, steps) connects found honest sure =
       let same : known ≡ sends (was + count) = heard ∙ ap sends at in (
@@ -33,7 +33,7 @@ module _ (shows : Showing) (imports : Importing) (begins : Beginning) where
           mid,
           steps,
           subst (λ k. Connects shows imports begins k mid last) same connects,
-          steps_sure sends was count first mid steps (connects.lied honest) sure,
+          steps_sure sends was count first mid steps (connects.corruptions_stay honest) sure,
           λ fine. subst (λ k. FindsHeard k leaves mid.state) same (found honest fine),
         ),
       )

@@ -65,13 +65,13 @@ one_more sends was count old mid new bytes so whole (qs, are, obey, is) =
     }
 
 module _ (shows : Showing) (imports : Importing) (begins : Beginning) (runs : ImportsAreRuns imports begins) (sends : ℕ → Option (List ℕ)) (was : ℕ) where
-  steps_run : (count : ℕ) (old new : Seen) → Steps shows imports begins sends was count old new → new.lies ≡ 0 → new.doubts ≡ 0 → Run sends was count old.state new.state
+  steps_run : (count : ℕ) (old new : Seen) → Steps shows imports begins sends was count old new → new.corruptions ≡ 0 → new.defects ≡ 0 → Run sends was count old.state new.state
   steps_run zero old new is honest sure = no_run sends was old.state new.state (ap (λ (m : Seen). m.state) is)
   steps_run (suc count) old new (mid, so, connects) honest sure =
       let (bytes, whole, leads) = connects_lead shows imports begins runs (sends (was + count)) mid new honest sure connects in
-      one_more sends was count old.state mid.state new.state bytes (steps_run count old mid so (connects.lied honest) (connects.doubted sure)) whole leads
+      one_more sends was count old.state mid.state new.state bytes (steps_run count old mid so (connects.corruptions_stay honest) (connects.defects_stay sure)) whole leads
 
-  pub steps_promised : (now : ℕ) (old new : Seen) → StepsTo shows imports begins sends was now old new → IsSound old.state → new.lies ≡ 0 → new.doubts ≡ 0 → KeepsPromise sends was now old.state new.state
+  pub steps_promised : (now : ℕ) (old new : Seen) → StepsTo shows imports begins sends was now old new → IsSound old.state → new.corruptions ≡ 0 → new.defects ≡ 0 → KeepsPromise sends was now old.state new.state
   steps_promised now old new (count, is, steps) sound honest sure =
       let so = steps_run count old new steps honest sure in
       record {

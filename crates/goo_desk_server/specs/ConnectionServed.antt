@@ -24,13 +24,13 @@ IsApology bytes text = (d : Result Parts RefusedHead) × Decides bytes d × (tex
 module _ (shows : Showing) (imports : Importing) (begins : Beginning) where
   -- the response of a status, and the state after it
   pub record IsAnswered (s : State) (bytes : List ℕ) (status : Status) (text : List ℕ) (new : Seen) : Type 0 where
-    pub response : new.lies ≡ 0 → Responds shows imports s bytes status text new.state
+    pub response : new.corruptions ≡ 0 → Responds shows imports s bytes status text new.state
 
   -- a fault took its place
   pub record IsExcused (s : State) (bytes : List ℕ) (status : Status) (text : List ℕ) (new : Seen) : Type 0 where
     pub unavailable : status ≡ Unavailable
     pub text_is : IsApology bytes text
-    pub state : new.doubts ≡ 0 → Fails imports begins s bytes new.state
+    pub state : new.defects ≡ 0 → Fails imports begins s bytes new.state
 
   abbrev pub IsServed : State → List ℕ → Status → List ℕ → Seen → Type 0
   IsServed s bytes status text new = IsAnswered s bytes status text new ⊎ IsExcused s bytes status text new
@@ -40,12 +40,12 @@ module _ (shows : Showing) (imports : Importing) (begins : Beginning) where
   Leaves s bytes new = (status : Status) × (text : List ℕ) × IsServed s bytes status text new
 
   -- What a connection leaves, whatever its client does: all as it was, or what answering its bytes leaves, which are those that its reader had, where
-  -- it tells them. No doubt and no lie is forgotten. Only a failed call brings a doubt.
+  -- it tells them. No defect and no corruption is forgotten. Only a failed call brings a defect.
   pub record Connects (known : Option (List ℕ)) (old new : Seen) : Type 0 where
     pub leaves : (new ≡ old) ⊎ ((bytes : List ℕ) × IsWholeOf known bytes × Leaves old.state bytes new)
-    pub doubted : new.doubts ≡ 0 → old.doubts ≡ 0
-    pub lied : new.lies ≡ 0 → old.lies ≡ 0
-    pub stays : new.lies ≡ 0 → old.doubts ≡ 0 → StaysSure old new
+    pub defects_stay : new.defects ≡ 0 → old.defects ≡ 0
+    pub corruptions_stay : new.corruptions ≡ 0 → old.corruptions ≡ 0
+    pub stays : new.corruptions ≡ 0 → old.defects ≡ 0 → StaysSure old new
 
   -- all of what is answered was written
   abbrev pub Sends : State → List ℕ → Status → Seen → Option (List ℕ) → Option (List ℕ) → Type 0

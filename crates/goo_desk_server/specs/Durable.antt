@@ -15,17 +15,17 @@ module _ (shows : Showing) (imports : Importing) (begins : Beginning) (sends : �
   NoneFailed (suc count) first last (mid, steps, connects) = NoneFailed count first mid steps × ¬ HasFailed mid last
 
   -- A crash after so many connections finds what all of them leave, but of the last one's requests perhaps those alone that stand after a fault.
-  -- That is so unless something was in doubt before the last one, which only a failed call brings.
+  -- That is so unless there was a defect before the last one, which only a failed call brings.
   abbrev pub FindsAfter : ℕ → Seen → Seen → (Option State → Type 0) → Type 0
   FindsAfter zero first last leaves = FindsOnly leaves first.state
   FindsAfter (suc count) first last leaves =
       (mid : Seen) × (steps : Steps shows imports begins sends was count first mid) × Connects shows imports begins (sends (was + count)) mid last
-      × (NoneFailed count first mid steps → mid.doubts ≡ 0) × (mid.doubts ≡ 0 → FindsHeard (sends (was + count)) leaves mid.state)
+      × (NoneFailed count first mid steps → mid.defects ≡ 0) × (mid.defects ≡ 0 → FindsHeard (sends (was + count)) leaves mid.state)
 
   -- as many as were accepted meanwhile
   abbrev pub FindsTo : ℕ → Seen → Seen → (Option State → Type 0) → Type 0
   FindsTo now first last leaves = (count : ℕ) × (now ≡ was + count) × FindsAfter count first last leaves
 
-  -- where nothing lied, and nothing was in doubt at first
+  -- where nothing was corrupted, and there was no defect at first
   abbrev pub FindsServed : ℕ → Seen → Seen → (Option State → Type 0) → Type 0
-  FindsServed now first last leaves = last.lies ≡ 0 → first.doubts ≡ 0 → FindsTo now first last leaves
+  FindsServed now first last leaves = last.corruptions ≡ 0 → first.defects ≡ 0 → FindsTo now first last leaves

@@ -31,9 +31,9 @@ pub record IsRunOf (sends : ℕ → Option (List ℕ)) (was count : ℕ) (old ne
   pub brought : All (λ c. AreLeft c.0 c.1) connections
   pub state : new ≡ final old (requests_of connections)
 
--- where nothing lied, and while nothing is in doubt
+-- where nothing was corrupted, and while there is no defect
 abbrev pub StepsAreARun : Showing → Importing → Beginning → Type 0
-StepsAreARun shows imports begins = (sends : ℕ → Option (List ℕ)) (was count : ℕ) (old new : Seen) → Steps shows imports begins sends was count old new → new.lies ≡ 0 → new.doubts ≡ 0 → IsRunOf sends was count old.state new.state
+StepsAreARun shows imports begins = (sends : ℕ → Option (List ℕ)) (was count : ℕ) (old new : Seen) → Steps shows imports begins sends was count old new → new.corruptions ≡ 0 → new.defects ≡ 0 → IsRunOf sends was count old.state new.state
 
 -- the connections that were accepted meanwhile: what is promised of their requests
 pub record KeepsPromise (sends : ℕ → Option (List ℕ)) (was now : ℕ) (old new : State) : Type 0 where

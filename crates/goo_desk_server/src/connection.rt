@@ -54,16 +54,17 @@ fn serve_bytes<D: Backend, W: Write>(
     ensures leaves { Leaves D.shows D.imports D.begins (D.seen desk.old).state bytes.now
         (D.seen desk.new) }
     ensures kinds { IfErr result IsAfterReading }
-    ensures doubted { (D.seen desk.new).doubts ≡ 0 → (D.seen desk.old).doubts ≡ 0 }
-    ensures lied { (D.seen desk.new).lies ≡ 0 → (D.seen desk.old).lies ≡ 0 }
+    ensures defects_stay { (D.seen desk.new).defects ≡ 0 → (D.seen desk.old).defects ≡ 0 }
+    ensures corruptions_stay { (D.seen desk.new).corruptions ≡ 0
+        → (D.seen desk.old).corruptions ≡ 0 }
     ensures told { (D.seen desk.old).refusals ≡ 0 → IsToldIn result (D.seen desk.new).refusals }
-    ensures found { (D.seen desk.new).lies ≡ 0 → (D.seen desk.old).doubts ≡ 0
+    ensures found { (D.seen desk.new).corruptions ≡ 0 → (D.seen desk.old).defects ≡ 0
         → SendsFound D.shows D.imports (D.seen desk.old).state bytes.now (D.seen desk.new).state
         (W.contents writer.old) (W.contents writer.new) (D.leaves desk.new) }
-    ensures stays { (D.seen desk.new).lies ≡ 0 → (D.seen desk.old).doubts ≡ 0
+    ensures stays { (D.seen desk.new).corruptions ≡ 0 → (D.seen desk.old).defects ≡ 0
         → StaysSure (D.seen desk.old) (D.seen desk.new) }
-    ensures crash { ImportsAreRuns D.imports D.begins → (D.seen desk.new).lies ≡ 0
-        → (D.seen desk.old).doubts ≡ 0
+    ensures crash { ImportsAreRuns D.imports D.begins → (D.seen desk.new).corruptions ≡ 0
+        → (D.seen desk.old).defects ≡ 0
         → FindsLeft (D.leaves desk.new) (D.seen desk.old).state bytes.now }
 {
     match answer_by_routes(alloc, routes, desk, bytes) {
@@ -90,7 +91,7 @@ fn serve_bytes<D: Backend, W: Write>(
 /// closes the connection.
 ///
 /// Want of memory in answering is answered 503. `found`: an answer is sent only once a crash finds
-/// what it tells. `connects`: nothing is in doubt unless a call below failed (`stays`), so after a
+/// what it tells. `connects`: there is no defect unless a call below failed (`stays`), so after a
 /// 503 with no failed call the state is known, and a crash finds it. `crash`: however it ends, a
 /// crash finds the state that some of the client's requests lead to.
 ///
@@ -124,18 +125,19 @@ pub fn serve_by_routes<D: Backend, R: Read, W: Write>(
         (λ fault. IsBeforeAnswer fault → (D.seen desk.new).state ≡ (D.seen desk.old).state) }
     ensures silent { IfErr result
         (λ fault. IsBeforeAnswer fault → Keeps (W.contents writer.old) (W.contents writer.new)) }
-    ensures lied { (D.seen desk.new).lies ≡ 0 → (D.seen desk.old).lies ≡ 0 }
+    ensures corruptions_stay { (D.seen desk.new).corruptions ≡ 0
+        → (D.seen desk.old).corruptions ≡ 0 }
     ensures told { (D.seen desk.old).refusals ≡ 0 → IsToldIn result (D.seen desk.new).refusals }
     ensures promised { ImportsAreRuns D.imports D.begins → IsSound (D.seen desk.old).state
-        → (D.seen desk.new).lies ≡ 0 → (D.seen desk.new).doubts ≡ 0
+        → (D.seen desk.new).corruptions ≡ 0 → (D.seen desk.new).defects ≡ 0
         → IfSome (R.remaining reader.old)
         (λ input. KeepsPromise input (D.seen desk.old).state (D.seen desk.new).state) }
-    ensures found { (D.seen desk.new).lies ≡ 0 → (D.seen desk.old).doubts ≡ 0
+    ensures found { (D.seen desk.new).corruptions ≡ 0 → (D.seen desk.old).defects ≡ 0
         → IfSome (R.remaining reader.old) (λ input.
         SendsFound D.shows D.imports (D.seen desk.old).state input (D.seen desk.new).state
         (W.contents writer.old) (W.contents writer.new) (D.leaves desk.new)) }
-    ensures crash { ImportsAreRuns D.imports D.begins → (D.seen desk.new).lies ≡ 0
-        → (D.seen desk.old).doubts ≡ 0
+    ensures crash { ImportsAreRuns D.imports D.begins → (D.seen desk.new).corruptions ≡ 0
+        → (D.seen desk.old).defects ≡ 0
         → FindsHeard (R.remaining reader.old) (D.leaves desk.new) (D.seen desk.old).state }
 {
     let bytes = read_decided(alloc, reader)?;
@@ -146,7 +148,7 @@ pub fn serve_by_routes<D: Backend, R: Read, W: Write>(
 /// connection.
 ///
 /// Want of memory in answering is answered 503. `found`: an answer is sent only once a crash finds
-/// what it tells. `connects`: nothing is in doubt unless a call below failed (`stays`), so after a
+/// what it tells. `connects`: there is no defect unless a call below failed (`stays`), so after a
 /// 503 with no failed call the state is known, and a crash finds it. `crash`: however it ends, a
 /// crash finds the state that some of the client's requests lead to.
 ///
@@ -179,18 +181,19 @@ pub fn serve_one<D: Backend, R: Read, W: Write>(
         (λ fault. IsBeforeAnswer fault → (D.seen desk.new).state ≡ (D.seen desk.old).state) }
     ensures silent { IfErr result
         (λ fault. IsBeforeAnswer fault → Keeps (W.contents writer.old) (W.contents writer.new)) }
-    ensures lied { (D.seen desk.new).lies ≡ 0 → (D.seen desk.old).lies ≡ 0 }
+    ensures corruptions_stay { (D.seen desk.new).corruptions ≡ 0
+        → (D.seen desk.old).corruptions ≡ 0 }
     ensures told { (D.seen desk.old).refusals ≡ 0 → IsToldIn result (D.seen desk.new).refusals }
     ensures promised { ImportsAreRuns D.imports D.begins → IsSound (D.seen desk.old).state
-        → (D.seen desk.new).lies ≡ 0 → (D.seen desk.new).doubts ≡ 0
+        → (D.seen desk.new).corruptions ≡ 0 → (D.seen desk.new).defects ≡ 0
         → IfSome (R.remaining reader.old)
         (λ input. KeepsPromise input (D.seen desk.old).state (D.seen desk.new).state) }
-    ensures found { (D.seen desk.new).lies ≡ 0 → (D.seen desk.old).doubts ≡ 0
+    ensures found { (D.seen desk.new).corruptions ≡ 0 → (D.seen desk.old).defects ≡ 0
         → IfSome (R.remaining reader.old) (λ input.
         SendsFound D.shows D.imports (D.seen desk.old).state input (D.seen desk.new).state
         (W.contents writer.old) (W.contents writer.new) (D.leaves desk.new)) }
-    ensures crash { ImportsAreRuns D.imports D.begins → (D.seen desk.new).lies ≡ 0
-        → (D.seen desk.old).doubts ≡ 0
+    ensures crash { ImportsAreRuns D.imports D.begins → (D.seen desk.new).corruptions ≡ 0
+        → (D.seen desk.old).defects ≡ 0
         → FindsHeard (R.remaining reader.old) (D.leaves desk.new) (D.seen desk.old).state }
 {
     let Ok(routes) = Routes::new(alloc) else {

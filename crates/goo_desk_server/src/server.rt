@@ -63,10 +63,11 @@ fn serve_accepted<D: Backend, R: Read, W: Write>(
     ensures heard { Connects D.shows D.imports D.begins (R.remaining reader.old) (D.seen desk.old)
         (D.seen desk.new) }
     ensures ends { IsServed result }
-    ensures lied { (D.seen desk.new).lies ≡ 0 → (D.seen desk.old).lies ≡ 0 }
+    ensures corruptions_stay { (D.seen desk.new).corruptions ≡ 0
+        → (D.seen desk.old).corruptions ≡ 0 }
     ensures told { (D.seen desk.old).refusals ≡ 0 → IsToldIn result (D.seen desk.new).refusals }
-    ensures crash { ImportsAreRuns D.imports D.begins → (D.seen desk.new).lies ≡ 0
-        → (D.seen desk.old).doubts ≡ 0
+    ensures crash { ImportsAreRuns D.imports D.begins → (D.seen desk.new).corruptions ≡ 0
+        → (D.seen desk.old).defects ≡ 0
         → FindsHeard (R.remaining reader.old) (D.leaves desk.new) (D.seen desk.old).state }
 {
     match serve_by_routes(alloc, routes, desk, reader, writer) {
@@ -86,7 +87,8 @@ fn serve_next<D: Backend, L: Listener>(
     ensures same { L.sends listener.new ≡ L.sends listener.old }
     ensures steps { StepsTo D.shows D.imports D.begins (L.sends listener.old)
         (L.accepted listener.old) (L.accepted listener.new) (D.seen desk.old) (D.seen desk.new) }
-    ensures lied { (D.seen desk.new).lies ≡ 0 → (D.seen desk.old).lies ≡ 0 }
+    ensures corruptions_stay { (D.seen desk.new).corruptions ≡ 0
+        → (D.seen desk.old).corruptions ≡ 0 }
     ensures told { (D.seen desk.old).refusals ≡ 0 → IsToldIn result (D.seen desk.new).refusals }
     ensures found { (was : ℕ) (first : Seen) → ImportsAreRuns D.imports D.begins
         → StepsTo D.shows D.imports D.begins (L.sends listener.old) was (L.accepted listener.old)
@@ -114,7 +116,8 @@ fn serve_all<D: Backend, L: Listener>(
     ensures same { L.sends listener.new ≡ L.sends listener.old }
     ensures steps { StepsTo D.shows D.imports D.begins (L.sends listener.old)
         (L.accepted listener.old) (L.accepted listener.new) (D.seen desk.old) (D.seen desk.new) }
-    ensures lied { (D.seen desk.new).lies ≡ 0 → (D.seen desk.old).lies ≡ 0 }
+    ensures corruptions_stay { (D.seen desk.new).corruptions ≡ 0
+        → (D.seen desk.old).corruptions ≡ 0 }
     ensures told { (D.seen desk.old).refusals ≡ 0 → IsToldIn result (D.seen desk.new).refusals }
     ensures found { ImportsAreRuns D.imports D.begins
         → FindsServed D.shows D.imports D.begins (L.sends listener.old) (L.accepted listener.old)
@@ -143,7 +146,8 @@ fn announce_and_serve<D: Backend, L: Listener, W: Write>(
     ensures same { L.sends listener.new ≡ L.sends listener.old }
     ensures steps { StepsTo D.shows D.imports D.begins (L.sends listener.old)
         (L.accepted listener.old) (L.accepted listener.new) (D.seen desk.old) (D.seen desk.new) }
-    ensures lied { (D.seen desk.new).lies ≡ 0 → (D.seen desk.old).lies ≡ 0 }
+    ensures corruptions_stay { (D.seen desk.new).corruptions ≡ 0
+        → (D.seen desk.old).corruptions ≡ 0 }
     ensures told { (D.seen desk.old).refusals ≡ 0 → IsToldIn result (D.seen desk.new).refusals }
     ensures found { ImportsAreRuns D.imports D.begins
         → FindsServed D.shows D.imports D.begins (L.sends listener.old) (L.accepted listener.old)
@@ -167,7 +171,7 @@ fn announce_and_serve<D: Backend, L: Listener, W: Write>(
 ///   the listener tells them.
 /// - `found`: however it ends, a crash finds what the connections leave; of the last one's requests
 ///   perhaps those alone that stand after a fault. So each answer that was sent is of a request
-///   that a crash finds, unless a call had failed before the last connection and left a doubt.
+///   that a crash finds, unless a call had failed before the last connection and left a defect.
 ///
 /// # Errors
 ///
@@ -187,10 +191,11 @@ pub fn serve<D: Backend, L: Listener, W: Write>(
     ensures same { L.sends listener.new ≡ L.sends listener.old }
     ensures steps { StepsTo D.shows D.imports D.begins (L.sends listener.old)
         (L.accepted listener.old) (L.accepted listener.new) (D.seen desk.old) (D.seen desk.new) }
-    ensures lied { (D.seen desk.new).lies ≡ 0 → (D.seen desk.old).lies ≡ 0 }
+    ensures corruptions_stay { (D.seen desk.new).corruptions ≡ 0
+        → (D.seen desk.old).corruptions ≡ 0 }
     ensures told { (D.seen desk.old).refusals ≡ 0 → IsToldIn result (D.seen desk.new).refusals }
     ensures promised { ImportsAreRuns D.imports D.begins → IsSound (D.seen desk.old).state
-        → (D.seen desk.new).lies ≡ 0 → (D.seen desk.new).doubts ≡ 0
+        → (D.seen desk.new).corruptions ≡ 0 → (D.seen desk.new).defects ≡ 0
         → KeepsPromise (L.sends listener.old) (L.accepted listener.old) (L.accepted listener.new)
         (D.seen desk.old).state (D.seen desk.new).state }
     ensures found { ImportsAreRuns D.imports D.begins

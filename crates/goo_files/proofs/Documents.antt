@@ -88,10 +88,10 @@ document_by s caller act code found own of =
 
 module _ (old mid new : Moment) (before after : Option (List ℕ)) (caller : List ℕ) (act : ℕ) (found : CancellationStatement) (one : Looks old mid (Ok (Ok found)) (IsCancellationShown old.state caller act)) where
   -- the account of what was shown isn't denied
-  seen_here : mid.doubts ≡ 0 → account_denial caller (get mid.state.accounts found.record.account) ≡ None
+  seen_here : mid.defects ≡ 0 → account_denial caller (get mid.state.accounts found.record.account) ≡ None
   seen_here sure = subst (λ (s : State). account_denial caller (get s.accounts found.record.account) ≡ None) (sym (one.same sure)) (account_seen caller (get old.state.accounts found.record.account) found.holder (one.found sure).holder)
 
-  clash_here : (why : Denial) → mid.doubts ≡ 0 → account_denial caller (get mid.state.accounts found.record.account) ≡ Some why → ⊥
+  clash_here : (why : Denial) → mid.defects ≡ 0 → account_denial caller (get mid.state.accounts found.record.account) ≡ Some why → ⊥
   clash_here why sure denied = let clash : None ≡ Some why = sym (seen_here sure) ∙ denied in cc
 
   kept_none : (a : Option (List ℕ)) → Keeps a a
@@ -105,7 +105,7 @@ module _ (old mid new : Moment) (before after : Option (List ℕ)) (caller : Lis
     looks = chain_ok old mid new (Ok found) (IsCancellationShown old.state caller act) one (Err denial.NotAllowed) (IsHeadingShown mid.state caller found.record.account) tt look;
     shown = λ none. tt;
     whole = λ none. tt;
-    denied = λ none. absurd (clash_here denial.NotAllowed (look.doubted none) (look.found none));
+    denied = λ none. absurd (clash_here denial.NotAllowed (look.defects_stay none) (look.found none));
     silent = λ none off. kept_none before;
     unseen = λ late. unwritten (cancellation_denial old.state caller act) before;
     begun = λ late none off. absurd off;
@@ -114,7 +114,7 @@ module _ (old mid new : Moment) (before after : Option (List ℕ)) (caller : Lis
     looks = chain_ok old mid new (Ok found) (IsCancellationShown old.state caller act) one (Err denial.Unknown) (IsHeadingShown mid.state caller found.record.account) tt look;
     shown = λ none. tt;
     whole = λ none. tt;
-    denied = λ none. absurd (clash_here denial.Unknown (look.doubted none) (look.found none));
+    denied = λ none. absurd (clash_here denial.Unknown (look.defects_stay none) (look.found none));
     silent = λ none off. kept_none before;
     unseen = λ late. unwritten (cancellation_denial old.state caller act) before;
     begun = λ late none off. absurd off;
@@ -139,36 +139,36 @@ module _ (old mid new : Moment) (before after : Option (List ℕ)) (caller : Lis
   }
 
   module _ (own : Heading) (two : Looks mid new (Ok (Ok own)) (IsHeadingShown mid.state caller found.record.account)) where
-    is_document : new.doubts ≡ 0 → IsDocument old.state act (cancellation_text (head_by found act own.code) found.runs.items)
+    is_document : new.defects ≡ 0 → IsDocument old.state act (cancellation_text (head_by found act own.code) found.runs.items)
     is_document none =
-        let sure = two.doubted none in
+        let sure = two.defects_stay none in
         document_by old.state caller act own.code found ((two.found none).1.code ∙ ap (λ (s : State). s.own) (one.same sure)) (one.found sure)
 
-    pub document_written : (new.doubts ≡ 0 → Appends before after (cancellation_text (head_by found act own.code) found.runs.items)) → Writes old new before after (Ok tt) (cancellation_denial old.state caller act) (λ (u : Unit {0}) t. IsDocument old.state act t)
+    pub document_written : (new.defects ≡ 0 → Appends before after (cancellation_text (head_by found act own.code) found.runs.items)) → Writes old new before after (Ok tt) (cancellation_denial old.state caller act) (λ (u : Unit {0}) t. IsDocument old.state act t)
     document_written wrote = record {
       looks = chain_ok old mid new (Ok found) (IsCancellationShown old.state caller act) one (Ok own) (IsHeadingShown mid.state caller found.record.account) tt two;
-      shown = λ none. shown_is old.state caller act found (one.found (two.doubted none));
+      shown = λ none. shown_is old.state caller act found (one.found (two.defects_stay none));
       whole = λ none. (cancellation_text (head_by found act own.code) found.runs.items, is_document none, wrote none);
       denied = λ none. tt;
       silent = λ none. tt;
-      unseen = λ late. none_denied (cancellation_denial old.state caller act) _ _ (shown_is old.state caller act found (one.found (one.works (two.lied late))));
+      unseen = λ late. none_denied (cancellation_denial old.state caller act) _ _ (shown_is old.state caller act found (one.found (one.works (two.corruptions_stay late))));
       begun = λ late none. tt;
     }
 
-    pub document_cut : (new.doubts ≡ 0 → AppendsPrefix before after (cancellation_text (head_by found act own.code) found.runs.items)) → Writes old new before after (Err text.Write) (cancellation_denial old.state caller act) (λ (u : Unit {0}) t. IsDocument old.state act t)
+    pub document_cut : (new.defects ≡ 0 → AppendsPrefix before after (cancellation_text (head_by found act own.code) found.runs.items)) → Writes old new before after (Err text.Write) (cancellation_denial old.state caller act) (λ (u : Unit {0}) t. IsDocument old.state act t)
     document_cut part = record {
       looks = chain_ok old mid new (Ok found) (IsCancellationShown old.state caller act) one (Ok own) (IsHeadingShown mid.state caller found.record.account) tt two;
       shown = λ none. tt;
       whole = λ none. tt;
-      denied = λ none. shown_is old.state caller act found (one.found (two.doubted none));
+      denied = λ none. shown_is old.state caller act found (one.found (two.defects_stay none));
       silent = λ none off. absurd off;
-      unseen = λ late. none_denied (cancellation_denial old.state caller act) _ _ (shown_is old.state caller act found (one.found (one.works (two.lied late))));
+      unseen = λ late. none_denied (cancellation_denial old.state caller act) _ _ (shown_is old.state caller act found (one.found (one.works (two.corruptions_stay late))));
       begun = λ late none off. let sure = two.works late in inr (cancellation_text (head_by found act own.code) found.runs.items, (tt, is_document sure), part sure);
     }
 
     -- by how the writing ended
-    pub document_done : (r : Result (Unit {0}) ShowFault) → (new.doubts ≡ 0 → OnOk r (Appends before after (cancellation_text (head_by found act own.code) found.runs.items)))
-        → (new.doubts ≡ 0 → OnErr r (AppendsPrefix before after (cancellation_text (head_by found act own.code) found.runs.items))) → IfErr r (λ f. f ≡ text.Write)
+    pub document_done : (r : Result (Unit {0}) ShowFault) → (new.defects ≡ 0 → OnOk r (Appends before after (cancellation_text (head_by found act own.code) found.runs.items)))
+        → (new.defects ≡ 0 → OnErr r (AppendsPrefix before after (cancellation_text (head_by found act own.code) found.runs.items))) → IfErr r (λ f. f ≡ text.Write)
         → Writes old new before after r (cancellation_denial old.state caller act) (λ (u : Unit {0}) t. IsDocument old.state act t)
     document_done (Ok u) wrote part kind = document_written wrote
     document_done (Err f) wrote part kind = subst (λ e. Writes old new before after (Err e) (cancellation_denial old.state caller act) (λ (u : Unit {0}) t. IsDocument old.state act t)) (sym kind) (document_cut part)

@@ -28,14 +28,14 @@ module _ {T : Type 0} (line : Piece → List ℕ) (sum : List Piece → T) (foot
   abbrev pub Texts : Unit {0} → List ℕ → Type 0
   Texts u t = Right t
 
-  module _ (old first : Moment) (before mid : Option (List ℕ)) (caller : List ℕ) (account : ℕ) (h : Heading) (look : Looks old first (Ok (Ok h)) (IsHeadingShown old.state caller account)) (well : IsWell old) (head : List ℕ) (right : first.doubts ≡ 0 → (runs : List Piece) → AreRunsNaming old.state account runs → Right (text_with head runs)) where
-    denial_is : first.doubts ≡ 0 → account_denial caller (get old.state.accounts account) ≡ None
+  module _ (old first : Moment) (before mid : Option (List ℕ)) (caller : List ℕ) (account : ℕ) (h : Heading) (look : Looks old first (Ok (Ok h)) (IsHeadingShown old.state caller account)) (well : IsWell old) (head : List ℕ) (right : first.defects ≡ 0 → (runs : List Piece) → AreRunsNaming old.state account runs → Right (text_with head runs)) where
+    denial_is : first.defects ≡ 0 → account_denial caller (get old.state.accounts account) ≡ None
     denial_is sure = (look.found sure).0
 
     -- a beginning of what stands before the runs
-    begun_head : (at : Option (List ℕ)) → first.doubts ≡ 0 → AppendsPrefix before at head → Began before at (λ t. (u : Unit {0}) × Texts u t)
+    begun_head : (at : Option (List ℕ)) → first.defects ≡ 0 → AppendsPrefix before at head → Began before at (λ t. (u : Unit {0}) × Texts u t)
     begun_head at sure part =
-        let was = look.doubted sure in
+        let was = look.defects_stay sure in
         let all = some_runs old.state old.rows account (well.rows was) (well.sound was) in
         inr (text_with head all.0, (tt, right sure all.0 all.1), prefix-front before at head _ part)
 
@@ -65,7 +65,7 @@ module _ {T : Type 0} (line : Piece → List ℕ) (sum : List Piece → T) (foot
 
     module _ (new : Moment) (at : Option (List ℕ)) (wrote : Appends before mid head) where
       -- a beginning of the lines after it
-      begun_lines : first.doubts ≡ 0 → Began mid at (λ t. (c : T) × AreLines line sum first.state account c t) → Began before at (λ t. (u : Unit {0}) × Texts u t)
+      begun_lines : first.defects ≡ 0 → Began mid at (λ t. (c : T) × AreLines line sum first.state account c t) → Began before at (λ t. (u : Unit {0}) × Texts u t)
       begun_lines sure (inl kept) = begun_head at sure (prefix-whole before at head (appends-kept before mid at head wrote kept))
       begun_lines sure (inr (t, (c, lines), part)) =
           let are : AreRunsNaming old.state account lines.runs = subst (λ (s : State). AreRunsNaming s account lines.runs) (look.same sure) lines.are_runs in
@@ -79,7 +79,7 @@ module _ {T : Type 0} (line : Piece → List ℕ) (sum : List Piece → T) (foot
         whole = λ none. tt;
         denied = λ none. let clash = w.denied none in cc;
         silent = λ none off. let clash = w.denied none in cc;
-        unseen = λ late. none_denied (account_denial caller (get old.state.accounts account)) _ _ (denial_is (look.works (w.looks.lied late)));
+        unseen = λ late. none_denied (account_denial caller (get old.state.accounts account)) _ _ (denial_is (look.works (w.looks.corruptions_stay late)));
         begun = λ late none off. absurd off;
       }
       lines_cut text.Unknown w = record {
@@ -88,17 +88,17 @@ module _ {T : Type 0} (line : Piece → List ℕ) (sum : List Piece → T) (foot
         whole = λ none. tt;
         denied = λ none. let clash = w.denied none in cc;
         silent = λ none off. let clash = w.denied none in cc;
-        unseen = λ late. none_denied (account_denial caller (get old.state.accounts account)) _ _ (denial_is (look.works (w.looks.lied late)));
+        unseen = λ late. none_denied (account_denial caller (get old.state.accounts account)) _ _ (denial_is (look.works (w.looks.corruptions_stay late)));
         begun = λ late none off. absurd off;
       }
       lines_cut text.Write w = record {
         looks = chain_ok old first new (Ok h) (IsHeadingShown old.state caller account) look tt (λ u. ⊤) tt w.looks;
         shown = λ none. tt;
         whole = λ none. tt;
-        denied = λ none. denial_is (w.looks.doubted none);
+        denied = λ none. denial_is (w.looks.defects_stay none);
         silent = λ none off. absurd off;
-        unseen = λ late. none_denied (account_denial caller (get old.state.accounts account)) _ _ (denial_is (look.works (w.looks.lied late)));
-        begun = λ late none off. let sure = look.works (w.looks.lied late) in begun_lines sure (w.begun late sure tt);
+        unseen = λ late. none_denied (account_denial caller (get old.state.accounts account)) _ _ (denial_is (look.works (w.looks.corruptions_stay late)));
+        begun = λ late none off. let sure = look.works (w.looks.corruptions_stay late) in begun_lines sure (w.begun late sure tt);
       }
       lines_cut text.Store w = record {
         looks = chain_err old first new (Ok h) (IsHeadingShown old.state caller account) look fault.Store (λ u. ⊤) w.looks;
@@ -106,8 +106,8 @@ module _ {T : Type 0} (line : Piece → List ℕ) (sum : List Piece → T) (foot
         whole = λ none. tt;
         denied = λ none. tt;
         silent = λ none off. absurd off;
-        unseen = λ late. none_denied (account_denial caller (get old.state.accounts account)) _ _ (denial_is (look.works (w.looks.lied late)));
-        begun = λ late none off. let sure = look.works (w.looks.lied late) in begun_lines sure (w.begun late sure tt);
+        unseen = λ late. none_denied (account_denial caller (get old.state.accounts account)) _ _ (denial_is (look.works (w.looks.corruptions_stay late)));
+        begun = λ late none off. let sure = look.works (w.looks.corruptions_stay late) in begun_lines sure (w.begun late sure tt);
       }
       lines_cut text.Memory w = record {
         looks = chain_err old first new (Ok h) (IsHeadingShown old.state caller account) look fault.Memory (λ u. ⊤) w.looks;
@@ -115,15 +115,15 @@ module _ {T : Type 0} (line : Piece → List ℕ) (sum : List Piece → T) (foot
         whole = λ none. tt;
         denied = λ none. tt;
         silent = λ none off. absurd off;
-        unseen = λ late. none_denied (account_denial caller (get old.state.accounts account)) _ _ (denial_is (look.works (w.looks.lied late)));
-        begun = λ late none off. let sure = look.works (w.looks.lied late) in begun_lines sure (w.begun late sure tt);
+        unseen = λ late. none_denied (account_denial caller (get old.state.accounts account)) _ _ (denial_is (look.works (w.looks.corruptions_stay late)));
+        begun = λ late none off. let sure = look.works (w.looks.corruptions_stay late) in begun_lines sure (w.begun late sure tt);
       }
 
       module _ (end : Option (List ℕ)) (total : T) (w : Writes {T = T} first new mid at (Ok total) None (AreLines line sum first.state account)) where
         -- the whole text, from the lines that were written
-        whole_by : (Q : List ℕ → Type 0) → new.doubts ≡ 0 → ((runs : List Piece) → total ≡ sum runs → Appends mid at (flat_map line runs) → Q (text_with head runs)) → (t : List ℕ) × Right t × Q t
+        whole_by : (Q : List ℕ → Type 0) → new.defects ≡ 0 → ((runs : List Piece) → total ≡ sum runs → Appends mid at (flat_map line runs) → Q (text_with head runs)) → (t : List ℕ) × Right t × Q t
         whole_by Q none so =
-            let sure = w.looks.doubted none in
+            let sure = w.looks.defects_stay none in
             let done = w.whole none in
             let lines = done.1 in
             let are : AreRunsNaming old.state account lines.runs = subst (λ (s : State). AreRunsNaming s account lines.runs) (look.same sure) lines.are_runs in
@@ -132,12 +132,12 @@ module _ {T : Type 0} (line : Piece → List ℕ) (sum : List Piece → T) (foot
         pub foot_ends : Appends at end (foot total) → Writes old new before end (Ok tt) (account_denial caller (get old.state.accounts account)) Texts
         foot_ends last = record {
           looks = chain_ok old first new (Ok h) (IsHeadingShown old.state caller account) look tt (λ u. ⊤) tt w.looks;
-          shown = λ none. denial_is (w.looks.doubted none);
+          shown = λ none. denial_is (w.looks.defects_stay none);
           whole = λ none. whole_by (Appends before end) none (λ runs summed lines.
               appends-more before mid end head _ wrote (appends-more mid at end (flat_map line runs) _ lines (subst (λ (c : T). Appends at end (foot c)) summed last)));
           denied = λ none. tt;
           silent = λ none. tt;
-          unseen = λ late. none_denied (account_denial caller (get old.state.accounts account)) _ _ (denial_is (look.works (w.looks.lied late)));
+          unseen = λ late. none_denied (account_denial caller (get old.state.accounts account)) _ _ (denial_is (look.works (w.looks.corruptions_stay late)));
           begun = λ late none. tt;
         }
 
@@ -146,9 +146,9 @@ module _ {T : Type 0} (line : Piece → List ℕ) (sum : List Piece → T) (foot
           looks = chain_ok old first new (Ok h) (IsHeadingShown old.state caller account) look tt (λ u. ⊤) tt w.looks;
           shown = λ none. tt;
           whole = λ none. tt;
-          denied = λ none. denial_is (w.looks.doubted none);
+          denied = λ none. denial_is (w.looks.defects_stay none);
           silent = λ none off. absurd off;
-          unseen = λ late. none_denied (account_denial caller (get old.state.accounts account)) _ _ (denial_is (look.works (w.looks.lied late)));
+          unseen = λ late. none_denied (account_denial caller (get old.state.accounts account)) _ _ (denial_is (look.works (w.looks.corruptions_stay late)));
           begun = λ late none off.
               let whole = whole_by (AppendsPrefix before end) (w.looks.works late) (λ runs summed lines.
               prefix-more before mid end head _ wrote (prefix-more mid at end (flat_map line runs) _ lines (subst (λ (c : T). AppendsPrefix at end (foot c)) summed part))) in

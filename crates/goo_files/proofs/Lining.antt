@@ -42,8 +42,8 @@ full a b u look = record {
   found = λ none. tt;
   same = look.same;
   rows_same = look.rows_same;
-  doubted = look.doubted;
-  lied = look.lied;
+  defects_stay = look.defects_stay;
+  corruptions_stay = look.corruptions_stay;
   kept = look.kept;
   told = look.told;
   works = tt;
@@ -51,22 +51,22 @@ full a b u look = record {
   crash = look.crash;
 }
 
--- the registry is well as long as nothing is in doubt
+-- the registry is well as long as there is no defect
 pub record IsWell (m : Moment) : Type 0 where
-  pub sound : m.doubts ≡ 0 → IsSound m.state
-  pub rows : m.doubts ≡ 0 → AreRowsOf m.state.at m.rows
+  pub sound : m.defects ≡ 0 → IsSound m.state
+  pub rows : m.defects ≡ 0 → AreRowsOf m.state.at m.rows
 
 -- what is found after what was seen of the rows ahead is right
 found_shown : (m : Moment) (caller : List ℕ) (account : ℕ) (place : RunPlace) (r : Result (Option Piece) Denial) → IsSeen account place.after m.rows place.ahead → IsRunRead m caller account place r → IsNextRunShown m.state caller account place.after r
 found_shown m caller account place (Ok found) seen is = (is.0, is.1 seen)
 found_shown m caller account place (Err why) seen is = is
 
-pub found_after : (a b : Moment) (caller : List ℕ) (account : ℕ) (place : RunPlace) (r : Result (Result (Option Piece) Denial) Fault) → (a.doubts ≡ 0 → IsSeen account place.after a.rows place.ahead)
+pub found_after : (a b : Moment) (caller : List ℕ) (account : ℕ) (place : RunPlace) (r : Result (Result (Option Piece) Denial) Fault) → (a.defects ≡ 0 → IsSeen account place.after a.rows place.ahead)
     → Looks a b r (IsRunRead a caller account place) → Looks a b r (IsNextRunShown a.state caller account place.after)
 found_after a b caller account place r seen look = looked_as a b r (IsRunRead a caller account place) (IsNextRunShown a.state caller account place.after) look (λ none x is. found_shown a caller account place x (seen none) is)
 
 -- what was seen after a run still is
-pub seen_on : (a b : Moment) (account last : ℕ) (after : Option ℕ) (ahead : Option Piece) → after ≡ Some last → (b.doubts ≡ 0 → b.rows ≡ a.rows) → (b.doubts ≡ 0 → IsSeen account (Some last) a.rows ahead) → b.doubts ≡ 0 → IsSeen account after b.rows ahead
+pub seen_on : (a b : Moment) (account last : ℕ) (after : Option ℕ) (ahead : Option Piece) → after ≡ Some last → (b.defects ≡ 0 → b.rows ≡ a.rows) → (b.defects ≡ 0 → IsSeen account (Some last) a.rows ahead) → b.defects ≡ 0 → IsSeen account after b.rows ahead
 seen_on a b account last after ahead is same seen none = subst (λ rows. IsSeen account after rows ahead) (sym (same none)) (subst (λ o. IsSeen account o a.rows ahead) (sym is) (seen none))
 
 -- a line a run, and a sum over the runs
@@ -82,7 +82,7 @@ module _ {T : Type 0} (line : Piece → List ℕ) (sum : List Piece → T) where
 
   pub record IsGoing (old mid : Moment) (before at : Option (List ℕ)) (account from : ℕ) (total : T) : Type 0 where
     pub looks : Looks old mid (Ok tt) (λ (u : Unit {0}). ⊤)
-    pub begun : mid.doubts ≡ 0 → IsBegun old.state account from total before at
+    pub begun : mid.defects ≡ 0 → IsBegun old.state account from total before at
 
   pub going_start : (m : Moment) (before : Option (List ℕ)) (account : ℕ) → IsReady m → IsWell m → IsGoing m m before before account 0 (sum [])
   going_start m before account ready well = record {
@@ -118,7 +118,7 @@ module _ {T : Type 0} (line : Piece → List ℕ) (sum : List Piece → T) where
     going_on more adds later p begins look wrote = record {
       looks = chain_ok old mid new tt (λ (u : Unit {0}). ⊤) going.looks (Ok (Some p)) (IsNextRunShown mid.state caller account after) tt look;
       begun = λ none.
-          let sure = look.doubted none in
+          let sure = look.defects_stay none in
           begun_run more adds later p begins (shown_at mid.state old.state caller account after (Ok (Some p)) (going.looks.same sure) (look.found none)) wrote (going.begun sure);
     }
 
@@ -128,7 +128,7 @@ module _ {T : Type 0} (line : Piece → List ℕ) (sum : List Piece → T) where
       looks = chain_ok old mid new tt (λ (u : Unit {0}). ⊤) going.looks (Ok None) (IsNextRunShown mid.state caller account after) tt look;
       shown = λ none. refl;
       whole = λ none.
-          let sure = look.doubted none in
+          let sure = look.defects_stay none in
           let b = going.begun sure in
           let shown = shown_at mid.state old.state caller account after (Ok None) (going.looks.same sure) (look.found none) in
           let same : b.all ≡ b.done = walk_end (kept_where (names account) (get old.state.at)) b.all (from_of after) b.done b.walk shown.1 in
@@ -174,25 +174,25 @@ module _ {T : Type 0} (line : Piece → List ℕ) (sum : List Piece → T) where
       unseen = λ late. tt;
       begun = λ late none off.
           let sure = look.works late in
-          let was = look.doubted sure in
+          let was = look.defects_stay sure in
           begun_part later p begins (shown_at mid.state old.state caller account after (Ok (Some p)) (going.looks.same was) (look.found sure)) (going.begun was) part;
     }
 
     -- a caller who was shown the account before isn't denied it now
-    not_denied : (why : Denial) → (mid.doubts ≡ 0 → account_denial caller (get old.state.accounts account) ≡ None) → mid.doubts ≡ 0 → IsNextRunShown mid.state caller account after (Err why) → ⊥
+    not_denied : (why : Denial) → (mid.defects ≡ 0 → account_denial caller (get old.state.accounts account) ≡ None) → mid.defects ≡ 0 → IsNextRunShown mid.state caller account after (Err why) → ⊥
     not_denied why shown sure denied =
         let now : account_denial caller (get old.state.accounts account) ≡ Some why = shown_at mid.state old.state caller account after (Err why) (going.looks.same sure) denied in
         let clash : None ≡ Some why = sym (shown sure) ∙ now in cc
 
     -- what keeps the records failed
-    pub going_fails : (mid.doubts ≡ 0 → account_denial caller (get old.state.accounts account) ≡ None) → (fault : ReadFault) → Looks mid new (split_denial {T = Option Piece} (Err fault)) (IsNextRunShown mid.state caller account after)
+    pub going_fails : (mid.defects ≡ 0 → account_denial caller (get old.state.accounts account) ≡ None) → (fault : ReadFault) → Looks mid new (split_denial {T = Option Piece} (Err fault)) (IsNextRunShown mid.state caller account after)
         → Writes {T = T} old new before at (Err (of_read fault)) None (AreLines line sum old.state account)
     going_fails shown NotAllowed look = record {
       looks = chain_ok old mid new tt (λ (u : Unit {0}). ⊤) going.looks (Err denial.NotAllowed) (IsNextRunShown mid.state caller account after) tt look;
       shown = λ none. tt;
       whole = λ none. tt;
-      denied = λ none. absurd (not_denied denial.NotAllowed shown (look.doubted none) (look.found none));
-      silent = λ none off. absurd (not_denied denial.NotAllowed shown (look.doubted none) (look.found none));
+      denied = λ none. absurd (not_denied denial.NotAllowed shown (look.defects_stay none) (look.found none));
+      silent = λ none off. absurd (not_denied denial.NotAllowed shown (look.defects_stay none) (look.found none));
       unseen = λ late. tt;
       begun = λ late none off. absurd off;
     }
@@ -200,8 +200,8 @@ module _ {T : Type 0} (line : Piece → List ℕ) (sum : List Piece → T) where
       looks = chain_ok old mid new tt (λ (u : Unit {0}). ⊤) going.looks (Err denial.Unknown) (IsNextRunShown mid.state caller account after) tt look;
       shown = λ none. tt;
       whole = λ none. tt;
-      denied = λ none. absurd (not_denied denial.Unknown shown (look.doubted none) (look.found none));
-      silent = λ none off. absurd (not_denied denial.Unknown shown (look.doubted none) (look.found none));
+      denied = λ none. absurd (not_denied denial.Unknown shown (look.defects_stay none) (look.found none));
+      silent = λ none off. absurd (not_denied denial.Unknown shown (look.defects_stay none) (look.found none));
       unseen = λ late. tt;
       begun = λ late none off. absurd off;
     }
@@ -212,7 +212,7 @@ module _ {T : Type 0} (line : Piece → List ℕ) (sum : List Piece → T) where
       denied = λ none. tt;
       silent = λ none off. absurd off;
       unseen = λ late. tt;
-      begun = λ late none off. begun_prefix at (going.begun (going.looks.works (look.lied late))) (kept_none at);
+      begun = λ late none off. begun_prefix at (going.begun (going.looks.works (look.corruptions_stay late))) (kept_none at);
     }
     going_fails shown Memory look = record {
       looks = chain_err old mid new tt (λ (u : Unit {0}). ⊤) going.looks fault.Memory (IsNextRunShown mid.state caller account after) look;
@@ -221,7 +221,7 @@ module _ {T : Type 0} (line : Piece → List ℕ) (sum : List Piece → T) where
       denied = λ none. tt;
       silent = λ none off. absurd off;
       unseen = λ late. tt;
-      begun = λ late none off. begun_prefix at (going.begun (going.looks.works (look.lied late))) (kept_none at);
+      begun = λ late none off. begun_prefix at (going.begun (going.looks.works (look.corruptions_stay late))) (kept_none at);
     }
 
     -- the row wasn't written
@@ -238,7 +238,7 @@ module _ {T : Type 0} (line : Piece → List ℕ) (sum : List Piece → T) where
           unseen = λ late. tt;
           begun = λ late none off.
               let sure = look.works late in
-              let was = look.doubted sure in
+              let was = look.defects_stay sure in
               begun_part later p begins (shown_at mid.state old.state caller account after (Ok (Some p)) (going.looks.same was) (look.found sure)) (going.begun was) part;
         }
 

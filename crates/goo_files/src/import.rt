@@ -32,7 +32,7 @@ pub fn import_declarations_watched<S: Shelf, R: Read, P: ImportWatcher>(
     reader: &mut R,
     progress: &mut P,
 ) -> Result<Report, ImportFault>
-    ensures whole { (S.seen registry.new.shelf).lies ≡ 0
+    ensures whole { (S.seen registry.new.shelf).corruptions ≡ 0
         → IfSome (R.remaining reader.old)
         (λ input. IfOk result
         (λ report. IsImported caller.now input (S.seen registry.old.shelf).state
@@ -44,17 +44,19 @@ pub fn import_declarations_watched<S: Shelf, R: Read, P: ImportWatcher>(
         → seen_of (S.seen registry.new.shelf) ≡ seen_of (S.seen registry.old.shelf)) }
     ensures before_lines { IfErr result
         (λ fault. IsBeforeRows fault.cause → fault.report.lines.items ≡ []) }
-    ensures part { (S.seen registry.new.shelf).lies ≡ 0
+    ensures part { (S.seen registry.new.shelf).corruptions ≡ 0
         → IfSome (R.remaining reader.old)
         (λ input. IfErr result
         (λ fault. IsBetweenRows fault.cause
         → StandsInPart caller.now input (S.seen registry.old.shelf).state
         (seen_of (S.seen registry.new.shelf)) fault.report.lines.items)) }
-    ensures lied { (S.seen registry.new.shelf).lies ≡ 0 → (S.seen registry.old.shelf).lies ≡ 0 }
+    ensures corruptions_stay { (S.seen registry.new.shelf).corruptions ≡ 0
+        → (S.seen registry.old.shelf).corruptions ≡ 0 }
     ensures told { (S.seen registry.old.shelf).refusals ≡ 0
         → IsToldIn result (S.seen registry.new.shelf).refusals }
     ensures end { OnOk result (IsAtEnd (R.remaining reader.new)) }
-    ensures found { (S.seen registry.new.shelf).lies ≡ 0 → (S.seen registry.old.shelf).doubts ≡ 0
+    ensures found { (S.seen registry.new.shelf).corruptions ≡ 0
+        → (S.seen registry.old.shelf).defects ≡ 0
         → IfSome (R.remaining reader.old) (λ input.
         FindsReported caller.now input (S.seen registry.old.shelf).state
         (seen_of (S.seen registry.new.shelf)) (reported result)
@@ -77,7 +79,7 @@ pub fn import_declarations<S: Shelf, R: Read>(
     caller: &HolderCode,
     reader: &mut R,
 ) -> Result<Report, ImportFault>
-    ensures whole { (S.seen registry.new.shelf).lies ≡ 0
+    ensures whole { (S.seen registry.new.shelf).corruptions ≡ 0
         → IfSome (R.remaining reader.old)
         (λ input. IfOk result
         (λ report. IsImported caller.now input (S.seen registry.old.shelf).state
@@ -89,17 +91,19 @@ pub fn import_declarations<S: Shelf, R: Read>(
         → seen_of (S.seen registry.new.shelf) ≡ seen_of (S.seen registry.old.shelf)) }
     ensures before_lines { IfErr result
         (λ fault. IsBeforeRows fault.cause → fault.report.lines.items ≡ []) }
-    ensures part { (S.seen registry.new.shelf).lies ≡ 0
+    ensures part { (S.seen registry.new.shelf).corruptions ≡ 0
         → IfSome (R.remaining reader.old)
         (λ input. IfErr result
         (λ fault. IsBetweenRows fault.cause
         → StandsInPart caller.now input (S.seen registry.old.shelf).state
         (seen_of (S.seen registry.new.shelf)) fault.report.lines.items)) }
-    ensures lied { (S.seen registry.new.shelf).lies ≡ 0 → (S.seen registry.old.shelf).lies ≡ 0 }
+    ensures corruptions_stay { (S.seen registry.new.shelf).corruptions ≡ 0
+        → (S.seen registry.old.shelf).corruptions ≡ 0 }
     ensures told { (S.seen registry.old.shelf).refusals ≡ 0
         → IsToldIn result (S.seen registry.new.shelf).refusals }
     ensures end { OnOk result (IsAtEnd (R.remaining reader.new)) }
-    ensures found { (S.seen registry.new.shelf).lies ≡ 0 → (S.seen registry.old.shelf).doubts ≡ 0
+    ensures found { (S.seen registry.new.shelf).corruptions ≡ 0
+        → (S.seen registry.old.shelf).defects ≡ 0
         → IfSome (R.remaining reader.old) (λ input.
         FindsReported caller.now input (S.seen registry.old.shelf).state
         (seen_of (S.seen registry.new.shelf)) (reported result)

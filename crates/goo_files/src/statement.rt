@@ -28,7 +28,7 @@ fn write_runs<S: Shelf, W: Write>(
     writer: &mut W,
 ) -> Result<Counts, ShowFault>
     requires ready { IsReady (S.seen registry.old.shelf) }
-    requires shown { (S.seen registry.old.shelf).doubts ≡ 0
+    requires shown { (S.seen registry.old.shelf).defects ≡ 0
         → account_denial caller.now (get (S.seen registry.old.shelf).state.accounts account)
         ≡ None }
     ensures { Writes (S.seen registry.old.shelf) (S.seen registry.new.shelf) (W.contents writer.old)

@@ -41,7 +41,7 @@ found_none m caller input after leaves none only = record {
 
 -- a fault came at the next one
 pub found_next : (old mid : State) (new : Seen) (caller input : List ℕ) (done : List Fields) (lines after : List RowResult) (row : Fields) (leaves : Option State → Type 0) → AreImported old mid caller done lines → AreFirstRows input done
-    → BeginsTable input (header ∷ (done ++ row ∷ [])) → after ≡ lines → (new.doubts ≡ 0 → new.state ≡ mid) → FindsEither leaves mid (state_after mid caller row) → FindsReported caller input old new after leaves
+    → BeginsTable input (header ∷ (done ++ row ∷ [])) → after ≡ lines → (new.defects ≡ 0 → new.state ≡ mid) → FindsEither leaves mid (state_after mid caller row) → FindsReported caller input old new after leaves
 found_next old mid new caller input done lines after row leaves so first more same unchanged either =
     let last : importing old caller (done ++ row ∷ []) ≡ with_row caller (importing old caller done) row = with-last caller (nothing_imported old) done row in
     let leaves_it : state_after mid caller row ≡ (importing old caller (done ++ row ∷ [])).state = ap (λ (s : State). state_after s caller row) so.state ∙ ap (λ (a : Imported). a.state) (sym last) in

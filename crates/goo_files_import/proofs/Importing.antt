@@ -35,7 +35,7 @@ imported_more old mid new caller done lines more row so added state =
     }
 
 -- nothing was called
-pub stays_still : (m : Seen) → m.doubts ≡ 0 → StaysSure m m
+pub stays_still : (m : Seen) → m.defects ≡ 0 → StaysSure m m
 stays_still m none = record { counts = omega arith; sure = λ _. none }
 
 -- one call after another
@@ -47,18 +47,18 @@ stays_both a b c one two = record {
 
 -- these rows were applied, and no others
 pub record IsImporting (old mid : Seen) (caller : List ℕ) (done : List Fields) (lines : List RowResult) : Type 0 where
-  pub lied : mid.lies ≡ 0 → old.lies ≡ 0
-  pub doubted : mid.doubts ≡ 0 → old.doubts ≡ 0
+  pub corruptions_stay : mid.corruptions ≡ 0 → old.corruptions ≡ 0
+  pub defects_stay : mid.defects ≡ 0 → old.defects ≡ 0
   pub told : old.refusals ≡ 0 → mid.refusals ≡ 0
-  pub honest : mid.lies ≡ 0 → AreImported old.state mid.state caller done lines
-  pub sure : mid.doubts ≡ 0 → AreImported old.state mid.state caller done lines
-  pub works : mid.lies ≡ 0 → old.doubts ≡ 0 → mid.doubts ≡ 0
-  pub stays : mid.lies ≡ 0 → old.doubts ≡ 0 → StaysSure old mid
+  pub honest : mid.corruptions ≡ 0 → AreImported old.state mid.state caller done lines
+  pub sure : mid.defects ≡ 0 → AreImported old.state mid.state caller done lines
+  pub works : mid.corruptions ≡ 0 → old.defects ≡ 0 → mid.defects ≡ 0
+  pub stays : mid.corruptions ≡ 0 → old.defects ≡ 0 → StaysSure old mid
 
 pub importing_start : (m : Seen) (caller : List ℕ) → IsImporting m m caller [] []
 importing_start m caller = record {
-  lied = λ none. none;
-  doubted = λ none. none;
+  corruptions_stay = λ none. none;
+  defects_stay = λ none. none;
   told = λ none. none;
   honest = λ none. imported_none m.state caller;
   sure = λ none. imported_none m.state caller;
@@ -68,29 +68,29 @@ importing_start m caller = record {
 
 -- one more row
 pub importing_on : (old mid new : Seen) (caller : List ℕ) (done : List Fields) (lines more : List RowResult) (row : Fields) → IsImporting old mid caller done lines
-    → (new.lies ≡ 0 → mid.lies ≡ 0) → (new.doubts ≡ 0 → mid.doubts ≡ 0) → (mid.refusals ≡ 0 → new.refusals ≡ 0)
-    → (new.lies ≡ 0 → more ≡ lines ++ row_result mid.state caller row ∷ []) → (new.lies ≡ 0 → new.state ≡ state_after mid.state caller row)
-    → (new.doubts ≡ 0 → more ≡ lines ++ row_result mid.state caller row ∷ []) → (new.doubts ≡ 0 → new.state ≡ state_after mid.state caller row)
-    → (new.lies ≡ 0 → mid.doubts ≡ 0 → new.doubts ≡ 0) → (new.lies ≡ 0 → mid.doubts ≡ 0 → StaysSure mid new)
+    → (new.corruptions ≡ 0 → mid.corruptions ≡ 0) → (new.defects ≡ 0 → mid.defects ≡ 0) → (mid.refusals ≡ 0 → new.refusals ≡ 0)
+    → (new.corruptions ≡ 0 → more ≡ lines ++ row_result mid.state caller row ∷ []) → (new.corruptions ≡ 0 → new.state ≡ state_after mid.state caller row)
+    → (new.defects ≡ 0 → more ≡ lines ++ row_result mid.state caller row ∷ []) → (new.defects ≡ 0 → new.state ≡ state_after mid.state caller row)
+    → (new.corruptions ≡ 0 → mid.defects ≡ 0 → new.defects ≡ 0) → (new.corruptions ≡ 0 → mid.defects ≡ 0 → StaysSure mid new)
     → IsImporting old new caller (done ++ row ∷ []) more
-importing_on old mid new caller done lines more row so lied doubted told added state sure_added sure_state works stays = record {
-  lied = λ none. so.lied (lied none);
-  doubted = λ none. so.doubted (doubted none);
+importing_on old mid new caller done lines more row so corruptions_stay defects_stay told added state sure_added sure_state works stays = record {
+  corruptions_stay = λ none. so.corruptions_stay (corruptions_stay none);
+  defects_stay = λ none. so.defects_stay (defects_stay none);
   told = λ none. told (so.told none);
-  honest = λ none. imported_more old.state mid.state new.state caller done lines more row (so.honest (lied none)) (added none) (state none);
-  sure = λ none. imported_more old.state mid.state new.state caller done lines more row (so.sure (doubted none)) (sure_added none) (sure_state none);
-  works = λ none sure. works none (so.works (lied none) sure);
-  stays = λ none sure. stays_both old mid new (so.stays (lied none) sure) (stays none (so.works (lied none) sure));
+  honest = λ none. imported_more old.state mid.state new.state caller done lines more row (so.honest (corruptions_stay none)) (added none) (state none);
+  sure = λ none. imported_more old.state mid.state new.state caller done lines more row (so.sure (defects_stay none)) (sure_added none) (sure_state none);
+  works = λ none sure. works none (so.works (corruptions_stay none) sure);
+  stays = λ none sure. stays_both old mid new (so.stays (corruptions_stay none) sure) (stays none (so.works (corruptions_stay none) sure));
 }
 
 -- all rows were
 imported_all : (old new : State) (caller input : List ℕ) (done : List Fields) (lines : List RowResult) → AreImported old new caller done lines → AreRows input done → IsImported caller input old new lines
 imported_all old new caller input done lines are rows = record { rows = done; are_rows = rows; lines_are = are.lines_are; state = are.state }
 
-pub importing_ends : (old new : Seen) (caller input : List ℕ) (done : List Fields) (lines : List RowResult) → IsImporting old new caller done lines → AreRows input done → new.lies ≡ 0 → IsImported caller input old.state new.state lines
+pub importing_ends : (old new : Seen) (caller input : List ℕ) (done : List Fields) (lines : List RowResult) → IsImporting old new caller done lines → AreRows input done → new.corruptions ≡ 0 → IsImported caller input old.state new.state lines
 importing_ends old new caller input done lines so rows none = imported_all old.state new.state caller input done lines (so.honest none) rows
 
-pub importing_ends_sure : (old new : Seen) (caller input : List ℕ) (done : List Fields) (lines : List RowResult) → IsImporting old new caller done lines → AreRows input done → new.doubts ≡ 0 → IsImported caller input old.state new.state lines
+pub importing_ends_sure : (old new : Seen) (caller input : List ℕ) (done : List Fields) (lines : List RowResult) → IsImporting old new caller done lines → AreRows input done → new.defects ≡ 0 → IsImported caller input old.state new.state lines
 importing_ends_sure old new caller input done lines so rows none = imported_all old.state new.state caller input done lines (so.sure none) rows
 
 pub some_all : {A : Type 0} (o : Option A) (P : A → Type 0) → ((x : A) → P x) → IfSome o P
@@ -99,17 +99,17 @@ some_all (Some x) P p = p x
 
 -- no more were
 imported_first : (old mid : State) (new : Seen) (caller input : List ℕ) (done : List Fields) (lines after : List RowResult) → AreImported old mid caller done lines → AreFirstRows input done
-    → after ≡ lines → (new.doubts ≡ 0 → new.state ≡ (importing old caller done).state) → StandsInPart caller input old new after
+    → after ≡ lines → (new.defects ≡ 0 → new.state ≡ (importing old caller done).state) → StandsInPart caller input old new after
 imported_first old mid new caller input done lines after are first kept state = record { rows = done; are_first = first; lines_are = kept ∙ are.lines_are; state = state }
 
 pub importing_stops : (old mid new : Seen) (caller input : List ℕ) (done : List Fields) (lines after : List RowResult) → IsImporting old mid caller done lines → AreFirstRows input done
-    → (new.lies ≡ 0 → mid.lies ≡ 0) → (new.doubts ≡ 0 → mid.doubts ≡ 0) → (new.doubts ≡ 0 → new.state ≡ mid.state)
-    → after ≡ lines → new.lies ≡ 0 → StandsInPart caller input old.state new after
-importing_stops old mid new caller input done lines after so first lied doubted same kept none =
-    imported_first old.state mid.state new caller input done lines after (so.honest (lied none)) first kept (λ sure. same sure ∙ (so.sure (doubted sure)).state)
+    → (new.corruptions ≡ 0 → mid.corruptions ≡ 0) → (new.defects ≡ 0 → mid.defects ≡ 0) → (new.defects ≡ 0 → new.state ≡ mid.state)
+    → after ≡ lines → new.corruptions ≡ 0 → StandsInPart caller input old.state new after
+importing_stops old mid new caller input done lines after so first corruptions_stay defects_stay same kept none =
+    imported_first old.state mid.state new caller input done lines after (so.honest (corruptions_stay none)) first kept (λ sure. same sure ∙ (so.sure (defects_stay sure)).state)
 
 pub importing_stops_sure : (old mid new : Seen) (caller input : List ℕ) (done : List Fields) (lines after : List RowResult) → IsImporting old mid caller done lines → AreFirstRows input done
-    → (new.doubts ≡ 0 → mid.doubts ≡ 0) → (new.doubts ≡ 0 → new.state ≡ mid.state)
-    → after ≡ lines → new.doubts ≡ 0 → StandsInPart caller input old.state new after
-importing_stops_sure old mid new caller input done lines after so first doubted same kept none =
-    imported_first old.state mid.state new caller input done lines after (so.sure (doubted none)) first kept (λ sure. same sure ∙ (so.sure (doubted sure)).state)
+    → (new.defects ≡ 0 → mid.defects ≡ 0) → (new.defects ≡ 0 → new.state ≡ mid.state)
+    → after ≡ lines → new.defects ≡ 0 → StandsInPart caller input old.state new after
+importing_stops_sure old mid new caller input done lines after so first defects_stay same kept none =
+    imported_first old.state mid.state new caller input done lines after (so.sure (defects_stay none)) first kept (λ sure. same sure ∙ (so.sure (defects_stay sure)).state)

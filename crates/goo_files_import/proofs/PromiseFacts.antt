@@ -64,7 +64,7 @@ of_none : (old new : Seen) (caller input : List ℕ) → IsSound old.state → n
 of_none old new caller input sound is = ([], inl refl, promised old.state new.state [] (rows_obey caller []) sound (ap (λ (m : Seen). m.state) is))
 
 by_cause : (old new : Seen) (caller input : List ℕ) (cause : Cause) (lines : List RowResult) → IsSound old.state → (IsBeforeRows cause → new ≡ old) → (IsBetweenRows cause → StandsInPart caller input old.state new lines)
-    → new.doubts ≡ 0 → FirstPromised caller input old.state new.state
+    → new.defects ≡ 0 → FirstPromised caller input old.state new.state
 by_cause old new caller input Header lines sound before part sure = of_none old new caller input sound (before tt)
 by_cause old new caller input Read lines sound before part sure = of_none old new caller input sound (before tt)
 by_cause old new caller input Store lines sound before part sure = let stands = part tt in (stands.rows, stands.are_first, of_rows old.state new.state caller stands.rows sound (stands.state sure))

@@ -26,5 +26,5 @@ pub record FindsReported (caller input : List ℕ) (old : State) (new : Seen) (l
   pub upto : List (List (List ℕ))
   pub are : AreUpTo input rows upto
   pub lines_are : lines ≡ (importing old caller rows).lines
-  pub state : new.doubts ≡ 0 → new.state ≡ (importing old caller rows).state
+  pub state : new.defects ≡ 0 → new.state ≡ (importing old caller rows).state
   pub found : FindsEither leaves (importing old caller rows).state (importing old caller upto).state

@@ -21,7 +21,7 @@ pub record StandsInPart (caller input : List ℕ) (old : State) (new : Seen) (li
   pub rows : List (List (List ℕ))
   pub are_first : AreFirstRows input rows
   pub lines_are : lines ≡ (importing old caller rows).lines
-  pub state : new.doubts ≡ 0 → new.state ≡ (importing old caller rows).state
+  pub state : new.defects ≡ 0 → new.state ≡ (importing old caller rows).state
 
 -- the fault came before the rows
 abbrev pub IsBeforeRows : Cause → Type 0

@@ -40,31 +40,32 @@ fn apply_row<D: Desk>(
     caller: &HolderCode,
     row: &ByteRecord,
 ) -> Result<RowResult, Fault>
-    ensures answer { (D.seen desk.new).lies ≡ 0
+    ensures answer { (D.seen desk.new).corruptions ≡ 0
         → IfOk result
         (λ line. line ≡ row_result (D.seen desk.old).state caller.now (fields_of row.now)) }
-    ensures state { (D.seen desk.new).lies ≡ 0
+    ensures state { (D.seen desk.new).corruptions ≡ 0
         → OnOk result
         ((D.seen desk.new).state
         ≡ state_after (D.seen desk.old).state caller.now (fields_of row.now)) }
-    ensures sure_answer { (D.seen desk.new).doubts ≡ 0
+    ensures sure_answer { (D.seen desk.new).defects ≡ 0
         → IfOk result
         (λ line. line ≡ row_result (D.seen desk.old).state caller.now (fields_of row.now)) }
-    ensures sure_state { (D.seen desk.new).doubts ≡ 0
+    ensures sure_state { (D.seen desk.new).defects ≡ 0
         → OnOk result
         ((D.seen desk.new).state
         ≡ state_after (D.seen desk.old).state caller.now (fields_of row.now)) }
-    ensures unchanged { (D.seen desk.new).doubts ≡ 0
+    ensures unchanged { (D.seen desk.new).defects ≡ 0
         → OnErr result ((D.seen desk.new).state ≡ (D.seen desk.old).state) }
-    ensures doubted { (D.seen desk.new).doubts ≡ 0 → (D.seen desk.old).doubts ≡ 0 }
-    ensures lied { (D.seen desk.new).lies ≡ 0 → (D.seen desk.old).lies ≡ 0 }
+    ensures defects_stay { (D.seen desk.new).defects ≡ 0 → (D.seen desk.old).defects ≡ 0 }
+    ensures corruptions_stay { (D.seen desk.new).corruptions ≡ 0
+        → (D.seen desk.old).corruptions ≡ 0 }
     ensures told { (D.seen desk.old).refusals ≡ 0 → IsTold result (D.seen desk.new).refusals }
-    ensures works { (D.seen desk.new).lies ≡ 0 → (D.seen desk.old).doubts ≡ 0
-        → OnOk result ((D.seen desk.new).doubts ≡ 0) }
-    ensures crash { (D.seen desk.new).lies ≡ 0 → (D.seen desk.old).doubts ≡ 0
+    ensures works { (D.seen desk.new).corruptions ≡ 0 → (D.seen desk.old).defects ≡ 0
+        → OnOk result ((D.seen desk.new).defects ≡ 0) }
+    ensures crash { (D.seen desk.new).corruptions ≡ 0 → (D.seen desk.old).defects ≡ 0
         → FindsEither (D.leaves desk.new) (D.seen desk.old).state
         (state_after (D.seen desk.old).state caller.now (fields_of row.now)) }
-    ensures stays { (D.seen desk.new).lies ≡ 0 → (D.seen desk.old).doubts ≡ 0
+    ensures stays { (D.seen desk.new).corruptions ≡ 0 → (D.seen desk.old).defects ≡ 0
         → StaysSure (D.seen desk.old) (D.seen desk.new) }
 {
     match read_row(caller, row) {
@@ -81,36 +82,37 @@ fn import_row<D: Desk>(
     lines: &mut Vec<RowResult>,
     row: &ByteRecord,
 ) -> Result<(), Fault>
-    ensures lines { (D.seen desk.new).lies ≡ 0
+    ensures lines { (D.seen desk.new).corruptions ≡ 0
         → OnOk result
         (lines.new.items
         ≡ lines.old.items
         ++ row_result (D.seen desk.old).state caller.now (fields_of row.now) ∷ []) }
-    ensures state { (D.seen desk.new).lies ≡ 0
+    ensures state { (D.seen desk.new).corruptions ≡ 0
         → OnOk result
         ((D.seen desk.new).state
         ≡ state_after (D.seen desk.old).state caller.now (fields_of row.now)) }
-    ensures sure_lines { (D.seen desk.new).doubts ≡ 0
+    ensures sure_lines { (D.seen desk.new).defects ≡ 0
         → OnOk result
         (lines.new.items
         ≡ lines.old.items
         ++ row_result (D.seen desk.old).state caller.now (fields_of row.now) ∷ []) }
-    ensures sure_state { (D.seen desk.new).doubts ≡ 0
+    ensures sure_state { (D.seen desk.new).defects ≡ 0
         → OnOk result
         ((D.seen desk.new).state
         ≡ state_after (D.seen desk.old).state caller.now (fields_of row.now)) }
     ensures kept { OnErr result (lines.new.items ≡ lines.old.items) }
-    ensures unchanged { (D.seen desk.new).doubts ≡ 0
+    ensures unchanged { (D.seen desk.new).defects ≡ 0
         → OnErr result ((D.seen desk.new).state ≡ (D.seen desk.old).state) }
-    ensures doubted { (D.seen desk.new).doubts ≡ 0 → (D.seen desk.old).doubts ≡ 0 }
-    ensures lied { (D.seen desk.new).lies ≡ 0 → (D.seen desk.old).lies ≡ 0 }
+    ensures defects_stay { (D.seen desk.new).defects ≡ 0 → (D.seen desk.old).defects ≡ 0 }
+    ensures corruptions_stay { (D.seen desk.new).corruptions ≡ 0
+        → (D.seen desk.old).corruptions ≡ 0 }
     ensures told { (D.seen desk.old).refusals ≡ 0 → IsTold result (D.seen desk.new).refusals }
-    ensures works { (D.seen desk.new).lies ≡ 0 → (D.seen desk.old).doubts ≡ 0
-        → OnOk result ((D.seen desk.new).doubts ≡ 0) }
-    ensures crash { (D.seen desk.new).lies ≡ 0 → (D.seen desk.old).doubts ≡ 0
+    ensures works { (D.seen desk.new).corruptions ≡ 0 → (D.seen desk.old).defects ≡ 0
+        → OnOk result ((D.seen desk.new).defects ≡ 0) }
+    ensures crash { (D.seen desk.new).corruptions ≡ 0 → (D.seen desk.old).defects ≡ 0
         → FindsEither (D.leaves desk.new) (D.seen desk.old).state
         (state_after (D.seen desk.old).state caller.now (fields_of row.now)) }
-    ensures stays { (D.seen desk.new).lies ≡ 0 → (D.seen desk.old).doubts ≡ 0
+    ensures stays { (D.seen desk.new).corruptions ≡ 0 → (D.seen desk.old).defects ≡ 0
         → StaysSure (D.seen desk.old) (D.seen desk.new) }
 {
     if lines.try_reserve(1).is_err() {
@@ -170,11 +172,11 @@ pub fn import_bytes<D: Desk, P: ImportWatcher>(
     input: &[u8],
     progress: &mut P,
 ) -> Result<Report, ImportFault>
-    ensures whole { (D.seen desk.new).lies ≡ 0
+    ensures whole { (D.seen desk.new).corruptions ≡ 0
         → IfOk result
         (λ report. IsImported caller.now input.now (D.seen desk.old).state
         (D.seen desk.new).state report.lines.items) }
-    ensures sure_whole { (D.seen desk.new).doubts ≡ 0
+    ensures sure_whole { (D.seen desk.new).defects ≡ 0
         → IfOk result
         (λ report. IsImported caller.now input.now (D.seen desk.old).state
         (D.seen desk.new).state report.lines.items) }
@@ -185,25 +187,26 @@ pub fn import_bytes<D: Desk, P: ImportWatcher>(
         (λ fault. IsBeforeRows fault.cause → (D.seen desk.new ≡ D.seen desk.old)) }
     ensures before_lines { IfErr result
         (λ fault. IsBeforeRows fault.cause → fault.report.lines.items ≡ []) }
-    ensures part { (D.seen desk.new).lies ≡ 0
+    ensures part { (D.seen desk.new).corruptions ≡ 0
         → IfErr result
         (λ fault. IsBetweenRows fault.cause
         → StandsInPart caller.now input.now (D.seen desk.old).state
         (D.seen desk.new) fault.report.lines.items) }
-    ensures sure_part { (D.seen desk.new).doubts ≡ 0
+    ensures sure_part { (D.seen desk.new).defects ≡ 0
         → IfErr result
         (λ fault. IsBetweenRows fault.cause
         → StandsInPart caller.now input.now (D.seen desk.old).state
         (D.seen desk.new) fault.report.lines.items) }
-    ensures doubted { (D.seen desk.new).doubts ≡ 0 → (D.seen desk.old).doubts ≡ 0 }
-    ensures lied { (D.seen desk.new).lies ≡ 0 → (D.seen desk.old).lies ≡ 0 }
+    ensures defects_stay { (D.seen desk.new).defects ≡ 0 → (D.seen desk.old).defects ≡ 0 }
+    ensures corruptions_stay { (D.seen desk.new).corruptions ≡ 0
+        → (D.seen desk.old).corruptions ≡ 0 }
     ensures told { (D.seen desk.old).refusals ≡ 0 → IsToldIn result (D.seen desk.new).refusals }
-    ensures works { (D.seen desk.new).lies ≡ 0 → (D.seen desk.old).doubts ≡ 0
-        → OnOk result ((D.seen desk.new).doubts ≡ 0) }
-    ensures found { (D.seen desk.new).lies ≡ 0 → (D.seen desk.old).doubts ≡ 0
+    ensures works { (D.seen desk.new).corruptions ≡ 0 → (D.seen desk.old).defects ≡ 0
+        → OnOk result ((D.seen desk.new).defects ≡ 0) }
+    ensures found { (D.seen desk.new).corruptions ≡ 0 → (D.seen desk.old).defects ≡ 0
         → FindsReported caller.now input.now (D.seen desk.old).state (D.seen desk.new)
         (reported result) (D.leaves desk.new) }
-    ensures stays { (D.seen desk.new).lies ≡ 0 → (D.seen desk.old).doubts ≡ 0
+    ensures stays { (D.seen desk.new).corruptions ≡ 0 → (D.seen desk.old).defects ≡ 0
         → StaysSure (D.seen desk.old) (D.seen desk.new) }
 {
     announce(alloc, input, progress);
@@ -243,7 +246,7 @@ pub fn import_bytes<D: Desk, P: ImportWatcher>(
 /// rows that were applied, all of them or the first ones
 /// ([`import_is_a_run`](crate::import_is_a_run) says that an import is a run of its rows'
 /// requests). `found`: however it ends, the rows of the report are first rows that a crash finds
-/// applied, and at most one row more. `stays`: however it ends, nothing is in doubt unless a call
+/// applied, and at most one row more. `stays`: however it ends, there is no defect unless a call
 /// below failed. So after a `Memory` with no failed call the state is known, and a crash finds it.
 ///
 /// # Errors
@@ -257,7 +260,7 @@ pub fn import_declarations<D: Desk, R: Read, P: ImportWatcher>(
     reader: &mut R,
     progress: &mut P,
 ) -> Result<Report, ImportFault>
-    ensures whole { (D.seen desk.new).lies ≡ 0
+    ensures whole { (D.seen desk.new).corruptions ≡ 0
         → IfSome (R.remaining reader.old)
         (λ input. IfOk result
         (λ report. IsImported caller.now input (D.seen desk.old).state
@@ -270,23 +273,24 @@ pub fn import_declarations<D: Desk, R: Read, P: ImportWatcher>(
         (λ fault. IsBeforeRows fault.cause → (D.seen desk.new ≡ D.seen desk.old)) }
     ensures before_lines { IfErr result
         (λ fault. IsBeforeRows fault.cause → fault.report.lines.items ≡ []) }
-    ensures part { (D.seen desk.new).lies ≡ 0
+    ensures part { (D.seen desk.new).corruptions ≡ 0
         → IfSome (R.remaining reader.old)
         (λ input. IfErr result
         (λ fault. IsBetweenRows fault.cause
         → StandsInPart caller.now input (D.seen desk.old).state
         (D.seen desk.new) fault.report.lines.items)) }
-    ensures lied { (D.seen desk.new).lies ≡ 0 → (D.seen desk.old).lies ≡ 0 }
+    ensures corruptions_stay { (D.seen desk.new).corruptions ≡ 0
+        → (D.seen desk.old).corruptions ≡ 0 }
     ensures told { (D.seen desk.old).refusals ≡ 0 → IsToldIn result (D.seen desk.new).refusals }
     ensures end { OnOk result (IsAtEnd (R.remaining reader.new)) }
-    ensures promised { IsSound (D.seen desk.old).state → (D.seen desk.new).lies ≡ 0
+    ensures promised { IsSound (D.seen desk.old).state → (D.seen desk.new).corruptions ≡ 0
         → IfSome (R.remaining reader.old)
         (λ input. KeepsPromise caller.now input (D.seen desk.old).state (D.seen desk.new) result) }
-    ensures found { (D.seen desk.new).lies ≡ 0 → (D.seen desk.old).doubts ≡ 0
+    ensures found { (D.seen desk.new).corruptions ≡ 0 → (D.seen desk.old).defects ≡ 0
         → IfSome (R.remaining reader.old) (λ input.
         FindsReported caller.now input (D.seen desk.old).state (D.seen desk.new)
         (reported result) (D.leaves desk.new)) }
-    ensures stays { (D.seen desk.new).lies ≡ 0 → (D.seen desk.old).doubts ≡ 0
+    ensures stays { (D.seen desk.new).corruptions ≡ 0 → (D.seen desk.old).defects ≡ 0
         → StaysSure (D.seen desk.old) (D.seen desk.new) }
 {
     match read_whole(alloc, reader, MOST_INPUT) {

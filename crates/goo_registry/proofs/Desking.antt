@@ -14,8 +14,8 @@ applied old new result q done = record {
   state = done.state;
   unchanged = done.unchanged;
   works = done.works;
-  doubted = done.doubted;
-  lied = done.lied;
+  defects_stay = done.defects_stay;
+  corruptions_stay = done.corruptions_stay;
   told = done.told;
   stays = λ honest sure. record { counts = (done.stays honest sure).counts; sure = (done.stays honest sure).sure };
 }

@@ -82,9 +82,9 @@ pub fn find_next_run<S: Shelf>(
     account: AccountNo,
     place: &mut RunPlace,
 ) -> Result<Result<Option<Piece>, Denial>, Fault>
-    requires rows { (S.seen shelf.old).doubts ≡ 0
+    requires rows { (S.seen shelf.old).defects ≡ 0
         → AreRowsOf (S.seen shelf.old).state.at (S.seen shelf.old).rows }
-    requires sound { (S.seen shelf.old).doubts ≡ 0 → IsSound (S.seen shelf.old).state }
+    requires sound { (S.seen shelf.old).defects ≡ 0 → IsSound (S.seen shelf.old).state }
     ensures looks { Looks (S.seen shelf.old) (S.seen shelf.new) result
         (IsRunRead (S.seen shelf.old) caller.now account place.old) }
     ensures begins { IfOk result
@@ -93,7 +93,7 @@ pub fn find_next_run<S: Shelf>(
         (λ shown. IfOk shown (λ found. IsPlaceAfter place.old found place.new)) }
     ensures denied { IfOk result (λ shown. OnErr shown (place.new ≡ place.old)) }
     ensures stays { OnErr result (place.new ≡ place.old) }
-    ensures ahead { (S.seen shelf.new).doubts ≡ 0
+    ensures ahead { (S.seen shelf.new).defects ≡ 0
         → IfOk result
         (λ shown. IfOk shown
         (λ found. IfSome found

@@ -54,8 +54,8 @@ use std::alloc::Global;
 #[derive(Drop)]
 pub struct Registry<S: Shelf> {
     shelf: S,
-    ghost sound: { (S.seen shelf).doubts ≡ 0 → IsSound (S.seen shelf).state },
-    ghost kept: { (S.seen shelf).doubts ≡ 0 → AreRowsOf (S.seen shelf).state.at (S.seen shelf).rows } by { λ x y i none. rows-prop (S.seen shelf).state.at (S.seen shelf).rows (x none) (y none) i },
+    ghost sound: { (S.seen shelf).defects ≡ 0 → IsSound (S.seen shelf).state },
+    ghost kept: { (S.seen shelf).defects ≡ 0 → AreRowsOf (S.seen shelf).state.at (S.seen shelf).rows } by { λ x y i none. rows-prop (S.seen shelf).state.at (S.seen shelf).rows (x none) (y none) i },
 }
 
 /// The result of an answer that may be a denial or a fault.
@@ -74,8 +74,8 @@ fn read_result<T: Drop>(answer: Result<Result<T, Denial>, Fault>) -> Result<T, R
 impl<S: Shelf> Registry<S> {
     /// The registry whose records a shelf keeps.
     pub fn new(shelf: S) -> Registry<S>
-        requires sound { (S.seen shelf).doubts ≡ 0 → IsSound (S.seen shelf).state }
-        requires rows { (S.seen shelf).doubts ≡ 0
+        requires sound { (S.seen shelf).defects ≡ 0 → IsSound (S.seen shelf).state }
+        requires rows { (S.seen shelf).defects ≡ 0
             → AreRowsOf (S.seen shelf).state.at (S.seen shelf).rows }
         ensures { result.shelf ≡ shelf }
     {
@@ -166,30 +166,30 @@ impl<S: Shelf> Registry<S> {
         ensures runs { Runs (S.seen self.old.shelf) (S.seen self.new.shelf) result requests.now }
         ensures one { RunsAsOne (S.seen self.old.shelf)
             (S.seen self.new.shelf) result requests.now }
-        ensures energy { (S.seen self.new.shelf).doubts ≡ 0
+        ensures energy { (S.seen self.new.shelf).defects ≡ 0
             → IsBalanced (S.seen self.new.shelf).state }
-        ensures one_place { (S.seen self.new.shelf).doubts ≡ 0
+        ensures one_place { (S.seen self.new.shelf).defects ≡ 0
             → HaveTheirPlace (S.seen self.old.shelf).state (answered requests.now result)
             (S.seen self.new.shelf).state }
-        ensures known { (S.seen self.new.shelf).doubts ≡ 0
+        ensures known { (S.seen self.new.shelf).defects ≡ 0
             → AreThoseBrought (S.seen self.old.shelf).state (answered requests.now result)
             (S.seen self.new.shelf).state }
-        ensures others_idle { (S.seen self.new.shelf).doubts ≡ 0
+        ensures others_idle { (S.seen self.new.shelf).defects ≡ 0
             → OthersMakeNoDifference (S.seen self.old.shelf).state (answered requests.now result)
             (answers result) (S.seen self.new.shelf).state }
-        ensures moved_by_right { (S.seen self.new.shelf).doubts ≡ 0
+        ensures moved_by_right { (S.seen self.new.shelf).defects ≡ 0
             → IsMovedByRight (S.seen self.old.shelf).state (answered requests.now result)
             (S.seen self.new.shelf).state }
-        ensures for_good { (S.seen self.new.shelf).doubts ≡ 0
+        ensures for_good { (S.seen self.new.shelf).defects ≡ 0
             → IsForGood (S.seen self.old.shelf).state (answered requests.now result)
             (answers result) (S.seen self.new.shelf).state }
-        ensures in_time { (S.seen self.new.shelf).doubts ≡ 0
+        ensures in_time { (S.seen self.new.shelf).defects ≡ 0
             → IsInTime (S.seen self.old.shelf).state (answered requests.now result)
             (S.seen self.new.shelf).state }
-        ensures adds_up { (S.seen self.new.shelf).doubts ≡ 0
+        ensures adds_up { (S.seen self.new.shelf).defects ≡ 0
             → AddsUp (S.seen self.old.shelf).state (answered requests.now result) (answers result)
             (S.seen self.new.shelf).state }
-        ensures independent { (S.seen self.new.shelf).doubts ≡ 0
+        ensures independent { (S.seen self.new.shelf).defects ≡ 0
             → IsIndependent (S.seen self.old.shelf).state (answered requests.now result)
             (S.seen self.new.shelf).state }
     {
@@ -297,7 +297,7 @@ impl<S: Shelf> Registry<S> {
             (λ found. IfSome found (BeginsFrom (from_of place.old.after))) }
         ensures place { IfOk result (λ found. IsPlaceAfter place.old found place.new) }
         ensures stays { OnErr result (place.new ≡ place.old) }
-        ensures ahead { (S.seen self.new.shelf).doubts ≡ 0
+        ensures ahead { (S.seen self.new.shelf).defects ≡ 0
             → IfOk result
             (λ found. IfSome found
             (λ run. IsSeen account (Some run.last) (S.seen self.old.shelf).rows place.new.ahead)) }

@@ -9,7 +9,7 @@ use Rattle.goo_spec.specs.State as registry
 use Rattle.goo_core_shelf.specs.Shelf as shelf
 use Rattle.goo_spec_tables.specs.States.{state_of}
 use Rattle.goo_tables_rows.specs.Rows.{Tables}
-use Rattle.goo_tables_rows.specs.Stands.{Looks, doubts}
+use Rattle.goo_tables_rows.specs.Stands.{Looks, defects}
 use Rattle.goo_tables_rows.specs.declared.account.AccountRow.{AccountRow}
 use Rattle.goo_store_changes.specs.Changes.{made}
 use Rattle.goo_store_changes.specs.declared.change.TableChange.{TableChange}
@@ -26,7 +26,7 @@ use Rattle.goo_store.specs.declared.cache.Cache.{Cache}
 
 -- what is kept is so after a statement too
 pub so_on : (old new : State) (it : IsWell old) {T : Type 0} (r : Result T Error) (right : Tables → T → Type 0) → Looks old new r right → (cache : Cache) → HoldsCache old cache
-    → doubts new ≡ 0 → IsCacheOf cache (tables_in new)
+    → defects new ≡ 0 → IsCacheOf cache (tables_in new)
 so_on old new it r right looks cache cached none = so_still old new it r right looks (IsCacheOf cache) none (cached.so (before old new it r right looks none))
 
 -- the database is open where a statement was answered
@@ -62,21 +62,21 @@ lasts_with_account old new a b number r looks first last answered same keeps cac
 }
 
 -- after calls of which it is not known whether they were answered
-pub lasts_unanswered : (old new : State) (cache : Cache) → (doubts new ≡ 0 → (doubts old ≡ 0) × (tables_in new ≡ tables_in old)) → HoldsCache old cache → HoldsCache new (record { answered = false; accounts = cache.accounts; ahead = cache.ahead })
+pub lasts_unanswered : (old new : State) (cache : Cache) → (defects new ≡ 0 → (defects old ≡ 0) × (tables_in new ≡ tables_in old)) → HoldsCache old cache → HoldsCache new (record { answered = false; accounts = cache.accounts; ahead = cache.ahead })
 lasts_unanswered old new cache same cached = record {
   so = λ none. let still = subst (IsCacheOf cache) (sym (same none).1) (cached.so (same none).0) in record { accounts = still.accounts; ahead = still.ahead };
   is_open = λ is _. absurd (true≢false (sym is));
 }
 
 -- what is kept is an answer without a statement, while the database is open
-pub kept_look : (old : State) → IsWell old → (a : Bool) → a ≡ false → LeavesCommit old → {U : Type 0} (P : U → Type 0) (x : U) → (HasCleanDisk old → IsTrue old.is_open) → (doubts old ≡ 0 → P x)
+pub kept_look : (old : State) → IsWell old → (a : Bool) → a ≡ false → LeavesCommit old → {U : Type 0} (P : U → Type 0) (x : U) → (HasCleanDisk old → IsTrue old.is_open) → (defects old ≡ 0 → P x)
     → shelf.Looks (moment old a) (moment old a) (Ok x) P
 kept_look old it a down law P x live is = record {
   found = is;
   same = λ _. refl;
   rows_same = λ _. refl;
-  doubted = λ none. none;
-  lied = λ late. late;
+  defects_stay = λ none. none;
+  corruptions_stay = λ late. late;
   kept = omega arith;
   told = ap count down;
   works = λ late. is_sure old late (live late);

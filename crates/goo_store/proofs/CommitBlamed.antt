@@ -8,7 +8,7 @@ use Rattle.goo_types.specs.declared.fault.Fault.{Fault}
 use Rattle.goo_core_shelf.specs.declared.plan.Plan.{Plan}
 use Rattle.goo_tables_rows.specs.Refused.{IsFault, IsTooBigOrFull}
 use Rattle.goo_tables_rows.specs.Rows.{Tables}
-use Rattle.goo_tables_rows.specs.Stands.{HoldsOurs, Stands, doubts}
+use Rattle.goo_tables_rows.specs.Stands.{HoldsOurs, Stands, defects}
 use Rattle.goo_store_changes.specs.Changes.{made_all, AreFor, AreFree, HaveRoom}
 use Rattle.goo_store_changes.specs.declared.change.TableChange.{TableChange}
 use Rattle.goo_store_values.specs.Passing.{IsStatementFaultOf}
@@ -42,16 +42,16 @@ ended_so old mid new room has live up (Err e) (Err Refused) passes cause blames 
     λ _. elim blames [ inl fault ↦ (let more = more_faults mid new e live cause fault in omega (arith, up, more)) | inr big ↦ absurd (big.1 has) ]
 
 module _ (old mid new : State) (a b c : Bool) (plan : Plan) {T : Type 0} (gathered : T) (prepares : Prepares (moment old a) (moment mid b) (Ok gathered)) (first : BlamesCommit old mid a (Ok gathered) (λ t. HaveWhatItNeeds t plan))
-    (it : IsWell mid) (same : doubts mid ≡ 0 → tables_in mid ≡ tables_in old) (changes : List TableChange) (planned : doubts mid ≡ 0 → IsPlanned (tables_in mid) changes plan) (made : Result (Unit {0}) Error)
+    (it : IsWell mid) (same : defects mid ≡ 0 → tables_in mid ≡ tables_in old) (changes : List TableChange) (planned : defects mid ≡ 0 → IsPlanned (tables_in mid) changes plan) (made : Result (Unit {0}) Error)
     (clean : doubt mid.is_clean ≤ doubt new.is_clean) (crash : (t : Tables) → Stands mid.now t → AreFor t changes → Survives mid new (HoldsOurs mid.is_open (made_all t changes)))
     (refused : HasCleanDisk new → mid.step_limit ≡ None → (t : Tables) → Stands mid.now t → AreFor t changes → AreFree t changes → IfErr made (λ e. IsFault mid new e ⊎ (IsTooBigOrFull e × (HaveRoom t changes → ⊥))))
     (read : Result (Unit {0}) StatementFault) (passes : PassesOn made read) (cause : IfErr made (λ e. IfErr read (IsStatementFaultOf e))) (result : Result (Unit {0}) Fault) (told : Tells read result b c) where
   late : HasCleanDisk new → HasCleanDisk mid
   late done = omega (arith, done, clean)
 
-  -- nothing is in doubt between the look-ups and the commit
-  no_doubt : HasCleanDisk new → IsTrue old.is_open → doubts mid ≡ 0
-  no_doubt done live = prepares.works (late done) (is_sure old (prepares.lied (late done)) live)
+  -- there is no defect between the look-ups and the commit
+  no_doubt : HasCleanDisk new → IsTrue old.is_open → defects mid ≡ 0
+  no_doubt done live = prepares.works (late done) (is_sure old (prepares.corruptions_stay (late done)) live)
 
   survives : HasCleanDisk new → IsTrue old.is_open → Survives mid new (HoldsOurs mid.is_open (made_all (tables_in mid) changes))
   survives done live = let none = no_doubt done live in crash (tables_in mid) (it.stands none) (planned none).for

@@ -25,8 +25,8 @@ pub prepared : {T : Type 0} (a b : Moment) (r : Result T Fault) (right : T → T
 prepared {T = T} a b r right look = record {
   same = look.same;
   rows_same = look.rows_same;
-  doubted = look.doubted;
-  lied = look.lied;
+  defects_stay = look.defects_stay;
+  corruptions_stay = look.corruptions_stay;
   kept = look.kept;
   told = look.told;
   works = works_still r look.works;
@@ -34,7 +34,7 @@ prepared {T = T} a b r right look = record {
   crash = look.crash;
 }
   where
-    works_still : (q : Result T Fault) → OnOk q (b.lies ≡ 0 → b.doubts ≡ 0) → OnOk q (b.lies ≡ 0 → a.doubts ≡ 0 → b.doubts ≡ 0)
+    works_still : (q : Result T Fault) → OnOk q (b.corruptions ≡ 0 → b.defects ≡ 0) → OnOk q (b.corruptions ≡ 0 → a.defects ≡ 0 → b.defects ≡ 0)
     works_still (Ok x) works = λ late none. works late
     works_still (Err e) works = tt
 
@@ -50,8 +50,8 @@ module _ (a b : Moment) (plan : Plan) where
     rows_done = λ none. tt;
     undone = look.same;
     rows_undone = look.rows_same;
-    doubted = look.doubted;
-    lied = look.lied;
+    defects_stay = look.defects_stay;
+    corruptions_stay = look.corruptions_stay;
     kept = look.kept;
     told = told_as e look.told;
     works = tt;
@@ -69,9 +69,9 @@ module _ (a b : Moment) (plan : Plan) where
   as_err (Err f) e is commit = subst (λ x. Commits a b (Err x) plan) (sym is) commit
 
   -- a plan that fits before it fits after it
-  pub fits_still : {T : Type 0} (r : Result T Fault) → Prepares a b r → (a.doubts ≡ 0 → Fits a.state a.rows plan) → b.doubts ≡ 0 → Fits b.state b.rows plan
+  pub fits_still : {T : Type 0} (r : Result T Fault) → Prepares a b r → (a.defects ≡ 0 → Fits a.state a.rows plan) → b.defects ≡ 0 → Fits b.state b.rows plan
   fits_still r look fits none =
-      subst (λ rows. Fits b.state rows plan) (sym (look.rows_same none)) (subst (λ (s : State). Fits s a.rows plan) (sym (look.same none)) (fits (look.doubted none)))
+      subst (λ rows. Fits b.state rows plan) (sym (look.rows_same none)) (subst (λ (s : State). Fits s a.rows plan) (sym (look.same none)) (fits (look.defects_stay none)))
 
   module _ {T : Type 0} (c : Moment) (x : T) (look : Prepares a b (Ok x)) where
     done_so : (r : Result (Unit {0}) Fault) (s t : State) → s ≡ t → OnOk r (c.state ≡ accept s plan.request) → OnOk r (c.state ≡ accept t plan.request)
@@ -79,15 +79,15 @@ module _ (a b : Moment) (plan : Plan) where
 
     pub commits_after : (r : Result (Unit {0}) Fault) → Commits b c r plan → Commits a c r plan
     commits_after r commit = record {
-      done = λ none. done_so r b.state a.state (look.same (commit.doubted none)) (commit.done none);
-      rows_done = λ none. subst (λ rows. OnOk r (c.rows ≡ edited_all plan.edits.items rows)) (look.rows_same (commit.doubted none)) (commit.rows_done none);
-      undone = λ none. subst (λ (s : State). OnErr r (c.state ≡ s)) (look.same (commit.doubted none)) (commit.undone none);
-      rows_undone = λ none. subst (λ rows. OnErr r (c.rows ≡ rows)) (look.rows_same (commit.doubted none)) (commit.rows_undone none);
-      doubted = λ none. look.doubted (commit.doubted none);
-      lied = λ late. look.lied (commit.lied late);
+      done = λ none. done_so r b.state a.state (look.same (commit.defects_stay none)) (commit.done none);
+      rows_done = λ none. subst (λ rows. OnOk r (c.rows ≡ edited_all plan.edits.items rows)) (look.rows_same (commit.defects_stay none)) (commit.rows_done none);
+      undone = λ none. subst (λ (s : State). OnErr r (c.state ≡ s)) (look.same (commit.defects_stay none)) (commit.undone none);
+      rows_undone = λ none. subst (λ rows. OnErr r (c.rows ≡ rows)) (look.rows_same (commit.defects_stay none)) (commit.rows_undone none);
+      defects_stay = λ none. look.defects_stay (commit.defects_stay none);
+      corruptions_stay = λ late. look.corruptions_stay (commit.corruptions_stay late);
       kept = omega (arith, look.kept, commit.kept);
       told = commit.told;
       works = commit.works;
-      stays = λ late none. let early = commit.lied late in stays_both a b c (look.stays early none) (commit.stays late (look.works early none));
-      crash = λ late none. let mid = look.works (commit.lied late) none in subst (λ (s : State). IsEither c s (accept s plan.request)) (look.same mid) (commit.crash late mid);
+      stays = λ late none. let early = commit.corruptions_stay late in stays_both a b c (look.stays early none) (commit.stays late (look.works early none));
+      crash = λ late none. let mid = look.works (commit.corruptions_stay late) none in subst (λ (s : State). IsEither c s (accept s plan.request)) (look.same mid) (commit.crash late mid);
     }

@@ -9,7 +9,7 @@ use Rattle.goo_spec.specs.Energy.{carry, remaining, lowered, total}
 use Rattle.goo_spec.specs.Sound.{IsSound}
 use Rattle.goo_spec.proofs.Creating.{created_is_sound}
 use Rattle.goo_ranges_rows.specs.Certificates.{certificates_of}
-use Rattle.goo_tables_rows.specs.Stands.{Stands, Settled, doubts}
+use Rattle.goo_tables_rows.specs.Stands.{Stands, Settled, defects}
 use Rattle.goo_tables_rows.proofs.Catalogued.{ours_of}
 use Rattle.goo_tables_rows.proofs.Decoded.{decoded}
 use Rattle.goo_tables_accounts.specs.Changes.{begun}
@@ -47,7 +47,7 @@ module _ (code : ℕ) (today : CalendarDay) (next_serial : ℕ) (it : IsFirst co
   }
 
   module _ (s : State) (done : HasCleanDisk s → Settled s (begun (meta_of code today next_serial))) where
-    pub created_tables : doubts s ≡ 0 → tables_in s ≡ begun (meta_of code today next_serial)
+    pub created_tables : defects s ≡ 0 → tables_in s ≡ begun (meta_of code today next_serial)
     created_tables none = decoded s.now (begun (meta_of code today next_serial)) (done (sure s none).0).stands
 
     pub created_well : IsLive s → IsWell s

@@ -8,7 +8,7 @@ use Rattle.sqlite.specs.Schema.{Schema}
 use Rattle.goo_tables_rows.specs.Columns.{first_schema, registry_schema}
 use Rattle.goo_tables_rows.specs.First.{IsFirst, HasFirstTables}
 use Rattle.goo_tables_rows.specs.Rows.{Tables}
-use Rattle.goo_tables_rows.specs.Stands.{Stands, HoldsOurs, Settled, IsSettled, doubts}
+use Rattle.goo_tables_rows.specs.Stands.{Stands, HoldsOurs, Settled, IsSettled, defects}
 use Rattle.goo_tables_rows.specs.declared.piece.PieceRow.{PieceRow}
 use Rattle.goo_tables_rows.proofs.Catalogued.{ours_of}
 use Rattle.goo_tables_rows.proofs.Decoded.{decoded}
@@ -180,7 +180,7 @@ pub met_first : (s : State) → s.now.schema ≡ first_schema → (IsTrue s.is_o
 met_first s schema ours settled = record { schema = schema; ours = ours; settled = settled }
 
 module _ {T : Type 0} (old new : State) (x : T) (renews : Renews old new (Ok x)) where
-  tables_renewed : (none : doubts new ≡ 0) → tables_in new ≡ renewed (renews.done (sure new none).0).0
+  tables_renewed : (none : defects new ≡ 0) → tables_in new ≡ renewed (renews.done (sure new none).0).0
   tables_renewed none = decoded new.now (renewed (renews.done (sure new none).0).0) (renews.done (sure new none).0).4.stands
 
   pub renewed_well : IsLive new → IsWell new
@@ -192,7 +192,7 @@ module _ {T : Type 0} (old new : State) (x : T) (renews : Renews old new (Ok x))
   }
 
   -- the state is that of the tables that were there
-  pub same_state : (t : Tables) → IsFirst old.now t → doubts new ≡ 0 → state_of (tables_in new) ≡ state_of t
+  pub same_state : (t : Tables) → IsFirst old.now t → defects new ≡ 0 → state_of (tables_in new) ≡ state_of t
   same_state t first none =
       let them = renews.done (sure new none).0 in
       ap state_of (tables_renewed none) ∙ renewed_state them.0 them.2 ∙ ap state_of (one_first old.now them.0 t them.1 first)

@@ -13,7 +13,7 @@ use Rattle.goo_types.specs.declared.lot_fields.LotFields.{LotFields}
 use Rattle.goo_types.specs.declared.piece.Piece.{Piece}
 use Rattle.goo_tables_rows.specs.Beside.{beside, pieces_beside, joined_in}
 use Rattle.goo_tables_rows.specs.Rows.{Tables, Lot, declaration_key, device_in, lot_in, lot_key, meta_in}
-use Rattle.goo_tables_rows.specs.Stands.{Looks, Stands, doubts}
+use Rattle.goo_tables_rows.specs.Stands.{Looks, Stands, defects}
 use Rattle.goo_tables_rows.specs.declared.device.DeviceRow.{DeviceRow}
 use Rattle.goo_tables_rows.specs.declared.joined.JoinedRow.{JoinedRow}
 use Rattle.goo_tables_rows.specs.declared.lot.LotRow.{LotRow}
@@ -53,7 +53,7 @@ none_known s known_rows is none = record {
 }
 
 -- so are the row and the basis that are known after a commit, if they are right, and nothing else that is kept
-pub known_after : (s : State) (known_rows : KnownRows) → AreNone known_rows → (own : Option MetaRow) → (doubts s ≡ 0 → IsRowOf own (tables_in s)) → (basis : KnownBasis) → (doubts s ≡ 0 → IsBasisOf basis (tables_in s))
+pub known_after : (s : State) (known_rows : KnownRows) → AreNone known_rows → (own : Option MetaRow) → (defects s ≡ 0 → IsRowOf own (tables_in s)) → (basis : KnownBasis) → (defects s ≡ 0 → IsBasisOf basis (tables_in s))
     → Knows s (record { own = own; basis = basis; lots = known_rows.lots; edges = known_rows.edges })
 known_after s known_rows is own row_right basis right none = record {
   own = row_right none;
@@ -67,7 +67,7 @@ pub known : (old new : State) (it : IsWell old) {T : Type 0} (r : Result T Error
 known old new it r right looks known_rows knows none = so_still old new it r right looks (AreInTables known_rows) none (knows (before old new it r right looks none))
 
 -- the row that is kept after a look-up for it is right
-row_known : (old new : State) (it : IsWell old) (r : Result (Option MetaRow) Error) → Looks old new r (λ t row. option_map meta_in row ≡ Some t.meta) → (a b : Option MetaRow) → (doubts new ≡ 0 → IsRowOf a (tables_in new)) → KeepsFound r a b → doubts new ≡ 0 → IsRowOf b (tables_in new)
+row_known : (old new : State) (it : IsWell old) (r : Result (Option MetaRow) Error) → Looks old new r (λ t row. option_map meta_in row ≡ Some t.meta) → (a b : Option MetaRow) → (defects new ≡ 0 → IsRowOf a (tables_in new)) → KeepsFound r a b → defects new ≡ 0 → IsRowOf b (tables_in new)
 row_known old new it r looks a b knows kept none =
     elim kept [
       | inl same ↦ subst (λ o. IsRowOf o (tables_in new)) (sym same) (knows none)
@@ -158,7 +158,7 @@ pub some_beside : (t : Tables) (test : PieceRow × Lot → Bool) (rows : List Jo
 some_beside t test rows is = unmapped (IsBeside t.lots) joined_in rows (subst (All (IsBeside t.lots)) (sym is) (All-filter test (IsBeside t.lots) (pieces_beside t) (all_beside t.lots t.pieces)))
 
 -- lots that were looked up
-lots_after : (old new : State) (it : IsWell old) {T : Type 0} (r : Result T Error) (right : Tables → T → Type 0) → Looks old new r right → (known_rows next : KnownRows) → next.own ≡ known_rows.own → next.basis ≡ known_rows.basis → (doubts new ≡ 0 → AreEdges known_rows.edges (rows_of (tables_in new)) → AreEdges next.edges (rows_of (tables_in new))) → Knows old known_rows
+lots_after : (old new : State) (it : IsWell old) {T : Type 0} (r : Result T Error) (right : Tables → T → Type 0) → Looks old new r right → (known_rows next : KnownRows) → next.own ≡ known_rows.own → next.basis ≡ known_rows.basis → (defects new ≡ 0 → AreEdges known_rows.edges (rows_of (tables_in new)) → AreEdges next.edges (rows_of (tables_in new))) → Knows old known_rows
     → (Stands old.now (tables_in old) → IfOk r (right (tables_in old)) → AreStated (tables_in old).lots known_rows.lots.items → AreStated (tables_in old).lots next.lots.items) → Knows new next
 lots_after old new it r right looks known_rows next own basis edges knows are none =
     let still = known old new it r _ looks known_rows knows in
@@ -170,7 +170,7 @@ lots_after old new it r right looks known_rows next own basis edges knows are no
     }
 
 pub lots_known : (old new : State) (it : IsWell old) {T : Type 0} (r : Result T Error) (right : Tables → T → Type 0) → Looks old new r right → (rows : T → List JoinedRow) → ((x : T) → right (tables_in old) x → All (λ a. IsBeside (tables_in old).lots (joined_in a)) (rows x))
-    → (known_rows next : KnownRows) → next.own ≡ known_rows.own → next.basis ≡ known_rows.basis → (doubts new ≡ 0 → AreEdges known_rows.edges (rows_of (tables_in new)) → AreEdges next.edges (rows_of (tables_in new))) → Knows old known_rows → KeepsRead r rows known_rows.lots.items next.lots.items → Knows new next
+    → (known_rows next : KnownRows) → next.own ≡ known_rows.own → next.basis ≡ known_rows.basis → (defects new ≡ 0 → AreEdges known_rows.edges (rows_of (tables_in new)) → AreEdges next.edges (rows_of (tables_in new))) → Knows old known_rows → KeepsRead r rows known_rows.lots.items next.lots.items → Knows new next
 lots_known old new it {T} r right looks rows each known_rows next own basis edges knows kept = lots_after old new it r right looks known_rows next own basis edges knows (λ stands found are. all r found kept are)
   where
     all : (q : Result T Error) → IfOk q (right (tables_in old)) → KeepsRead q rows known_rows.lots.items next.lots.items → AreStated (tables_in old).lots known_rows.lots.items → AreStated (tables_in old).lots next.lots.items
@@ -188,7 +188,7 @@ pub kept_row : (found : Result (Option LotRow) Error) (row : LotRow) (old new : 
 kept_row found row old new is kept = subst (λ (f : Result (Option LotRow) Error). KeepsLot f old new) (sym is) kept
 
 pub lot_known : (old new : State) (it : IsWell old) (r : Result (Option LotRow) Error) (test : Lot → Bool) → Looks old new r (λ t found. option_map lot_in found ≡ find test t.lots)
-    → (known_rows next : KnownRows) → next.own ≡ known_rows.own → next.basis ≡ known_rows.basis → (doubts new ≡ 0 → AreEdges known_rows.edges (rows_of (tables_in new)) → AreEdges next.edges (rows_of (tables_in new))) → Knows old known_rows → KeepsLot r known_rows.lots.items next.lots.items → Knows new next
+    → (known_rows next : KnownRows) → next.own ≡ known_rows.own → next.basis ≡ known_rows.basis → (defects new ≡ 0 → AreEdges known_rows.edges (rows_of (tables_in new)) → AreEdges next.edges (rows_of (tables_in new))) → Knows old known_rows → KeepsLot r known_rows.lots.items next.lots.items → Knows new next
 lot_known old new it r test looks known_rows next own basis edges knows kept = lots_after old new it r _ looks known_rows next own basis edges knows (all r kept)
   where
     all : (q : Result (Option LotRow) Error) → KeepsLot q known_rows.lots.items next.lots.items → Stands old.now (tables_in old) → IfOk q (λ found. option_map lot_in found ≡ find test (tables_in old).lots)

@@ -6,7 +6,7 @@ use Rattle.goo_types.specs.declared.fault.Fault.{Fault}
 use Rattle.goo_types.specs.declared.fault.Fault.TheVariants as fault
 use Rattle.goo_core_shelf.specs.declared.plan.Plan.{Plan}
 use Rattle.goo_tables_rows.specs.Rows.{Tables}
-use Rattle.goo_tables_rows.specs.Stands.{doubts}
+use Rattle.goo_tables_rows.specs.Stands.{defects}
 use Rattle.goo_store_plans.specs.LookingUp.{LooksUp, IsOurs}
 use Rattle.goo_store_plans.specs.PlanNeeds.{CanBePlanned}
 use Rattle.goo_store_plans.specs.StoreFaults.{BlamesDisk}
@@ -35,10 +35,10 @@ told_so {T = T} More (Err Memory) a b result told more = subst (λ (z : Result T
 told_so {T = T} More (Err Refused) a b result told more = subst (λ (z : Result T Fault). IfErr z (λ f. f ≡ fault.Store → More)) (sym told.0) (λ _. more refl)
 
 module _ (old new : State) (it : IsWell old) {T : Type 0} (read : Result T StatementFault) (right : Tables → T → Type 0) (gathers : LooksUp old new read right) where
-  fine : HasCleanDisk new → IsTrue old.is_open → doubts old ≡ 0
+  fine : HasCleanDisk new → IsTrue old.is_open → defects old ≡ 0
   fine clean live = is_sure old (omega (arith, clean, gathers.clean)) live
 
-  ours : doubts old ≡ 0 → IsOurs old
+  ours : defects old ≡ 0 → IsOurs old
   ours none = ((it.stands none).schema, λ _. it.settled none)
 
   pub gathering : (known_rows : KnownRows) → Knows old known_rows → (plan : Plan) (a b : Bool) (result : Result T Fault)

@@ -4,7 +4,7 @@ use Rattle.sqlite.specs.State.{State}
 use Rattle.sqlite.specs.Effect.{Database}
 use Rattle.goo_tables_rows.specs.First.{IsFirst, with_none}
 use Rattle.goo_tables_rows.specs.Rows.{Tables, tables_of}
-use Rattle.goo_tables_rows.specs.Stands.{Stands, doubts}
+use Rattle.goo_tables_rows.specs.Stands.{Stands, defects}
 use Rattle.goo_tables_rows.proofs.Decoded.{decoded}
 use Rattle.goo_spec_tables.specs.Kept.{AreKept, AreKeptIn}
 use Rattle.goo_spec_tables.specs.States.{state_of}
@@ -30,7 +30,7 @@ held_ours db t stands kept =
     subst (λ (n : ℕ). t ≡ cond (n == 1) (tables_of (with_none db.trees)) (tables_of db.trees)) (sym version) (sym (decoded db t stands))
 
 -- a registry of version 1 that was renewed
-pub state_renewed : {T : Type 0} (old new : State) (x : T) → Renews old new (Ok x) → doubts new ≡ 0 → state_of (tables_in new) ≡ state_held old.now.trees
+pub state_renewed : {T : Type 0} (old new : State) (x : T) → Renews old new (Ok x) → defects new ≡ 0 → state_of (tables_in new) ≡ state_held old.now.trees
 state_renewed old new x renews none =
     let them = renews.done (sure new none).0 in
     same_state old new x renews them.0 them.1 none ∙ ap state_of (held_first old.now them.0 them.1 them.2)

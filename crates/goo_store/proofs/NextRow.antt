@@ -16,7 +16,7 @@ use Rattle.goo_spec_runs.specs.NextRun.{ending_from, first_of, from_of}
 use Rattle.goo_core_shelf.specs.Rows.{EndsFrom}
 use Rattle.goo_tables_rows.specs.Beside.{pieces_beside, joined_in}
 use Rattle.goo_tables_rows.specs.Rows.{Tables, Lot}
-use Rattle.goo_tables_rows.specs.Stands.{Looks, Stands, doubts}
+use Rattle.goo_tables_rows.specs.Stands.{Looks, Stands, defects}
 use Rattle.goo_tables_rows.specs.declared.joined.JoinedRow.{JoinedRow}
 use Rattle.goo_tables_rows.specs.declared.piece.PieceRow.{PieceRow}
 use Rattle.goo_spec_tables.specs.Kept.{AreKept}
@@ -126,7 +126,7 @@ module _ (t : Tables) (kept : AreKept t) where
 
 pub edge_after : (old new : State) (it : IsWell old) (sought : Sought) → IsDated sought → (after : ℕ) (r : Result (Option JoinedRow) Error) → Looks old new r (λ t found. option_map joined_in found ≡ find (begins_beyond sought after) (pieces_beside t))
     → (read : Result (Option Piece) StatementFault) → Passes r read (λ row piece. piece ≡ option_map piece_of (option_map joined_in row))
-    → (edge : Option ℕ) → IfSome edge (λ n. IsOkAnd read (λ found. IsSomeAnd found (λ p. p.last ≡ n))) → doubts new ≡ 0 → IsEdge edge (rows_of (tables_in new))
+    → (edge : Option ℕ) → IfSome edge (λ n. IsOkAnd read (λ found. IsSomeAnd found (λ p. p.last ≡ n))) → defects new ≡ 0 → IsEdge edge (rows_of (tables_in new))
 edge_after old new it sought dated after r looks read passes edge is none =
     let first = before old new it r _ looks none in
     so_still old new it r _ looks (λ t. IsEdge edge (rows_of t)) none

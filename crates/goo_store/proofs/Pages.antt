@@ -17,7 +17,7 @@ use Rattle.goo_core_shelf.specs.Sought.{is_sought}
 use Rattle.goo_core_shelf.specs.declared.sought.Sought.TheVariants.{Naming}
 use Rattle.goo_tables_rows.specs.Beside.{joined_in, pieces_beside}
 use Rattle.goo_tables_rows.specs.Rows.{Tables, Lot}
-use Rattle.goo_tables_rows.specs.Stands.{Looks, Stands, doubts}
+use Rattle.goo_tables_rows.specs.Stands.{Looks, Stands, defects}
 use Rattle.goo_tables_rows.specs.declared.joined.JoinedRow.{JoinedRow}
 use Rattle.goo_tables_rows.specs.declared.piece.PieceRow.{PieceRow}
 use Rattle.goo_spec_tables.specs.Kept.{AreKept}
@@ -200,7 +200,7 @@ module _ (account after : ℕ) where
 
   -- what is kept after a page was read is so
   pub lasts_with_page : (old new : State) (it : IsWell old) {V : Type 0} (rows : V → List JoinedRow) (r : Result V Error) → (looks : Looks old new r (λ t found. map joined_in (rows found) ≡ take 64 (filter (asked account after) (pieces_beside t))))
-      → (doubts old ≡ 0 → IsEdge (Some after) (rows_of (tables_in old))) → (first last : Cache) → last.answered ≡ is_ok r → last.accounts ≡ first.accounts
+      → (defects old ≡ 0 → IsEdge (Some after) (rows_of (tables_in old))) → (first last : Cache) → last.answered ≡ is_ok r → last.accounts ≡ first.accounts
       → KeepsAhead r rows account after first.ahead.items last.ahead.items → HoldsCache old first → HoldsCache new last
   lasts_with_page old new it {V} rows r looks edge first last answered accounts keeps cached = record {
     so = λ none.
@@ -212,7 +212,7 @@ module _ (account after : ℕ) where
     is_open = opened new r last.answered answered looks.works;
   }
     where
-      go : doubts old ≡ 0 → (q : Result V Error) → IfOk q (λ found. map joined_in (rows found) ≡ take 64 (filter (asked account after) (pieces_beside (tables_in old)))) → KeepsAhead q rows account after first.ahead.items last.ahead.items
+      go : defects old ≡ 0 → (q : Result V Error) → IfOk q (λ found. map joined_in (rows found) ≡ take 64 (filter (asked account after) (pieces_beside (tables_in old)))) → KeepsAhead q rows account after first.ahead.items last.ahead.items
           → AreAhead (rows_of (tables_in old)) last.ahead.items
       go early (Ok x) found keep = keep (rows_of (tables_in old)) (cached.so early).ahead (record { rising = (it.kept early).rising; edge = edge early; shown = page_shown (tables_in old) (rows x) found })
       go early (Err e) found keep = subst (AreAhead (rows_of (tables_in old))) (sym keep) (cached.so early).ahead

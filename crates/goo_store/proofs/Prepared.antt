@@ -6,7 +6,7 @@ use Rattle.sqlite.specs.Effect.{Database}
 use Rattle.goo_types.specs.declared.fault.Fault.{Fault}
 use Rattle.goo_core_shelf.specs.Shelf as shelf
 use Rattle.goo_tables_rows.specs.Rows.{Tables, tables_of}
-use Rattle.goo_tables_rows.specs.Stands.{Stands, Rests, doubts, AreOurs}
+use Rattle.goo_tables_rows.specs.Stands.{Stands, Rests, defects, AreOurs}
 use Rattle.goo_spec_tables.specs.Kept.{AreKept}
 use Rattle.goo_spec_tables.specs.Places.{rows_of}
 use Rattle.goo_spec_tables.specs.States.{state_of}
@@ -42,19 +42,19 @@ in_order d t it = record {
 }
 
 module _ {T : Type 0} (old new : State) (it : IsWell old) (r : Result T StatementFault) (right : Tables → T → Type 0) (gathers : LooksUp old new r right) where
-  pub before : doubts new ≡ 0 → doubts old ≡ 0
+  pub before : defects new ≡ 0 → defects old ≡ 0
   before none = is_sure old (omega (arith, (sure new none).0, gathers.clean)) (gathers.was_open (sure new none).0 (sure new none).1)
 
-  ours : doubts old ≡ 0 → IsOurs old
+  ours : defects old ≡ 0 → IsOurs old
   ours none = ((it.stands none).schema, λ _. it.settled none)
 
-  rests : doubts new ≡ 0 → Rests old new
+  rests : defects new ≡ 0 → Rests old new
   rests none = gathers.rests (sure new none).0 (ours (before none))
 
-  now_same : doubts new ≡ 0 → new.now ≡ old.now
+  now_same : defects new ≡ 0 → new.now ≡ old.now
   now_same none = (rests none).now (sure new none).1
 
-  pub tables_same : doubts new ≡ 0 → tables_in new ≡ tables_in old
+  pub tables_same : defects new ≡ 0 → tables_in new ≡ tables_in old
   tables_same none = ap (λ (d : Database). tables_of d.trees) (now_same none)
 
   -- the shelf stays well
@@ -70,14 +70,14 @@ module _ {T : Type 0} (old new : State) (it : IsWell old) (r : Result T Statemen
   pub known : (known_rows : KnownRows) → Knows old known_rows → Knows new known_rows
   known known_rows knows none = subst (AreInTables known_rows) (sym (tables_same none)) (knows (before none))
 
-  survives : HasCleanDisk new → doubts old ≡ 0 → Survives old new (λ _. ⊥)
+  survives : HasCleanDisk new → defects old ≡ 0 → Survives old new (λ _. ⊥)
   survives late none = gathers.crash late (sure old none).1 (ours none)
 
   no_more : (db : Trees) → old.may_leave db ⊎ ⊥ → old.may_leave db
   no_more db (inl early) = early
   no_more db (inr never) = absurd never
 
-  crash : LeavesCommit old → HasCleanDisk new → doubts old ≡ 0 → (b : Bool) → shelf.IsSafe (moment new b) (state_of (tables_in old))
+  crash : LeavesCommit old → HasCleanDisk new → defects old ≡ 0 → (b : Bool) → shelf.IsSafe (moment new b) (state_of (tables_in old))
   crash law late none b o left = left_by old it law none left.0 (no_more left.0 ((survives late none).crash late left.0 left.1)) o left.2
 
   told_so : (q : Result T StatementFault) (a b : Bool) (result : Result T Fault) → a ≡ false → Tells q result a b → shelf.IsTold result (count b)
@@ -98,12 +98,12 @@ module _ {T : Type 0} (old new : State) (it : IsWell old) (r : Result T Statemen
   works_so W (Err Memory) a b result told works = subst (λ (z : Result T Fault). OnOk z W) (sym told.0) tt
   works_so W (Err Refused) a b result told works = subst (λ (z : Result T Fault). OnOk z W) (sym told.0) tt
 
-  sure_so : (q : Result T StatementFault) → OnOk q (HasCleanDisk new → IsTrue old.is_open → IsTrue new.is_open) → OnOk q (HasCleanDisk new → doubts old ≡ 0 → doubts new ≡ 0)
+  sure_so : (q : Result T StatementFault) → OnOk q (HasCleanDisk new → IsTrue old.is_open → IsTrue new.is_open) → OnOk q (HasCleanDisk new → defects old ≡ 0 → defects new ≡ 0)
   sure_so (Ok x) works = λ late none. is_sure new late (works late (sure old none).1)
   sure_so (Err e) works = tt
 
   -- what is found is told under the tables that are there after it
-  pub found_after : (P : T → Type 0) (a b : Bool) (result : Result T Fault) → Tells r result a b → (doubts new ≡ 0 → (y : T) → right (tables_in new) y → P y) → doubts new ≡ 0 → IfOk result P
+  pub found_after : (P : T → Type 0) (a b : Bool) (result : Result T Fault) → Tells r result a b → (defects new ≡ 0 → (y : T) → right (tables_in new) y → P y) → defects new ≡ 0 → IfOk result P
   found_after P a b result told says none =
       found_so P r a b result told (go r (subst (λ t. IfOk r (right t)) (sym (tables_same none)) (gathers.found (sure new none).0 (sure new none).1 (λ _. it.settled (before none)) (tables_in old) (it.stands (before none)))))
     where
@@ -116,8 +116,8 @@ module _ {T : Type 0} (old new : State) (it : IsWell old) (r : Result T Statemen
   gathered a b result law not_yet told = record {
     same = λ none. ap state_of (tables_same none);
     rows_same = λ none. ap rows_of (tables_same none);
-    doubted = before;
-    lied = λ late. omega (arith, late, gathers.clean);
+    defects_stay = before;
+    corruptions_stay = λ late. omega (arith, late, gathers.clean);
     kept = still a b not_yet;
     told = told_so r a b result not_yet told;
     works = works_so _ r a b result told (sure_so r gathers.works);

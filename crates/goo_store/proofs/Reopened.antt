@@ -5,7 +5,7 @@ use Rattle.sqlite.specs.Effect.{Database, IsDatabase}
 use Rattle.goo_spec.specs.State as registry
 use Rattle.goo_tables_rows.specs.Columns.{registry_schema}
 use Rattle.goo_tables_rows.specs.Rows.{Tables, tables_of}
-use Rattle.goo_tables_rows.specs.Stands.{Stands, Holds, doubts}
+use Rattle.goo_tables_rows.specs.Stands.{Stands, Holds, defects}
 use Rattle.goo_tables_rows.proofs.Catalogued.{ours_of, our_schema}
 use Rattle.goo_tables_rows.proofs.Committed.{holds_from}
 use Rattle.goo_tables_rows.proofs.Decoded.{decoded}
@@ -21,7 +21,7 @@ stands_in : (db : Database) (t : Tables) → db.schema ≡ registry_schema → H
 stands_in db t schema holds = subst (λ (d : Database). Stands d t) (λ i. record { schema = sym schema i; trees = db.trees }) holds
 
 -- the database that a shelf hands back opens as its state
-pub opens_well : (s : State) → IsWell s → doubts s ≡ 0 → OpensAs s.now.trees (Some (state_of (tables_in s)))
+pub opens_well : (s : State) → IsWell s → defects s ≡ 0 → OpensAs s.now.trees (Some (state_of (tables_in s)))
 opens_well s it none = (it.ours none, (holds_from s.now (tables_in s) (it.stands none), it.kept none, refl))
 
 not_outside : (f : OpenFault) → (f ≡ Store → ⊥) → (f ≡ Memory → ⊥) → IsOutside f → ⊥

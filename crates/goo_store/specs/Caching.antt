@@ -9,7 +9,7 @@ use Rattle.goo_types.specs.declared.piece.Piece.{Piece}
 use Rattle.goo_spec_tables.specs.Places.{rows_of}
 use Rattle.goo_spec_tables.specs.States.{state_of}
 use Rattle.goo_tables_rows.specs.Rows.{Tables}
-use Rattle.goo_tables_rows.specs.Stands.{doubts}
+use Rattle.goo_tables_rows.specs.Stands.{defects}
 use Rattle.goo_store_judge.specs.Moments.{tables_in}
 use Rattle.goo_store.specs.Ahead.{AreAhead}
 use Rattle.goo_store.specs.declared.ahead.RowAhead.{RowAhead}
@@ -25,9 +25,9 @@ pub record IsCacheOf (cache : Cache) (t : Tables) : Type 0 where
   pub accounts : AreAccountsOf (state_of t) cache.accounts.items
   pub ahead : AreAhead (rows_of t) cache.ahead.items
 
--- it is so while nothing is in doubt, and the database is open where the last statement was answered
+-- it is so while there is no defect, and the database is open where the last statement was answered
 pub record HoldsCache (s : database.State) (cache : Cache) : Type 0 where
-  pub so : doubts s ≡ 0 → IsCacheOf cache (tables_in s)
+  pub so : defects s ≡ 0 → IsCacheOf cache (tables_in s)
   pub is_open : IsTrue cache.answered → HasCleanDisk s → IsTrue s.is_open
 
 -- one state has the accounts of another

@@ -13,7 +13,7 @@ use Rattle.goo_types.specs.declared.piece.Piece.{Piece}
 use Rattle.goo_spec.specs.State.{Device}
 use Rattle.goo_tables_rows.specs.Beside.{joined_in}
 use Rattle.goo_tables_rows.specs.Rows.{Tables, Meta, Lot, declaration_key, device_in, lot_in, lot_key}
-use Rattle.goo_tables_rows.specs.Stands.{doubts}
+use Rattle.goo_tables_rows.specs.Stands.{defects}
 use Rattle.goo_tables_rows.specs.declared.device.DeviceRow.{DeviceRow}
 use Rattle.goo_tables_rows.specs.declared.joined.JoinedRow.{JoinedRow}
 use Rattle.goo_tables_rows.specs.declared.lot.LotRow.{LotRow}
@@ -30,9 +30,9 @@ use Rattle.goo_store_plans.specs.declared.known_rows.KnownBasis.{KnownBasis}
 use Rattle.goo_store_plans.specs.declared.known_rows.KnownDevice.{KnownDevice}
 use Rattle.goo_store_plans.specs.declared.lot_numbers.NumberedLot.{NumberedLot}
 
--- it is so while nothing is in doubt
+-- it is so while there is no defect
 abbrev pub Knows : State → KnownRows → Type 0
-Knows s known_rows = doubts s ≡ 0 → AreInTables known_rows (tables_in s)
+Knows s known_rows = defects s ≡ 0 → AreInTables known_rows (tables_in s)
 
 -- what is kept after a row was read: what was kept before, or what was found
 abbrev pub KeepsFound : Result (Option MetaRow) Error → Option MetaRow → Option MetaRow → Type 0

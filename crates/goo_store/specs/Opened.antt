@@ -28,17 +28,17 @@ use Rattle.goo_store.specs.declared.sql_shelf.SqlShelf.{SqlShelf}
 -- a shelf that was opened over a database
 pub record IsOpened {S : Type 0} {g : Ghosts S} (before : State) (shelf : SqlShelf S g) : Type 0 where
   -- its state is that of the database's tables of version 2
-  pub state : (t : Tables) → Stands before.now t → (seen_by shelf).doubts ≡ 0 → (seen_by shelf).state ≡ state_of t
+  pub state : (t : Tables) → Stands before.now t → (seen_by shelf).defects ≡ 0 → (seen_by shelf).state ≡ state_of t
   -- or that of its tables of version 1
-  pub same_state : (t : Tables) → IsFirst before.now t → (seen_by shelf).doubts ≡ 0 → (seen_by shelf).state ≡ state_of t
+  pub same_state : (t : Tables) → IsFirst before.now t → (seen_by shelf).defects ≡ 0 → (seen_by shelf).state ≡ state_of t
   -- in one word: that of the tables of the version that they tell
-  pub held : (seen_by shelf).doubts ≡ 0 → (seen_by shelf).state ≡ state_held before.now.trees
+  pub held : (seen_by shelf).defects ≡ 0 → (seen_by shelf).state ≡ state_held before.now.trees
   -- the state is sound
-  pub sound : (seen_by shelf).doubts ≡ 0 → IsSound (seen_by shelf).state
+  pub sound : (seen_by shelf).defects ≡ 0 → IsSound (seen_by shelf).state
   -- the rows are those of the certificates
-  pub rows_fit : (seen_by shelf).doubts ≡ 0 → AreRowsOf (seen_by shelf).state.at (seen_by shelf).rows
+  pub rows_fit : (seen_by shelf).defects ≡ 0 → AreRowsOf (seen_by shelf).state.at (seen_by shelf).rows
   -- and are runs: two that touch have another lot or another place
-  pub apart : (seen_by shelf).doubts ≡ 0 → IsApart (seen_by shelf).rows
+  pub apart : (seen_by shelf).defects ≡ 0 → IsApart (seen_by shelf).rows
   -- it is at work, and a crash finds the state
   pub ready : IsReady (seen_by shelf)
   -- tables of version 2 are opened only where they keep the rules
@@ -47,10 +47,10 @@ pub record IsOpened {S : Type 0} {g : Ghosts S} (before : State) (shelf : SqlShe
   pub rests : (before.now.schema ≡ first_schema → ⊥) → HasCleanDisk (database_of shelf) → Rests before (database_of shelf)
   -- tables of version 1 are opened only where they keep the rules of that version, and are committed as those of version 2
   pub renewed : (t : Tables) → IsFirst before.now t → HasCleanDisk (database_of shelf) → AreKeptIn 1 t × Settled (database_of shelf) (renewed t)
-  -- no lie of the disk is forgotten
+  -- no corruption by the disk is forgotten
   pub clean : HasCleanDisk (database_of shelf) → HasCleanDisk before
   -- what a crash left of a registry, which opens as one of two states, is opened as one of them
-  pub again : IsTrue before.is_open → (s t : registry.State) → OpensAsEither before.now.trees s t → (seen_by shelf).doubts ≡ 0 → ((seen_by shelf).state ≡ s) ⊎ ((seen_by shelf).state ≡ t)
+  pub again : IsTrue before.is_open → (s t : registry.State) → OpensAsEither before.now.trees s t → (seen_by shelf).defects ≡ 0 → ((seen_by shelf).state ≡ s) ⊎ ((seen_by shelf).state ≡ t)
 
 -- a database over which no registry was opened, and the word for it
 pub record IsNotOpened (before after : State) (fault : OpenFault) : Type 0 where
@@ -66,7 +66,7 @@ pub record IsNotOpened (before after : State) (fault : OpenFault) : Type 0 where
   pub blames : before.now.schema ≡ registry_schema → BlamesOpening before after fault
   -- what the database holds stays
   pub unchanged : HasCleanDisk after → Rests before after
-  -- no lie of the disk is forgotten
+  -- no corruption by the disk is forgotten
   pub clean_before : HasCleanDisk after → HasCleanDisk before
   -- a crash finds what it would have found
   pub crash : (before.now.schema ≡ first_schema → ⊥) → HasCleanDisk after → (db : Trees) → after.may_leave db → before.may_leave db

@@ -52,14 +52,14 @@ impl<S: Alter> SqlShelf<S> {
     /// kept any more.
     fn changes_for(&mut self, alloc: Global, plan: &Plan) -> Result<Planned, Fault>
         ensures prepares { Prepares (seen_by self.old) (seen_by self.new) result }
-        ensures planned { (seen_by self.new).doubts ≡ 0 → IfOk result
+        ensures planned { (seen_by self.new).defects ≡ 0 → IfOk result
             (λ planned. Fits (seen_by self.new).state (seen_by self.new).rows plan.now
             → IsPlanned (tables_in (database_of self.new)) planned.changes.items plan.now
             × IsBasisOf planned.after
             (made_all (tables_in (database_of self.new)) planned.changes.items)) }
         ensures fits { IfOk result (λ planned. All ChangeFits planned.changes.items) }
         ensures taken { IfOk result (λ _. AreNone self.new.known_rows) }
-        ensures same { (seen_by self.new).doubts ≡ 0
+        ensures same { (seen_by self.new).defects ≡ 0
             → tables_in (database_of self.new) ≡ tables_in (database_of self.old) }
         ensures store { BlamesPlan self.old self.new result (λ t. HaveWhatItNeeds t plan.now) }
     {
@@ -74,7 +74,7 @@ impl<S: Alter> SqlShelf<S> {
 
     /// Carries out the whole change of a plan, or none.
     pub(crate) fn carry_out(&mut self, alloc: Global, plan: &Plan) -> Result<(), Fault>
-        requires { (seen_by self.old).doubts ≡ 0
+        requires { (seen_by self.old).defects ≡ 0
             → Fits (seen_by self.old).state (seen_by self.old).rows plan.now }
         ensures commits { Commits (seen_by self.old) (seen_by self.new) result plan.now }
         ensures store { BlamesPlan self.old self.new result (λ t. CanCarryOut t plan.now) }

@@ -5,7 +5,7 @@ ghost use Rattle.goo_core_shelf.specs.Shelf.{Looks};
 ghost use Rattle.goo_store_audit.specs.NetCounting.{IsNetPageAdded, IsSumBelow};
 ghost use Rattle.goo_store_audit.specs.Summing.{AreDeclaredBy};
 ghost use Rattle.goo_store_judge.specs.Moments.{tables_in};
-ghost use Rattle.goo_tables_rows.specs.Stands.{doubts};
+ghost use Rattle.goo_tables_rows.specs.Stands.{defects};
 ghost use Rattle.goo_store.specs.Seen.{Blames, database_of, seen_by};
 
 use crate::sql_shelf::SqlShelf;
@@ -33,7 +33,7 @@ impl<S: Alter> SqlShelf<S> {
             sums.old sums.new) }
         ensures store { Blames self.old self.new result }
         ensures below { IfOk result (λ next. (low ≤ next) × IsSumBelow next sums.new) }
-        ensures tables { doubts (database_of self.new) ≡ 0
+        ensures tables { defects (database_of self.new) ≡ 0
             → tables_in (database_of self.new) ≡ tables_in (database_of self.old) }
     {
         if self.refused {

@@ -4,11 +4,11 @@ ghost use Rattle.std.specs.Prelude.{◌≡◌, Err, false, IfOk, IfErr, IsErrAnd
 ghost use Rattle.sqlite.specs.Held.{state as view};
 ghost use Rattle.goo_tables_rows.specs.Columns.{no_schema, registry_schema, first_schema};
 ghost use Rattle.goo_tables_rows.specs.Met.{IsInKeyOrder};
-ghost use Rattle.goo_tables_rows.specs.Stands.{doubts};
+ghost use Rattle.goo_tables_rows.specs.Stands.{defects};
 ghost use Rattle.goo_store_open.specs.Foreign.{LacksMeta, IsForeignWord};
 ghost use Rattle.goo_store.specs.Opened.{IsOpened, IsNotOpened};
 
-use crate::renewal::{Renewal, Untold};
+use crate::renewal::{NoObserver, RenewalObserver};
 use crate::renewing::renew;
 use crate::sql_shelf::SqlShelf;
 use goo_store_judge::judge::judge;
@@ -39,7 +39,7 @@ impl<S: Alter> SqlShelf<S> {
         conn: Connection<S>,
     ) -> Result<SqlShelf<S>, (Connection<S>, OpenFault)>
         requires outside { conn.in_transaction ≡ false }
-        requires ordered { doubts (view S.Store conn) ≡ 0 → IsInKeyOrder (view S.Store conn).now }
+        requires ordered { defects (view S.Store conn) ≡ 0 → IsInKeyOrder (view S.Store conn).now }
         ensures opened { IfOk result (IsOpened (view S.Store conn)) }
         ensures not_opened { IfErr result
             (λ e. IsNotOpened (view S.Store conn) (view S.Store e.0) e.1) }
@@ -52,7 +52,7 @@ impl<S: Alter> SqlShelf<S> {
             → result ≡ Err (conn, OpenFault.NotARegistry) }
         ensures outside { IfErr result (λ e. e.0.in_transaction ≡ false) }
     {
-        SqlShelf::open_telling(alloc, conn, &mut Untold)
+        SqlShelf::open_observed(alloc, conn, &mut NoObserver)
     }
 
     /// The registry that a database holds, as [`SqlShelf::open`] gives it. Before tables of version
@@ -61,13 +61,13 @@ impl<S: Alter> SqlShelf<S> {
     /// # Errors
     ///
     /// Those of [`SqlShelf::open`].
-    pub fn open_telling<N: Renewal>(
+    pub fn open_observed<N: RenewalObserver>(
         alloc: Global,
         conn: Connection<S>,
-        told: &mut N,
+        observer: &mut N,
     ) -> Result<SqlShelf<S>, (Connection<S>, OpenFault)>
         requires outside { conn.in_transaction ≡ false }
-        requires ordered { doubts (view S.Store conn) ≡ 0 → IsInKeyOrder (view S.Store conn).now }
+        requires ordered { defects (view S.Store conn) ≡ 0 → IsInKeyOrder (view S.Store conn).now }
         ensures opened { IfOk result (IsOpened (view S.Store conn)) }
         ensures not_opened { IfErr result
             (λ e. IsNotOpened (view S.Store conn) (view S.Store e.0) e.1) }
@@ -84,7 +84,7 @@ impl<S: Alter> SqlShelf<S> {
         let _settled = conn.is_autocommit();
         let _known = conn.schema();
         if has_first_schema(&conn) {
-            return match renew(alloc, &mut conn, told) {
+            return match renew(alloc, &mut conn, observer) {
                 Ok(()) => Ok(SqlShelf::over(alloc, conn)),
                 Err(fault) => Err((conn, fault)),
             };

@@ -6,7 +6,7 @@ ghost use Rattle.goo_store.specs.FirstTables.{HoldsFirst};
 use sqlite::{Alter, Connection};
 
 /// Who wants to know that a registry of version 1 is about to become one of version 2.
-pub trait Renewal {
+pub trait RenewalObserver {
     ghost use Rattle.sqlite.specs.Held.{state as view};
     ghost use Rattle.goo_store.specs.FirstTables.{HoldsFirst};
 
@@ -16,10 +16,10 @@ pub trait Renewal {
         requires first { HoldsFirst (view S.Store conn.now) };
 }
 
-/// Nobody is told.
+/// Nobody wants to know.
 #[derive(Drop)]
-pub struct Untold;
+pub struct NoObserver;
 
-impl Renewal for Untold {
+impl RenewalObserver for NoObserver {
     fn begins<S: Alter>(&mut self, _conn: &Connection<S>) {}
 }

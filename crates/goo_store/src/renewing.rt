@@ -6,7 +6,7 @@ ghost use Rattle.sqlite.specs.State.{HasCleanDisk};
 ghost use Rattle.goo_store_open.specs.Reading.{IsMet};
 ghost use Rattle.goo_store.specs.FirstTables.{Rewrites, Renews};
 
-use crate::renewal::Renewal;
+use crate::renewal::RenewalObserver;
 use goo_store_changes::migrating::commit_migration;
 use goo_store_judge::judge::judge;
 use goo_store_open::fault::OpenFault;
@@ -44,10 +44,10 @@ fn rewrite<S: Alter>(
 ///
 /// Those of the judgment, before anything is changed; then `Store` where a call was refused, and
 /// `Memory` where memory was.
-pub fn renew<S: Alter, N: Renewal>(
+pub fn renew<S: Alter, N: RenewalObserver>(
     alloc: Global,
     conn: &mut Connection<S>,
-    told: &mut N,
+    observer: &mut N,
 ) -> Result<(), OpenFault>
     requires outside { conn.old.in_transaction ≡ false }
     requires met { HasCleanDisk (view S.Store conn.old)
@@ -56,7 +56,7 @@ pub fn renew<S: Alter, N: Renewal>(
 {
     match judge(alloc, conn, Layout::First) {
         Ok(pieces) => {
-            told.begins(&*conn);
+            observer.begins(&*conn);
             match rewrite(alloc, conn, &pieces) {
                 Ok(()) => Ok(()),
                 Err(cause) => Err(OpenFault::from(cause)),

@@ -12,7 +12,7 @@ ghost use Rattle.goo_core_shelf.specs.Sought.{is_sought};
 ghost use Rattle.goo_spec_tables.specs.Places.{rows_of};
 ghost use Rattle.goo_store_judge.specs.Moments.{tables_in};
 ghost use Rattle.goo_store_plans.specs.Found.{IsEdge};
-ghost use Rattle.goo_tables_rows.specs.Stands.{doubts};
+ghost use Rattle.goo_tables_rows.specs.Stands.{defects};
 ghost use Rattle.goo_store.specs.Seen.{Blames, database_of, seen_by};
 
 use crate::ahead::read_page;
@@ -163,7 +163,7 @@ impl<S: Alter> SqlShelf<S> {
 
     /// A row of an account that was found, once the rows that follow it were read ahead and kept.
     fn follow(&mut self, account: AccountNo, row: Piece) -> Result<Option<Piece>, Fault>
-        requires { doubts (database_of self.now) ≡ 0
+        requires { defects (database_of self.now) ≡ 0
             → IsEdge (Some row.last) (rows_of (tables_in (database_of self.now))) }
         ensures looks { Looks (seen_by self.old) (seen_by self.new) result
             (λ found. found ≡ Some row) }

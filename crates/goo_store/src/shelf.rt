@@ -252,7 +252,7 @@ impl<S: Alter> Shelf for SqlShelf<S> {
     }
 
     fn commit(&mut self, alloc: Global, plan: &Plan) -> Result<(), Fault>
-        requires { (seen_by self.old).doubts ≡ 0
+        requires { (seen_by self.old).defects ≡ 0
             → Fits (seen_by self.old).state (seen_by self.old).rows plan.now }
         ensures commits { Commits (seen_by self.old) (seen_by self.new) result plan.now }
         ensures store { BlamesPlan self.old self.new result (λ t. CanCarryOut t plan.now) }
@@ -262,5 +262,5 @@ impl<S: Alter> Shelf for SqlShelf<S> {
 
     ghost settled = { λ s none. safe _ s.well (λ live db may. S.settled s.conn.store db live may) none s.refused };
 
-    ghost unlied = { λ s none. (sure (database_of s) none).0 };
+    ghost uncorrupted = { λ s none. (sure (database_of s) none).0 };
 }

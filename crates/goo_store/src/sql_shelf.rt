@@ -9,7 +9,7 @@ ghost use Rattle.goo_spec.specs.Runs.{IsApart};
 ghost use Rattle.goo_spec.specs.Sound.{IsSound};
 ghost use Rattle.goo_tables_rows.specs.Columns.{no_schema};
 ghost use Rattle.goo_tables_rows.specs.Met.{IsInKeyOrder};
-ghost use Rattle.goo_tables_rows.specs.Stands.{HoldsOurs, doubts};
+ghost use Rattle.goo_tables_rows.specs.Stands.{HoldsOurs, defects};
 ghost use Rattle.goo_core_shelf.specs.Shelf.{IsReady};
 ghost use Rattle.goo_tables_accounts.specs.Changes.{begun};
 ghost use Rattle.goo_store.specs.Creating.{meta_of};
@@ -95,17 +95,17 @@ impl<S: Alter> SqlShelf<S> {
     ) -> Result<SqlShelf<S>, (Connection<S>, OpenFault)>
         requires { conn.in_transaction ≡ false }
         ensures state { IfOk result
-            (λ shelf. (seen_by shelf).doubts ≡ 0
+            (λ shelf. (seen_by shelf).defects ≡ 0
             → (seen_by shelf).state ≡ created code today next_serial) }
         ensures rows { IfOk result
-            (λ shelf. (seen_by shelf).doubts ≡ 0 → (seen_by shelf).rows ≡ []) }
+            (λ shelf. (seen_by shelf).defects ≡ 0 → (seen_by shelf).rows ≡ []) }
         ensures sound { IfOk result
-            (λ shelf. (seen_by shelf).doubts ≡ 0 → IsSound (seen_by shelf).state) }
+            (λ shelf. (seen_by shelf).defects ≡ 0 → IsSound (seen_by shelf).state) }
         ensures rows_fit { IfOk result
-            (λ shelf. (seen_by shelf).doubts ≡ 0
+            (λ shelf. (seen_by shelf).defects ≡ 0
             → AreRowsOf (seen_by shelf).state.at (seen_by shelf).rows) }
         ensures apart { IfOk result
-            (λ shelf. (seen_by shelf).doubts ≡ 0 → IsApart (seen_by shelf).rows) }
+            (λ shelf. (seen_by shelf).defects ≡ 0 → IsApart (seen_by shelf).rows) }
         ensures ready { IfOk result (λ shelf. IsReady (seen_by shelf)) }
         ensures there { IfErr result (λ e. e.1 ≡ AlreadyThere → e.0 ≡ conn) }
         ensures taken { (view S.Store conn).now.schema ≢ no_schema
@@ -141,15 +141,15 @@ impl<S: Alter> SqlShelf<S> {
         if self.refused { 1 } else { 0 }
     }
 
-    /// The database, with the registry in it: while nothing is in doubt, it opens again as the
+    /// The database, with the registry in it: while there is no defect, it opens again as the
     /// state that the shelf has.
     pub fn into_connection(self) -> Connection<S>
         ensures conn { result ≡ self.conn }
         ensures outside { result.in_transaction ≡ false }
         ensures well { IsWell (view S.Store result) }
-        ensures ordered { doubts (view S.Store result) ≡ 0
+        ensures ordered { defects (view S.Store result) ≡ 0
             → IsInKeyOrder (view S.Store result).now }
-        ensures opens { doubts (view S.Store result) ≡ 0
+        ensures opens { defects (view S.Store result) ≡ 0
             → OpensAs (view S.Store result).now.trees (Some (seen_by self).state) }
     {
         let SqlShelf {

@@ -10,7 +10,7 @@ use Rattle.goo_types.specs.declared.fault.Fault.TheVariants as fault
 use Rattle.goo_core_shelf.specs.Shelf as shelf
 use Rattle.goo_tables_rows.specs.Refused.{IsFault, FailsOnlyByFault}
 use Rattle.goo_tables_rows.specs.Rows.{Tables}
-use Rattle.goo_tables_rows.specs.Stands.{Stands, Looks, doubts}
+use Rattle.goo_tables_rows.specs.Stands.{Stands, Looks, defects}
 use Rattle.goo_tables_rows.proofs.Results.{if_ok}
 use Rattle.goo_store_open.specs.Reading.{CanBeRead}
 use Rattle.goo_store_rules.proofs.CanBeRead.{kept_can_be_read}
@@ -34,7 +34,7 @@ refused_blames old a result has = record {
 
 -- one statement, whose answer was read and told
 module _ (old new : State) (it : IsWell old) {T : Type 0} (r : Result T Error) (right : Tables → T → Type 0) (looks : Looks old new r right) where
-  fine : HasCleanDisk new → IsTrue old.is_open → doubts old ≡ 0
+  fine : HasCleanDisk new → IsTrue old.is_open → defects old ≡ 0
   fine clean live = is_sure old (omega (arith, clean, looks.clean)) live
 
   more_faults : (e : Error) → IsTrue old.is_open → e ≢ SqliteFailure OutOfMemory → IsFault old new e → MoreFaults old.faults new.faults
@@ -85,24 +85,24 @@ module _ (old mid new : State) (a0 a b : Bool) {T : Type 0} (x : T) (first : T �
   -- the second is the answer
   pub blamed_then : {U : Type 0} (r : Result U Fault) (second : U → Type 0) → shelf.Looks (moment mid a) (moment new b) r second → BlamesStore mid new a r → BlamesStore old new a0 r
   blamed_then r second two late =
-      let live = λ (clean : HasCleanDisk new). (sure mid (one.works (two.lied clean))).1 in
+      let live = λ (clean : HasCleanDisk new). (sure mid (one.works (two.corruptions_stay clean))).1 in
       record {
-        limit = λ clean alive. late.limit clean (live clean) ∙ early.limit (two.lied clean) alive;
-        counts = λ clean alive. omega (arith, early.counts (two.lied clean) alive, late.counts clean (live clean));
-        store = λ clean alive unlimited ready. worse r (early.counts (two.lied clean) alive) (late.store clean (live clean) (early.limit (two.lied clean) alive ∙ unlimited) (down a one.told));
+        limit = λ clean alive. late.limit clean (live clean) ∙ early.limit (two.corruptions_stay clean) alive;
+        counts = λ clean alive. omega (arith, early.counts (two.corruptions_stay clean) alive, late.counts clean (live clean));
+        store = λ clean alive unlimited ready. worse r (early.counts (two.corruptions_stay clean) alive) (late.store clean (live clean) (early.limit (two.corruptions_stay clean) alive ∙ unlimited) (down a one.told));
       }
 
   -- something is made of both
   pub blamed_both : {U V : Type 0} (y : U) (second : U → Type 0) (c : Bool) (read : Result V StatementFault) (result : Result V Fault) → shelf.Looks (moment mid a) (moment new b) (Ok y) second → BlamesStore mid new a (Ok y) → Tells read result b c
-      → (doubts old ≡ 0 → rows_of (tables_in mid) ≡ rows_of (tables_in old) → first x → second y → IsOkUnless read Memory) → BlamesStore old new a0 result
+      → (defects old ≡ 0 → rows_of (tables_in mid) ≡ rows_of (tables_in old) → first x → second y → IsOkUnless read Memory) → BlamesStore old new a0 result
   blamed_both y second c read result two late told says =
       let both = blamed_then (Ok y) second two late in
       record {
         limit = both.limit;
         counts = both.counts;
         store = λ clean alive unlimited ready.
-            let sure_mid = one.works (two.lied clean) in
-            unless_memory (MoreFaults old.faults new.faults) read b c result told (says (one.doubted sure_mid) (one.rows_same sure_mid) (one.found sure_mid) (two.found (two.works clean)));
+            let sure_mid = one.works (two.corruptions_stay clean) in
+            unless_memory (MoreFaults old.faults new.faults) read b c result told (says (one.defects_stay sure_mid) (one.rows_same sure_mid) (one.found sure_mid) (two.found (two.works clean)));
       }
 
 -- an error that is handed on

@@ -8,7 +8,7 @@ use Rattle.sqlite.specs.Effect.{Database}
 use Rattle.goo_tables_rows.specs.Rows.{Tables, tables_of, meta_in, holder_in, account_in, device_in, declaration_in, lot_in}
 use Rattle.goo_tables_rows.specs.Met.{HasOurTables}
 use Rattle.goo_tables_rows.specs.Columns.{registry_schema}
-use Rattle.goo_tables_rows.specs.Stands.{Stands, IsSettled, AreOurs, doubts}
+use Rattle.goo_tables_rows.specs.Stands.{Stands, IsSettled, AreOurs, defects}
 use Rattle.goo_tables_rows.proofs.Catalogued.{ours_of}
 use Rattle.goo_tables_rows.proofs.Decoded.{decoded}
 use Rattle.goo_ranges_rows.proofs.CertificateLemmas.{certificates-rows}
@@ -141,13 +141,13 @@ module _ (rules : RulesAreThose) (layout : Layout) (old new : State) where
   }
 
 module _ {T : Type 0} (Tells : Tables → T → Type 0) (old new : State) (y : T) (judges : Judges Ours old new (Ok y) Tells) (met : HasCleanDisk old → IsMet Ours old) where
-  before : doubts new ≡ 0 → IsMet Ours old
+  before : defects new ≡ 0 → IsMet Ours old
   before none = met (judges.clean (sure new none).0)
 
-  pub now_same : doubts new ≡ 0 → new.now ≡ old.now
+  pub now_same : defects new ≡ 0 → new.now ≡ old.now
   now_same none = (judges.rests (sure new none).0 (before none)).now (sure new none).1
 
-  its_tables : (none : doubts new ≡ 0) → tables_in new ≡ (judges.kept (sure new none).0 (before none)).0
+  its_tables : (none : defects new ≡ 0) → tables_in new ≡ (judges.kept (sure new none).0 (before none)).0
   its_tables none =
       ap (λ (d : Database). tables_of d.trees) (now_same none)
       ∙ decoded old.now (judges.kept (sure new none).0 (before none)).0 (judges.kept (sure new none).0 (before none)).1
@@ -168,7 +168,7 @@ module _ {T : Type 0} (Tells : Tables → T → Type 0) (old new : State) (y : T
   }
 
   -- the state is that of the tables that were there
-  pub opened_state : (t : Tables) → Stands old.now t → doubts new ≡ 0 → state_of (tables_in new) ≡ state_of t
+  pub opened_state : (t : Tables) → Stands old.now t → defects new ≡ 0 → state_of (tables_in new) ≡ state_of t
   opened_state t stands none = ap state_of (ap (λ (d : Database). tables_of d.trees) (now_same none) ∙ decoded old.now t stands)
 
   -- tables that don't keep the rules aren't opened

@@ -10,7 +10,7 @@ use Rattle.goo_core_shelf.specs.Shelf as shelf
 use Rattle.goo_core_shelf.proofs.Looking.{stays_still, stays_on}
 use Rattle.goo_tables_rows.proofs.Results.{if_ok}
 use Rattle.goo_tables_rows.specs.Rows.{Tables, tables_of}
-use Rattle.goo_tables_rows.specs.Stands.{Stands, Rests, Looks, AreOurs, doubts}
+use Rattle.goo_tables_rows.specs.Stands.{Stands, Rests, Looks, AreOurs, defects}
 use Rattle.goo_store_values.specs.declared.statement_fault.StatementFault.{StatementFault}
 use Rattle.goo_store_values.specs.declared.statement_fault.StatementFault.TheVariants.{Memory, Refused}
 use Rattle.goo_spec_tables.specs.Kept.{AreKept}
@@ -22,23 +22,23 @@ use Rattle.goo_store_judge.specs.Moments.{tables_in, count, moment, IsWell}
 use Rattle.goo_store_judge.specs.Holding.{is_sure, sure, LeavesCommit, left_by, safe}
 
 -- a call that only a failed one lets shut the connection
-pub survived : (old new : State) (a b : Bool) (Commits : Trees → Type 0) → Survives old new Commits → HasCleanDisk new → doubts old ≡ 0 → shelf.StaysSure (moment old a) (moment new b)
+pub survived : (old new : State) (a b : Bool) (Commits : Trees → Type 0) → Survives old new Commits → HasCleanDisk new → defects old ≡ 0 → shelf.StaysSure (moment old a) (moment new b)
 survived old new a b Commits survives clean none = record {
   counts = survives.counts;
   sure = λ unfailed. elim (survives.closes clean (sure old none).1) [ inl live ↦ is_sure new clean live | inr failed ↦ absurd (unfailed failed) ];
 }
 
 module _ (old new : State) (it : IsWell old) {T : Type 0} (r : Result T Error) (right : Tables → T → Type 0) (looks : Looks old new r right) where
-  pub before : doubts new ≡ 0 → doubts old ≡ 0
+  pub before : defects new ≡ 0 → defects old ≡ 0
   before none = is_sure old (omega (arith, (sure new none).0, looks.clean)) (looks.was_open (sure new none).0 (sure new none).1)
 
-  rests : doubts new ≡ 0 → Rests old new
+  rests : defects new ≡ 0 → Rests old new
   rests none = looks.rests (sure new none).0 (it.stands (before none)).schema (λ _. it.settled (before none))
 
-  now_same : doubts new ≡ 0 → new.now ≡ old.now
+  now_same : defects new ≡ 0 → new.now ≡ old.now
   now_same none = (rests none).now (sure new none).1
 
-  pub tables_same : doubts new ≡ 0 → tables_in new ≡ tables_in old
+  pub tables_same : defects new ≡ 0 → tables_in new ≡ tables_in old
   tables_same none = ap (λ (d : Database). tables_of d.trees) (now_same none)
 
   -- the shelf stays well
@@ -51,10 +51,10 @@ module _ (old new : State) (it : IsWell old) {T : Type 0} (r : Result T Error) (
   }
 
   -- what is so of the tables before it is so of those after it
-  pub so_still : (P : Tables → Type 0) → doubts new ≡ 0 → P (tables_in old) → P (tables_in new)
+  pub so_still : (P : Tables → Type 0) → defects new ≡ 0 → P (tables_in old) → P (tables_in new)
   so_still P none = subst P (sym (tables_same none))
 
-  crash : LeavesCommit old → HasCleanDisk new → doubts old ≡ 0 → (b : Bool) → shelf.IsSafe (moment new b) (state_of (tables_in old))
+  crash : LeavesCommit old → HasCleanDisk new → defects old ≡ 0 → (b : Bool) → shelf.IsSafe (moment new b) (state_of (tables_in old))
   crash law late none b o left =
       elim ((looks.crash (it.stands none).schema).crash late left.0 left.1) [
         | inl early ↦ left_by old it law none left.0 early o left.2
@@ -81,7 +81,7 @@ module _ (old new : State) (it : IsWell old) {T : Type 0} (r : Result T Error) (
   passed P R (Err e) (Ok y) t passes is says = absurd (true≢false (sym passes))
   passed P R (Err e) (Err f) t passes is says = tt
 
-  works_sure : (q : Result T Error) → OnOk q (HasCleanDisk new → IsTrue new.is_open) → OnOk q (HasCleanDisk new → doubts new ≡ 0)
+  works_sure : (q : Result T Error) → OnOk q (HasCleanDisk new → IsTrue new.is_open) → OnOk q (HasCleanDisk new → defects new ≡ 0)
   works_sure (Ok x) works = λ late. is_sure new late (works late)
   works_sure (Err e) works = tt
 
@@ -98,8 +98,8 @@ module _ (old new : State) (it : IsWell old) {T : Type 0} (r : Result T Error) (
     found = λ none. found_so P read a b result told (passed P R r read (tables_in old) passes (looks.found (sure new none).0 (tables_in old) (it.stands (before none))) (says (it.kept (before none))));
     same = λ none. ap state_of (tables_same none);
     rows_same = λ none. ap rows_of (tables_same none);
-    doubted = before;
-    lied = λ late. omega (arith, late, looks.clean);
+    defects_stay = before;
+    corruptions_stay = λ late. omega (arith, late, looks.clean);
     kept = still a b not_yet;
     told = told_so read a b result not_yet told;
     works = works_so _ R r read a b result passes told (works_sure r looks.works);
@@ -113,8 +113,8 @@ refused_look old it a has law P = record {
   found = λ _. tt;
   same = λ _. refl;
   rows_same = λ _. refl;
-  doubted = λ none. none;
-  lied = λ late. late;
+  defects_stay = λ none. none;
+  corruptions_stay = λ late. late;
   kept = omega arith;
   told = ap count has;
   works = tt;
@@ -128,15 +128,15 @@ module _ (old mid new : State) (a0 a b c : Bool) {T U V : Type 0} (x : T) (first
   pub failed_then : (second : U → Type 0) (P : V → Type 0) (e : Fault) (result : Result V Fault) → result ≡ Err e → shelf.Looks {T = U} (moment mid a) (moment new b) (Err e) second → shelf.Looks (moment old a0) (moment new b) result P
   failed_then second P e result is two = subst (λ (z : Result V Fault). shelf.Looks (moment old a0) (moment new b) z P) (sym is) (record {
     found = λ _. tt;
-    same = λ none. two.same none ∙ one.same (two.doubted none);
-    rows_same = λ none. two.rows_same none ∙ one.rows_same (two.doubted none);
-    doubted = λ none. one.doubted (two.doubted none);
-    lied = λ late. one.lied (two.lied late);
+    same = λ none. two.same none ∙ one.same (two.defects_stay none);
+    rows_same = λ none. two.rows_same none ∙ one.rows_same (two.defects_stay none);
+    defects_stay = λ none. one.defects_stay (two.defects_stay none);
+    corruptions_stay = λ late. one.corruptions_stay (two.corruptions_stay late);
     kept = omega (arith, one.kept, two.kept);
     told = fault_told e two.told;
     works = tt;
-    stays = stays_on (moment old a0) (moment mid a) (moment new b) x first one two.lied two.stays;
-    crash = λ late none. subst (shelf.IsSafe (moment new b)) (one.same (one.works (two.lied late))) (two.crash late (one.works (two.lied late)));
+    stays = stays_on (moment old a0) (moment mid a) (moment new b) x first one two.corruptions_stay two.stays;
+    crash = λ late none. subst (shelf.IsSafe (moment new b)) (one.same (one.works (two.corruptions_stay late))) (two.crash late (one.works (two.corruptions_stay late)));
   })
     where
       fault_told : (f : Fault) → shelf.IsTold {T = U} (Err f) (count b) → shelf.IsTold {T = V} (Err f) (count b)
@@ -145,20 +145,20 @@ module _ (old mid new : State) (a0 a b c : Bool) {T U V : Type 0} (x : T) (first
 
   -- the second succeeds, and something is made of both
   pub looked_both : (y : U) (second : U → Type 0) (P : V → Type 0) (read : Result V StatementFault) (result : Result V Fault) → shelf.Looks (moment mid a) (moment new b) (Ok y) second → Tells read result b c
-      → (doubts old ≡ 0 → rows_of (tables_in mid) ≡ rows_of (tables_in old) → first x → second y → IfOk read P) → shelf.Looks (moment old a0) (moment new c) result P
+      → (defects old ≡ 0 → rows_of (tables_in mid) ≡ rows_of (tables_in old) → first x → second y → IfOk read P) → shelf.Looks (moment old a0) (moment new c) result P
   looked_both y second P read result two told says = record {
-    found = λ none. found_told P read b c result told (says (one.doubted (two.doubted none)) (one.rows_same (two.doubted none)) (one.found (two.doubted none)) (two.found none));
-    same = λ none. two.same none ∙ one.same (two.doubted none);
-    rows_same = λ none. two.rows_same none ∙ one.rows_same (two.doubted none);
-    doubted = λ none. one.doubted (two.doubted none);
-    lied = λ late. one.lied (two.lied late);
+    found = λ none. found_told P read b c result told (says (one.defects_stay (two.defects_stay none)) (one.rows_same (two.defects_stay none)) (one.found (two.defects_stay none)) (two.found none));
+    same = λ none. two.same none ∙ one.same (two.defects_stay none);
+    rows_same = λ none. two.rows_same none ∙ one.rows_same (two.defects_stay none);
+    defects_stay = λ none. one.defects_stay (two.defects_stay none);
+    corruptions_stay = λ late. one.corruptions_stay (two.corruptions_stay late);
     kept = omega (arith, one.kept, one.told, two.told);
     told = told_told read b c result told (down b two.told);
     works = works_told read b c result told two.works;
     stays = λ late none.
-        let both = stays_on (moment old a0) (moment mid a) (moment new b) x first one two.lied two.stays late none in
+        let both = stays_on (moment old a0) (moment mid a) (moment new b) x first one two.corruptions_stay two.stays late none in
         record { counts = both.counts; sure = both.sure };
-    crash = λ late none. subst (shelf.IsSafe (moment new b)) (one.same (one.works (two.lied late))) (two.crash late (one.works (two.lied late)));
+    crash = λ late none. subst (shelf.IsSafe (moment new b)) (one.same (one.works (two.corruptions_stay late))) (two.crash late (one.works (two.corruptions_stay late)));
   }
     where
       down : (f : Bool) → count f ≡ 0 → f ≡ false
@@ -185,14 +185,14 @@ module _ (old mid new : State) (a0 a b : Bool) {T V : Type 0} (x : T) (first : T
   pub looked_then : (second P : V → Type 0) (result : Result V Fault) → shelf.Looks (moment mid a) (moment new b) result second
       → (state_of (tables_in mid) ≡ state_of (tables_in old) → first x → (v : V) → second v → P v) → shelf.Looks (moment old a0) (moment new b) result P
   looked_then second P result two says = record {
-    found = λ none. if_ok result (two.found none) (says (one.same (two.doubted none)) (one.found (two.doubted none)));
-    same = λ none. two.same none ∙ one.same (two.doubted none);
-    rows_same = λ none. two.rows_same none ∙ one.rows_same (two.doubted none);
-    doubted = λ none. one.doubted (two.doubted none);
-    lied = λ late. one.lied (two.lied late);
+    found = λ none. if_ok result (two.found none) (says (one.same (two.defects_stay none)) (one.found (two.defects_stay none)));
+    same = λ none. two.same none ∙ one.same (two.defects_stay none);
+    rows_same = λ none. two.rows_same none ∙ one.rows_same (two.defects_stay none);
+    defects_stay = λ none. one.defects_stay (two.defects_stay none);
+    corruptions_stay = λ late. one.corruptions_stay (two.corruptions_stay late);
     kept = omega (arith, one.kept, two.kept);
     told = two.told;
     works = two.works;
-    stays = stays_on (moment old a0) (moment mid a) (moment new b) x first one two.lied two.stays;
-    crash = λ late none. subst (shelf.IsSafe (moment new b)) (one.same (one.works (two.lied late))) (two.crash late (one.works (two.lied late)));
+    stays = stays_on (moment old a0) (moment mid a) (moment new b) x first one two.corruptions_stay two.stays;
+    crash = λ late none. subst (shelf.IsSafe (moment new b)) (one.same (one.works (two.corruptions_stay late))) (two.crash late (one.works (two.corruptions_stay late)));
   }

@@ -7,7 +7,7 @@ use Rattle.sqlite.specs.Effect.{Database}
 use Rattle.goo_spec.specs.State as registry
 use Rattle.goo_core_shelf.specs.Shelf.{IsSafe}
 use Rattle.goo_tables_rows.specs.Rows.{tables_of}
-use Rattle.goo_tables_rows.specs.Stands.{Holds, AreOurs, doubts}
+use Rattle.goo_tables_rows.specs.Stands.{Holds, AreOurs, defects}
 use Rattle.goo_tables_rows.proofs.Committed.{holds_from}
 use Rattle.goo_spec_tables.specs.Kept.{AreKept}
 use Rattle.goo_store_judge.specs.Moments.{tables_in, OpensAs, moment, IsWell}
@@ -25,12 +25,12 @@ whole true true h live = refl
 whole true false h live = absurd (true≢false (sym live))
 whole false b h live = absurd (omega (arith, h))
 
-pub is_sure : (s : State) → HasCleanDisk s → IsTrue s.is_open → doubts s ≡ 0
-unfolding doubts
+pub is_sure : (s : State) → HasCleanDisk s → IsTrue s.is_open → defects s ≡ 0
+unfolding defects
 is_sure s = whole s.is_clean s.is_open
 
-pub sure : (s : State) → doubts s ≡ 0 → HasCleanDisk s × IsTrue s.is_open
-unfolding doubts
+pub sure : (s : State) → defects s ≡ 0 → HasCleanDisk s × IsTrue s.is_open
+unfolding defects
 sure s = both s.is_clean s.is_open
 
 -- while the connection is open, a crash leaves what was committed last
@@ -42,7 +42,7 @@ pub opens_so : (db : Trees) (o : Option registry.State) → AreOurs db → Holds
 opens_so db None ours holds kept opens = absurd (opens ours holds kept)
 opens_so db (Some s) ours holds kept opens = ap Some opens.1.2
 
-module _ (s : State) (it : IsWell s) (law : LeavesCommit s) (none : doubts s ≡ 0) where
+module _ (s : State) (it : IsWell s) (law : LeavesCommit s) (none : defects s ≡ 0) where
   committed_now : (db : Trees) → s.may_leave db → s.now.trees ≡ db
   committed_now db may = ap (λ (d : Database). d.trees) (it.settled none) ∙ sym (law (sure s none).1 db may)
 

@@ -19,7 +19,7 @@ use Rattle.goo_ranges_rows.specs.Rows.{rising-prop}
 use Rattle.goo_types.specs.declared.piece.Piece.{Piece}
 use Rattle.goo_core_shelf.specs.Shelf.{Moment, progress_of}
 use Rattle.goo_tables_rows.specs.Rows.{Tables, Kept, Device, Lot, carrier_of_device, carrier_of_lot, tables_of, kept_key, holder_row, account_row, account_key, device_row as row_of_device, declaration_row, declaration_key, lot_row, lot_key, piece_row, piece_key, peer_row, receipt_row, cancellation_row, cancellation_key, withdrawal_row, withdrawal_key, notice_out_row, notice_out_key, notice_in_row, correction_row, correction_key, device_carrier_row, lot_carrier_row, lot_carrier_key}
-use Rattle.goo_tables_rows.specs.Stands.{Stands, Holds, AreOurs, Keeps, doubts}
+use Rattle.goo_tables_rows.specs.Stands.{Stands, Holds, AreOurs, Keeps, defects}
 use Rattle.goo_spec.specs.State as registry
 use Rattle.goo_spec.specs.Runs.{IsApart}
 use Rattle.goo_spec.specs.Sound.{IsSound}
@@ -57,18 +57,18 @@ moment s refused = record {
   state = state_of (tables_in s);
   rows = rows_of (tables_in s);
   refusals = count refused;
-  lies = doubt s.is_clean;
-  doubts = doubts s;
+  corruptions = doubt s.is_clean;
+  defects = defects s;
   failures = s.faults;
   leaves = leaves_in s;
 }
 
--- while nothing is in doubt, the database lists and holds tables that keep the rules, and all that it sees is committed
+-- while there is no defect, the database lists and holds tables that keep the rules, and all that it sees is committed
 pub record IsWell (s : State) : Type 0 where
-  pub stands : doubts s ≡ 0 → Stands s.now (tables_in s)
-  pub ours : doubts s ≡ 0 → AreOurs s.now.trees
-  pub kept : doubts s ≡ 0 → AreKept (tables_in s)
-  pub settled : doubts s ≡ 0 → s.now ≡ s.committed
+  pub stands : defects s ≡ 0 → Stands s.now (tables_in s)
+  pub ours : defects s ≡ 0 → AreOurs s.now.trees
+  pub kept : defects s ≡ 0 → AreKept (tables_in s)
+  pub settled : defects s ≡ 0 → s.now ≡ s.committed
 
 -- ---- it has one proof at most, so it may be a ghost field
 

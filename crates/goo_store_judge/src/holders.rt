@@ -4,7 +4,7 @@ ghost use Rattle.std.specs.Prelude.{◌≡◌, false, pos, IfSome, IsTrue, optio
 ghost use Rattle.std.specs.FinMap.{get};
 ghost use Rattle.sqlite.specs.Held.{state as view};
 ghost use Rattle.goo_tables_rows.specs.Rows.{holder_in};
-ghost use Rattle.goo_tables_rows.specs.Stands.{doubts};
+ghost use Rattle.goo_tables_rows.specs.Stands.{defects};
 ghost use Rattle.goo_core_shelf.specs.Shelf.{Looks};
 ghost use Rattle.goo_store_judge.specs.Moments.{IsWell, moment, tables_in};
 ghost use Rattle.goo_store_judge.specs.StoreFaults.{BlamesStore};
@@ -54,7 +54,7 @@ pub fn name_of<S: Alter>(
         (λ name. name ≡ get (moment (view S.Store conn.old) refused.old).state.holders code.now) }
     ensures store { BlamesStore (view S.Store conn.old) (view S.Store conn.new) refused.old result }
     ensures well { IsWell (view S.Store conn.new) }
-    ensures same { doubts (view S.Store conn.new) ≡ 0 → (doubts (view S.Store conn.old) ≡ 0)
+    ensures same { defects (view S.Store conn.new) ≡ 0 → (defects (view S.Store conn.old) ≡ 0)
         × (tables_in (view S.Store conn.new) ≡ tables_in (view S.Store conn.old)) }
     ensures outside { conn.old.in_transaction ≡ false → conn.new.in_transaction ≡ false }
 {

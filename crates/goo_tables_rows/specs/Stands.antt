@@ -86,8 +86,8 @@ abbrev pub IsSettled : State → Type 0
 IsSettled s = IsTrue s.is_open → s.now ≡ s.committed
 
 -- 0 while the connection works and its disk has returned what was written
-unfoldable pub doubts : State → ℕ
-doubts s = doubt (s.is_clean && s.is_open)
+unfoldable pub defects : State → ℕ
+defects s = doubt (s.is_clean && s.is_open)
 
 -- a call that leaves the database as it was
 pub record Rests (old new : State) : Type 0 where

@@ -32,7 +32,8 @@ fn with_row<T: FromRow + Drop>(
 ///
 /// # Errors
 ///
-/// Those of the query, and those of reading a row. The database stays as it was.
+/// Those of the query, and those of reading a row; `OutOfMemory` after `u64::MAX` rows, which no
+/// file holds. The database stays as it was.
 pub fn ask_each<S: Alter, T: FromRow + Drop>(
     alloc: Global,
     conn: &mut Connection<S>,

@@ -21,7 +21,7 @@ impl Desk for FailingDesk {
     ghost use Rattle.std.specs.Prelude.{◌≡◌, Some};
     ghost use Rattle.goo_tests_values.specs.Failing.{begun, refused_by};
 
-    ghost seen = { λ d. record { state = begun; lies = 0; doubts = 0; refusals = refused_by d.fault; failures = 0 } };
+    ghost seen = { λ d. record { state = begun; corruptions = 0; defects = 0; refusals = refused_by d.fault; failures = 0 } };
 
     ghost leaves = { λ d o. o ≡ Some begun };
 

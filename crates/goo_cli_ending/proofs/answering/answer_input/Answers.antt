@@ -40,5 +40,5 @@ returns-clause-promised g c sound sure =
     c.run_lines-answered.ensures.unread c.run_lines-answered.ensures.silent c.flush.ensures.bytes)
 
 pub returns-clause-found : goal.returns-clause-found
-returns-clause-found g c lies sure =
-    found_kept (g.R.Read.remaining c.args.reader.now) _ _ _ _ _ (g.D.Desk.leaves c.run_lines-answered.new.desk) (c.run_lines-answered.ensures.found lies sure) c.flush.ensures.bytes
+returns-clause-found g c corruptions sure =
+    found_kept (g.R.Read.remaining c.args.reader.now) _ _ _ _ _ (g.D.Desk.leaves c.run_lines-answered.new.desk) (c.run_lines-answered.ensures.found corruptions sure) c.flush.ensures.bytes

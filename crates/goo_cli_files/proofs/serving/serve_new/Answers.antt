@@ -24,10 +24,10 @@ returns-in-Ok-clause-promised g c run =
     let was = g.L.Listener.accepted c.args.listener.now in
     let now = g.L.Listener.accepted c.serve_registry-ending.new.listener in
     let new = created c.args.opening.code c.args.opening.today c.args.opening.next_serial in
-    subst (λ conn. (moment (view g.S.Store conn) false).lies ≡ 0 → (moment (view g.S.Store conn) false).doubts ≡ 0 → KeepsPromise sends was now new (moment (view g.S.Store conn) false).state) (sym c.into_connection.ensures.conn)
-    (subst (λ shelf. (moment (view g.S.Store shelf.conn) false).lies ≡ 0 → (moment (view g.S.Store shelf.conn) false).doubts ≡ 0 → KeepsPromise sends was now new (moment (view g.S.Store shelf.conn) false).state) (sym c.into_shelf.ensures)
+    subst (λ conn. (moment (view g.S.Store conn) false).corruptions ≡ 0 → (moment (view g.S.Store conn) false).defects ≡ 0 → KeepsPromise sends was now new (moment (view g.S.Store conn) false).state) (sym c.into_connection.ensures.conn)
+    (subst (λ shelf. (moment (view g.S.Store shelf.conn) false).corruptions ≡ 0 → (moment (view g.S.Store shelf.conn) false).defects ≡ 0 → KeepsPromise sends was now new (moment (view g.S.Store shelf.conn) false).state) (sym c.into_shelf.ensures)
     (λ low none.
-    let before = subst (λ shelf. doubt (view g.S.Store shelf.conn).is_clean ≡ 0) c.new-registry.ensures (c.serve_registry-ending.ensures.lied low) in
+    let before = subst (λ shelf. doubt (view g.S.Store shelf.conn).is_clean ≡ 0) c.new-registry.ensures (c.serve_registry-ending.ensures.corruptions_stay low) in
     let ready = c.in-Ok.ensures.ready.works before in
     subst (λ (s : State). KeepsPromise sends was now s (moment (view g.S.Store c.serve_registry-ending.new.registry.shelf.conn) false).state) (subst (λ shelf. (moment (view g.S.Store shelf.conn) shelf.refused).state ≡ new) (sym c.new-registry.ensures) (c.in-Ok.ensures.state ready))
     (c.serve_registry-ending.ensures.promised (subst (λ shelf. IsSound (moment (view g.S.Store shelf.conn) shelf.refused).state) (sym c.new-registry.ensures) (c.in-Ok.ensures.sound ready)) low none)))

@@ -14,7 +14,7 @@ use Rattle.goo_cli_files.proofs.texts.statement_in_files.Goals as goal
 pub returns-in-Ok-clause-shown : goal.returns-in-Ok-clause-shown
 returns-in-Ok-clause-shown g c = λ clean db holds status.
     let low = subst (λ shelf. doubt (file_state shelf.conn).is_clean ≡ 0) c.into_shelf.ensures (c.close_registry.ensures.clean clean) in
-    let before = subst (λ shelf. doubt (file_state shelf.conn).is_clean ≡ 0) c.new-registry.ensures (c.show_statement-ending.ensures.lied low) in
+    let before = subst (λ shelf. doubt (file_state shelf.conn).is_clean ≡ 0) c.new-registry.ensures (c.show_statement-ending.ensures.corruptions_stay low) in
     wrote_begun (λ s. IsStatement s c.args.account) _ _ _ _
     (subst (λ shelf. (moment (file_state shelf.conn) shelf.refused).state ≡ state_held db) (sym c.new-registry.ensures) (c.in-Ok.ensures.state db holds (c.in-Ok.ensures.ready.works before)))
     (c.show_statement-ending.ensures.shown low status)
@@ -22,7 +22,7 @@ returns-in-Ok-clause-shown g c = λ clean db holds status.
 pub returns-in-Ok-clause-unknown : goal.returns-in-Ok-clause-unknown
 returns-in-Ok-clause-unknown g c = λ clean db holds status.
     let low = subst (λ shelf. doubt (file_state shelf.conn).is_clean ≡ 0) c.into_shelf.ensures (c.close_registry.ensures.clean clean) in
-    let before = subst (λ shelf. doubt (file_state shelf.conn).is_clean ≡ 0) c.new-registry.ensures (c.show_statement-ending.ensures.lied low) in
+    let before = subst (λ shelf. doubt (file_state shelf.conn).is_clean ≡ 0) c.new-registry.ensures (c.show_statement-ending.ensures.corruptions_stay low) in
     subst (λ s. get s.accounts c.args.account ≡ None)
     (subst (λ shelf. (moment (file_state shelf.conn) shelf.refused).state ≡ state_held db) (sym c.new-registry.ensures) (c.in-Ok.ensures.state db holds (c.in-Ok.ensures.ready.works before)))
     (c.show_statement-ending.ensures.unknown low status)
@@ -34,13 +34,13 @@ returns-in-Ok-clause-silent g c = λ clean status.
 pub returns-in-Ok-clause-kept : goal.returns-in-Ok-clause-kept
 returns-in-Ok-clause-kept g c = λ clean db holds.
     let low = subst (λ shelf. doubt (file_state shelf.conn).is_clean ≡ 0) c.into_shelf.ensures (c.close_registry.ensures.clean clean) in
-    let before = subst (λ shelf. doubt (file_state shelf.conn).is_clean ≡ 0) c.new-registry.ensures (c.show_statement-ending.ensures.lied low) in
+    let before = subst (λ shelf. doubt (file_state shelf.conn).is_clean ≡ 0) c.new-registry.ensures (c.show_statement-ending.ensures.corruptions_stay low) in
     let none = c.in-Ok.ensures.ready.works before in
     held_as c.close_registry.result (moment (file_state c.show_statement-ending.new.registry.shelf.conn) c.show_statement-ending.new.registry.shelf.refused) _ _ c.show_statement-ending.ensures.rests
-    (c.show_statement-ending.ensures.safe low (subst (λ shelf. (moment (file_state shelf.conn) shelf.refused).doubts ≡ 0) (sym c.new-registry.ensures) none))
+    (c.show_statement-ending.ensures.safe low (subst (λ shelf. (moment (file_state shelf.conn) shelf.refused).defects ≡ 0) (sym c.new-registry.ensures) none))
     (subst (λ shelf. (moment (file_state shelf.conn) shelf.refused).state ≡ state_held db) (sym c.new-registry.ensures) (c.in-Ok.ensures.state db holds none))
     (subst (λ shelf. IfWhole c.close_registry.result (λ files. HoldState g.D.Disk files (moment (file_state shelf.conn) shelf.refused).state)) c.into_shelf.ensures c.close_registry.ensures.whole)
-    (subst (λ shelf. IfWhole c.close_registry.result (λ files. AreClean g.D.Disk files.log files.db → (moment (file_state shelf.conn) shelf.refused).doubts ≡ 0)) c.into_shelf.ensures c.close_registry.ensures.sure)
+    (subst (λ shelf. IfWhole c.close_registry.result (λ files. AreClean g.D.Disk files.log files.db → (moment (file_state shelf.conn) shelf.refused).defects ≡ 0)) c.into_shelf.ensures c.close_registry.ensures.sure)
     (subst (λ shelf. IfParts c.close_registry.result (FindsRight (moment (file_state shelf.conn) shelf.refused).leaves)) c.into_shelf.ensures c.close_registry.ensures.found)
 
 pub returns-in-Ok-clause-unharmed : goal.returns-in-Ok-clause-unharmed

@@ -3,7 +3,7 @@ use Rattle.sqlite.specs.Files.{file_state}
 use Rattle.sqlite.specs.State.{HasCleanDisk}
 use Rattle.sqlite.specs.Tree.{Trees}
 use Rattle.sqlite_store.specs.Laws.{settled_at}
-use Rattle.goo_tables_rows.specs.Stands.{doubts}
+use Rattle.goo_tables_rows.specs.Stands.{defects}
 use Rattle.goo_spec_tables.specs.States.{state_of}
 use Rattle.goo_store_judge.specs.Holding.{is_sure, sure}
 use Rattle.goo_store_judge.specs.Moments.{OpensAs, leaves_in, tables_in}
@@ -37,7 +37,7 @@ returns-in-Ok-clause-copied g c = λ clean image may. inr ((file_state c.into_co
 pub returns-in-Ok-clause-sure : goal.returns-in-Ok-clause-sure
 returns-in-Ok-clause-sure g c = λ clean.
     let copied = c.in-Ok.ensures.copied clean in
-    subst (λ kept. doubts (file_state kept) ≡ 0) c.into_connection.ensures.conn (is_sure (file_state c.into_connection.result) copied.was_clean copied.was_open)
+    subst (λ kept. defects (file_state kept) ≡ 0) c.into_connection.ensures.conn (is_sure (file_state c.into_connection.result) copied.was_clean copied.was_open)
 
 pub returns-in-Ok-clause-kept : goal.returns-in-Ok-clause-kept
 returns-in-Ok-clause-kept g c none = copied g c
@@ -46,7 +46,7 @@ returns-in-Ok-clause-kept g c none = copied g c
 pub returns-in-Err-clause-kept : goal.returns-in-Err-clause-kept
 returns-in-Err-clause-kept g c none db may =
     let conn = c.into_connection.result in
-    subst (λ kept. doubts (file_state kept) ≡ 0 → OpensAs db (Some (state_of (tables_in (file_state kept))))) c.into_connection.ensures.conn
+    subst (λ kept. defects (file_state kept) ≡ 0 → OpensAs db (Some (state_of (tables_in (file_state kept))))) c.into_connection.ensures.conn
     (λ here.
     subst (λ (trees : Trees). OpensAs trees (Some (state_of (tables_in (file_state conn)))))
     (sym (settled_at conn.store g.met.D.Disk.seen_may_stay db (sure (file_state conn) here).1 (c.in-Err.ensures.err.0.quiet.outcomes db may)))

@@ -13,7 +13,7 @@ use Rattle.goo_cli_registry.proofs.running.answer_by_tables.Goals as goal
 pub returns-in-Ok-clause-all_done : goal.returns-in-Ok-clause-all_done
 returns-in-Ok-clause-all_done g c clean status =
     let low = subst (λ conn. doubt (view g.S.Store conn).is_clean ≡ 0) c.into_connection.ensures.conn clean in
-    let before = subst (λ shelf. doubt (view g.S.Store shelf.conn).is_clean ≡ 0) c.new.ensures (c.answer_by-ending.ensures.lied low) in
+    let before = subst (λ shelf. doubt (view g.S.Store shelf.conn).is_clean ≡ 0) c.new.ensures (c.answer_by-ending.ensures.corruptions_stay low) in
     all_done_begun (g.R.Read.remaining c.args.reader.now) _ _
     (subst (λ shelf. (moment (view g.S.Store shelf.conn) shelf.refused).state ≡ created c.args.opening.code c.args.opening.today c.args.opening.next_serial) (sym c.new.ensures) (c.in-Ok.ensures.state (c.in-Ok.ensures.ready.works before)))
     (c.answer_by-ending.ensures.all_done low status)
@@ -21,7 +21,7 @@ returns-in-Ok-clause-all_done g c clean status =
 pub returns-in-Ok-clause-not_all_done : goal.returns-in-Ok-clause-not_all_done
 returns-in-Ok-clause-not_all_done g c clean status =
     let low = subst (λ conn. doubt (view g.S.Store conn).is_clean ≡ 0) c.into_connection.ensures.conn clean in
-    let before = subst (λ shelf. doubt (view g.S.Store shelf.conn).is_clean ≡ 0) c.new.ensures (c.answer_by-ending.ensures.lied low) in
+    let before = subst (λ shelf. doubt (view g.S.Store shelf.conn).is_clean ≡ 0) c.new.ensures (c.answer_by-ending.ensures.corruptions_stay low) in
     not_all_done_begun (g.R.Read.remaining c.args.reader.now) _ _
     (subst (λ shelf. (moment (view g.S.Store shelf.conn) shelf.refused).state ≡ created c.args.opening.code c.args.opening.today c.args.opening.next_serial) (sym c.new.ensures) (c.in-Ok.ensures.state (c.in-Ok.ensures.ready.works before)))
     (c.answer_by-ending.ensures.not_all_done low status)
@@ -29,7 +29,7 @@ returns-in-Ok-clause-not_all_done g c clean status =
 pub returns-in-Ok-clause-written : goal.returns-in-Ok-clause-written
 returns-in-Ok-clause-written g c clean status =
     let low = subst (λ conn. doubt (view g.S.Store conn).is_clean ≡ 0) c.into_connection.ensures.conn clean in
-    let before = subst (λ shelf. doubt (view g.S.Store shelf.conn).is_clean ≡ 0) c.new.ensures (c.answer_by-ending.ensures.lied low) in
+    let before = subst (λ shelf. doubt (view g.S.Store shelf.conn).is_clean ≡ 0) c.new.ensures (c.answer_by-ending.ensures.corruptions_stay low) in
     written_begun (g.R.Read.remaining c.args.reader.now) _ _ _ _
     (subst (λ shelf. (moment (view g.S.Store shelf.conn) shelf.refused).state ≡ created c.args.opening.code c.args.opening.today c.args.opening.next_serial) (sym c.new.ensures) (c.in-Ok.ensures.state (c.in-Ok.ensures.ready.works before)))
     (c.answer_by-ending.ensures.written low status)
@@ -37,7 +37,7 @@ returns-in-Ok-clause-written g c clean status =
 pub returns-in-Ok-clause-promised : goal.returns-in-Ok-clause-promised
 returns-in-Ok-clause-promised g c sound clean =
     let low = subst (λ conn. doubt (view g.S.Store conn).is_clean ≡ 0) c.into_connection.ensures.conn clean in
-    let before = subst (λ shelf. doubt (view g.S.Store shelf.conn).is_clean ≡ 0) c.new.ensures (c.answer_by-ending.ensures.lied low) in
+    let before = subst (λ shelf. doubt (view g.S.Store shelf.conn).is_clean ≡ 0) c.new.ensures (c.answer_by-ending.ensures.corruptions_stay low) in
     let same = subst (λ shelf. (moment (view g.S.Store shelf.conn) shelf.refused).state ≡ created c.args.opening.code c.args.opening.today c.args.opening.next_serial) (sym c.new.ensures) (c.in-Ok.ensures.state (c.in-Ok.ensures.ready.works before)) in
     promised_as c.answer_by-ending.result.0 (g.R.Read.remaining c.args.reader.now) _ _ _ _ _ _ same (λ t known. tt)
     (c.answer_by-ending.ensures.promised (subst (λ (s : State). IsSound s) (sym same) sound) low)

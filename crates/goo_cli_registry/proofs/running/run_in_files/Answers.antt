@@ -14,7 +14,7 @@ use Rattle.goo_cli_registry.proofs.running.run_in_files.Goals as goal
 pub returns-in-Ok-clause-all_done : goal.returns-in-Ok-clause-all_done
 returns-in-Ok-clause-all_done g c = λ clean db holds status.
     let low = c.close_registry.ensures.clean clean in
-    let before = subst (λ shelf. doubt (file_state shelf.conn).is_clean ≡ 0) c.new.ensures (c.answer_by-ending.ensures.lied low) in
+    let before = subst (λ shelf. doubt (file_state shelf.conn).is_clean ≡ 0) c.new.ensures (c.answer_by-ending.ensures.corruptions_stay low) in
     all_done_begun (g.R.Read.remaining c.args.reader.now) _ _
     (subst (λ shelf. (moment (file_state shelf.conn) shelf.refused).state ≡ state_held db) (sym c.new.ensures) (c.in-Ok.ensures.state db holds (c.in-Ok.ensures.ready.works before)))
     (c.answer_by-ending.ensures.all_done low status)
@@ -22,7 +22,7 @@ returns-in-Ok-clause-all_done g c = λ clean db holds status.
 pub returns-in-Ok-clause-not_all_done : goal.returns-in-Ok-clause-not_all_done
 returns-in-Ok-clause-not_all_done g c = λ clean db holds status.
     let low = c.close_registry.ensures.clean clean in
-    let before = subst (λ shelf. doubt (file_state shelf.conn).is_clean ≡ 0) c.new.ensures (c.answer_by-ending.ensures.lied low) in
+    let before = subst (λ shelf. doubt (file_state shelf.conn).is_clean ≡ 0) c.new.ensures (c.answer_by-ending.ensures.corruptions_stay low) in
     not_all_done_begun (g.R.Read.remaining c.args.reader.now) _ _
     (subst (λ shelf. (moment (file_state shelf.conn) shelf.refused).state ≡ state_held db) (sym c.new.ensures) (c.in-Ok.ensures.state db holds (c.in-Ok.ensures.ready.works before)))
     (c.answer_by-ending.ensures.not_all_done low status)
@@ -30,7 +30,7 @@ returns-in-Ok-clause-not_all_done g c = λ clean db holds status.
 pub returns-in-Ok-clause-written : goal.returns-in-Ok-clause-written
 returns-in-Ok-clause-written g c = λ clean db holds status.
     let low = c.close_registry.ensures.clean clean in
-    let before = subst (λ shelf. doubt (file_state shelf.conn).is_clean ≡ 0) c.new.ensures (c.answer_by-ending.ensures.lied low) in
+    let before = subst (λ shelf. doubt (file_state shelf.conn).is_clean ≡ 0) c.new.ensures (c.answer_by-ending.ensures.corruptions_stay low) in
     written_begun (g.R.Read.remaining c.args.reader.now) _ _ _ _
     (subst (λ shelf. (moment (file_state shelf.conn) shelf.refused).state ≡ state_held db) (sym c.new.ensures) (c.in-Ok.ensures.state db holds (c.in-Ok.ensures.ready.works before)))
     (c.answer_by-ending.ensures.written low status)
@@ -38,7 +38,7 @@ returns-in-Ok-clause-written g c = λ clean db holds status.
 pub returns-in-Ok-clause-kept : goal.returns-in-Ok-clause-kept
 returns-in-Ok-clause-kept g c = λ clean db holds status.
     let low = c.close_registry.ensures.clean clean in
-    let before = subst (λ shelf. doubt (file_state shelf.conn).is_clean ≡ 0) c.new.ensures (c.answer_by-ending.ensures.lied low) in
+    let before = subst (λ shelf. doubt (file_state shelf.conn).is_clean ≡ 0) c.new.ensures (c.answer_by-ending.ensures.corruptions_stay low) in
     kept_begun c.close_registry.result (g.R.Read.remaining c.args.reader.now) _ _ _
     (subst (λ shelf. (moment (file_state shelf.conn) shelf.refused).state ≡ state_held db) (sym c.new.ensures) (c.in-Ok.ensures.state db holds (c.in-Ok.ensures.ready.works before)))
     (c.answer_by-ending.ensures.kept low status) c.close_registry.ensures.whole
@@ -46,7 +46,7 @@ returns-in-Ok-clause-kept g c = λ clean db holds status.
 pub returns-in-Ok-clause-stopped : goal.returns-in-Ok-clause-stopped
 returns-in-Ok-clause-stopped g c = λ clean db holds.
     let low = c.close_registry.ensures.clean clean in
-    let before = subst (λ shelf. doubt (file_state shelf.conn).is_clean ≡ 0) c.new.ensures (c.answer_by-ending.ensures.lied low) in
+    let before = subst (λ shelf. doubt (file_state shelf.conn).is_clean ≡ 0) c.new.ensures (c.answer_by-ending.ensures.corruptions_stay low) in
     stopped_begun c.close_registry.result _ (g.R.Read.remaining c.args.reader.now) _ _ _ _ _ _
     (subst (λ shelf. (moment (file_state shelf.conn) shelf.refused).state ≡ state_held db) (sym c.new.ensures) (c.in-Ok.ensures.state db holds (c.in-Ok.ensures.ready.works before)))
     (c.answer_by-ending.ensures.stopped low) c.close_registry.ensures.whole c.close_registry.ensures.sure
@@ -60,7 +60,7 @@ returns-in-Ok-clause-unharmed g c clean = not_refused c.close_registry.result _ 
 pub returns-in-Ok-clause-promised : goal.returns-in-Ok-clause-promised
 returns-in-Ok-clause-promised g c = λ clean db holds.
     let low = c.close_registry.ensures.clean clean in
-    let before = subst (λ shelf. doubt (file_state shelf.conn).is_clean ≡ 0) c.new.ensures (c.answer_by-ending.ensures.lied low) in
+    let before = subst (λ shelf. doubt (file_state shelf.conn).is_clean ≡ 0) c.new.ensures (c.answer_by-ending.ensures.corruptions_stay low) in
     let none = c.in-Ok.ensures.ready.works before in
     promised_in c.close_registry.result _ (g.R.Read.remaining c.args.reader.now) _ _ _ _ _ _
     (subst (λ shelf. (moment (file_state shelf.conn) shelf.refused).state ≡ state_held db) (sym c.new.ensures) (c.in-Ok.ensures.state db holds none))
@@ -73,11 +73,11 @@ returns-in-Err-clause-promised g c = λ clean db holds. unopened (g.R.Read.remai
 pub returns-in-Ok-clause-found : goal.returns-in-Ok-clause-found
 returns-in-Ok-clause-found g c = λ clean db holds.
     let low = c.close_registry.ensures.clean clean in
-    let before = subst (λ shelf. doubt (file_state shelf.conn).is_clean ≡ 0) c.new.ensures (c.answer_by-ending.ensures.lied low) in
+    let before = subst (λ shelf. doubt (file_state shelf.conn).is_clean ≡ 0) c.new.ensures (c.answer_by-ending.ensures.corruptions_stay low) in
     let none = c.in-Ok.ensures.ready.works before in
     found_in c.close_registry.result (g.R.Read.remaining c.args.reader.now) _ _ (moment (file_state c.answer_by-ending.result.1.conn) c.answer_by-ending.result.1.refused) _ _
     (subst (λ shelf. (moment (file_state shelf.conn) shelf.refused).state ≡ state_held db) (sym c.new.ensures) (c.in-Ok.ensures.state db holds none))
-    (c.answer_by-ending.ensures.found low (subst (λ shelf. (moment (file_state shelf.conn) shelf.refused).doubts ≡ 0) (sym c.new.ensures) none))
+    (c.answer_by-ending.ensures.found low (subst (λ shelf. (moment (file_state shelf.conn) shelf.refused).defects ≡ 0) (sym c.new.ensures) none))
     c.close_registry.ensures.whole c.close_registry.ensures.sure c.close_registry.ensures.found
 
 pub returns-in-Err-clause-found : goal.returns-in-Err-clause-found

@@ -6,7 +6,7 @@ use Rattle.goo_cli_ending.proofs.PromiseFacts.{none_promised}
 use Rattle.goo_cli_registry.proofs.Files.{honest}
 use Rattle.goo_cli_registry.proofs.running.run_in_memory.Goals as goal
 
--- a file in memory tells no lie
+-- a file in memory corrupts nothing
 pub returns-clause-all_done : goal.returns-clause-all_done
 unfolding state
 returns-clause-all_done g c status = c.answer_by_tables-ending.ensures.all_done (honest (file_state c.answer_by_tables-ending.result.1).is_clean refl) status

@@ -12,14 +12,14 @@ returns-in-Err-clause-imports g c =
     let new = seen_of (g.S.Shelf.seen c.import_bytes.new.desk.shelf) in
     let made = c.in-Err.ensures in
     subst (λ r. Imports imported_by begun_by old new c.args.caller.now c.args.rows.now r) (sym c.stopped.ensures)
-    (imports-stopped old new c.args.caller.now c.args.rows.now c.in-Err.fault.cause c.in-Err.fault.report.lines.items made.kinds made.header made.before made.sure_part made.doubted made.lied made.told made.stays)
+    (imports-stopped old new c.args.caller.now c.args.rows.now c.in-Err.fault.cause c.in-Err.fault.report.lines.items made.kinds made.header made.before made.sure_part made.defects_stay made.corruptions_stay made.told made.stays)
 
 pub returns-in-Ok-clause-crash : goal.returns-in-Ok-clause-crash
-returns-in-Ok-clause-crash g c lies sure =
+returns-in-Ok-clause-crash g c corruptions sure =
     let new = g.S.Shelf.seen c.import_bytes.new.desk.shelf in
-    found_begun c.args.caller.now c.args.rows.now (g.S.Shelf.seen c.args.registry.now.shelf).state (seen_of new) _ new.leaves (c.import_bytes.ensures.found lies sure)
+    found_begun c.args.caller.now c.args.rows.now (g.S.Shelf.seen c.args.registry.now.shelf).state (seen_of new) _ new.leaves (c.import_bytes.ensures.found corruptions sure)
 
 pub returns-in-Err-clause-crash : goal.returns-in-Err-clause-crash
-returns-in-Err-clause-crash g c lies sure =
+returns-in-Err-clause-crash g c corruptions sure =
     let new = g.S.Shelf.seen c.import_bytes.new.desk.shelf in
-    found_begun c.args.caller.now c.args.rows.now (g.S.Shelf.seen c.args.registry.now.shelf).state (seen_of new) _ new.leaves (c.import_bytes.ensures.found lies sure)
+    found_begun c.args.caller.now c.args.rows.now (g.S.Shelf.seen c.args.registry.now.shelf).state (seen_of new) _ new.leaves (c.import_bytes.ensures.found corruptions sure)

@@ -10,7 +10,7 @@ pub loop-line-init : goal.loop-line-init
 loop-line-init g c = rw c.into_iter-line-iterator.ensures.into_iter_gives (record {
   order = refl;
   count = omega arith;
-  lied = λ below. below;
+  corruptions_stay = λ below. below;
   told = λ none. none;
   works = λ below sure. sure;
   stays = λ below sure. stays_still (g.D.Desk.seen c.args.desk.now) sure;
@@ -32,15 +32,15 @@ loop-line-preserved g c =
     rw (map-append (λ (line : Bor (List ℕ)). line.now) c.loop-line.yielded (c.in-Some.line ∷ [])) (record {
       order = rw (append_assoc done) order;
       count = omega (arith, made.count, i.count, length-append c.loop-line.yielded (c.in-Some.line ∷ []));
-      lied = λ below. i.lied (made.lied below);
+      corruptions_stay = λ below. i.corruptions_stay (made.corruptions_stay below);
       told = λ none. c.in_ok-answer_next.ensures.told (i.told none);
-      works = λ below sure. made.works below (i.works (made.lied below) sure);
+      works = λ below sure. made.works below (i.works (made.corruptions_stay below) sure);
       stays = λ below sure. stays_both (g.D.Desk.seen c.args.desk.now) (g.D.Desk.seen c.loop-line.desk) (g.D.Desk.seen c.answer_next.new.desk)
-          (i.stays (made.lied below) sure) (made.stays below (i.works (made.lied below) sure));
+          (i.stays (made.corruptions_stay below) sure) (made.stays below (i.works (made.corruptions_stay below) sure));
       answered = λ below. stands-next (g.D.Desk.seen c.args.desk.now).state (g.D.Desk.seen c.loop-line.desk).state (g.D.Desk.seen c.answer_next.new.desk).state
           (g.W.Write.contents c.args.writer.now) (g.W.Write.contents c.loop-line.writer) (g.W.Write.contents c.answer_next.new.writer)
           done c.in-Some.line.now c.loop-line.tally c.answer_next.new.tally
-          (i.answered (made.lied below)) (made.answered below);
+          (i.answered (made.corruptions_stay below)) (made.answered below);
     })
 
 pub returns-in_err-answer_next-clause-part : goal.returns-in_err-answer_next-clause-part
@@ -53,7 +53,7 @@ returns-in_err-answer_next-clause-part g c =
     (g.D.Desk.seen c.args.desk.now).state (g.D.Desk.seen c.loop-line.desk).state (g.D.Desk.seen c.answer_next.new.desk).state
     (g.W.Write.contents c.args.writer.now) (g.W.Write.contents c.loop-line.writer) (g.W.Write.contents c.answer_next.new.writer)
     c.args.input.now (map (λ (line : Bor (List ℕ)). line.now) c.loop-line.yielded) (lines_left c.next.new.self.0) c.in-Some.line.now c.loop-line.tally
-    order (i.answered (stopped.lied below)) (stopped.stands is below) (stopped.prefix is below))
+    order (i.answered (stopped.corruptions_stay below)) (stopped.stands is below) (stopped.prefix is below))
 
 -- the next line stopped it
 pub returns-in_err-answer_next-clause-found : goal.returns-in_err-answer_next-clause-found
@@ -64,7 +64,7 @@ returns-in_err-answer_next-clause-found g c below sure =
     found_next (g.D.Desk.seen c.args.desk.now).state (g.D.Desk.seen c.loop-line.desk).state (g.D.Desk.seen c.answer_next.new.desk)
     (g.W.Write.contents c.args.writer.now) (g.W.Write.contents c.loop-line.writer) (g.W.Write.contents c.answer_next.new.writer)
     c.args.input.now (map (λ (line : Bor (List ℕ)). line.now) c.loop-line.yielded) (lines_left c.next.new.self.0) c.in-Some.line.now c.loop-line.tally (g.D.Desk.leaves c.answer_next.new.desk)
-    order (i.answered (stopped.lied below)) (stopped.found below (i.works (stopped.lied below) sure))
+    order (i.answered (stopped.corruptions_stay below)) (stopped.found below (i.works (stopped.corruptions_stay below) sure))
 
 -- all were answered
 pub returns-clause-found : goal.returns-clause-found
@@ -79,7 +79,7 @@ returns-in_err-answer_next-clause-stays g c below sure =
     let i = c.loop-line.invariant in
     let stopped = c.in_err-answer_next.ensures in
     stays_both (g.D.Desk.seen c.args.desk.now) (g.D.Desk.seen c.loop-line.desk) (g.D.Desk.seen c.answer_next.new.desk)
-    (i.stays (stopped.lied below) sure) (stopped.stays below (i.works (stopped.lied below) sure))
+    (i.stays (stopped.corruptions_stay below) sure) (stopped.stays below (i.works (stopped.corruptions_stay below) sure))
 
 pub returns-clause-stays : goal.returns-clause-stays
 returns-clause-stays g c = c.loop-line.invariant.stays

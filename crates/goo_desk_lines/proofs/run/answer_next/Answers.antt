@@ -36,45 +36,45 @@ returns-in_err-answer-clause-told g c none =
     told_by_desk LineAnswer c.in_err-answer.field-0.0 c.from_residual.result _ is (c.in_err-answer.ensures.told none)
 
 pub returns-then-is_empty-clause-found : goal.returns-then-is_empty-clause-found
-returns-then-is_empty-clause-found g c lies sure =
+returns-then-is_empty-clause-found g c corruptions sure =
     untouched (g.D.Desk.seen c.args.desk.now) c.args.line.now (g.W.Write.contents c.args.writer.now) (g.D.Desk.leaves c.args.desk.now) (g.met.D.Desk.settled c.args.desk.now sure)
 
 pub returns-in_err-answer-clause-found : goal.returns-in_err-answer-clause-found
-returns-in_err-answer-clause-found g c lies sure =
+returns-in_err-answer-clause-found g c corruptions sure =
     let some : 0 < length c.args.line.now = search rules in
     unanswered (g.D.Desk.seen c.args.desk.now).state (g.D.Desk.seen c.answer_line.new.desk) c.args.line.now (g.W.Write.contents c.args.writer.now) (g.D.Desk.leaves c.answer_line.new.desk) some
-    c.in_err-answer.ensures.unchanged (c.answer_line.ensures.crash lies sure)
+    c.in_err-answer.ensures.unchanged (c.answer_line.ensures.crash corruptions sure)
 
 -- a beginning of the answer was written
 pub returns-in_err-write_line-clause-found : goal.returns-in_err-write_line-clause-found
-returns-in_err-write_line-clause-found g c lies sure =
+returns-in_err-write_line-clause-found g c corruptions sure =
     let some : 0 < length c.args.line.now = search rules in
     begun_after (g.D.Desk.seen c.args.desk.now).state (g.D.Desk.seen c.answer_line.new.desk) c.args.line.now c.in_ok-answer.answer
     (g.W.Write.contents c.args.writer.now) (g.W.Write.contents c.write_line.new.writer) (g.D.Desk.leaves c.answer_line.new.desk) some
-    (c.in_ok-answer.ensures.answer lies) (c.in_ok-answer.ensures.state lies) (search rules) (g.met.D.Desk.settled c.answer_line.new.desk (c.in_ok-answer.ensures.works lies sure))
+    (c.in_ok-answer.ensures.answer corruptions) (c.in_ok-answer.ensures.state corruptions) (search rules) (g.met.D.Desk.settled c.answer_line.new.desk (c.in_ok-answer.ensures.works corruptions sure))
 
 -- the whole of it was
 pub returns-then-is_good-clause-found : goal.returns-then-is_good-clause-found
-returns-then-is_good-clause-found g c lies sure =
+returns-then-is_good-clause-found g c corruptions sure =
     let some : 0 < length c.args.line.now = search rules in
     begun_after (g.D.Desk.seen c.args.desk.now).state (g.D.Desk.seen c.answer_line.new.desk) c.args.line.now c.in_ok-answer.answer
     (g.W.Write.contents c.args.writer.now) (g.W.Write.contents c.write_line.new.writer) (g.D.Desk.leaves c.answer_line.new.desk) some
-    (c.in_ok-answer.ensures.answer lies) (c.in_ok-answer.ensures.state lies)
+    (c.in_ok-answer.ensures.answer corruptions) (c.in_ok-answer.ensures.state corruptions)
     (prefix-whole (g.W.Write.contents c.args.writer.now) (g.W.Write.contents c.write_line.new.writer) (answer_text c.in_ok-answer.answer ++ 10 ∷ []) (search rules))
-    (g.met.D.Desk.settled c.answer_line.new.desk (c.in_ok-answer.ensures.works lies sure))
+    (g.met.D.Desk.settled c.answer_line.new.desk (c.in_ok-answer.ensures.works corruptions sure))
 
 -- the whole of it was
 pub returns-else-is_good-clause-found : goal.returns-else-is_good-clause-found
-returns-else-is_good-clause-found g c lies sure =
+returns-else-is_good-clause-found g c corruptions sure =
     let some : 0 < length c.args.line.now = search rules in
     begun_after (g.D.Desk.seen c.args.desk.now).state (g.D.Desk.seen c.answer_line.new.desk) c.args.line.now c.in_ok-answer.answer
     (g.W.Write.contents c.args.writer.now) (g.W.Write.contents c.write_line.new.writer) (g.D.Desk.leaves c.answer_line.new.desk) some
-    (c.in_ok-answer.ensures.answer lies) (c.in_ok-answer.ensures.state lies)
+    (c.in_ok-answer.ensures.answer corruptions) (c.in_ok-answer.ensures.state corruptions)
     (prefix-whole (g.W.Write.contents c.args.writer.now) (g.W.Write.contents c.write_line.new.writer) (answer_text c.in_ok-answer.answer ++ 10 ∷ []) (search rules))
-    (g.met.D.Desk.settled c.answer_line.new.desk (c.in_ok-answer.ensures.works lies sure))
+    (g.met.D.Desk.settled c.answer_line.new.desk (c.in_ok-answer.ensures.works corruptions sure))
 
 pub returns-then-is_empty-clause-stays : goal.returns-then-is_empty-clause-stays
-returns-then-is_empty-clause-stays g c lies sure = stays_still (g.D.Desk.seen c.args.desk.now) sure
+returns-then-is_empty-clause-stays g c corruptions sure = stays_still (g.D.Desk.seen c.args.desk.now) sure
 
 pub returns-in_err-answer-clause-stays : goal.returns-in_err-answer-clause-stays
 returns-in_err-answer-clause-stays g c = c.answer_line.ensures.stays

@@ -22,7 +22,7 @@ returns-clause-excuse g c =
 pub returns-clause-connects : goal.returns-clause-connects
 returns-clause-connects g c =
     bytes-connect g.D.Backend.shows g.D.Backend.imports g.D.Backend.begins (g.R.Read.remaining c.args.reader.now) c.in_ok-bytes.bytes.items (g.D.Desk.seen c.args.desk.now) (g.D.Desk.seen c.serve_bytes.new.desk)
-    c.in_ok-bytes.ensures (rw c.deref.ensures.value at c.serve_bytes.ensures.leaves) c.serve_bytes.ensures.doubted c.serve_bytes.ensures.lied c.serve_bytes.ensures.stays
+    c.in_ok-bytes.ensures (rw c.deref.ensures.value at c.serve_bytes.ensures.leaves) c.serve_bytes.ensures.defects_stay c.serve_bytes.ensures.corruptions_stay c.serve_bytes.ensures.stays
 
 pub returns-in_err-bytes-clause-promised : goal.returns-in_err-bytes-clause-promised
 returns-in_err-bytes-clause-promised g c runs sound honest sure = none_promised (g.R.Read.remaining c.args.reader.now) (g.D.Desk.seen c.args.desk.now).state sound
@@ -33,23 +33,23 @@ returns-clause-promised g c runs sound honest sure =
     c.in_ok-bytes.ensures (rw c.deref.ensures.value at c.serve_bytes.ensures.leaves) sound honest sure
 
 pub returns-in_err-bytes-clause-found : goal.returns-in_err-bytes-clause-found
-returns-in_err-bytes-clause-found g c lies sure =
+returns-in_err-bytes-clause-found g c corruptions sure =
     none-sent g.D.Backend.shows g.D.Backend.imports (g.R.Read.remaining c.args.reader.now) (g.D.Desk.seen c.args.desk.now).state (g.D.Desk.seen c.args.desk.now).state (g.W.Write.contents c.args.writer.now) (g.D.Desk.leaves c.args.desk.now)
 
 pub returns-clause-found : goal.returns-clause-found
-returns-clause-found g c lies sure =
+returns-clause-found g c corruptions sure =
     all-found g.D.Backend.shows g.D.Backend.imports (g.R.Read.remaining c.args.reader.now) (g.D.Desk.seen c.args.desk.now).state c.in_ok-bytes.bytes.items (g.D.Desk.seen c.serve_bytes.new.desk).state
     (g.W.Write.contents c.args.writer.now) (g.W.Write.contents c.serve_bytes.new.writer) (g.D.Desk.leaves c.serve_bytes.new.desk)
-    c.in_ok-bytes.ensures (rw c.deref.ensures.value at (c.serve_bytes.ensures.found lies sure))
+    c.in_ok-bytes.ensures (rw c.deref.ensures.value at (c.serve_bytes.ensures.found corruptions sure))
 
 pub returns-in_err-bytes-clause-connects : goal.returns-in_err-bytes-clause-connects
 returns-in_err-bytes-clause-connects g c = none-connect g.D.Backend.shows g.D.Backend.imports g.D.Backend.begins (g.R.Read.remaining c.args.reader.now) (g.D.Desk.seen c.args.desk.now)
 
 pub returns-in_err-bytes-clause-crash : goal.returns-in_err-bytes-clause-crash
-returns-in_err-bytes-clause-crash g c runs lies sure =
+returns-in_err-bytes-clause-crash g c runs corruptions sure =
     none_heard (g.R.Read.remaining c.args.reader.now) (g.D.Desk.seen c.args.desk.now).state (g.D.Desk.leaves c.args.desk.now) (g.met.D.Desk.settled c.args.desk.now sure)
 
 pub returns-clause-crash : goal.returns-clause-crash
-returns-clause-crash g c runs lies sure =
+returns-clause-crash g c runs corruptions sure =
     heard_found (g.R.Read.remaining c.args.reader.now) c.in_ok-bytes.bytes.items (g.D.Desk.seen c.args.desk.now).state (g.D.Desk.leaves c.serve_bytes.new.desk)
-    c.in_ok-bytes.ensures (rw c.deref.ensures.value at (c.serve_bytes.ensures.crash runs lies sure))
+    c.in_ok-bytes.ensures (rw c.deref.ensures.value at (c.serve_bytes.ensures.crash runs corruptions sure))

@@ -52,31 +52,31 @@ returns-in_ok-write_whole-in-Ok-clause-leaves g c =
     answered-leaves g.D.Backend.shows g.D.Backend.imports g.D.Backend.begins (g.D.Desk.seen c.args.desk.now).state c.args.bytes.now c.in-Ok.answer.status c.in-Ok.answer.bytes.items (g.D.Desk.seen c.answer_by_routes.new.desk) c.in-Ok.ensures.answered
 
 pub returns-in_err-write_whole-in-Ok-clause-found : goal.returns-in_err-write_whole-in-Ok-clause-found
-returns-in_err-write_whole-in-Ok-clause-found g c lies sure =
+returns-in_err-write_whole-in-Ok-clause-found g c corruptions sure =
     answer-found g.D.Backend.shows g.D.Backend.imports (g.D.Desk.seen c.args.desk.now).state c.args.bytes.now c.in-Ok.answer.status c.in-Ok.answer.bytes.items (g.D.Desk.seen c.answer_by_routes.new.desk).state
     (g.W.Write.contents c.args.writer.now) (g.W.Write.contents c.write_whole.new.writer) (g.D.Desk.leaves c.answer_by_routes.new.desk)
-    (c.in-Ok.ensures.answered lies) (rw c.deref.ensures.value at c.in_err-write_whole-in-Ok.ensures.prefix) (g.met.D.Desk.settled c.answer_by_routes.new.desk (c.in-Ok.ensures.reliable.works lies sure))
+    (c.in-Ok.ensures.answered corruptions) (rw c.deref.ensures.value at c.in_err-write_whole-in-Ok.ensures.prefix) (g.met.D.Desk.settled c.answer_by_routes.new.desk (c.in-Ok.ensures.reliable.works corruptions sure))
 
 pub returns-in_ok-write_whole-in-Ok-clause-found : goal.returns-in_ok-write_whole-in-Ok-clause-found
-returns-in_ok-write_whole-in-Ok-clause-found g c lies sure =
+returns-in_ok-write_whole-in-Ok-clause-found g c corruptions sure =
     answer-found g.D.Backend.shows g.D.Backend.imports (g.D.Desk.seen c.args.desk.now).state c.args.bytes.now c.in-Ok.answer.status c.in-Ok.answer.bytes.items (g.D.Desk.seen c.answer_by_routes.new.desk).state
     (g.W.Write.contents c.args.writer.now) (g.W.Write.contents c.write_whole.new.writer) (g.D.Desk.leaves c.answer_by_routes.new.desk)
-    (c.in-Ok.ensures.answered lies) (prefix-whole _ _ _ (rw c.deref.ensures.value at c.in_ok-write_whole-in-Ok.ensures.written)) (g.met.D.Desk.settled c.answer_by_routes.new.desk (c.in-Ok.ensures.reliable.works lies sure))
+    (c.in-Ok.ensures.answered corruptions) (prefix-whole _ _ _ (rw c.deref.ensures.value at c.in_ok-write_whole-in-Ok.ensures.written)) (g.met.D.Desk.settled c.answer_by_routes.new.desk (c.in-Ok.ensures.reliable.works corruptions sure))
 
 pub returns-in_err-write_whole-in-Err-Memory-clause-found : goal.returns-in_err-write_whole-in-Err-Memory-clause-found
-returns-in_err-write_whole-in-Err-Memory-clause-found g c lies sure =
+returns-in_err-write_whole-in-Err-Memory-clause-found g c corruptions sure =
     excuse-found g.D.Backend.shows g.D.Backend.imports (g.D.Desk.seen c.args.desk.now).state c.args.bytes.now c.apology.result.bytes (g.D.Desk.seen c.answer_by_routes.new.desk).state
     (g.W.Write.contents c.args.writer.now) (g.W.Write.contents c.write_whole-in-Err-Memory.new.writer) (g.D.Desk.leaves c.answer_by_routes.new.desk)
     c.apology.ensures (rw (c.as_bytes.ensures.value, c.as_str.ensures.value) at c.in_err-write_whole-in-Err-Memory.ensures.prefix)
 
 pub returns-in_ok-write_whole-in-Err-Memory-clause-found : goal.returns-in_ok-write_whole-in-Err-Memory-clause-found
-returns-in_ok-write_whole-in-Err-Memory-clause-found g c lies sure =
+returns-in_ok-write_whole-in-Err-Memory-clause-found g c corruptions sure =
     excuse-found g.D.Backend.shows g.D.Backend.imports (g.D.Desk.seen c.args.desk.now).state c.args.bytes.now c.apology.result.bytes (g.D.Desk.seen c.answer_by_routes.new.desk).state
     (g.W.Write.contents c.args.writer.now) (g.W.Write.contents c.write_whole-in-Err-Memory.new.writer) (g.D.Desk.leaves c.answer_by_routes.new.desk)
     c.apology.ensures (prefix-whole _ _ _ (rw (c.as_bytes.ensures.value, c.as_str.ensures.value) at c.in_ok-write_whole-in-Err-Memory.ensures.written))
 
 pub returns-in-Err-Store-clause-found : goal.returns-in-Err-Store-clause-found
-returns-in-Err-Store-clause-found g c lies sure =
+returns-in-Err-Store-clause-found g c corruptions sure =
     either-excuse g.D.Backend.shows g.D.Backend.imports c.write_whole-in-Err-Store.result (g.D.Desk.seen c.args.desk.now).state c.args.bytes.now c.apology-in-Err-Store.result.bytes (g.D.Desk.seen c.answer_by_routes.new.desk).state
     (g.W.Write.contents c.args.writer.now) (g.W.Write.contents c.write_whole-in-Err-Store.new.writer) (g.D.Desk.leaves c.answer_by_routes.new.desk)
     c.apology-in-Err-Store.ensures

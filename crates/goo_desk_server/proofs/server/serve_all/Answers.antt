@@ -28,7 +28,7 @@ returns-in_err-serve_next-clause-counted g c = counted_err c.from_residual.resul
 
 pub loop-preserved : goal.loop-preserved
 loop-preserved g c = (
-  λ none. c.loop.invariant.0 (c.serve_next.ensures.lied none),
+  λ none. c.loop.invariant.0 (c.serve_next.ensures.corruptions_stay none),
   λ none. c.in_ok-serve_next.ensures.told (c.loop.invariant.1 none),
   steps_on g.D.Backend.shows g.D.Backend.imports g.D.Backend.begins (g.L.Listener.sends c.args.listener.now) (g.L.Listener.accepted c.args.listener.now) (g.L.Listener.accepted c.loop.listener) (g.L.Listener.accepted c.serve_next.new.listener)
       (g.D.Desk.seen c.args.desk.now) (g.D.Desk.seen c.loop.desk) (g.D.Desk.seen c.serve_next.new.desk) c.loop.invariant.2

@@ -13,7 +13,7 @@ returns g c =
     let new = g.S.Shelf.seen c.heading.new.self.shelf in
     let found = c.in-Ok.found in
     let two : Looks mid new (Ok (Ok c.in-Ok-heading.own)) (IsHeadingShown mid.state c.args.caller.now found.record.account) = rw c.account.ensures at c.in-Ok-heading.ensures in
-    let rising : new.doubts ≡ 0 → IsRising found.runs.items = λ none. (c.in-Ok.ensures.found (two.doubted none)).runs.rising in
+    let rising : new.defects ≡ 0 → IsRising found.runs.items = λ none. (c.in-Ok.ensures.found (two.defects_stay none)).runs.rising in
     let wrote = rw (c.head_of_document-head.ensures, c.deref.ensures.value) at c.write_document.ensures.written in
     let part = rw (c.head_of_document-head.ensures, c.deref.ensures.value) at c.write_document.ensures.prefix in
     document_done old mid new (g.W.Write.contents c.args.writer.now) (g.W.Write.contents c.write_document.new.writer) c.args.caller.now c.args.act found c.in-Ok.ensures c.in-Ok-heading.own two c.write_document.result

@@ -78,4 +78,4 @@ returns-in-Err g c =
     let new = g.S.Shelf.seen c.read_run.new.self.shelf in
     subst (λ f. Writes {T = Counts} old new (g.W.Write.contents c.args.writer.now) (g.W.Write.contents c.loop-run.writer) (Err f) None (AreRunLines old.state c.args.account)) (sym c.from.ensures)
     (going_fails statement_line counts_of old mid new (g.W.Write.contents c.args.writer.now) (g.W.Write.contents c.loop-run.writer) c.args.caller.now c.args.account c.loop-run.place.after c.loop-run.counts c.loop-run.invariant.going
-    (λ sure. c.requires.shown (c.loop-run.invariant.going.looks.doubted sure)) c.in-Err.fault (found_after mid new c.args.caller.now c.args.account c.loop-run.place (split_denial {T = Option Piece} (Err c.in-Err.fault)) c.loop-run.invariant.seen c.in-Err.ensures.shows))
+    (λ sure. c.requires.shown (c.loop-run.invariant.going.looks.defects_stay sure)) c.in-Err.fault (found_after mid new c.args.caller.now c.args.account c.loop-run.place (split_denial {T = Option Piece} (Err c.in-Err.fault)) c.loop-run.invariant.seen c.in-Err.ensures.shows))

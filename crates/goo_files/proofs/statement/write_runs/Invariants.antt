@@ -9,7 +9,7 @@ use Rattle.goo_files.proofs.statement.write_runs.Given as goal
 abbrev pub invariant-loop-run : goal.invariant-loop-run
 invariant-loop-run g l = record {
   going : IsGoing statement_line counts_of (g.S.Shelf.seen l.fn.registry.shelf) (g.S.Shelf.seen l.registry.shelf) (g.W.Write.contents l.fn.writer) (g.W.Write.contents l.writer) l.account (from_of l.place.after) l.counts;
-  seen : (g.S.Shelf.seen l.registry.shelf).doubts ≡ 0 → IsSeen l.account l.place.after (g.S.Shelf.seen l.registry.shelf).rows l.place.ahead;
+  seen : (g.S.Shelf.seen l.registry.shelf).defects ≡ 0 → IsSeen l.account l.place.after (g.S.Shelf.seen l.registry.shelf).rows l.place.ahead;
   counted : all_of l.counts ≤ from_of l.place.after;
 }
 

@@ -69,7 +69,7 @@ loop-row-preserved g c =
     let now = at_more c.loop-row.row-iterator.rdr c.next-in-loop-row.new.self.rdr c.loop-row.row-iterator.left c.next-in-loop-row.new.self.left c.args.input.now (header ∷ inv.0) c.in-Ok.row inv.1 step in (
       inv.0 ++ fields_of c.in-Ok.row ∷ [],
       now,
-      importing_on old mid new c.args.caller.now inv.0 c.loop-row.lines.items c.import_row.new.lines.items (fields_of c.in-Ok.row) inv.2 c.import_row.ensures.lied c.import_row.ensures.doubted (search rules) (search rules) (search rules) (search rules) (search rules) (search rules) c.import_row.ensures.stays,
+      importing_on old mid new c.args.caller.now inv.0 c.loop-row.lines.items c.import_row.new.lines.items (fields_of c.in-Ok.row) inv.2 c.import_row.ensures.corruptions_stay c.import_row.ensures.defects_stay (search rules) (search rules) (search rules) (search rules) (search rules) (search rules) c.import_row.ensures.stays,
     )
 
 pub returns-clause-whole : goal.returns-clause-whole
@@ -90,64 +90,64 @@ pub returns-in-Err-clause-lacking : goal.returns-in-Err-clause-lacking
 returns-in-Err-clause-lacking g c lacks = absurd (begins_or_lacks c.args.input.now c.loop-row.invariant.0 lacks (at_begins c.loop-row.row-iterator.rdr c.loop-row.row-iterator.left c.args.input.now (header ∷ c.loop-row.invariant.0) c.loop-row.invariant.1))
 
 pub returns-then-not-is_header-clause-found : goal.returns-then-not-is_header-clause-found
-returns-then-not-is_header-clause-found g c lies sure =
+returns-then-not-is_header-clause-found g c corruptions sure =
     found_none (g.D.Desk.seen c.args.desk.now) c.args.caller.now c.args.input.now c.stopped.result.report.lines.items (g.D.Desk.leaves c.args.desk.now)
     (c.stopped.ensures.lines ∙ c.new-lines.ensures.items) (g.met.D.Desk.settled c.args.desk.now sure)
 
 pub returns-in-Some-Err-clause-found : goal.returns-in-Some-Err-clause-found
-returns-in-Some-Err-clause-found g c lies sure =
+returns-in-Some-Err-clause-found g c corruptions sure =
     found_none (g.D.Desk.seen c.args.desk.now) c.args.caller.now c.args.input.now c.stopped-in-Some-Err.result.report.lines.items (g.D.Desk.leaves c.args.desk.now)
     (c.stopped-in-Some-Err.ensures.lines ∙ c.new-lines.ensures.items) (g.met.D.Desk.settled c.args.desk.now sure)
 
 pub returns-in-None-clause-found : goal.returns-in-None-clause-found
-returns-in-None-clause-found g c lies sure =
+returns-in-None-clause-found g c corruptions sure =
     found_none (g.D.Desk.seen c.args.desk.now) c.args.caller.now c.args.input.now c.stopped-in-None.result.report.lines.items (g.D.Desk.leaves c.args.desk.now)
     (c.stopped-in-None.ensures.lines ∙ c.new-lines.ensures.items) (g.met.D.Desk.settled c.args.desk.now sure)
 
 -- no more rows were read
 pub returns-in_default-clause-found : goal.returns-in_default-clause-found
-returns-in_default-clause-found g c lies sure =
+returns-in_default-clause-found g c corruptions sure =
     let inv = c.loop-row.invariant in
     found_rows (g.D.Desk.seen c.args.desk.now).state (g.D.Desk.seen c.loop-row.desk) c.args.caller.now c.args.input.now inv.0 c.loop-row.lines.items c.stopped-in_default.result.report.lines.items (g.D.Desk.leaves c.loop-row.desk)
-    (inv.2.honest lies) (inr (at_begins c.loop-row.row-iterator.rdr c.loop-row.row-iterator.left c.args.input.now (header ∷ inv.0) inv.1)) c.stopped-in_default.ensures.lines (g.met.D.Desk.settled c.loop-row.desk (inv.2.works lies sure))
+    (inv.2.honest corruptions) (inr (at_begins c.loop-row.row-iterator.rdr c.loop-row.row-iterator.left c.args.input.now (header ∷ inv.0) inv.1)) c.stopped-in_default.ensures.lines (g.met.D.Desk.settled c.loop-row.desk (inv.2.works corruptions sure))
 
 -- the next row stopped it
 pub returns-in-Err-clause-found : goal.returns-in-Err-clause-found
-returns-in-Err-clause-found g c lies sure =
+returns-in-Err-clause-found g c corruptions sure =
     let inv = c.loop-row.invariant in
     let step = rw (c.in-Some.is, c.in-Ok.is) at ((c.next-in-loop-row.ensures.steps inv.1.turns inv.1.trim).0 inv.1.ready) in
     let now = at_more c.loop-row.row-iterator.rdr c.next-in-loop-row.new.self.rdr c.loop-row.row-iterator.left c.next-in-loop-row.new.self.left c.args.input.now (header ∷ inv.0) c.in-Ok.row inv.1 step in
-    let before = c.import_row.ensures.lied lies in
+    let before = c.import_row.ensures.corruptions_stay corruptions in
     found_next (g.D.Desk.seen c.args.desk.now).state (g.D.Desk.seen c.loop-row.desk).state (g.D.Desk.seen c.import_row.new.desk) c.args.caller.now c.args.input.now inv.0 c.loop-row.lines.items c.stopped-in-Err.result.report.lines.items (fields_of c.in-Ok.row)
     (g.D.Desk.leaves c.import_row.new.desk) (inv.2.honest before) (inr (at_begins c.loop-row.row-iterator.rdr c.loop-row.row-iterator.left c.args.input.now (header ∷ inv.0) inv.1))
     (at_begins c.next-in-loop-row.new.self.rdr c.next-in-loop-row.new.self.left c.args.input.now (header ∷ (inv.0 ++ fields_of c.in-Ok.row ∷ [])) now)
-    (c.stopped-in-Err.ensures.lines ∙ search rules) (search rules) (c.import_row.ensures.crash lies (inv.2.works before sure))
+    (c.stopped-in-Err.ensures.lines ∙ search rules) (search rules) (c.import_row.ensures.crash corruptions (inv.2.works before sure))
 
 -- all rows were applied
 pub returns-clause-found : goal.returns-clause-found
-returns-clause-found g c lies sure =
+returns-clause-found g c corruptions sure =
     let inv = c.loop-row.invariant in
     found_rows (g.D.Desk.seen c.args.desk.now).state (g.D.Desk.seen c.loop-row.desk) c.args.caller.now c.args.input.now inv.0 c.loop-row.lines.items c.loop-row.lines.items (g.D.Desk.leaves c.loop-row.desk)
-    (inv.2.honest lies) (inr (at_begins c.loop-row.row-iterator.rdr c.loop-row.row-iterator.left c.args.input.now (header ∷ inv.0) inv.1)) refl (g.met.D.Desk.settled c.loop-row.desk (inv.2.works lies sure))
+    (inv.2.honest corruptions) (inr (at_begins c.loop-row.row-iterator.rdr c.loop-row.row-iterator.left c.args.input.now (header ∷ inv.0) inv.1)) refl (g.met.D.Desk.settled c.loop-row.desk (inv.2.works corruptions sure))
 
 pub returns-then-not-is_header-clause-stays : goal.returns-then-not-is_header-clause-stays
-returns-then-not-is_header-clause-stays g c lies sure = stays_still (g.D.Desk.seen c.args.desk.now) sure
+returns-then-not-is_header-clause-stays g c corruptions sure = stays_still (g.D.Desk.seen c.args.desk.now) sure
 
 pub returns-in-Some-Err-clause-stays : goal.returns-in-Some-Err-clause-stays
-returns-in-Some-Err-clause-stays g c lies sure = stays_still (g.D.Desk.seen c.args.desk.now) sure
+returns-in-Some-Err-clause-stays g c corruptions sure = stays_still (g.D.Desk.seen c.args.desk.now) sure
 
 pub returns-in-None-clause-stays : goal.returns-in-None-clause-stays
-returns-in-None-clause-stays g c lies sure = stays_still (g.D.Desk.seen c.args.desk.now) sure
+returns-in-None-clause-stays g c corruptions sure = stays_still (g.D.Desk.seen c.args.desk.now) sure
 
 pub returns-in_default-clause-stays : goal.returns-in_default-clause-stays
 returns-in_default-clause-stays g c = c.loop-row.invariant.2.stays
 
 pub returns-in-Err-clause-stays : goal.returns-in-Err-clause-stays
-returns-in-Err-clause-stays g c lies sure =
+returns-in-Err-clause-stays g c corruptions sure =
     let inv = c.loop-row.invariant in
-    let before = c.import_row.ensures.lied lies in
+    let before = c.import_row.ensures.corruptions_stay corruptions in
     stays_both (g.D.Desk.seen c.args.desk.now) (g.D.Desk.seen c.loop-row.desk) (g.D.Desk.seen c.import_row.new.desk)
-    (inv.2.stays before sure) (c.import_row.ensures.stays lies (inv.2.works before sure))
+    (inv.2.stays before sure) (c.import_row.ensures.stays corruptions (inv.2.works before sure))
 
 pub returns-clause-stays : goal.returns-clause-stays
 returns-clause-stays g c = c.loop-row.invariant.2.stays

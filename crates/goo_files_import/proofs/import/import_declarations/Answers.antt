@@ -29,18 +29,18 @@ returns-in-Ok-clause-lacking g c =
     lacking_known (g.R.Read.remaining c.args.reader.now) c.deref.result.now c.import_bytes.result whole c.import_bytes.ensures.lacking
 
 pub returns-in-Ok-clause-found : goal.returns-in-Ok-clause-found
-returns-in-Ok-clause-found g c lies sure =
+returns-in-Ok-clause-found g c corruptions sure =
     let whole : IsWholeOf (g.R.Read.remaining c.args.reader.now) c.deref.result.now = search rules in
     read_found (g.R.Read.remaining c.args.reader.now) c.deref.result.now c.args.caller.now (g.D.Desk.seen c.args.desk.now).state (g.D.Desk.seen c.import_bytes.new.desk) (reported c.import_bytes.result) (g.D.Desk.leaves c.import_bytes.new.desk) whole
-    (c.import_bytes.ensures.found lies sure)
+    (c.import_bytes.ensures.found corruptions sure)
 
 pub returns-in-Err-Read-clause-found : goal.returns-in-Err-Read-clause-found
-returns-in-Err-Read-clause-found g c lies sure =
+returns-in-Err-Read-clause-found g c corruptions sure =
     unread_found (g.R.Read.remaining c.args.reader.now) c.args.caller.now (g.D.Desk.seen c.args.desk.now) c.stopped.result.report.lines.items (g.D.Desk.leaves c.args.desk.now)
     (c.stopped.ensures.lines ∙ c.new.ensures.items) (g.met.D.Desk.settled c.args.desk.now sure)
 
 pub returns-in-Err-Memory-clause-found : goal.returns-in-Err-Memory-clause-found
-returns-in-Err-Memory-clause-found g c lies sure =
+returns-in-Err-Memory-clause-found g c corruptions sure =
     unread_found (g.R.Read.remaining c.args.reader.now) c.args.caller.now (g.D.Desk.seen c.args.desk.now) c.stopped-in-Err-Memory.result.report.lines.items (g.D.Desk.leaves c.args.desk.now)
     (c.stopped-in-Err-Memory.ensures.lines ∙ c.new-in-Err-Memory.ensures.items) (g.met.D.Desk.settled c.args.desk.now sure)
 
@@ -48,7 +48,7 @@ pub returns-in-Ok-clause-stays : goal.returns-in-Ok-clause-stays
 returns-in-Ok-clause-stays g c = c.import_bytes.ensures.stays
 
 pub returns-in-Err-Read-clause-stays : goal.returns-in-Err-Read-clause-stays
-returns-in-Err-Read-clause-stays g c lies sure = stays_still (g.D.Desk.seen c.args.desk.now) sure
+returns-in-Err-Read-clause-stays g c corruptions sure = stays_still (g.D.Desk.seen c.args.desk.now) sure
 
 pub returns-in-Err-Memory-clause-stays : goal.returns-in-Err-Memory-clause-stays
-returns-in-Err-Memory-clause-stays g c lies sure = stays_still (g.D.Desk.seen c.args.desk.now) sure
+returns-in-Err-Memory-clause-stays g c corruptions sure = stays_still (g.D.Desk.seen c.args.desk.now) sure

@@ -1,6 +1,6 @@
 use Rattle.std.proofs.Common.{◌≡◌, ◌∙◌, Err, OnOk, rules, sym, subst}
 use Rattle.sqlite.specs.Held.{state as view}
-use Rattle.goo_tables_rows.specs.Stands.{doubts}
+use Rattle.goo_tables_rows.specs.Stands.{defects}
 use Rattle.goo_store_judge.specs.Moments.{moment, tables_in}
 use Rattle.goo_store_changes.specs.Changes.{made_all}
 use Rattle.goo_store_plans.specs.Found.{IsBasisOf, IsRowOf}
@@ -32,16 +32,16 @@ invariant_of-self g c =
     let mid = view g.S.Store shelf.conn in
     let plan = c.args.plan.now in
     let it = c.commit_changes-made.ensures in
-    let planned : doubts mid ≡ 0 → IsPlanned (tables_in mid) c.deref.result.now plan =
+    let planned : defects mid ≡ 0 → IsPlanned (tables_in mid) c.deref.result.now plan =
     λ none. subst (λ xs. IsPlanned (tables_in mid) xs plan) (sym c.deref.ensures.value) (c.in_ok-planned.ensures.planned none (fits_still old (moment mid shelf.refused) plan _ c.in_ok-planned.ensures.prepares c.requires none)).0 in
-    let after : doubts mid ≡ 0 → IsBasisOf c.in_ok-planned.planned.after (made_all (tables_in mid) c.deref.result.now) =
+    let after : defects mid ≡ 0 → IsBasisOf c.in_ok-planned.planned.after (made_all (tables_in mid) c.deref.result.now) =
     λ none. subst (λ xs. IsBasisOf c.in_ok-planned.planned.after (made_all (tables_in mid) xs)) (sym c.deref.ensures.value) (c.in_ok-planned.ensures.planned none (fits_still old (moment mid shelf.refused) plan _ c.in_ok-planned.ensures.prepares c.requires none)).1 in record {
       outside = it.outside;
       well = well_after mid (view g.S.Store c.commit_changes-made.new.conn) shelf.well c.deref.result.now plan planned c.commit_changes-made.result it.clean it.was_open it.works it.done it.kept it.crash it.live;
       known = known_after (view g.S.Store c.commit_changes-made.new.conn) shelf.known_rows c.in_ok-planned.ensures.taken c.row_after.result
           (so_after mid (view g.S.Store c.commit_changes-made.new.conn) shelf.well c.deref.result.now plan planned c.commit_changes-made.result it.clean it.was_open it.works it.done it.kept it.crash it.live
           (IsRowOf c.copied-own.result) (IsRowOf c.row_after.result)
-          (λ none. subst (IsRowOf c.copied-own.result) (sym (c.in_ok-planned.ensures.same none)) (c.copied-own.ensures (tables_in start) (c.args.self.now.known (c.in_ok-planned.ensures.prepares.doubted none)).own))
+          (λ none. subst (IsRowOf c.copied-own.result) (sym (c.in_ok-planned.ensures.same none)) (c.copied-own.ensures (tables_in start) (c.args.self.now.known (c.in_ok-planned.ensures.prepares.defects_stay none)).own))
           (subst (λ xs. OnOk c.commit_changes-made.result ((t : Tables) → IsRowOf c.copied-own.result t → IsRowOf c.row_after.result (made_all t xs))) (c.deref-2.ensures.value ∙ sym c.deref.ensures.value) c.row_after.ensures.made)
           c.row_after.ensures.failed)
           c.known_after-self.result
@@ -63,7 +63,7 @@ returns-clause-commits g c =
     let plan = c.args.plan.now in
     let it = c.commit_changes-made.ensures in
     let looks = c.in_ok-planned.ensures.prepares in
-    let planned : doubts mid ≡ 0 → IsPlanned (tables_in mid) c.deref.result.now plan =
+    let planned : defects mid ≡ 0 → IsPlanned (tables_in mid) c.deref.result.now plan =
     λ none. subst (λ xs. IsPlanned (tables_in mid) xs plan) (sym c.deref.ensures.value) (c.in_ok-planned.ensures.planned none (fits_still old (moment mid shelf.refused) plan _ looks c.requires none)).0 in
     commits_after old (moment mid shelf.refused) plan (moment new c.note_fault.new.refused) c.in_ok-planned.planned looks c.note_fault.result
     (committed mid new shelf.well c.deref.result.now plan planned c.commit_changes-made.result it.clean it.was_open it.works it.done it.kept it.crash it.live c.ending.result shelf.refused c.note_fault.new.refused c.note_fault.result
@@ -78,7 +78,7 @@ returns-clause-store g c =
     let plan = c.args.plan.now in
     let it = c.commit_changes-made.ensures in
     let looks = c.in_ok-planned.ensures.prepares in
-    let planned : doubts mid ≡ 0 → IsPlanned (tables_in mid) c.deref.result.now plan =
+    let planned : defects mid ≡ 0 → IsPlanned (tables_in mid) c.deref.result.now plan =
     λ none. subst (λ xs. IsPlanned (tables_in mid) xs plan) (sym c.deref.ensures.value) (c.in_ok-planned.ensures.planned none (fits_still old (moment mid shelf.refused) plan _ looks c.requires none)).0 in
     blamed start mid (view g.S.Store c.commit_changes-made.new.conn) c.args.self.now.refused shelf.refused c.note_fault.new.refused plan c.in_ok-planned.planned looks c.in_ok-planned.ensures.store
     shelf.well c.in_ok-planned.ensures.same c.deref.result.now planned c.commit_changes-made.result it.clean it.crash it.refused c.ending.result c.ending.ensures.passes c.ending.ensures.cause c.note_fault.result c.note_fault.ensures

@@ -2,7 +2,7 @@ use Rattle.std.proofs.Common.{◌≡◌, ◌∙◌, refl, ap, sym, subst}
 use Rattle.sqlite.specs.Held.{state as view}
 use Rattle.goo_spec.specs.Created.{created}
 use Rattle.goo_ranges_rows.proofs.CertificateLemmas.{certificates-rows}
-use Rattle.goo_tables_rows.specs.Stands.{doubts}
+use Rattle.goo_tables_rows.specs.Stands.{defects}
 use Rattle.goo_store_judge.specs.Moments.{count, tables_in}
 use Rattle.goo_spec_tables.specs.Places.{rows_of}
 use Rattle.goo_spec_tables.specs.States.{state_of}
@@ -20,7 +20,7 @@ over-requires-clause-well g c = created_well c.args.code c.args.today c.args.nex
 
 pub returns-in-Ok-clause-state : goal.returns-in-Ok-clause-state
 returns-in-Ok-clause-state g c =
-    subst (λ conn. doubts (view g.S.Store conn) ≡ 0 → state_of (tables_in (view g.S.Store conn)) ≡ created c.args.code c.args.today c.args.next_serial) (sym c.over.ensures.conn)
+    subst (λ conn. defects (view g.S.Store conn) ≡ 0 → state_of (tables_in (view g.S.Store conn)) ≡ created c.args.code c.args.today c.args.next_serial) (sym c.over.ensures.conn)
     (λ none.
     ap state_of (created_tables c.args.code c.args.today c.args.next_serial c.in-Ok.ensures.limits (view g.S.Store c.begin.new.conn) c.in-Ok.ensures.done none)
     ∙ begun_state c.args.code c.args.today c.args.next_serial c.in-Ok.ensures.limits)
@@ -28,7 +28,7 @@ returns-in-Ok-clause-state g c =
 pub returns-in-Ok-clause-rows : goal.returns-in-Ok-clause-rows
 unfolding rows_of
 returns-in-Ok-clause-rows g c =
-    subst (λ conn. doubts (view g.S.Store conn) ≡ 0 → rows_of (tables_in (view g.S.Store conn)) ≡ Rattle.std.specs.Prelude.[]) (sym c.over.ensures.conn)
+    subst (λ conn. defects (view g.S.Store conn) ≡ 0 → rows_of (tables_in (view g.S.Store conn)) ≡ Rattle.std.specs.Prelude.[]) (sym c.over.ensures.conn)
     (λ none. ap rows_of (created_tables c.args.code c.args.today c.args.next_serial c.in-Ok.ensures.limits (view g.S.Store c.begin.new.conn) c.in-Ok.ensures.done none))
 
 pub returns-in-Ok-clause-sound : goal.returns-in-Ok-clause-sound

@@ -39,11 +39,11 @@ loop-low-preserved g c =
           (λ (s : State) (rows : List Piece) next. IsNetPageAdded (tables_in (view g.S.Store mid.conn)).declarations c.loop-low.next next c.loop-low.sums c.net_page-in-loop-low.new.sums) c.loop-low.invariant.looks two)
           (λ none both.
           declaring_goes ds c.loop-low.low c.loop-low.next c.in_ok-next-2.next c.loop-low.sums c.net_page-in-loop-low.new.sums both.0
-          (subst (λ (t : Tables). IsNetPageAdded t.declarations c.loop-low.next c.in_ok-next-2.next c.loop-low.sums c.net_page-in-loop-low.new.sums) (c.loop-low.invariant.tables (two.doubted none)) both.1));
+          (subst (λ (t : Tables). IsNetPageAdded t.declarations c.loop-low.next c.in_ok-next-2.next c.loop-low.sums c.net_page-in-loop-low.new.sums) (c.loop-low.invariant.tables (two.defects_stay none)) both.1));
       store =
           blamed_then old (view g.S.Store mid.conn) (view g.S.Store new.conn) c.args.self.now.refused mid.refused new.refused c.loop-low.next _ c.loop-low.invariant.looks c.loop-low.invariant.store
           (Ok c.in_ok-next-2.next) _ two c.in_ok-next-2.ensures.store;
-      tables = λ none. c.net_page-in-loop-low.ensures.tables none ∙ c.loop-low.invariant.tables (two.doubted none);
+      tables = λ none. c.net_page-in-loop-low.ensures.tables none ∙ c.loop-low.invariant.tables (two.defects_stay none);
       below = c.in_ok-next-2.ensures.below.1;
     }
 

@@ -4,7 +4,7 @@ use Rattle.sqlite.specs.State.{HasCleanDisk}
 use Rattle.goo_tables_rows.specs.Columns.{first_schema, registry_schema}
 use Rattle.goo_tables_rows.specs.First.{IsFirst}
 use Rattle.goo_tables_rows.specs.Rows.{Tables}
-use Rattle.goo_tables_rows.specs.Stands.{Rests, Settled, doubts}
+use Rattle.goo_tables_rows.specs.Stands.{Rests, Settled, defects}
 use Rattle.goo_spec_tables.specs.Kept.{AreKept, AreKeptIn}
 use Rattle.goo_spec_tables.specs.Renewed.{renewed}
 use Rattle.goo_spec_tables.specs.States.{state_of}
@@ -17,7 +17,7 @@ use Rattle.goo_store.specs.Versions.{state_held}
 use Rattle.goo_store.proofs.HeldLemmas.{held_ours, state_renewed}
 use Rattle.goo_store.proofs.FirstTables.{renewed_well, same_state, now_renewed, first_not_ours, met_first}
 use Rattle.goo_store.proofs.Reopened.{listed_again, found_again, outside_again}
-use Rattle.goo_store.proofs.sql_shelf.SqlShelf.open_telling.Goals as goal
+use Rattle.goo_store.proofs.sql_shelf.SqlShelf.open_observed.Goals as goal
 
 -- ---- tables of version 1
 
@@ -39,9 +39,9 @@ returns-in-Ok-clause-opened g c =
     let shelf = c.over.result in
     record {
       state = λ t stands. absurd (first_not_ours (view g.S.Store c.args.conn).now schema stands.schema);
-      same_state = subst (λ conn. (t : Tables) → IsFirst (view g.S.Store c.args.conn).now t → doubts (view g.S.Store conn) ≡ 0 → state_of (tables_in (view g.S.Store conn)) ≡ state_of t) (sym c.over.ensures.conn)
+      same_state = subst (λ conn. (t : Tables) → IsFirst (view g.S.Store c.args.conn).now t → defects (view g.S.Store conn) ≡ 0 → state_of (tables_in (view g.S.Store conn)) ≡ state_of t) (sym c.over.ensures.conn)
           (same_state (view g.S.Store c.args.conn) (view g.S.Store c.renew.new.conn) c.in-Ok.field-0 c.in-Ok.ensures);
-      held = subst (λ conn. doubts (view g.S.Store conn) ≡ 0 → state_of (tables_in (view g.S.Store conn)) ≡ state_held (view g.S.Store c.args.conn).now.trees) (sym c.over.ensures.conn)
+      held = subst (λ conn. defects (view g.S.Store conn) ≡ 0 → state_of (tables_in (view g.S.Store conn)) ≡ state_held (view g.S.Store c.args.conn).now.trees) (sym c.over.ensures.conn)
           (state_renewed (view g.S.Store c.args.conn) (view g.S.Store c.renew.new.conn) c.in-Ok.field-0 c.in-Ok.ensures);
       sound = λ none. (shelf.well.kept none).sound;
       rows_fit = λ none. rows_fit (tables_in (view g.S.Store shelf.conn)) (shelf.well.kept none);
@@ -113,10 +113,10 @@ returns-in-Ok-judge-clause-opened g c =
     let shelf = c.over-in-Ok-judge.result in
     let judged = c.in-Ok-judge.ensures.judges in
     record {
-      state = λ t stands. subst (λ conn. doubts (view g.S.Store conn) ≡ 0 → state_of (tables_in (view g.S.Store conn)) ≡ state_of t) (sym c.over-in-Ok-judge.ensures.conn)
+      state = λ t stands. subst (λ conn. defects (view g.S.Store conn) ≡ 0 → state_of (tables_in (view g.S.Store conn)) ≡ state_of t) (sym c.over-in-Ok-judge.ensures.conn)
           (opened_state _ (view g.S.Store c.args.conn) (view g.S.Store c.judge.new.conn) c.in-Ok-judge._pieces judged met t stands);
       same_state = λ t first. absurd (first_not_ours (view g.S.Store c.args.conn).now first.0 schema);
-      held = subst (λ conn. doubts (view g.S.Store conn) ≡ 0 → state_of (tables_in (view g.S.Store conn)) ≡ state_held (view g.S.Store c.args.conn).now.trees) (sym c.over-in-Ok-judge.ensures.conn)
+      held = subst (λ conn. defects (view g.S.Store conn) ≡ 0 → state_of (tables_in (view g.S.Store conn)) ≡ state_held (view g.S.Store c.args.conn).now.trees) (sym c.over-in-Ok-judge.ensures.conn)
           (λ none.
           let late = (sure (view g.S.Store c.judge.new.conn) none).0 in
           let it = judged.kept late (met (judged.clean late)) in
@@ -135,7 +135,7 @@ returns-in-Ok-judge-clause-opened g c =
           (λ clean. judged.rests clean (met (judged.clean clean)));
       renewed = λ t first. absurd (first_not_ours (view g.S.Store c.args.conn).now first.0 schema);
       clean = subst (λ conn. HasCleanDisk (view g.S.Store conn) → HasCleanDisk (view g.S.Store c.args.conn)) (sym c.over-in-Ok-judge.ensures.conn) judged.clean;
-      again = λ was s t either. subst (λ conn. doubts (view g.S.Store conn) ≡ 0 → (state_of (tables_in (view g.S.Store conn)) ≡ s) ⊎ (state_of (tables_in (view g.S.Store conn)) ≡ t)) (sym c.over-in-Ok-judge.ensures.conn)
+      again = λ was s t either. subst (λ conn. defects (view g.S.Store conn) ≡ 0 → (state_of (tables_in (view g.S.Store conn)) ≡ s) ⊎ (state_of (tables_in (view g.S.Store conn)) ≡ t)) (sym c.over-in-Ok-judge.ensures.conn)
           (λ none.
           let late = (sure (view g.S.Store c.judge.new.conn) none).0 in
           let it = judged.kept late (met (judged.clean late)) in
