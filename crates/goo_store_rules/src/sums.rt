@@ -21,7 +21,7 @@ pub fn sum_for(sums: &BTreeMap<Gsrn, u128>, device: &Gsrn) -> u128
     }
 }
 
-/// Adds to the sum of a device.
+/// Adds to the sum of a device. It is looked up once, since an audit adds for each row.
 ///
 /// # Errors
 ///
@@ -31,8 +31,14 @@ pub fn add_to(sums: &mut BTreeMap<Gsrn, u128>, device: Gsrn, more: u128) -> Resu
     ensures { OnOk result
         ((q : List ℕ) → sum_at sums.new q ≡ sum_at sums.old q + cond (bytes_eq device q) more 0) }
 {
-    let sum = sum_for(sums, &device) + more;
-    sums.insert(device, sum)?;
+    if more == 0 {
+        return Ok(());
+    }
+    if let Some(sum) = sums.get_mut(&device) {
+        *sum += more;
+        return Ok(());
+    }
+    sums.insert(device, more)?;
     Ok(())
 }
 
