@@ -22,7 +22,9 @@ use goo_types::fault::Fault;
 use sqlite::{Alter, Error};
 
 /// The account in its row.
-fn read_account(found: Result<Option<AccountRow>, Error>) -> Result<Option<Account>, StatementFault>
+pub(crate) fn read_account(
+    found: Result<Option<AccountRow>, Error>,
+) -> Result<Option<Account>, StatementFault>
     ensures value { Passes found result
         (λ row account. account ≡ option_map account_of (option_map account_in row)) }
     ensures accepts { Accepts found result
@@ -33,25 +35,4 @@ fn read_account(found: Result<Option<AccountRow>, Error>) -> Result<Option<Accou
     };
     let holder = texts::holder_code(&row.holder)?;
     Ok(Some(Account::new(holder, row.closed == 1)))
-}
-
-impl<S: Alter> SqlShelf<S> {
-    /// An account: the one that is kept, or else the one in the table, which is kept then.
-    pub(crate) fn look_up_account(&mut self, account: AccountNo) -> Result<Option<Account>, Fault>
-        ensures looks { Looks (seen_by self.old) (seen_by self.new) result
-            (λ found. found ≡ get (seen_by self.old).state.accounts account) }
-        ensures store { Blames self.old self.new result }
-    {
-        if self.refused {
-            return Err(Fault::Store);
-        }
-        if let Some(kept) = self.cache.kept_account(account) {
-            return Ok(Some(kept));
-        }
-        let found = find_account(self.alloc, &mut self.conn, account.get());
-        self.cache.answered = found.is_ok();
-        let read = note_fault(read_account(found), &mut self.refused);
-        keep_account(&mut self.cache.accounts, account, &read);
-        read
-    }
 }

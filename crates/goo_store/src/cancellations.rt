@@ -22,7 +22,7 @@ use goo_types::fault::Fault;
 use sqlite::{Alter, Error};
 
 /// The record in its row.
-fn read_record(
+pub(crate) fn read_record(
     found: Result<Option<CancellationRow>, Error>,
 ) -> Result<Option<CancelRecord>, StatementFault>
     ensures value { Passes found result
@@ -41,23 +41,4 @@ fn read_record(
         use_last: texts::day(&row.use_last)?,
     };
     Ok(Some(CancelRecord::of(&cancellation, texts::day(&row.day)?)))
-}
-
-impl<S: Alter> SqlShelf<S> {
-    /// The record of a cancellation.
-    pub(crate) fn look_up_cancelled(
-        &mut self,
-        cancellation: ActNo,
-    ) -> Result<Option<CancelRecord>, Fault>
-        ensures looks { Looks (seen_by self.old) (seen_by self.new) result
-            (λ found. found ≡ get (seen_by self.old).state.cancellations cancellation) }
-        ensures store { Blames self.old self.new result }
-    {
-        if self.refused {
-            return Err(Fault::Store);
-        }
-        let found = find_cancellation(self.alloc, &mut self.conn, cancellation.get());
-        self.cache.answered = found.is_ok();
-        note_fault(read_record(found), &mut self.refused)
-    }
 }

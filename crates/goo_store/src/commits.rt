@@ -26,7 +26,7 @@ use std::alloc::Global;
 use std::mem;
 
 /// How a commit ended.
-fn ending(made: Result<(), Error>) -> Result<(), StatementFault>
+pub(crate) fn ending(made: Result<(), Error>) -> Result<(), StatementFault>
     ensures passes { PassesOn made result }
     ensures cause { IfErr made (λ error. IfErr result (IsStatementFaultOf error)) }
 {
@@ -37,7 +37,7 @@ fn ending(made: Result<(), Error>) -> Result<(), StatementFault>
 }
 
 /// What is known of the basis of a declaration once a commit has ended.
-fn known_after(made: &Result<(), Error>, after: KnownBasis) -> KnownBasis
+pub(crate) fn known_after(made: &Result<(), Error>, after: KnownBasis) -> KnownBasis
     ensures done { OnOk made.now (result ≡ after) }
     ensures undone { OnErr made.now (IsNoBasis result) }
 {
@@ -50,7 +50,7 @@ fn known_after(made: &Result<(), Error>, after: KnownBasis) -> KnownBasis
 impl<S: Alter> SqlShelf<S> {
     /// The changes that carry out a plan. Nothing is changed yet, and nothing that was found is
     /// kept any more.
-    fn changes_for(&mut self, alloc: Global, plan: &Plan) -> Result<Planned, Fault>
+    pub(crate) fn changes_for(&mut self, alloc: Global, plan: &Plan) -> Result<Planned, Fault>
         ensures prepares { Prepares (seen_by self.old) (seen_by self.new) result }
         ensures planned { (seen_by self.new).defects ≡ 0 → IfOk result
             (λ planned. Fits (seen_by self.new).state (seen_by self.new).rows plan.now
@@ -70,21 +70,5 @@ impl<S: Alter> SqlShelf<S> {
         let planned = plan_changes(alloc, &mut self.conn, known_rows, plan);
         self.cache.answered = false;
         note_fault(planned, &mut self.refused)
-    }
-
-    /// Carries out the whole change of a plan, or none.
-    pub(crate) fn carry_out(&mut self, alloc: Global, plan: &Plan) -> Result<(), Fault>
-        requires { (seen_by self.old).defects ≡ 0
-            → Fits (seen_by self.old).state (seen_by self.old).rows plan.now }
-        ensures commits { Commits (seen_by self.old) (seen_by self.new) result plan.now }
-        ensures store { BlamesPlan self.old self.new result (λ t. CanCarryOut t plan.now) }
-    {
-        let own = copied(&self.known_rows.own);
-        let planned = self.changes_for(alloc, plan)?;
-        let made = commit_changes(&mut self.conn, &planned.changes);
-        self.known_rows.basis = known_after(&made, planned.after);
-        self.known_rows.own = row_after(&made, own, &planned.changes);
-        self.cache.after_commit(&made, &planned.changes);
-        note_fault(ending(made), &mut self.refused)
     }
 }

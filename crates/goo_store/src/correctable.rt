@@ -43,7 +43,7 @@ fn read_left(
 impl<S: Alter> SqlShelf<S> {
     /// What can still be taken off a device's declaration that begins on a day, where these are the
     /// corrections.
-    fn left_beside(
+    pub(crate) fn left_beside(
         &mut self,
         corrections: &[CorrectRecord],
         device: &Gsrn,
@@ -61,19 +61,5 @@ impl<S: Alter> SqlShelf<S> {
         let found = find_declaration(self.alloc, &mut self.conn, device.text(), day.as_str());
         self.cache.answered = found.is_ok();
         note_fault(read_left(found, corrections), &mut self.refused)
-    }
-
-    /// What can still be taken off a device's declaration that begins on a day.
-    pub(crate) fn look_up_correctable(
-        &mut self,
-        device: &Gsrn,
-        first_day: Day,
-    ) -> Result<Option<Wh>, Fault>
-        ensures looks { Looks (seen_by self.old) (seen_by self.new) result
-            (λ left. left ≡ correctable (seen_by self.old).state device.now first_day) }
-        ensures store { Blames self.old self.new result }
-    {
-        let corrections = self.corrections(self.alloc)?;
-        self.left_beside(&corrections, device, first_day)
     }
 }

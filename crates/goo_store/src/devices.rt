@@ -28,7 +28,9 @@ use goo_types::gsrn::Gsrn;
 use sqlite::{Alter, Error};
 
 /// The device, if there is one.
-fn read_device(found: Result<Option<DeviceRow>, Error>) -> Result<Option<Device>, StatementFault>
+pub(crate) fn read_device(
+    found: Result<Option<DeviceRow>, Error>,
+) -> Result<Option<Device>, StatementFault>
     ensures value { Passes found result
         (λ row device. device ≡ option_map device_of (option_map device_in row)) }
     ensures accepts { Accepts found result
@@ -65,7 +67,9 @@ fn progress_in_row(row: &DeviceRow) -> Result<Progress, StatementFault>
 
 /// The last accepted period's end and the carry in the row of a device; neither is there without a
 /// row.
-fn read_progress(found: Result<Option<DeviceRow>, Error>) -> Result<Progress, StatementFault>
+pub(crate) fn read_progress(
+    found: Result<Option<DeviceRow>, Error>,
+) -> Result<Progress, StatementFault>
     ensures value { Passes found result
         (λ row progress. progress ≡ progress_in (option_map device_in row)) }
     ensures accepts { Accepts found result
@@ -82,7 +86,7 @@ fn read_progress(found: Result<Option<DeviceRow>, Error>) -> Result<Progress, St
 
 /// The device with its progress, if there is one. The device is kept then, under the number that it
 /// was looked up by.
-fn read_record(
+pub(crate) fn read_record(
     found: Result<Option<DeviceRow>, Error>,
     gsrn: &Gsrn,
     kept: &mut Option<KnownDevice>,
@@ -103,52 +107,4 @@ fn read_record(
         device,
     });
     Ok(Some(DeviceRecord { device, progress }))
-}
-
-impl<S: Alter> SqlShelf<S> {
-    /// A device.
-    pub(crate) fn look_up_device(&mut self, device: &Gsrn) -> Result<Option<Device>, Fault>
-        ensures looks { Looks (seen_by self.old) (seen_by self.new) result
-            (λ found. found ≡ get (seen_by self.old).state.devices device.now) }
-        ensures store { Blames self.old self.new result }
-    {
-        if self.refused {
-            return Err(Fault::Store);
-        }
-        let found = find_device(self.alloc, &mut self.conn, device.text());
-        self.cache.answered = found.is_ok();
-        note_fault(read_device(found), &mut self.refused)
-    }
-
-    /// A device's last accepted period and its carry.
-    pub(crate) fn look_up_progress(&mut self, device: &Gsrn) -> Result<Progress, Fault>
-        ensures looks { Looks (seen_by self.old) (seen_by self.new) result
-            (λ progress. progress ≡ progress_of (seen_by self.old).state device.now) }
-        ensures store { Blames self.old self.new result }
-    {
-        if self.refused {
-            return Err(Fault::Store);
-        }
-        let found = find_device(self.alloc, &mut self.conn, device.text());
-        self.cache.answered = found.is_ok();
-        note_fault(read_progress(found), &mut self.refused)
-    }
-
-    /// A device with its last accepted period and its carry.
-    pub(crate) fn look_up_device_record(
-        &mut self,
-        device: &Gsrn,
-    ) -> Result<Option<DeviceRecord>, Fault>
-        ensures looks { Looks (seen_by self.old) (seen_by self.new) result
-            (IsRecordOf (seen_by self.old).state device.now) }
-        ensures store { Blames self.old self.new result }
-    {
-        if self.refused {
-            return Err(Fault::Store);
-        }
-        let found = find_device(self.alloc, &mut self.conn, device.text());
-        self.cache.answered = found.is_ok();
-        let record = read_record(found, device, &mut self.known_rows.basis.device);
-        note_fault(record, &mut self.refused)
-    }
 }

@@ -17,28 +17,9 @@ use goo_types::fault::Fault;
 use sqlite::{Alter, Error};
 
 /// Whether there is a row.
-fn is_there(found: Result<Option<PieceRow>, Error>) -> Result<bool, StatementFault>
+pub(crate) fn is_there(found: Result<Option<PieceRow>, Error>) -> Result<bool, StatementFault>
     ensures value { Passes found result (λ row there. there ≡ is_some row) }
     ensures accepts { Accepts found result (λ _. ⊤) }
 {
     Ok(found?.is_some())
-}
-
-impl<S: Alter> SqlShelf<S> {
-    /// Whether an account holds a certificate: one statement, which shows one row that it holds.
-    ///
-    /// The statement goes through the index of the account's rows. An index by account and kind
-    /// would be another version of the tables.
-    pub(crate) fn look_up_holding(&mut self, account: AccountNo) -> Result<bool, Fault>
-        ensures looks { Looks (seen_by self.old) (seen_by self.new) result
-            (λ holds. holds ≡ list_any (λ p. is_held_by account p.place) (seen_by self.old).rows) }
-        ensures store { Blames self.old self.new result }
-    {
-        if self.refused {
-            return Err(Fault::Store);
-        }
-        let found = first_held(self.alloc, &mut self.conn, account.get());
-        self.cache.answered = found.is_ok();
-        note_fault(is_there(found), &mut self.refused)
-    }
 }

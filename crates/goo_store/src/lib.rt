@@ -13,7 +13,6 @@ mod declarations;
 mod device_numbers;
 mod devices;
 mod held;
-mod holders;
 mod issuing;
 mod kept_lots;
 mod kept_registry_row;

@@ -40,7 +40,7 @@ fn read_kept(row: &LotRow, lots: &mut Vec<NumberedLot>) -> Result<Lot, Statement
 }
 
 /// The lot, if there is one. It is kept.
-fn read_found(
+pub(crate) fn read_found(
     found: Result<Option<LotRow>, Error>,
     lots: &mut Vec<NumberedLot>,
 ) -> Result<Option<Lot>, StatementFault>
@@ -52,35 +52,5 @@ fn read_found(
     match found? {
         Some(row) => Ok(Some(read_kept(&row, lots)?)),
         None => Ok(None),
-    }
-}
-
-impl<S: Alter> SqlShelf<S> {
-    /// The known lot of an origin, a device and a first day.
-    pub(crate) fn look_up_lot(
-        &mut self,
-        origin: RegistryCode,
-        device: &Gsrn,
-        first_day: Day,
-    ) -> Result<Option<Lot>, Fault>
-        ensures looks { Looks (seen_by self.old) (seen_by self.new) result
-            (λ lot. lot ≡ get (seen_by self.old).state.lots (lot_key origin device.now first_day)) }
-        ensures store { Blames self.old self.new result }
-    {
-        if self.refused {
-            return Err(Fault::Store);
-        }
-        let origin = u32::from(origin.get());
-        let day = first_day.text();
-        let found = find_lot(
-            self.alloc,
-            &mut self.conn,
-            origin,
-            device.text(),
-            day.as_str(),
-        );
-        self.cache.answered = found.is_ok();
-        let lot = read_found(found, &mut self.known_rows.lots);
-        note_fault(lot, &mut self.refused)
     }
 }

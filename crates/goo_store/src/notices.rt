@@ -27,7 +27,7 @@ use sqlite::{Alter, Error};
 use std::alloc::Global;
 
 /// The notice that was sent, with the account in its row.
-fn read_sent(
+pub(crate) fn read_sent(
     alloc: Global,
     found: Result<Option<NoticeOutRow>, Error>,
 ) -> Result<Option<Sent>, StatementFault>
@@ -55,7 +55,7 @@ fn arrival(kept: &Notice, notice: &Notice) -> Arrival
 }
 
 /// What the row keeps for a notice's sender and number, seen from the notice.
-fn read_arrival(
+pub(crate) fn read_arrival(
     alloc: Global,
     found: Result<Option<NoticeInRow>, Error>,
     notice: &Notice,
@@ -70,45 +70,4 @@ fn read_arrival(
         return Ok(Arrival::Absent);
     };
     Ok(arrival(&texts::notice(alloc, &row.body)?, notice))
-}
-
-impl<S: Alter> SqlShelf<S> {
-    /// A notice that was sent.
-    pub(crate) fn look_up_sent(
-        &mut self,
-        alloc: Global,
-        notice: ActNo,
-    ) -> Result<Option<Sent>, Fault>
-        ensures looks { Looks (seen_by self.old) (seen_by self.new) result
-            (λ found. found ≡ get (seen_by self.old).state.sent notice) }
-        ensures store { Blames self.old self.new result }
-    {
-        if self.refused {
-            return Err(Fault::Store);
-        }
-        let found = find_notice_out(alloc, &mut self.conn, notice.get());
-        self.cache.answered = found.is_ok();
-        note_fault(read_sent(alloc, found), &mut self.refused)
-    }
-
-    /// What is kept for a notice's sender and number, seen from the notice.
-    pub(crate) fn look_up_arrived(
-        &mut self,
-        alloc: Global,
-        notice: &Notice,
-    ) -> Result<Arrival, Fault>
-        ensures looks { Looks (seen_by self.old) (seen_by self.new) result
-            (λ arrival. arrival
-            ≡ arrival_of (get (seen_by self.old).state.arrived
-            (notice.now.sender, notice.now.number)) notice.now) }
-        ensures store { Blames self.old self.new result }
-    {
-        if self.refused {
-            return Err(Fault::Store);
-        }
-        let sender = u32::from(notice.sender().get());
-        let found = find_notice_in(alloc, &mut self.conn, sender, notice.number().get());
-        self.cache.answered = found.is_ok();
-        note_fault(read_arrival(alloc, found, notice), &mut self.refused)
-    }
 }

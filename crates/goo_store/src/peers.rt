@@ -16,25 +16,9 @@ use goo_types::registry_code::RegistryCode;
 use sqlite::{Alter, Error};
 
 /// Whether there is a row.
-fn is_there(found: Result<Option<PeerRow>, Error>) -> Result<bool, StatementFault>
+pub(crate) fn is_there(found: Result<Option<PeerRow>, Error>) -> Result<bool, StatementFault>
     ensures value { Passes found result (λ row there. there ≡ is_some row) }
     ensures accepts { Accepts found result (λ _. ⊤) }
 {
     Ok(found?.is_some())
-}
-
-impl<S: Alter> SqlShelf<S> {
-    /// Whether another registry is known.
-    pub(crate) fn look_up_peer(&mut self, code: RegistryCode) -> Result<bool, Fault>
-        ensures looks { Looks (seen_by self.old) (seen_by self.new) result
-            (λ known. known ≡ contains_key (seen_by self.old).state.peers code) }
-        ensures store { Blames self.old self.new result }
-    {
-        if self.refused {
-            return Err(Fault::Store);
-        }
-        let found = find_peer(self.alloc, &mut self.conn, u32::from(code.get()));
-        self.cache.answered = found.is_ok();
-        note_fault(is_there(found), &mut self.refused)
-    }
 }

@@ -92,7 +92,7 @@ fn is_text_of(alloc: Global, bytes: &[u8], command: &Command) -> Result<bool, St
 }
 
 /// What the row keeps for a key, seen from a command.
-fn read_receipt(
+pub(crate) fn read_receipt(
     alloc: Global,
     found: Result<Option<ReceiptRow>, Error>,
     command: &Command,
@@ -110,28 +110,5 @@ fn read_receipt(
         Ok(Receipt::Same(read_reply(row.kind, row.n1, row.n2, row.n3)?))
     } else {
         Ok(Receipt::Other)
-    }
-}
-
-impl<S: Alter> SqlShelf<S> {
-    /// What is kept for a caller's key, seen from a command.
-    pub(crate) fn look_up_receipt(
-        &mut self,
-        alloc: Global,
-        caller: &HolderCode,
-        key: &Key,
-        command: &Command,
-    ) -> Result<Receipt, Fault>
-        ensures looks { Looks (seen_by self.old) (seen_by self.new) result
-            (λ receipt. receipt
-            ≡ seen_from (get (seen_by self.old).state.receipts (caller.now, key.now)) command.now) }
-        ensures store { Blames self.old self.new result }
-    {
-        if self.refused {
-            return Err(Fault::Store);
-        }
-        let found = find_receipt(alloc, &mut self.conn, caller.text(), key.text());
-        self.cache.answered = found.is_ok();
-        note_fault(read_receipt(alloc, found, command), &mut self.refused)
     }
 }

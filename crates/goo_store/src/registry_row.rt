@@ -136,24 +136,4 @@ impl<S: Alter> SqlShelf<S> {
         let meta = self.look_up_registry()?;
         Ok(meta.code)
     }
-
-    /// The registry's date.
-    pub(crate) fn look_up_today(&mut self) -> Result<Day, Fault>
-        ensures looks { Looks (seen_by self.old) (seen_by self.new) result
-            (λ day. day ≡ (seen_by self.old).state.today) }
-        ensures store { Blames self.old self.new result }
-    {
-        let meta = self.look_up_registry()?;
-        Ok(meta.today)
-    }
-
-    /// The next number of each kind.
-    pub(crate) fn look_up_counters(&mut self) -> Result<Counters, Fault>
-        ensures looks { Looks (seen_by self.old) (seen_by self.new) result
-            (λ counters. counters ≡ counters_of (seen_by self.old).state) }
-        ensures store { Blames self.old self.new result }
-    {
-        let meta = self.look_up_registry()?;
-        Ok(meta.counters)
-    }
 }

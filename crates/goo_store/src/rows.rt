@@ -33,7 +33,7 @@ use std::alloc::Global;
 
 impl<S: Alter> SqlShelf<S> {
     /// The last row that begins below a number.
-    fn row_before(&mut self, alloc: Global, low: u64) -> Result<Option<Piece>, Fault>
+    pub(crate) fn row_before(&mut self, alloc: Global, low: u64) -> Result<Option<Piece>, Fault>
         requires { low < 2 ^ 63 }
         ensures looks { Looks (seen_by self.old) (seen_by self.new) result
             (λ row. row ≡ find (λ p. nat_lt p.first low) (reverse (seen_by self.old).rows)) }
@@ -49,7 +49,12 @@ impl<S: Alter> SqlShelf<S> {
     }
 
     /// The rows that begin between two numbers, both counted.
-    fn rows_beginning(&mut self, alloc: Global, low: u64, high: u64) -> Result<Vec<Piece>, Fault>
+    pub(crate) fn rows_beginning(
+        &mut self,
+        alloc: Global,
+        low: u64,
+        high: u64,
+    ) -> Result<Vec<Piece>, Fault>
         requires { (low < 2 ^ 63) × (high < 2 ^ 63) }
         ensures looks { Looks (seen_by self.old) (seen_by self.new) result
             (λ rows. rows.items ≡ filter
@@ -60,52 +65,6 @@ impl<S: Alter> SqlShelf<S> {
             return Err(Fault::Store);
         }
         let found = pieces_beginning(alloc, &mut self.conn, low, high);
-        self.cache.answered = found.is_ok();
-        let rows = read_rising(alloc, found, &mut self.known_rows.lots);
-        note_fault(rows, &mut self.refused)
-    }
-
-    /// The rows with a number of the range or next to one, rising. A range within one row, short of
-    /// its ends, takes one statement, and so do numbers that are issued next, since no row begins
-    /// there. Any other range takes two.
-    pub(crate) fn look_up_meeting(
-        &mut self,
-        alloc: Global,
-        range: Range,
-    ) -> Result<Vec<Piece>, Fault>
-        ensures looks { Looks (seen_by self.old) (seen_by self.new) result
-            (λ met. met.items ≡ near range (seen_by self.old).rows) }
-        ensures store { Blames self.old self.new result }
-        ensures rising { IfOk result (λ met. IsRising met.items) }
-    {
-        let first = range.first().get();
-        let last = range.last().get();
-        let before = self.row_before(alloc, first)?;
-        if let Some(row) = ending_behind(&before, last) {
-            return alone(alloc, row);
-        }
-        if is_issued_next(&self.known_rows.own, range.first()) {
-            return note_fault(join_near(alloc, range, before, &[]), &mut self.refused);
-        }
-        let later = self.rows_beginning(alloc, first, last + 1)?;
-        note_fault(join_near(alloc, range, before, &later), &mut self.refused)
-    }
-
-    /// The rows whose place names an account, rising.
-    pub(crate) fn look_up_pieces_of(
-        &mut self,
-        alloc: Global,
-        account: AccountNo,
-    ) -> Result<Vec<Piece>, Fault>
-        ensures looks { Looks (seen_by self.old) (seen_by self.new) result
-            (λ met. met.items ≡ naming_account account (seen_by self.old).rows) }
-        ensures store { Blames self.old self.new result }
-        ensures rising { IfOk result (λ met. IsRising met.items) }
-    {
-        if self.refused {
-            return Err(Fault::Store);
-        }
-        let found = pieces_of_account(alloc, &mut self.conn, account.get());
         self.cache.answered = found.is_ok();
         let rows = read_rising(alloc, found, &mut self.known_rows.lots);
         note_fault(rows, &mut self.refused)
@@ -188,7 +147,7 @@ impl<S: Alter> SqlShelf<S> {
 
     /// The first row that names an account and ends after a number, as the tables have it. The rows
     /// that follow it are read ahead, where it is known that none reaches above its end.
-    fn next_in_tables(
+    pub(crate) fn next_in_tables(
         &mut self,
         account: AccountNo,
         after: Option<Number>,
@@ -203,27 +162,5 @@ impl<S: Alter> SqlShelf<S> {
             Some(row) if ends_clear(&self.known_rows.edges, &row) => self.follow(account, row),
             _ => Ok(found),
         }
-    }
-
-    /// The first row that names an account and ends after a number, or the first of all such rows.
-    ///
-    /// In a walk it was read ahead: one statement shows 64 rows.
-    pub(crate) fn next_naming(
-        &mut self,
-        account: AccountNo,
-        after: Option<Number>,
-    ) -> Result<Option<Piece>, Fault>
-        ensures looks { Looks (seen_by self.old) (seen_by self.new) result
-            (λ found. found ≡ next_of account after (seen_by self.old).rows) }
-        ensures store { Blames self.old self.new result }
-        ensures ahead { IfOk result (λ found. IfSome found (EndsFrom (from_of after))) }
-    {
-        if self.refused {
-            return Err(Fault::Store);
-        }
-        if let Some(kept) = self.cache.row_ahead(account, &after) {
-            return Ok(kept);
-        }
-        self.next_in_tables(account, after)
     }
 }

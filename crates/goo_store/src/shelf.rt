@@ -1,6 +1,12 @@
-//! The shelf over tables as a shelf.
+//! The shelf over tables as a shelf: each look-up asks one statement or none, and reads its rows.
 
+use crate::cache::keep_account;
+use crate::commits::{ending, known_after};
+use crate::issuing::is_issued_next;
+use crate::kept_registry_row::{copied, row_after};
+use crate::pieces::{alone, ending_behind, join_near, read_rising};
 use crate::sql_shelf::SqlShelf;
+use crate::{accounts, cancellations, devices, held, lots, notices, peers, receipts};
 use goo_core_shelf::account::Account;
 use goo_core_shelf::cancel_record::CancelRecord;
 use goo_core_shelf::counters::Counters;
@@ -11,6 +17,19 @@ use goo_core_shelf::plan::Plan;
 use goo_core_shelf::sent::Sent;
 use goo_core_shelf::shelf::Shelf;
 use goo_core_shelf::sought::Sought;
+use goo_store_changes::committing::commit_changes;
+use goo_store_judge::holders;
+use goo_store_values::noting::note_fault;
+use goo_tables::cancellation::find_cancellation;
+use goo_tables::device::find_device;
+use goo_tables::lot::find_lot;
+use goo_tables::notice_in::find_notice_in;
+use goo_tables::notice_out::find_notice_out;
+use goo_tables::peer::find_peer;
+use goo_tables::receipt::find_receipt;
+use goo_tables_accounts::account::find_account;
+use goo_tables_accounts::joined::pieces_of_account;
+use goo_tables_accounts::piece::first_held;
 use goo_types::account_no::AccountNo;
 use goo_types::act_no::ActNo;
 use goo_types::command::Command;
@@ -77,7 +96,8 @@ impl<S: Alter> Shelf for SqlShelf<S> {
             (λ day. day ≡ (seen_by self.old).state.today) }
         ensures store { Blames self.old self.new result }
     {
-        self.look_up_today()
+        let meta = self.look_up_registry()?;
+        Ok(meta.today)
     }
 
     fn counters(&mut self) -> Result<Counters, Fault>
@@ -85,7 +105,8 @@ impl<S: Alter> Shelf for SqlShelf<S> {
             (λ counters. counters ≡ counters_of (seen_by self.old).state) }
         ensures store { Blames self.old self.new result }
     {
-        self.look_up_counters()
+        let meta = self.look_up_registry()?;
+        Ok(meta.counters)
     }
 
     fn holder(&mut self, code: &HolderCode) -> Result<Option<Name>, Fault>
@@ -93,15 +114,27 @@ impl<S: Alter> Shelf for SqlShelf<S> {
             (λ name. name ≡ get (seen_by self.old).state.holders code.now) }
         ensures store { Blames self.old self.new result }
     {
-        self.look_up_holder(code)
+        self.cache.answered = false;
+        holders::name_of(self.alloc, &mut self.conn, &mut self.refused, code)
     }
 
+    // The account that is kept, or else the one in the table, which is kept then.
     fn account(&mut self, account: AccountNo) -> Result<Option<Account>, Fault>
         ensures looks { Looks (seen_by self.old) (seen_by self.new) result
             (λ found. found ≡ get (seen_by self.old).state.accounts account) }
         ensures store { Blames self.old self.new result }
     {
-        self.look_up_account(account)
+        if self.refused {
+            return Err(Fault::Store);
+        }
+        if let Some(kept) = self.cache.kept_account(account) {
+            return Ok(Some(kept));
+        }
+        let found = find_account(self.alloc, &mut self.conn, account.get());
+        self.cache.answered = found.is_ok();
+        let read = note_fault(accounts::read_account(found), &mut self.refused);
+        keep_account(&mut self.cache.accounts, account, &read);
+        read
     }
 
     fn device(&mut self, device: &Gsrn) -> Result<Option<Device>, Fault>
@@ -109,7 +142,12 @@ impl<S: Alter> Shelf for SqlShelf<S> {
             (λ found. found ≡ get (seen_by self.old).state.devices device.now) }
         ensures store { Blames self.old self.new result }
     {
-        self.look_up_device(device)
+        if self.refused {
+            return Err(Fault::Store);
+        }
+        let found = find_device(self.alloc, &mut self.conn, device.text());
+        self.cache.answered = found.is_ok();
+        note_fault(devices::read_device(found), &mut self.refused)
     }
 
     fn progress(&mut self, device: &Gsrn) -> Result<Progress, Fault>
@@ -117,7 +155,12 @@ impl<S: Alter> Shelf for SqlShelf<S> {
             (λ progress. progress ≡ progress_of (seen_by self.old).state device.now) }
         ensures store { Blames self.old self.new result }
     {
-        self.look_up_progress(device)
+        if self.refused {
+            return Err(Fault::Store);
+        }
+        let found = find_device(self.alloc, &mut self.conn, device.text());
+        self.cache.answered = found.is_ok();
+        note_fault(devices::read_progress(found), &mut self.refused)
     }
 
     fn device_record(&mut self, device: &Gsrn) -> Result<Option<DeviceRecord>, Fault>
@@ -125,7 +168,13 @@ impl<S: Alter> Shelf for SqlShelf<S> {
             (IsRecordOf (seen_by self.old).state device.now) }
         ensures store { Blames self.old self.new result }
     {
-        self.look_up_device_record(device)
+        if self.refused {
+            return Err(Fault::Store);
+        }
+        let found = find_device(self.alloc, &mut self.conn, device.text());
+        self.cache.answered = found.is_ok();
+        let record = devices::read_record(found, device, &mut self.known_rows.basis.device);
+        note_fault(record, &mut self.refused)
     }
 
     fn correctable(&mut self, device: &Gsrn, first_day: Day) -> Result<Option<Wh>, Fault>
@@ -133,7 +182,8 @@ impl<S: Alter> Shelf for SqlShelf<S> {
             (λ left. left ≡ lowerable (seen_by self.old).state device.now first_day) }
         ensures store { Blames self.old self.new result }
     {
-        self.look_up_correctable(device, first_day)
+        let corrections = self.corrections(self.alloc)?;
+        self.left_beside(&corrections, device, first_day)
     }
 
     fn receipt(
@@ -149,7 +199,13 @@ impl<S: Alter> Shelf for SqlShelf<S> {
             (caller.now, key.now)) command.now) }
         ensures store { Blames self.old self.new result }
     {
-        self.look_up_receipt(alloc, caller, key, command)
+        if self.refused {
+            return Err(Fault::Store);
+        }
+        let found = find_receipt(alloc, &mut self.conn, caller.text(), key.text());
+        self.cache.answered = found.is_ok();
+        let receipt = receipts::read_receipt(alloc, found, command);
+        note_fault(receipt, &mut self.refused)
     }
 
     fn lot(
@@ -162,7 +218,21 @@ impl<S: Alter> Shelf for SqlShelf<S> {
             (λ lot. lot ≡ get (seen_by self.old).state.lots (lot_key origin device.now first_day)) }
         ensures store { Blames self.old self.new result }
     {
-        self.look_up_lot(origin, device, first_day)
+        if self.refused {
+            return Err(Fault::Store);
+        }
+        let origin = u32::from(origin.get());
+        let day = first_day.text();
+        let found = find_lot(
+            self.alloc,
+            &mut self.conn,
+            origin,
+            device.text(),
+            day.as_str(),
+        );
+        self.cache.answered = found.is_ok();
+        let lot = lots::read_found(found, &mut self.known_rows.lots);
+        note_fault(lot, &mut self.refused)
     }
 
     fn peer(&mut self, code: RegistryCode) -> Result<bool, Fault>
@@ -170,7 +240,12 @@ impl<S: Alter> Shelf for SqlShelf<S> {
             (λ known. known ≡ contains_key (seen_by self.old).state.peers code) }
         ensures store { Blames self.old self.new result }
     {
-        self.look_up_peer(code)
+        if self.refused {
+            return Err(Fault::Store);
+        }
+        let found = find_peer(self.alloc, &mut self.conn, u32::from(code.get()));
+        self.cache.answered = found.is_ok();
+        note_fault(peers::is_there(found), &mut self.refused)
     }
 
     fn arrived(&mut self, alloc: Global, notice: &Notice) -> Result<Arrival, Fault>
@@ -180,7 +255,14 @@ impl<S: Alter> Shelf for SqlShelf<S> {
             (notice.now.sender, notice.now.number)) notice.now) }
         ensures store { Blames self.old self.new result }
     {
-        self.look_up_arrived(alloc, notice)
+        if self.refused {
+            return Err(Fault::Store);
+        }
+        let sender = u32::from(notice.sender().get());
+        let found = find_notice_in(alloc, &mut self.conn, sender, notice.number().get());
+        self.cache.answered = found.is_ok();
+        let arrival = notices::read_arrival(alloc, found, notice);
+        note_fault(arrival, &mut self.refused)
     }
 
     fn sent(&mut self, alloc: Global, notice: ActNo) -> Result<Option<Sent>, Fault>
@@ -188,7 +270,12 @@ impl<S: Alter> Shelf for SqlShelf<S> {
             (λ found. found ≡ get (seen_by self.old).state.sent notice) }
         ensures store { Blames self.old self.new result }
     {
-        self.look_up_sent(alloc, notice)
+        if self.refused {
+            return Err(Fault::Store);
+        }
+        let found = find_notice_out(alloc, &mut self.conn, notice.get());
+        self.cache.answered = found.is_ok();
+        note_fault(notices::read_sent(alloc, found), &mut self.refused)
     }
 
     fn cancelled(&mut self, cancellation: ActNo) -> Result<Option<CancelRecord>, Fault>
@@ -196,16 +283,33 @@ impl<S: Alter> Shelf for SqlShelf<S> {
             (λ found. found ≡ get (seen_by self.old).state.cancellations cancellation) }
         ensures store { Blames self.old self.new result }
     {
-        self.look_up_cancelled(cancellation)
+        if self.refused {
+            return Err(Fault::Store);
+        }
+        let found = find_cancellation(self.alloc, &mut self.conn, cancellation.get());
+        self.cache.answered = found.is_ok();
+        note_fault(cancellations::read_record(found), &mut self.refused)
     }
 
+    // A range within one row, short of its ends, takes one statement, and so do numbers that are
+    // issued next, since no row begins there. Any other range takes two.
     fn meeting(&mut self, alloc: Global, range: Range) -> Result<Vec<Piece>, Fault>
         ensures looks { Looks (seen_by self.old) (seen_by self.new) result
             (λ met. met.items ≡ near range (seen_by self.old).rows) }
         ensures store { Blames self.old self.new result }
         ensures rising { IfOk result (λ met. IsRising met.items) }
     {
-        self.look_up_meeting(alloc, range)
+        let first = range.first().get();
+        let last = range.last().get();
+        let before = self.row_before(alloc, first)?;
+        if let Some(row) = ending_behind(&before, last) {
+            return alone(alloc, row);
+        }
+        if is_issued_next(&self.known_rows.own, range.first()) {
+            return note_fault(join_near(alloc, range, before, &[]), &mut self.refused);
+        }
+        let later = self.rows_beginning(alloc, first, last + 1)?;
+        note_fault(join_near(alloc, range, before, &later), &mut self.refused)
     }
 
     fn pieces_of(&mut self, alloc: Global, account: AccountNo) -> Result<Vec<Piece>, Fault>
@@ -214,24 +318,44 @@ impl<S: Alter> Shelf for SqlShelf<S> {
         ensures store { Blames self.old self.new result }
         ensures rising { IfOk result (λ met. IsRising met.items) }
     {
-        self.look_up_pieces_of(alloc, account)
+        if self.refused {
+            return Err(Fault::Store);
+        }
+        let found = pieces_of_account(alloc, &mut self.conn, account.get());
+        self.cache.answered = found.is_ok();
+        let rows = read_rising(alloc, found, &mut self.known_rows.lots);
+        note_fault(rows, &mut self.refused)
     }
 
+    // One statement, which shows one row that the account holds. It goes through the index of the
+    // account's rows: an index by account and kind would be another version of the tables.
     fn holds(&mut self, account: AccountNo) -> Result<bool, Fault>
         ensures looks { Looks (seen_by self.old) (seen_by self.new) result
             (λ holds. holds ≡ list_any (λ p. is_held_by account p.place) (seen_by self.old).rows) }
         ensures store { Blames self.old self.new result }
     {
-        self.look_up_holding(account)
+        if self.refused {
+            return Err(Fault::Store);
+        }
+        let found = first_held(self.alloc, &mut self.conn, account.get());
+        self.cache.answered = found.is_ok();
+        note_fault(held::is_there(found), &mut self.refused)
     }
 
+    // In a walk the row was read ahead: one statement shows 64 rows.
     fn next_of(&mut self, account: AccountNo, after: Option<Number>) -> Result<Option<Piece>, Fault>
         ensures looks { Looks (seen_by self.old) (seen_by self.new) result
             (λ found. found ≡ next_row account after (seen_by self.old).rows) }
         ensures store { Blames self.old self.new result }
         ensures ahead { IfOk result (λ found. IfSome found (EndsFrom (from_of after))) }
     {
-        self.next_naming(account, after)
+        if self.refused {
+            return Err(Fault::Store);
+        }
+        if let Some(kept) = self.cache.row_ahead(account, &after) {
+            return Ok(kept);
+        }
+        self.next_in_tables(account, after)
     }
 
     fn next_expiring(&mut self, day: Day, after: Option<Number>) -> Result<Option<Piece>, Fault>
@@ -248,7 +372,8 @@ impl<S: Alter> Shelf for SqlShelf<S> {
             (λ totals. totals.items ≡ totals_of (seen_by self.old).state) }
         ensures store { Blames self.old self.new result }
     {
-        self.look_up_totals(alloc)
+        let own = self.look_up_code()?;
+        self.totals_by(alloc, own)
     }
 
     fn commit(&mut self, alloc: Global, plan: &Plan) -> Result<(), Fault>
@@ -257,7 +382,13 @@ impl<S: Alter> Shelf for SqlShelf<S> {
         ensures commits { Commits (seen_by self.old) (seen_by self.new) result plan.now }
         ensures store { BlamesPlan self.old self.new result (λ t. CanCarryOut t plan.now) }
     {
-        self.carry_out(alloc, plan)
+        let own = copied(&self.known_rows.own);
+        let planned = self.changes_for(alloc, plan)?;
+        let made = commit_changes(&mut self.conn, &planned.changes);
+        self.known_rows.basis = known_after(&made, planned.after);
+        self.known_rows.own = row_after(&made, own, &planned.changes);
+        self.cache.after_commit(&made, &planned.changes);
+        note_fault(ending(made), &mut self.refused)
     }
 
     ghost settled = { λ s none. safe _ s.well (λ live db may. S.settled s.conn.store db live may) none s.refused };

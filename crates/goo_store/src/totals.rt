@@ -115,7 +115,11 @@ impl<S: Alter> SqlShelf<S> {
     }
 
     /// The totals of all devices, of the registry of this code.
-    fn totals_by(&mut self, alloc: Global, own: RegistryCode) -> Result<Vec<DeviceTotals>, Fault>
+    pub(crate) fn totals_by(
+        &mut self,
+        alloc: Global,
+        own: RegistryCode,
+    ) -> Result<Vec<DeviceTotals>, Fault>
         ensures looks { Looks (seen_by self.old) (seen_by self.new) result
             (λ totals. own ≡ (seen_by self.old).state.own
             → totals.items ≡ totals_of (seen_by self.old).state) }
@@ -123,15 +127,5 @@ impl<S: Alter> SqlShelf<S> {
     {
         let devices = self.device_numbers(alloc)?;
         self.totals_of_devices(alloc, own, &devices)
-    }
-
-    /// The energy and the certificates of each device, by device.
-    pub(crate) fn look_up_totals(&mut self, alloc: Global) -> Result<Vec<DeviceTotals>, Fault>
-        ensures looks { Looks (seen_by self.old) (seen_by self.new) result
-            (λ totals. totals.items ≡ totals_of (seen_by self.old).state) }
-        ensures store { Blames self.old self.new result }
-    {
-        let own = self.look_up_code()?;
-        self.totals_by(alloc, own)
     }
 }

@@ -1,0 +1,35 @@
+use Rattle.std.proofs.Common.{◌∙◌}
+use Rattle.sqlite.specs.Held.{state as view}
+use Rattle.goo_store_judge.specs.Moments.{tables_in}
+use Rattle.goo_store_judge.proofs.Looking.{looked, refused_look, well}
+use Rattle.goo_store.proofs.Found.{known}
+use Rattle.goo_store.proofs.HeldFound.{held_found}
+use Rattle.goo_store_judge.proofs.Blaming.{blames, refused_blames}
+use Rattle.goo_store.proofs.Caching.{lasts_on}
+use Rattle.goo_store.proofs.shelf.SqlShelfShelf.holds.Goals as goal
+
+pub returns-then-self-clause-looks : goal.returns-then-self-clause-looks
+returns-then-self-clause-looks g c = refused_look (view g.S.Store c.args.self.now.conn) c.args.self.now.well c.args.self.now.refused c.if-self.true (λ live db may. g.met.S.Store.settled c.args.self.now.conn.store db live may) _
+
+pub invariant_of-self : goal.invariant_of-self
+invariant_of-self g c = record {
+  outside = c.first_held-found.ensures.outside c.args.self.now.outside;
+  well = well (view g.S.Store c.args.self.now.conn) (view g.S.Store c.first_held-found.new.conn) c.args.self.now.well _ _ c.first_held-found.ensures.looks;
+  known = known (view g.S.Store c.args.self.now.conn) (view g.S.Store c.first_held-found.new.conn) c.args.self.now.well _ _ c.first_held-found.ensures.looks c.args.self.now.known_rows c.args.self.now.known;
+  cached = lasts_on (view g.S.Store c.args.self.now.conn) (view g.S.Store c.first_held-found.new.conn) c.args.self.now.well _ _ c.first_held-found.ensures.looks c.args.self.now.cache c.is_ok-self.result c.is_ok-self.ensures.value c.args.self.now.cached;
+}
+
+pub returns-clause-looks : goal.returns-clause-looks
+returns-clause-looks g c =
+    looked (view g.S.Store c.args.self.now.conn) (view g.S.Store c.first_held-found.new.conn) c.args.self.now.well _ _ c.first_held-found.ensures.looks _ _ c.is_there.result
+    c.args.self.now.refused c.note_fault.new.refused c.note_fault.result (λ live db may. g.met.S.Store.settled c.args.self.now.conn.store db live may) c.if-self.false c.is_there.ensures.value c.note_fault.ensures
+    (λ kept row there found read. read ∙ held_found (tables_in (view g.S.Store c.args.self.now.conn)) kept c.args.account _ c.get.ensures.value row found)
+
+pub returns-then-self-clause-store : goal.returns-then-self-clause-store
+returns-then-self-clause-store g c = refused_blames (view g.S.Store c.args.self.now.conn) c.args.self.now.refused _ c.if-self.true
+
+pub returns-clause-store : goal.returns-clause-store
+returns-clause-store g c =
+    blames (view g.S.Store c.args.self.now.conn) (view g.S.Store c.first_held-found.new.conn) c.args.self.now.well _ _ c.first_held-found.ensures.looks _ _ c.is_there.result c.args.self.now.refused c.note_fault.new.refused c.note_fault.result
+    c.first_held-found.ensures.readable c.is_there.ensures.accepts c.note_fault.ensures (λ can. can.pieces)
+    (λ _ _ _ _. tt)
