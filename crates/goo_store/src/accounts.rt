@@ -1,25 +1,16 @@
 //! Accounts, as they are found.
 
 ghost use Rattle.std.specs.Prelude.{◌≡◌, IfSome, IsTrue, option_map};
-ghost use Rattle.std.specs.FinMap.{get};
 ghost use Rattle.goo_tables_rows.specs.Rows.{account_in};
-ghost use Rattle.goo_core_shelf.specs.Shelf.{Looks};
 ghost use Rattle.goo_spec_tables.specs.States.{account_of};
 ghost use Rattle.goo_spec_tables.specs.Readable.{is_account};
 ghost use Rattle.goo_store_values.specs.Passing.{Accepts, Passes};
-ghost use Rattle.goo_store.specs.Seen.{Blames, seen_by};
 
-use crate::cache::keep_account;
-use crate::sql_shelf::SqlShelf;
 use goo_core_shelf::account::Account;
-use goo_store_values::noting::note_fault;
 use goo_store_values::statement_fault::StatementFault;
 use goo_store_values::texts;
-use goo_tables_accounts::account::find_account;
 use goo_tables_rows::account::AccountRow;
-use goo_types::account_no::AccountNo;
-use goo_types::fault::Fault;
-use sqlite::{Alter, Error};
+use sqlite::Error;
 
 /// The account in its row.
 pub(crate) fn read_account(

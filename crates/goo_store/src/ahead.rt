@@ -1,15 +1,11 @@
 //! Rows of an account that are read ahead of the look-ups that walk along them.
 
-ghost use Rattle.std.specs.Prelude.{◌≡◌, ◌+◌, ◌&&◌, All, IfOk, IfSome, IsTrue, List, Some, map};
-ghost use Rattle.std.specs.Prelude.{nat_lt, take};
-ghost use Rattle.std.specs.List.{filter};
-ghost use Rattle.goo_types.specs.Piece.{IsRising};
+ghost use Rattle.std.specs.Prelude.{◌≡◌, ◌+◌, ◌&&◌, IfOk, IfSome, IsTrue, List, Some};
 ghost use Rattle.goo_types.specs.declared.piece.Piece.{Piece};
 ghost use Rattle.goo_core_shelf.specs.Rows.{EndsFrom, next_row};
 ghost use Rattle.goo_store.specs.Ahead.{AreAhead, IsPageOf, KeepsAhead, beyond};
 ghost use Rattle.goo_store.specs.Found.{KeepsRead};
 ghost use Rattle.goo_store.specs.Reading.{AreReadablePieces};
-ghost use Rattle.goo_store_plans.specs.Found.{IsEdge};
 ghost use Rattle.goo_store_values.specs.Passing.{Accepts, Passes};
 
 use crate::pieces::{is_none_or_beyond, read_rising};

@@ -1,25 +1,17 @@
 //! Records of cancellations, as they are found.
 
 ghost use Rattle.std.specs.Prelude.{◌≡◌, IfSome, IsTrue, option_map};
-ghost use Rattle.std.specs.FinMap.{get};
 ghost use Rattle.goo_tables_rows.specs.Rows.{cancellation_in};
-ghost use Rattle.goo_core_shelf.specs.Shelf.{Looks};
 ghost use Rattle.goo_spec_tables.specs.Records.{cancellation_of};
 ghost use Rattle.goo_spec_tables.specs.Readable.{is_cancellation};
 ghost use Rattle.goo_store_values.specs.Passing.{Accepts, Passes};
-ghost use Rattle.goo_store.specs.Seen.{Blames, seen_by};
 
-use crate::sql_shelf::SqlShelf;
 use goo_core_shelf::cancel_record::CancelRecord;
-use goo_store_values::noting::note_fault;
 use goo_store_values::statement_fault::StatementFault;
 use goo_store_values::{numbers, texts};
-use goo_tables::cancellation::find_cancellation;
 use goo_tables_rows::cancellation::CancellationRow;
-use goo_types::act_no::ActNo;
 use goo_types::command::Cancel;
-use goo_types::fault::Fault;
-use sqlite::{Alter, Error};
+use sqlite::Error;
 
 /// The record in its row.
 pub(crate) fn read_record(

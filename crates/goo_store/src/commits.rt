@@ -1,21 +1,19 @@
 //! Carrying out plans: what a plan changes is gathered first, and then made in one transaction.
 
 ghost use Rattle.std.specs.Prelude.{◌≡◌, All, IfErr, IfOk, OnErr, OnOk};
-ghost use Rattle.goo_core_shelf.specs.Plan.{Fits, Commits};
+ghost use Rattle.goo_core_shelf.specs.Plan.{Fits};
 ghost use Rattle.goo_store_changes.specs.Changes.{ChangeFits, made_all};
 ghost use Rattle.goo_store_plans.specs.Found.{AreNone, IsBasisOf, IsNoBasis};
 ghost use Rattle.goo_store_judge.specs.Moments.{tables_in};
 ghost use Rattle.goo_store_plans.specs.Planned.{IsPlanned};
 ghost use Rattle.goo_store.specs.Preparing.{Prepares};
-ghost use Rattle.goo_store.specs.Gathering.{CanCarryOut, HaveWhatItNeeds};
+ghost use Rattle.goo_store.specs.Gathering.{HaveWhatItNeeds};
 ghost use Rattle.goo_store_values.specs.Passing.{IsStatementFaultOf};
 ghost use Rattle.goo_store_values.specs.Telling.{PassesOn};
 ghost use Rattle.goo_store.specs.Seen.{BlamesPlan, database_of, seen_by};
 
-use crate::kept_registry_row::{copied, row_after};
 use crate::sql_shelf::SqlShelf;
 use goo_core_shelf::plan::Plan;
-use goo_store_changes::committing::commit_changes;
 use goo_store_plans::known_rows::{KnownBasis, KnownRows};
 use goo_store_plans::plan_changes::{Planned, plan_changes};
 use goo_store_values::noting::note_fault;

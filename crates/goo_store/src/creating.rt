@@ -1,13 +1,11 @@
 //! A new registry in an empty database.
 
-ghost use Rattle.std.specs.Prelude.{◌≡◌, ◌↔◌, ◌≤◌, ◌∷◌, [], false, None, IsTrue, IfErr, IfOk, OnOk};
+ghost use Rattle.std.specs.Prelude.{◌≡◌, ◌↔◌, ◌≤◌, false, None, IsTrue, IfErr, IfOk, OnOk};
 ghost use Rattle.std.specs.Prelude.{OnErr};
 ghost use Rattle.sqlite_disk.specs.Disk.{MoreFaults};
 ghost use Rattle.sqlite.specs.State.{HasCleanDisk, IsLive, KeepsCommit, Survives};
 ghost use Rattle.sqlite.specs.Held.{state};
 ghost use Rattle.sqlite_trees.specs.View.{doubt};
-ghost use Rattle.goo_types.specs.Number.{IsCode};
-ghost use Rattle.goo_types.specs.Day.{IsDay};
 ghost use Rattle.goo_tables_rows.specs.Columns.{no_schema};
 ghost use Rattle.goo_tables_rows.specs.Refused.{IsFault, IsSmall};
 ghost use Rattle.goo_tables_rows.specs.Rows.{meta_in, meta_row};

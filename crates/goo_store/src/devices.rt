@@ -2,30 +2,23 @@
 
 ghost use Rattle.std.specs.Prelude.{◌≡◌, pos, is_ok, Some, IfOk, IfSome, IsOk, IsTrue, option_map};
 ghost use Rattle.std.specs.Prelude.{string_bytes};
-ghost use Rattle.std.specs.FinMap.{get};
 ghost use Rattle.goo_tables_rows.specs.Rows.{device_in};
-ghost use Rattle.goo_core_shelf.specs.Shelf.{Looks, progress_of, IsRecordOf};
 ghost use Rattle.goo_spec_tables.specs.Devices.{device_of, progress_in, record_in};
 ghost use Rattle.goo_store.specs.Found.{KeepsDevice};
 ghost use Rattle.goo_spec_tables.specs.Readable.{is_device, is_maybe_day};
 ghost use Rattle.goo_store_values.specs.Passing.{Accepts, Passes};
 ghost use Rattle.goo_spec_tables.specs.Texts.{day_of};
-ghost use Rattle.goo_store.specs.Seen.{Blames, seen_by};
 
-use crate::sql_shelf::SqlShelf;
 use goo_core_shelf::device::Device;
 use goo_core_shelf::found::{DeviceRecord, Progress};
 use goo_store_plans::known_rows::KnownDevice;
 use goo_store_values::devices::device_in_row;
-use goo_store_values::noting::note_fault;
 use goo_store_values::statement_fault::StatementFault;
 use goo_store_values::{numbers, texts};
-use goo_tables::device::find_device;
 use goo_tables_rows::device::DeviceRow;
 use goo_types::day::Day;
-use goo_types::fault::Fault;
 use goo_types::gsrn::Gsrn;
-use sqlite::{Alter, Error};
+use sqlite::Error;
 
 /// The device, if there is one.
 pub(crate) fn read_device(

@@ -1,6 +1,6 @@
 //! The registry's row, kept from one commit to the next.
 
-ghost use Rattle.std.specs.Prelude.{◌≡◌, OnErr, OnOk, Some};
+ghost use Rattle.std.specs.Prelude.{OnErr, OnOk, Some};
 ghost use Rattle.goo_tables_rows.specs.Rows.{Tables};
 ghost use Rattle.goo_store_changes.specs.Changes.{made, made_all};
 ghost use Rattle.goo_store_plans.specs.Found.{IsRowOf};

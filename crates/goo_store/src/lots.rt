@@ -1,32 +1,20 @@
 //! Lots, as they are found.
 
 ghost use Rattle.std.specs.Prelude.{◌≡◌, IfOk, IfSome, IsOkUnless, option_map};
-ghost use Rattle.std.specs.FinMap.{get};
-ghost use Rattle.goo_types.specs.Texts.{day_text};
-ghost use Rattle.goo_spec.specs.Lots.{lot_key};
 ghost use Rattle.goo_tables_rows.specs.Rows.{lot_in};
-ghost use Rattle.goo_core_shelf.specs.Shelf.{Looks};
 ghost use Rattle.goo_store.specs.Found.{KeepsLot, KeepsRow};
 ghost use Rattle.goo_spec_tables.specs.Places.{lot_of};
 ghost use Rattle.goo_store_values.specs.Reading.{IsReadableLot};
 ghost use Rattle.goo_store_values.specs.Passing.{Accepts, Passes};
 ghost use Rattle.goo_store_values.specs.declared.statement_fault.StatementFault.TheVariants.{Memory};
-ghost use Rattle.goo_store.specs.Seen.{Blames, seen_by};
 
 use crate::kept_lots::keep_lot;
-use crate::sql_shelf::SqlShelf;
 use goo_store_plans::lot_numbers::NumberedLot;
 use goo_store_values::lots::read_lot;
-use goo_store_values::noting::note_fault;
 use goo_store_values::statement_fault::StatementFault;
-use goo_tables::lot::find_lot;
 use goo_tables_rows::lot::LotRow;
-use goo_types::day::Day;
-use goo_types::fault::Fault;
-use goo_types::gsrn::Gsrn;
 use goo_types::lot::Lot;
-use goo_types::registry_code::RegistryCode;
-use sqlite::{Alter, Error};
+use sqlite::Error;
 
 /// The lot that a row states, which is kept.
 fn read_kept(row: &LotRow, lots: &mut Vec<NumberedLot>) -> Result<Lot, StatementFault>

@@ -1,29 +1,21 @@
 //! Notices that were sent and that came in, as they are found.
 
 ghost use Rattle.std.specs.Prelude.{◌≡◌, pos, Some, IfSome, IsTrue, option_map};
-ghost use Rattle.std.specs.FinMap.{get};
 ghost use Rattle.goo_tables_rows.specs.Rows.{notice_out_in, notice_in_in};
-ghost use Rattle.goo_core_shelf.specs.Shelf.{Looks, arrival_of};
+ghost use Rattle.goo_core_shelf.specs.Shelf.{arrival_of};
 ghost use Rattle.goo_spec_tables.specs.Records.{sent_of, arrived_of};
 ghost use Rattle.goo_spec_tables.specs.Readable.{is_notice_in};
 ghost use Rattle.goo_store.specs.Reading.{IsReadableSent};
 ghost use Rattle.goo_store_values.specs.Passing.{Accepts, Passes};
-ghost use Rattle.goo_store.specs.Seen.{Blames, seen_by};
 
-use crate::sql_shelf::SqlShelf;
 use goo_core_shelf::found::Arrival;
 use goo_core_shelf::sent::Sent;
-use goo_store_values::noting::note_fault;
 use goo_store_values::statement_fault::StatementFault;
 use goo_store_values::{numbers, texts};
-use goo_tables::notice_in::find_notice_in;
-use goo_tables::notice_out::find_notice_out;
 use goo_tables_rows::notice_in::NoticeInRow;
 use goo_tables_rows::notice_out::NoticeOutRow;
-use goo_types::act_no::ActNo;
-use goo_types::fault::Fault;
 use goo_types::notice::Notice;
-use sqlite::{Alter, Error};
+use sqlite::Error;
 use std::alloc::Global;
 
 /// The notice that was sent, with the account in its row.

@@ -2,32 +2,24 @@
 
 ghost use Rattle.std.specs.Prelude.{◌≡◌, ◌==◌, ◌&&◌, ◌||◌, pos, is_ok, IfOk, IfSome, IsOk};
 ghost use Rattle.std.specs.Prelude.{IsOkUnless, IsTrue, option_map};
-ghost use Rattle.std.specs.FinMap.{get};
 ghost use Rattle.goo_notice.specs.Law.{command_in};
 ghost use Rattle.goo_spec.specs.Step.{is_kept};
 ghost use Rattle.goo_tables_rows.specs.Rows.{receipt_in};
-ghost use Rattle.goo_core_shelf.specs.Shelf.{Looks, receipt_of as seen_from};
+ghost use Rattle.goo_core_shelf.specs.Shelf.{receipt_of as seen_from};
 ghost use Rattle.goo_spec_tables.specs.Replies.{issued_of, reply_of, receipt_of};
 ghost use Rattle.goo_spec_tables.specs.Readable.{are_ends, is_receipt, is_reply};
 ghost use Rattle.goo_store_values.specs.Passing.{Accepts, Passes};
 ghost use Rattle.goo_store_values.specs.declared.statement_fault.StatementFault.TheVariants.{Memory};
-ghost use Rattle.goo_store.specs.Seen.{Blames, seen_by};
 
-use crate::sql_shelf::SqlShelf;
 use goo_core_shelf::found::Receipt;
 use goo_notice::{command_text, one_text};
-use goo_store_values::noting::note_fault;
 use goo_store_values::numbers;
 use goo_store_values::statement_fault::StatementFault;
-use goo_tables::receipt::find_receipt;
 use goo_tables_rows::receipt::ReceiptRow;
 use goo_types::command::Command;
-use goo_types::fault::Fault;
-use goo_types::holder_code::HolderCode;
-use goo_types::key::Key;
 use goo_types::range::Range;
 use goo_types::reply::Reply;
-use sqlite::{Alter, Error};
+use sqlite::Error;
 use std::alloc::Global;
 
 /// The numbers issued, if any were.

@@ -23,7 +23,6 @@ use goo_store_values::statement_fault::StatementFault;
 use goo_store_values::{numbers, texts};
 use goo_tables::meta::find_meta;
 use goo_tables_rows::meta::MetaRow;
-use goo_types::day::Day;
 use goo_types::fault::Fault;
 use goo_types::registry_code::RegistryCode;
 use sqlite::{Alter, Error};

@@ -3,10 +3,8 @@
 ghost use Rattle.std.specs.Prelude.{◌≡◌, ◌+◌, ◌<◌, ◌^◌, ◌&&◌, IfOk, IfSome, Some, find, reverse};
 ghost use Rattle.std.specs.Prelude.{nat_le, nat_lt};
 ghost use Rattle.std.specs.List.{filter};
-ghost use Rattle.goo_types.specs.Piece.{IsRising};
-ghost use Rattle.goo_ranges_rows.specs.Rows.{meeting as near};
 ghost use Rattle.goo_spec_runs.specs.NextRun.{ending_from, first_of, from_of};
-ghost use Rattle.goo_core_shelf.specs.Rows.{naming_account, next_row as next_of, EndsFrom};
+ghost use Rattle.goo_core_shelf.specs.Rows.{next_row as next_of, EndsFrom};
 ghost use Rattle.goo_core_shelf.specs.Shelf.{Looks};
 ghost use Rattle.goo_core_shelf.specs.Sought.{is_sought};
 ghost use Rattle.goo_spec_tables.specs.Places.{rows_of};
@@ -16,18 +14,16 @@ ghost use Rattle.goo_tables_rows.specs.Stands.{defects};
 ghost use Rattle.goo_store.specs.Seen.{Blames, database_of, seen_by};
 
 use crate::ahead::read_page;
-use crate::issuing::is_issued_next;
 use crate::next_rows::{ask_next, ask_page, edges_after, ends_clear, is_clear, reaching_row};
-use crate::pieces::{alone, ending_behind, join_near, read_beyond, read_maybe, read_rising};
+use crate::pieces::{alone, read_beyond, read_maybe, read_rising};
 use crate::sql_shelf::SqlShelf;
 use goo_core_shelf::sought::Sought;
 use goo_store_values::noting::note_fault;
-use goo_tables_accounts::joined::{piece_before, pieces_beginning, pieces_of_account};
+use goo_tables_accounts::joined::{piece_before, pieces_beginning};
 use goo_types::account_no::AccountNo;
 use goo_types::fault::Fault;
 use goo_types::number::Number;
 use goo_types::piece::Piece;
-use goo_types::range::Range;
 use sqlite::Alter;
 use std::alloc::Global;
 

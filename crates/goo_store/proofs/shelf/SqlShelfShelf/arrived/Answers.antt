@@ -30,8 +30,8 @@ invariant_of-self g c = record {
 pub returns-clause-looks : goal.returns-clause-looks
 unfolding state_of
 returns-clause-looks g c =
-    looked (view g.S.Store c.args.self.now.conn) (view g.S.Store c.find_notice_in-found.new.conn) c.args.self.now.well _ _ c.find_notice_in-found.ensures.looks _ _ c.read_arrival.result
-    c.args.self.now.refused c.note_fault.new.refused c.note_fault.result (λ live db may. g.met.S.Store.settled c.args.self.now.conn.store db live may) c.if-self.false c.read_arrival.ensures.value c.note_fault.ensures
+    looked (view g.S.Store c.args.self.now.conn) (view g.S.Store c.find_notice_in-found.new.conn) c.args.self.now.well _ _ c.find_notice_in-found.ensures.looks _ _ c.read_arrival-arrival.result
+    c.args.self.now.refused c.note_fault.new.refused c.note_fault.result (λ live db may. g.met.S.Store.settled c.args.self.now.conn.store db live may) c.if-self.false c.read_arrival-arrival.ensures.value c.note_fault.ensures
     (λ kept row arrival found read.
     let notice = c.args.notice.now in
     read ∙ ap (λ known. arrival_of known notice) (known_kept notice_total (λ k. (k.1.sender, k.1.number)) (notice.sender, notice.number) _
@@ -43,6 +43,6 @@ returns-then-self-clause-store g c = refused_blames (view g.S.Store c.args.self.
 
 pub returns-clause-store : goal.returns-clause-store
 returns-clause-store g c =
-    blames (view g.S.Store c.args.self.now.conn) (view g.S.Store c.find_notice_in-found.new.conn) c.args.self.now.well _ _ c.find_notice_in-found.ensures.looks _ _ c.read_arrival.result c.args.self.now.refused c.note_fault.new.refused c.note_fault.result
-    c.find_notice_in-found.ensures.readable c.read_arrival.ensures.accepts c.note_fault.ensures (λ can. can.notices_in)
+    blames (view g.S.Store c.args.self.now.conn) (view g.S.Store c.find_notice_in-found.new.conn) c.args.self.now.well _ _ c.find_notice_in-found.ensures.looks _ _ c.read_arrival-arrival.result c.args.self.now.refused c.note_fault.new.refused c.note_fault.result
+    c.find_notice_in-found.ensures.readable c.read_arrival-arrival.ensures.accepts c.note_fault.ensures (λ can. can.notices_in)
     (λ stands kept row found. found_part (λ k. k.1) notice_in_in (λ r. IsTrue (is_notice_in (pos 0, r))) _ (tables_in (view g.S.Store c.args.self.now.conn)).notices_in (each_so is_notice_in (λ k. IsTrue (is_notice_in k)) (λ _ good. good) (tables_in (view g.S.Store c.args.self.now.conn)).notices_in kept.readable.notices_in) row found)

@@ -30,8 +30,8 @@ invariant_of-self g c = record {
 pub returns-clause-looks : goal.returns-clause-looks
 unfolding state_of
 returns-clause-looks g c =
-    looked (view g.S.Store c.args.self.now.conn) (view g.S.Store c.find_receipt-found.new.conn) c.args.self.now.well _ _ c.find_receipt-found.ensures.looks _ _ c.read_receipt.result
-    c.args.self.now.refused c.note_fault.new.refused c.note_fault.result (λ live db may. g.met.S.Store.settled c.args.self.now.conn.store db live may) c.if-self.false c.read_receipt.ensures.value c.note_fault.ensures
+    looked (view g.S.Store c.args.self.now.conn) (view g.S.Store c.find_receipt-found.new.conn) c.args.self.now.well _ _ c.find_receipt-found.ensures.looks _ _ c.read_receipt-receipt.result
+    c.args.self.now.refused c.note_fault.new.refused c.note_fault.result (λ live db may. g.met.S.Store.settled c.args.self.now.conn.store db live may) c.if-self.false c.read_receipt-receipt.ensures.value c.note_fault.ensures
     (λ kept row receipt found read.
     let caller = c.args.caller.now in
     let key = c.args.key.now in
@@ -44,6 +44,6 @@ returns-then-self-clause-store g c = refused_blames (view g.S.Store c.args.self.
 
 pub returns-clause-store : goal.returns-clause-store
 returns-clause-store g c =
-    blames (view g.S.Store c.args.self.now.conn) (view g.S.Store c.find_receipt-found.new.conn) c.args.self.now.well _ _ c.find_receipt-found.ensures.looks _ _ c.read_receipt.result c.args.self.now.refused c.note_fault.new.refused c.note_fault.result
-    c.find_receipt-found.ensures.readable c.read_receipt.ensures.accepts c.note_fault.ensures (λ can. can.receipts)
+    blames (view g.S.Store c.args.self.now.conn) (view g.S.Store c.find_receipt-found.new.conn) c.args.self.now.well _ _ c.find_receipt-found.ensures.looks _ _ c.read_receipt-receipt.result c.args.self.now.refused c.note_fault.new.refused c.note_fault.result
+    c.find_receipt-found.ensures.readable c.read_receipt-receipt.ensures.accepts c.note_fault.ensures (λ can. can.receipts)
     (λ stands kept row found. found_part (λ k. k.1) receipt_in (λ r. IsTrue (is_receipt (pos 0, r))) _ (tables_in (view g.S.Store c.args.self.now.conn)).receipts (each_so is_receipt (λ k. IsTrue (is_receipt k)) (λ _ good. good) (tables_in (view g.S.Store c.args.self.now.conn)).receipts kept.readable.receipts) row found)
