@@ -13,6 +13,7 @@ import calendar
 import itertools
 import json
 import math
+import os
 import random
 import shutil
 import sqlite3
@@ -33,7 +34,7 @@ BEGUN = 2015
 QUARTERS = 4
 MOST_BYTES = 15_000_000
 """An input for one run of the program: it takes 16 MiB."""
-ASKED = 100
+ASKED, READ = 100, 3
 COLUMNS = ['Work', *(f'at {quarter}/{QUARTERS}' for quarter in range(1, QUARTERS)), 'whole', 'grows as', 'peak MB', 'SQLite alone', 'ratio']
 STATED = 'SELECT first, last, device, first_day, last_day, tech, source FROM piece JOIN lot ON lot.id = piece.lot WHERE account = ? AND kind = 1 ORDER BY first'
 ADDED = ('SELECT device, sum(gross - aux), count(*) FROM declaration GROUP BY device', 'SELECT device, sum(less) FROM correction GROUP BY device',
@@ -138,13 +139,13 @@ class File:
 
     @contextmanager
     def served(self):
-        """The program serves the file; its port."""
+        """The program serves the file; its port and its process."""
         port = free_port()
         with subprocess.Popen([PROGRAM, 'serve', '--db', self.path, '--port', str(port), '--count', str(2 * ASKED)], stdout=subprocess.PIPE, text=True) as server:
             try:
                 if not server.stdout.readline().startswith('listening'):
                     sys.exit(f'{PROGRAM} serve does not listen')
-                yield port
+                yield port, server.pid
             finally:
                 server.terminate()
 
@@ -152,16 +153,36 @@ class File:
         """Milliseconds by the clock of reads of one certificate and of requests: median and 99th of each."""
         (serial,) = next(self.rows('SELECT first FROM piece WHERE account = ? AND kind = 1 ORDER BY first DESC LIMIT 1', account))
         other = PRODUCERS + 1 if account[0] != PRODUCERS + 1 else PRODUCERS + 2
-        with self.served() as port:
+        with self.served() as (port, _):
             reads = [milliseconds(port, 'GET', f'/v1/certificates/{serial:014d}') for _ in range(ASKED)]
             span = {'first': f'{serial:014d}', 'last': f'{serial:014d}'}
             writes = [milliseconds(port, 'POST', '/v1/requests', f'H{giver}', {'command': 'transfer', 'key': f'w{serial}.{number}', 'giver': giver, 'taker': taker, **span})
                       for number, (giver, taker) in zip(range(ASKED), itertools.cycle([(account[0], other), (other, account[0])]))]
         return [(statistics.median(times), sorted(times)[-1 - len(times) // 100]) for times in (reads, writes)]
 
+    def answered(self, target):
+        """The processor seconds of a server for this read, the least of some."""
+        with self.served() as (port, server):
+            return min(seconds_for(port, server, target) for _ in range(READ))
+
     def rows(self, text, of=()):
         with closing(sqlite3.connect(self.path)) as database:
             yield from database.execute(text, of).fetchall()
+
+
+def processor_seconds(process):
+    """What a process has taken until now, by itself and for it in the kernel."""
+    fields = Path(f'/proc/{process}/stat').read_text(encoding='ascii').rpartition(')')[2].split()
+    return (int(fields[11]) + int(fields[12])) / os.sysconf('SC_CLK_TCK')
+
+
+def seconds_for(port, server, target):
+    """The processor seconds of a server for one read that is answered."""
+    before = processor_seconds(server)
+    answer = read_answer(ask(port, request('GET', target, ISSUING_BODY), patience=measured.SECONDS))
+    if answer.status != 200:
+        sys.exit(f'GET {target}: {answer.status}')
+    return processor_seconds(server) - before
 
 
 def milliseconds(port, method, path, caller=ISSUING_BODY, body=None):
@@ -179,17 +200,16 @@ def look(file):
     """What is measured at one time: each work with its figure, its peak of memory, and SQLite's figure."""
     account = file.longest()
     declared, pieces, receipts = file.counts()
-    opening, audit = goo('run', '--db', file.path), goo('audit', '--db', file.path, to=file.folder / 'audit')
-    library = file.library_alone()
-    stated = goo('statement', str(account[0]), '--db', file.path, to=file.folder / 'text')
+    opening, library = goo('run', '--db', file.path), file.library_alone()
+    audit, stated = goo('audit', '--db', file.path, to=file.folder / 'audit'), goo('statement', str(account[0]), '--db', file.path, to=file.folder / 'text')
     (read, slow_read), (write, slow_write) = file.asked(account)
     return {
         'declarations': (declared, None, None), 'rows of `piece`': (pieces, None, None), 'receipts': (receipts, None, None),
         'MB of the file': (file.path.stat().st_size / 1e6, None, None),
         'opening, processor seconds': (opening.seconds, opening.memory, file.query('PRAGMA integrity_check')),
         "the library's own opening, processor seconds": (library.seconds, library.memory, None),
-        'audit beyond opening, processor seconds': (audit.seconds - opening.seconds, audit.memory, file.query(*ADDED)),
-        'the longest statement beyond opening, processor seconds': (stated.seconds - opening.seconds, stated.memory, file.query(STATED, of=account)),
+        'audit of a server, processor seconds': (file.answered('/v1/audit'), audit.memory, min(file.query(*ADDED) for _ in range(READ))),
+        'the longest statement of a server, processor seconds': (file.answered(f'/v1/accounts/{account[0]}/statement'), stated.memory, min(file.query(STATED, of=account) for _ in range(READ))),
         'a copy, seconds by the clock': (file.copied(), None, None),
         'a certificate over HTTP, ms at the median': (read, None, None), 'a certificate over HTTP, ms of the 99th': (slow_read, None, None),
         'a transfer over HTTP, ms at the median': (write, None, None), 'a transfer over HTTP, ms of the 99th': (slow_write, None, None)}
