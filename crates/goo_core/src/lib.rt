@@ -4,29 +4,7 @@
 //! accepts a request hands out the [`Plan`] of its change, which the shelf commits.
 #![tactic(auto)]
 
-mod add_peer;
-mod advance;
-mod arriving;
-mod cancel;
-mod change;
-mod close_account;
-mod correct;
-pub mod decision;
-mod declare;
-mod export;
-mod import;
-mod issue;
-mod open_account;
-mod open_holder;
-mod parts;
-mod range_checks;
-mod register_device;
-mod taking;
-mod transfer;
-mod verdict;
-mod withdraw;
-
-pub use decision::decide;
+pub use goo_core_judges::decide;
 pub use goo_core_list::list_shelf::ListShelf;
 pub use goo_core_rules::decision::Decision;
 pub use goo_core_shelf::account::Account;

@@ -55,6 +55,10 @@ impl Shelf for ListShelf {
         0
     }
 
+    fn probe(&mut self) -> Result<(), Fault> {
+        Ok(())
+    }
+
     fn registry(&mut self) -> Result<Meta, Fault> {
         Ok(self.own_meta())
     }

@@ -77,6 +77,10 @@ pub record Looks {T : Type 0} (old new : Moment) (result : Result T Fault) (righ
   pub stays : new.corruptions ≡ 0 → old.defects ≡ 0 → StaysSure old new
   pub crash : new.corruptions ≡ 0 → old.defects ≡ 0 → IsSafe new old.state
 
+-- where nothing was corrupted, a crash finds nothing that it would not have found before
+abbrev pub LeavesNoMore : Moment → Moment → Type 0
+LeavesNoMore old new = new.corruptions ≡ 0 → (o : Option State) → new.leaves o → old.leaves o
+
 -- all is as it was: the state, the rows, and what a crash finds
 pub record IsSpared (old new : Moment) : Type 0 where
   pub state : new.state ≡ old.state

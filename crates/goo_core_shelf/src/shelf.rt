@@ -34,7 +34,7 @@ use std::alloc::Global;
 /// holds while what lies below works, returns what was written, and nobody else writes there; for
 /// plain lists that is always.
 pub trait Shelf {
-    ghost use Rattle.std.specs.Prelude.{◌≡◌, IfOk};
+    ghost use Rattle.std.specs.Prelude.{◌≡◌, ⊤, IfOk};
     ghost use Rattle.std.specs.FinMap.{get, contains_key};
     ghost use Rattle.std.specs.List.{list_any};
     ghost use Rattle.goo_types.specs.Piece.{IsRising};
@@ -47,7 +47,8 @@ pub trait Shelf {
     ghost use Rattle.goo_spec_runs.specs.NextRun.{from_of};
     ghost use Rattle.goo_core_shelf.specs.Rows.{naming_account, next_row, next_expiring_row};
     ghost use Rattle.goo_core_shelf.specs.Rows.{EndsFrom};
-    ghost use Rattle.goo_core_shelf.specs.Shelf.{Moment, Looks, IsSafe, progress_of, IsRecordOf};
+    ghost use Rattle.goo_core_shelf.specs.Shelf.{Moment, Looks, LeavesNoMore, IsSafe};
+    ghost use Rattle.goo_core_shelf.specs.Shelf.{progress_of, IsRecordOf};
     ghost use Rattle.goo_core_shelf.specs.Shelf.{receipt_of, arrival_of, totals_of};
     ghost use Rattle.goo_core_shelf.specs.Plan.{Fits, Commits};
 
@@ -58,6 +59,19 @@ pub trait Shelf {
     /// shelf, and 1 from the first one on.
     fn refused_calls(&self) -> u64
         ensures { result ≡ (seen self.now).refusals };
+
+    /// Whether what lies below still answers. After `Memory` it may have failed too, which the fault
+    /// doesn't tell; this call does.
+    ///
+    /// `leaves`: it puts nothing where a crash finds it, even where a call failed before.
+    ///
+    /// # Errors
+    ///
+    /// `Store` where `refused_calls` is 1 as the call ends, `Memory` where memory was refused.
+    /// State and rows stay.
+    fn probe(&mut self) -> Result<(), Fault>
+        ensures looks { Looks (seen self.old) (seen self.new) result (λ _. ⊤) }
+        ensures leaves { LeavesNoMore (seen self.old) (seen self.new) };
 
     /// What the registry knows of itself, in one look-up.
     ///

@@ -1,7 +1,8 @@
 //! The answer to all the bytes of a stream: the request that they are goes to what answers it.
-ghost use Rattle.std.specs.Prelude.{◌≡◌, IfOk, OnErr};
+ghost use Rattle.std.specs.Prelude.{◌≡◌, ◌≢◌, IfOk, OnErr};
 ghost use Rattle.goo_desk_heads.specs.Requests.{seen as parts_seen, parts_of};
 ghost use Rattle.goo_desk_responses.specs.Responses.{response_text, fixed};
+ghost use Rattle.goo_core_shelf.specs.Crash.{FindsNoMore};
 ghost use Rattle.goo_spec.specs.Sound.{IsSound};
 ghost use Rattle.goo_desk_backend.specs.Tables.{ImportsAreRuns};
 ghost use Rattle.goo_desk_answers.specs.Brought.{BringsBy, BringsIn, FindsLed, FindsLeft};
@@ -141,7 +142,11 @@ fn answer_request<D: Backend>(
     }
 }
 
-/// The answer to all the bytes that a stream holds, by the routes of the registry.
+/// The answer to all the bytes that a stream holds, by the routes of the registry, once what keeps
+/// the records answers.
+///
+/// `shut`: where a call below failed before, nothing is put where a crash finds it. So a server may
+/// go on after a `Memory` under which a call failed too.
 ///
 /// # Errors
 ///
@@ -167,8 +172,12 @@ pub fn answer_by_routes<D: Backend>(
     ensures crash { ImportsAreRuns D.imports D.begins → (D.seen desk.new).corruptions ≡ 0
         → (D.seen desk.old).defects ≡ 0
         → FindsLeft (D.leaves desk.new) (D.seen desk.old).state bytes.now }
+    ensures shut { (D.seen desk.new).corruptions ≡ 0 → (D.seen desk.old).defects ≢ 0
+        → FindsNoMore (D.leaves desk.old) (D.leaves desk.new) }
 {
-    answer_request(alloc, routes, desk, &read_request(bytes))
+    let request = read_request(bytes);
+    desk.probe()?;
+    answer_request(alloc, routes, desk, &request)
 }
 
 /// The answer to all the bytes that a stream holds. The routes are made for it alone.

@@ -1,26 +1,21 @@
 -- What a crash finds once a server's connections were served.
-use Rattle.std.specs.Prelude.{◌≡◌, ◌+◌, ℕ, zero, suc, List, Option}
+use Rattle.std.specs.Prelude.{◌≡◌, ◌⊎◌, ◌+◌, ℕ, zero, suc, List, Option}
 use Rattle.goo_spec.specs.State.{State}
 use Rattle.goo_core_shelf.specs.Crash.{FindsOnly}
-use Rattle.goo_core_shelf.specs.Desk.{Seen, HasFailed}
+use Rattle.goo_core_shelf.specs.Desk.{Seen}
 use Rattle.goo_desk_backend.specs.Backends.{Showing, Importing, Beginning}
 use Rattle.goo_desk_server.specs.ConnectionDurable.{FindsHeard}
 use Rattle.goo_desk_server.specs.ConnectionServed.{Connects}
 use Rattle.goo_desk_server.specs.Serving.{Steps}
 
 module _ (shows : Showing) (imports : Importing) (begins : Beginning) (sends : ℕ → Option (List ℕ)) (was : ℕ) where
-  -- no call failed while these connections were served
-  abbrev pub NoneFailed : (count : ℕ) (first last : Seen) → Steps shows imports begins sends was count first last → Type 0
-  NoneFailed zero first last steps = Unit {0}
-  NoneFailed (suc count) first last (mid, steps, connects) = NoneFailed count first mid steps × ¬ HasFailed mid last
-
   -- A crash after so many connections finds what all of them leave, but of the last one's requests perhaps those alone that stand after a fault.
-  -- That is so unless there was a defect before the last one, which only a failed call brings.
+  -- Where a call had failed before the last one and left a defect, that one put nothing where a crash finds it: what the others leave is found.
   abbrev pub FindsAfter : ℕ → Seen → Seen → (Option State → Type 0) → Type 0
   FindsAfter zero first last leaves = FindsOnly leaves first.state
   FindsAfter (suc count) first last leaves =
-      (mid : Seen) × (steps : Steps shows imports begins sends was count first mid) × Connects shows imports begins (sends (was + count)) mid last
-      × (NoneFailed count first mid steps → mid.defects ≡ 0) × (mid.defects ≡ 0 → FindsHeard (sends (was + count)) leaves mid.state)
+      (mid : Seen) × Steps shows imports begins sends was count first mid × Connects shows imports begins (sends (was + count)) mid last
+      × (FindsAfter count first mid leaves ⊎ ((mid.defects ≡ 0) × FindsHeard (sends (was + count)) leaves mid.state))
 
   -- as many as were accepted meanwhile
   abbrev pub FindsTo : ℕ → Seen → Seen → (Option State → Type 0) → Type 0

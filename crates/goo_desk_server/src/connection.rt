@@ -1,10 +1,11 @@
 //! Serving one connection.
-ghost use Rattle.std.specs.Prelude.{◌≡◌, IfOk, IfErr, IfSome};
+ghost use Rattle.std.specs.Prelude.{◌≡◌, ◌≢◌, IfOk, IfErr, IfSome};
 ghost use Rattle.std.specs.Io.KnownBytes.{Keeps};
 ghost use Rattle.goo_desk_answers.specs.Brought.{FindsLeft};
 ghost use Rattle.goo_desk_server.specs.ConnectionDurable.{FindsHeard, SendsFound};
 ghost use Rattle.goo_desk_server.specs.ConnectionServed.{Connects, Leaves, Sends, SendsPart};
 ghost use Rattle.goo_desk_server.specs.ConnectionServed.{SendsExcuse};
+ghost use Rattle.goo_core_shelf.specs.Crash.{FindsNoMore};
 ghost use Rattle.goo_core_shelf.specs.Desk.{StaysSure};
 ghost use Rattle.goo_spec.specs.Sound.{IsSound};
 ghost use Rattle.goo_desk_backend.specs.Tables.{ImportsAreRuns};
@@ -66,6 +67,8 @@ fn serve_bytes<D: Backend, W: Write>(
     ensures crash { ImportsAreRuns D.imports D.begins → (D.seen desk.new).corruptions ≡ 0
         → (D.seen desk.old).defects ≡ 0
         → FindsLeft (D.leaves desk.new) (D.seen desk.old).state bytes.now }
+    ensures shut { (D.seen desk.new).corruptions ≡ 0 → (D.seen desk.old).defects ≢ 0
+        → FindsNoMore (D.leaves desk.old) (D.leaves desk.new) }
 {
     match answer_by_routes(alloc, routes, desk, bytes) {
         Ok(answer) => {
@@ -94,6 +97,7 @@ fn serve_bytes<D: Backend, W: Write>(
 /// what it tells. `connects`: there is no defect unless a call below failed (`stays`), so after a
 /// 503 with no failed call the state is known, and a crash finds it. `crash`: however it ends, a
 /// crash finds the state that some of the client's requests lead to.
+/// `shut`: where a call had failed before, nothing is put where a crash finds it.
 ///
 /// # Errors
 ///
@@ -139,6 +143,8 @@ pub fn serve_by_routes<D: Backend, R: Read, W: Write>(
     ensures crash { ImportsAreRuns D.imports D.begins → (D.seen desk.new).corruptions ≡ 0
         → (D.seen desk.old).defects ≡ 0
         → FindsHeard (R.remaining reader.old) (D.leaves desk.new) (D.seen desk.old).state }
+    ensures shut { (D.seen desk.new).corruptions ≡ 0 → (D.seen desk.old).defects ≢ 0
+        → FindsNoMore (D.leaves desk.old) (D.leaves desk.new) }
 {
     let bytes = read_decided(alloc, reader)?;
     serve_bytes(alloc, routes, desk, &bytes, writer)
@@ -151,6 +157,7 @@ pub fn serve_by_routes<D: Backend, R: Read, W: Write>(
 /// what it tells. `connects`: there is no defect unless a call below failed (`stays`), so after a
 /// 503 with no failed call the state is known, and a crash finds it. `crash`: however it ends, a
 /// crash finds the state that some of the client's requests lead to.
+/// `shut`: where a call had failed before, nothing is put where a crash finds it.
 ///
 /// # Errors
 ///
@@ -195,6 +202,8 @@ pub fn serve_one<D: Backend, R: Read, W: Write>(
     ensures crash { ImportsAreRuns D.imports D.begins → (D.seen desk.new).corruptions ≡ 0
         → (D.seen desk.old).defects ≡ 0
         → FindsHeard (R.remaining reader.old) (D.leaves desk.new) (D.seen desk.old).state }
+    ensures shut { (D.seen desk.new).corruptions ≡ 0 → (D.seen desk.old).defects ≢ 0
+        → FindsNoMore (D.leaves desk.old) (D.leaves desk.new) }
 {
     let Ok(routes) = Routes::new(alloc) else {
         return Err(ServeFault::Memory);

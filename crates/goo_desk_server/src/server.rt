@@ -1,7 +1,8 @@
 //! A listener's connections, one after another.
-ghost use Rattle.std.specs.Prelude.{◌≡◌, ◌++◌, ℕ, codes, decimal, OnOk};
+ghost use Rattle.std.specs.Prelude.{◌≡◌, ◌≢◌, ◌++◌, ℕ, codes, decimal, OnOk};
 ghost use Rattle.std.specs.Io.KnownBytes.{Appends};
 ghost use Rattle.goo_spec.specs.Sound.{IsSound};
+ghost use Rattle.goo_core_shelf.specs.Crash.{FindsNoMore};
 ghost use Rattle.goo_core_shelf.specs.Desk.{Seen};
 ghost use Rattle.goo_desk_server.specs.ConnectionDurable.{FindsHeard};
 ghost use Rattle.goo_desk_server.specs.ConnectionServed.{Connects};
@@ -69,6 +70,8 @@ fn serve_accepted<D: Backend, R: Read, W: Write>(
     ensures crash { ImportsAreRuns D.imports D.begins → (D.seen desk.new).corruptions ≡ 0
         → (D.seen desk.old).defects ≡ 0
         → FindsHeard (R.remaining reader.old) (D.leaves desk.new) (D.seen desk.old).state }
+    ensures shut { (D.seen desk.new).corruptions ≡ 0 → (D.seen desk.old).defects ≢ 0
+        → FindsNoMore (D.leaves desk.old) (D.leaves desk.new) }
 {
     match serve_by_routes(alloc, routes, desk, reader, writer) {
         Err(ServeFault::Store) => Err(ServerFault::Store),
@@ -169,9 +172,9 @@ fn announce_and_serve<D: Backend, L: Listener, W: Write>(
 /// - `promised`: what a registry promises after any list of requests holds of those that the
 ///   connections left applied. The bytes of each connection are those that its client sent, where
 ///   the listener tells them.
-/// - `found`: however it ends, a crash finds what the connections leave; of the last one's requests
-///   perhaps those alone that stand after a fault. So each answer that was sent is of a request
-///   that a crash finds, unless a call had failed before the last connection and left a defect.
+/// - `found`: however it ends, a crash finds what the connections leave; of the requests of the last
+///   one that reached the records perhaps those alone that stand after a fault. So each answer that
+///   was sent is of a request that a crash finds.
 ///
 /// # Errors
 ///

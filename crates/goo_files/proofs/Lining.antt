@@ -21,8 +21,7 @@ use Rattle.goo_core_reads.specs.Ahead.{IsSeen}
 use Rattle.goo_core_reads.specs.declared.run_place.RunPlace.{RunPlace}
 use Rattle.goo_types.specs.declared.fault.Fault.{Fault}
 use Rattle.goo_core_reads.proofs.Naming.{some_runs}
-use Rattle.goo_registry.specs.Reads.{account_denial}
-use Rattle.goo_registry.specs.AccountReads.{IsNextRunShown, IsRunRead}
+use Rattle.goo_registry.specs.AccountReads.{IsNextRunFound, IsRunRead}
 use Rattle.goo_registry.specs.Shown.{split_denial}
 use Rattle.goo_registry.specs.declared.read_fault.ReadFault.{ReadFault}
 use Rattle.goo_registry.specs.declared.read_fault.ReadFault.TheVariants.{NotAllowed, Unknown, Store, Memory}
@@ -57,13 +56,13 @@ pub record IsWell (m : Moment) : Type 0 where
   pub rows : m.defects ≡ 0 → AreRowsOf m.state.at m.rows
 
 -- what is found after what was seen of the rows ahead is right
-found_shown : (m : Moment) (caller : List ℕ) (account : ℕ) (place : RunPlace) (r : Result (Option Piece) Denial) → IsSeen account place.after m.rows place.ahead → IsRunRead m caller account place r → IsNextRunShown m.state caller account place.after r
-found_shown m caller account place (Ok found) seen is = (is.0, is.1 seen)
-found_shown m caller account place (Err why) seen is = is
+found_so : (m : Moment) (account : ℕ) (place : RunPlace) (r : Result (Option Piece) Denial) → IsSeen account place.after m.rows place.ahead → IsRunRead m account place r → IsNextRunFound m.state account place.after r
+found_so m account place (Ok found) seen is = is seen
+found_so m account place (Err why) seen is = is
 
-pub found_after : (a b : Moment) (caller : List ℕ) (account : ℕ) (place : RunPlace) (r : Result (Result (Option Piece) Denial) Fault) → (a.defects ≡ 0 → IsSeen account place.after a.rows place.ahead)
-    → Looks a b r (IsRunRead a caller account place) → Looks a b r (IsNextRunShown a.state caller account place.after)
-found_after a b caller account place r seen look = looked_as a b r (IsRunRead a caller account place) (IsNextRunShown a.state caller account place.after) look (λ none x is. found_shown a caller account place x (seen none) is)
+pub found_after : (a b : Moment) (account : ℕ) (place : RunPlace) (r : Result (Result (Option Piece) Denial) Fault) → (a.defects ≡ 0 → IsSeen account place.after a.rows place.ahead)
+    → Looks a b r (IsRunRead a account place) → Looks a b r (IsNextRunFound a.state account place.after)
+found_after a b account place r seen look = looked_as a b r (IsRunRead a account place) (IsNextRunFound a.state account place.after) look (λ none x is. found_so a account place x (seen none) is)
 
 -- what was seen after a run still is
 pub seen_on : (a b : Moment) (account last : ℕ) (after : Option ℕ) (ahead : Option Piece) → after ≡ Some last → (b.defects ≡ 0 → b.rows ≡ a.rows) → (b.defects ≡ 0 → IsSeen account (Some last) a.rows ahead) → b.defects ≡ 0 → IsSeen account after b.rows ahead
@@ -97,41 +96,41 @@ module _ {T : Type 0} (line : Piece → List ℕ) (sum : List Piece → T) where
   kept_none (Some a) = refl
 
   -- what was found is said of the first state as well
-  shown_at : (s t : State) (caller : List ℕ) (account : ℕ) (after : Option ℕ) (r : Result (Option Piece) Denial) → s ≡ t → IsNextRunShown s caller account after r → IsNextRunShown t caller account after r
-  shown_at s t caller account after r same shown = subst (λ (u : State). IsNextRunShown u caller account after r) same shown
+  found_at : (s t : State) (account : ℕ) (after : Option ℕ) (r : Result (Option Piece) Denial) → s ≡ t → IsNextRunFound s account after r → IsNextRunFound t account after r
+  found_at s t account after r same found = subst (λ (u : State). IsNextRunFound u account after r) same found
 
-  module _ (old mid new : Moment) (before at : Option (List ℕ)) (caller : List ℕ) (account : ℕ) (after : Option ℕ) (total : T) (going : IsGoing old mid before at account (from_of after) total) where
-    begun_run : (more : T → Piece → T) → ((ps : List Piece) (p : Piece) → sum (ps ++ p ∷ []) ≡ more (sum ps) p) → (later : Option (List ℕ)) (p : Piece) → BeginsFrom (from_of after) p → IsNextRunShown old.state caller account after (Ok (Some p)) → Appends at later (line p) → IsBegun old.state account (from_of after) total before at
+  module _ (old mid new : Moment) (before at : Option (List ℕ)) (account : ℕ) (after : Option ℕ) (total : T) (going : IsGoing old mid before at account (from_of after) total) where
+    begun_run : (more : T → Piece → T) → ((ps : List Piece) (p : Piece) → sum (ps ++ p ∷ []) ≡ more (sum ps) p) → (later : Option (List ℕ)) (p : Piece) → BeginsFrom (from_of after) p → IsNextRunFound old.state account after (Ok (Some p)) → Appends at later (line p) → IsBegun old.state account (from_of after) total before at
         → IsBegun old.state account (p.last + 1) (more total p) before later
-    begun_run more adds later p begins shown wrote b = record {
+    begun_run more adds later p begins found wrote b = record {
       all = b.all;
       are_runs = b.are_runs;
       done = b.done ++ p ∷ [];
-      walk = walk_on (kept_where (names account) (get old.state.at)) b.all (from_of after) b.done p begins b.walk shown.1;
+      walk = walk_on (kept_where (names account) (get old.state.at)) b.all (from_of after) b.done p begins b.walk found;
       written = subst (Appends before later) (sym (lines-last line b.done p)) (appends-more before at later (flat_map line b.done) (line p) b.written wrote);
       summed = ap (λ t. more t p) b.summed ∙ sym (adds b.done p);
     }
 
     -- one more run was written
-    pub going_on : (more : T → Piece → T) → ((ps : List Piece) (p : Piece) → sum (ps ++ p ∷ []) ≡ more (sum ps) p) → (later : Option (List ℕ)) (p : Piece) → BeginsFrom (from_of after) p → Looks mid new (Ok (Ok (Some p))) (IsNextRunShown mid.state caller account after) → Appends at later (line p)
+    pub going_on : (more : T → Piece → T) → ((ps : List Piece) (p : Piece) → sum (ps ++ p ∷ []) ≡ more (sum ps) p) → (later : Option (List ℕ)) (p : Piece) → BeginsFrom (from_of after) p → Looks mid new (Ok (Ok (Some p))) (IsNextRunFound mid.state account after) → Appends at later (line p)
         → IsGoing old new before later account (p.last + 1) (more total p)
     going_on more adds later p begins look wrote = record {
-      looks = chain_ok old mid new tt (λ (u : Unit {0}). ⊤) going.looks (Ok (Some p)) (IsNextRunShown mid.state caller account after) tt look;
+      looks = chain_ok old mid new tt (λ (u : Unit {0}). ⊤) going.looks (Ok (Some p)) (IsNextRunFound mid.state account after) tt look;
       begun = λ none.
           let sure = look.defects_stay none in
-          begun_run more adds later p begins (shown_at mid.state old.state caller account after (Ok (Some p)) (going.looks.same sure) (look.found none)) wrote (going.begun sure);
+          begun_run more adds later p begins (found_at mid.state old.state account after (Ok (Some p)) (going.looks.same sure) (look.found none)) wrote (going.begun sure);
     }
 
     -- all were
-    pub going_ends : Looks mid new (Ok (Ok None)) (IsNextRunShown mid.state caller account after) → Writes old new before at (Ok total) None (AreLines line sum old.state account)
+    pub going_ends : Looks mid new (Ok (Ok None)) (IsNextRunFound mid.state account after) → Writes old new before at (Ok total) None (AreLines line sum old.state account)
     going_ends look = record {
-      looks = chain_ok old mid new tt (λ (u : Unit {0}). ⊤) going.looks (Ok None) (IsNextRunShown mid.state caller account after) tt look;
+      looks = chain_ok old mid new tt (λ (u : Unit {0}). ⊤) going.looks (Ok None) (IsNextRunFound mid.state account after) tt look;
       shown = λ none. refl;
       whole = λ none.
           let sure = look.defects_stay none in
           let b = going.begun sure in
-          let shown = shown_at mid.state old.state caller account after (Ok None) (going.looks.same sure) (look.found none) in
-          let same : b.all ≡ b.done = walk_end (kept_where (names account) (get old.state.at)) b.all (from_of after) b.done b.walk shown.1 in
+          let found = found_at mid.state old.state account after (Ok None) (going.looks.same sure) (look.found none) in
+          let same : b.all ≡ b.done = walk_end (kept_where (names account) (get old.state.at)) b.all (from_of after) b.done b.walk found in
           (flat_map line b.all, record { runs = b.all; are_runs = b.are_runs; is = refl; summed = b.summed ∙ ap sum (sym same) }, subst (λ l. Appends before at (flat_map line l)) (sym same) b.written);
       denied = λ none. tt;
       silent = λ none. tt;
@@ -150,10 +149,10 @@ module _ {T : Type 0} (line : Piece → List ℕ) (sum : List Piece → T) where
         )
 
     -- and so they are with a beginning of the next line
-    begun_part : (later : Option (List ℕ)) (p : Piece) → BeginsFrom (from_of after) p → IsNextRunShown old.state caller account after (Ok (Some p)) → IsBegun old.state account (from_of after) total before at → AppendsPrefix at later (line p)
+    begun_part : (later : Option (List ℕ)) (p : Piece) → BeginsFrom (from_of after) p → IsNextRunFound old.state account after (Ok (Some p)) → IsBegun old.state account (from_of after) total before at → AppendsPrefix at later (line p)
         → Began before later (λ t. (c : T) × AreLines line sum old.state account c t)
-    begun_part later p begins shown b part =
-        let on = walk_on (kept_where (names account) (get old.state.at)) b.all (from_of after) b.done p begins b.walk shown.1 in
+    begun_part later p begins found b part =
+        let on = walk_on (kept_where (names account) (get old.state.at)) b.all (from_of after) b.done p begins b.walk found in
         let lines : flat_map line b.all ≡ (flat_map line b.done ++ line p) ++ flat_map line on.rest =
         ap (flat_map line) on.order ∙ flat_map-append line (b.done ++ p ∷ []) on.rest ∙ ap (λ t. t ++ flat_map line on.rest) (lines-last line b.done p) in
         inr (
@@ -163,10 +162,10 @@ module _ {T : Type 0} (line : Piece → List ℕ) (sum : List Piece → T) where
         )
 
     -- the writer failed
-    pub going_cut : (later : Option (List ℕ)) (p : Piece) → BeginsFrom (from_of after) p → Looks mid new (Ok (Ok (Some p))) (IsNextRunShown mid.state caller account after) → AppendsPrefix at later (line p)
+    pub going_cut : (later : Option (List ℕ)) (p : Piece) → BeginsFrom (from_of after) p → Looks mid new (Ok (Ok (Some p))) (IsNextRunFound mid.state account after) → AppendsPrefix at later (line p)
         → Writes {T = T} old new before later (Err text.Write) None (AreLines line sum old.state account)
     going_cut later p begins look part = record {
-      looks = chain_ok old mid new tt (λ (u : Unit {0}). ⊤) going.looks (Ok (Some p)) (IsNextRunShown mid.state caller account after) tt look;
+      looks = chain_ok old mid new tt (λ (u : Unit {0}). ⊤) going.looks (Ok (Some p)) (IsNextRunFound mid.state account after) tt look;
       shown = λ none. tt;
       whole = λ none. tt;
       denied = λ none. refl;
@@ -175,38 +174,32 @@ module _ {T : Type 0} (line : Piece → List ℕ) (sum : List Piece → T) where
       begun = λ late none off.
           let sure = look.works late in
           let was = look.defects_stay sure in
-          begun_part later p begins (shown_at mid.state old.state caller account after (Ok (Some p)) (going.looks.same was) (look.found sure)) (going.begun was) part;
+          begun_part later p begins (found_at mid.state old.state account after (Ok (Some p)) (going.looks.same was) (look.found sure)) (going.begun was) part;
     }
-
-    -- a caller who was shown the account before isn't denied it now
-    not_denied : (why : Denial) → (mid.defects ≡ 0 → account_denial caller (get old.state.accounts account) ≡ None) → mid.defects ≡ 0 → IsNextRunShown mid.state caller account after (Err why) → ⊥
-    not_denied why shown sure denied =
-        let now : account_denial caller (get old.state.accounts account) ≡ Some why = shown_at mid.state old.state caller account after (Err why) (going.looks.same sure) denied in
-        let clash : None ≡ Some why = sym (shown sure) ∙ now in cc
 
     -- what keeps the records failed
-    pub going_fails : (mid.defects ≡ 0 → account_denial caller (get old.state.accounts account) ≡ None) → (fault : ReadFault) → Looks mid new (split_denial {T = Option Piece} (Err fault)) (IsNextRunShown mid.state caller account after)
+    pub going_fails : (fault : ReadFault) → Looks mid new (split_denial {T = Option Piece} (Err fault)) (IsNextRunFound mid.state account after)
         → Writes {T = T} old new before at (Err (of_read fault)) None (AreLines line sum old.state account)
-    going_fails shown NotAllowed look = record {
-      looks = chain_ok old mid new tt (λ (u : Unit {0}). ⊤) going.looks (Err denial.NotAllowed) (IsNextRunShown mid.state caller account after) tt look;
+    going_fails NotAllowed look = record {
+      looks = chain_ok old mid new tt (λ (u : Unit {0}). ⊤) going.looks (Err denial.NotAllowed) (IsNextRunFound mid.state account after) tt look;
       shown = λ none. tt;
       whole = λ none. tt;
-      denied = λ none. absurd (not_denied denial.NotAllowed shown (look.defects_stay none) (look.found none));
-      silent = λ none off. absurd (not_denied denial.NotAllowed shown (look.defects_stay none) (look.found none));
+      denied = λ none. absurd (look.found none);
+      silent = λ none off. absurd (look.found none);
       unseen = λ late. tt;
       begun = λ late none off. absurd off;
     }
-    going_fails shown Unknown look = record {
-      looks = chain_ok old mid new tt (λ (u : Unit {0}). ⊤) going.looks (Err denial.Unknown) (IsNextRunShown mid.state caller account after) tt look;
+    going_fails Unknown look = record {
+      looks = chain_ok old mid new tt (λ (u : Unit {0}). ⊤) going.looks (Err denial.Unknown) (IsNextRunFound mid.state account after) tt look;
       shown = λ none. tt;
       whole = λ none. tt;
-      denied = λ none. absurd (not_denied denial.Unknown shown (look.defects_stay none) (look.found none));
-      silent = λ none off. absurd (not_denied denial.Unknown shown (look.defects_stay none) (look.found none));
+      denied = λ none. absurd (look.found none);
+      silent = λ none off. absurd (look.found none);
       unseen = λ late. tt;
       begun = λ late none off. absurd off;
     }
-    going_fails shown Store look = record {
-      looks = chain_err old mid new tt (λ (u : Unit {0}). ⊤) going.looks fault.Store (IsNextRunShown mid.state caller account after) look;
+    going_fails Store look = record {
+      looks = chain_err old mid new tt (λ (u : Unit {0}). ⊤) going.looks fault.Store (IsNextRunFound mid.state account after) look;
       shown = λ none. tt;
       whole = λ none. tt;
       denied = λ none. tt;
@@ -214,8 +207,8 @@ module _ {T : Type 0} (line : Piece → List ℕ) (sum : List Piece → T) where
       unseen = λ late. tt;
       begun = λ late none off. begun_prefix at (going.begun (going.looks.works (look.corruptions_stay late))) (kept_none at);
     }
-    going_fails shown Memory look = record {
-      looks = chain_err old mid new tt (λ (u : Unit {0}). ⊤) going.looks fault.Memory (IsNextRunShown mid.state caller account after) look;
+    going_fails Memory look = record {
+      looks = chain_err old mid new tt (λ (u : Unit {0}). ⊤) going.looks fault.Memory (IsNextRunFound mid.state account after) look;
       shown = λ none. tt;
       whole = λ none. tt;
       denied = λ none. tt;
@@ -225,10 +218,10 @@ module _ {T : Type 0} (line : Piece → List ℕ) (sum : List Piece → T) where
     }
 
     -- the row wasn't written
-    going_full : (later : Option (List ℕ)) (p : Piece) → BeginsFrom (from_of after) p → Looks mid new (Ok (Ok (Some p))) (IsNextRunShown mid.state caller account after) → AppendsPrefix at later (line p)
+    going_full : (later : Option (List ℕ)) (p : Piece) → BeginsFrom (from_of after) p → Looks mid new (Ok (Ok (Some p))) (IsNextRunFound mid.state account after) → AppendsPrefix at later (line p)
         → Writes {T = T} old new before later (Err text.Memory) None (AreLines line sum old.state account)
     going_full later p begins look part =
-        let ok = chain_ok {V = Unit {0}} old mid new tt (λ (u : Unit {0}). ⊤) going.looks (Ok (Some p)) (IsNextRunShown mid.state caller account after) tt look in
+        let ok = chain_ok {V = Unit {0}} old mid new tt (λ (u : Unit {0}). ⊤) going.looks (Ok (Some p)) (IsNextRunFound mid.state account after) tt look in
         record {
           looks = full old new tt ok;
           shown = λ none. tt;
@@ -239,10 +232,10 @@ module _ {T : Type 0} (line : Piece → List ℕ) (sum : List Piece → T) where
           begun = λ late none off.
               let sure = look.works late in
               let was = look.defects_stay sure in
-              begun_part later p begins (shown_at mid.state old.state caller account after (Ok (Some p)) (going.looks.same was) (look.found sure)) (going.begun was) part;
+              begun_part later p begins (found_at mid.state old.state account after (Ok (Some p)) (going.looks.same was) (look.found sure)) (going.begun was) part;
         }
 
-    pub going_broken : (later : Option (List ℕ)) (p : Piece) (f : ShowFault) → IsRowFault f → BeginsFrom (from_of after) p → Looks mid new (Ok (Ok (Some p))) (IsNextRunShown mid.state caller account after) → AppendsPrefix at later (line p)
+    pub going_broken : (later : Option (List ℕ)) (p : Piece) (f : ShowFault) → IsRowFault f → BeginsFrom (from_of after) p → Looks mid new (Ok (Ok (Some p))) (IsNextRunFound mid.state account after) → AppendsPrefix at later (line p)
         → Writes {T = T} old new before later (Err f) None (AreLines line sum old.state account)
     going_broken later p text.NotAllowed is begins look part = absurd is
     going_broken later p text.Unknown is begins look part = absurd is

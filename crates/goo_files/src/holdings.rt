@@ -80,21 +80,17 @@ fn write_header<W: Write>(alloc: Global, writer: &mut W) -> Result<(), ShowFault
 fn write_rows<S: Shelf, W: Write>(
     alloc: Global,
     registry: &mut Registry<S>,
-    caller: &HolderCode,
     account: AccountNo,
     writer: &mut W,
 ) -> Result<(), ShowFault>
     requires ready { IsReady (S.seen registry.old.shelf) }
-    requires shown { (S.seen registry.old.shelf).defects ≡ 0
-        → account_denial caller.now (get (S.seen registry.old.shelf).state.accounts account)
-        ≡ None }
     ensures { Writes (S.seen registry.old.shelf) (S.seen registry.new.shelf) (W.contents writer.old)
         (W.contents writer.new) result None
         (AreHeldRows (S.seen registry.old.shelf).state account) }
 {
     let mut place = RunPlace::after(None);
     loop {
-        match registry.read_run(caller, account, &mut place) {
+        match registry.read_run(account, &mut place) {
             Ok(Some(run)) => {
                 if let Err(fault) = write_row(alloc, writer, &run) {
                     return Err(fault);
@@ -134,5 +130,5 @@ pub fn write_holdings_csv<S: Shelf, W: Write>(
     if let Err(fault) = write_header(alloc, writer) {
         return Err(fault);
     }
-    write_rows(alloc, registry, caller, account, writer)
+    write_rows(alloc, registry, account, writer)
 }

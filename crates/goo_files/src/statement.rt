@@ -23,14 +23,10 @@ use std::io::Write;
 /// Writes a line for each run of an account's certificates, read one at a time, and counts them.
 fn write_runs<S: Shelf, W: Write>(
     registry: &mut Registry<S>,
-    caller: &HolderCode,
     account: AccountNo,
     writer: &mut W,
 ) -> Result<Counts, ShowFault>
     requires ready { IsReady (S.seen registry.old.shelf) }
-    requires shown { (S.seen registry.old.shelf).defects ≡ 0
-        → account_denial caller.now (get (S.seen registry.old.shelf).state.accounts account)
-        ≡ None }
     ensures { Writes (S.seen registry.old.shelf) (S.seen registry.new.shelf) (W.contents writer.old)
         (W.contents writer.new) result None
         (AreRunLines (S.seen registry.old.shelf).state account) }
@@ -38,7 +34,7 @@ fn write_runs<S: Shelf, W: Write>(
     let mut counts = Counts::none();
     let mut place = RunPlace::after(None);
     loop {
-        match registry.read_run(caller, account, &mut place) {
+        match registry.read_run(account, &mut place) {
             Ok(Some(run)) => {
                 if write_line(writer, &statement_line(&run)).is_err() {
                     return Err(ShowFault::Write);
@@ -100,7 +96,7 @@ pub fn write_statement<S: Shelf, W: Write>(
     if write_head(writer, &heading).is_err() {
         return Err(ShowFault::Write);
     }
-    let counts = match write_runs(registry, caller, account, writer) {
+    let counts = match write_runs(registry, account, writer) {
         Ok(counts) => counts,
         Err(fault) => return Err(fault),
     };

@@ -4,9 +4,21 @@ use Rattle.goo_core_shelf.specs.Desk as desk
 use Rattle.goo_types.specs.declared.fault.Fault.{Fault}
 use Rattle.goo_types.specs.declared.outcome.Outcome.{Outcome}
 use Rattle.goo_types.specs.declared.request.Request.{Request}
-use Rattle.goo_core_shelf.specs.Shelf.{Moment}
+use Rattle.std.specs.Prelude.{⊤}
+use Rattle.goo_core_shelf.specs.Shelf.{Moment, Looks}
 use Rattle.goo_registry.specs.Applying.{Applies}
 use Rattle.goo_registry.specs.Desks.{seen_of}
+
+-- a probe of what keeps the records, as the desk's
+pub probed : (old new : Moment) (result : Result (Unit {0}) Fault) → Looks old new result (λ _. ⊤) → desk.Probes (seen_of old) (seen_of new) result
+probed old new result look = record {
+  same = look.same;
+  works = look.works;
+  defects_stay = look.defects_stay;
+  corruptions_stay = look.corruptions_stay;
+  told = look.told;
+  stays = λ honest sure. record { counts = (look.stays honest sure).counts; sure = (look.stays honest sure).sure };
+}
 
 pub applied : (old new : Moment) (result : Result Outcome Fault) (q : Request) → Applies old new result q → desk.Applies (seen_of old) (seen_of new) q result
 applied old new result q done = record {

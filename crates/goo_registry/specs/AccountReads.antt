@@ -33,7 +33,17 @@ abbrev pub IsNextRunShown : State → List ℕ → ℕ → Option ℕ → Result
 IsNextRunShown s caller account after (Err denial) = account_denial caller (get s.accounts account) ≡ Some denial
 IsNextRunShown s caller account after (Ok found) = (account_denial caller (get s.accounts account) ≡ None) × IsNextRun (kept_where (names account) (get s.at)) (from_of after) found
 
--- the same after a place, where the row ahead is the one that it says; who may see the account doesn't hang on that
-abbrev pub IsRunRead : Moment → List ℕ → ℕ → RunPlace → Result (Option Piece) Denial → Type 0
-IsRunRead m caller account place (Err denial) = account_denial caller (get m.state.accounts account) ≡ Some denial
-IsRunRead m caller account place (Ok found) = (account_denial caller (get m.state.accounts account) ≡ None) × (IsSeen account place.after m.rows place.ahead → IsNextRun (kept_where (names account) (get m.state.at)) (from_of place.after) found)
+-- the same where access was asked before: nobody is denied it
+abbrev pub IsNextRunFound : State → ℕ → Option ℕ → Result (Option Piece) Denial → Type 0
+IsNextRunFound s account after (Err denial) = ⊥
+IsNextRunFound s account after (Ok found) = IsNextRun (kept_where (names account) (get s.at)) (from_of after) found
+
+-- and after a place, where the row ahead is the one that it says
+abbrev pub IsRunRead : Moment → ℕ → RunPlace → Result (Option Piece) Denial → Type 0
+IsRunRead m account place (Err denial) = ⊥
+IsRunRead m account place (Ok found) = IsSeen account place.after m.rows place.ahead → IsNextRun (kept_where (names account) (get m.state.at)) (from_of place.after) found
+
+-- the same for a caller: who may see the account doesn't hang on the row ahead
+abbrev pub IsRunShown : Moment → List ℕ → ℕ → RunPlace → Result (Option Piece) Denial → Type 0
+IsRunShown m caller account place (Err denial) = account_denial caller (get m.state.accounts account) ≡ Some denial
+IsRunShown m caller account place (Ok found) = (account_denial caller (get m.state.accounts account) ≡ None) × (IsSeen account place.after m.rows place.ahead → IsNextRun (kept_where (names account) (get m.state.at)) (from_of place.after) found)

@@ -6,7 +6,8 @@ ghost use Rattle.goo_ranges_rows.specs.Rows.{AreRowsOf};
 ghost use Rattle.goo_spec.specs.Sound.{IsSound};
 ghost use Rattle.goo_core_shelf.specs.Shelf.{Looks, IsReady};
 ghost use Rattle.goo_spec_runs.specs.NextRun.{from_of, BeginsFrom};
-ghost use Rattle.goo_registry.specs.AccountReads.{IsAccountShown, IsHeadingShown, IsRunRead};
+ghost use Rattle.goo_registry.specs.AccountReads.{IsAccountShown, IsHeadingShown};
+ghost use Rattle.goo_registry.specs.AccountReads.{IsRunRead, IsRunShown};
 
 use crate::access::{absent_denial, account_denial};
 use crate::heading::Heading;
@@ -68,6 +69,39 @@ pub fn find_heading<S: Shelf>(
     }))
 }
 
+/// The first run of an account's certificates after what was read, whoever asks. The place then lies
+/// after it, and where it lay if there is none.
+///
+/// # Errors
+///
+/// `Store` where the shelf answers it, `Memory` where memory was refused. State, rows and place
+/// stay as they are.
+pub fn find_run_after<S: Shelf>(
+    shelf: &mut S,
+    account: AccountNo,
+    place: &mut RunPlace,
+) -> Result<Result<Option<Piece>, Denial>, Fault>
+    requires rows { (S.seen shelf.old).defects ≡ 0
+        → AreRowsOf (S.seen shelf.old).state.at (S.seen shelf.old).rows }
+    requires sound { (S.seen shelf.old).defects ≡ 0 → IsSound (S.seen shelf.old).state }
+    ensures looks { Looks (S.seen shelf.old) (S.seen shelf.new) result
+        (IsRunRead (S.seen shelf.old) account place.old) }
+    ensures begins { IfOk result
+        (λ shown. IfOk shown (λ found. IfSome found (BeginsFrom (from_of place.old.after)))) }
+    ensures place { IfOk result
+        (λ shown. IfOk shown (λ found. IsPlaceAfter place.old found place.new)) }
+    ensures denied { IfOk result (λ shown. OnErr shown (place.new ≡ place.old)) }
+    ensures stays { OnErr result (place.new ≡ place.old) }
+    ensures ahead { (S.seen shelf.new).defects ≡ 0
+        → IfOk result
+        (λ shown. IfOk shown
+        (λ found. IfSome found
+        (λ run. IsSeen account (Some run.last) (S.seen shelf.old).rows place.new.ahead))) }
+{
+    let found = next_run_naming(shelf, account, place)?;
+    Ok(Ok(found))
+}
+
 /// The first run of an account's certificates after what was read, or why it isn't shown. The place
 /// then lies after it, and where it lay if there is none.
 ///
@@ -86,7 +120,7 @@ pub fn find_next_run<S: Shelf>(
         → AreRowsOf (S.seen shelf.old).state.at (S.seen shelf.old).rows }
     requires sound { (S.seen shelf.old).defects ≡ 0 → IsSound (S.seen shelf.old).state }
     ensures looks { Looks (S.seen shelf.old) (S.seen shelf.new) result
-        (IsRunRead (S.seen shelf.old) caller.now account place.old) }
+        (IsRunShown (S.seen shelf.old) caller.now account place.old) }
     ensures begins { IfOk result
         (λ shown. IfOk shown (λ found. IfSome found (BeginsFrom (from_of place.old.after)))) }
     ensures place { IfOk result
@@ -102,6 +136,5 @@ pub fn find_next_run<S: Shelf>(
     if let Err(denial) = find_account(shelf, caller, account)? {
         return Ok(Err(denial));
     }
-    let found = next_run_naming(shelf, account, place)?;
-    Ok(Ok(found))
+    find_run_after(shelf, account, place)
 }

@@ -1,6 +1,6 @@
 //! A registry over what keeps its records: requests, and what may be read of it.
 
-ghost use Rattle.std.specs.Prelude.{◌≡◌, Some, IfOk, IfSome, OnErr};
+ghost use Rattle.std.specs.Prelude.{◌≡◌, ⊤, Some, IfOk, IfSome, OnErr};
 ghost use Rattle.goo_ranges_rows.specs.Rows.{AreRowsOf, rows-prop};
 ghost use Rattle.goo_spec.specs.Balanced.{IsBalanced};
 ghost use Rattle.goo_spec.specs.Promise.{HaveTheirPlace, AreThoseBrought};
@@ -11,7 +11,7 @@ ghost use Rattle.goo_spec_final.specs.Final.{IsForGood};
 ghost use Rattle.goo_spec_idle.specs.Idle.{OthersMakeNoDifference};
 ghost use Rattle.goo_spec_independent.specs.Independent.{IsIndependent};
 ghost use Rattle.goo_spec.specs.Sound.{IsSound};
-ghost use Rattle.goo_core_shelf.specs.Shelf.{Spares};
+ghost use Rattle.goo_core_shelf.specs.Shelf.{LeavesNoMore, Looks, Spares};
 ghost use Rattle.goo_registry.specs.Applying.{Applies};
 ghost use Rattle.goo_registry.specs.Running.{Runs, RunsAsOne, answered, answers};
 ghost use Rattle.goo_registry.specs.Shown.{Shows, split_denial};
@@ -21,7 +21,7 @@ ghost use Rattle.goo_registry.specs.AccountReads.{IsHeadingShown, IsNextRunShown
 ghost use Rattle.goo_registry.specs.Reads.{place_shown, notice_shown, AreHoldings};
 ghost use Rattle.goo_registry.specs.Reads.{IsCancellationShown, IsAudit};
 
-use crate::account_reads::{find_heading, find_next_run};
+use crate::account_reads::{find_heading, find_next_run, find_run_after};
 use crate::apply::carry_out;
 use crate::cancellation::find_cancellation;
 use crate::cancellation_statement::CancellationStatement;
@@ -88,6 +88,22 @@ impl<S: Shelf> Registry<S> {
     {
         let Registry { shelf } = self;
         shelf
+    }
+
+    /// Whether what keeps the records still answers. After `Memory` it may have failed too, which
+    /// the fault doesn't tell; this call does.
+    ///
+    /// `leaves`: it puts nothing where a crash finds it, even where a call failed before.
+    ///
+    /// # Errors
+    ///
+    /// `Store` where what lies below refused a call, `Memory` where memory was refused. The
+    /// registry stays as it is.
+    pub fn probe(&mut self) -> Result<(), Fault>
+        ensures looks { Looks (S.seen self.old.shelf) (S.seen self.new.shelf) result (λ _. ⊤) }
+        ensures leaves { LeavesNoMore (S.seen self.old.shelf) (S.seen self.new.shelf) }
+    {
+        self.shelf.probe()
     }
 
     /// Applies one request. A refused and a repeated request change nothing; an accepted one is
@@ -276,23 +292,24 @@ impl<S: Shelf> Registry<S> {
         read_result(find_next_run(&mut self.shelf, caller, account, &mut place))
     }
 
-    /// The same, after what was read before; the place then lies after the run, and where it lay if
+    /// The first run after what was read before; the place then lies after it, and where it lay if
     /// there is none. Called with a new place until it gives None, it gives all runs, and holds no
     /// more than two rows at a time. Of a registry that changed meanwhile, the row ahead may be
     /// gone: begin with a new place then.
     ///
+    /// It asks nobody's right: [`heading`](Registry::heading) does, once for all runs.
+    ///
     /// # Errors
     ///
-    /// Those of [`next_run`](Registry::next_run). The registry stays as it is, and so does the
-    /// place.
+    /// `Store` where what lies below refused a call, `Memory` where memory was refused. The
+    /// registry stays as it is, and so does the place.
     pub fn read_run(
         &mut self,
-        caller: &HolderCode,
         account: AccountNo,
         place: &mut RunPlace,
     ) -> Result<Option<Piece>, ReadFault>
         ensures shows { Shows (S.seen self.old.shelf) (S.seen self.new.shelf) result
-            (IsRunRead (S.seen self.old.shelf) caller.now account place.old) }
+            (IsRunRead (S.seen self.old.shelf) account place.old) }
         ensures begins { IfOk result
             (λ found. IfSome found (BeginsFrom (from_of place.old.after))) }
         ensures place { IfOk result (λ found. IsPlaceAfter place.old found place.new) }
@@ -302,7 +319,7 @@ impl<S: Shelf> Registry<S> {
             (λ found. IfSome found
             (λ run. IsSeen account (Some run.last) (S.seen self.old.shelf).rows place.new.ahead)) }
     {
-        read_result(find_next_run(&mut self.shelf, caller, account, place))
+        read_result(find_run_after(&mut self.shelf, account, place))
     }
 
     /// A cancellation: its record, its holder and its certificates. It is shown to the issuing body

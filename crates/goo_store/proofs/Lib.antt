@@ -22,3 +22,4 @@ pub mod Edges
 pub mod NewNumbers
 pub mod Pages
 pub mod Reopened
+pub mod Probing

@@ -23,7 +23,7 @@ use sqlite::{Alter, Error};
 use std::alloc::Global;
 use std::mem;
 
-/// How a commit ended.
+/// How a call of the database ended that shows no rows.
 pub(crate) fn ending(made: Result<(), Error>) -> Result<(), StatementFault>
     ensures passes { PassesOn made result }
     ensures cause { IfErr made (λ error. IfErr result (IsStatementFaultOf error)) }

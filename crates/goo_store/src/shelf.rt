@@ -26,6 +26,7 @@ use goo_tables::lot::find_lot;
 use goo_tables::notice_in::find_notice_in;
 use goo_tables::notice_out::find_notice_out;
 use goo_tables::peer::find_peer;
+use goo_tables::probe::probe;
 use goo_tables::receipt::find_receipt;
 use goo_tables_accounts::account::find_account;
 use goo_tables_accounts::joined::pieces_of_account;
@@ -50,7 +51,7 @@ use sqlite::Alter;
 use std::alloc::Global;
 
 impl<S: Alter> Shelf for SqlShelf<S> {
-    ghost use Rattle.std.specs.Prelude.{◌≡◌, IfOk, IfSome};
+    ghost use Rattle.std.specs.Prelude.{◌≡◌, ⊤, IfOk, IfSome};
     ghost use Rattle.std.specs.FinMap.{get, contains_key};
     ghost use Rattle.std.specs.List.{list_any};
     ghost use Rattle.goo_types.specs.Piece.{IsRising};
@@ -62,8 +63,8 @@ impl<S: Alter> Shelf for SqlShelf<S> {
     ghost use Rattle.goo_spec_runs.specs.NextRun.{from_of};
     ghost use Rattle.goo_core_shelf.specs.Rows.{naming_account, next_row, next_expiring_row};
     ghost use Rattle.goo_core_shelf.specs.Rows.{EndsFrom};
-    ghost use Rattle.goo_core_shelf.specs.Shelf.{Looks, progress_of, IsRecordOf, receipt_of};
-    ghost use Rattle.goo_core_shelf.specs.Shelf.{arrival_of, totals_of};
+    ghost use Rattle.goo_core_shelf.specs.Shelf.{Looks, LeavesNoMore, progress_of, IsRecordOf};
+    ghost use Rattle.goo_core_shelf.specs.Shelf.{receipt_of, arrival_of, totals_of};
     ghost use Rattle.goo_core_shelf.specs.Plan.{Fits, Commits};
     ghost use Rattle.goo_store.specs.Gathering.{CanCarryOut};
     ghost use Rattle.goo_store_judge.specs.Holding.{safe, sure};
@@ -73,6 +74,23 @@ impl<S: Alter> Shelf for SqlShelf<S> {
 
     fn refused_calls(&self) -> u64 {
         self.count_refused()
+    }
+
+    // While the last statement was answered, the database is open, and nothing is asked.
+    fn probe(&mut self) -> Result<(), Fault>
+        ensures looks { Looks (seen_by self.old) (seen_by self.new) result (λ _. ⊤) }
+        ensures leaves { LeavesNoMore (seen_by self.old) (seen_by self.new) }
+        ensures store { Blames self.old self.new result }
+    {
+        if self.refused {
+            return Err(Fault::Store);
+        }
+        if self.cache.answered {
+            return Ok(());
+        }
+        let probed = probe(&mut self.conn);
+        self.cache.answered = probed.is_ok();
+        note_fault(ending(probed), &mut self.refused)
     }
 
     fn registry(&mut self) -> Result<Meta, Fault>

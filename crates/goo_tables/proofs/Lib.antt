@@ -15,6 +15,7 @@ pub mod LotCarriers
 pub mod NoticesOut
 pub mod NoticesIn
 pub mod MetaTable
+pub mod Probing
 pub mod CreatingFails
 pub mod Creating
 pub mod Adding

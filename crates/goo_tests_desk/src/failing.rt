@@ -75,6 +75,14 @@ impl Desk for Failing {
 
     ghost leaves = { λ d o. o ≡ Some begun };
 
+    // Where memory alone is refused, the records still answer.
+    fn probe(&mut self) -> Result<(), Fault> {
+        match self.fault {
+            Fault::Memory => Ok(()),
+            Fault::Store => Err(Fault::Store),
+        }
+    }
+
     fn apply(&mut self, _alloc: Global, _request: &Request) -> Result<Outcome, Fault> {
         Err(self.fault)
     }

@@ -49,13 +49,13 @@ fn is_run(rt: &impl Abort, found: Result<Option<Piece>, ReadFault>, serials: Ser
 
 /// All runs are read one after another.
 fn reads_all<S: Shelf>(rt: &impl Abort, registry: &mut Registry<S>) {
-    let (holder, account) = first_account(rt, "SUN");
+    let (_holder, account) = first_account(rt, "SUN");
     let mut place = RunPlace::after(None);
     for serials in RUNS {
-        let found = registry.read_run(&holder, account, &mut place);
+        let found = registry.read_run(account, &mut place);
         is_run(rt, found, serials);
     }
-    let last = registry.read_run(&holder, account, &mut place);
+    let last = registry.read_run(account, &mut place);
     holds(rt, matches!(last, Ok(None)), "no further run is read");
 }
 

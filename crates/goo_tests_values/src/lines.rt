@@ -25,6 +25,10 @@ impl Desk for FailingDesk {
 
     ghost leaves = { λ d o. o ≡ Some begun };
 
+    fn probe(&mut self) -> Result<(), Fault> {
+        Err(self.fault)
+    }
+
     fn apply(&mut self, _alloc: Global, _request: &Request) -> Result<Outcome, Fault> {
         Err(self.fault)
     }

@@ -15,8 +15,8 @@ returns-clause-counted g c = one_counted c.serve_accepted.result (g.L.Listener.a
 pub returns-clause-found : goal.returns-clause-found
 returns-clause-found g c was first runs steps before =
     one_served g.D.Backend.shows g.D.Backend.imports g.D.Backend.begins (g.L.Listener.sends c.args.listener.now) _ was (g.L.Listener.accepted c.args.listener.now) (g.L.Listener.accepted c.accept.new.self) first
-    (g.D.Desk.seen c.args.desk.now) (g.D.Desk.seen c.serve_accepted.new.desk) (g.D.Desk.leaves c.serve_accepted.new.desk) c.in-Ok.ensures.heard c.in-Ok.ensures.counted steps c.serve_accepted.ensures.heard
-    (c.serve_accepted.ensures.crash runs)
+    (g.D.Desk.seen c.args.desk.now) (g.D.Desk.seen c.serve_accepted.new.desk) (g.D.Desk.leaves c.args.desk.now) (g.D.Desk.leaves c.serve_accepted.new.desk) c.in-Ok.ensures.heard c.in-Ok.ensures.counted steps c.serve_accepted.ensures.heard
+    (c.serve_accepted.ensures.crash runs) c.serve_accepted.ensures.shut before
 
 -- none was accepted
 pub returns-in_default-clause-found : goal.returns-in_default-clause-found

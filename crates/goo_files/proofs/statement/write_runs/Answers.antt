@@ -3,7 +3,7 @@ use Rattle.std.specs.Io.KnownBytes.{Appends}
 use Rattle.goo_files_streams.specs.Streams.{AppendsPrefix}
 use Rattle.goo_core_shelf.specs.Shelf.{Looks}
 use Rattle.goo_spec_runs.specs.NextRun.{from_of, BeginsFrom}
-use Rattle.goo_registry.specs.AccountReads.{IsNextRunShown}
+use Rattle.goo_registry.specs.AccountReads.{IsNextRunFound}
 use Rattle.goo_core_reads.specs.Ahead.{IsSeen}
 use Rattle.goo_registry.specs.Shown.{split_denial}
 use Rattle.goo_types.specs.declared.piece.Piece.{Piece}
@@ -33,10 +33,10 @@ returns-then-is_err g c =
     let mid = g.S.Shelf.seen c.loop-run.registry.shelf in
     let new = g.S.Shelf.seen c.read_run.new.self.shelf in
     let p = c.in-Ok-Some.run' in
-    let look : Looks mid new (Ok (Ok (Some p))) (IsNextRunShown mid.state c.args.caller.now c.args.account c.loop-run.place.after) = found_after mid new c.args.caller.now c.args.account c.loop-run.place (Ok (Ok (Some p))) c.loop-run.invariant.seen (rw c.in-Ok-Some.field-0-is at c.in-Ok-Some.ensures.shows) in
+    let look : Looks mid new (Ok (Ok (Some p))) (IsNextRunFound mid.state c.args.account c.loop-run.place.after) = found_after mid new c.args.account c.loop-run.place (Ok (Ok (Some p))) c.loop-run.invariant.seen (rw c.in-Ok-Some.field-0-is at c.in-Ok-Some.ensures.shows) in
     let begins : BeginsFrom (from_of c.loop-run.place.after) p = rw c.in-Ok-Some.field-0-is at c.in-Ok-Some.ensures.begins in
     let part : AppendsPrefix (g.W.Write.contents c.loop-run.writer) (g.W.Write.contents c.write_line.new.writer) c.statement_line.result.bytes = search rules in
-    going_cut statement_line counts_of old mid new (g.W.Write.contents c.args.writer.now) (g.W.Write.contents c.loop-run.writer) c.args.caller.now c.args.account c.loop-run.place.after c.loop-run.counts c.loop-run.invariant.going
+    going_cut statement_line counts_of old mid new (g.W.Write.contents c.args.writer.now) (g.W.Write.contents c.loop-run.writer) c.args.account c.loop-run.place.after c.loop-run.counts c.loop-run.invariant.going
     (g.W.Write.contents c.write_line.new.writer) p begins look (rw c.statement_line.ensures at part)
 
 pub loop-run-preserved : goal.loop-run-preserved
@@ -45,7 +45,7 @@ loop-run-preserved g c =
     let mid = g.S.Shelf.seen c.loop-run.registry.shelf in
     let new = g.S.Shelf.seen c.read_run.new.self.shelf in
     let p = c.in-Ok-Some.run' in
-    let look : Looks mid new (Ok (Ok (Some p))) (IsNextRunShown mid.state c.args.caller.now c.args.account c.loop-run.place.after) = found_after mid new c.args.caller.now c.args.account c.loop-run.place (Ok (Ok (Some p))) c.loop-run.invariant.seen (rw c.in-Ok-Some.field-0-is at c.in-Ok-Some.ensures.shows) in
+    let look : Looks mid new (Ok (Ok (Some p))) (IsNextRunFound mid.state c.args.account c.loop-run.place.after) = found_after mid new c.args.account c.loop-run.place (Ok (Ok (Some p))) c.loop-run.invariant.seen (rw c.in-Ok-Some.field-0-is at c.in-Ok-Some.ensures.shows) in
     let begins : BeginsFrom (from_of c.loop-run.place.after) p = rw c.in-Ok-Some.field-0-is at c.in-Ok-Some.ensures.begins in
     let wrote : Appends (g.W.Write.contents c.loop-run.writer) (g.W.Write.contents c.write_line.new.writer) c.statement_line.result.bytes = search rules in
     let low : from_of c.loop-run.place.after ≤ p.first = begins.0 in
@@ -55,7 +55,7 @@ loop-run-preserved g c =
     let after : c.read_run.new.place.after ≡ Some p.last = rw c.in-Ok-Some.field-0-is at c.in-Ok-Some.ensures.place in
     let counted : all_of c.add.new.self ≤ p.last + 1 = omega (arith, low, high, was, more) in
     let going = subst (IsGoing statement_line counts_of old new (g.W.Write.contents c.args.writer.now) (g.W.Write.contents c.write_line.new.writer) c.args.account (p.last + 1)) (sym c.add.ensures.counts)
-    (going_on statement_line counts_of old mid new (g.W.Write.contents c.args.writer.now) (g.W.Write.contents c.loop-run.writer) c.args.caller.now c.args.account c.loop-run.place.after c.loop-run.counts c.loop-run.invariant.going
+    (going_on statement_line counts_of old mid new (g.W.Write.contents c.args.writer.now) (g.W.Write.contents c.loop-run.writer) c.args.account c.loop-run.place.after c.loop-run.counts c.loop-run.invariant.going
     with_run (counts-last no_counts) (g.W.Write.contents c.write_line.new.writer) p begins look (rw c.statement_line.ensures at wrote)) in
     record {
       going = subst (λ (o : Option ℕ). IsGoing statement_line counts_of old new (g.W.Write.contents c.args.writer.now) (g.W.Write.contents c.write_line.new.writer) c.args.account (from_of o) c.add.new.self) (sym after) going;
@@ -68,8 +68,8 @@ returns-in-Ok-None g c =
     let old = g.S.Shelf.seen c.args.registry.now.shelf in
     let mid = g.S.Shelf.seen c.loop-run.registry.shelf in
     let new = g.S.Shelf.seen c.read_run.new.self.shelf in
-    let look : Looks mid new (Ok (Ok None)) (IsNextRunShown mid.state c.args.caller.now c.args.account c.loop-run.place.after) = found_after mid new c.args.caller.now c.args.account c.loop-run.place (Ok (Ok None)) c.loop-run.invariant.seen (rw c.in-Ok-None.field-0-is at c.in-Ok-None.ensures.shows) in
-    going_ends statement_line counts_of old mid new (g.W.Write.contents c.args.writer.now) (g.W.Write.contents c.loop-run.writer) c.args.caller.now c.args.account c.loop-run.place.after c.loop-run.counts c.loop-run.invariant.going look
+    let look : Looks mid new (Ok (Ok None)) (IsNextRunFound mid.state c.args.account c.loop-run.place.after) = found_after mid new c.args.account c.loop-run.place (Ok (Ok None)) c.loop-run.invariant.seen (rw c.in-Ok-None.field-0-is at c.in-Ok-None.ensures.shows) in
+    going_ends statement_line counts_of old mid new (g.W.Write.contents c.args.writer.now) (g.W.Write.contents c.loop-run.writer) c.args.account c.loop-run.place.after c.loop-run.counts c.loop-run.invariant.going look
 
 pub returns-in-Err : goal.returns-in-Err
 returns-in-Err g c =
@@ -77,5 +77,5 @@ returns-in-Err g c =
     let mid = g.S.Shelf.seen c.loop-run.registry.shelf in
     let new = g.S.Shelf.seen c.read_run.new.self.shelf in
     subst (λ f. Writes {T = Counts} old new (g.W.Write.contents c.args.writer.now) (g.W.Write.contents c.loop-run.writer) (Err f) None (AreRunLines old.state c.args.account)) (sym c.from.ensures)
-    (going_fails statement_line counts_of old mid new (g.W.Write.contents c.args.writer.now) (g.W.Write.contents c.loop-run.writer) c.args.caller.now c.args.account c.loop-run.place.after c.loop-run.counts c.loop-run.invariant.going
-    (λ sure. c.requires.shown (c.loop-run.invariant.going.looks.defects_stay sure)) c.in-Err.fault (found_after mid new c.args.caller.now c.args.account c.loop-run.place (split_denial {T = Option Piece} (Err c.in-Err.fault)) c.loop-run.invariant.seen c.in-Err.ensures.shows))
+    (going_fails statement_line counts_of old mid new (g.W.Write.contents c.args.writer.now) (g.W.Write.contents c.loop-run.writer) c.args.account c.loop-run.place.after c.loop-run.counts c.loop-run.invariant.going
+    c.in-Err.fault (found_after mid new c.args.account c.loop-run.place (split_denial {T = Option Piece} (Err c.in-Err.fault)) c.loop-run.invariant.seen c.in-Err.ensures.shows))
