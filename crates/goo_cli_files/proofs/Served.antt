@@ -1,5 +1,5 @@
 -- A server that ended well.
-use Rattle.std.proofs.Common.{◌≡◌, ℕ, zero, suc, arith, refl, sym, subst, List, Option, Result, Ok, Err, OnOk}
+use Rattle.std.proofs.Common.{◌≡◌, ℕ, arith, refl, sym, subst, List, Option, Result, Ok, Err, OnOk}
 use Rattle.goo_spec.specs.State.{State}
 use Rattle.goo_cli_ending.specs.Endings.{status_of}
 use Rattle.goo_cli_ending.specs.declared.ending.Ending.{Ending}
@@ -9,7 +9,7 @@ use Rattle.goo_core_shelf.specs.Desk.{Seen}
 use Rattle.goo_cli_files.specs.ServingDurable.{FindsServed, FindsTo}
 use Rattle.goo_cli_files.specs.ServerEndings.{ending_of_server, IsCounted}
 use Rattle.goo_desk_server.specs.Runs.{KeepsPromise}
-use Rattle.goo_desk_server.specs.Durable.{FindsAfter}
+use Rattle.goo_desk_server.proofs.Finding.{finds_fewer}
 use Rattle.goo_desk_backend.specs.Showing.{begun_by, imported_by, shown_by}
 use Rattle.goo_desk_server.specs.Serving as server
 use Rattle.goo_desk_server.specs.declared.server_fault.ServerFault.{ServerFault}
@@ -48,10 +48,5 @@ found_from sends before was mid now first last leaves same is found =
 
 -- whatever is found in the end is among what a crash may find
 module _ (sends : ℕ → Option (List ℕ)) (was : ℕ) (leaves less : Option State → Type 0) (among : (o : Option State) → less o → leaves o) where
-  found_among : (count : ℕ) (first last : Seen) → FindsAfter shown_by imported_by begun_by sends was count first last leaves → FindsAfter shown_by imported_by begun_by sends was count first last less
-  found_among zero first last only = λ o may. only o (among o may)
-  found_among (suc count) first last (mid, steps, connects, sure, heard) =
-      (mid, steps, connects, sure, λ fine. let it = heard fine in (it.0, it.1, λ o may. it.2 o (among o may)))
-
   pub found_to : (now : ℕ) (first last : Seen) → FindsTo sends was now first last leaves → FindsTo sends was now first last less
-  found_to now first last (count, at, after) = (count, at, found_among count first last after)
+  found_to now first last (count, at, after) = (count, at, finds_fewer shown_by imported_by begun_by sends was count first last leaves less among after)
