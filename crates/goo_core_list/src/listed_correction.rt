@@ -10,7 +10,7 @@ use std::marker::Model;
 
 /// The record of a correction.
 #[derive(Clone, Copy)]
-pub struct CorrectRecord {
+pub struct ListedCorrection {
     /// The device whose declaration it lowers.
     pub device: Gsrn,
     /// The first day of the declared period.
@@ -21,7 +21,7 @@ pub struct CorrectRecord {
     pub withdrawal: Option<ActNo>,
 }
 
-impl Model for CorrectRecord {
+impl Model for ListedCorrection {
     ghost use Rattle.goo_spec.specs.State.{Correction};
 
     ghost Value = { Correction };
@@ -31,9 +31,9 @@ impl Model for CorrectRecord {
     ghost inverse = { λ c. record { device = c.device; first_day = c.first_day; less = c.less; withdrawal = c.withdrawal } };
 }
 
-impl CorrectRecord {
+impl ListedCorrection {
     /// The record that a correction leaves, with the number of its withdrawal, if it made one.
-    pub fn of(correction: &Correct, withdrawal: Option<ActNo>) -> CorrectRecord
+    pub fn of(correction: &Correct, withdrawal: Option<ActNo>) -> ListedCorrection
         ensures { result
             ≡ record {
               device = correction.now.device;
@@ -43,7 +43,7 @@ impl CorrectRecord {
               withdrawal = withdrawal;
             } }
     {
-        CorrectRecord {
+        ListedCorrection {
             device: correction.device,
             first_day: correction.first_day,
             less: correction.less,

@@ -25,12 +25,12 @@ struct Produced {
 
 /// The accepted declarations, the oldest first, with the last day and the sum of each device.
 #[derive(Drop)]
-pub struct Production {
+pub struct ListedDeclarations {
     declarations: Vec<Declare>,
     devices: BTreeMap<Gsrn, Produced>,
 }
 
-impl Model for Production {
+impl Model for ListedDeclarations {
     ghost use Rattle.std.specs.Prelude.{List};
     ghost use Rattle.goo_types.specs.declared.command.Declare.{Declare};
     ghost use Rattle.goo_spec.specs.State.{text_cmp};
@@ -44,12 +44,12 @@ impl Model for Production {
     ghost invariant = { λ p. AddsUp p.declarations.items (map_of text_cmp p.devices) };
 }
 
-impl Production {
+impl ListedDeclarations {
     /// No declarations.
-    pub fn new(alloc: Global) -> Production
+    pub fn new(alloc: Global) -> ListedDeclarations
         ensures { result ≡ [] }
     {
-        Production {
+        ListedDeclarations {
             declarations: Vec::new(alloc),
             devices: empty_map(alloc),
         }
