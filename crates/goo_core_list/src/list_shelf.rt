@@ -8,9 +8,9 @@ ghost use Rattle.goo_core_list.specs.States.{state_of};
 
 use crate::corrections::Corrections;
 use crate::kept::Kept;
-use crate::listed_declarations::ListedDeclarations;
 use crate::lot_key::LotKey;
 use crate::maps::empty_map;
+use crate::production::Production;
 use crate::rows::Rows;
 use crate::withdraw_record::WithdrawRecord;
 use goo_core_shelf::account::Account;
@@ -43,7 +43,7 @@ pub struct ListShelf {
     pub(crate) holders: BTreeMap<HolderCode, Name>,
     pub(crate) accounts: BTreeMap<AccountNo, Account>,
     pub(crate) devices: BTreeMap<Gsrn, Device>,
-    pub(crate) production: ListedDeclarations,
+    pub(crate) production: Production,
     pub(crate) corrections: Corrections,
     pub(crate) peers: BTreeMap<RegistryCode, ()>,
     pub(crate) receipts: BTreeMap<(HolderCode, Key), Kept>,
@@ -91,7 +91,7 @@ impl ListShelf {
             holders: empty_map(alloc),
             accounts: empty_map(alloc),
             devices: empty_map(alloc),
-            production: ListedDeclarations::new(alloc),
+            production: Production::new(alloc),
             corrections: Corrections::new(alloc),
             peers: empty_map(alloc),
             receipts: empty_map(alloc),

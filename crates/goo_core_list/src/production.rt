@@ -25,12 +25,12 @@ struct Produced {
 
 /// The accepted declarations, the oldest first, with the last day and the sum of each device.
 #[derive(Drop)]
-pub struct ListedDeclarations {
+pub struct Production {
     declarations: Vec<Declare>,
     devices: BTreeMap<Gsrn, Produced>,
 }
 
-impl Model for ListedDeclarations {
+impl Model for Production {
     ghost use Rattle.std.specs.Prelude.{List};
     ghost use Rattle.goo_types.specs.declared.command.Declare.{Declare};
     ghost use Rattle.goo_spec.specs.State.{text_cmp};
@@ -44,12 +44,12 @@ impl Model for ListedDeclarations {
     ghost invariant = { λ p. AddsUp p.declarations.items (map_of text_cmp p.devices) };
 }
 
-impl ListedDeclarations {
+impl Production {
     /// No declarations.
-    pub fn new(alloc: Global) -> ListedDeclarations
+    pub fn new(alloc: Global) -> Production
         ensures { result ≡ [] }
     {
-        ListedDeclarations {
+        Production {
             declarations: Vec::new(alloc),
             devices: empty_map(alloc),
         }

@@ -2,7 +2,7 @@ use Rattle.std.proofs.Common.{◌≡◌, ◌+◌, ◌≤◌, ◌^◌, refl, ap, 
 use Rattle.goo_spec.specs.Energy.{net}
 use Rattle.goo_core_list.specs.Production.{net_by}
 use Rattle.goo_core_list.proofs.ProductionLemmas.{added}
-use Rattle.goo_core_list.proofs.listed_declarations.ListedDeclarations.add.Goals as goal
+use Rattle.goo_core_list.proofs.production.Production.add.Goals as goal
 
 pub invariant_of-self-3 : goal.invariant_of-self-3
 invariant_of-self-3 c =

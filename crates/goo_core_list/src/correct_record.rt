@@ -10,7 +10,7 @@ use std::marker::Model;
 
 /// The record of a correction.
 #[derive(Clone, Copy)]
-pub struct ListedCorrection {
+pub struct CorrectRecord {
     /// The device whose declaration it lowers.
     pub device: Gsrn,
     /// The first day of the declared period.
@@ -21,7 +21,7 @@ pub struct ListedCorrection {
     pub withdrawal: Option<ActNo>,
 }
 
-impl Model for ListedCorrection {
+impl Model for CorrectRecord {
     ghost use Rattle.goo_spec.specs.State.{Correction};
 
     ghost Value = { Correction };
@@ -31,9 +31,9 @@ impl Model for ListedCorrection {
     ghost inverse = { λ c. record { device = c.device; first_day = c.first_day; less = c.less; withdrawal = c.withdrawal } };
 }
 
-impl ListedCorrection {
+impl CorrectRecord {
     /// The record that a correction leaves, with the number of its withdrawal, if it made one.
-    pub fn of(correction: &Correct, withdrawal: Option<ActNo>) -> ListedCorrection
+    pub fn of(correction: &Correct, withdrawal: Option<ActNo>) -> CorrectRecord
         ensures { result
             ≡ record {
               device = correction.now.device;
@@ -43,7 +43,7 @@ impl ListedCorrection {
               withdrawal = withdrawal;
             } }
     {
-        ListedCorrection {
+        CorrectRecord {
             device: correction.device,
             first_day: correction.first_day,
             less: correction.less,
