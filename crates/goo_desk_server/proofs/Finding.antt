@@ -17,7 +17,7 @@ module _ (shows : Showing) (imports : Importing) (begins : Beginning) where
   pub finds_fewer : (sends : ℕ → Option (List ℕ)) (was count : ℕ) (first last : Seen) (before after : Option State → Type 0) → FindsNoMore before after
       → FindsAfter shows imports begins sends was count first last before → FindsAfter shows imports begins sends was count first last after
   finds_fewer sends was zero first last before after less only = λ o left. only o (less o left)
-  finds_fewer sends was (suc count) first last before after less (mid, steps, connects, inl others) = (mid, steps, connects, inl (finds_fewer sends was count first mid before after less others))
+  finds_fewer sends was (suc count) first last before after less (mid, steps, connects, inl (bad, others)) = (mid, steps, connects, inl (bad, finds_fewer sends was count first mid before after less others))
   finds_fewer sends was (suc count) first last before after less (mid, steps, connects, inr (sure, heard)) = (mid, steps, connects, inr (sure, fewer_heard (sends (was + count)) before after mid.state less heard))
 
   is_none : (n : ℕ) → (n ≡ 0) ⊎ (n ≢ 0)
@@ -50,7 +50,7 @@ module _ (shows : Showing) (imports : Importing) (begins : Beginning) where
           subst (λ k. Connects shows imports begins k mid last) same connects,
           elim (is_none mid.defects) [
             | inl fine ↦ inr (fine, subst (λ k. FindsHeard k leaves mid.state) same (found honest fine))
-            | inr bad ↦ inl (finds_fewer sends was count first mid before leaves (shut honest bad) (others_of sends was half count first mid before at (others (connects.corruptions_stay honest) sure)))
+            | inr bad ↦ inl (bad, finds_fewer sends was count first mid before leaves (shut honest bad) (others_of sends was half count first mid before at (others (connects.corruptions_stay honest) sure)))
           ],
         ),
       )

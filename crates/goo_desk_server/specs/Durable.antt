@@ -1,5 +1,5 @@
 -- What a crash finds once a server's connections were served.
-use Rattle.std.specs.Prelude.{◌≡◌, ◌⊎◌, ◌+◌, ℕ, zero, suc, List, Option}
+use Rattle.std.specs.Prelude.{◌≡◌, ◌≢◌, ◌⊎◌, ◌+◌, ℕ, zero, suc, List, Option}
 use Rattle.goo_spec.specs.State.{State}
 use Rattle.goo_core_shelf.specs.Crash.{FindsOnly}
 use Rattle.goo_core_shelf.specs.Desk.{Seen}
@@ -15,7 +15,7 @@ module _ (shows : Showing) (imports : Importing) (begins : Beginning) (sends : �
   FindsAfter zero first last leaves = FindsOnly leaves first.state
   FindsAfter (suc count) first last leaves =
       (mid : Seen) × Steps shows imports begins sends was count first mid × Connects shows imports begins (sends (was + count)) mid last
-      × (FindsAfter count first mid leaves ⊎ ((mid.defects ≡ 0) × FindsHeard (sends (was + count)) leaves mid.state))
+      × (((mid.defects ≢ 0) × FindsAfter count first mid leaves) ⊎ ((mid.defects ≡ 0) × FindsHeard (sends (was + count)) leaves mid.state))
 
   -- as many as were accepted meanwhile
   abbrev pub FindsTo : ℕ → Seen → Seen → (Option State → Type 0) → Type 0
