@@ -8,10 +8,10 @@ ghost use Rattle.goo_cli_registry.specs.Closings.{HasSpareLog};
 ghost use Rattle.sqlite_std_file.specs.File.{file_is_usable};
 
 use crate::reason::{OpeningFailure, Reason};
+use goo_cli_disk::settling::Settled;
 use goo_cli_ending::Failure;
 use goo_cli_registry::closing::Left;
 use goo_cli_registry::first_page::make_first_page;
-use goo_cli_registry::settling::Settled;
 use sqlite::{FileFrom, Files, Start};
 use sqlite_std_file::OpenError;
 use std::fs::{self, File};

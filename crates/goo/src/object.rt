@@ -1,7 +1,7 @@
 //! What a line on standard error speaks of.
 use crate::reason::Reason;
 use goo_cli_ending::{Ending, Failure, NotDone};
-use goo_cli_files::{Job, MemoryWork, Work};
+use goo_cli_jobs::{Job, MemoryWork, Work};
 use goo_types::account_no::AccountNo;
 use std::fmt;
 

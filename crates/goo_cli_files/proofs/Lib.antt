@@ -1,5 +1,4 @@
-mod Served
-mod Works
+pub mod Served
+mod Begun
 mod Stopping
-mod MemoryLemmas
 mod DurableLemmas

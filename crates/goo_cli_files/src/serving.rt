@@ -21,10 +21,9 @@ use crate::serve_registry::serve_registry;
 use goo_cli::{Opening, Serving};
 use goo_cli_ending::Ending;
 use goo_cli_registry::closing::{Left, close_registry};
-use goo_cli_registry::in_memory::open_in_memory;
 use goo_cli_registry::opening::{begin, failure_of, open_registry};
 use goo_cli_registry::renewal_line::RenewalLine;
-use goo_desk_server::{Listener, LocalListener};
+use goo_desk_server::Listener;
 use goo_registry::Registry;
 use sqlite::{Alter, Connection, Files};
 use sqlite_disk::Disk;
@@ -37,7 +36,7 @@ use std::io::{BufWriter, Write};
 /// - `promised`: what a registry promises after any list of requests holds of the new registry, the
 ///   requests that the connections left applied, and what the database holds then. A fault of the
 ///   records, and want of memory, may have kept the registry from being made.
-fn serve_new<S: Alter, L: Listener, W: Write + Drop>(
+pub fn serve_new<S: Alter, L: Listener, W: Write + Drop>(
     alloc: Global,
     conn: Connection<S>,
     opening: Opening,
@@ -67,37 +66,13 @@ fn serve_new<S: Alter, L: Listener, W: Write + Drop>(
     }
 }
 
-/// Serves so many connections on 127.0.0.1 by a new registry whose records are tables in memory,
-/// and are gone when the program ends.
-///
-/// - `announced`: status 0 only where the line is written that tells at which port.
-/// - `counted`: status 0 just where as many connections were accepted as asked for, unless the
-///   records failed at the last one; never more are.
-pub fn serve_in_memory<W: Write + Drop>(
-    alloc: Global,
-    opening: Opening,
-    serving: Serving,
-    listener: &mut LocalListener<'_>,
-    writer: &mut BufWriter<W>,
-) -> Ending
-    ensures announced { status_of result ≡ 0
-        → Appends (writer_contents W.contents writer.old) (writer_contents W.contents writer.new)
-        (listening_text serving.port) }
-    ensures counted { IsCounted result listener.old.accepted listener.new.accepted serving.count }
-{
-    let conn = match open_in_memory(alloc) {
-        Ok(conn) => conn,
-        Err(failure) => return Ending::Failed(failure),
-    };
-    let (ending, _conn) = serve_new(alloc, conn, opening, serving, listener, writer);
-    ending
-}
-
 /// Serves so many connections of a listener by the registry that files hold, and closes it; `line`
 /// tells if it is of version 1. What is said holds so long as the files returned what was written,
 /// and `db` is the database that they held.
 ///
-/// - `announced`, `counted`: as for [`serve_in_memory`].
+/// - `announced`: status 0 only where the line is written that tells at which port.
+/// - `counted`: status 0 just where as many connections were accepted as asked for, unless the
+///   records failed at the last one; never more are.
 /// - `promised`: what a registry promises after any list of requests holds of what the files held,
 ///   the requests that the connections left applied, and what the file alone holds then, where the
 ///   log could be copied. The bytes of each connection are those that its client sent, where the

@@ -1,11 +1,11 @@
 -- What is left of the files of a registry.
-use Rattle.std.specs.Prelude.{◌≡◌, ◌⊎◌, ℕ, Bool, true, false, [], slice_index, Some}
+use Rattle.std.specs.Prelude.{◌≡◌, ◌⊎◌, Bool, true, false, Some}
 use Rattle.sqlite_disk.specs.declared.Disk.{Ghosts}
 use Rattle.sqlite_disk.specs.declared.Files.{Files}
 use Rattle.sqlite_store.specs.FileStore.{recovers}
 use Rattle.sqlite_wal.specs.Files.{outcomes}
 use Rattle.sqlite_wal.specs.Reads.{AreClean}
-use Rattle.sqlite_wal.specs.Recovery.{Image, RecoversAs}
+use Rattle.sqlite_wal.specs.Recovery.{Image}
 use Rattle.sqlite.specs.Tree.{Trees}
 use Rattle.sqlite.specs.Files.{image_of, AreFound, HoldsDatabase, IsCleanLeft, LeavesFiles}
 use Rattle.sqlite.specs.Closing.{HoldsAlone, files_left}
@@ -15,6 +15,7 @@ use Rattle.goo_spec.specs.State.{State}
 use Rattle.goo_tables_rows.specs.Rows.{tables_of}
 use Rattle.goo_store_judge.specs.Moments.{OpensAs}
 use Rattle.goo_store.specs.Versions.{state_held}
+use Rattle.goo_cli_disk.specs.Spare.{NeedNoLog}
 use Rattle.goo_cli_registry.specs.declared.closing.Left.{Left}
 use Rattle.goo_cli_registry.specs.declared.closing.Left.TheVariants as left
 
@@ -28,20 +29,6 @@ pub record HoldRegistry {D : Type 0} (g : Ghosts D) (files : Files D) (s : State
 -- files that have returned what was written do so
 abbrev pub HoldState : {D : Type 0} → Ghosts D → Files D → State → Type 0
 HoldState g files s = AreClean g files.log files.db → HoldRegistry g files s
-
--- Without the log the database file recovers to the same pages. Nor does the log tell a database that was only begun from a damaged one:
--- it is empty, or the file has its first byte, an S, which is written last.
-pub record IsUnused (image : Image) : Type 0 where
-  pub same : (size : ℕ) → RecoversAs size image (record image { log = [] })
-  pub begun : (image.log ≡ []) ⊎ (slice_index image.db 0 ≡ 83)
-
--- nothing of the log is used, or the database file alone holds the database of both
-abbrev pub IsSpare : Image → Type 0
-IsSpare image = IsUnused image ⊎ ((db : Trees) × HoldsAlone image db)
-
--- the log may go, whatever a crash leaves of both files
-abbrev pub NeedNoLog : {D : Type 0} → Ghosts D → Files D → Type 0
-NeedNoLog g files = (image : Image) → outcomes g files.log files.db image → IsSpare image
 
 module _ {D : Type 0} {g : Ghosts D} where
   -- the files have returned what was written

@@ -2,13 +2,14 @@
 ghost use Rattle.std.specs.Prelude.{◌≡◌, IsTrue};
 ghost use Rattle.sqlite.specs.Files.{file_state};
 ghost use Rattle.sqlite.specs.State.{HasCleanDisk};
-ghost use Rattle.goo_store_judge.specs.Moments.{moment};
 ghost use Rattle.sqlite_wal.specs.Reads.{AreClean};
 ghost use Rattle.goo_cli_registry.specs.Closings.{is_whole, files_in, HasSpareLog, IfWhole};
-ghost use Rattle.goo_cli_registry.specs.Closings.{IfRefused, IsClean, IsKept, HoldState, NeedNoLog};
+ghost use Rattle.goo_cli_registry.specs.Closings.{IfRefused, IsClean, IsKept, HoldState};
+ghost use Rattle.goo_cli_disk.specs.Spare.{NeedNoLog};
+ghost use Rattle.goo_store.specs.Seen.{seen_by};
 ghost use Rattle.goo_cli_registry.specs.Finds.{FindsRight, IfParts};
 
-use crate::settling::{Settled, settle_files};
+use goo_cli_disk::settling::{Settled, settle_files};
 use goo_store::sql_shelf::SqlShelf;
 use sqlite::{FileStore, Files, Leftover};
 use sqlite_disk::Disk;
@@ -92,16 +93,16 @@ impl<D: Disk> Left<D> {
 pub fn close_registry<D: Disk + Drop>(shelf: SqlShelf<FileStore<D>>) -> Left<D>
     ensures clean { IsClean result → HasCleanDisk (file_state shelf.conn) }
     ensures whole { IfWhole result
-        (λ files. HoldState D.Disk files (moment (file_state shelf.conn) shelf.refused).state) }
+        (λ files. HoldState D.Disk files (seen_by shelf).state) }
     ensures copied { HasSpareLog result }
     ensures sure { IfWhole result
         (λ files. AreClean D.Disk files.log files.db
-        → (moment (file_state shelf.conn) shelf.refused).defects ≡ 0) }
+        → (seen_by shelf).defects ≡ 0) }
     ensures opened { IfRefused result (λ _. ⊥) }
-    ensures kept { (moment (file_state shelf.conn) shelf.refused).defects ≡ 0
-        → IsKept (moment (file_state shelf.conn) shelf.refused).state result }
+    ensures kept { (seen_by shelf).defects ≡ 0
+        → IsKept (seen_by shelf).state result }
     ensures found { IfParts result
-        (FindsRight (moment (file_state shelf.conn) shelf.refused).leaves) }
+        (FindsRight (seen_by shelf).leaves) }
 {
     match shelf.into_connection().close_files() {
         Ok(files) => Left::Whole(files),

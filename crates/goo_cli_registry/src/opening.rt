@@ -6,8 +6,9 @@ ghost use Rattle.sqlite.specs.Held.{IsNew, state as view};
 ghost use Rattle.sqlite.specs.State.{HasCleanDisk};
 ghost use Rattle.sqlite.specs.Tree.{Trees};
 ghost use Rattle.goo_tables_rows.specs.Met.{IsInKeyOrder};
+ghost use Rattle.goo_store.specs.Seen.{seen_by};
 ghost use Rattle.goo_store.specs.Versions.{state_held};
-ghost use Rattle.goo_store_judge.specs.Moments.{OpensAsEither, moment};
+ghost use Rattle.goo_store_judge.specs.Moments.{OpensAsEither};
 ghost use Rattle.goo_ranges_rows.specs.Rows.{AreRowsOf};
 ghost use Rattle.goo_core_shelf.specs.Shelf.{IsReady};
 ghost use Rattle.goo_spec.specs.Created.{created};
@@ -18,6 +19,7 @@ ghost use Rattle.goo_cli_registry.specs.Openings.{failure_of_opening, IsBlamed, 
 
 use crate::renewal_line::RenewalLine;
 use goo_cli::Opening;
+use goo_cli_disk::file_fault::word_for;
 use goo_cli_ending::Failure;
 use goo_store::sql_shelf::SqlShelf;
 use goo_store_open::connecting::open_ordered;
@@ -33,7 +35,7 @@ use std::io::Write;
 const LOG_PAGES: usize = 4_000;
 
 /// How a registry in files is kept. `seed` is what the salts of a new log begin with.
-pub(crate) fn file_options(seed: u64) -> Options
+pub fn file_options(seed: u64) -> Options
     ensures seed { result.seed ≡ seed }
     ensures memory { (result.cache_pages ≡ 2000) × (result.spill_pages ≡ 2000) }
     ensures log { result.checkpoint_frames ≡ 4000 }
@@ -41,17 +43,6 @@ pub(crate) fn file_options(seed: u64) -> Options
     Options {
         checkpoint_frames: LOG_PAGES,
         ..Options::new(seed)
-    }
-}
-
-/// The word for what kept files from being opened.
-fn word_for(error: Error) -> Fault
-    ensures memory { error ≡ Error.SqliteFailure ErrorCode.OutOfMemory → result ≡ Fault.Memory }
-    ensures other { error ≢ Error.SqliteFailure ErrorCode.OutOfMemory → result ≡ Fault.Store }
-{
-    match error {
-        Error::SqliteFailure(ErrorCode::OutOfMemory) => Fault::Memory,
-        _ => Fault::Store,
     }
 }
 
@@ -111,18 +102,14 @@ pub fn begin<S: Alter>(
 ) -> Result<SqlShelf<S>, (Connection<S>, OpenFault)>
     requires outside { conn.in_transaction ≡ false }
     ensures state { IfOk result
-        (λ shelf. (moment (view S.Store shelf.conn) shelf.refused).defects ≡ 0
-        → (moment (view S.Store shelf.conn) shelf.refused).state
-        ≡ created opening.code opening.today opening.next_serial) }
+        (λ shelf. (seen_by shelf).defects ≡ 0
+        → (seen_by shelf).state ≡ created opening.code opening.today opening.next_serial) }
     ensures sound { IfOk result
-        (λ shelf. (moment (view S.Store shelf.conn) shelf.refused).defects ≡ 0
-        → IsSound (moment (view S.Store shelf.conn) shelf.refused).state) }
+        (λ shelf. (seen_by shelf).defects ≡ 0 → IsSound (seen_by shelf).state) }
     ensures rows_fit { IfOk result
-        (λ shelf. (moment (view S.Store shelf.conn) shelf.refused).defects ≡ 0
-        → AreRowsOf (moment (view S.Store shelf.conn) shelf.refused).state.at
-        (moment (view S.Store shelf.conn) shelf.refused).rows) }
-    ensures ready { IfOk result
-        (λ shelf. IsReady (moment (view S.Store shelf.conn) shelf.refused)) }
+        (λ shelf. (seen_by shelf).defects ≡ 0
+        → AreRowsOf (seen_by shelf).state.at (seen_by shelf).rows) }
+    ensures ready { IfOk result (λ shelf. IsReady (seen_by shelf)) }
     ensures outside { IfErr result (λ e. e.0.in_transaction ≡ false) }
     ensures there { IfErr result (λ e. e.1 ≡ OpenFault.AlreadyThere → e.0 ≡ conn) }
     ensures clean { IfErr result
@@ -164,21 +151,18 @@ pub fn open_registry<D: Disk + Drop, T: Write>(
     requires db { IsTrue (D.Disk.is_usable files.db) }
     ensures state { IfOk result
         (λ shelf. (db : Trees) → HoldsDatabase (image_of D.Disk files) db
-        → (moment (file_state shelf.conn) shelf.refused).defects ≡ 0
-        → (moment (file_state shelf.conn) shelf.refused).state ≡ state_held db) }
+        → (seen_by shelf).defects ≡ 0
+        → (seen_by shelf).state ≡ state_held db) }
     ensures sound { IfOk result
-        (λ shelf. (moment (file_state shelf.conn) shelf.refused).defects ≡ 0
-        → IsSound (moment (file_state shelf.conn) shelf.refused).state) }
+        (λ shelf. (seen_by shelf).defects ≡ 0 → IsSound (seen_by shelf).state) }
     ensures rows_fit { IfOk result
-        (λ shelf. (moment (file_state shelf.conn) shelf.refused).defects ≡ 0
-        → AreRowsOf (moment (file_state shelf.conn) shelf.refused).state.at
-        (moment (file_state shelf.conn) shelf.refused).rows) }
-    ensures ready { IfOk result (λ shelf. IsReady (moment (file_state shelf.conn) shelf.refused)) }
+        (λ shelf. (seen_by shelf).defects ≡ 0
+        → AreRowsOf (seen_by shelf).state.at (seen_by shelf).rows) }
+    ensures ready { IfOk result (λ shelf. IsReady (seen_by shelf)) }
     ensures again { IfOk result
         (λ shelf. (db : Trees) → HoldsDatabase (image_of D.Disk files) db → (s t : State)
-        → OpensAsEither db s t → (moment (file_state shelf.conn) shelf.refused).defects ≡ 0
-        → ((moment (file_state shelf.conn) shelf.refused).state ≡ s)
-        ⊎ ((moment (file_state shelf.conn) shelf.refused).state ≡ t)) }
+        → OpensAsEither db s t → (seen_by shelf).defects ≡ 0
+        → ((seen_by shelf).state ≡ s) ⊎ ((seen_by shelf).state ≡ t)) }
     ensures never_foreign { IfErr result
         (λ e. IsCleanLeft e.1 → (db : Trees) → HoldsDatabase (image_of D.Disk files) db
         → (s t : State) → OpensAsEither db s t → (e.0 ≡ Failure.Store) ⊎ (e.0 ≡ Failure.Memory)) }

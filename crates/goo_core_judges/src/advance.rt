@@ -13,7 +13,7 @@ ghost use Rattle.goo_core_shelf.specs.Shelf.{Looks, IsReady};
 ghost use Rattle.goo_core_judges.specs.Advance.{expired_place, count_in, IsExpiry};
 ghost use Rattle.goo_core_judges.specs.Ruling.{IsRuling, plain_meaning};
 
-use crate::change::push_edit;
+use crate::edits::push_edit;
 use goo_core_reads::callers::is_issuer;
 use goo_core_rules::days::is_before;
 use goo_core_rules::ruling::{Change, Ruling};

@@ -14,8 +14,8 @@ ghost use Rattle.goo_core_judges.specs.Moves.{IsMoveRuling};
 ghost use Rattle.goo_core_judges.specs.Ruling.{IsRuling, plain_meaning};
 
 use goo_core_reads::callers::is_holder;
-use goo_core_rules::change::move_met;
 use goo_core_rules::days::is_before;
+use goo_core_rules::moved_rows::move_met;
 use goo_core_rules::range_checks::least_not_held_by;
 use goo_core_rules::ruling::{Change, Ruling};
 use goo_core_shelf::counters::Counters;

@@ -9,7 +9,7 @@ ghost use Rattle.goo_ranges_rows.specs.Rows.{AreRowsOf};
 ghost use Rattle.goo_core_shelf.specs.Shelf.{Looks, IsReady};
 ghost use Rattle.goo_core_judges.specs.Changes.{IsTurnedInTurn};
 
-use crate::change::add_met;
+use crate::edits::add_met;
 use goo_core_shelf::shelf::Shelf;
 use goo_ranges::{Book, Edit};
 use goo_types::account_no::AccountNo;

@@ -9,7 +9,7 @@ ghost use Rattle.goo_ranges_rows.specs.Rows.{meeting};
 ghost use Rattle.goo_core_judges.specs.Taking.{IsStepOf, IsTaking, AreMet};
 
 use crate::arriving::Arriving;
-use crate::change::push_edit;
+use crate::edits::push_edit;
 use goo_ranges::{Book, Edit};
 use goo_ranges_rows::near_after;
 use goo_types::account_no::AccountNo;

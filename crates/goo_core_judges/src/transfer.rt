@@ -15,7 +15,7 @@ ghost use Rattle.goo_types.specs.declared.reply.Reply.TheVariants.{Moved};
 ghost use Rattle.goo_spec.specs.Maps.{count_of};
 
 use goo_core_reads::callers::is_holder;
-use goo_core_rules::change::move_met;
+use goo_core_rules::moved_rows::move_met;
 use goo_core_rules::range_checks::trade_refusal;
 use goo_core_rules::ruling::{Change, Ruling};
 use goo_core_shelf::shelf::Shelf;

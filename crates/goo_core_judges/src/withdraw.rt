@@ -20,7 +20,7 @@ ghost use Rattle.goo_core_judges.specs.Ruling.{IsRuling, plain_meaning};
 ghost use Rattle.goo_core_judges.specs.Withdraw.{range_checks, withdrawn, run_withdrawn, runs_withdrawn};
 ghost use Rattle.goo_core_judges.specs.Withdraw.{AreCommon};
 
-use crate::change::push_edit;
+use crate::edits::push_edit;
 use crate::range_checks::least_not_held;
 use goo_core_reads::callers::is_issuer;
 use goo_core_rules::ruling::{Change, Ruling};

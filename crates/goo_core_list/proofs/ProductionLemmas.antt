@@ -14,7 +14,7 @@ use Rattle.goo_types.specs.declared.command.Declare.{Declare}
 use Rattle.goo_spec.specs.State.{text_cmp}
 use Rattle.goo_spec.specs.Declare.{declared_by, last_end}
 use Rattle.goo_spec.specs.Energy.{net, net_of}
-use Rattle.goo_core_list.specs.declared.production.Produced.{Produced}
+use Rattle.goo_core_list.specs.declared.listed_declarations.Produced.{Produced}
 use Rattle.goo_core_list.specs.Production.{net_by, last_day_in, net_in, AddsUp}
 
 -- texts are equal where their order ties them

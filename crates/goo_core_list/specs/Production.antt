@@ -6,7 +6,7 @@ use Rattle.goo_types.specs.declared.command.Declare.{Declare}
 use Rattle.goo_spec.specs.State.{text_cmp}
 use Rattle.goo_spec.specs.Declare.{declared_by, last_end}
 use Rattle.goo_spec.specs.Energy.{net_of}
-use Rattle.goo_core_list.specs.declared.production.Produced.{Produced}
+use Rattle.goo_core_list.specs.declared.listed_declarations.Produced.{Produced}
 
 -- the watt-hours that the device declared, less those of its auxiliaries
 abbrev pub net_by : List ℕ → List Declare → ℕ

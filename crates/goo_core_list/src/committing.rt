@@ -8,8 +8,8 @@ ghost use Rattle.goo_core_shelf.specs.Plan.{Fits, notice_sent};
 ghost use Rattle.goo_core_list.specs.States.{state_of, Changes};
 ghost use Rattle.goo_ranges_rows.specs.Certificates.{beside};
 
-use crate::kept::Kept;
 use crate::list_shelf::ListShelf;
+use crate::listed_reply::ListedReply;
 use crate::maps::{put, put_back};
 use goo_core_shelf::plan::Plan;
 use goo_types::fault::Fault;
@@ -25,7 +25,7 @@ impl ListShelf {
             (beside (state_of self.old).at (accept (state_of self.old) plan.now.request)) }
     {
         let request = &plan.request;
-        let kept = Kept::new(request.command.copy(alloc)?, plan.reply);
+        let kept = ListedReply::new(request.command.copy(alloc)?, plan.reply);
         let before = put(&mut self.receipts, (request.caller, request.key), kept)?;
         if let Err(fault) = self.change(alloc, plan) {
             put_back(&mut self.receipts, (request.caller, request.key), before);

@@ -7,10 +7,10 @@ ghost use Rattle.goo_ranges_rows.specs.Rows.{AreRowsOf};
 ghost use Rattle.goo_core_list.specs.States.{state_of};
 
 use crate::corrections::Corrections;
-use crate::kept::Kept;
+use crate::listed_declarations::ListedDeclarations;
+use crate::listed_reply::ListedReply;
 use crate::lot_key::LotKey;
 use crate::maps::empty_map;
-use crate::production::Production;
 use crate::rows::Rows;
 use crate::withdraw_record::WithdrawRecord;
 use goo_core_shelf::account::Account;
@@ -43,10 +43,10 @@ pub struct ListShelf {
     pub(crate) holders: BTreeMap<HolderCode, Name>,
     pub(crate) accounts: BTreeMap<AccountNo, Account>,
     pub(crate) devices: BTreeMap<Gsrn, Device>,
-    pub(crate) production: Production,
+    pub(crate) production: ListedDeclarations,
     pub(crate) corrections: Corrections,
     pub(crate) peers: BTreeMap<RegistryCode, ()>,
-    pub(crate) receipts: BTreeMap<(HolderCode, Key), Kept>,
+    pub(crate) receipts: BTreeMap<(HolderCode, Key), ListedReply>,
     pub(crate) arrived: BTreeMap<(RegistryCode, ActNo), Notice>,
     pub(crate) sent: BTreeMap<ActNo, Sent>,
     pub(crate) cancellations: BTreeMap<ActNo, CancelRecord>,
@@ -91,7 +91,7 @@ impl ListShelf {
             holders: empty_map(alloc),
             accounts: empty_map(alloc),
             devices: empty_map(alloc),
-            production: Production::new(alloc),
+            production: ListedDeclarations::new(alloc),
             corrections: Corrections::new(alloc),
             peers: empty_map(alloc),
             receipts: empty_map(alloc),

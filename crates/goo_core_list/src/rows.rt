@@ -67,7 +67,7 @@ fn corrected_in_row(row: &Piece, issued: u64, device: &Gsrn, corrections: &Corre
 /// How many of a registry's own certificates were issued to a device, and how many of them its
 /// corrections withdrew.
 #[derive(Clone, Copy)]
-pub struct Counted {
+pub struct CountedRows {
     /// Those that were issued.
     pub issued: u64,
     /// Those of them that were withdrawn.
@@ -80,7 +80,7 @@ fn counted_in_rows(
     own: RegistryCode,
     device: &Gsrn,
     corrections: &Corrections,
-) -> Counted
+) -> CountedRows
     requires { IsRising rows.now }
     ensures issued { result.issued ≡ sum_by (issued_in own device.now) rows.now }
     ensures corrected { result.corrected
@@ -93,7 +93,7 @@ fn counted_in_rows(
         corrected += corrected_in_row(row, count, device, corrections);
         issued += count;
     }
-    Counted { issued, corrected }
+    CountedRows { issued, corrected }
 }
 
 /// Adds copies of those rows whose place names an account.
@@ -216,7 +216,12 @@ impl Rows {
 
     /// How many of a registry's own certificates were issued to a device, and how many of them its
     /// corrections withdrew.
-    pub fn counted(&self, own: RegistryCode, device: &Gsrn, corrections: &Corrections) -> Counted
+    pub fn counted(
+        &self,
+        own: RegistryCode,
+        device: &Gsrn,
+        corrections: &Corrections,
+    ) -> CountedRows
         ensures issued { result.issued
             ≡ count_by (is_issued_to own device.now) (entries (certificates_of self.now.pieces)) }
         ensures corrected { result.corrected
@@ -231,7 +236,7 @@ impl Rows {
             issued += counted.issued;
             corrected += counted.corrected;
         }
-        Counted { issued, corrected }
+        CountedRows { issued, corrected }
     }
 
     /// Makes room for what some edits insert.

@@ -3,8 +3,8 @@
 ghost use Rattle.std.specs.Prelude.{◌≡◌};
 ghost use Rattle.goo_spec_runs.specs.NextRun.{from_of};
 
-use crate::kept::receipt_for;
 use crate::list_shelf::ListShelf;
+use crate::listed_reply::receipt_for;
 use crate::lot_key::LotKey;
 use crate::maps::find;
 use crate::notices::{arrival_for, copy_sent};

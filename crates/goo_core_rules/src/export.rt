@@ -7,7 +7,7 @@ ghost use Rattle.goo_types.specs.declared.place.Place.TheVariants.{Exported};
 ghost use Rattle.goo_ranges.specs.Change.{moved};
 ghost use Rattle.goo_core_rules.specs.Changes.{AreEditsFor};
 
-use crate::change::move_met;
+use crate::moved_rows::move_met;
 use goo_ranges::{Book, Edit};
 use goo_types::act_no::ActNo;
 use goo_types::command::Export;

@@ -2,6 +2,6 @@ pub mod Accounts
 pub mod BookFault
 pub mod Change
 pub mod Edit
-pub mod Kept
+pub mod BookRows
 pub mod Paging
 pub mod Sparing

@@ -26,7 +26,7 @@ mod changes;
 /// The pieces of a book: in the list that it was handed, or in pages, from the first edit of a long
 /// list on.
 #[derive(Drop)]
-enum Kept {
+enum BookRows {
     /// In one list.
     Whole(Page),
     /// In pages of few pieces each.
@@ -38,13 +38,13 @@ enum Kept {
 /// the pages that it meets, and the list of pages.
 #[derive(Drop)]
 pub struct Book {
-    kept: Kept,
+    kept: BookRows,
 }
 
 impl Model for Book {
     ghost use Rattle.std.specs.Prelude.{List};
     ghost use Rattle.goo_types.specs.declared.piece.Piece.{Piece};
-    ghost use Rattle.goo_ranges.specs.Kept.{pieces_of, IsInOrder};
+    ghost use Rattle.goo_ranges.specs.BookRows.{pieces_of, IsInOrder};
 
     ghost Value = { List Piece };
 
@@ -68,7 +68,7 @@ impl Book {
     {
         let page = Page::new(pieces)?;
         Ok(Book {
-            kept: Kept::Whole(page),
+            kept: BookRows::Whole(page),
         })
     }
 
@@ -78,7 +78,7 @@ impl Book {
         ensures { result ≡ rows.items }
     {
         Book {
-            kept: Kept::Whole(Page::of_rows(rows)),
+            kept: BookRows::Whole(Page::of_rows(rows)),
         }
     }
 
@@ -93,8 +93,8 @@ impl Book {
         ensures memory { IfErr result (λ fault. fault ≡ Fault.Memory) }
     {
         match &self.kept {
-            Kept::Whole(page) => page.to_pieces(),
-            Kept::Paged(pages) => joined_page(*pages.allocator(), pages)?.to_pieces(),
+            BookRows::Whole(page) => page.to_pieces(),
+            BookRows::Paged(pages) => joined_page(*pages.allocator(), pages)?.to_pieces(),
         }
     }
 
@@ -103,8 +103,8 @@ impl Book {
         ensures { result ≡ at_of self.now number }
     {
         match &self.kept {
-            Kept::Whole(page) => page.at(number),
-            Kept::Paged(pages) => at_in(pages, number),
+            BookRows::Whole(page) => page.at(number),
+            BookRows::Paged(pages) => at_in(pages, number),
         }
     }
 
@@ -114,8 +114,8 @@ impl Book {
     {
         let (first, last) = (range.first(), range.last());
         match &self.kept {
-            Kept::Whole(page) => page.least_missing_between(first, last),
-            Kept::Paged(pages) => least_missing_in(pages, first, last),
+            BookRows::Whole(page) => page.least_missing_between(first, last),
+            BookRows::Paged(pages) => least_missing_in(pages, first, last),
         }
     }
 
@@ -125,8 +125,8 @@ impl Book {
     {
         let (first, last) = (range.first(), range.last());
         match &self.kept {
-            Kept::Whole(page) => page.least_present_between(first, last),
-            Kept::Paged(pages) => least_present_in(pages, first, last),
+            BookRows::Whole(page) => page.least_present_between(first, last),
+            BookRows::Paged(pages) => least_present_in(pages, first, last),
         }
     }
 
@@ -145,8 +145,8 @@ impl Book {
     {
         let (first, last) = (range.first(), range.last());
         match &self.kept {
-            Kept::Whole(page) => page.least_not_between(first, last, test),
-            Kept::Paged(pages) => least_not_in(pages, first, last, test),
+            BookRows::Whole(page) => page.least_not_between(first, last, test),
+            BookRows::Paged(pages) => least_not_in(pages, first, last, test),
         }
     }
 
@@ -164,8 +164,8 @@ impl Book {
         ensures err { IfErr result (λ fault. fault ≡ Fault.Memory) }
     {
         match &self.kept {
-            Kept::Whole(page) => page.runs(),
-            Kept::Paged(pages) => joined_page(*pages.allocator(), pages)?.runs(),
+            BookRows::Whole(page) => page.runs(),
+            BookRows::Paged(pages) => joined_page(*pages.allocator(), pages)?.runs(),
         }
     }
 
@@ -180,8 +180,8 @@ impl Book {
         ensures memory { IfErr result (λ fault. fault ≡ Fault.Memory) }
     {
         match &self.kept {
-            Kept::Whole(page) => page.account_runs(),
-            Kept::Paged(pages) => joined_page(*pages.allocator(), pages)?.account_runs(),
+            BookRows::Whole(page) => page.account_runs(),
+            BookRows::Paged(pages) => joined_page(*pages.allocator(), pages)?.account_runs(),
         }
     }
 }

@@ -12,8 +12,8 @@ use Rattle.goo_tables_rows.specs.Rows.{Tables}
 use Rattle.goo_tables_rows.specs.Stands.{Looks, defects}
 use Rattle.goo_tables_rows.specs.declared.account.AccountRow.{AccountRow}
 use Rattle.goo_store_changes.specs.Changes.{made}
-use Rattle.goo_store_changes.specs.declared.change.TableChange.{TableChange}
-use Rattle.goo_store_changes.specs.declared.change.TableChange.TheVariants.{AddHolder, AddAccount, CloseAccount, AddDevice, AddDeclaration, SetProgress, AddLot, DeletePiece, InsertPiece, AddPeer, AddReceipt, AddCancellation, AddWithdrawal, AddNoticeOut, AddNoticeIn, AddCorrection, SetToday, SetCounters}
+use Rattle.goo_store_changes.specs.declared.table_change.TableChange.{TableChange}
+use Rattle.goo_store_changes.specs.declared.table_change.TableChange.TheVariants.{AddHolder, AddAccount, CloseAccount, AddDevice, AddDeclaration, SetProgress, AddLot, DeletePiece, InsertPiece, AddPeer, AddReceipt, AddCancellation, AddWithdrawal, AddNoticeOut, AddNoticeIn, AddCorrection, SetToday, SetCounters}
 use Rattle.goo_store_judge.specs.Holding.{is_sure, LeavesCommit, safe}
 use Rattle.goo_store_judge.specs.Moments.{tables_in, count, moment, IsWell}
 use Rattle.goo_store_judge.specs.StoreFaults.{BlamesStore}

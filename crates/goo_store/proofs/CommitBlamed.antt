@@ -10,7 +10,7 @@ use Rattle.goo_tables_rows.specs.Refused.{IsFault, IsTooBigOrFull}
 use Rattle.goo_tables_rows.specs.Rows.{Tables}
 use Rattle.goo_tables_rows.specs.Stands.{HoldsOurs, Stands, defects}
 use Rattle.goo_store_changes.specs.Changes.{made_all, AreFor, AreFree, HaveRoom}
-use Rattle.goo_store_changes.specs.declared.change.TableChange.{TableChange}
+use Rattle.goo_store_changes.specs.declared.table_change.TableChange.{TableChange}
 use Rattle.goo_store_values.specs.Passing.{IsStatementFaultOf}
 use Rattle.goo_store_plans.specs.Planned.{IsPlanned}
 use Rattle.goo_store_plans.specs.Room.{HaveRowids}

@@ -17,7 +17,7 @@ use Rattle.goo_tables_rows.specs.Rows.{Tables, tables_of}
 use Rattle.goo_tables_rows.specs.Stands.{Stands, Settled, Holds, HoldsOurs, AreOurs, defects}
 use Rattle.goo_tables_rows.proofs.Catalogued.{ours_of}
 use Rattle.goo_tables_rows.proofs.Decoded.{decoded}
-use Rattle.goo_store_changes.specs.declared.change.TableChange.{TableChange}
+use Rattle.goo_store_changes.specs.declared.table_change.TableChange.{TableChange}
 use Rattle.goo_store_values.specs.declared.statement_fault.StatementFault.{StatementFault}
 use Rattle.goo_store_values.specs.declared.statement_fault.StatementFault.TheVariants.{Memory, Refused}
 use Rattle.goo_store_changes.specs.Changes.{made_all, AreFor}

@@ -17,7 +17,7 @@ use Rattle.goo_spec_tables.specs.States.{state_of}
 use Rattle.goo_store_audit.specs.Counting.{IsTallyOf}
 use Rattle.goo_store_audit.specs.Summing.{summed_for, total_in, AreDeclaredBy, AreTakenBy}
 use Rattle.goo_store_audit.specs.declared.taken.Taken.{Taken}
-use Rattle.goo_store_audit.specs.declared.tallies.Tally.{Tally}
+use Rattle.goo_store_audit.specs.declared.tallies.DeviceTally.{DeviceTally}
 
 each_same : {K X Y : Type 0} (f g : K → Y) → ((k : K) → f k ≡ g k) → (es : List (K × X)) → map f (map (λ e. e.0) es) ≡ map (λ e. g e.0) es
 each_same f g same [] = refl
@@ -54,7 +54,7 @@ unfolding state_of
 state_totals t rising = totals_same (state_of t) (rows_of t) refl rising
 
 -- sums that are kept by device, told device by device
-module _ (own : ℕ) (ds : List Declare) (cs : List Correction) (rows : List Piece) (declared : BTreeMap (List ℕ) ℕ) (taken : Taken) (tally : Tally) where
+module _ (own : ℕ) (ds : List Declare) (cs : List Correction) (rows : List Piece) (declared : BTreeMap (List ℕ) ℕ) (taken : Taken) (tally : DeviceTally) where
   told_one : AreDeclaredBy ds declared → AreTakenBy cs taken → IsTallyOf own cs rows tally → (device : List ℕ) → total_in declared taken.lowered tally device ≡ summed_for own ds cs rows device
   told_one are took counts device = λ i. record {
     device = device;

@@ -13,7 +13,7 @@ ghost use Rattle.goo_store.specs.Caching.{AreAccountsOf, AreLeft, IsCacheOf};
 
 use crate::ahead::{RowAhead, ahead_among};
 use goo_core_shelf::account::Account;
-use goo_store_changes::change::TableChange;
+use goo_store_changes::table_change::TableChange;
 use goo_types::account_no::AccountNo;
 use goo_types::fault::Fault;
 use goo_types::number::Number;

@@ -5,7 +5,7 @@ ghost use Rattle.goo_tables_rows.specs.Rows.{Tables};
 ghost use Rattle.goo_store_changes.specs.Changes.{made, made_all};
 ghost use Rattle.goo_store_plans.specs.Found.{IsRowOf};
 
-use goo_store_changes::change::TableChange;
+use goo_store_changes::table_change::TableChange;
 use goo_tables_rows::meta::MetaRow;
 use sqlite::Error;
 

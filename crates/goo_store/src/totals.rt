@@ -17,7 +17,7 @@ use crate::sql_shelf::SqlShelf;
 use goo_core_shelf::found::DeviceTotals;
 use goo_store_audit::sums::totals_over;
 use goo_store_audit::taken::Taken;
-use goo_store_audit::tallies::{Tally, count_found};
+use goo_store_audit::tallies::{DeviceTally, count_found};
 use goo_store_values::noting::note_fault;
 use goo_tables_pages::device_pieces::page_of_pieces;
 use goo_types::fault::Fault;
@@ -35,7 +35,7 @@ impl<S: Alter> SqlShelf<S> {
         own: RegistryCode,
         withdrawals: &BTreeSet<(Gsrn, u32)>,
         low: u64,
-        tally: &mut Tally,
+        tally: &mut DeviceTally,
     ) -> Result<u64, Fault>
         requires { IsBelow low tally.old }
         ensures looks { Looks (seen_by self.old) (seen_by self.new) result
@@ -59,14 +59,14 @@ impl<S: Alter> SqlShelf<S> {
         alloc: Global,
         own: RegistryCode,
         withdrawals: &BTreeSet<(Gsrn, u32)>,
-    ) -> Result<Tally, Fault>
+    ) -> Result<DeviceTally, Fault>
         ensures looks { Looks (seen_by self.old) (seen_by self.new) result
             (λ tally. (cs : List Correction) → AreTakenBack cs withdrawals.now
             → IsTallyOf own cs (seen_by self.old).rows tally) }
         ensures store { Blames self.old self.new result }
         ensures below { IfOk result (IsBelow all_numbers) }
     {
-        let mut tally = Tally::none(alloc);
+        let mut tally = DeviceTally::none(alloc);
         let mut low = 0;
         let mut next = self.count_page(alloc, own, withdrawals, low, &mut tally)?;
         while low < next {

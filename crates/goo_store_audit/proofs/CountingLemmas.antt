@@ -19,7 +19,7 @@ use Rattle.goo_spec.specs.Energy.{is_taken_back, withdrew}
 use Rattle.goo_spec.specs.State.{Correction}
 use Rattle.goo_spec_tables.specs.Places.{piece_of, place_of, rows_of}
 use Rattle.goo_store_audit.specs.Counting.{Share, share_of, share_in, shares_of, took, withdrawal_in, issued_by, corrected_by, end_of, IsBelow, AreAdded, rows_from, IsPageAdded, IsCountedTo, IsTallyOf}
-use Rattle.goo_store_audit.specs.declared.tallies.Tally.{Tally}
+use Rattle.goo_store_audit.specs.declared.tallies.DeviceTally.{DeviceTally}
 use Rattle.goo_store_audit.proofs.Paging.{IsSpacedFrom, above, ending, none_left, page_sum, sum_by-map}
 use Rattle.goo_store_rules.specs.Correcting.{AreTakenBack}
 use Rattle.goo_store_rules.specs.Summing.{sum_at}
@@ -39,7 +39,7 @@ cond_most false n = omega arith
 pub still_below : (old new first count next : ℕ) (b : Bool) → old ≤ first → first + count ≤ next → new ≡ old + cond b count 0 → new ≤ next
 still_below old new first count next b before most is = let few = cond_most b count in omega (arith, before, most, is, few)
 
-pub weaker_below : (low next : ℕ) (tally : Tally) → low ≤ next → next ≤ 100000000000000 → IsBelow low tally → IsBelow next tally
+pub weaker_below : (low next : ℕ) (tally : DeviceTally) → low ≤ next → next ≤ 100000000000000 → IsBelow low tally → IsBelow next tally
 weaker_below low next tally up most it = record {
   most = most;
   issued = λ q. let few = it.issued q in omega (arith, up, few);
@@ -105,10 +105,10 @@ shares_push [] row = refl
 shares_push (x ∷ rows) row = ap (λ l. share_of (device_piece_in x) ∷ l) (shares_push rows row)
 
 module _ (own : ℕ) (withdrawals : BTreeSet (List ℕ × ℕ)) where
-  pub none_added : (tally : Tally) → AreAdded own withdrawals [] tally tally
+  pub none_added : (tally : DeviceTally) → AreAdded own withdrawals [] tally tally
   none_added tally = record { issued = λ q. omega arith; corrected = λ cs are q. omega arith }
 
-  pub added_push : (rows : List DevicePieceRow) (row : DevicePieceRow) (old mid new : Tally) → AreAdded own withdrawals (shares_of rows) old mid → AreAdded own withdrawals (share_of (device_piece_in row) ∷ []) mid new
+  pub added_push : (rows : List DevicePieceRow) (row : DevicePieceRow) (old mid new : DeviceTally) → AreAdded own withdrawals (shares_of rows) old mid → AreAdded own withdrawals (share_of (device_piece_in row) ∷ []) mid new
       → AreAdded own withdrawals (shares_of (rows ++ row ∷ [])) old new
   added_push rows row old mid new first second = subst (λ l. AreAdded own withdrawals l old new) (sym (shares_push rows row)) (record {
     issued = λ q.
@@ -161,7 +161,7 @@ module _ (rows : List Piece) (rising : IsRising rows) (low : ℕ) where
       let g = λ (p : Piece). f (share_in p) in
       page_sum from_first to_last low rows (spaced 0 rows rising) g ∙ ap (λ n. n + sum_by g (rows_from next rows)) (sym (sum_by-map f share_in shown))
 
-  module _ (own : ℕ) (withdrawals : BTreeSet (List ℕ × ℕ)) (old new : Tally) where
+  module _ (own : ℕ) (withdrawals : BTreeSet (List ℕ × ℕ)) (old new : DeviceTally) where
     page_is_added : AreAdded own withdrawals (map share_in shown) old new → IsPageAdded own withdrawals rows low next old new
     page_is_added it = record {
       issued = λ q.
@@ -214,7 +214,7 @@ shares_shown t low rows is =
 -- ---- page after page
 
 module _ (own : ℕ) (withdrawals : BTreeSet (List ℕ × ℕ)) (rows : List Piece) where
-  pub counting_begins : (rising : IsRising rows) (next : ℕ) (old new : Tally) → ((q : List ℕ) → sum_at old.issued q ≡ 0) → ((q : List ℕ) → sum_at old.corrected q ≡ 0) → IsPageAdded own withdrawals rows 0 next old new
+  pub counting_begins : (rising : IsRising rows) (next : ℕ) (old new : DeviceTally) → ((q : List ℕ) → sum_at old.issued q ≡ 0) → ((q : List ℕ) → sum_at old.corrected q ≡ 0) → IsPageAdded own withdrawals rows 0 next old new
       → IsCountedTo own withdrawals rows 0 next new
   counting_begins rising next old new none_issued none_corrected it =
       let all = above from_first to_last 0 0 rows (omega arith) (spaced 0 rows rising) in record {
@@ -231,7 +231,7 @@ module _ (own : ℕ) (withdrawals : BTreeSet (List ℕ × ℕ)) (rows : List Pie
         none_left = it.none_left;
       }
 
-  pub counting_goes : (before low next : ℕ) (old new : Tally) → IsCountedTo own withdrawals rows before low old → IsPageAdded own withdrawals rows low next old new → IsCountedTo own withdrawals rows low next new
+  pub counting_goes : (before low next : ℕ) (old new : DeviceTally) → IsCountedTo own withdrawals rows before low old → IsPageAdded own withdrawals rows low next old new → IsCountedTo own withdrawals rows low next new
   counting_goes before low next old new so it = record {
     issued = λ q.
         let more = it.issued q in
@@ -244,7 +244,7 @@ module _ (own : ℕ) (withdrawals : BTreeSet (List ℕ × ℕ)) (rows : List Pie
     none_left = it.none_left;
   }
 
-  pub counting_ends : (low next : ℕ) (tally : Tally) → next ≤ low → IsCountedTo own withdrawals rows low next tally → (cs : List Correction) → AreTakenBack cs withdrawals → IsTallyOf own cs rows tally
+  pub counting_ends : (low next : ℕ) (tally : DeviceTally) → next ≤ low → IsCountedTo own withdrawals rows low next tally → (cs : List Correction) → AreTakenBack cs withdrawals → IsTallyOf own cs rows tally
   counting_ends low next tally few so cs are =
       let nothing = so.none_left few in record {
         issued = λ q.

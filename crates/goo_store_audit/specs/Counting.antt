@@ -14,7 +14,7 @@ use Rattle.goo_ranges_rows.specs.Certificates.{issued_in, corrected_in}
 use Rattle.goo_spec_tables.specs.Readable.{reads}
 use Rattle.goo_store_rules.specs.Correcting.{AreTakenBack}
 use Rattle.goo_store_rules.specs.Summing.{sum_at}
-use Rattle.goo_store_audit.specs.declared.tallies.Tally.{Tally}
+use Rattle.goo_store_audit.specs.declared.tallies.DeviceTally.{DeviceTally}
 use Rattle.goo_tables_pages.specs.DevicePieces.{device_piece_in}
 use Rattle.goo_tables_pages.specs.declared.device_pieces.DevicePieceRow.{DevicePieceRow}
 use Rattle.goo_tables_rows.specs.declared.piece.PieceRow.{PieceRow}
@@ -77,13 +77,13 @@ end_of low [] = low
 end_of low (s ∷ rest) = end_of (s.last + 1) rest
 
 -- no device has more certificates in the tally than there are numbers below `low`
-pub record IsBelow (low : ℕ) (tally : Tally) : Type 0 where
+pub record IsBelow (low : ℕ) (tally : DeviceTally) : Type 0 where
   pub most : low ≤ all_numbers
   pub issued : (q : List ℕ) → sum_at tally.issued q ≤ low
   pub corrected : (q : List ℕ) → sum_at tally.corrected q ≤ low
 
 -- these rows were added to the tally
-pub record AreAdded (own : ℕ) (withdrawals : BTreeSet (List ℕ × ℕ)) (shares : List Share) (old new : Tally) : Type 0 where
+pub record AreAdded (own : ℕ) (withdrawals : BTreeSet (List ℕ × ℕ)) (shares : List Share) (old new : DeviceTally) : Type 0 where
   pub issued : (q : List ℕ) → sum_at new.issued q ≡ sum_at old.issued q + sum_by (issued_by own q) shares
   pub corrected : (cs : List Correction) → AreTakenBack cs withdrawals → (q : List ℕ) → sum_at new.corrected q ≡ sum_at old.corrected q + sum_by (corrected_by own q cs) shares
 
@@ -94,19 +94,19 @@ abbrev pub rows_from : ℕ → List Piece → List Piece
 rows_from low = filter (λ p. nat_le low p.first)
 
 -- with the rows that are left the tally comes to what it came to before, and where none was counted none is left
-pub record IsPageAdded (own : ℕ) (withdrawals : BTreeSet (List ℕ × ℕ)) (rows : List Piece) (low next : ℕ) (old new : Tally) : Type 0 where
+pub record IsPageAdded (own : ℕ) (withdrawals : BTreeSet (List ℕ × ℕ)) (rows : List Piece) (low next : ℕ) (old new : DeviceTally) : Type 0 where
   pub issued : (q : List ℕ) → sum_at new.issued q + sum_by (issued_in own q) (rows_from next rows) ≡ sum_at old.issued q + sum_by (issued_in own q) (rows_from low rows)
   pub corrected : (cs : List Correction) → AreTakenBack cs withdrawals → (q : List ℕ)
       → sum_at new.corrected q + sum_by (corrected_in own q cs) (rows_from next rows) ≡ sum_at old.corrected q + sum_by (corrected_in own q cs) (rows_from low rows)
   pub none_left : next ≤ low → rows_from next rows ≡ []
 
 -- with the rows that are left the tally comes to all rows, and where the last page was empty none is left
-pub record IsCountedTo (own : ℕ) (withdrawals : BTreeSet (List ℕ × ℕ)) (rows : List Piece) (low next : ℕ) (tally : Tally) : Type 0 where
+pub record IsCountedTo (own : ℕ) (withdrawals : BTreeSet (List ℕ × ℕ)) (rows : List Piece) (low next : ℕ) (tally : DeviceTally) : Type 0 where
   pub issued : (q : List ℕ) → sum_at tally.issued q + sum_by (issued_in own q) (rows_from next rows) ≡ sum_by (issued_in own q) rows
   pub corrected : (cs : List Correction) → AreTakenBack cs withdrawals → (q : List ℕ) → sum_at tally.corrected q + sum_by (corrected_in own q cs) (rows_from next rows) ≡ sum_by (corrected_in own q cs) rows
   pub none_left : next ≤ low → rows_from next rows ≡ []
 
 -- the tally has each device's certificates in these rows
-pub record IsTallyOf (own : ℕ) (cs : List Correction) (rows : List Piece) (tally : Tally) : Type 0 where
+pub record IsTallyOf (own : ℕ) (cs : List Correction) (rows : List Piece) (tally : DeviceTally) : Type 0 where
   pub issued : (q : List ℕ) → sum_at tally.issued q ≡ sum_by (issued_in own q) rows
   pub corrected : (q : List ℕ) → sum_at tally.corrected q ≡ sum_by (corrected_in own q cs) rows

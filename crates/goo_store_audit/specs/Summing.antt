@@ -10,7 +10,7 @@ use Rattle.goo_ranges_rows.specs.Certificates.{issued_in, corrected_in}
 use Rattle.goo_store_rules.specs.Correcting.{AreTakenBack}
 use Rattle.goo_store_rules.specs.Summing.{sum_at}
 use Rattle.goo_store_audit.specs.declared.taken.Taken.{Taken}
-use Rattle.goo_store_audit.specs.declared.tallies.Tally.{Tally}
+use Rattle.goo_store_audit.specs.declared.tallies.DeviceTally.{DeviceTally}
 
 -- a device's energy by these declarations and corrections, and its certificates in these rows
 abbrev pub summed_for : ℕ → List Declare → List Correction → List Piece → List ℕ → DeviceTotals
@@ -24,7 +24,7 @@ summed_for own declared corrections rows device = record {
 }
 
 -- the same as sums that are kept by device tell it: what was declared, what was taken off, and the certificates
-abbrev pub total_in : BTreeMap (List ℕ) ℕ → BTreeMap (List ℕ) ℕ → Tally → List ℕ → DeviceTotals
+abbrev pub total_in : BTreeMap (List ℕ) ℕ → BTreeMap (List ℕ) ℕ → DeviceTally → List ℕ → DeviceTotals
 total_in declared lowered tally device = record {
   device = device;
   declared_wh = sum_at declared device;

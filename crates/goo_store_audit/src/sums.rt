@@ -11,7 +11,7 @@ ghost use Rattle.goo_store_audit.specs.Summing.{total_in};
 ghost use Rattle.goo_store_rules.specs.Summing.{sum_at};
 ghost use Rattle.goo_store_values.specs.declared.statement_fault.StatementFault.TheVariants.{Memory};
 
-use crate::tallies::Tally;
+use crate::tallies::DeviceTally;
 use goo_core_shelf::found::DeviceTotals;
 use goo_store_rules::sums::sum_for;
 use goo_store_values::statement_fault::StatementFault;
@@ -39,7 +39,7 @@ fn count_for(counts: &BTreeMap<Gsrn, u128>, device: &Gsrn) -> u64
 fn total_of(
     declared: &BTreeMap<Gsrn, u128>,
     lowered: &BTreeMap<Gsrn, u128>,
-    tally: &Tally,
+    tally: &DeviceTally,
     device: &Gsrn,
 ) -> DeviceTotals
     requires { IsBelow all_numbers tally.now }
@@ -63,7 +63,7 @@ pub fn totals_over(
     devices: &[Gsrn],
     declared: &BTreeMap<Gsrn, u128>,
     lowered: &BTreeMap<Gsrn, u128>,
-    tally: &Tally,
+    tally: &DeviceTally,
 ) -> Result<Vec<DeviceTotals>, StatementFault>
     requires { IsBelow all_numbers tally.now }
     ensures value { IfOk result

@@ -35,21 +35,21 @@ const WITHDRAWN: u32 = 4;
 
 /// The certificates of each device in the rows that were counted.
 #[derive(Drop)]
-pub struct Tally {
+pub struct DeviceTally {
     /// How many were issued to it.
     pub issued: BTreeMap<Gsrn, u128>,
     /// How many of them its corrections withdrew.
     pub corrected: BTreeMap<Gsrn, u128>,
 }
 
-impl Tally {
+impl DeviceTally {
     /// No row is counted yet.
-    pub fn none(alloc: Global) -> Tally
+    pub fn none(alloc: Global) -> DeviceTally
         ensures issued { (q : List ℕ) → sum_at result.issued q ≡ 0 }
         ensures corrected { (q : List ℕ) → sum_at result.corrected q ≡ 0 }
         ensures below { IsBelow 0 result }
     {
-        Tally {
+        DeviceTally {
             issued: BTreeMap::new(alloc),
             corrected: BTreeMap::new(alloc),
         }
@@ -110,7 +110,7 @@ fn count_row(
     withdrawals: &BTreeSet<(Gsrn, u32)>,
     row: &DevicePieceRow,
     low: u64,
-    tally: &mut Tally,
+    tally: &mut DeviceTally,
 ) -> Result<u64, StatementFault>
     requires { IsBelow low tally.old }
     ensures next { IfOk result
@@ -136,7 +136,7 @@ fn count_rows(
     withdrawals: &BTreeSet<(Gsrn, u32)>,
     rows: &[DevicePieceRow],
     low: u64,
-    tally: &mut Tally,
+    tally: &mut DeviceTally,
 ) -> Result<u64, StatementFault>
     requires { IsBelow low tally.old }
     ensures next { IfOk result (λ next. next ≡ end_of low (shares_of rows.now)) }
@@ -159,7 +159,7 @@ pub fn count_found(
     withdrawals: &BTreeSet<(Gsrn, u32)>,
     found: Result<Vec<DevicePieceRow>, Error>,
     low: u64,
-    tally: &mut Tally,
+    tally: &mut DeviceTally,
 ) -> Result<u64, StatementFault>
     requires { IsBelow low tally.old }
     ensures value { Passes found result

@@ -8,8 +8,8 @@ use Rattle.goo_tables_rows.specs.Once.{IsOnce}
 use Rattle.goo_tables_rows.specs.Refused.{IsSmall, CanBeKept, HasRoomFor}
 use Rattle.goo_tables_rows.specs.Rows.{Tables, meta_row, holder_in, holder_row, account_in, account_row, device_in, device_row, declaration_in, declaration_row, lot_in, piece_row, peer_row, receipt_in, receipt_row, cancellation_in, cancellation_row, withdrawal_in, withdrawal_row, notice_out_in, notice_out_row, notice_in_in, notice_in_row, correction_in, correction_row, account_key, declaration_key, piece_key, cancellation_key, withdrawal_key, notice_out_key, correction_key}
 use Rattle.goo_tables_accounts.specs.Changes.{with_holder, with_account, with_closed, with_device, IsNewDevice, HasRoomForDevice, with_progress, progressed, with_declaration, with_lot, IsNewLot, IsSmallLot, with_piece, without_piece, with_peer, with_receipt, with_cancellation, with_withdrawal, with_notice_out, with_notice_in, with_correction, at_day, with_counters, DeviceFits, DeclarationFits, LotFits, PieceFits, ReceiptFits, CancellationFits, WithdrawalFits, CorrectionFits, CountersFit}
-use Rattle.goo_store_changes.specs.declared.change.TableChange.{TableChange}
-use Rattle.goo_store_changes.specs.declared.change.TableChange.TheVariants.{AddHolder, AddAccount, CloseAccount, AddDevice, AddDeclaration, SetProgress, AddLot, DeletePiece, InsertPiece, AddPeer, AddReceipt, AddCancellation, AddWithdrawal, AddNoticeOut, AddNoticeIn, AddCorrection, SetToday, SetCounters}
+use Rattle.goo_store_changes.specs.declared.table_change.TableChange.{TableChange}
+use Rattle.goo_store_changes.specs.declared.table_change.TableChange.TheVariants.{AddHolder, AddAccount, CloseAccount, AddDevice, AddDeclaration, SetProgress, AddLot, DeletePiece, InsertPiece, AddPeer, AddReceipt, AddCancellation, AddWithdrawal, AddNoticeOut, AddNoticeIn, AddCorrection, SetToday, SetCounters}
 
 -- the tables with the change
 abbrev pub made : Tables → TableChange → Tables

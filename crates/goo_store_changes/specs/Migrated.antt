@@ -6,7 +6,7 @@ use Rattle.goo_tables_rows.specs.Refused.{IsSmall}
 use Rattle.goo_tables_rows.specs.Rows.{Tables, meta_row}
 use Rattle.goo_tables_accounts.specs.Changes.{with_version}
 use Rattle.goo_store_changes.specs.Changes.{made_all, HaveRoom}
-use Rattle.goo_store_changes.specs.declared.change.TableChange.{TableChange}
+use Rattle.goo_store_changes.specs.declared.table_change.TableChange.{TableChange}
 
 -- inside a transaction that sees these tables of version 1
 pub record SeesFirst (s : State) (t : Tables) : Type 0 where

@@ -9,7 +9,7 @@ ghost use Rattle.goo_tables_rows.specs.Refused.{IsFault, IsTooBigOrFull};
 ghost use Rattle.goo_tables_rows.specs.Stands.{Stands, Settled, HoldsOurs};
 ghost use Rattle.goo_store_changes.specs.Changes.{made_all, ChangeFits, AreFor, AreFree, HaveRoom};
 
-use crate::change::{TableChange, make_all};
+use crate::table_change::{TableChange, make_all};
 use sqlite::{Alter, Connection, Error};
 
 /// Makes all changes and commits them, or none.

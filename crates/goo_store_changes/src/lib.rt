@@ -1,7 +1,7 @@
 //! Changes of the tables of a registry, made all in one transaction or none.
 #![tactic(auto)]
 
-pub mod change;
 pub mod committing;
 pub mod migrating;
 mod once;
+pub mod table_change;

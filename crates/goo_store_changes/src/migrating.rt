@@ -13,7 +13,7 @@ ghost use Rattle.goo_tables_accounts.specs.Changes.{with_version};
 ghost use Rattle.goo_store_changes.specs.Changes.{made_all, ChangeFits, AreFor, AreFree, HaveRoom};
 ghost use Rattle.goo_store_changes.specs.Migrated.{SeesFirst, HasRoomToMigrate};
 
-use crate::change::{TableChange, make_all};
+use crate::table_change::{TableChange, make_all};
 use goo_tables::create::add_tables;
 use goo_tables::meta::set_version;
 use sqlite::{Alter, Connection, Error, Transaction};

@@ -47,8 +47,8 @@ use Rattle.goo_spec_tables.specs.Texts.{day_of}
 use Rattle.goo_store_plans.specs.Acted.{IsActed}
 use Rattle.goo_store_plans.specs.Carried.{Does, counters_in}
 use Rattle.goo_store_changes.specs.Changes.{made, made_all, IsFor, IsFree, HasRoom}
-use Rattle.goo_store_changes.specs.declared.change.TableChange.{TableChange}
-use Rattle.goo_store_changes.specs.declared.change.TableChange.TheVariants as change
+use Rattle.goo_store_changes.specs.declared.table_change.TableChange.{TableChange}
+use Rattle.goo_store_changes.specs.declared.table_change.TableChange.TheVariants as change
 use Rattle.goo_store_plans.proofs.ActsActed.{numbers, account_acted, cancellation_acted, withdrawal_acted, export_acted, advance_acted}
 use Rattle.goo_store_plans.proofs.CarriersAdded.{no_device_word}
 use Rattle.goo_store_plans.proofs.ClosingActed.{closing_acted}

@@ -27,8 +27,8 @@ use Rattle.goo_store_plans.specs.Carried.{AreInOrder, Carry, Does}
 use Rattle.goo_store_changes.specs.Changes.{made, made_all, IsFor, AreFor, IsFree, AreFree, HasRoom, HaveRoom}
 use Rattle.goo_store_plans.specs.Correcting.{IsBasis, LeavesThese, Lowers, TakesOut}
 use Rattle.goo_store_plans.specs.Room.{HaveRowids}
-use Rattle.goo_store_changes.specs.declared.change.TableChange.{TableChange}
-use Rattle.goo_store_changes.specs.declared.change.TableChange.TheVariants.{AddCorrection}
+use Rattle.goo_store_changes.specs.declared.table_change.TableChange.{TableChange}
+use Rattle.goo_store_changes.specs.declared.table_change.TableChange.TheVariants.{AddCorrection}
 use Rattle.goo_store_plans.specs.declared.correction_basis.CorrectionBasis.{CorrectionBasis}
 use Rattle.goo_store_values.specs.declared.statement_fault.StatementFault.{StatementFault}
 use Rattle.goo_store_plans.proofs.CommandsActed.{quiet}

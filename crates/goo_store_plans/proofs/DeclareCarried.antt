@@ -36,7 +36,7 @@ use Rattle.goo_store_plans.specs.Declaring.{Begins, Issues, IsDue}
 use Rattle.goo_store_plans.specs.LotNumbers.{AreJustWith}
 use Rattle.goo_store_plans.specs.NewLots.{known_lots}
 use Rattle.goo_store_plans.specs.Room.{HaveRowids}
-use Rattle.goo_store_changes.specs.declared.change.TableChange.TheVariants.{AddDeclaration, AddLot, SetCounters}
+use Rattle.goo_store_changes.specs.declared.table_change.TableChange.TheVariants.{AddDeclaration, AddLot, SetCounters}
 use Rattle.goo_store_plans.specs.declared.gathered_lots.Gathered.{Gathered}
 use Rattle.goo_store_plans.specs.declared.standing.DeclarationBasis.{DeclarationBasis}
 use Rattle.goo_store_plans.proofs.ActsActed.{numbers}

@@ -21,8 +21,8 @@ use Rattle.goo_tables_rows.specs.Rows.{Tables, Lot, lot_in, lot_key}
 use Rattle.goo_spec_tables.specs.Places.{rows_of}
 use Rattle.goo_spec_tables.specs.States.{state_of}
 use Rattle.goo_store_changes.specs.Changes.{ChangeFits, made, made_all}
-use Rattle.goo_store_changes.specs.declared.change.TableChange.{TableChange}
-use Rattle.goo_store_changes.specs.declared.change.TableChange.TheVariants.{AddHolder, AddAccount, CloseAccount, AddDevice, AddDeclaration, SetProgress, AddLot, DeletePiece, InsertPiece, AddPeer, AddReceipt, AddCancellation, AddWithdrawal, AddCorrection, AddNoticeOut, AddNoticeIn, SetToday, SetCounters}
+use Rattle.goo_store_changes.specs.declared.table_change.TableChange.{TableChange}
+use Rattle.goo_store_changes.specs.declared.table_change.TableChange.TheVariants.{AddHolder, AddAccount, CloseAccount, AddDevice, AddDeclaration, SetProgress, AddLot, DeletePiece, InsertPiece, AddPeer, AddReceipt, AddCancellation, AddWithdrawal, AddCorrection, AddNoticeOut, AddNoticeIn, SetToday, SetCounters}
 use Rattle.goo_store_plans.specs.AtHand.{IsAtHand}
 use Rattle.goo_store_plans.specs.Carrying.{CarriesOut}
 use Rattle.goo_store_plans.specs.EditsTaken.{CanTakeEdits, HaveKeptNumbers}

@@ -18,8 +18,8 @@ use Rattle.goo_tables_accounts.specs.Changes.{without_piece, with_piece}
 use Rattle.goo_store_changes.specs.Changes.{made_all, IsFree, AreFree}
 use Rattle.goo_store_plans.specs.EditChanges.{AreRowsOf, AreForEdit, AreForEdits}
 use Rattle.goo_spec_tables.specs.Readable.{is_piece}
-use Rattle.goo_store_changes.specs.declared.change.TableChange.{TableChange}
-use Rattle.goo_store_changes.specs.declared.change.TableChange.TheVariants.{DeletePiece, InsertPiece}
+use Rattle.goo_store_changes.specs.declared.table_change.TableChange.{TableChange}
+use Rattle.goo_store_changes.specs.declared.table_change.TableChange.TheVariants.{DeletePiece, InsertPiece}
 use Rattle.goo_spec_tables.proofs.Inserted.{all_inserted}
 use Rattle.goo_store_plans.proofs.InTurn.{none_in_turn, first_in_turn, both_in_turn}
 use Rattle.goo_store_plans.proofs.LotsAdded.{none_there}

@@ -24,8 +24,8 @@ use Rattle.goo_tables_rows.specs.Rows.{Tables, Lot, lot_key, lot_in}
 use Rattle.goo_tables_rows.specs.declared.lot.LotRow.{LotRow}
 use Rattle.goo_tables_accounts.specs.Changes.{with_lot}
 use Rattle.goo_store_changes.specs.Changes.{made_all, IsFor, AreFor, IsFree, AreFree}
-use Rattle.goo_store_changes.specs.declared.change.TableChange.{TableChange}
-use Rattle.goo_store_changes.specs.declared.change.TableChange.TheVariants.{AddHolder, AddAccount, CloseAccount, AddDevice, AddDeclaration, SetProgress, AddLot, DeletePiece, InsertPiece, AddPeer, AddReceipt, AddCancellation, AddWithdrawal, AddCorrection, AddNoticeOut, AddNoticeIn, SetToday, SetCounters}
+use Rattle.goo_store_changes.specs.declared.table_change.TableChange.{TableChange}
+use Rattle.goo_store_changes.specs.declared.table_change.TableChange.TheVariants.{AddHolder, AddAccount, CloseAccount, AddDevice, AddDeclaration, SetProgress, AddLot, DeletePiece, InsertPiece, AddPeer, AddReceipt, AddCancellation, AddWithdrawal, AddCorrection, AddNoticeOut, AddNoticeIn, SetToday, SetCounters}
 use Rattle.goo_spec_tables.specs.Devices.{declaration_of}
 use Rattle.goo_spec_tables.specs.Places.{lot_of}
 use Rattle.goo_spec_tables.specs.States.{known_lot}

@@ -29,7 +29,7 @@ use Rattle.goo_store_plans.specs.LotNumbers.{AreJustWith}
 use Rattle.goo_store_plans.specs.LotRows.{with_rows}
 use Rattle.goo_store_plans.specs.NewLots.{AreNewLots}
 use Rattle.goo_store_plans.specs.Room.{HaveRowids}
-use Rattle.goo_store_changes.specs.declared.change.TableChange.TheVariants.{AddLot, AddNoticeIn}
+use Rattle.goo_store_changes.specs.declared.table_change.TableChange.TheVariants.{AddLot, AddNoticeIn}
 use Rattle.goo_store_plans.specs.declared.gathered_lots.Gathered.{Gathered}
 use Rattle.goo_store_plans.proofs.FreeChanges.{all_for, no_notice, free_lots}
 use Rattle.goo_store_plans.proofs.ImportingActed.{absent, importing_acted, lots_made, lots_put}

@@ -35,7 +35,7 @@ use Rattle.goo_spec_tables.specs.Kept.{AreKept}
 use Rattle.goo_store_plans.specs.NewLots.{known_lots, AreNewLots}
 use Rattle.goo_spec_tables.specs.Readable.{is_notice_in}
 use Rattle.goo_spec_tables.specs.States.{state_of, known_lot, known_arrival}
-use Rattle.goo_store_changes.specs.declared.change.TableChange.TheVariants.{AddLot}
+use Rattle.goo_store_changes.specs.declared.table_change.TableChange.TheVariants.{AddLot}
 use Rattle.goo_store_plans.proofs.CommandsActed.{progress_same, texts_apart}
 use Rattle.goo_spec_tables.proofs.Inserted.{all_inserted, map_inserted}
 use Rattle.goo_spec_tables.proofs.Known.{notice_total, text_same}

@@ -2,7 +2,7 @@
 use Rattle.std.proofs.Common.{All, ℕ, zero, suc, ◌<◌, List, [], ◌∷◌, ◌++◌, length, take, get_or, arith}
 use Rattle.goo_tables_rows.specs.Rows.{Tables}
 use Rattle.goo_store_changes.specs.Changes.{made, made_all}
-use Rattle.goo_store_changes.specs.declared.change.TableChange.{TableChange}
+use Rattle.goo_store_changes.specs.declared.table_change.TableChange.{TableChange}
 
 module _ (Q : Tables → TableChange → Type 0) where
   abbrev pub AreInTurn : Tables → List TableChange → Type 0

@@ -22,9 +22,9 @@ use Rattle.goo_store_plans.specs.EditChanges.{AreForEdit, AreForEdits}
 use Rattle.goo_store_plans.specs.LotNumbers.{AreJustWith}
 use Rattle.goo_store_plans.specs.Planned.{IsPlanned}
 use Rattle.goo_store_plans.specs.Room.{HaveRowids}
-use Rattle.goo_store_changes.specs.declared.change.TableChange.{TableChange}
+use Rattle.goo_store_changes.specs.declared.table_change.TableChange.{TableChange}
 use Rattle.goo_store_plans.specs.declared.gathered_lots.Gathered.{Gathered}
-use Rattle.goo_store_changes.specs.declared.change.TableChange.TheVariants.{DeletePiece, InsertPiece, AddReceipt}
+use Rattle.goo_store_changes.specs.declared.table_change.TableChange.TheVariants.{DeletePiece, InsertPiece, AddReceipt}
 use Rattle.goo_store_plans.proofs.Carrying.{IsCalm, all_one}
 use Rattle.goo_store_plans.proofs.Gathering.{with_none}
 use Rattle.goo_store_plans.proofs.InTurn.{both_in_turn, always_in_turn}

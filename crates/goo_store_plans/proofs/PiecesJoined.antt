@@ -15,8 +15,8 @@ use Rattle.goo_tables_rows.specs.Rows.{Tables, piece_key}
 use Rattle.goo_tables_rows.specs.declared.piece.PieceRow.{PieceRow}
 use Rattle.goo_spec_tables.specs.Renewed.{goes_on, join_before, joined_pieces}
 use Rattle.goo_store_changes.specs.Changes.{made, made_all, IsFor, IsFree, AreFree, HasRoom}
-use Rattle.goo_store_changes.specs.declared.change.TableChange.{TableChange}
-use Rattle.goo_store_changes.specs.declared.change.TableChange.TheVariants.{DeletePiece, InsertPiece}
+use Rattle.goo_store_changes.specs.declared.table_change.TableChange.{TableChange}
+use Rattle.goo_store_changes.specs.declared.table_change.TableChange.TheVariants.{DeletePiece, InsertPiece}
 use Rattle.goo_store_plans.specs.JoiningChanges.{step_changes, step_of, wide_of, first_of, changes_to_join, JoinsPieces}
 use Rattle.goo_store_plans.proofs.InTurn.{none_in_turn, first_in_turn, both_in_turn, always_in_turn}
 

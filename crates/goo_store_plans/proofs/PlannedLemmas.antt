@@ -44,8 +44,8 @@ use Rattle.goo_store_plans.specs.Room.{HaveRowids}
 use Rattle.goo_spec_tables.specs.Readable.{is_receipt}
 use Rattle.goo_spec_tables.specs.Replies.{receipt_of}
 use Rattle.goo_spec_tables.specs.States.{state_of, known_receipt}
-use Rattle.goo_store_changes.specs.declared.change.TableChange.{TableChange}
-use Rattle.goo_store_changes.specs.declared.change.TableChange.TheVariants.{AddReceipt}
+use Rattle.goo_store_changes.specs.declared.table_change.TableChange.{TableChange}
+use Rattle.goo_store_changes.specs.declared.table_change.TableChange.TheVariants.{AddReceipt}
 use Rattle.goo_store_plans.proofs.EditsMade.{AreGood, edits_made}
 use Rattle.goo_spec_tables.proofs.Inserted.{all_inserted, map_inserted}
 use Rattle.goo_spec_tables.proofs.Known.{receipt_total}

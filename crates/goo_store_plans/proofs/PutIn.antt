@@ -9,7 +9,7 @@ use Rattle.goo_tables_rows.specs.Rows.{Lot, lot_key, lot_in}
 use Rattle.goo_store_plans.specs.GatheredLots.{AddsLot, ArePutIn}
 use Rattle.goo_store_plans.specs.LotRows.{is_among, AreGathered}
 use Rattle.goo_store_plans.specs.NewLots.{known_lots}
-use Rattle.goo_store_changes.specs.declared.change.TableChange.TheVariants.{AddLot}
+use Rattle.goo_store_changes.specs.declared.table_change.TableChange.TheVariants.{AddLot}
 use Rattle.goo_store_plans.specs.declared.gathered_lots.Gathered.{Gathered}
 use Rattle.goo_store_plans.proofs.Gathering.{gathered_first, gathered_known, gathered_new}
 

@@ -17,7 +17,7 @@ use Rattle.goo_tables_accounts.specs.declared.counters.CountersRow.{CountersRow}
 use Rattle.goo_tables_accounts.specs.Changes.{HasRoomForWord, IsSmallLot, with_counters}
 use Rattle.goo_spec_tables.specs.Readable.{is_code, is_account, is_device, is_maybe_other, is_meta}
 use Rattle.goo_store_changes.specs.Changes.{HasRoom}
-use Rattle.goo_store_changes.specs.declared.change.TableChange.TheVariants.{AddLot, CloseAccount, SetCounters}
+use Rattle.goo_store_changes.specs.declared.table_change.TableChange.TheVariants.{AddLot, CloseAccount, SetCounters}
 use Rattle.goo_store_plans.specs.Acted.{IsReceiptOf}
 use Rattle.goo_store_plans.specs.NewLots.{AreNewLots}
 use Rattle.goo_store_plans.specs.Room.{HasRowid}

@@ -15,7 +15,7 @@ use Rattle.goo_tables_rows.specs.Rows.{Lot, lot_key}
 use Rattle.goo_tables_rows.specs.declared.piece.PieceRow.{PieceRow}
 use Rattle.goo_spec_tables.specs.Places.{lot_of, piece_of}
 use Rattle.goo_spec_tables.specs.Readable.{is_piece}
-use Rattle.goo_store_changes.specs.declared.change.TableChange.{TableChange}
+use Rattle.goo_store_changes.specs.declared.table_change.TableChange.{TableChange}
 use Rattle.goo_store_plans.specs.EditChanges.{IsRowOf, AreRowsOf, AreForEdit, AreForEdits}
 use Rattle.goo_store_plans.specs.LotNumbers.{IsNumberOf, IsRowOfLot}
 

@@ -14,7 +14,7 @@ use Rattle.goo_spec_tables.specs.States.{state_of}
 use Rattle.goo_store_plans.specs.Acted.{IsActed}
 use Rattle.goo_store_plans.specs.Room.{HaveRowids}
 use Rattle.goo_store_changes.specs.Changes.{made_all, AreFor, AreFree, HaveRoom}
-use Rattle.goo_store_changes.specs.declared.change.TableChange.{TableChange}
+use Rattle.goo_store_changes.specs.declared.table_change.TableChange.{TableChange}
 
 -- the rows of each table come in the order of their keys
 pub record AreInOrder (t : Tables) : Type 0 where

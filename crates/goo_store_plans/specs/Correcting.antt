@@ -17,8 +17,8 @@ use Rattle.goo_store_plans.specs.AtHand.{HasRoom}
 use Rattle.goo_store_changes.specs.Changes.{made_all, AreFor, AreFree, HaveRoom}
 use Rattle.goo_store_plans.specs.Progressing.{HasEnded, SetsProgress}
 use Rattle.goo_store_plans.specs.Room.{HaveRowids}
-use Rattle.goo_store_changes.specs.declared.change.TableChange.{TableChange}
-use Rattle.goo_store_changes.specs.declared.change.TableChange.TheVariants.{AddCorrection}
+use Rattle.goo_store_changes.specs.declared.table_change.TableChange.{TableChange}
+use Rattle.goo_store_changes.specs.declared.table_change.TableChange.TheVariants.{AddCorrection}
 use Rattle.goo_store_plans.specs.declared.correction_basis.CorrectionBasis.{CorrectionBasis}
 
 -- where the device's last period ends, and the number that a correction gets

@@ -23,8 +23,8 @@ use Rattle.goo_store_plans.specs.Found.{IsBasisOf}
 use Rattle.goo_store_plans.specs.GatheredLots.{AddsLot}
 use Rattle.goo_store_plans.specs.Progressing.{SetsProgress}
 use Rattle.goo_store_plans.specs.Standing.{IsStanding}
-use Rattle.goo_store_changes.specs.declared.change.TableChange.{TableChange}
-use Rattle.goo_store_changes.specs.declared.change.TableChange.TheVariants.{AddDeclaration}
+use Rattle.goo_store_changes.specs.declared.table_change.TableChange.{TableChange}
+use Rattle.goo_store_changes.specs.declared.table_change.TableChange.TheVariants.{AddDeclaration}
 use Rattle.goo_store_plans.specs.declared.known_rows.KnownBasis.{KnownBasis}
 use Rattle.goo_store_plans.specs.declared.gathered_lots.Gathered.{Gathered}
 use Rattle.goo_store_plans.specs.declared.standing.DeclarationBasis.{DeclarationBasis}

@@ -7,8 +7,8 @@ use Rattle.goo_tables_rows.specs.Rows.{Lot, lot_key}
 use Rattle.goo_tables_rows.specs.declared.piece.PieceRow.{PieceRow}
 use Rattle.goo_spec_tables.specs.Places.{piece_of}
 use Rattle.goo_spec_tables.specs.Readable.{is_piece}
-use Rattle.goo_store_changes.specs.declared.change.TableChange.{TableChange}
-use Rattle.goo_store_changes.specs.declared.change.TableChange.TheVariants.{DeletePiece, InsertPiece}
+use Rattle.goo_store_changes.specs.declared.table_change.TableChange.{TableChange}
+use Rattle.goo_store_changes.specs.declared.table_change.TableChange.TheVariants.{DeletePiece, InsertPiece}
 
 -- a row states the piece, beside the lot that it names
 pub record IsRowOf (lots : List Lot) (x : PieceRow) (p : Piece) : Type 0 where

@@ -8,7 +8,7 @@ use Rattle.goo_ranges.specs.declared.edits.Edit.{Edit}
 use Rattle.goo_tables_rows.specs.Rows.{Lot}
 use Rattle.goo_store_plans.specs.EditChanges.{AreForEdit}
 use Rattle.goo_store_plans.specs.LotNumbers.{AreNumbered}
-use Rattle.goo_store_changes.specs.declared.change.TableChange.{TableChange}
+use Rattle.goo_store_changes.specs.declared.table_change.TableChange.{TableChange}
 use Rattle.goo_store_plans.specs.declared.lot_numbers.NumberedLot.{NumberedLot}
 
 -- the changes of an edit are put behind, for any lots that have the numbers found

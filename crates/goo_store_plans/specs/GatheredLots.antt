@@ -8,7 +8,7 @@ use Rattle.goo_spec_tables.specs.Kept.{IsKeptLot}
 use Rattle.goo_spec_tables.specs.Places.{lot_of}
 use Rattle.goo_spec_tables.specs.Readable.{is_lot}
 use Rattle.goo_store_plans.specs.LotRows.{AreGathered}
-use Rattle.goo_store_changes.specs.declared.change.TableChange.TheVariants.{AddLot}
+use Rattle.goo_store_changes.specs.declared.table_change.TableChange.TheVariants.{AddLot}
 use Rattle.goo_store_plans.specs.declared.gathered_lots.Gathered.{Gathered}
 
 -- a row of the lot is put in, under the next number

@@ -8,7 +8,7 @@ use Rattle.goo_store_changes.specs.Changes.{made_all, AreFor, AreFree, HaveRoom}
 use Rattle.goo_spec_tables.specs.Kept.{AreKept}
 use Rattle.goo_spec_tables.specs.Places.{rows_of}
 use Rattle.goo_spec_tables.specs.States.{state_of}
-use Rattle.goo_store_changes.specs.declared.change.TableChange.{TableChange}
+use Rattle.goo_store_changes.specs.declared.table_change.TableChange.{TableChange}
 use Rattle.goo_store_plans.specs.Room.{HaveRowids}
 
 -- they can be made in turn, each where it is free and has room, they leave the state after the plan's request and the rows after its edits, and the rules are kept

@@ -11,7 +11,7 @@ use Rattle.goo_spec_tables.specs.Devices.{device_row, progress_in}
 use Rattle.goo_spec_tables.specs.Readable.{reads}
 use Rattle.goo_spec_tables.specs.Texts.{day_of}
 use Rattle.goo_store_changes.specs.Changes.{made, IsFor, IsFree, HasRoom}
-use Rattle.goo_store_changes.specs.declared.change.TableChange.{TableChange}
+use Rattle.goo_store_changes.specs.declared.table_change.TableChange.{TableChange}
 
 -- the change sets the last day of the device's last period, and its carry, in the one row of the device
 pub record SetsProgress (device : List ℕ) (day : CalendarDay) (carry : ℕ) (c : TableChange) : Type 0 where

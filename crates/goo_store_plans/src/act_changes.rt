@@ -14,7 +14,7 @@ ghost use Rattle.goo_store_values.specs.declared.statement_fault.StatementFault.
 use crate::new_notices::notice_out_row;
 use crate::new_rows::{cancellation_row, day_string, withdrawal_row};
 use crate::next_numbers::next_numbers;
-use goo_store_changes::change::TableChange;
+use goo_store_changes::table_change::TableChange;
 use goo_store_values::statement_fault::StatementFault;
 use goo_store_values::{numbers, texts};
 use goo_tables_accounts::counters::CountersRow;

@@ -12,7 +12,7 @@ ghost use Rattle.goo_store_values.specs.declared.statement_fault.StatementFault.
 use crate::act_changes::{advance, cancel, export, withdraw};
 use crate::member_changes::{add_peer, close_account, open_account, open_holder, register_device};
 use goo_core_shelf::plan::Plan;
-use goo_store_changes::change::TableChange;
+use goo_store_changes::table_change::TableChange;
 use goo_store_values::statement_fault::StatementFault;
 use goo_tables_rows::meta::MetaRow;
 use goo_types::command::Command;

@@ -21,7 +21,7 @@ ghost use Rattle.goo_store_values.specs.declared.statement_fault.StatementFault.
 use crate::lot_numbers::{NumberedLot, numbers_of};
 use crate::new_pieces::piece_row;
 use goo_ranges::Edit;
-use goo_store_changes::change::TableChange;
+use goo_store_changes::table_change::TableChange;
 use goo_store_values::statement_fault::StatementFault;
 use goo_tables_rows::piece::PieceRow;
 use goo_types::lot::Lot;

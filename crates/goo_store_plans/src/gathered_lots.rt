@@ -22,7 +22,7 @@ ghost use Rattle.goo_store_values.specs.declared.statement_fault.StatementFault.
 
 use crate::lot_numbers::NumberedLot;
 use crate::new_lots::lot_row;
-use goo_store_changes::change::TableChange;
+use goo_store_changes::table_change::TableChange;
 use goo_store_values::statement_fault::StatementFault;
 use goo_tables::lot::{find_lot, last_lot};
 use goo_tables_rows::lot::LotRow;

@@ -18,7 +18,7 @@ ghost use Rattle.goo_store_values.specs.declared.statement_fault.StatementFault.
 use crate::gathered_lots::{Gathered, gather_lots};
 use crate::lot_numbers::NumberedLot;
 use goo_notice::write;
-use goo_store_changes::change::TableChange;
+use goo_store_changes::table_change::TableChange;
 use goo_store_values::statement_fault::StatementFault;
 use goo_tables_rows::notice_in::NoticeInRow;
 use goo_types::command::{Command, Import};

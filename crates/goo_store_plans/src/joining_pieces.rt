@@ -8,7 +8,7 @@ ghost use Rattle.goo_store_changes.specs.Changes.{ChangeFits};
 ghost use Rattle.goo_store_plans.specs.JoiningChanges.{step_of, wide_of, JoinsPieces};
 ghost use Rattle.goo_store_values.specs.declared.statement_fault.StatementFault.TheVariants.{Memory};
 
-use goo_store_changes::change::TableChange;
+use goo_store_changes::table_change::TableChange;
 use goo_store_rules::cut::joins;
 use goo_store_values::statement_fault::StatementFault;
 use goo_tables_rows::piece::PieceRow;

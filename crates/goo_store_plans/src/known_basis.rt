@@ -15,7 +15,7 @@ ghost use Rattle.goo_store_plans.specs.StoreFaults.{BlamesDisk};
 use crate::gathered_lots::next_lot_number;
 use crate::known_rows::KnownBasis;
 use crate::standing::next_declaration_number;
-use goo_store_changes::change::TableChange;
+use goo_store_changes::table_change::TableChange;
 use goo_store_values::statement_fault::StatementFault;
 use goo_types::command::Command;
 use sqlite::{Alter, Connection};

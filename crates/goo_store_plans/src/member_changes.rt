@@ -11,7 +11,7 @@ ghost use Rattle.goo_store_values.specs.declared.statement_fault.StatementFault.
 use crate::new_devices::device_row;
 use crate::new_rows::{account_row, holder_row, peer_row};
 use crate::next_numbers::next_numbers;
-use goo_store_changes::change::TableChange;
+use goo_store_changes::table_change::TableChange;
 use goo_store_values::numbers;
 use goo_store_values::statement_fault::StatementFault;
 use goo_tables_accounts::counters::CountersRow;

@@ -25,7 +25,7 @@ use crate::act_changes::withdraw;
 use crate::correction_basis::{CorrectionBasis, find_basis};
 use crate::device_progress::progress_change;
 use crate::new_rows::{act_or_zero, day_string};
-use goo_store_changes::change::TableChange;
+use goo_store_changes::table_change::TableChange;
 use goo_store_values::statement_fault::StatementFault;
 use goo_tables_rows::correction::CorrectionRow;
 use goo_tables_rows::meta::MetaRow;

@@ -29,7 +29,7 @@ use crate::known_rows::KnownBasis;
 use crate::new_rows::day_string;
 use crate::standing::{DeclarationBasis, find_standing};
 use goo_core_shelf::device::Device;
-use goo_store_changes::change::TableChange;
+use goo_store_changes::table_change::TableChange;
 use goo_store_values::statement_fault::StatementFault;
 use goo_store_values::{numbers, texts};
 use goo_tables_accounts::counters::CountersRow;

@@ -39,7 +39,7 @@ use crate::new_declarations::declare_changes;
 use crate::new_receipts::receipt_row;
 use crate::registry_row::known_row;
 use goo_core_shelf::plan::Plan;
-use goo_store_changes::change::TableChange;
+use goo_store_changes::table_change::TableChange;
 use goo_store_values::statement_fault::StatementFault;
 use goo_tables_rows::meta::MetaRow;
 use goo_types::command::{Command, Correct, Declare};

@@ -2,7 +2,7 @@
 
 use crate::disks::Disks;
 use crate::requests::{ACCEPTED, FIRST, REPEATED};
-use crate::steps::{EDITED, Row, Step, come_to};
+use crate::steps::{EDITED, Step, StepRow, come_to};
 
 /// A device of hydrogen, and the same once more under its key, and under it with another carrier.
 const DEVICE: &str =
@@ -21,7 +21,7 @@ ISSUER {"command":"import","key":"y6","notice":{"account":1,"addressee":7,"numbe
 "#;
 
 /// Runs one after another, and a carrier that is damaged and mended in between.
-const ROWS: [Row; 8] = [
+const ROWS: [StepRow; 8] = [
     (Step::Inits(7, 1), "0\nready 07\n"),
     (Step::Runs(FIRST), ACCEPTED),
     (

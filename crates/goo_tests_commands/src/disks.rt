@@ -12,7 +12,7 @@ use std::process::Abort;
 
 /// A disk that fails for good after some calls: at each, or at each write alone.
 #[derive(Drop)]
-pub struct Failing<D: Disk> {
+pub struct FailingDisk<D: Disk> {
     inner: D,
     /// How many of the calls that count come before it fails.
     calls_left: u64,
@@ -23,10 +23,10 @@ pub struct Failing<D: Disk> {
     sync_refused: bool,
 }
 
-impl<D: Disk> Failing<D> {
+impl<D: Disk> FailingDisk<D> {
     /// A disk that works.
-    fn new(inner: D) -> Failing<D> {
-        Failing {
+    fn new(inner: D) -> FailingDisk<D> {
+        FailingDisk {
             inner,
             calls_left: u64::MAX,
             writes_alone: false,
@@ -58,7 +58,7 @@ fn pass(counts: bool, calls_left: &mut u64, refused: &mut u64) -> io::Result<()>
     Ok(())
 }
 
-impl<D: Disk> Disk for Failing<D> {
+impl<D: Disk> Disk for FailingDisk<D> {
     ghost seen = { λ disk. D.Disk.seen disk.inner };
 
     ghost may_leave = { λ disk. D.Disk.may_leave disk.inner };
@@ -134,7 +134,7 @@ impl<D: Disk> Disk for Failing<D> {
 }
 
 /// The machine comes back, and the disk works.
-impl<D: Crash> Crash for Failing<D> {
+impl<D: Crash> Crash for FailingDisk<D> {
     fn crash(&mut self) {
         self.inner.crash();
         self.calls_left = u64::MAX;
@@ -147,7 +147,7 @@ impl<D: Crash> Crash for Failing<D> {
 /// check seconds.
 #[derive(Drop)]
 pub struct Disks {
-    pub files: Files<Failing<Memory>>,
+    pub files: Files<FailingDisk<Memory>>,
 }
 
 /// What both disks hold.
@@ -169,8 +169,8 @@ impl Disks {
     pub fn blank(alloc: Global) -> Disks {
         Disks {
             files: Files {
-                log: Failing::new(Memory::new(alloc)),
-                db: Failing::new(Memory::new(alloc)),
+                log: FailingDisk::new(Memory::new(alloc)),
+                db: FailingDisk::new(Memory::new(alloc)),
             },
         }
     }
@@ -201,7 +201,7 @@ impl Disks {
         let Files { log: _, db } = self.files;
         Disks {
             files: Files {
-                log: Failing::new(Memory::new(alloc)),
+                log: FailingDisk::new(Memory::new(alloc)),
                 db,
             },
         }

@@ -2,10 +2,10 @@
 
 use crate::disks::Disks;
 use crate::requests::{ACCEPTED, FIRST, REPEATED};
-use crate::steps::{Row, Step, come_to};
+use crate::steps::{Step, StepRow, come_to};
 
 /// A registry is made once, and answers its first requests once.
-const BEGINNING: [Row; 6] = [
+const BEGINNING: [StepRow; 6] = [
     (Step::Inits(7, 1), "0\nready 07\n"),
     (Step::Inits(7, 1), "1 goo: already there\n"),
     (Step::Runs(FIRST), ACCEPTED),
@@ -16,7 +16,7 @@ const BEGINNING: [Row; 6] = [
 
 /// Lines that are refused or can't be read, between others, and new requests after them: the next
 /// account, the next certificate.
-const GOING_ON: [Row; 4] = [
+const GOING_ON: [StepRow; 4] = [
     (
         Step::Runs(
             r#"ISSUER {"aux_wh":0,"command":"declare","device":"500000000000000012","first_day":"2025-02-01","gross_wh":5,"key":"d3","last_day":"2025-02-28"}
@@ -56,7 +56,7 @@ fn a_run_goes_on_where_the_last_one_ended(rt: HostRuntime) {
 }
 
 /// Another registry, whose first certificate has the next serial that it was made with.
-const ANOTHER: [Row; 2] = [
+const ANOTHER: [StepRow; 2] = [
     (Step::Inits(42, 500), "0\nready 42\n"),
     (
         Step::Runs(FIRST),

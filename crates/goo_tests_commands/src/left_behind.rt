@@ -4,15 +4,15 @@
 use crate::claims::holds;
 use crate::disks::Disks;
 use crate::requests::{ACCEPTED, FIRST, REPEATED};
-use crate::steps::{Row, Step, come_to, does};
+use crate::steps::{Step, StepRow, come_to, does};
 use std::alloc::Global;
 use std::process::Abort;
 
 /// A new registry.
-const MADE: [Row; 1] = [(Step::Inits(7, 1), "0\nready 07\n")];
+const MADE: [StepRow; 1] = [(Step::Inits(7, 1), "0\nready 07\n")];
 
 /// A command that is refused where a registry is, and the accepted requests once more.
-const REFUSED: [Row; 2] = [
+const REFUSED: [StepRow; 2] = [
     (Step::Inits(7, 1), "1 goo: already there\n"),
     (Step::Runs(FIRST), REPEATED),
 ];

@@ -4,7 +4,7 @@
 use crate::claims::holds;
 use crate::disks::Disks;
 use crate::requests::{ACCEPTED, FIRST, REPEATED};
-use crate::steps::{EDITED, Row, Step, come_to, comes_to, does};
+use crate::steps::{EDITED, Step, StepRow, come_to, comes_to, does};
 use std::alloc::Global;
 use std::process::Abort;
 
@@ -15,7 +15,7 @@ UPDATE piece SET last = 7000000000099 WHERE first = 7000000000001; \
 INSERT INTO piece VALUES (7000000000100, 7000000000199, 1, 1, 1, 0), (7000000000200, 7000000001200, 1, 1, 1, 0)";
 
 /// A registry of version 1 with the certificates of January in three pieces.
-const OF_VERSION_1: [Row; 3] = [
+const OF_VERSION_1: [StepRow; 3] = [
     (Step::Inits(7, 1), "0\nready 07\n"),
     (Step::Runs(FIRST), ACCEPTED),
     (Step::Edits(OLD), EDITED),
@@ -23,7 +23,7 @@ const OF_VERSION_1: [Row; 3] = [
 
 /// It is renewed once. Then it has one piece, since the other two can be put there again, where
 /// they are one piece too many; and pieces that could be one are damaged.
-const RENEWED: [Row; 10] = [
+const RENEWED: [StepRow; 10] = [
     (
         Step::Runs(""),
         "goo: registry.db: version 1 becomes version 2\n0\n",
@@ -54,7 +54,7 @@ const RENEWED: [Row; 10] = [
 
 /// What the tables of version 1 are refused for, which leaves them as they are: a value that breaks
 /// a rule, the version of other tables, a table too few.
-const REFUSED: [Row; 11] = [
+const REFUSED: [StepRow; 11] = [
     (Step::Edits("UPDATE device SET carry = 1"), EDITED),
     (Step::Runs(FIRST), "3 goo: damaged\n"),
     (Step::Edits("UPDATE device SET carry = 999999"), EDITED),

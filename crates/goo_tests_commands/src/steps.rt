@@ -8,11 +8,11 @@ ghost use Rattle.std.specs.Prelude.{IsTrue};
 use crate::claims::holds;
 use crate::disks::Disks;
 use goo_cli::Opening;
+use goo_cli_disk::settling::Settled;
 use goo_cli_ending::Ending;
-use goo_cli_registry::creating::init_in_files;
+use goo_cli_jobs::init_in_files;
 use goo_cli_registry::renewal_line::RenewalLine;
 use goo_cli_registry::running::run_in_files;
-use goo_cli_registry::settling::Settled;
 use goo_types::day::Day;
 use goo_types::registry_code::RegistryCode;
 use goo_types::serial::Serial;
@@ -35,7 +35,7 @@ pub enum Step<'a> {
 
 /// A step and what it comes to: the line that tells of a renewal if there is one, the exit status,
 /// the line on standard error if there is one, and then what standard output gets.
-pub type Row = (Step<'static>, &'static str);
+pub type StepRow = (Step<'static>, &'static str);
 
 /// What is told of an edit.
 pub const EDITED: &str = "edited";
@@ -140,7 +140,7 @@ pub fn does(rt: &impl Abort, alloc: Global, disks: Disks, step: &Step<'_>) -> (S
 
 /// A step comes to what it should. Where it ends with its status and a line on standard error, the
 /// disks hold what they held.
-pub fn comes_to(rt: &impl Abort, alloc: Global, disks: Disks, row: &Row) -> Disks {
+pub fn comes_to(rt: &impl Abort, alloc: Global, disks: Disks, row: &StepRow) -> Disks {
     let before = disks.contents(rt, alloc);
     let (told, disks) = does(rt, alloc, disks, &row.0);
     let is_spared = !row.1.contains(" goo: ") || disks.hold(&before);
@@ -150,7 +150,7 @@ pub fn comes_to(rt: &impl Abort, alloc: Global, disks: Disks, row: &Row) -> Disk
 }
 
 /// Steps that are done one after another come to what they should.
-pub fn come_to(rt: &impl Abort, alloc: Global, disks: Disks, rows: &[Row]) -> Disks {
+pub fn come_to(rt: &impl Abort, alloc: Global, disks: Disks, rows: &[StepRow]) -> Disks {
     let mut disks = disks;
     for row in rows {
         disks = comes_to(rt, alloc, disks, row);

@@ -3,12 +3,12 @@
 use crate::claims::holds;
 use crate::disks::Disks;
 use crate::requests::{ACCEPTED, FIRST, REPEATED};
-use crate::steps::{EDITED, Row, Step, come_to, comes_to, does};
+use crate::steps::{EDITED, Step, StepRow, come_to, comes_to, does};
 use std::alloc::Global;
 use std::process::Abort;
 
 /// A registry with some records.
-const REGISTRY: [Row; 2] = [
+const REGISTRY: [StepRow; 2] = [
     (Step::Inits(7, 1), "0\nready 07\n"),
     (Step::Runs(FIRST), ACCEPTED),
 ];
@@ -17,7 +17,7 @@ const REGISTRY: [Row; 2] = [
 const NO_REGISTRY: &str = "3 goo: not a registry\n";
 
 /// Runs where there is no registry, until one is made.
-const NONE: [Row; 4] = [
+const NONE: [StepRow; 4] = [
     (Step::Runs(FIRST), NO_REGISTRY),
     (Step::Runs(""), NO_REGISTRY),
     (Step::Inits(7, 1), "0\nready 07\n"),
@@ -25,7 +25,7 @@ const NONE: [Row; 4] = [
 ];
 
 /// A run over tables of somebody else.
-const SOMEBODY_ELSES: [Row; 3] = [
+const SOMEBODY_ELSES: [StepRow; 3] = [
     (
         Step::Edits(
             "CREATE TABLE plan (id INTEGER PRIMARY KEY) STRICT; INSERT INTO plan VALUES (1)",
@@ -38,7 +38,7 @@ const SOMEBODY_ELSES: [Row; 3] = [
 
 /// A registry of a later version, one with the number of the first version on tables of this one,
 /// and one with a value that breaks a rule: each until that is undone.
-const CHANGED: [Row; 15] = [
+const CHANGED: [StepRow; 15] = [
     (Step::Edits("UPDATE meta SET version = 9"), EDITED),
     (Step::Runs(FIRST), "3 goo: version 9\n"),
     (Step::Inits(7, 1), "1 goo: already there\n"),

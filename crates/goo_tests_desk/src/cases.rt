@@ -1,5 +1,7 @@
 //! Requests, and what they are answered.
 
+use crate::wire::{AUDIT, AUDITED};
+
 /// What is sent, and the first line of the answer.
 pub const CASES: [(&str, &str); 27] = [
     ("garbage\r\n\r\n", "HTTP/1.1 400 Bad Request\r\n"),
@@ -110,7 +112,8 @@ pub const CASES: [(&str, &str); 27] = [
 ];
 
 /// What is sent, and the whole answer.
-pub const WORKED: [(&str, &str); 7] = [
+pub const WORKED: [(&str, &str); 8] = [
+    (AUDIT, AUDITED),
     (
         "GET /v1/audit HTTP/1.1\r\nHost: x\r\nGOO-Caller: VOLT\r\n\r\n",
         "HTTP/1.1 403 Forbidden\r\nContent-Type: text/plain; charset=utf-8\r\nContent-Length: 10\r\nConnection: close\r\n\r\nForbidden\n",

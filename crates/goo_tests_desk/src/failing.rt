@@ -62,12 +62,12 @@ impl Write for Taking {
 
 /// A backend over records that fail at each call.
 #[derive(Drop)]
-pub struct Failing {
+pub struct FailingBackend {
     /// How they fail.
     pub fault: Fault,
 }
 
-impl Desk for Failing {
+impl Desk for FailingBackend {
     ghost use Rattle.std.specs.Prelude.{◌≡◌, Some};
     ghost use Rattle.goo_tests_desk.specs.Failing.{begun, refused_by};
 
@@ -90,7 +90,7 @@ impl Desk for Failing {
     ghost settled = { λ d none o is. is };
 }
 
-impl Backend for Failing {
+impl Backend for FailingBackend {
     ghost use Rattle.std.specs.Prelude.{◌≡◌};
 
     ghost shows = { λ s caller subject shown. Unit {0} };

@@ -1,7 +1,8 @@
 //! What a registry over any shelf gives out.
 
-use crate::requests::{CANCELLATION, DEVICE, MEMBERS, QUARTER, THERE_AND_BACK, sends};
-use crate::wanted::{AUDIT, DOCUMENT, GIVEN, HOLDINGS, LEFT, STATEMENT};
+use crate::claims::holds;
+use crate::wanted::STATEMENT;
+use crate::writers::ShortWriter;
 use goo_core_shelf::shelf::Shelf;
 use goo_files::{ShowFault, write_audit, write_cancellation, write_holdings_csv, write_statement};
 use goo_registry::Registry;
@@ -23,6 +24,9 @@ pub enum Text {
     /// The audit.
     Audit,
 }
+
+/// Who asks for what, and what is given, or why it isn't.
+pub type Asked = (&'static str, Text, Result<&'static str, ShowFault>);
 
 /// What a caller who asks is given.
 fn given<S: Shelf>(
@@ -62,11 +66,12 @@ fn gives<S: Shelf>(
     let mut out = Vec::new(alloc);
     let written = given(alloc, registry, &caller, text, &mut out);
     match wanted {
-        Ok(wanted) => assert!(rt;
+        Ok(wanted) => holds(
+            rt,
             written.is_ok() && out.as_slice() == wanted.as_bytes(),
-            "{wanted}"
+            wanted,
         ),
-        Err(fault) => assert!(rt; written == Err(fault) && out.is_empty(), "denied"),
+        Err(fault) => holds(rt, written == Err(fault) && out.is_empty(), "denied"),
     }
 }
 
@@ -75,59 +80,29 @@ pub fn gives_all<S: Shelf>(
     rt: &impl Abort,
     alloc: Global,
     registry: &mut Registry<S>,
-    asked: &[(&str, Text, Result<&str, ShowFault>)],
+    asked: &[Asked],
 ) {
     for (caller, text, wanted) in asked {
         gives(rt, alloc, registry, caller, *text, *wanted);
     }
 }
 
-/// The texts of a quarter, from a new registry on.
-pub fn gives_a_quarter<S: Shelf>(rt: &impl Abort, alloc: Global, registry: &mut Registry<S>) {
-    gives_all(rt, alloc, registry, &[("ISSUER", Text::Audit, Ok(""))]);
-    sends(rt, alloc, registry, &MEMBERS);
-    sends(rt, alloc, registry, &DEVICE);
-    sends(rt, alloc, registry, &QUARTER);
-    gives_all(
+/// A writer of the statement of the first account fails after so many bytes, and has these.
+pub fn fails_to_write<S: Shelf>(
+    rt: &impl Abort,
+    alloc: Global,
+    registry: &mut Registry<S>,
+    room: usize,
+) {
+    let sun = HolderCode::read(b"SUN").expect(rt, "a caller");
+    let text = Vec::new(alloc);
+    let mut writer = ShortWriter { text, room };
+    let written = write_statement(registry, &sun, AccountNo::new(1).unwrap(), &mut writer);
+    holds(rt, written == Err(ShowFault::Write), "the writer failed");
+    let text = writer.text.as_slice();
+    holds(
         rt,
-        alloc,
-        registry,
-        &[
-            ("ISSUER", Text::Statement(1), Ok(STATEMENT)),
-            ("SUN", Text::Statement(1), Ok(STATEMENT)),
-            ("VOLT", Text::Statement(1), Err(ShowFault::NotAllowed)),
-            ("SUN", Text::Statement(3), Err(ShowFault::NotAllowed)),
-            ("ISSUER", Text::Statement(3), Err(ShowFault::Unknown)),
-            ("SUN", Text::Holdings(1), Ok(HOLDINGS)),
-            ("VOLT", Text::Holdings(1), Err(ShowFault::NotAllowed)),
-            ("ISSUER", Text::Audit, Ok(AUDIT)),
-            ("SUN", Text::Audit, Err(ShowFault::NotAllowed)),
-        ],
-    );
-    sends(rt, alloc, registry, &THERE_AND_BACK[..1]);
-    gives_all(
-        rt,
-        alloc,
-        registry,
-        &[("VOLT", Text::Statement(2), Ok(GIVEN))],
-    );
-    sends(rt, alloc, registry, &THERE_AND_BACK[1..]);
-    gives_all(
-        rt,
-        alloc,
-        registry,
-        &[("SUN", Text::Statement(1), Ok(STATEMENT))],
-    );
-    sends(rt, alloc, registry, &CANCELLATION);
-    gives_all(
-        rt,
-        alloc,
-        registry,
-        &[
-            ("SUN", Text::Document(1), Ok(DOCUMENT)),
-            ("VOLT", Text::Document(1), Err(ShowFault::NotAllowed)),
-            ("ISSUER", Text::Document(2), Err(ShowFault::Unknown)),
-            ("SUN", Text::Holdings(1), Ok(LEFT)),
-        ],
-    );
+        text.len() == room && STATEMENT.as_bytes().starts_with(text),
+        "a beginning",
+    )
 }

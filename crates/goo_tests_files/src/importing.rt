@@ -1,5 +1,6 @@
 //! Declarations imported from CSV.
 
+use crate::claims::holds;
 use goo_core_shelf::shelf::Shelf;
 use goo_files::{
     Cause, ImportFault, ImportWatcher, Report, import_declarations_watched, write_report,
@@ -15,12 +16,12 @@ pub const ROWS: &str =
 
 /// How far an import is.
 #[derive(Clone, Copy)]
-struct Counted {
+struct RowCounter {
     rows: u64,
     done: u64,
 }
 
-impl ImportWatcher for Counted {
+impl ImportWatcher for RowCounter {
     fn is_watched(&self) -> bool {
         true
     }
@@ -40,10 +41,10 @@ fn imported<S: Shelf>(
     alloc: Global,
     registry: &mut Registry<S>,
     input: &str,
-) -> (Result<Report, ImportFault>, Counted) {
+) -> (Result<Report, ImportFault>, RowCounter) {
     let issuer = HolderCode::read(b"ISSUER").expect(rt, "a caller");
     let mut reader = input.as_bytes();
-    let mut counted = Counted { rows: 0, done: 0 };
+    let mut counted = RowCounter { rows: 0, done: 0 };
     let report = import_declarations_watched(alloc, registry, &issuer, &mut reader, &mut counted);
     (report, counted)
 }
@@ -61,9 +62,9 @@ pub fn reports<S: Shelf>(
     match report {
         Ok(report) => {
             let mut out = Vec::new(alloc);
-            assert!(rt; write_report(&report, &mut out).is_ok(), "written");
-            assert!(rt; out.as_slice() == wanted.as_bytes(), "{wanted}");
-            assert!(rt; counted.rows == rows && counted.done == rows, "all rows");
+            holds(rt, write_report(&report, &mut out).is_ok(), "written");
+            holds(rt, out.as_slice() == wanted.as_bytes(), wanted);
+            holds(rt, counted.rows == rows && counted.done == rows, "all rows");
         }
         Err(_) => panic!(rt; "an import that stopped"),
     }
@@ -77,9 +78,10 @@ pub fn lacks_header<S: Shelf>(
     input: &str,
 ) {
     match imported(rt, alloc, registry, input) {
-        (Err(fault), _) => assert!(rt;
+        (Err(fault), _) => holds(
+            rt,
             fault.cause == Cause::Header && fault.report.lines.is_empty(),
-            "no header"
+            "no header",
         ),
         (Ok(_), _) => panic!(rt; "an import without a header"),
     }

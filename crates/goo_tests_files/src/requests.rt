@@ -1,5 +1,6 @@
 //! Requests that are sent, each of which is accepted.
 
+use crate::claims::holds;
 use goo_core_list::list_shelf::ListShelf;
 use goo_core_shelf::shelf::Shelf;
 use goo_desk_body::read_command;
@@ -13,10 +14,10 @@ use std::alloc::Global;
 use std::process::Abort;
 
 /// Who sends, and what.
-pub type Line = (&'static str, &'static str);
+pub type SentLine = (&'static str, &'static str);
 
 /// Two holders with an account each.
-pub const MEMBERS: [Line; 4] = [
+pub const MEMBERS: [SentLine; 4] = [
     (
         "ISSUER",
         r#"{"command":"open_holder","holder":"SUN","key":"s1","name":"Sun Power"}"#,
@@ -36,14 +37,14 @@ pub const MEMBERS: [Line; 4] = [
 ];
 
 /// A device of the first.
-pub const DEVICE: [Line; 1] = [(
+pub const DEVICE: [SentLine; 1] = [(
     "ISSUER",
     r#"{"account":1,"capacity_w":2000000,"command":"register_device","commissioned":"2020-06-15","country":"DE","device":"500000000000000012","key":"s5","site":"North field","source":"F01010100","support":"none","tech":"T010000"}"#,
 )];
 
 /// The certificates of January, the carry of February, and the certificate of March, declared on 5
 /// April.
-pub const QUARTER: [Line; 4] = [
+pub const QUARTER: [SentLine; 4] = [
     (
         "ISSUER",
         r#"{"aux_wh":34567890,"command":"declare","device":"500000000000000012","first_day":"2025-01-01","gross_wh":1234567890,"key":"s6","last_day":"2025-01-31"}"#,
@@ -62,27 +63,27 @@ pub const QUARTER: [Line; 4] = [
     ),
 ];
 
-/// A hundred certificates given away, and given back.
-pub const THERE_AND_BACK: [Line; 2] = [
-    (
-        "SUN",
-        r#"{"command":"transfer","first":"07000000000100","giver":1,"key":"t1","last":"07000000000199","taker":2}"#,
-    ),
-    (
-        "VOLT",
-        r#"{"command":"transfer","first":"07000000000100","giver":2,"key":"t2","last":"07000000000199","taker":1}"#,
-    ),
-];
+/// A hundred certificates given away.
+pub const GIVEN_AWAY: [SentLine; 1] = [(
+    "SUN",
+    r#"{"command":"transfer","first":"07000000000100","giver":1,"key":"t1","last":"07000000000199","taker":2}"#,
+)];
+
+/// They are given back.
+pub const GIVEN_BACK: [SentLine; 1] = [(
+    "VOLT",
+    r#"{"command":"transfer","first":"07000000000100","giver":2,"key":"t2","last":"07000000000199","taker":1}"#,
+)];
 
 /// Ten certificates used for a bakery.
-pub const CANCELLATION: [Line; 1] = [(
+pub const CANCELLATION: [SentLine; 1] = [(
     "SUN",
     r#"{"account":1,"beneficiary":"Bäckerei Müller","command":"cancel","first":"07000000000001","key":"c1","last":"07000000000010","use_first":"2025-01-01","use_last":"2025-03-31"}"#,
 )];
 
 /// February is lowered to nothing, which takes the certificate of March back, and January by the Wh
 /// that is carried then.
-pub const CORRECTIONS: [Line; 2] = [
+pub const CORRECTIONS: [SentLine; 2] = [
     (
         "ISSUER",
         r#"{"command":"correct","device":"500000000000000012","first":"07000000001201","first_day":"2025-02-01","key":"r1","last":"07000000001201","less_wh":999999,"reason":"meter read twice"}"#,
@@ -94,7 +95,7 @@ pub const CORRECTIONS: [Line; 2] = [
 ];
 
 /// An account with one certificate, which is cancelled, and closed.
-pub const CLOSING: [Line; 3] = [
+pub const CLOSING: [SentLine; 3] = [
     (
         "ISSUER",
         r#"{"aux_wh":0,"command":"declare","device":"500000000000000012","first_day":"2025-01-01","gross_wh":1000000,"key":"k1","last_day":"2025-01-31"}"#,
@@ -110,7 +111,7 @@ pub const CLOSING: [Line; 3] = [
 ];
 
 /// A device whose site has quotes and a comma in its name, with one certificate.
-pub const QUOTED: [Line; 2] = [
+pub const QUOTED: [SentLine; 2] = [
     (
         "ISSUER",
         r#"{"account":2,"capacity_w":2000000,"command":"register_device","commissioned":"2020-06-15","country":"DE","device":"500000000000000029","key":"q1","site":"Field \"B\", north","source":"F01010100","support":"both","tech":"T010000"}"#,
@@ -123,7 +124,7 @@ pub const QUOTED: [Line; 2] = [
 
 /// A device of hydrogen, with one certificate beside two of electricity, and another registry,
 /// which sends certificates of gas and of heat.
-pub const CARRIERS: [Line; 5] = [
+pub const CARRIERS: [SentLine; 5] = [
     (
         "ISSUER",
         r#"{"account":1,"capacity_w":2000000,"carrier":"hydrogen","command":"register_device","commissioned":"2020-06-15","country":"DE","device":"500000000000000029","key":"y1","site":"South field","source":"F01010100","support":"none","tech":"T010000"}"#,
@@ -144,12 +145,17 @@ pub const CARRIERS: [Line; 5] = [
 ];
 
 /// Requests are sent, and each is accepted.
-pub fn sends<S: Shelf>(rt: &impl Abort, alloc: Global, registry: &mut Registry<S>, lines: &[Line]) {
+pub fn sends<S: Shelf>(
+    rt: &impl Abort,
+    alloc: Global,
+    registry: &mut Registry<S>,
+    lines: &[SentLine],
+) {
     for line in lines {
         let caller = HolderCode::read(line.0.as_bytes()).expect(rt, "a caller");
         let request = read_command(alloc, &caller, line.1.as_bytes()).expect(rt, "a body");
         let outcome = registry.apply(alloc, &request).expect(rt, "an outcome");
-        assert!(rt; matches!(outcome, Outcome::Accepted(_)), "accepted");
+        holds(rt, matches!(outcome, Outcome::Accepted(_)), line.1);
     }
 }
 

@@ -21,7 +21,7 @@ pub const SUN: &str = "SUN";
 pub const VOLT: &str = "VOLT";
 
 /// Who asks what, and what that is answered.
-pub type Line = (&'static str, &'static str, &'static str);
+pub type AskedLine = (&'static str, &'static str, &'static str);
 
 /// The request of a caller's text.
 pub fn request_of(rt: &impl Abort, alloc: Global, caller: &str, body: &str) -> Request {
@@ -67,7 +67,7 @@ impl TestDesk {
     }
 
     /// Each line in order.
-    pub fn plays(&mut self, rt: &impl Abort, lines: &[Line]) {
+    pub fn plays(&mut self, rt: &impl Abort, lines: &[AskedLine]) {
         for (caller, body, wanted) in lines {
             let outcome = self.asks(rt, caller, body);
             is_outcome(rt, outcome, wanted);

@@ -1,7 +1,7 @@
 //! A certificate that goes back and forth between two registries: after each event it has one home,
 //! or is on one road.
 
-use crate::asking::{Line, is_outcome};
+use crate::asking::{AskedLine, is_outcome};
 use crate::claims::holds;
 use crate::desk::TestDesk;
 use crate::lots::{JANUARY, lot_of};
@@ -22,7 +22,7 @@ enum Event {
 
 /// An event, what it comes to, and then the certificate's home, or the sender and number of the
 /// notice it is on.
-type Row = (Event, &'static str, Option<u8>, Option<(u8, u32)>);
+type EventRow = (Event, &'static str, Option<u8>, Option<(u8, u32)>);
 
 /// Where registry 7 stands in the world.
 const SEVEN: usize = 0;
@@ -30,7 +30,7 @@ const SEVEN: usize = 0;
 const NINE: usize = 1;
 
 /// One holder and one account of registry 9, which knows registry 7.
-const NINTH: [Line; 3] = [
+const NINTH: [AskedLine; 3] = [
     (
         "ISSUER",
         r#"{"command":"open_holder","holder":"WIND","key":"a","name":"Wind"}"#,
@@ -70,7 +70,7 @@ const IN_BEFORE: &str = r#"{"outcome":"repeated","reply":{"count":1}}"#;
 const WRONG: &str = r#"{"code":23,"name":"WrongRegistry","outcome":"refused"}"#;
 
 /// Out and back and out again; the first notice comes once more, and the last one to its sender.
-const ROWS: [Row; 8] = [
+const ROWS: [EventRow; 8] = [
     (Event::Asks(SEVEN, "SUN", OUT), FIRST, None, Some((7, 1))),
     (Event::Brings(0, NINE), IN, Some(9), None),
     (Event::Asks(NINE, "WIND", BACK), FIRST, None, Some((9, 1))),
@@ -127,7 +127,7 @@ fn is_found(rt: &impl Abort, world: &mut World, home: Option<u8>, road: Option<(
 }
 
 /// An event comes to what it has to, and the certificate is found where it has to be.
-fn goes(rt: &impl Abort, world: &mut World, row: &Row) {
+fn goes(rt: &impl Abort, world: &mut World, row: &EventRow) {
     comes_to(rt, world, &row.0, row.1);
     is_found(rt, world, row.2, row.3)
 }

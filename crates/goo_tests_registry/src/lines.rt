@@ -1,9 +1,9 @@
 //! The requests that are sent while memory is refused, and what they come to.
 
-use crate::asking::Line;
+use crate::asking::AskedLine;
 
 /// Two holders with an account each, a device, another registry and 1,200 certificates.
-pub const BEGINS: [Line; 7] = [
+pub const BEGINS: [AskedLine; 7] = [
     (
         "ISSUER",
         r#"{"command":"open_holder","holder":"SUN","key":"a","name":"Sun Power"}"#,
@@ -43,7 +43,7 @@ pub const BEGINS: [Line; 7] = [
 
 /// A hundred certificates are moved, ten used up and ten sent away; two MWh of January were none,
 /// and two certificates are withdrawn.
-pub const TRADES: [Line; 4] = [
+pub const TRADES: [AskedLine; 4] = [
     (
         "SUN",
         r#"{"command":"transfer","first":"07000000000100","giver":1,"key":"a","last":"07000000000199","taker":2}"#,
@@ -67,14 +67,14 @@ pub const TRADES: [Line; 4] = [
 ];
 
 /// The ten certificates that were sent away come back.
-pub const RETURN: [Line; 1] = [(
+pub const RETURN: [AskedLine; 1] = [(
     "ISSUER",
     r#"{"command":"import","key":"h","notice":{"account":1,"addressee":7,"number":1,"parts":[{"first":"07000000000020","last":"07000000000029","lot":{"capacity_w":2000000,"commissioned":"2020-06-15","country":"DE","device":"500000000000000012","first_day":"2025-01-01","issued_on":"2025-03-01","last_day":"2025-01-31","origin":7,"site":"North field","source":"F01010100","support":"none","tech":"T010000"}}],"sender":9,"version":1}}"#,
     r#"{"outcome":"accepted","reply":{"count":10}}"#,
 )];
 
 /// A certificate is moved, and all of January that is still held expires.
-pub const ENDS: [Line; 2] = [
+pub const ENDS: [AskedLine; 2] = [
     (
         "VOLT",
         r#"{"command":"transfer","first":"07000000000100","giver":2,"key":"a","last":"07000000000100","taker":1}"#,

@@ -4,7 +4,7 @@
 //! A request that was refused memory changed nothing: the registry shows what it showed before, and
 //! the request sent again under its key is accepted, and not repeated.
 
-use crate::asking::{ISSUER, Line, is_outcome, runs_are};
+use crate::asking::{AskedLine, ISSUER, is_outcome, runs_are};
 use crate::claims::holds;
 use crate::desk::TestDesk;
 use crate::lines::{BEGINS, ENDS, REPEATED, RETURN, TRADES};
@@ -113,7 +113,7 @@ fn carries_out(
 }
 
 /// The request of a line; read twice where memory was refused.
-fn request_in(desk: &TestDesk, line: &Line) -> Result<Request, Fail> {
+fn request_in(desk: &TestDesk, line: &AskedLine) -> Result<Request, Fail> {
     let caller = HolderCode::read(line.0.as_bytes())?;
     match read_command(desk.alloc(), &caller, line.1.as_bytes()) {
         Ok(request) => Ok(request),
@@ -122,13 +122,13 @@ fn request_in(desk: &TestDesk, line: &Line) -> Result<Request, Fail> {
 }
 
 /// A line.
-fn carries_out_one(rt: &impl Abort, desk: &mut TestDesk, line: &Line) -> Result<(), Fail> {
+fn carries_out_one(rt: &impl Abort, desk: &mut TestDesk, line: &AskedLine) -> Result<(), Fail> {
     let request = request_in(desk, line)?;
     carries_out(rt, desk, &request, line.2)
 }
 
 /// Each line in order.
-fn carries_out_all(rt: &impl Abort, desk: &mut TestDesk, lines: &[Line]) -> Result<(), Fail> {
+fn carries_out_all(rt: &impl Abort, desk: &mut TestDesk, lines: &[AskedLine]) -> Result<(), Fail> {
     for line in lines {
         carries_out_one(rt, desk, line)?;
     }

@@ -1,6 +1,6 @@
 //! Who is shown what.
 
-use crate::asking::{ISSUER, Line, SUN, VOLT};
+use crate::asking::{AskedLine, ISSUER, SUN, VOLT};
 use crate::claims::holds;
 use crate::desk::TestDesk;
 use crate::lots::{JANUARY, lot_of};
@@ -17,14 +17,14 @@ use goo_types::place::Place;
 use std::process::Abort;
 
 /// Ten certificates are used up.
-const CANCELLATION: [Line; 1] = [(
+const CANCELLATION: [AskedLine; 1] = [(
     "SUN",
     r#"{"account":1,"beneficiary":"Bäckerei Müller","command":"cancel","first":"07000000000001","key":"ten","last":"07000000000010","use_first":"2025-01-01","use_last":"2025-03-31"}"#,
     r#"{"outcome":"accepted","reply":{"cancellation":1,"count":10}}"#,
 )];
 
 /// Ten are sent to account 5 of registry 9.
-const EXPORT: [Line; 1] = [(
+const EXPORT: [AskedLine; 1] = [(
     "SUN",
     r#"{"account":5,"command":"export","first":"07000000000020","giver":1,"key":"away","last":"07000000000029","peer":9}"#,
     r#"{"outcome":"accepted","reply":{"count":10,"notice":1}}"#,

@@ -1,6 +1,6 @@
 //! Requests in a list, and a registry handed back to what keeps its records.
 
-use crate::asking::{Line, is_outcome, request_of};
+use crate::asking::{AskedLine, is_outcome, request_of};
 use crate::claims::holds;
 use crate::desk::TestDesk;
 use crate::places::held;
@@ -13,7 +13,7 @@ use std::alloc::Global;
 use std::process::Abort;
 
 /// A hundred certificates are given, and the date doesn't move.
-const TWO: [Line; 2] = [
+const TWO: [AskedLine; 2] = [
     (
         "SUN",
         r#"{"command":"transfer","first":"07000000000100","giver":1,"key":"given","last":"07000000000199","taker":2}"#,
@@ -27,7 +27,7 @@ const TWO: [Line; 2] = [
 ];
 
 /// The requests of lines.
-fn requests_of(rt: &impl Abort, alloc: Global, lines: &[Line]) -> Vec<Request> {
+fn requests_of(rt: &impl Abort, alloc: Global, lines: &[AskedLine]) -> Vec<Request> {
     let mut requests = Vec::new(alloc);
     for (caller, body, _) in lines {
         requests
@@ -38,7 +38,7 @@ fn requests_of(rt: &impl Abort, alloc: Global, lines: &[Line]) -> Vec<Request> {
 }
 
 /// What requests came to is what their lines say.
-fn are_outcomes(rt: &impl Abort, outcomes: &[Outcome], lines: &[Line]) {
+fn are_outcomes(rt: &impl Abort, outcomes: &[Outcome], lines: &[AskedLine]) {
     holds(rt, outcomes.len() == lines.len(), "as many outcomes");
     for (outcome, (_, _, wanted)) in outcomes.iter().zip(lines) {
         is_outcome(rt, *outcome, wanted);
@@ -46,7 +46,7 @@ fn are_outcomes(rt: &impl Abort, outcomes: &[Outcome], lines: &[Line]) {
 }
 
 /// Requests in a list come to their outcomes, one after another.
-fn runs(rt: &impl Abort, desk: &mut TestDesk, lines: &[Line]) {
+fn runs(rt: &impl Abort, desk: &mut TestDesk, lines: &[AskedLine]) {
     let requests = requests_of(rt, desk.alloc(), lines);
     match desk.run(&requests) {
         Ok(outcomes) => are_outcomes(rt, &outcomes, lines),

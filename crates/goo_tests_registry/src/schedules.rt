@@ -24,7 +24,7 @@ const EVENTS: u64 = 24;
 
 /// How often notices were sent and accepted, and what else became of them.
 #[derive(Clone, Copy)]
-struct Tally {
+struct ScheduleTally {
     sent: u64,
     accepted: u64,
     repeated: u64,
@@ -99,7 +99,7 @@ fn asks(rt: &impl Abort, world: &mut World, dice: &mut Dice) {
 fn delivers(
     rt: &impl Abort,
     world: &mut World,
-    tally: &mut Tally,
+    tally: &mut ScheduleTally,
     which: usize,
     astray: Option<usize>,
 ) {
@@ -123,7 +123,13 @@ fn delivers(
 }
 
 /// One of the notices that were sent, accepted before or not, comes to its addressee, or astray.
-fn brings(rt: &impl Abort, world: &mut World, dice: &mut Dice, tally: &mut Tally, is_astray: bool) {
+fn brings(
+    rt: &impl Abort,
+    world: &mut World,
+    dice: &mut Dice,
+    tally: &mut ScheduleTally,
+    is_astray: bool,
+) {
     let count = world.letters.len();
     if count == 0 {
         return;
@@ -134,7 +140,7 @@ fn brings(rt: &impl Abort, world: &mut World, dice: &mut Dice, tally: &mut Tally
 }
 
 /// One event by chance, and what it adds to the tally.
-fn happens(rt: &impl Abort, world: &mut World, dice: &mut Dice, tally: &mut Tally) {
+fn happens(rt: &impl Abort, world: &mut World, dice: &mut Dice, tally: &mut ScheduleTally) {
     match dice.below(10) {
         0..=4 => asks(rt, world, dice),
         5 => brings(rt, world, dice, tally, true),
@@ -190,7 +196,7 @@ fn all_stand(rt: &impl Abort, world: &mut World) {
 }
 
 /// One schedule, from the registries' creation.
-fn schedule(rt: &impl Abort, alloc: Global, seed: u64, tally: &mut Tally) {
+fn schedule(rt: &impl Abort, alloc: Global, seed: u64, tally: &mut ScheduleTally) {
     let mut world = three(rt, alloc);
     let mut dice = Dice::new(seed);
     for _ in 0..EVENTS {
@@ -203,7 +209,7 @@ fn schedule(rt: &impl Abort, alloc: Global, seed: u64, tally: &mut Tally) {
 
 #[test]
 fn a_thousand_schedules(rt: HostRuntime) {
-    let mut tally = Tally {
+    let mut tally = ScheduleTally {
         sent: 0,
         accepted: 0,
         repeated: 0,

@@ -1,6 +1,6 @@
 //! The registry that the tests begin with.
 
-use crate::asking::Line;
+use crate::asking::AskedLine;
 use crate::desk::TestDesk;
 use crate::values::{code_of, day_of};
 use std::alloc::Global;
@@ -8,7 +8,7 @@ use std::process::Abort;
 
 /// Two holders with an account each and a device of the first; the certificates of January, the
 /// carry of February, the date and the certificate of March; another registry.
-const BEGINNING: [Line; 10] = [
+const BEGINNING: [AskedLine; 10] = [
     (
         "ISSUER",
         r#"{"command":"open_holder","holder":"SUN","key":"s1","name":"Sun Power"}"#,

@@ -1,7 +1,7 @@
 //! Three registries that know one another, each with three certificates: of electricity, of gas,
 //! and of hydrogen.
 
-use crate::asking::Line;
+use crate::asking::AskedLine;
 use crate::desk::TestDesk;
 use crate::values::{code_of, day_of};
 use crate::world::World;
@@ -12,7 +12,7 @@ use std::process::Abort;
 pub const CERTIFICATES: u64 = 3;
 
 /// What each registry is asked first: a holder and an account.
-const MEMBERS: [Line; 2] = [
+const MEMBERS: [AskedLine; 2] = [
     (
         "ISSUER",
         r#"{"command":"open_holder","holder":"SUN","key":"a","name":"Sun Power"}"#,
@@ -27,7 +27,7 @@ const MEMBERS: [Line; 2] = [
 
 /// What registry 7 is asked then: a device of electricity, two certificates of one lot, one of
 /// another, and the other registries.
-const SEVEN: [Line; 5] = [
+const SEVEN: [AskedLine; 5] = [
     (
         "ISSUER",
         r#"{"account":1,"capacity_w":2000000,"command":"register_device","commissioned":"2020-06-15","country":"DE","device":"500000000000000012","key":"c","site":"North field","source":"F01010100","support":"none","tech":"T010000"}"#,
@@ -57,7 +57,7 @@ const SEVEN: [Line; 5] = [
 
 /// What registry 8 is asked then: a device of gas, two certificates of one lot, one of another, and
 /// the other registries.
-const EIGHT: [Line; 5] = [
+const EIGHT: [AskedLine; 5] = [
     (
         "ISSUER",
         r#"{"account":1,"capacity_w":2000000,"carrier":"gas","command":"register_device","commissioned":"2020-06-15","country":"DE","device":"500000000000000012","key":"c","site":"North field","source":"F01010100","support":"none","tech":"T010000"}"#,
@@ -87,7 +87,7 @@ const EIGHT: [Line; 5] = [
 
 /// What registry 9 is asked then: a device of hydrogen, two certificates of one lot, one of
 /// another, and the other registries.
-const NINE: [Line; 5] = [
+const NINE: [AskedLine; 5] = [
     (
         "ISSUER",
         r#"{"account":1,"capacity_w":2000000,"carrier":"hydrogen","command":"register_device","commissioned":"2020-06-15","country":"DE","device":"500000000000000012","key":"c","site":"North field","source":"F01010100","support":"none","tech":"T010000"}"#,
@@ -116,7 +116,7 @@ const NINE: [Line; 5] = [
 ];
 
 /// A registry of three certificates that knows two others.
-fn registry(rt: &impl Abort, alloc: Global, code: u8, own: &[Line]) -> TestDesk {
+fn registry(rt: &impl Abort, alloc: Global, code: u8, own: &[AskedLine]) -> TestDesk {
     let mut desk = TestDesk::new(alloc, code_of(rt, code), day_of(rt, "2025-03-01"));
     desk.plays(rt, &MEMBERS);
     desk.plays(rt, own);

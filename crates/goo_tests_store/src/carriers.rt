@@ -8,7 +8,7 @@ use crate::damages::{Damage, are_refused};
 use crate::deeds::{Deed, after, is_alike, shown, shows};
 use crate::disks::blank;
 use crate::script::requests;
-use crate::texts::{Asked, Text, gives_all};
+use crate::texts::{Asked, AskedText, gives_all};
 use crate::wanted::{CARRIED, CARRIED_THEN};
 use crate::worked::{Exchange, exchanges};
 use goo_core_shelf::shelf::Shelf;
@@ -96,9 +96,9 @@ const GOES_ON: [Exchange; 6] = [
 ];
 
 /// What the first account holds before that, and after.
-const BEFORE: [Asked; 1] = [("SUN", Text::Holdings(1), Ok(CARRIED))];
+const BEFORE: [Asked; 1] = [("SUN", AskedText::Holdings(1), Ok(CARRIED))];
 
-const AFTER: [Asked; 1] = [("SUN", Text::Holdings(1), Ok(CARRIED_THEN))];
+const AFTER: [Asked; 1] = [("SUN", AskedText::Holdings(1), Ok(CARRIED_THEN))];
 
 /// The rows of the tables of carriers before that, and after.
 const ROWS: &str =

@@ -3,7 +3,7 @@
 use crate::acts::Act;
 use crate::claims::holds;
 use crate::deeds::{Deed, after, judged, shown};
-use crate::disks::{Disks, blank};
+use crate::disks::{FaultyDisks, blank};
 use crate::script::{CANCELLATION, requests};
 use crate::worked::Case;
 use goo_store_open::fault::OpenFault;
@@ -214,7 +214,7 @@ const CORRECTIONS: [Damage; 10] = [
 ];
 
 /// Tables that are damaged are not opened, for this reason, and are opened once that is undone.
-fn is_refused(rt: &impl Abort, alloc: Global, disks: Disks, damage: &Damage) -> Disks {
+fn is_refused(rt: &impl Abort, alloc: Global, disks: FaultyDisks, damage: &Damage) -> FaultyDisks {
     let disks = after(rt, alloc, disks, &Deed::Edits(damage.0));
     let (word, disks) = judged(rt, alloc, disks);
     holds(rt, word == Some(damage.2), damage.0);
@@ -225,7 +225,7 @@ fn is_refused(rt: &impl Abort, alloc: Global, disks: Disks, damage: &Damage) -> 
 }
 
 /// Tables that were changed by a text are not opened, as they are damaged.
-pub fn is_damaged(rt: &impl Abort, alloc: Global, disks: Disks, sql: &str) -> Disks {
+pub fn is_damaged(rt: &impl Abort, alloc: Global, disks: FaultyDisks, sql: &str) -> FaultyDisks {
     let disks = after(rt, alloc, disks, &Deed::Edits(sql));
     let (word, disks) = judged(rt, alloc, disks);
     holds(rt, word == Some(OpenFault::Damaged), sql);
@@ -233,7 +233,12 @@ pub fn is_damaged(rt: &impl Abort, alloc: Global, disks: Disks, sql: &str) -> Di
 }
 
 /// The same of each of some damages, one after another.
-pub fn are_refused(rt: &impl Abort, alloc: Global, disks: Disks, damages: &[Damage]) -> Disks {
+pub fn are_refused(
+    rt: &impl Abort,
+    alloc: Global,
+    disks: FaultyDisks,
+    damages: &[Damage],
+) -> FaultyDisks {
     let mut disks = disks;
     for damage in damages {
         disks = is_refused(rt, alloc, disks, damage);

@@ -10,7 +10,7 @@ ghost use Rattle.goo_tables_rows.specs.Met.{IsInKeyOrder};
 use crate::acts::{Act, Done, done_by_lists, works};
 use crate::carriers::finds_carriers;
 use crate::claims::holds;
-use crate::disks::{Disks, blank};
+use crate::disks::{FaultyDisks, blank};
 use crate::registries::{Entered, begun, opened, opened_again};
 use crate::statements::finds_withdrawn;
 use goo_store::sql_shelf::SqlShelf;
@@ -142,13 +142,18 @@ fn does_on<D: Disk + Drop>(
 }
 
 /// What is done to the database on disks, and the disks as that leaves them.
-pub fn does(rt: &impl Abort, alloc: Global, disks: Disks, deed: &Deed<'_>) -> (Done, Disks) {
+pub fn does(
+    rt: &impl Abort,
+    alloc: Global,
+    disks: FaultyDisks,
+    deed: &Deed<'_>,
+) -> (Done, FaultyDisks) {
     let (done, files) = does_on(rt, alloc, disks.files, deed);
-    (done, Disks { files })
+    (done, FaultyDisks { files })
 }
 
 /// The disks, after their tables were changed or asked for rows.
-pub fn after(rt: &impl Abort, alloc: Global, disks: Disks, deed: &Deed<'_>) -> Disks {
+pub fn after(rt: &impl Abort, alloc: Global, disks: FaultyDisks, deed: &Deed<'_>) -> FaultyDisks {
     let (done, disks) = does(rt, alloc, disks, deed);
     holds(
         rt,
@@ -159,20 +164,35 @@ pub fn after(rt: &impl Abort, alloc: Global, disks: Disks, deed: &Deed<'_>) -> D
 }
 
 /// What the registry on the disks shows, and the disks as that leaves them.
-pub fn shown(rt: &impl Abort, alloc: Global, disks: Disks, deed: &Deed<'_>) -> (String, Disks) {
+pub fn shown(
+    rt: &impl Abort,
+    alloc: Global,
+    disks: FaultyDisks,
+    deed: &Deed<'_>,
+) -> (String, FaultyDisks) {
     let (done, disks) = does(rt, alloc, disks, deed);
     (done.into_text(rt), disks)
 }
 
 /// The registry on the disks shows this.
-pub fn shows(rt: &impl Abort, alloc: Global, disks: Disks, deed: &Deed<'_>, wanted: &str) -> Disks {
+pub fn shows(
+    rt: &impl Abort,
+    alloc: Global,
+    disks: FaultyDisks,
+    deed: &Deed<'_>,
+    wanted: &str,
+) -> FaultyDisks {
     let (done, disks) = does(rt, alloc, disks, deed);
     done.is_shown(rt, wanted);
     disks
 }
 
 /// Why no registry is opened on the disks, if none is, and the disks as that leaves them.
-pub fn judged(rt: &impl Abort, alloc: Global, disks: Disks) -> (Option<OpenFault>, Disks) {
+pub fn judged(
+    rt: &impl Abort,
+    alloc: Global,
+    disks: FaultyDisks,
+) -> (Option<OpenFault>, FaultyDisks) {
     let (done, disks) = does(rt, alloc, disks, &Deed::Opens(Act::Rests));
     (done.word(rt), disks)
 }

@@ -2,13 +2,13 @@
 
 use crate::claims::holds;
 use crate::deeds::{Deed, after, judged};
-use crate::disks::{Disks, blank};
+use crate::disks::{FaultyDisks, blank};
 use goo_store_open::fault::OpenFault;
 use std::alloc::Global;
 use std::process::Abort;
 
 /// A text that is run on a database, and why it is refused then, if it is.
-type Row = (&'static str, Option<OpenFault>);
+type ForeignRow = (&'static str, Option<OpenFault>);
 
 /// The table `meta` of a registry, alone.
 const META: &str =
@@ -40,10 +40,10 @@ const NONE: Option<OpenFault> = Some(OpenFault::NotARegistry);
 fn is_told(
     rt: &impl Abort,
     alloc: Global,
-    disks: Disks,
+    disks: FaultyDisks,
     sql: &str,
     word: Option<OpenFault>,
-) -> Disks {
+) -> FaultyDisks {
     let disks = after(rt, alloc, disks, &Deed::Edits(sql));
     let (told, disks) = judged(rt, alloc, disks);
     holds(rt, told == word, sql);
@@ -53,7 +53,7 @@ fn is_told(
 }
 
 /// Texts that are run on disks in turn, and the word after each.
-fn are_told(rt: &impl Abort, alloc: Global, disks: Disks, rows: &[Row]) {
+fn are_told(rt: &impl Abort, alloc: Global, disks: FaultyDisks, rows: &[ForeignRow]) {
     let mut disks = disks;
     for (sql, word) in rows {
         disks = is_told(rt, alloc, disks, sql, *word);
@@ -61,7 +61,7 @@ fn are_told(rt: &impl Abort, alloc: Global, disks: Disks, rows: &[Row]) {
 }
 
 /// A table of somebody else, and his own `meta`.
-const SOMEBODY_ELSES: [Row; 2] = [
+const SOMEBODY_ELSES: [ForeignRow; 2] = [
     (PLAN, NONE),
     (
         "CREATE TABLE meta (id INTEGER PRIMARY KEY, version INTEGER NOT NULL) STRICT; INSERT INTO meta VALUES (1, 9)",
@@ -70,7 +70,7 @@ const SOMEBODY_ELSES: [Row; 2] = [
 ];
 
 /// A `meta` of ours with no other tables of ours.
-const VERSIONS: [Row; 8] = [
+const VERSIONS: [ForeignRow; 8] = [
     (META, NONE),
     (
         "INSERT INTO meta VALUES (1, 9, 7, '2025-03-01', 1, 1, 1, 1, 1)",
@@ -96,7 +96,7 @@ const ACCOUNT: &str =
 
 /// All tables of ours, those of the first version before the others, and then not all of them: each
 /// version has its own tables.
-const OURS: [Row; 15] = [
+const OURS: [ForeignRow; 15] = [
     (BEFORE_ACCOUNT, NONE),
     (ACCOUNT, NONE),
     (AFTER_ACCOUNT, NONE),
@@ -119,7 +119,7 @@ const OURS: [Row; 15] = [
 
 /// Tables of the first version, with white space and words of their own: they are opened, and are
 /// those of the second version then.
-const FIRST: [Row; 5] = [
+const FIRST: [ForeignRow; 5] = [
     (BEFORE_ACCOUNT, NONE),
     (
         "create table account (\n\tnumber integer primary key,\n\tholder text not null,\n\tclosed integer not null\n) strict",
@@ -151,7 +151,7 @@ fn a_meta_alone_and_behind_another_table(rt: HostRuntime) {
 }
 
 /// Tables of accounts, ours and others, and why all tables are refused then, if they are.
-const ACCOUNTS: [Row; 10] = [
+const ACCOUNTS: [ForeignRow; 10] = [
     (ACCOUNT, None),
     (
         "CREATE TABLE account (number INTEGER PRIMARY KEY, holder TEXT NOT NULL) STRICT",

@@ -1,7 +1,7 @@
-//! Disks that refuse one write and work before and after it: the registry answers `Store` from then
+//! FaultyDisks that refuse one write and work before and after it: the registry answers `Store` from then
 //! on, and what it answered before is kept.
 
-use crate::disks::{Disks, lapsing};
+use crate::disks::{FaultyDisks, lapsing};
 use crate::script::requests;
 use crate::stops::{ROUNDS, goes_on, runs_on, wanted_sights};
 use std::alloc::Global;
@@ -9,7 +9,7 @@ use std::process::Abort;
 
 /// Whether a registry on disks is refused a write before all requests are answered; what the disks
 /// hold is opened again and goes on.
-fn lapses_on(rt: &impl Abort, alloc: Global, disks: Disks, wanted: &[String]) -> bool {
+fn lapses_on(rt: &impl Abort, alloc: Global, disks: FaultyDisks, wanted: &[String]) -> bool {
     let (answered, disks) = runs_on(rt, alloc, disks);
     goes_on(rt, alloc, disks, answered, wanted);
     answered < requests().len()

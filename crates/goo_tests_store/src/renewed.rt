@@ -3,7 +3,7 @@
 use crate::acts::Act;
 use crate::damages::is_damaged;
 use crate::deeds::{Deed, after, shown, shows};
-use crate::disks::{Disks, blank};
+use crate::disks::{FaultyDisks, blank};
 use std::alloc::Global;
 use std::process::Abort;
 
@@ -20,7 +20,7 @@ const CUT: [&str; 2] = [
 ];
 
 /// A registry of version 1, and what it shows.
-fn made(rt: &impl Abort, alloc: Global) -> (String, Disks) {
+fn made(rt: &impl Abort, alloc: Global) -> (String, FaultyDisks) {
     let begins = Deed::Begins(1, Act::Moves);
     let (shown, disks) = shown(rt, alloc, blank(alloc), &begins);
     (shown, after(rt, alloc, disks, &Deed::Edits(OLD)))

@@ -1,11 +1,11 @@
-//! Disks in memory that stop at one call, at each in turn: what a crash leaves is opened again, and
+//! FaultyDisks in memory that stop at one call, at each in turn: what a crash leaves is opened again, and
 //! all requests are sent again.
 
 use crate::acts::{Act, Done};
 use crate::asking::{asks, is_outcome, plays, plays_one};
 use crate::claims::holds;
 use crate::deeds::{Deed, does, shows};
-use crate::disks::{Disks, blank, crashed, stopping};
+use crate::disks::{FaultyDisks, blank, crashed, stopping};
 use crate::reopened::END_SHOWN;
 use crate::script::requests;
 use crate::sight::sight;
@@ -74,7 +74,7 @@ pub fn answers_or_stops<S: Shelf>(
 }
 
 /// How many requests a new registry on disks answers, and the disks as they stand then.
-pub fn runs_on(rt: &impl Abort, alloc: Global, disks: Disks) -> (usize, Disks) {
+pub fn runs_on(rt: &impl Abort, alloc: Global, disks: FaultyDisks) -> (usize, FaultyDisks) {
     let (done, disks) = does(rt, alloc, disks, &Deed::Begins(1, Act::Runs));
     match done {
         Done::Answered(answered) => (answered, disks),
@@ -117,14 +117,20 @@ pub fn goes_on_from<S: Shelf>(
 }
 
 /// A registry is begun on disks that hold none, and comes to the end of all requests.
-fn starts_over(rt: &impl Abort, alloc: Global, disks: Disks) {
+fn starts_over(rt: &impl Abort, alloc: Global, disks: FaultyDisks) {
     let begins = Deed::Begins(1, Act::Sends(requests(), 0));
     let _disks = shows(rt, alloc, disks, &begins, END_SHOWN);
 }
 
 /// What a stop left on disks is opened: the end is that of a run without a stop. Where it is no
 /// registry, no request was answered.
-pub fn goes_on(rt: &impl Abort, alloc: Global, disks: Disks, answered: usize, wanted: &[String]) {
+pub fn goes_on(
+    rt: &impl Abort,
+    alloc: Global,
+    disks: FaultyDisks,
+    answered: usize,
+    wanted: &[String],
+) {
     let opens = Deed::Opens(Act::GoesOn(answered, wanted));
     let (done, disks) = does(rt, alloc, disks, &opens);
     match done {
@@ -138,7 +144,7 @@ pub fn goes_on(rt: &impl Abort, alloc: Global, disks: Disks, answered: usize, wa
 }
 
 /// Whether disks stop before all requests are answered; what a crash leaves goes on.
-fn stops_on(rt: &impl Abort, alloc: Global, disks: Disks, wanted: &[String]) -> bool {
+fn stops_on(rt: &impl Abort, alloc: Global, disks: FaultyDisks, wanted: &[String]) -> bool {
     let (answered, disks) = runs_on(rt, alloc, disks);
     goes_on(rt, alloc, crashed(disks), answered, wanted);
     answered < requests().len()

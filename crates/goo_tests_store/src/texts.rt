@@ -31,7 +31,7 @@ const ROOM: usize = 10_000;
 
 /// A text that is asked for.
 #[derive(Clone, Copy)]
-pub enum Text {
+pub enum AskedText {
     /// The statement of an account.
     Statement(u32),
     /// The holdings of an account.
@@ -43,35 +43,35 @@ pub enum Text {
 }
 
 /// Who asks for a text, and what comes of it.
-pub type Asked = (&'static str, Text, Result<&'static str, ShowFault>);
+pub type Asked = (&'static str, AskedText, Result<&'static str, ShowFault>);
 
 /// Of a new registry.
-const AT_FIRST: [Asked; 1] = [("ISSUER", Text::Audit, Ok(""))];
+const AT_FIRST: [Asked; 1] = [("ISSUER", AskedText::Audit, Ok(""))];
 
 /// On 5 April, with the certificates of three months.
 const IN_APRIL: [Asked; 8] = [
-    ("ISSUER", Text::Statement(1), Ok(wanted::STATEMENT)),
-    ("SUN", Text::Statement(1), Ok(wanted::STATEMENT)),
-    ("VOLT", Text::Statement(1), Err(ShowFault::NotAllowed)),
-    ("ISSUER", Text::Statement(3), Err(ShowFault::Unknown)),
-    ("SUN", Text::Holdings(1), Ok(wanted::HOLDINGS)),
-    ("VOLT", Text::Holdings(1), Err(ShowFault::NotAllowed)),
-    ("ISSUER", Text::Audit, Ok(wanted::AUDIT)),
-    ("SUN", Text::Audit, Err(ShowFault::NotAllowed)),
+    ("ISSUER", AskedText::Statement(1), Ok(wanted::STATEMENT)),
+    ("SUN", AskedText::Statement(1), Ok(wanted::STATEMENT)),
+    ("VOLT", AskedText::Statement(1), Err(ShowFault::NotAllowed)),
+    ("ISSUER", AskedText::Statement(3), Err(ShowFault::Unknown)),
+    ("SUN", AskedText::Holdings(1), Ok(wanted::HOLDINGS)),
+    ("VOLT", AskedText::Holdings(1), Err(ShowFault::NotAllowed)),
+    ("ISSUER", AskedText::Audit, Ok(wanted::AUDIT)),
+    ("SUN", AskedText::Audit, Err(ShowFault::NotAllowed)),
 ];
 
 /// While a hundred certificates are in the other account.
-const GIVEN: [Asked; 1] = [("VOLT", Text::Statement(2), Ok(wanted::GIVEN))];
+const GIVEN: [Asked; 1] = [("VOLT", AskedText::Statement(2), Ok(wanted::GIVEN))];
 
 /// Once they are back.
-const BACK: [Asked; 1] = [("SUN", Text::Statement(1), Ok(wanted::STATEMENT))];
+const BACK: [Asked; 1] = [("SUN", AskedText::Statement(1), Ok(wanted::STATEMENT))];
 
 /// Once ten are cancelled.
 const CANCELLED: [Asked; 4] = [
-    ("SUN", Text::Document(1), Ok(wanted::DOCUMENT)),
-    ("VOLT", Text::Document(1), Err(ShowFault::NotAllowed)),
-    ("ISSUER", Text::Document(2), Err(ShowFault::Unknown)),
-    ("SUN", Text::Holdings(1), Ok(wanted::LEFT)),
+    ("SUN", AskedText::Document(1), Ok(wanted::DOCUMENT)),
+    ("VOLT", AskedText::Document(1), Err(ShowFault::NotAllowed)),
+    ("ISSUER", AskedText::Document(2), Err(ShowFault::Unknown)),
+    ("SUN", AskedText::Holdings(1), Ok(wanted::LEFT)),
 ];
 
 /// The hundred certificates go back.
@@ -98,23 +98,23 @@ fn given<S: Shelf>(
     alloc: Global,
     registry: &mut Registry<S>,
     caller: &HolderCode,
-    text: Text,
+    text: AskedText,
     out: &mut Vec<u8>,
 ) -> Result<(), ShowFault> {
     match text {
-        Text::Statement(account) => match AccountNo::new(account) {
+        AskedText::Statement(account) => match AccountNo::new(account) {
             Some(account) => write_statement(registry, caller, account, out),
             None => Err(ShowFault::Unknown),
         },
-        Text::Holdings(account) => match AccountNo::new(account) {
+        AskedText::Holdings(account) => match AccountNo::new(account) {
             Some(account) => write_holdings_csv(alloc, registry, caller, account, out),
             None => Err(ShowFault::Unknown),
         },
-        Text::Document(act) => match ActNo::new(act) {
+        AskedText::Document(act) => match ActNo::new(act) {
             Some(act) => write_cancellation(alloc, registry, caller, act, out),
             None => Err(ShowFault::Unknown),
         },
-        Text::Audit => write_audit(alloc, registry, caller, out),
+        AskedText::Audit => write_audit(alloc, registry, caller, out),
     }
 }
 

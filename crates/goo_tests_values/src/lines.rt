@@ -38,12 +38,12 @@ impl Desk for FailingDesk {
 
 /// A writer with room for so many bytes.
 #[derive(Drop)]
-struct ShortWriter {
+struct BoundedWriter {
     text: Vec<u8>,
     room: usize,
 }
 
-impl Write for ShortWriter {
+impl Write for BoundedWriter {
     fn write(&mut self, text: &[u8]) -> io::Result<usize> {
         match text.first() {
             Some(first) if self.text.len() < self.room => {
@@ -161,7 +161,7 @@ fn a_beginning_is_written_before_a_write_fault(rt: HostRuntime) {
     let mut desk = FailingDesk {
         fault: Fault::Store,
     };
-    let mut writer = ShortWriter {
+    let mut writer = BoundedWriter {
         text: Vec::new(rt.alloc()),
         room: CALLER.len() + 4,
     };

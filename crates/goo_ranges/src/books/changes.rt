@@ -8,7 +8,7 @@ ghost use Rattle.goo_ranges.specs.Edit.{IsExact};
 ghost use Rattle.goo_ranges.specs.Sparing.{IsSparing};
 ghost use Rattle.goo_spec.specs.Runs.{IsApart};
 
-use super::{Book, Kept};
+use super::{Book, BookRows};
 use crate::edits::Edit;
 use crate::pages::{add_in, pages_of, reassign_in};
 use goo_types::fault::Fault;
@@ -27,7 +27,7 @@ impl Book {
     fn make_pages(&mut self) -> Result<(), AllocError>
         ensures { self.new ≡ self.old }
     {
-        let Kept::Whole(page) = &self.kept else {
+        let BookRows::Whole(page) = &self.kept else {
             return Ok(());
         };
         let pieces = page.pieces();
@@ -35,7 +35,7 @@ impl Book {
             return Ok(());
         }
         let pages = pages_of(page.allocator(), pieces)?;
-        self.kept = Kept::Paged(pages);
+        self.kept = BookRows::Paged(pages);
         Ok(())
     }
 
@@ -94,8 +94,8 @@ impl Book {
         ensures memory { IfErr result (λ fault. fault ≡ Fault.Memory) }
     {
         match &mut self.kept {
-            Kept::Whole(page) => page.reassign_between(first, last, place),
-            Kept::Paged(pages) => reassign_in(pages, first, last, place),
+            BookRows::Whole(page) => page.reassign_between(first, last, place),
+            BookRows::Paged(pages) => reassign_in(pages, first, last, place),
         }
     }
 
@@ -147,8 +147,8 @@ impl Book {
         ensures memory { IfErr result (λ fault. fault ≡ Fault.Memory) }
     {
         match &mut self.kept {
-            Kept::Whole(page) => page.add_between(first, last, lot, place),
-            Kept::Paged(pages) => add_in(pages, first, last, lot, place),
+            BookRows::Whole(page) => page.add_between(first, last, lot, place),
+            BookRows::Paged(pages) => add_in(pages, first, last, lot, place),
         }
     }
 }

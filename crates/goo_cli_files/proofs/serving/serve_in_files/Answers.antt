@@ -10,7 +10,7 @@ use Rattle.goo_registry.specs.Desks.{seen_of}
 use Rattle.goo_cli_registry.specs.Closings.{HoldState, IfWhole}
 use Rattle.goo_cli_registry.specs.Finds.{FindsRight, IfParts}
 use Rattle.goo_cli_files.proofs.DurableLemmas.{connections_found}
-use Rattle.goo_cli_files.proofs.Works.{not_refused, served_promised}
+use Rattle.goo_cli_files.proofs.Begun.{not_refused, served_promised}
 use Rattle.goo_cli_files.proofs.serving.serve_in_files.Goals as goal
 
 pub returns-in-Ok-clause-promised : goal.returns-in-Ok-clause-promised

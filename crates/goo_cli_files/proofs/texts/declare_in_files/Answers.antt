@@ -10,7 +10,7 @@ use Rattle.goo_cli_registry.specs.Closings.{HoldState, IfWhole, IsKept}
 use Rattle.goo_cli_registry.specs.Finds.{FindsRight, IfParts}
 use Rattle.goo_cli_files.proofs.DurableLemmas.{rows_found}
 use Rattle.goo_cli_files.proofs.Stopping.{rows_stopped}
-use Rattle.goo_cli_files.proofs.Works.{declared_begun, not_refused, rows_promised, undeclared, unopened}
+use Rattle.goo_cli_files.proofs.Begun.{declared_begun, not_refused, rows_promised, undeclared, unopened}
 use Rattle.goo_cli_files.proofs.texts.declare_in_files.Goals as goal
 
 keeps : goal.returns-in-Ok-clause-promised

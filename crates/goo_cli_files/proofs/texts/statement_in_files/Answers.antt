@@ -8,7 +8,7 @@ use Rattle.goo_files.specs.Texts.{IsStatement}
 use Rattle.sqlite_wal.specs.Reads.{AreClean}
 use Rattle.goo_cli_registry.specs.Closings.{HoldState, IfWhole}
 use Rattle.goo_cli_registry.specs.Finds.{FindsRight, IfParts}
-use Rattle.goo_cli_files.proofs.Works.{held_as, not_refused, wrote_begun}
+use Rattle.goo_cli_files.proofs.Begun.{held_as, not_refused, wrote_begun}
 use Rattle.goo_cli_files.proofs.texts.statement_in_files.Goals as goal
 
 pub returns-in-Ok-clause-shown : goal.returns-in-Ok-clause-shown

@@ -2,7 +2,7 @@ use Rattle.std.proofs.Common.{refl, sym, subst}
 use Rattle.std.specs.Prelude.{string_bytes}
 use Rattle.goo_types.specs.declared.command.Command.TheVariants as command
 use Rattle.goo_tables_accounts.specs.Changes.{at_day}
-use Rattle.goo_store_changes.specs.declared.change.TableChange.TheVariants as change
+use Rattle.goo_store_changes.specs.declared.table_change.TableChange.TheVariants as change
 use Rattle.goo_store_plans.specs.Carried.{Does}
 use Rattle.goo_store_plans.proofs.Carrying.{advances}
 use Rattle.goo_store_plans.proofs.SmallRows.{small_meta}

@@ -1,7 +1,7 @@
 use Rattle.std.proofs.Common.{◌++◌, List, All, drop}
 use Rattle.goo_tables_rows.specs.Rows.{Lot}
 use Rattle.goo_store_changes.specs.Changes.{ChangeFits}
-use Rattle.goo_store_changes.specs.declared.change.TableChange.{TableChange}
+use Rattle.goo_store_changes.specs.declared.table_change.TableChange.{TableChange}
 use Rattle.goo_store_plans.specs.EditChanges.{AreForEdits}
 use Rattle.goo_store_plans.specs.LotNumbers.{AreNumbered}
 use Rattle.goo_store_plans.proofs.edit_changes.edit_changes.Given as goal

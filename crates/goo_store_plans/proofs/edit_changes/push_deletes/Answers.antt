@@ -1,7 +1,7 @@
 use Rattle.std.proofs.Common.{◌≡◌, ◌<◌, [], ◌∷◌, ◌++◌, All, length, get_or, ap, sym, subst, ◌∙◌, arith}
 use Rattle.std.proofs.lemmas.List.Elements.{All-push}
 use Rattle.goo_store_changes.specs.Changes.{ChangeFits}
-use Rattle.goo_store_changes.specs.declared.change.TableChange.TheVariants.{DeletePiece}
+use Rattle.goo_store_changes.specs.declared.table_change.TableChange.TheVariants.{DeletePiece}
 use Rattle.goo_store_plans.proofs.RowsGathered.{pushed}
 use Rattle.goo_store_plans.proofs.edit_changes.push_deletes.Goals as goal
 

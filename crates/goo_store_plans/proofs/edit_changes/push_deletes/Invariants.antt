@@ -1,6 +1,6 @@
 use Rattle.std.proofs.Common.{◌≡◌, ◌++◌, All, map, drop}
 use Rattle.goo_store_changes.specs.Changes.{ChangeFits}
-use Rattle.goo_store_changes.specs.declared.change.TableChange.TheVariants.{DeletePiece}
+use Rattle.goo_store_changes.specs.declared.table_change.TableChange.TheVariants.{DeletePiece}
 use Rattle.goo_store_plans.proofs.edit_changes.push_deletes.Given as goal
 
 abbrev pub invariant-loop-first : goal.invariant-loop-first

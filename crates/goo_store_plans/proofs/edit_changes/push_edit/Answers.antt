@@ -2,7 +2,7 @@ use Rattle.std.proofs.Common.{◌≡◌, ◌++◌, append_assoc, map, All, Err, 
 use Rattle.goo_store_plans.specs.EditsGathered.{HasRowToBe}
 use Rattle.goo_store_plans.proofs.Taking.{handed}
 use Rattle.goo_store_plans.specs.EditChanges.{AreRowsOf}
-use Rattle.goo_store_changes.specs.declared.change.TableChange.TheVariants.{DeletePiece, InsertPiece}
+use Rattle.goo_store_changes.specs.declared.table_change.TableChange.TheVariants.{DeletePiece, InsertPiece}
 use Rattle.goo_store_plans.proofs.LookUps.{on}
 use Rattle.goo_store_plans.proofs.edit_changes.push_edit.Goals as goal
 

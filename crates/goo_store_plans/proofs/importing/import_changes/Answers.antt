@@ -3,7 +3,7 @@ use Rattle.sqlite.specs.Held.{state}
 use Rattle.std.proofs.lemmas.List.Elements.{All-push}
 use Rattle.goo_store_changes.specs.Changes.{ChangeFits}
 use Rattle.goo_store_plans.specs.GatheredLots.{ArePutIn}
-use Rattle.goo_store_changes.specs.declared.change.TableChange.TheVariants.{AddNoticeIn}
+use Rattle.goo_store_changes.specs.declared.table_change.TableChange.TheVariants.{AddNoticeIn}
 use Rattle.goo_store_plans.proofs.ImportCarried.{import_carried}
 use Rattle.goo_store_plans.proofs.LookUps.{looks_made}
 use Rattle.goo_tables_rows.specs.Rows.{lot_key}

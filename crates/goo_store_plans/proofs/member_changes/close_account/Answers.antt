@@ -1,6 +1,6 @@
 use Rattle.std.proofs.Common.{◌∷◌, [], ap, sym, subst, ◌∙◌}
 use Rattle.goo_types.specs.declared.command.Command.TheVariants as command
-use Rattle.goo_store_changes.specs.declared.change.TableChange.TheVariants as change
+use Rattle.goo_store_changes.specs.declared.table_change.TableChange.TheVariants as change
 use Rattle.goo_store_plans.specs.Carried.{Does}
 use Rattle.goo_store_plans.proofs.Carrying.{closes}
 use Rattle.goo_store_plans.proofs.member_changes.close_account.Goals as goal

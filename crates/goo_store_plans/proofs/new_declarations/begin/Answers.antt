@@ -1,7 +1,7 @@
 use Rattle.std.proofs.Common.{◌∷◌, [], ◌++◌, All, refl, ap, sym, subst, ◌∙◌}
 use Rattle.std.proofs.lemmas.List.Elements.{All-cons, All-nil}
 use Rattle.goo_store_changes.specs.Changes.{ChangeFits}
-use Rattle.goo_store_changes.specs.declared.change.TableChange.TheVariants.{AddDeclaration}
+use Rattle.goo_store_changes.specs.declared.table_change.TableChange.TheVariants.{AddDeclaration}
 use Rattle.goo_store_plans.proofs.new_declarations.begin.Goals as goal
 
 pub returns-clause-begins : goal.returns-clause-begins

@@ -1,7 +1,7 @@
 use Rattle.std.proofs.Common.{All, refl, sym, subst}
 use Rattle.std.proofs.lemmas.List.Elements.{All-push}
 use Rattle.goo_store_changes.specs.Changes.{ChangeFits}
-use Rattle.goo_store_changes.specs.declared.change.TableChange.TheVariants.{SetCounters}
+use Rattle.goo_store_changes.specs.declared.table_change.TableChange.TheVariants.{SetCounters}
 use Rattle.goo_store_plans.proofs.DeclareCarried.{declare_carried}
 use Rattle.goo_store_plans.proofs.new_declarations.declared_changes.Goals as goal
 

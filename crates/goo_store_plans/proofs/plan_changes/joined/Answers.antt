@@ -7,7 +7,7 @@ use Rattle.goo_store_plans.specs.Acted.{IsActed}
 use Rattle.goo_store_changes.specs.Changes.{made_all, ChangeFits, AreFor, AreFree, HaveRoom}
 use Rattle.goo_store_plans.specs.Planned.{IsPlanned}
 use Rattle.goo_store_plans.specs.Room.{HaveRowids}
-use Rattle.goo_store_changes.specs.declared.change.TableChange.TheVariants.{AddReceipt}
+use Rattle.goo_store_changes.specs.declared.table_change.TableChange.TheVariants.{AddReceipt}
 use Rattle.goo_store_plans.proofs.Carrying.{all_one}
 use Rattle.goo_store_plans.proofs.Joining.{joined}
 use Rattle.goo_store_plans.proofs.plan_changes.joined.Goals as goal

@@ -1,0 +1,22 @@
+-- When the log of two files may go.
+use Rattle.std.specs.Prelude.{◌≡◌, ◌⊎◌, ℕ, [], slice_index}
+use Rattle.sqlite_disk.specs.declared.Disk.{Ghosts}
+use Rattle.sqlite_disk.specs.declared.Files.{Files}
+use Rattle.sqlite_wal.specs.Files.{outcomes}
+use Rattle.sqlite_wal.specs.Recovery.{Image, RecoversAs}
+use Rattle.sqlite.specs.Tree.{Trees}
+use Rattle.sqlite.specs.Closing.{HoldsAlone}
+
+-- Without the log the database file recovers to the same pages. Nor does the log tell a database that was only begun from a damaged one:
+-- it is empty, or the file has its first byte, an S, which is written last.
+pub record IsUnused (image : Image) : Type 0 where
+  pub same : (size : ℕ) → RecoversAs size image (record image { log = [] })
+  pub begun : (image.log ≡ []) ⊎ (slice_index image.db 0 ≡ 83)
+
+-- nothing of the log is used, or the database file alone holds the database of both
+abbrev pub IsSpare : Image → Type 0
+IsSpare image = IsUnused image ⊎ ((db : Trees) × HoldsAlone image db)
+
+-- the log may go, whatever a crash leaves of both files
+abbrev pub NeedNoLog : {D : Type 0} → Ghosts D → Files D → Type 0
+NeedNoLog g files = (image : Image) → outcomes g files.log files.db image → IsSpare image

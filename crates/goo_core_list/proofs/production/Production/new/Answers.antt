@@ -1,5 +1,0 @@
-use Rattle.goo_core_list.proofs.ProductionLemmas.{none_yet}
-use Rattle.goo_core_list.proofs.production.Production.new.Goals as goal
-
-pub invariant_of-result : goal.invariant_of-result
-invariant_of-result c = rw (c.new.ensures.items, c.empty_map.ensures) none_yet

@@ -1,5 +1,0 @@
-use Rattle.std.proofs.Common.{rules}
-use Rattle.goo_core_reads.proofs.audit.find_totals.Goals as goal
-
-pub returns : goal.returns
-returns g c = search rules
