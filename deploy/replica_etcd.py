@@ -385,11 +385,15 @@ def one(words, path, said):
 
 
 def found(words, place, line):
-    """Begins the log in an etcd that has none, after this replica's place."""
+    """Begins the log in an etcd that has none, after this replica's place. A member that was asked before may have done so without an answer: then
+    the log's first entry is this very line."""
     keys, end = Keys(words.code), as_text(after(entries.read_entry(line), line))
-    done = one(words, "kv/txn", {"compare": [is_there(keys.end, False)], "success": [put(keys.log(place.n + 1), line), put(keys.end, end)], "failure": [get(keys.end)]})
+    first = keys.log(place.n + 1)
+    done = one(words, "kv/txn", {"compare": [is_there(keys.end, False)], "success": [put(first, line), put(keys.end, end)], "failure": [get(keys.end), get(first)]})
     if not done.get("succeeded"):
-        raise entries.Broken(f"there is a log in this etcd, which ends at entry {end_in(ranges(done)[0]).n}")
+        there, begun = ranges(done)
+        if pairs(begun) != [(first, line)]:
+            raise entries.Broken(f"there is a log in this etcd, which ends at entry {end_in(there).n}")
     return f"the log begins after entry {place.n}, with version {words.text}"
 
 
